@@ -2,7 +2,11 @@
 #![tactic(auto)]
 
 mod list;
+mod small;
+mod string;
 #[cfg(test)]
 mod tests;
 
 pub use list::Items;
+pub use small::Few;
+pub use string::Text;
