@@ -1,0 +1,5 @@
+pub mod Bytes
+pub mod Piece
+pub mod Lines
+pub mod Words
+pub mod Numbers

@@ -1,0 +1,5 @@
+pub mod EmptyTests
+pub mod PieceLemmas
+pub mod LineLemmas
+pub mod WordLemmas
+pub mod NumberLemmas
