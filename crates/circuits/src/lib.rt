@@ -1,1 +1,9 @@
+//! Circuits as plain data, and what the words of the field mean for them: vectors, netlists and their
+//! valuations, signed bijections, matches and NPNP equality.
 #![tactic(auto)]
+
+mod netlist;
+mod port;
+
+pub use netlist::{Gate, Lit};
+pub use port::{Pair, PortKind};

@@ -1,0 +1,28 @@
+-- Vectors of bits, and literals as the AIGER format numbers them.
+use Rattle.std.specs.Prelude.{ℕ, ◌/◌, ◌%◌, ◌<◌, ◌==◌, Bool, false, not, List, length, slice_index_or}
+use Rattle.std.specs.Bool.{beq}
+use Rattle.circuits.specs.declared.netlist.Lit.{Lit}
+
+-- P of each element with its place
+abbrev pub EachAt : {X : Type 0} → (ℕ → X → Type 0) → List X → Type 0
+EachAt {X} P xs = (k : ℕ) (d : X) → k < length xs → P k (slice_index_or xs k d)
+
+-- bit i of a vector
+abbrev pub bit : List Bool → ℕ → Bool
+bit x i = slice_index_or x i false
+
+-- exclusive or
+abbrev pub differ : Bool → Bool → Bool
+differ a b = not (beq a b)
+
+-- the signal that a literal reads
+abbrev pub signal_of : Lit → ℕ
+signal_of literal = literal.0 / 2
+
+-- whether a literal inverts its signal
+abbrev pub is_negated : Lit → Bool
+is_negated literal = literal.0 % 2 == 1
+
+-- the literal's bit where each signal has the bit that v gives it
+abbrev pub literal_bit : List Bool → Lit → Bool
+literal_bit v literal = differ (bit v (signal_of literal)) (is_negated literal)
