@@ -1,6 +1,7 @@
 -- Vectors of bits, and literals as the AIGER format numbers them.
-use Rattle.std.specs.Prelude.{ℕ, ◌/◌, ◌%◌, ◌<◌, ◌==◌, Bool, false, not, List, length, slice_index_or}
+use Rattle.std.specs.Prelude.{ℕ, ◌/◌, ◌%◌, ◌^◌, ◌<◌, ◌==◌, Bool, false, not, List, length, map, slice_index_or}
 use Rattle.std.specs.Bool.{beq}
+use Rattle.std.specs.List.{range_with_len}
 use Rattle.circuits.specs.declared.netlist.Lit.{Lit}
 
 -- P of each element with its place
@@ -10,6 +11,10 @@ EachAt {X} P xs = (k : ℕ) (d : X) → k < length xs → P k (slice_index_or xs
 -- bit i of a vector
 abbrev pub bit : List Bool → ℕ → Bool
 bit x i = slice_index_or x i false
+
+-- the vector of n bits that a number codes: bit i is its digit i in base two, the lowest first
+abbrev pub vector_of : ℕ → ℕ → List Bool
+vector_of n code = map (λ i. code / 2 ^ i % 2 == 1) (range_with_len 0 n)
 
 -- exclusive or
 abbrev pub differ : Bool → Bool → Bool

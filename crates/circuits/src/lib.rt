@@ -2,6 +2,7 @@
 //! valuations, signed bijections, matches and NPNP equality.
 #![tactic(auto)]
 
+pub mod laws;
 mod netlist;
 mod port;
 

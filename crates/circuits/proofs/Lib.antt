@@ -1,0 +1,4 @@
+pub mod Valuations
+pub mod Places
+pub mod Codes
+pub mod MatchLaws
