@@ -1,7 +1,8 @@
 -- That each vector is one of the numbered ones.
-use Rattle.std.proofs.Common.{ℕ, zero, suc, ◌+◌, ◌*◌, ◌/◌, ◌%◌, ◌^◌, ◌<◌, ◌≡◌, Bool, true, false, eqb, List, [], ◌∷◌, length, refl, sym, ap, ◌∙◌, arith, ext_get_or, pow-suc}
-use Rattle.std.proofs.lemmas.List.FromFn.{length-map-range_with_len, get_or-map-range_with_len}
+use Rattle.std.proofs.Common.{get_or, ℕ, zero, suc, ◌+◌, ◌*◌, ◌/◌, ◌%◌, ◌^◌, ◌<◌, ◌≡◌, Bool, true, false, eqb, List, [], ◌∷◌, length, refl, sym, ap, ◌∙◌, arith, ext_get_or, pow-suc}
+use Rattle.std.proofs.lemmas.List.FromFn.{fill_by_all, length-map-range_with_len, get_or-map-range_with_len}
 use Rattle.std.proofs.lemmas.Nat.Bits.{bit_at-suc, bit_at_lowest}
+use Rattle.std.proofs.lemmas.Nat.{shr-shr}
 use Rattle.std.specs.Int.{bit_at}
 use Rattle.circuits.specs.Literals.{bit, vector_of}
 
@@ -51,3 +52,12 @@ length-vector_of n code = length-map-range_with_len (λ k. eqb (code / 2 ^ k % 2
 pub vector_of-code_of : (x : List Bool) → x ≡ vector_of (length x) (code_of x)
 vector_of-code_of x =
     ext_get_or false x (vector_of (length x) (code_of x)) (sym (length-vector_of (length x) (code_of x))) (λ i h. sym (bit-vector_of (length x) (code_of x) i h ∙ bit_at-code_of x i h))
+
+-- one digit fewer
+pub quotient_more : (n i : ℕ) → n / 2 ^ i / 2 ≡ n / 2 ^ (i + 1)
+quotient_more n i = shr-shr n i 1
+
+-- each bit written is the code's digit there
+pub vector_of-from_bits : (x : List Bool) (n code : ℕ) → length x ≡ n → ((k : ℕ) → k < n → get_or x k false ≡ eqb (code / 2 ^ k % 2) 1) → x ≡ vector_of n code
+vector_of-from_bits x n code len bits =
+    fill_by_all (λ k. eqb (code / 2 ^ k % 2) 1) x n false len bits

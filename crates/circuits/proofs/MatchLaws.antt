@@ -1,11 +1,12 @@
 -- The two ways to say a match are one, and each netlist matches itself.
-use Rattle.std.proofs.Common.{ℕ, ◌<◌, ◌≡◌, Bool, true, false, List, length, get_or, map, refl, sym, ap, ◌∙◌, arith, ext_get_or}
+use Rattle.std.proofs.Common.{◌↔◌, ◌≤◌, ◌*◌, ◌%◌, ◌^◌, Result, Ok, Err, IfOk, IsTrue, subst, shl_exact, one-mul, ℕ, ◌<◌, ◌≡◌, Bool, true, false, List, length, get_or, map, refl, sym, ap, ◌∙◌, arith, ext_get_or}
 use Rattle.std.proofs.lemmas.List.FromFn.{length-map-range_with_len, get_or-map-range_with_len}
 use Rattle.std.specs.List.{range_with_len}
-use Rattle.circuits.specs.Literals.{bit, differ}
+use Rattle.circuits.specs.Literals.{bit, differ, vector_of}
 use Rattle.circuits.specs.Netlists.{Net, IsOrdered, Fits, output_bits, valuation_of}
 use Rattle.circuits.specs.Bijections.{IsSignedBijection, Moves, moved, place_of, sign_of}
-use Rattle.circuits.specs.Matches.{OutputsAgree, IsMatch, IsMatchOfFunctions}
+use Rattle.circuits.specs.Matches.{OutputsAgree, HavePorts, AgreeOn, AgreeOnAll, IsMatch, IsMatchOfFunctions}
+use Rattle.circuits.proofs.Codes.{code_of, code_of-below, vector_of-code_of}
 use Rattle.circuits.proofs.Valuations.{valuation_of-fits, valuation_of-only}
 use Rattle.circuits.proofs.Places.{moved-moves, moved-only, length-moved}
 
@@ -95,3 +96,28 @@ match-unmoved net ordered = record {
       let l : k < length net.outputs = omega (arith, length-unmoved (length net.outputs)) in
       ap (λ z. bit (output_bits net z) k) (ev ∙ sym ew) ∙ sym (unmoved-agree (length net.outputs) k (output_bits net w) l);
 }
+
+pub match_from_all : (first second : Net) (p q : List (ℕ × Bool)) → IsOrdered first → IsOrdered second → HavePorts first second p q → AgreeOnAll first second p q → IsMatch first second p q
+match_from_all first second p q one two ports agree =
+    match_from_functions first second p q one two (record { same_inputs = ports.same_inputs; same_outputs = ports.same_outputs; inputs = ports.inputs; outputs = ports.outputs; agree = agree })
+
+pub all_from_match : (first second : Net) (p q : List (ℕ × Bool)) → IsOrdered first → IsOrdered second → IsMatch first second p q → AgreeOnAll first second p q
+all_from_match first second p q one two matches =
+    (functions_from_match first second p q one two matches).agree
+
+-- the vectors with codes below 2 ^ n are all
+pub AgreeOnAll-from_codes : (first second : Net) (p q : List (ℕ × Bool)) (n : ℕ) → n ≡ first.inputs → ((code : ℕ) → code < 2 ^ n → AgreeOn first second p q (vector_of n code)) → AgreeOnAll first second p q
+AgreeOnAll-from_codes first second p q n same agreed x len =
+    let e : length x ≡ n = len ∙ sym same in
+    let is : vector_of n (code_of x) ≡ x = ap (λ m. vector_of m (code_of x)) (sym e) ∙ sym (vector_of-code_of x) in
+    let below : code_of x < 2 ^ n = subst (λ m. code_of x < 2 ^ m) e (code_of-below x) in
+    subst (λ z. AgreeOn first second p q z) is (agreed (code_of x) below)
+
+-- the code's count of vectors
+pub count-few : (n bound : ℕ) → n ≤ 16 → 1 * 2 ^ n % 4294967296 ≤ bound → 2 ^ n ≤ bound
+count-few n bound few h =
+    omega (arith, shl_exact {a = 1} 1 n 32 (omega arith) (omega arith), one-mul (2 ^ n))
+
+pub IfOk-like : {E A B : Type 0} (r : Result Bool E) → (A → B) → (B → A) → IfOk r (λ b. IsTrue b ↔ A) → IfOk r (λ b. IsTrue b ↔ B)
+IfOk-like (Ok b) to from h = (λ t. to (h.0 t), λ y. h.1 (from y))
+IfOk-like (Err e) to from h = tt

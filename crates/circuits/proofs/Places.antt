@@ -1,8 +1,8 @@
 -- That a signed bijection moves each vector to exactly one.
-use Rattle.std.proofs.Common.{ℕ, zero, suc, ◌+◌, ◌<◌, ◌≤◌, ◌≡◌, ◌≢◌, Bool, true, false, eqb, List, [], ◌∷◌, length, map, drop, AllPairs, refl, sym, ap, ◌∙◌, inl, inr, arith, ext_get_or, eq-eqb, ne_eqb, eqb-true}
-use Rattle.std.proofs.lemmas.Bool.{cases_Bool, or_cases, or_parts, cond-true, cond-false}
+use Rattle.std.proofs.Common.{get_or, Any, take, ℕ, zero, suc, ◌+◌, ◌<◌, ◌≤◌, ◌≡◌, ◌≢◌, Bool, true, false, eqb, List, [], ◌∷◌, length, map, drop, AllPairs, refl, sym, ap, ◌∙◌, inl, inr, arith, ext_get_or, eq-eqb, ne_eqb, eqb-true}
+use Rattle.std.proofs.lemmas.Bool.{cases_lt, cases_Bool, or_cases, or_parts, cond-true, cond-false}
 use Rattle.std.proofs.lemmas.Bool.Decides.{Decides-eqb}
-use Rattle.std.proofs.lemmas.List.{length-map, get_or-map, get_or-drop}
+use Rattle.std.proofs.lemmas.List.{length-take, get_or-take, get_or_default, length-map, get_or-map, get_or-drop}
 use Rattle.std.proofs.lemmas.List.FromFn.{length-map-range_with_len, get_or-map-range_with_len}
 use Rattle.std.proofs.lemmas.Map.Keys.{IsDistinct-cons}
 use Rattle.std.proofs.lemmas.Map.Made.{IsDistinct-from_AllPairs}
@@ -89,3 +89,23 @@ moved-only p x y bijection moves =
         let first = ap (λ k. bit y k) (sym at.2) ∙ moves.bits at.0 at.1 in
         let second = ap (λ k. bit (moved p x) k) (sym at.2) ∙ (moved-moves p x bijection).bits at.0 at.1 in
         first ∙ sym second
+
+-- an entry that goes where an earlier one goes
+pub not_apart : (p : List (ℕ × Bool)) (i : ℕ) → i < length p → Any (λ (entry : ℕ × Bool). entry.0 ≡ (get_or p i (0, false)).0) (take i p) → AllPairs (λ (one other : ℕ × Bool). one.0 ≢ other.0) p → ⊥
+not_apart p i h any pairs =
+    let before : any.0 < i = omega (arith, any.2, length-take i p) in
+    let same : get_or p any.0 any.1 ≡ any.1 = sym (get_or-take i p any.0 any.1 before) ∙ any.3 in
+    pairs any.0 i any.1 before h (ap (λ (entry : ℕ × Bool). entry.0) same ∙ (any.4 ∙ ap (λ (entry : ℕ × Bool). entry.0) (get_or_default p i (0, false) any.1 h)))
+
+-- one more entry, which goes where none before it goes
+pub apart_more : (p : List (ℕ × Bool)) (i : ℕ) → i < length p → (Any (λ (entry : ℕ × Bool). entry.0 ≡ (get_or p i (0, false)).0) (take i p) → ⊥) → ((j k : ℕ) (d : ℕ × Bool) → j < k → k < i → (get_or p j d).0 ≢ (get_or p k d).0) → (j k : ℕ) (d : ℕ × Bool) → j < k → k < i + 1 → (get_or p j d).0 ≢ (get_or p k d).0
+apart_more p i h none apart j k d l m =
+    elim (cases_lt k i) [ inl n ↦ apart j k d l n | inr n ↦ last (omega arith) ]
+  where
+    last : k ≡ i → (get_or p j d).0 ≢ (get_or p k d).0
+    last e same =
+        let before : j < i = omega arith in
+        let within : j < length (take i p) = omega (arith, length-take i p) in
+        let stays : get_or (take i p) j (get_or p j d) ≡ get_or p j d = get_or-take i p j (get_or p j d) before ∙ get_or_default p j (get_or p j d) d (omega arith) in
+        let here : get_or p k d ≡ get_or p i (0, false) = ap (λ n. get_or p n d) e ∙ get_or_default p i d (0, false) h in
+        none (j, get_or p j d, within, stays, same ∙ ap (λ (entry : ℕ × Bool). entry.0) here)

@@ -24,6 +24,21 @@ pub record IsMatchOfFunctions (first second : Net) (p q : List (ℕ × Bool)) : 
   pub outputs : IsSignedBijection (length first.outputs) q
   pub agree : (x : List Bool) → length x ≡ first.inputs → OutputsAgree q (function_of first x) (function_of second (moved p x))
 
+-- as many inputs and outputs, and signed bijections of them
+pub record HavePorts (first second : Net) (p q : List (ℕ × Bool)) : Type 0 where
+  pub same_inputs : second.inputs ≡ first.inputs
+  pub same_outputs : length second.outputs ≡ length first.outputs
+  pub inputs : IsSignedBijection first.inputs p
+  pub outputs : IsSignedBijection (length first.outputs) q
+
+-- all outputs agree on one vector of the first, by the functions
+abbrev pub AgreeOn : Net → Net → List (ℕ × Bool) → List (ℕ × Bool) → List Bool → Type 0
+AgreeOn first second p q x = OutputsAgree q (function_of first x) (function_of second (moved p x))
+
+-- and on each vector
+abbrev pub AgreeOnAll : Net → Net → List (ℕ × Bool) → List (ℕ × Bool) → Type 0
+AgreeOnAll first second p q = (x : List Bool) → length x ≡ first.inputs → AgreeOn first second p q x
+
 -- some signed bijections are a match
 abbrev pub AreNpnpEqual : Net → Net → Type 0
 AreNpnpEqual first second = (p q : List (ℕ × Bool)) × IsMatch first second p q

@@ -10,14 +10,16 @@ ghost use Rattle.circuits.specs.Matches.{IsMatch, IsMatchOfFunctions, AreNpnpEqu
 /// Exactly one valuation fits a netlist in order and a vector as long as it has inputs: the one computed
 /// gate by gate.
 pub fn one_valuation()
-    ensures fits { (net : Net) (x : List Bool) → IsOrdered net → length x ≡ net.inputs → Fits net x (valuation_of net x) }
+    ensures fits { (net : Net) (x : List Bool) → IsOrdered net → length x ≡ net.inputs
+        → Fits net x (valuation_of net x) }
     ensures only { (net : Net) (x v : List Bool) → IsOrdered net → length x ≡ net.inputs → Fits net x v
         → v ≡ valuation_of net x }
 {}
 
 /// A signed bijection moves each vector to exactly one.
 pub fn moved_vector()
-    ensures moves { (p : List (ℕ × Bool)) (x : List Bool) → IsSignedBijection (length x) p → Moves p x (moved p x) }
+    ensures moves { (p : List (ℕ × Bool)) (x : List Bool) → IsSignedBijection (length x) p
+        → Moves p x (moved p x) }
     ensures only { (p : List (ℕ × Bool)) (x y : List Bool) → IsSignedBijection (length x) p → Moves p x y
         → y ≡ moved p x }
 {}
@@ -35,5 +37,6 @@ pub fn npnp_reflexive()
 
 /// Each vector of n bits has a number below 2 ^ n that codes it.
 pub fn every_vector()
-    ensures { (x : List Bool) → (code : ℕ) × (code < 2 ^ length x) × (x ≡ vector_of (length x) code) }
+    ensures { (x : List Bool)
+        → (code : ℕ) × (code < 2 ^ length x) × (x ≡ vector_of (length x) code) }
 {}

@@ -4,7 +4,8 @@
 
 pub mod laws;
 mod netlist;
+pub mod plain;
 mod port;
 
-pub use netlist::{Gate, Lit};
+pub use netlist::{Gate, Lit, Netlist};
 pub use port::{Pair, PortKind};
