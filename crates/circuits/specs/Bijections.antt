@@ -1,5 +1,5 @@
 -- Signed bijections, and what they do to a vector (permutations with negations: Katebi and Markov, DATE 2010).
-use Rattle.std.specs.Prelude.{ℕ, ◌<◌, ◌≡◌, ◌≢◌, ◌==◌, Bool, false, List, [], ◌∷◌, length, map, All, AllPairs, slice_index_or, drop, if◌then◌else◌}
+use Rattle.std.specs.Prelude.{ℕ, zero, suc, ◌/◌, ◌%◌, ◌<◌, ◌≡◌, ◌≢◌, ◌==◌, Bool, false, List, [], ◌∷◌, length, map, All, AllPairs, slice_index_or, drop, if◌then◌else◌}
 use Rattle.std.specs.List.{range_with_len}
 use Rattle.circuits.specs.Literals.{bit, differ}
 
@@ -29,3 +29,9 @@ bit_sent (entry ∷ p) x place = if entry.0 == place then differ (bit x 0) entry
 -- the vector moved
 abbrev pub moved : List (ℕ × Bool) → List Bool → List Bool
 moved p x = map (bit_sent p x) (range_with_len 0 (length x))
+
+-- The list of n entries that a number codes: entry i is its digit i in base sixteen, which is twice the place,
+-- plus 1 where the entry inverts.
+abbrev pub entries_of : ℕ → ℕ → List (ℕ × Bool)
+entries_of zero code = []
+entries_of (suc n) code = (code % 16 / 2, code % 2 == 1) ∷ entries_of n (code / 16)

@@ -39,6 +39,10 @@ AgreeOn first second p q x = OutputsAgree q (function_of first x) (function_of s
 abbrev pub AgreeOnAll : Net → Net → List (ℕ × Bool) → List (ℕ × Bool) → Type 0
 AgreeOnAll first second p q = (x : List Bool) → length x ≡ first.inputs → AgreeOn first second p q x
 
+-- the inputs' signed bijection p is part of a match
+abbrev pub IsPartOfMatch : Net → Net → List (ℕ × Bool) → Type 0
+IsPartOfMatch first second p = (q : List (ℕ × Bool)) × IsMatch first second p q
+
 -- some signed bijections are a match
 abbrev pub AreNpnpEqual : Net → Net → Type 0
 AreNpnpEqual first second = (p q : List (ℕ × Bool)) × IsMatch first second p q

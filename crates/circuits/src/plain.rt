@@ -4,8 +4,8 @@
 ghost use Rattle.std.specs.Prelude.{◌≡◌, ◌≢◌, ◌<◌, ◌≤◌, ◌+◌, ◌↔◌, All, AllPairs, Any, IfOk, IsTrue, OnOk, length, map, vec_len};
 ghost use Rattle.circuits.specs.Literals.{EachAt, signal_of, literal_bit, vector_of};
 ghost use Rattle.circuits.specs.Netlists.{IsOrdered, Fits, gate_bit, with_gates, valuation_of, function_of};
-ghost use Rattle.circuits.specs.Bijections.{IsSignedBijection, moved};
-ghost use Rattle.circuits.specs.Matches.{OutputsAgree, HavePorts, AgreeOn, AgreeOnAll, IsMatch};
+ghost use Rattle.circuits.specs.Bijections.{IsSignedBijection, moved, entries_of};
+ghost use Rattle.circuits.specs.Matches.{OutputsAgree, HavePorts, AgreeOn, AgreeOnAll, IsMatch, IsPartOfMatch, AreNpnpEqual};
 
 use crate::netlist::{Gate, Lit, Netlist};
 use std::alloc::{AllocError, Global};
@@ -254,3 +254,67 @@ fn outputs_agree(q: &[(u32, bool)], first: &[bool], second: &[bool]) -> bool
     }
     true
 }
+
+/// Whether some signed bijections of the ports are a match of two netlists. It tries all lists of entries.
+///
+/// # Errors
+///
+/// For want of memory alone.
+pub fn are_npnp_equal(alloc: Global, first: &Netlist, second: &Netlist) -> Result<bool, AllocError>
+    requires first_ordered { IsOrdered first.now }
+    requires second_ordered { IsOrdered second.now }
+    requires few_inputs { first.now.inputs ≤ 7 }
+    requires few_outputs { length first.now.outputs ≤ 7 }
+    ensures { IfOk result (λ equal. IsTrue equal ↔ AreNpnpEqual first.now second.now) }
+{
+    let inputs = first.inputs();
+    for code in 0..1u32 << (4 * inputs) {
+        let p = entries(alloc, inputs, code)?;
+        if is_part_of_match(alloc, first, second, p.as_slice())? {
+            return Ok(true);
+        }
+    }
+    Ok(false)
+}
+
+/// Whether some signed bijection of the outputs makes a match with p.
+fn is_part_of_match(
+    alloc: Global,
+    first: &Netlist,
+    second: &Netlist,
+    p: &[(u32, bool)],
+) -> Result<bool, AllocError>
+    requires first_ordered { IsOrdered first.now }
+    requires second_ordered { IsOrdered second.now }
+    requires few_inputs { first.now.inputs ≤ 7 }
+    requires few_outputs { length first.now.outputs ≤ 7 }
+    ensures { IfOk result (λ found. IsTrue found ↔ IsPartOfMatch first.now second.now p.now) }
+{
+    if !is_signed_bijection(p, first.inputs()) {
+        return Ok(false);
+    }
+    let outputs = first.outputs().len() as u32;
+    for code in 0..1u32 << (4 * outputs) {
+        let q = entries(alloc, outputs, code)?;
+        if is_match(alloc, first, second, p, q.as_slice())? {
+            return Ok(true);
+        }
+    }
+    Ok(false)
+}
+
+/// The list of n entries that a number codes.
+fn entries(alloc: Global, n: u32, code: u32) -> Result<Vec<(u32, bool)>, AllocError>
+    ensures { IfOk result (λ entries. entries.items ≡ entries_of n code) }
+{
+    let mut entries = Vec::new(alloc);
+    let mut rest = code;
+    for i in 0..n {
+        entries.push((rest % 16 / 2, rest % 2 == 1))?;
+        rest /= 16;
+    }
+    Ok(entries)
+}
+
+#[cfg(test)]
+mod tests;
