@@ -30,8 +30,8 @@ bit_sent (entry ∷ p) x place = if entry.0 == place then differ (bit x 0) entry
 abbrev pub moved : List (ℕ × Bool) → List Bool → List Bool
 moved p x = map (bit_sent p x) (range_with_len 0 (length x))
 
--- The list of n entries that a number codes: entry i is its digit i in base sixteen, which is twice the place,
--- plus 1 where the entry inverts.
+-- The list of n entries that a number codes: entry i is its digit i in base sixteen, which is twice
+-- the place, plus 1 where the entry inverts.
 abbrev pub entries_of : ℕ → ℕ → List (ℕ × Bool)
 entries_of zero code = []
 entries_of (suc n) code = (code % 16 / 2, code % 2 == 1) ∷ entries_of n (code / 16)

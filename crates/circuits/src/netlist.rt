@@ -101,7 +101,9 @@ impl Netlist {
 fn operands_are_earlier(first_gate: usize, gates: &[Gate]) -> bool
     requires { first_gate + length gates.now < 2 ^ 64 }
     ensures { IsTrue result
-        ↔ EachAt (λ t gate. (signal_of gate.a < first_gate + t) × (signal_of gate.b < first_gate + t)) gates.now }
+        ↔ EachAt
+        (λ t gate. (signal_of gate.a < first_gate + t) × (signal_of gate.b < first_gate + t))
+        gates.now }
 {
     for (t, gate) in gates.iter().enumerate() {
         let signal = first_gate + t;

@@ -241,7 +241,8 @@ fn agree_on(
     Ok(outputs_agree(q, bits.as_slice(), other_bits.as_slice()))
 }
 
-/// Whether each output of the first has the bit of the output that it goes to, inverted where its sign says so.
+/// Whether each output of the first has the bit of the output that it goes to, inverted where its sign
+/// says so.
 fn outputs_agree(q: &[(u32, bool)], first: &[bool], second: &[bool]) -> bool
     requires entries { length first.now ≡ length q.now }
     requires places { All (λ entry. entry.0 < length second.now) q.now }
