@@ -1,0 +1,4 @@
+pub mod Literals
+pub mod Netlists
+pub mod Bijections
+pub mod Matches

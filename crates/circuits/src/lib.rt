@@ -1,1 +1,11 @@
+//! Circuits as plain data, and what the words of the field mean for them: vectors, netlists and their
+//! valuations, signed bijections, matches and NPNP equality.
 #![tactic(auto)]
+
+pub mod laws;
+mod netlist;
+pub mod plain;
+mod port;
+
+pub use netlist::{Gate, Lit, Netlist};
+pub use port::{Pair, PortKind};

@@ -1,0 +1,5 @@
+pub mod Valuations
+pub mod Places
+pub mod Codes
+pub mod Entries
+pub mod MatchLaws

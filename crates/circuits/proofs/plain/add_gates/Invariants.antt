@@ -1,0 +1,9 @@
+use Rattle.std.proofs.Common.{◌≡◌, ◌+◌, drop, vec_len}
+use Rattle.circuits.specs.Netlists.{with_gates}
+use Rattle.circuits.proofs.plain.add_gates.Given as goal
+
+abbrev pub invariant-loop-gate : goal.invariant-loop-gate
+invariant-loop-gate l = record {
+  continued : with_gates l.values.items (drop l.gate-index l.gates) ≡ with_gates l.fn.values.items l.gates;
+  counted : vec_len l.values ≡ vec_len l.fn.values + l.gate-index;
+}

@@ -1,0 +1,8 @@
+use Rattle.std.proofs.Common.{ℕ, ◌<◌}
+use Rattle.circuits.specs.Bijections.{entries_of}
+use Rattle.circuits.specs.Matches.{IsPartOfMatch}
+use Rattle.circuits.proofs.plain.are_npnp_equal.Given as goal
+
+abbrev pub invariant-loop-code : goal.invariant-loop-code
+invariant-loop-code l =
+    (c : ℕ) → c < l.code → IsPartOfMatch l.first l.second (entries_of l.inputs c) → ⊥

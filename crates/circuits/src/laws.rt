@@ -1,0 +1,42 @@
+//! What the definitions of this crate say together: laws that hold of all netlists, vectors and signed
+//! bijections. Each function does nothing; its contract is the law.
+
+ghost use Rattle.std.specs.Prelude.{ℕ, ◌<◌, ◌^◌, ◌≡◌, ◌↔◌, Bool, List, length};
+ghost use Rattle.circuits.specs.Literals.{vector_of};
+ghost use Rattle.circuits.specs.Netlists.{Net, IsOrdered, Fits, valuation_of};
+ghost use Rattle.circuits.specs.Bijections.{IsSignedBijection, Moves, moved};
+ghost use Rattle.circuits.specs.Matches.{IsMatch, IsMatchOfFunctions, AreNpnpEqual};
+
+/// Exactly one valuation fits a netlist in order and a vector as long as it has inputs: the one computed
+/// gate by gate.
+pub fn one_valuation()
+    ensures fits { (net : Net) (x : List Bool) → IsOrdered net → length x ≡ net.inputs
+        → Fits net x (valuation_of net x) }
+    ensures only { (net : Net) (x v : List Bool) → IsOrdered net → length x ≡ net.inputs → Fits net x v
+        → v ≡ valuation_of net x }
+{}
+
+/// A signed bijection moves each vector to exactly one.
+pub fn moved_vector()
+    ensures moves { (p : List (ℕ × Bool)) (x : List Bool) → IsSignedBijection (length x) p
+        → Moves p x (moved p x) }
+    ensures only { (p : List (ℕ × Bool)) (x y : List Bool) → IsSignedBijection (length x) p → Moves p x y
+        → y ≡ moved p x }
+{}
+
+/// Two netlists in order match by their valuations exactly where they match by their functions.
+pub fn match_of_functions()
+    ensures { (first second : Net) (p q : List (ℕ × Bool)) → IsOrdered first → IsOrdered second
+        → (IsMatch first second p q ↔ IsMatchOfFunctions first second p q) }
+{}
+
+/// Each netlist in order is NPNP equal to itself.
+pub fn npnp_reflexive()
+    ensures { (net : Net) → IsOrdered net → AreNpnpEqual net net }
+{}
+
+/// Each vector of n bits has a number below 2 ^ n that codes it.
+pub fn every_vector()
+    ensures { (x : List Bool)
+        → (code : ℕ) × (code < 2 ^ length x) × (x ≡ vector_of (length x) code) }
+{}
