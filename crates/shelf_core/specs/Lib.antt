@@ -1,0 +1,4 @@
+pub mod Fault
+pub mod State
+pub mod Calls
+pub mod Puts

@@ -1,0 +1,62 @@
+ghost use Rattle.std.specs.Prelude.{◌≡◌, ◌≢◌, Bool};
+ghost use Rattle.shelf_core.specs.State.{ShelfState, SinkState, Closed, Reading, Writing};
+ghost use Rattle.shelf_core.specs.Calls.{Opens, Reads, Creates, Appends, Closes};
+ghost use Rattle.shelf_core.specs.Puts.{Puts};
+
+/// Why a call of a shelf or a sink was refused.
+#[derive(Clone, Copy, Debug, Drop, PartialEq, Eq)]
+pub enum ShelfStop {
+    /// The outside failed, and its count of faults says so.
+    Failed,
+    /// There was no memory for the call.
+    Memory,
+}
+
+/// A place for files, each a name and its bytes, of which at most one is open at a time.
+pub trait Shelf {
+    /// Whether the shelf tells its files. Where it doesn't, as a disk, nothing is claimed of names and bytes, and `held`,
+    /// `name` and `unread` of its state mean nothing.
+    ghost tells: { Bool };
+
+    /// The files, which of them is open, and how many failures there were.
+    ghost state: { Self → ShelfState };
+
+    /// Opens a file for reading, and answers its length in bytes, or `None` where there is no such file.
+    fn open(&mut self, name: &str) -> Result<Option<u64>, ShelfStop>
+        requires { (state self.old).mode ≡ Closed }
+        ensures { Opens tells name.now (state self.old) (state self.new) result };
+
+    /// Moves the next unread bytes of the open file to the front of `buf`, and answers how many: at least one where
+    /// any is unread and `buf` has room. A file that ends before its length is a failure.
+    fn read(&mut self, buf: &mut [u8]) -> Result<usize, ShelfStop>
+        requires { (state self.old).mode ≡ Reading }
+        ensures { Reads tells (state self.old) (state self.new) buf.old buf.new result };
+
+    /// Makes a file anew, empty, and opens it for writing.
+    fn create(&mut self, name: &str) -> Result<(), ShelfStop>
+        requires { (state self.old).mode ≡ Closed }
+        ensures { Creates tells name.now (state self.old) (state self.new) result };
+
+    /// Writes a piece at the end of the open file. A refused call may have written some first part of it.
+    fn append(&mut self, piece: &[u8]) -> Result<(), ShelfStop>
+        requires { (state self.old).mode ≡ Writing }
+        ensures { Appends tells piece.now (state self.old) (state self.new) result };
+
+    /// Closes the open file. None is open afterwards, whatever the answer.
+    fn close(&mut self) -> Result<(), ShelfStop>
+        requires { (state self.old).mode ≢ Closed }
+        ensures { Closes tells (state self.old) (state self.new) result };
+}
+
+/// A stream of bytes that goes out of the program, as its standard output.
+pub trait Sink {
+    /// Whether the sink tells the bytes that it took. Where it doesn't, `written` of its state means nothing.
+    ghost tells: { Bool };
+
+    /// The bytes that were written, and how many failures there were.
+    ghost state: { Self → SinkState };
+
+    /// Writes a piece after all that was written. A refused call may have written some first part of it.
+    fn put(&mut self, piece: &[u8]) -> Result<(), ShelfStop>
+        ensures { Puts tells piece.now (state self.old) (state self.new) result };
+}
