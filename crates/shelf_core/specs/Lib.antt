@@ -2,3 +2,5 @@ pub mod Fault
 pub mod State
 pub mod Calls
 pub mod Puts
+pub mod Safe
+pub mod Disk

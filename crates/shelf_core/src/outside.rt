@@ -2,6 +2,9 @@ ghost use Rattle.std.specs.Prelude.{◌≡◌, ◌≢◌, Bool};
 ghost use Rattle.shelf_core.specs.State.{ShelfState, SinkState, Closed, Reading, Writing};
 ghost use Rattle.shelf_core.specs.Calls.{Opens, Reads, Creates, Appends, Closes};
 ghost use Rattle.shelf_core.specs.Puts.{Puts};
+ghost use Rattle.shelf_core.specs.declared.outside.ShelfStop.TheVariants.{Memory};
+
+use std::alloc::{AllocError, AllocFailed};
 
 /// Why a call of a shelf or a sink was refused.
 #[derive(Clone, Copy, Debug, Drop, PartialEq, Eq)]
@@ -59,4 +62,20 @@ pub trait Sink {
     /// Writes a piece after all that was written. A refused call may have written some first part of it.
     fn put(&mut self, piece: &[u8]) -> Result<(), ShelfStop>
         ensures { Puts tells piece.now (state self.old) (state self.new) result };
+}
+
+impl From<AllocError> for ShelfStop {
+    ghost from_gives = { λ _ stop. stop ≡ Memory };
+
+    fn from(_refused: AllocError) -> ShelfStop {
+        ShelfStop::Memory
+    }
+}
+
+impl<T: Drop> From<AllocFailed<T>> for ShelfStop {
+    ghost from_gives = { λ _ stop. stop ≡ Memory };
+
+    fn from(_refused: AllocFailed<T>) -> ShelfStop {
+        ShelfStop::Memory
+    }
 }
