@@ -1,5 +1,5 @@
 -- Look-ups by name in a list of files.
-use Rattle.std.proofs.Common.{◌≡◌, ◌≢◌, ℕ, ◌+◌, ◌<◌, zero, suc, true, false, List, [], ◌∷◌, take, drop, length, get_or, cond, Option, Some, add-one, sym, ◌∙◌, ap, refl, arith}
+use Rattle.std.proofs.Common.{◌≡◌, ◌≢◌, ℕ, ◌+◌, ◌<◌, zero, suc, true, false, List, [], ◌∷◌, drop, length, get_or, cond, Some, add-one, sym, ◌∙◌, ap, refl, arith}
 use Rattle.std.proofs.Math.Seq.{drop-cons}
 use Rattle.std.proofs.lemmas.List.{get_or_default}
 use Rattle.std.proofs.lemmas.Slice.Eq.{bytes_eq-Decides}
@@ -19,15 +19,15 @@ is_place files name place file below is named before =
     record {
       in_range = below;
       name_is = (bytes_eq-Decides (file_at files place).0 name).0 called;
-      found = sym before ∙ look_up-drop files name place below ∙ ap (λ b. cond b (Some (file_at files place).1) (look_up (drop (place + 1) files) name)) called
+      found = sym before ∙ look_up-drop files name place below ∙ ap (λ b. cond b (Some (file_at files place).1) (look_up (drop (place + 1) files) name)) called;
     }
 
 -- a file of another name is not found
 pub skipped : (file : File) (files : List File) (name : List ℕ) → file.0 ≢ name → look_up (file ∷ files) name ≡ look_up files name
 skipped file files name other =
     elim (bytes_eq file.0 name) as (λ b. bytes_eq file.0 name ≡ b → look_up (file ∷ files) name ≡ look_up files name) [
-      true ↦ λ e. absurd (other ((bytes_eq-Decides file.0 name).0 e))
-    | false ↦ λ e. ap (λ b. cond b (Some file.1) (look_up files name)) e
+      | true ↦ λ e. absurd (other ((bytes_eq-Decides file.0 name).0 e))
+      | false ↦ λ e. ap (λ b. cond b (Some file.1) (look_up files name)) e
     ] refl
 
 -- a file of the name is found

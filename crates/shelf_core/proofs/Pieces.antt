@@ -1,6 +1,6 @@
 -- A piece that is copied from a file to the front of a buffer.
-use Rattle.std.proofs.Common.{◌≡◌, ℕ, ◌+◌, ◌<◌, ◌≤◌, true, List, ◌++◌, length, take, drop, Ok, sym, ◌∙◌, ap, refl, arith, length-drop, length-append}
-use Rattle.std.proofs.lemmas.List.{take-append-le, take-append-drop, drop-drop, length-take-le}
+use Rattle.std.proofs.Common.{◌≡◌, ℕ, ◌+◌, ◌<◌, ◌≤◌, true, List, ◌++◌, length, take, drop, Ok, sym, ◌∙◌, ap, refl, arith, length-drop}
+use Rattle.std.proofs.lemmas.List.{take-append-drop, drop-drop, length-take-le}
 use Rattle.std.proofs.Math.Seq.{drop-append_seam, take-append_seam}
 use Rattle.shelf_core.specs.Safe.{File, file_at, safe_shelf}
 use Rattle.shelf_core.specs.Calls.{Reads}
@@ -31,5 +31,5 @@ read_is files place at k bytes before after is room there progress copied =
       left_stays = tt;
       unread_stays = tt;
       faults = omega arith;
-      failed = λ e. cc
+      failed = λ e. cc;
     }

@@ -4,3 +4,4 @@ pub mod Calls
 pub mod Puts
 pub mod Safe
 pub mod Disk
+pub mod Cut

@@ -1,5 +1,5 @@
 -- What shelves and sinks in memory mean. They have no failures.
-use Rattle.std.specs.Prelude.{◌≡◌, ℕ, ◌+◌, ◌<◌, ◌≤◌, List, [], ◌∷◌, ◌++◌, length, drop, Option, None, Some, cond, slice_index_or, ⊤}
+use Rattle.std.specs.Prelude.{◌≡◌, ℕ, ◌+◌, ◌<◌, List, [], ◌∷◌, ◌++◌, length, drop, Option, None, Some, cond, slice_index_or}
 use Rattle.std.specs.Str.{bytes_eq}
 use Rattle.shelf_core.specs.State.{Mode, Closed, Reading, Writing, ShelfState, SinkState}
 use Rattle.shelf_core.specs.declared.safe_shelf.Opened.{Opened}
@@ -56,7 +56,7 @@ safe_shelf files open_as = record {
   name = open_name files open_as;
   left = length (open_unread files open_as);
   unread = open_unread files open_as;
-  faults = 0
+  faults = 0;
 }
 
 -- how many files there have to be for the one that is open

@@ -7,7 +7,8 @@ use std::io;
 use std::io::{Error, ErrorKind, Read, Write};
 use std::rt::{Files, Runtime};
 
-/// The machine's files, by their paths. It does not tell what they hold.
+/// The machine's files, by their paths. It does not tell what they hold. A directory opens, and fails at its first read.
+/// Each error of the machine is a fault, but that a path to be read leads to nothing.
 #[derive(Drop)]
 pub struct DiskShelf<R: Runtime> {
     rt: R,
@@ -26,7 +27,8 @@ enum Opened<F> {
 impl<R: Runtime> DiskShelf<R> {
     /// The files of the runtime, none of them open.
     pub fn new(rt: R) -> DiskShelf<R>
-        ensures { (⟦<DiskShelf<R> as Shelf>⟧.state result).mode ≡ Closed }
+        ensures closed { (⟦<DiskShelf<R> as Shelf>⟧.state result).mode ≡ Closed }
+        ensures faults { (⟦<DiskShelf<R> as Shelf>⟧.state result).faults ≡ 0 }
     {
         DiskShelf {
             rt,
@@ -118,7 +120,8 @@ fn open_sized<R: Files>(rt: &R, name: &str) -> io::Result<Option<(R::File, u64)>
     Ok(Some((file, len)))
 }
 
-/// Reads at most `left` bytes, and at least one if there is any and room for it. An interrupted read is tried again.
+/// Reads at most `left` bytes, and at least one if there is any and room for it. An interrupted read is tried again, and
+/// a file that ends before is an error.
 fn read_some<F: Read>(file: &mut F, buf: &mut [u8], left: u64) -> io::Result<usize>
     ensures within { IfOk result (λ count. count ≤ length buf.old) }
     ensures left { IfOk result (λ count. count ≤ left) }

@@ -13,3 +13,6 @@ pub use outside::{Shelf, ShelfStop, Sink};
 pub use safe_shelf::SafeShelf;
 pub use safe_sink::SafeSink;
 pub use std_sink::StdSink;
+
+#[cfg(test)]
+mod tests;

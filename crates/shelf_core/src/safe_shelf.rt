@@ -1,12 +1,14 @@
-ghost use Rattle.std.specs.Prelude.{◌≡◌, ◌≢◌, ℕ, ◌+◌, ◌<◌, ◌≤◌, List, [], ◌∷◌, ◌++◌, length, take, drop, map, true, None, Some, OnOk, OnErr, IfOk, IfSome, IfNone, MatchOption, string_bytes, vec_len, AllPairs};
-ghost use Rattle.shelf_core.specs.State.{Closed};
+ghost use Rattle.std.specs.Prelude.{◌≡◌, ◌≢◌, ℕ, ◌+◌, ◌-◌, ◌<◌, ◌≤◌, min, List, [], ◌∷◌, ◌++◌, length, take, drop, map, true, None, Some, Ok, IsOk, OnOk, OnErr, IfOk, IfSome, IfNone, MatchOption, string_bytes, vec_len, AllPairs};
+ghost use Rattle.shelf_core.specs.State.{Closed, Reading, Writing};
+ghost use Rattle.shelf_core.specs.Calls.{Opens, Reads, Creates, Appends, Closes};
 ghost use Rattle.shelf_core.specs.Safe.{look_up, IsPlace, file_at, grow_first, safe_shelf, places_needed, bytes_needed, open_bytes};
 
 use crate::outside::{Shelf, ShelfStop};
 use crate::stored_file::StoredFile;
 use std::alloc::{AllocError, Global};
 
-/// A shelf in memory, which never fails: a call is refused only for want of memory.
+/// A shelf in memory, which never fails: `create` and `append` are refused only for want of memory, and the other calls
+/// never are.
 #[derive(Debug, Drop)]
 pub struct SafeShelf {
     alloc: Global,
@@ -27,14 +29,22 @@ enum Opened {
 }
 
 impl SafeShelf {
+    ghost use Rattle.shelf_core.specs.Cut.{cut_of};
+
     /// A shelf that holds these files, with no two names the same, and reads at most `cut` bytes a call. None is open.
-    pub fn new(alloc: Global, files: Vec<(String, Vec<u8>)>, cut: usize) -> Result<SafeShelf, AllocError>
+    /// There may be no memory for it.
+    pub fn new(
+        alloc: Global,
+        files: Vec<(String, Vec<u8>)>,
+        cut: usize,
+    ) -> Result<SafeShelf, AllocError>
         requires distinct { AllPairs (λ a b. string_bytes a.0 ≢ string_bytes b.0) files.items }
         requires cuts { 1 ≤ cut }
         ensures closed { IfOk result (λ shelf. (⟦<SafeShelf as Shelf>⟧.state shelf).mode ≡ Closed) }
         ensures files { IfOk result (λ shelf. (name : List ℕ) → (⟦<SafeShelf as Shelf>⟧.state shelf).held name ≡
             look_up (map (λ file. (string_bytes file.0, file.1.items)) files.items) name) }
         ensures faultless { IfOk result (λ shelf. (⟦<SafeShelf as Shelf>⟧.state shelf).faults ≡ 0) }
+        ensures cut { IfOk result (λ shelf. cut_of shelf ≡ cut) }
     {
         Ok(SafeShelf {
             alloc,
@@ -58,16 +68,22 @@ impl SafeShelf {
     /// A shelf in memory has no failures: by what the calls of a shelf say, `ShelfStop::Failed` never comes from it.
     pub fn never_fails(&self)
         ensures { (⟦<SafeShelf as Shelf>⟧.state self.now).faults ≡ 0 }
-    {
-    }
+    {}
 }
 
 impl Shelf for SafeShelf {
+    ghost use Rattle.shelf_core.specs.Cut.{cut_of};
+
     ghost tells = { true };
 
     ghost state = { λ shelf. safe_shelf shelf.files.items shelf.opened };
 
-    fn open(&mut self, name: &str) -> Result<Option<u64>, ShelfStop> {
+    fn open(&mut self, name: &str) -> Result<Option<u64>, ShelfStop>
+        requires { (⟦<SafeShelf as Shelf>⟧.state self.old).mode ≡ Closed }
+        ensures opens { Opens true name.now (⟦<SafeShelf as Shelf>⟧.state self.old) (⟦<SafeShelf as Shelf>⟧.state self.new) result }
+        ensures answers { IsOk result }
+        ensures cut { cut_of self.new ≡ cut_of self.old }
+    {
         let Some(place) = place_of(&self.files, name) else {
             return Ok(None);
         };
@@ -76,7 +92,12 @@ impl Shelf for SafeShelf {
         Ok(Some(len as u64))
     }
 
-    fn read(&mut self, buf: &mut [u8]) -> Result<usize, ShelfStop> {
+    fn read(&mut self, buf: &mut [u8]) -> Result<usize, ShelfStop>
+        requires { (⟦<SafeShelf as Shelf>⟧.state self.old).mode ≡ Reading }
+        ensures reads { Reads true (⟦<SafeShelf as Shelf>⟧.state self.old) (⟦<SafeShelf as Shelf>⟧.state self.new) buf.old buf.new result }
+        ensures amount { result ≡ Ok (min (min (cut_of self.old) (⟦<SafeShelf as Shelf>⟧.state self.old).left) (length buf.old)) }
+        ensures cut { cut_of self.new ≡ cut_of self.old }
+    {
         let Opened::Reading { place, at } = self.opened else {
             unreachable!()
         };
@@ -88,18 +109,31 @@ impl Shelf for SafeShelf {
         Ok(count)
     }
 
-    fn create(&mut self, name: &str) -> Result<(), ShelfStop> {
+    fn create(&mut self, name: &str) -> Result<(), ShelfStop>
+        requires { (⟦<SafeShelf as Shelf>⟧.state self.old).mode ≡ Closed }
+        ensures creates { Creates true name.now (⟦<SafeShelf as Shelf>⟧.state self.old) (⟦<SafeShelf as Shelf>⟧.state self.new) result }
+        ensures cut { cut_of self.new ≡ cut_of self.old }
+    {
         renew(self.alloc, &mut self.files, name)?;
         self.opened = Opened::Writing;
         Ok(())
     }
 
-    fn append(&mut self, piece: &[u8]) -> Result<(), ShelfStop> {
+    fn append(&mut self, piece: &[u8]) -> Result<(), ShelfStop>
+        requires { (⟦<SafeShelf as Shelf>⟧.state self.old).mode ≡ Writing }
+        ensures appends { Appends true piece.now (⟦<SafeShelf as Shelf>⟧.state self.old) (⟦<SafeShelf as Shelf>⟧.state self.new) result }
+        ensures cut { cut_of self.new ≡ cut_of self.old }
+    {
         grow_first_of(&mut self.files, piece)?;
         Ok(())
     }
 
-    fn close(&mut self) -> Result<(), ShelfStop> {
+    fn close(&mut self) -> Result<(), ShelfStop>
+        requires { (⟦<SafeShelf as Shelf>⟧.state self.old).mode ≢ Closed }
+        ensures closes { Closes true (⟦<SafeShelf as Shelf>⟧.state self.old) (⟦<SafeShelf as Shelf>⟧.state self.new) result }
+        ensures answers { IsOk result }
+        ensures cut { cut_of self.new ≡ cut_of self.old }
+    {
         self.opened = Opened::No;
         Ok(())
     }
@@ -140,12 +174,13 @@ fn bytes_at(files: &[StoredFile], place: usize) -> &[u8]
 fn copy_some(from: &[u8], at: usize, to: &mut [u8], cut: usize) -> usize
     requires cuts { 0 < cut }
     requires start { at ≤ length from.now }
+    ensures amount { result ≡ min (min cut (length from.now - at)) (length to.old) }
     ensures within { result ≤ length to.old }
     ensures read { at + result ≤ length from.now }
     ensures some { at < length from.now → 0 < length to.old → 0 < result }
     ensures copied { to.new ≡ take result (drop at from.now) ++ drop result to.old }
 {
-    let count = (from.len() - at).min(to.len()).min(cut);
+    let count = cut.min(from.len() - at).min(to.len());
     to[..count].copy_from_slice(&from[at..at + count]);
     count
 }

@@ -1,4 +1,4 @@
-ghost use Rattle.std.specs.Prelude.{[], false};
+ghost use Rattle.std.specs.Prelude.{◌≡◌, [], false};
 
 use crate::outside::{ShelfStop, Sink};
 use std::io;
@@ -14,7 +14,9 @@ pub struct StdSink<R: Runtime> {
 
 impl<R: Runtime> StdSink<R> {
     /// The standard output of the runtime.
-    pub fn new(rt: R) -> StdSink<R> {
+    pub fn new(rt: R) -> StdSink<R>
+        ensures { (⟦<StdSink<R> as Sink>⟧.state result).faults ≡ 0 }
+    {
         StdSink { rt, faults: 0 }
     }
 }
