@@ -30,10 +30,6 @@ skipped file files name other =
       | false ↦ λ e. ap (λ b. cond b (Some file.1) (look_up files name)) e
     ] refl
 
--- a file of the name is found
-pub found_first : (file : File) (files : List File) (name : List ℕ) → file.0 ≡ name → look_up (file ∷ files) name ≡ Some file.1
-found_first file files name same = ap (λ b. cond b (Some file.1) (look_up files name)) ((bytes_eq-Decides file.0 name).1 same)
-
 -- without a file, the others are found as before
 pub look_up-remove : (files : List File) (place : ℕ) (name : List ℕ) → place < length files → (file_at files place).0 ≢ name → look_up (remove files place) name ≡ look_up files name
 look_up-remove [] place name below other = absurd (omega arith)
