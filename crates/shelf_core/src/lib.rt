@@ -1,1 +1,18 @@
+//! The world outside a program, as two traits: a shelf of files and a sink for its output.
 #![tactic(auto)]
+
+mod disk_shelf;
+mod outside;
+mod safe_shelf;
+mod safe_sink;
+mod std_sink;
+mod stored_file;
+
+pub use disk_shelf::DiskShelf;
+pub use outside::{Shelf, ShelfStop, Sink};
+pub use safe_shelf::SafeShelf;
+pub use safe_sink::SafeSink;
+pub use std_sink::StdSink;
+
+#[cfg(test)]
+mod tests;
