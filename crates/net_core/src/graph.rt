@@ -1,0 +1,155 @@
+//! Graphs of AND gates, each of which stands behind its operands.
+
+ghost use Rattle.std.specs.Prelude.{◌≡◌, ◌+◌, ◌^◌, ◌<◌, ◌↔◌, All, IsTrue, IsSome, IfSome, false, ◌∷◌, length, take, vec_len};
+ghost use Rattle.circuits.specs.Literals.{literal_bit, signal_of};
+ghost use Rattle.circuits.specs.Netlists.{IsOrdered, signals_of, valuation_of, with_gates};
+ghost use Rattle.net_core.specs.Graph.{IsGraph, AreInOrder};
+
+use circuits::plain::{gate_bit, literal_bit};
+use circuits::{Gate, Lit};
+use std::marker::Model;
+
+/// A netlist of AND gates in order. Signal 0 is false, input i is signal i + 1, and gate t is signal
+/// inputs + 1 + t. A gate's operands are earlier signals, and each output is a literal of a signal.
+/// There are fewer than 2^31 signals and fewer than 2^32 outputs.
+#[derive(Debug, Drop)]
+pub struct Graph {
+    inputs: u32,
+    gates: Vec<Gate>,
+    outputs: Vec<Lit>,
+}
+
+impl Model for Graph {
+    ghost use Rattle.circuits.specs.Netlists.{Net};
+    ghost use Rattle.net_core.specs.Graph.{IsGraph};
+
+    ghost Value = { Net };
+
+    ghost view = { λ g. record { inputs = g.inputs; gates = g.gates.items; outputs = g.outputs.items } };
+
+    ghost invariant = { λ g. IsGraph (record { inputs = g.inputs; gates = g.gates.items; outputs = g.outputs.items }) };
+}
+
+impl Graph {
+    /// The graph of these gates and outputs. It is None exactly where a literal is out of place: an operand
+    /// whose signal doesn't stand before its gate, or an output whose signal isn't there.
+    pub fn new(inputs: u32, gates: Vec<Gate>, outputs: Vec<Lit>) -> Option<Graph>
+        requires signals { inputs + 1 + vec_len gates < 2 ^ 31 }
+        requires outputs { vec_len outputs < 2 ^ 32 }
+        ensures ordered { IsSome result
+            ↔ IsOrdered (record { inputs = inputs; gates = gates.items; outputs = outputs.items }) }
+        ensures graph { IfSome result
+            (λ graph. graph ≡ record { inputs = inputs; gates = gates.items; outputs = outputs.items }) }
+        ensures sound { IfSome result IsGraph }
+    {
+        let first = inputs as usize + 1;
+        if !are_in_order(first, &gates) {
+            return None;
+        }
+        if !are_signals(first + gates.len(), &outputs) {
+            return None;
+        }
+        Some(Graph {
+            inputs,
+            gates,
+            outputs,
+        })
+    }
+
+    /// How many inputs there are.
+    pub fn inputs(&self) -> u32
+        ensures value { result ≡ self.now.inputs }
+        ensures graph { IsGraph self.now }
+    {
+        self.inputs
+    }
+
+    /// The gates, in order.
+    pub fn gates(&self) -> &[Gate]
+        ensures value { result.now ≡ self.now.gates }
+        ensures graph { IsGraph self.now }
+    {
+        self.gates.as_slice()
+    }
+
+    /// The output literals, in order.
+    pub fn outputs(&self) -> &[Lit]
+        ensures value { result.now ≡ self.now.outputs }
+        ensures graph { IsGraph self.now }
+    {
+        self.outputs.as_slice()
+    }
+
+    /// How many signals there are: the constant, the inputs and the gates.
+    pub fn signals(&self) -> usize
+        ensures value { result ≡ signals_of self.now }
+        ensures graph { IsGraph self.now }
+    {
+        self.inputs as usize + 1 + self.gates.len()
+    }
+
+    /// Gives each signal the bit that it has where the inputs have the bits of `vector`.
+    pub fn eval_into(&self, vector: &[bool], values: &mut [bool])
+        requires vector { length vector.now ≡ self.now.inputs }
+        requires values { length values.old ≡ signals_of self.now }
+        ensures { values.new ≡ valuation_of self.now vector.now }
+    {
+        put_inputs(vector, values);
+        eval_gates(&self.gates, vector.len() + 1, values);
+    }
+}
+
+/// The bit of a literal where each signal has the bit that `values` gives it.
+pub fn lit_value(values: &[bool], lit: Lit) -> bool
+    requires { signal_of lit < length values.now }
+    ensures { result ≡ literal_bit values.now lit }
+{
+    literal_bit(values, lit)
+}
+
+fn are_in_order(first: usize, gates: &[Gate]) -> bool
+    requires { first + length gates.now < 2 ^ 31 }
+    ensures { IsTrue result ↔ AreInOrder first gates.now }
+{
+    for (t, gate) in gates.iter().enumerate() {
+        if gate.a.signal() as usize >= first + t {
+            return false;
+        }
+        if gate.b.signal() as usize >= first + t {
+            return false;
+        }
+    }
+    true
+}
+
+fn are_signals(signals: usize, outputs: &[Lit]) -> bool
+    ensures { IsTrue result ↔ All (λ output. signal_of output < signals) outputs.now }
+{
+    outputs
+        .iter()
+        .all(|output| (output.signal() as usize) < signals)
+}
+
+/// Writes the constant and the inputs, which come first.
+fn put_inputs(vector: &[bool], values: &mut [bool])
+    requires { length vector.now < length values.old }
+    ensures bits { take (length vector.now + 1) values.new ≡ false ∷ vector.now }
+    ensures length { length values.new ≡ length values.old }
+{
+    values[0] = false;
+    for (i, bit) in vector.iter().enumerate() {
+        values[i + 1] = *bit;
+    }
+}
+
+/// Gives each gate its bit, in order, from the signal `first` on.
+fn eval_gates(gates: &[Gate], first: usize, values: &mut [bool])
+    requires order { AreInOrder first gates.now }
+    requires room { first + length gates.now ≡ length values.old }
+    ensures { values.new ≡ with_gates (take first values.old) gates.now }
+{
+    for t in 0..gates.len() {
+        let bit = gate_bit(values, gates[t]);
+        values[first + t] = bit;
+    }
+}
