@@ -1,0 +1,9 @@
+pub mod Check
+pub mod Files
+pub mod Report
+pub mod Status
+pub mod Steps
+pub mod Stops
+pub mod Table
+pub mod TableParts
+pub mod Words

@@ -1,0 +1,41 @@
+//! `npnp`: checks that a port table is a match of two combinational netlists, up to the order and the
+//! negation of their inputs and outputs.
+#![tactic(auto)]
+
+mod compare;
+mod files;
+mod outcome;
+mod report;
+mod run;
+mod table;
+mod words;
+
+use shelf_core::{DiskShelf, StdSink};
+use std::process::ExitCode;
+use std::rt::Env;
+use std::{env, io};
+
+/// The status where memory is refused before the run begins.
+const NO_MEMORY: u8 = 7;
+
+fn main(rt: HostRuntime) -> ExitCode {
+    let Ok(words) = words_after_name(&rt) else {
+        return ExitCode::from(NO_MEMORY);
+    };
+    let Ok(disk) = rt.clone() else {
+        return ExitCode::from(NO_MEMORY);
+    };
+    let alloc = rt.alloc();
+    let mut shelf = DiskShelf::new(disk);
+    let mut out = StdSink::new(rt);
+    let outcome = run::run(alloc, words.as_slice(), &mut shelf, &mut out);
+    ExitCode::from(outcome.status())
+}
+
+/// The words of the command line after the program's name.
+fn words_after_name<R: Env + AllocGlobal>(rt: &R) -> io::Result<Vec<String>> {
+    Ok(env::args(rt)?.skip(1).collect(rt.alloc())?)
+}
+
+#[cfg(test)]
+mod tests;

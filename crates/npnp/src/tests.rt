@@ -1,0 +1,256 @@
+//! Runs over files in memory, with what they print and how they end.
+
+ghost use Rattle.std.specs.Prelude.{◌≡◌, true, false, List, None, [], cond};
+ghost use Rattle.shelf_core.specs.State.{Closed, Reading};
+
+use crate::run::run;
+use shelf_core::{SafeShelf, SafeSink, Shelf, ShelfStop, Sink};
+use std::alloc::{AllocError, Global};
+use std::test::Fail;
+
+/// Output 0 is the AND of the two inputs, output 1 the first input.
+const A: &[u8] = b"aag 3 2 0 2 1\n2\n4\n6\n2\n6 2 4\n";
+
+/// Output 0 is NOT input 1, output 1 is NOT (NOT input 1 AND input 0).
+const B: &[u8] = b"aag 3 2 0 2 1\n2\n4\n5\n7\n6 5 2\n";
+
+/// Neither inputs nor outputs.
+const EMPTY: &[u8] = b"aag 0 0 0 0 0\n";
+
+/// A match of A and B.
+const TABLE: &[u8] = b"npnp 1\nmatch i0-1 i1+0 o0-1 o1+0\nend\n";
+
+fn words_of(alloc: Global, words: &[&str]) -> Result<Vec<String>, AllocError> {
+    let mut list = Vec::new(alloc);
+    for word in words {
+        list.push(String::from_str(alloc, word)?)?;
+    }
+    Ok(list)
+}
+
+/// Runs with three files, named `A`, `B` and `t`: the status and what was printed.
+fn answer(
+    rt: &HostRuntime,
+    words: &[&str],
+    files: [&[u8]; 3],
+) -> Result<(u8, Vec<u8>), AllocError> {
+    let alloc = rt.alloc();
+    let [first, second, account] = files;
+    let first = (String::from_str(alloc, "A")?, first.to_vec(alloc)?);
+    let second = (String::from_str(alloc, "B")?, second.to_vec(alloc)?);
+    let account = (String::from_str(alloc, "t")?, account.to_vec(alloc)?);
+    let mut held = Vec::new(alloc);
+    held.push(first)?;
+    held.push(second)?;
+    held.push(account)?;
+    let mut shelf = SafeShelf::new(alloc, held, 65_536)?;
+    let mut sink = SafeSink::new(alloc);
+    let words = words_of(alloc, words)?;
+    let outcome = run(alloc, words.as_slice(), &mut shelf, &mut sink);
+    Ok((outcome.status(), sink.written().to_vec(alloc)?))
+}
+
+#[test]
+fn decides_tables(rt: HostRuntime) -> Result<(), Fail> {
+    let accepted =
+        b"accepted match\ninput 0 i0 = not input 1 i1\ninput 1 i1 = input 0 i0\noutput 0 o0 = not output 1 o1\noutput 1 o1 = output 0 o0\n";
+    let rows: [(&[u8], &[u8], &[u8], u8, &[u8]); 9] = [
+        (A, B, TABLE, 0, accepted),
+        (
+            A,
+            B,
+            b"npnp 1\nmatch i0+1 i1+0 o0-1 o1+0\nend\n",
+            2,
+            b"rejected\n",
+        ),
+        (
+            A,
+            B,
+            b"npnp 1\nmatch i0-1 i1+1 o0-1 o1+0\nend\n",
+            2,
+            b"rejected\n",
+        ),
+        (
+            A,
+            B,
+            b"npnp 1\nmatch i0-1 i1+0 o0-1 o1+0\n",
+            2,
+            b"rejected\n",
+        ),
+        (
+            A,
+            B,
+            b"npnp 1\nmatch i0-1 i1+0 o0-1 o1+0\nend",
+            2,
+            b"rejected\n",
+        ),
+        (
+            A,
+            B,
+            b"npnp 1\nmatch i0-1 i1+0 o0-01 o1+0\nend\n",
+            2,
+            b"rejected\n",
+        ),
+        (A, B, b"", 2, b"rejected\n"),
+        (
+            EMPTY,
+            EMPTY,
+            b"npnp 1\nmatch\nend\n",
+            0,
+            b"accepted match\n",
+        ),
+        (A, EMPTY, TABLE, 2, b"rejected\n"),
+    ];
+    for (first, second, account, status, report) in rows {
+        let (ended, printed) = answer(&rt, &["check", "A", "B", "t"], [first, second, account])?;
+        assert_eq!(rt; printed.as_slice(), report);
+        assert_eq!(rt; ended, status);
+    }
+    Ok(())
+}
+
+#[test]
+fn leaves_the_rest_unbuilt(rt: HostRuntime) -> Result<(), Fail> {
+    let thirteen = b"aag 13 13 0 0 0\n2\n4\n6\n8\n10\n12\n14\n16\n18\n20\n22\n24\n26\n";
+    let rows: [(&[&str], &[u8], &[u8]); 9] = [
+        (&[], A, B),
+        (&["match", "A", "B", "t"], A, B),
+        (&["check", "A", "B"], A, B),
+        (&["check", "A", "B", "t", "t"], A, B),
+        (&["check", "", "B", "t"], A, B),
+        (&["check", "A", "B", "z"], A, B),
+        (&["check", "z", "B", "t"], A, B),
+        (&["check", "A", "B", "t"], thirteen, thirteen),
+        (&["check", "A", "B", "t"], A, b"aig 0 0 0 0 0\n"),
+    ];
+    for (words, first, second) in rows {
+        let (ended, printed) = answer(&rt, words, [first, second, TABLE])?;
+        assert_eq!(rt; printed.as_slice(), b"unbuilt\n".as_slice());
+        assert_eq!(rt; ended, 5);
+    }
+    Ok(())
+}
+
+/// A shelf on which each name holds the empty circuit, and whose call of one number fails.
+#[derive(Drop)]
+struct Failing {
+    reading: bool,
+    left: u64,
+    calls: u64,
+    fails: u64,
+    faults: u64,
+}
+
+impl Failing {
+    /// Counts a call, and tells whether it fails.
+    fn call(&mut self) -> bool
+        ensures { (self.new.reading ≡ self.old.reading) × (self.new.left ≡ self.old.left) × (self.new.faults ≡ self.old.faults) }
+    {
+        let fails = self.calls == self.fails;
+        self.calls = self.calls.saturating_add(1);
+        fails
+    }
+}
+
+impl Shelf for Failing {
+    ghost tells = { false };
+
+    ghost state = { λ shelf. record {
+      held = λ _. None;
+      mode = cond shelf.reading Reading Closed;
+      name = [];
+      left = shelf.left;
+      unread = [];
+      faults = shelf.faults;
+    } };
+
+    fn open(&mut self, _name: &str) -> Result<Option<u64>, ShelfStop> {
+        if self.call() {
+            self.faults = self.faults.saturating_add(1);
+            return Err(ShelfStop::Failed);
+        }
+        self.reading = true;
+        self.left = EMPTY.len() as u64;
+        Ok(Some(self.left))
+    }
+
+    fn read(&mut self, buf: &mut [u8]) -> Result<usize, ShelfStop> {
+        if self.call() {
+            self.faults = self.faults.saturating_add(1);
+            return Err(ShelfStop::Failed);
+        }
+        let count = (self.left.min(buf.len() as u64)) as usize;
+        for (to, from) in buf.iter_mut().zip(EMPTY) {
+            *to = *from;
+        }
+        self.left -= count as u64;
+        Ok(count)
+    }
+
+    fn create(&mut self, _name: &str) -> Result<(), ShelfStop> {
+        Err(ShelfStop::Memory)
+    }
+
+    fn append(&mut self, _piece: &[u8]) -> Result<(), ShelfStop> {
+        Err(ShelfStop::Memory)
+    }
+
+    fn close(&mut self) -> Result<(), ShelfStop> {
+        if self.call() {
+            self.reading = false;
+            self.faults = self.faults.saturating_add(1);
+            return Err(ShelfStop::Failed);
+        }
+        self.reading = false;
+        Ok(())
+    }
+}
+
+#[test]
+fn calls_nothing_after_a_fault(rt: HostRuntime) -> Result<(), Fail> {
+    // open, read and close of each of three files
+    for fails in 0..9 {
+        let mut shelf = Failing {
+            reading: false,
+            left: 0,
+            calls: 0,
+            fails,
+            faults: 0,
+        };
+        let mut sink = SafeSink::new(rt.alloc());
+        let words = words_of(rt.alloc(), &["check", "A", "B", "t"])?;
+        let outcome = run(rt.alloc(), words.as_slice(), &mut shelf, &mut sink);
+        assert_eq!(rt; outcome.status(), 6);
+        assert_eq!(rt; sink.written(), b"read fault\n".as_slice());
+        assert_eq!(rt; shelf.calls, fails + 1);
+    }
+    Ok(())
+}
+
+/// A sink that fails at each call.
+#[derive(Drop)]
+struct FullSink {
+    faults: u64,
+}
+
+impl Sink for FullSink {
+    ghost tells = { true };
+
+    ghost state = { λ sink. record { written = []; faults = sink.faults } };
+
+    fn put(&mut self, _piece: &[u8]) -> Result<(), ShelfStop> {
+        self.faults = self.faults.saturating_add(1);
+        Err(ShelfStop::Failed)
+    }
+}
+
+#[test]
+fn ends_where_nothing_can_be_printed(rt: HostRuntime) -> Result<(), Fail> {
+    let mut shelf = SafeShelf::new(rt.alloc(), Vec::new(rt.alloc()), 1)?;
+    let mut sink = FullSink { faults: 0 };
+    let words = words_of(rt.alloc(), &["check", "A", "B", "t"])?;
+    let outcome = run(rt.alloc(), words.as_slice(), &mut shelf, &mut sink);
+    assert_eq!(rt; outcome.status(), 6);
+    assert_eq!(rt; sink.faults, 1);
+    Ok(())
+}
