@@ -51,7 +51,8 @@ impl Comparison<'_> {
     /// Whether the port counts agree, and the table's lists are signed bijections of the ports.
     fn have_ports(&self) -> bool
         ensures { IsTrue result
-            ↔ HavePorts self.now.first.now self.now.second.now self.now.table.now.inputs self.now.table.now.outputs }
+            ↔ HavePorts self.now.first.now self.now.second.now
+            self.now.table.now.inputs self.now.table.now.outputs }
     {
         let outputs = self.first.outputs().len();
         if self.second.inputs() != self.first.inputs() {
@@ -72,14 +73,16 @@ impl Comparison<'_> {
         values: &mut [bool],
         others: &mut [bool],
     ) -> bool
-        requires shape { HavePorts self.now.first.now self.now.second.now self.now.table.now.inputs self.now.table.now.outputs }
+        requires shape { HavePorts self.now.first.now self.now.second.now
+            self.now.table.now.inputs self.now.table.now.outputs }
         requires few { self.now.first.now.inputs ≤ 12 }
         requires vector { length vector.old ≡ self.now.first.now.inputs }
         requires moved { length moved.old ≡ self.now.first.now.inputs }
         requires values { length values.old ≡ signals_of self.now.first.now }
         requires others { length others.old ≡ signals_of self.now.second.now }
         ensures { IsTrue result
-            ↔ AgreeOnAll self.now.first.now self.now.second.now self.now.table.now.inputs self.now.table.now.outputs }
+            ↔ AgreeOnAll self.now.first.now self.now.second.now
+            self.now.table.now.inputs self.now.table.now.outputs }
     {
         for code in 0..vectors(self.first.inputs()) {
             write_vector(code, vector);
@@ -98,13 +101,15 @@ impl Comparison<'_> {
         values: &mut [bool],
         others: &mut [bool],
     ) -> bool
-        requires shape { HavePorts self.now.first.now self.now.second.now self.now.table.now.inputs self.now.table.now.outputs }
+        requires shape { HavePorts self.now.first.now self.now.second.now
+            self.now.table.now.inputs self.now.table.now.outputs }
         requires vector { length vector.now ≡ self.now.first.now.inputs }
         requires moved { length moved.old ≡ self.now.first.now.inputs }
         requires values { length values.old ≡ signals_of self.now.first.now }
         requires others { length others.old ≡ signals_of self.now.second.now }
         ensures { IsTrue result
-            ↔ AgreeOn self.now.first.now self.now.second.now self.now.table.now.inputs self.now.table.now.outputs vector.now }
+            ↔ AgreeOn self.now.first.now self.now.second.now
+            self.now.table.now.inputs self.now.table.now.outputs vector.now }
     {
         self.table.move_into(vector, moved);
         self.first.eval_into(vector, values);
@@ -140,7 +145,8 @@ fn outputs_agree(
     requires outputs { All (λ output. signal_of output < length values.now) outputs.now }
     requires partners { All (λ output. signal_of output < length others.now) partners.now }
     ensures { IsTrue result
-        ↔ OutputsAgree entries.now (map (literal_bit values.now) outputs.now) (map (literal_bit others.now) partners.now) }
+        ↔ OutputsAgree entries.now
+        (map (literal_bit values.now) outputs.now) (map (literal_bit others.now) partners.now) }
 {
     for (k, output) in outputs.iter().enumerate() {
         let (place, sign) = entries[k];

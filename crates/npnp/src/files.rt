@@ -62,7 +62,8 @@ pub fn read_file<S: Shelf>(
     limit: u64,
 ) -> Result<File, Stop>
     requires { (S.state shelf.old).mode ≡ Closed }
-    ensures { ReadsFile S.tells limit ((S.state shelf.old).held name.now) (S.state shelf.old) (S.state shelf.new) result }
+    ensures { ReadsFile S.tells limit ((S.state shelf.old).held name.now)
+        (S.state shelf.old) (S.state shelf.new) result }
 {
     match shelf.open(name)? {
         None => Ok(File::Absent),
@@ -75,7 +76,8 @@ fn read_open<S: Shelf>(alloc: Global, shelf: &mut S, size: u64, limit: u64) -> R
     requires reading { (S.state shelf.old).mode ≡ Reading }
     requires left { (S.state shelf.old).left ≡ size }
     requires told { IsTrue S.tells → length (S.state shelf.old).unread ≡ size }
-    ensures { ReadsFile S.tells limit (Some (S.state shelf.old).unread) (S.state shelf.old) (S.state shelf.new) result }
+    ensures { ReadsFile S.tells limit (Some (S.state shelf.old).unread)
+        (S.state shelf.old) (S.state shelf.new) result }
 {
     if size > limit {
         shelf.close()?;
@@ -98,7 +100,8 @@ fn read_rest<S: Shelf>(
     requires left { (S.state shelf.old).left ≡ size }
     requires told { IsTrue S.tells → length (S.state shelf.old).unread ≡ size }
     requires room { 0 < length piece.old }
-    ensures bytes { IsTrue S.tells → IfOk result (λ bytes. bytes.items ≡ (S.state shelf.old).unread) }
+    ensures bytes { IsTrue S.tells
+        → IfOk result (λ bytes. bytes.items ≡ (S.state shelf.old).unread) }
     ensures reading { OnOk result ((S.state shelf.new).mode ≡ Reading) }
     ensures files { (n : List ℕ) → (S.state shelf.new).held n ≡ (S.state shelf.old).held n }
     ensures faults { (S.state shelf.old).faults ≤ (S.state shelf.new).faults }
@@ -118,7 +121,8 @@ fn read_piece<S: Shelf>(shelf: &mut S, piece: &mut [u8], bytes: &mut Vec<u8>) ->
     requires reading { (S.state shelf.old).mode ≡ Reading }
     requires left { 0 < (S.state shelf.old).left }
     requires room { 0 < length piece.old }
-    ensures { ReadsPiece S.tells (S.state shelf.old) (S.state shelf.new) bytes.old.items bytes.new.items result }
+    ensures { ReadsPiece S.tells (S.state shelf.old) (S.state shelf.new)
+        bytes.old.items bytes.new.items result }
 {
     let count = shelf.read(piece)?;
     bytes.extend_from_slice(&piece[..count])?;

@@ -33,8 +33,11 @@ const TABLE_LIMIT: u64 = 65_535;
 const OUT_OF_MEMORY: &[u8] = b"out of memory\n";
 
 /// Runs the program on the words of its command line: reads the files that they name, decides, and puts one
-/// report. The words that it knows are `check FIRST SECOND ACCOUNT`: FIRST and SECOND are netlists in the plain
-/// form of AIGER, and ACCOUNT is a port table, which is accepted exactly where it is a match of the two.
+/// report. The words that it knows are `check FIRST SECOND ACCOUNT`: FIRST and SECOND are netlists in the
+/// plain form of AIGER, and ACCOUNT is a port table, which is accepted exactly where it is a match of the two.
+///
+/// The files are opened in this order, each read and closed before the next. A netlist of more than 67,108,864
+/// bytes and an account of more than 65,535 are closed unread.
 pub fn run<S: Shelf, K: Sink>(
     alloc: Global,
     words: &[String],
@@ -45,22 +48,29 @@ pub fn run<S: Shelf, K: Sink>(
 
     // Where no fault and no want of memory came between, the words and the files decide the outcome.
     ensures accepted { IsTrue S.tells → IsDecided result → (table : Table)
-        → ((result ≡ Outcome.AcceptedMatch table) ↔ IsAccepted (S.state shelf.old).held (map string_bytes words.now) table) }
+        → ((result ≡ Outcome.AcceptedMatch table)
+        ↔ IsAccepted (S.state shelf.old).held (map string_bytes words.now) table) }
     ensures rejected { IsTrue S.tells → IsDecided result
-        → ((result ≡ Outcome.NotATable) ↔ IsRejected (S.state shelf.old).held (map string_bytes words.now)) }
+        → ((result ≡ Outcome.NotATable)
+        ↔ IsRejected (S.state shelf.old).held (map string_bytes words.now)) }
     ensures unbuilt { IsTrue S.tells → IsDecided result
-        → ((result ≡ Outcome.Unbuilt) ↔ IsUnbuilt (S.state shelf.old).held (map string_bytes words.now)) }
+        → ((result ≡ Outcome.Unbuilt)
+        ↔ IsUnbuilt (S.state shelf.old).held (map string_bytes words.now)) }
 
     // A fault has its cause outside, in this call.
-    ensures read_fault { result ≡ Outcome.ReadFault → Rose (S.state shelf.old).faults (S.state shelf.new).faults }
-    ensures write_fault { result ≡ Outcome.WriteFault → Rose (K.state out.old).faults (K.state out.new).faults }
+    ensures read_fault { result ≡ Outcome.ReadFault
+        → Rose (S.state shelf.old).faults (S.state shelf.new).faults }
+    ensures write_fault { result ≡ Outcome.WriteFault
+        → Rose (K.state out.old).faults (K.state out.new).faults }
 
     // Words of no form make no call of the shelf.
     ensures no_form { AskNothing (map string_bytes words.now) → shelf.new ≡ shelf.old }
-    ensures no_form_unbuilt { AskNothing (map string_bytes words.now) → IsTold result → result ≡ Outcome.Unbuilt }
+    ensures no_form_unbuilt { AskNothing (map string_bytes words.now) → IsTold result
+        → result ≡ Outcome.Unbuilt }
 
     // No file changes.
-    ensures files { IsTrue S.tells → (name : List ℕ) → (S.state shelf.new).held name ≡ (S.state shelf.old).held name }
+    ensures files { IsTrue S.tells → (name : List ℕ)
+        → (S.state shelf.new).held name ≡ (S.state shelf.old).held name }
 
     // The report is put whole, or after a failed write or want of memory a first part of a right one.
     ensures report { IsTrue K.tells → IsTold result
@@ -76,11 +86,15 @@ pub fn run<S: Shelf, K: Sink>(
 /// The outcome that the words and the files decide, or the fault that came between.
 fn answer<S: Shelf>(alloc: Global, words: &[String], shelf: &mut S) -> Outcome
     requires { (S.state shelf.old).mode ≡ Closed }
-    ensures right { IsTrue S.tells → IsRight (S.state shelf.old).held (map string_bytes words.now) result }
-    ensures files { (name : List ℕ) → (S.state shelf.new).held name ≡ (S.state shelf.old).held name }
-    ensures read_fault { result ≡ Outcome.ReadFault → Rose (S.state shelf.old).faults (S.state shelf.new).faults }
+    ensures right { IsTrue S.tells
+        → IsRight (S.state shelf.old).held (map string_bytes words.now) result }
+    ensures files { (name : List ℕ)
+        → (S.state shelf.new).held name ≡ (S.state shelf.old).held name }
+    ensures read_fault { result ≡ Outcome.ReadFault
+        → Rose (S.state shelf.old).faults (S.state shelf.new).faults }
     ensures no_write_fault { result ≢ Outcome.WriteFault }
-    ensures no_form { AskNothing (map string_bytes words.now) → (shelf.new ≡ shelf.old) × (result ≡ Outcome.Unbuilt) }
+    ensures no_form { AskNothing (map string_bytes words.now)
+        → (shelf.new ≡ shelf.old) × (result ≡ Outcome.Unbuilt) }
 {
     let Some(check) = check_asked(words) else {
         return Outcome::Unbuilt;
@@ -95,7 +109,8 @@ fn answer<S: Shelf>(alloc: Global, words: &[String], shelf: &mut S) -> Outcome
 /// What the files that a check names decide.
 fn decide<S: Shelf>(alloc: Global, check: &Check<'_>, shelf: &mut S) -> Result<Outcome, Stop>
     requires { (S.state shelf.old).mode ≡ Closed }
-    ensures { Decides S.tells check.now.first.now check.now.second.now check.now.account.now (S.state shelf.old) (S.state shelf.new) result }
+    ensures { Decides S.tells check.now.first.now check.now.second.now check.now.account.now
+        (S.state shelf.old) (S.state shelf.new) result }
 {
     let Some(first) = read_netlist(alloc, shelf, check.first)? else {
         return Ok(Outcome::Unbuilt);
@@ -116,7 +131,8 @@ fn settle_by<S: Shelf>(
 ) -> Result<Outcome, Stop>
     requires closed { (S.state shelf.old).mode ≡ Closed }
     requires small { IsSmall first.now }
-    ensures { SettlesBy S.tells first.now second.now name.now (S.state shelf.old) (S.state shelf.new) result }
+    ensures { SettlesBy S.tells first.now second.now name.now
+        (S.state shelf.old) (S.state shelf.new) result }
 {
     match read_file(alloc, shelf, name, TABLE_LIMIT)? {
         File::Absent => Ok(Outcome::Unbuilt),
@@ -177,7 +193,8 @@ fn tell<K: Sink>(alloc: Global, outcome: Outcome, out: &mut K) -> Outcome
     ensures part { IsTrue K.tells → WritesPart (K.state out.old) (K.state out.new) (report_of outcome)
         ⊎ WritesPart (K.state out.old) (K.state out.new) (report_of Outcome.Memory) }
     ensures same { IsTold result → result ≡ outcome }
-    ensures write_fault { result ≡ Outcome.WriteFault → Rose (K.state out.old).faults (K.state out.new).faults }
+    ensures write_fault { result ≡ Outcome.WriteFault
+        → Rose (K.state out.old).faults (K.state out.new).faults }
 {
     if let Outcome::Memory = outcome {
         return put(OUT_OF_MEMORY, Outcome::Memory, out);

@@ -1,0 +1,43 @@
+#!/usr/bin/env bash
+# Runs `./npnp check` on files of the machine, and compares its status and its first line with what is wanted. Ends
+# with status 1 where one differs. Not part of the gate, which runs the same program on files in memory.
+set -u
+here=$(cd "$(dirname "${BASH_SOURCE[0]}")" && pwd)
+work=$(mktemp -d)
+trap 'rm -rf "$work"' EXIT
+cp "$here"/a.aag "$here"/b.aag "$here"/a-b.match "$work"
+cd "$work" || exit 1
+sed 's/i0-1/i0+1/' a-b.match >sign.match
+sed 's/i1+0/i1+1/' a-b.match >twice.match
+sed '/end/d' a-b.match >cut.match
+sed 's/6 5 2/6 5 3/' b.aag >other.aag
+mkdir folder
+failed=0
+
+wants() { # STATUS FIRST-LINE WORDS..
+  local status=$1 line=$2 printed
+  shift 2
+  printed=$("$here/../npnp" "$@" 2>/dev/null)
+  local ended=$?
+  if [ "$ended" = "$status" ] && [ "${printed%%$'\n'*}" = "$line" ]; then
+    echo "ok: npnp $*: $line, status $ended"
+  else
+    echo "WRONG: npnp $*: '$printed', status $ended; wanted '$line', status $status"
+    failed=1
+  fi
+}
+
+wants 0 'accepted match' check a.aag b.aag a-b.match
+wants 2 'rejected' check a.aag b.aag sign.match
+wants 2 'rejected' check a.aag b.aag twice.match
+wants 2 'rejected' check a.aag b.aag cut.match
+wants 2 'rejected' check a.aag other.aag a-b.match
+wants 2 'rejected' check a.aag b.aag a.aag
+wants 5 'unbuilt' check a.aag b.aag absent.match
+wants 5 'unbuilt' check absent.aag b.aag a-b.match
+wants 5 'unbuilt' check a.aag a-b.match a-b.match
+wants 5 'unbuilt' match a.aag b.aag a-b.match
+wants 5 'unbuilt'
+wants 6 'read fault' check folder b.aag a-b.match
+wants 6 'read fault' check a.aag b.aag folder
+exit "$failed"
