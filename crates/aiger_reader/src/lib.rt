@@ -1,0 +1,42 @@
+//! A reader of netlists in the AIGER text format, in its plain form: AND gates in order, without latches,
+//! symbols and comments.
+#![tactic(auto)]
+
+ghost use Rattle.std.specs.Prelude.{◌≡◌};
+ghost use Rattle.aiger_reader.specs.declared.PlainStop.TheVariants.{Memory};
+
+mod parts;
+mod plain;
+mod rows;
+
+pub use net_core::{Gate, Graph, Lit};
+pub use plain::{one_netlist, read_plain};
+use std::alloc::{AllocError, AllocFailed};
+
+/// Why a text of the plain form was not read.
+#[derive(Clone, Copy, Debug, PartialEq, Eq)]
+pub enum PlainStop {
+    /// The bytes are not of the plain form.
+    Unbuilt,
+    /// There was no memory for the graph.
+    Memory,
+}
+
+impl From<AllocError> for PlainStop {
+    ghost from_gives = { λ _ e. e ≡ Memory };
+
+    fn from(_error: AllocError) -> PlainStop {
+        PlainStop::Memory
+    }
+}
+
+impl<T: Drop> From<AllocFailed<T>> for PlainStop {
+    ghost from_gives = { λ _ e. e ≡ Memory };
+
+    fn from(_error: AllocFailed<T>) -> PlainStop {
+        PlainStop::Memory
+    }
+}
+
+#[cfg(test)]
+mod tests;
