@@ -1,7 +1,7 @@
 //! Runs over files in memory, with what they print and how they end.
 
 ghost use Rattle.std.specs.Prelude.{◌≡◌, true, false, List, None, [], cond};
-ghost use Rattle.shelf_core.specs.State.{Closed, Reading};
+ghost use Rattle.shelf_core.specs.State.{Closed, Reading, Writing};
 
 use crate::run::run;
 use shelf_core::{SafeShelf, SafeSink, Shelf, ShelfStop, Sink};
@@ -135,6 +135,7 @@ fn leaves_the_rest_unbuilt(rt: HostRuntime) -> Result<(), Fail> {
 #[derive(Drop)]
 struct Failing {
     reading: bool,
+    writing: bool,
     left: u64,
     calls: u64,
     fails: u64,
@@ -144,7 +145,7 @@ struct Failing {
 impl Failing {
     /// Counts a call, and tells whether it fails.
     fn call(&mut self) -> bool
-        ensures { (self.new.reading ≡ self.old.reading) × (self.new.left ≡ self.old.left) × (self.new.faults ≡ self.old.faults) }
+        ensures { (self.new.reading ≡ self.old.reading) × (self.new.writing ≡ self.old.writing) × (self.new.left ≡ self.old.left) × (self.new.faults ≡ self.old.faults) }
     {
         let fails = self.calls == self.fails;
         self.calls = self.calls.saturating_add(1);
@@ -157,7 +158,7 @@ impl Shelf for Failing {
 
     ghost state = { λ shelf. record {
       held = λ _. None;
-      mode = cond shelf.reading Reading Closed;
+      mode = cond shelf.reading Reading (cond shelf.writing Writing Closed);
       name = [];
       left = shelf.left;
       unread = [];
@@ -188,7 +189,8 @@ impl Shelf for Failing {
     }
 
     fn create(&mut self, _name: &str) -> Result<(), ShelfStop> {
-        Err(ShelfStop::Memory)
+        self.writing = true;
+        Ok(())
     }
 
     fn append(&mut self, _piece: &[u8]) -> Result<(), ShelfStop> {
@@ -196,12 +198,13 @@ impl Shelf for Failing {
     }
 
     fn close(&mut self) -> Result<(), ShelfStop> {
-        if self.call() {
-            self.reading = false;
+        let fails = self.call();
+        self.reading = false;
+        self.writing = false;
+        if fails {
             self.faults = self.faults.saturating_add(1);
             return Err(ShelfStop::Failed);
         }
-        self.reading = false;
         Ok(())
     }
 }
@@ -212,6 +215,7 @@ fn calls_nothing_after_a_fault(rt: HostRuntime) -> Result<(), Fail> {
     for fails in 0..9 {
         let mut shelf = Failing {
             reading: false,
+            writing: false,
             left: 0,
             calls: 0,
             fails,
