@@ -3,3 +3,5 @@ pub mod Places
 pub mod Codes
 pub mod Entries
 pub mod MatchLaws
+pub mod LevelLaws
+pub mod LevelOrders

@@ -2,3 +2,5 @@ pub mod Literals
 pub mod Netlists
 pub mod Bijections
 pub mod Matches
+pub mod Circuits
+pub mod Levels

@@ -1,10 +1,12 @@
 //! What the definitions of this crate say together: laws that hold of all netlists, vectors and signed
 //! bijections. Each function does nothing; its contract is the law.
 
-ghost use Rattle.std.specs.Prelude.{ℕ, ◌<◌, ◌^◌, ◌≡◌, ◌↔◌, Bool, List, length};
+ghost use Rattle.std.specs.Prelude.{ℕ, suc, ◌<◌, ◌^◌, ◌≡◌, ◌↔◌, Bool, List, length};
 ghost use Rattle.circuits.specs.Literals.{vector_of};
-ghost use Rattle.circuits.specs.Netlists.{Net, IsOrdered, Fits, valuation_of};
+ghost use Rattle.circuits.specs.Netlists.{Net, IsOrdered, Fits, valuation_of, function_of};
 ghost use Rattle.circuits.specs.Bijections.{IsSignedBijection, Moves, moved};
+ghost use Rattle.circuits.specs.Circuits.{Circuit, IsClosed, FitsCircuit, circuit_outputs};
+ghost use Rattle.circuits.specs.Levels.{HasNoLevel, IsAcyclic, IsOrderOf, Reaches};
 ghost use Rattle.circuits.specs.Matches.{IsMatch, IsMatchOfFunctions, AreNpnpEqual};
 
 /// Exactly one valuation fits a netlist in order and a vector as long as it has inputs: the one computed
@@ -39,4 +41,20 @@ pub fn npnp_reflexive()
 pub fn every_vector()
     ensures { (x : List Bool)
         → (code : ℕ) × (code < 2 ^ length x) × (x ≡ vector_of (length x) code) }
+{}
+
+/// What reaches a cycle has no level.
+pub fn no_level_on_a_cycle()
+    ensures { (circuit : Circuit) (j k s t : ℕ) → Reaches circuit j s t → Reaches circuit (suc k) t t
+        → HasNoLevel circuit s }
+{}
+
+/// A closed netlist without a cycle that is taken by levels is in order, and computes the same: under each
+/// valuation that fits, its outputs are those of the ordered netlist.
+pub fn same_function_in_order()
+    ensures ordered { (circuit : Circuit) (net : Net) → IsAcyclic circuit → IsClosed circuit
+        → IsOrderOf circuit net → IsOrdered net }
+    ensures outputs { (circuit : Circuit) (net : Net) (x v : List Bool) → IsAcyclic circuit → IsClosed circuit
+        → IsOrderOf circuit net → length x ≡ circuit.inputs → FitsCircuit circuit x v
+        → circuit_outputs circuit v ≡ function_of net x }
 {}

@@ -2,10 +2,12 @@
 //! valuations, signed bijections, matches and NPNP equality.
 #![tactic(auto)]
 
+mod definition;
 pub mod laws;
 mod netlist;
 pub mod plain;
 mod port;
 
+pub use definition::Def;
 pub use netlist::{Gate, Lit, Netlist};
 pub use port::{Pair, PortKind};

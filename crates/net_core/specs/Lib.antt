@@ -1,5 +1,10 @@
 pub mod Graph
+pub mod PlainNets
+pub mod Search
+pub mod Orders
 pub use Rattle.circuits.specs.Literals
 pub use Rattle.circuits.specs.Netlists
 pub use Rattle.circuits.specs.Bijections
 pub use Rattle.circuits.specs.Matches
+pub use Rattle.circuits.specs.Circuits
+pub use Rattle.circuits.specs.Levels

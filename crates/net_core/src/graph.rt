@@ -56,6 +56,18 @@ impl Graph {
         })
     }
 
+    /// The graph of gates that are in order, and of outputs.
+    pub(crate) fn in_order(inputs: u32, gates: Vec<Gate>, outputs: Vec<Lit>) -> Graph
+        requires graph { IsGraph (record { inputs = inputs; gates = gates.items; outputs = outputs.items }) }
+        ensures { result ≡ record { inputs = inputs; gates = gates.items; outputs = outputs.items } }
+    {
+        Graph {
+            inputs,
+            gates,
+            outputs,
+        }
+    }
+
     /// How many inputs there are.
     pub fn inputs(&self) -> u32
         ensures value { result ≡ self.now.inputs }

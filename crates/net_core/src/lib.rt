@@ -1,12 +1,19 @@
-//! The ordered graph of a netlist, its evaluation, and port tables.
+//! Netlists in any order and in order, their evaluation, and port tables.
 #![tactic(auto)]
 
 mod graph;
+mod levels;
 mod matching;
+mod order_fault;
+mod ordering;
+mod plain_net;
 
-pub use circuits::{Gate, Lit, Pair, PortKind};
+pub use circuits::{Def, Gate, Lit, Pair, PortKind};
 pub use graph::{Graph, lit_value};
 pub use matching::Matching;
+pub use order_fault::OrderFault;
+pub use ordering::order;
+pub use plain_net::PlainNet;
 
 #[cfg(test)]
 mod tests;

@@ -1,5 +1,7 @@
 //! Two circuits that are worked out by hand, and one of their matches.
 
+mod in_order;
+
 use crate::{Gate, Graph, Lit, Matching, lit_value};
 use items::Items;
 use std::test::Fail;

@@ -1,0 +1,219 @@
+//! The levels of a netlist's definitions, found by a depth-first search with a stack of its own.
+
+ghost use Rattle.std.specs.Prelude.{◌≡◌, ◌+◌, ◌-◌, ◌<◌, [], ◌∷◌, ◌++◌, length, take, vec_len, slice_set, IfOk, IfErr};
+ghost use Rattle.circuits.specs.Literals.{signal_of};
+ghost use Rattle.circuits.specs.Circuits.{IsAndAt, signals_in};
+ghost use Rattle.net_core.specs.PlainNets.{IsPlainNet};
+ghost use Rattle.net_core.specs.Search.{IsUnderWay, IsReady, Knows, IsSeen, IsStep, IsFaultAt, IsFaultOf, AreAllFound, left};
+ghost use Rattle.net_core.specs.Orders.{AreLevels};
+
+use crate::order_fault::OrderFault;
+use crate::plain_net::PlainNet;
+use circuits::{Def, Lit};
+use std::alloc::{AllocError, Global};
+
+/// How far the search has come at a definition.
+#[derive(Clone, Copy, Debug, Drop, PartialEq, Eq)]
+enum Visit {
+    /// It was not met yet.
+    New,
+    /// It is on the stack: what it names is looked at.
+    Open,
+    /// Its level is known.
+    Level(u32),
+}
+
+/// What an operand is for the search.
+enum Seen {
+    /// Its level is known.
+    Below(u32),
+    /// The definition at this position, which was not met yet.
+    Fresh(usize),
+    /// A definition on the stack.
+    Above,
+}
+
+/// What is to be done next at a definition.
+enum Step {
+    /// To look at the definition at this position first.
+    Enter(usize),
+    /// To leave the definition, which has this level.
+    Close(u32),
+    /// To give up: the definition names one that is on the stack.
+    Loop,
+}
+
+/// A search: what is known of each definition, and the way from the root to where the search is.
+#[derive(Drop)]
+struct Search {
+    visits: Vec<Visit>,
+    stack: Vec<usize>,
+}
+
+impl Search {
+    /// What the search knows of a literal's signal. The constant and the inputs have level 0.
+    fn seen(&self, net: &PlainNet, literal: Lit) -> Seen
+        requires there { signal_of literal < signals_in net.now }
+        requires knows { Knows net.now self.now.visits.items self.now.stack.items }
+        ensures { IsSeen net.now self.now.visits.items self.now.stack.items (signal_of literal) result }
+    {
+        let first = net.inputs() as usize + 1;
+        let signal = literal.signal() as usize;
+        if signal < first {
+            return Seen::Below(0);
+        }
+        match self.visits[signal - first] {
+            Visit::New => Seen::Fresh(signal - first),
+            Visit::Open => Seen::Above,
+            Visit::Level(level) => Seen::Below(level),
+        }
+    }
+
+    /// What is to be done next at the definition at a position.
+    fn next_step(&self, net: &PlainNet, position: usize) -> Step
+        requires there { position < length net.now.defs }
+        requires knows { Knows net.now self.now.visits.items self.now.stack.items }
+        ensures { IsStep net.now self.now.visits.items self.now.stack.items position result }
+    {
+        match net.def_at(position) {
+            Def::And { a, b } => self.step_at_and(net, position, a, b),
+        }
+    }
+
+    /// What is to be done next at an AND.
+    fn step_at_and(&self, net: &PlainNet, position: usize, a: Lit, b: Lit) -> Step
+        requires is { IsAndAt net.now position a b }
+        requires net { IsPlainNet net.now }
+        requires knows { Knows net.now self.now.visits.items self.now.stack.items }
+        ensures { IsStep net.now self.now.visits.items self.now.stack.items position result }
+    {
+        let first = match self.seen(net, a) {
+            Seen::Below(level) => level,
+            Seen::Fresh(place) => return Step::Enter(place),
+            Seen::Above => return Step::Loop,
+        };
+        let second = match self.seen(net, b) {
+            Seen::Below(level) => level,
+            Seen::Fresh(place) => return Step::Enter(place),
+            Seen::Above => return Step::Loop,
+        };
+        Step::Close(first.max(second) + 1)
+    }
+
+    /// Puts a definition that was not met yet on the stack.
+    fn enter(&mut self, position: usize) -> Result<(), OrderFault>
+        requires { position < vec_len self.old.visits }
+        ensures visits { IfOk result
+            (λ _. self.new.visits.items ≡ slice_set self.old.visits.items position Visit.Open) }
+        ensures stack { IfOk result (λ _. self.new.stack.items ≡ self.old.stack.items ++ position ∷ []) }
+        ensures err { IfErr result (λ fault. fault ≡ OrderFault.Memory) }
+    {
+        self.visits[position] = Visit::Open;
+        self.stack.push(position)?;
+        Ok(())
+    }
+
+    /// Takes the definition on top, whose level is found, off the stack.
+    fn close(&mut self, position: usize, level: u32)
+        requires { position < vec_len self.old.visits }
+        ensures visits { self.new.visits.items ≡ slice_set self.old.visits.items position (Visit.Level level) }
+        ensures stack { self.new.stack.items
+            ≡ take (length self.old.stack.items - 1) self.old.stack.items }
+    {
+        self.visits[position] = Visit::Level(level);
+        let _ = self.stack.pop();
+    }
+
+    /// One step of the search from a root.
+    fn advance(&mut self, net: &PlainNet, root: u32) -> Result<(), OrderFault>
+        requires under_way { IsUnderWay net.now root self.old.visits.items self.old.stack.items }
+        requires more { 0 < vec_len self.old.stack }
+        ensures under_way { IfOk result
+            (λ _. IsUnderWay net.now root self.new.visits.items self.new.stack.items) }
+        ensures less { IfOk result
+            (λ _. left self.new.visits.items self.new.stack.items
+            < left self.old.visits.items self.old.stack.items) }
+        ensures fault { IfErr result (IsFaultAt net.now root) }
+    {
+        let position = self.stack[self.stack.len() - 1];
+        match self.next_step(net, position) {
+            Step::Enter(place) => self.enter(place)?,
+            Step::Close(level) => self.close(position, level),
+            Step::Loop => return Err(OrderFault::Cycle(root)),
+        }
+        Ok(())
+    }
+
+    /// Finds the level of a definition, and of all that it stands on.
+    fn explore(&mut self, net: &PlainNet, root: u32) -> Result<(), OrderFault>
+        requires there { root < length net.now.defs }
+        requires ready { IsReady net.now root self.old.visits.items self.old.stack.items }
+        ensures ready { IfOk result
+            (λ _. IsReady net.now (root + 1) self.new.visits.items self.new.stack.items) }
+        ensures fault { IfErr result (IsFaultAt net.now root) }
+    {
+        let Visit::New = self.visits[root as usize] else {
+            return Ok(());
+        };
+        self.enter(root as usize)?;
+        while !self.stack.is_empty() {
+            self.advance(net, root)?;
+        }
+        Ok(())
+    }
+}
+
+/// A definition and its level. They are compared by level, then by position.
+#[derive(Clone, Copy, Debug, Drop, PartialEq, Eq, PartialOrd, Ord)]
+pub(crate) struct Placed {
+    pub(crate) level: u32,
+    pub(crate) position: u32,
+}
+
+/// The level of each definition, in the order in which they stand.
+pub(crate) fn find_levels(alloc: Global, net: &PlainNet) -> Result<Vec<Placed>, OrderFault>
+    ensures levels { IfOk result (λ placed. AreLevels net.now placed.items) }
+    ensures fault { IfErr result (IsFaultOf net.now) }
+{
+    let visits = visit_all(alloc, net)?;
+    place_all(alloc, net, &visits)
+}
+
+/// Searches from each definition, in the order in which they stand.
+fn visit_all(alloc: Global, net: &PlainNet) -> Result<Vec<Visit>, OrderFault>
+    ensures entries { IfOk result (λ visits. vec_len visits ≡ length net.now.defs) }
+    ensures levels { IfOk result (λ visits. AreAllFound net.now visits.items) }
+    ensures fault { IfErr result (IsFaultOf net.now) }
+{
+    let count = net.defs().len();
+    let mut search = Search {
+        visits: vec![in alloc; Visit::New; count]?,
+        stack: Vec::new(alloc),
+    };
+    for root in 0..count as u32 {
+        search.explore(net, root)?;
+    }
+    let Search { visits, stack: _ } = search;
+    Ok(visits)
+}
+
+/// Lists the levels that were found.
+fn place_all(alloc: Global, net: &PlainNet, visits: &[Visit]) -> Result<Vec<Placed>, OrderFault>
+    requires entries { length visits.now ≡ length net.now.defs }
+    requires found { AreAllFound net.now visits.now }
+    ensures levels { IfOk result (λ placed. AreLevels net.now placed.items) }
+    ensures fault { IfErr result (λ fault. fault ≡ OrderFault.Memory) }
+{
+    let count = net.defs().len();
+    let mut placed = Vec::with_capacity(alloc, count)?;
+    for position in 0..count {
+        let Visit::Level(level) = visits[position] else {
+            unreachable!()
+        };
+        placed.push(Placed {
+            level,
+            position: position as u32,
+        })?;
+    }
+    Ok(placed)
+}

@@ -1,0 +1,36 @@
+//! Why a netlist isn't put in order.
+
+use std::alloc::{AllocError, AllocFailed};
+
+/// Why a netlist isn't put in order.
+#[derive(Clone, Copy, Debug, Drop, PartialEq, Eq)]
+pub enum OrderFault {
+    /// The first definition, by its position, that is on a cycle or above one.
+    Cycle(u32),
+    /// There is no cycle, but there are more than 1,000,000 definitions.
+    TooManyGates,
+    /// Memory is wanting.
+    Memory,
+}
+
+impl From<AllocError> for OrderFault {
+    ghost use Rattle.std.specs.Prelude.{◌≡◌};
+    ghost use Rattle.net_core.specs.declared.order_fault.OrderFault.TheVariants.{Memory};
+
+    ghost from_gives = { λ _ fault. fault ≡ Memory };
+
+    fn from(_error: AllocError) -> OrderFault {
+        OrderFault::Memory
+    }
+}
+
+impl<T: Drop> From<AllocFailed<T>> for OrderFault {
+    ghost use Rattle.std.specs.Prelude.{◌≡◌};
+    ghost use Rattle.net_core.specs.declared.order_fault.OrderFault.TheVariants.{Memory};
+
+    ghost from_gives = { λ _ fault. fault ≡ Memory };
+
+    fn from(_error: AllocFailed<T>) -> OrderFault {
+        OrderFault::Memory
+    }
+}

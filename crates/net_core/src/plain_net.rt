@@ -1,0 +1,79 @@
+//! Netlists as their files give them: the definitions stand in any order.
+
+ghost use Rattle.std.specs.Prelude.{◌≡◌, ◌+◌, ◌^◌, ◌<◌, length, slice_index_or};
+ghost use Rattle.circuits.specs.Circuits.{IsClosed};
+ghost use Rattle.net_core.specs.PlainNets.{IsPlainNet};
+
+use circuits::{Def, Lit};
+use items::Items;
+use std::marker::Model;
+
+/// A netlist whose definitions may stand in any order. Signal 0 is false, input i is signal i + 1, and
+/// definition d is signal inputs + 1 + d. Each signal that a definition or an output names is there.
+/// There are fewer than 2^30 signals and fewer than 2^32 outputs.
+#[derive(Debug, Drop)]
+pub struct PlainNet {
+    pub inputs: u32,
+    pub defs: Items<Def>,
+    pub outputs: Items<Lit>,
+}
+
+impl Model for PlainNet {
+    ghost use Rattle.circuits.specs.Circuits.{Circuit};
+    ghost use Rattle.net_core.specs.PlainNets.{IsPlainNet};
+
+    ghost Value = { Circuit };
+
+    ghost view = { λ net. record { inputs = net.inputs; defs = net.defs; outputs = net.outputs } };
+
+    ghost invariant = { λ net. IsPlainNet (record { inputs = net.inputs; defs = net.defs; outputs = net.outputs }) };
+}
+
+impl PlainNet {
+    /// The netlist with these parts, which name only signals that are there.
+    pub fn new(inputs: u32, defs: Items<Def>, outputs: Items<Lit>) -> PlainNet
+        requires closed { IsClosed (record { inputs = inputs; defs = defs; outputs = outputs }) }
+        requires signals { 1 + inputs + length defs < 2 ^ 30 }
+        requires outputs { length outputs < 2 ^ 32 }
+        ensures { result ≡ record { inputs = inputs; defs = defs; outputs = outputs } }
+    {
+        PlainNet {
+            inputs,
+            defs,
+            outputs,
+        }
+    }
+
+    /// How many inputs there are.
+    pub fn inputs(&self) -> u32
+        ensures value { result ≡ self.now.inputs }
+        ensures net { IsPlainNet self.now }
+    {
+        self.inputs
+    }
+
+    /// The definitions, in the order in which they stand.
+    pub fn defs(&self) -> &[Def]
+        ensures value { result.now ≡ self.now.defs }
+        ensures net { IsPlainNet self.now }
+    {
+        self.defs.as_slice()
+    }
+
+    /// The output literals, in order.
+    pub fn outputs(&self) -> &[Lit]
+        ensures value { result.now ≡ self.now.outputs }
+        ensures net { IsPlainNet self.now }
+    {
+        self.outputs.as_slice()
+    }
+
+    /// The definition at a position.
+    pub fn def_at(&self, position: usize) -> Def
+        requires { position < length self.now.defs }
+        ensures value { result ≡ slice_index_or self.now.defs position result }
+        ensures net { IsPlainNet self.now }
+    {
+        self.defs[position]
+    }
+}
