@@ -1,5 +1,6 @@
 -- That levels are what they are called: they grow along a netlist, and what reaches a cycle has none.
-use Rattle.std.proofs.Common.{ℕ, zero, suc, ◌+◌, ◌-◌, ◌<◌, ◌≤◌, ◌≡◌, max, [], ◌∷◌, length, All, get_or, refl, sym, ap, subst, ◌∙◌, inl, inr, arith}
+use Rattle.std.proofs.Common.{ℕ, zero, suc, ◌+◌, ◌-◌, ◌<◌, ◌≤◌, ◌≡◌, ◌⊎◌, max, [], ◌∷◌, length, All, get_or, refl, sym, ap, subst, ◌∙◌, inl, inr, arith}
+use Rattle.std.proofs.lemmas.Bool.{cases_lt}
 use Rattle.std.proofs.lemmas.List.Elements.{All-nil, All-cons}
 use Rattle.std.proofs.lemmas.List.{get_or_default}
 use Rattle.circuits.specs.declared.netlist.Lit.{Lit}
@@ -7,7 +8,7 @@ use Rattle.circuits.specs.declared.definition.Def.{Def}
 use Rattle.circuits.specs.declared.definition.Def.TheVariants.{And}
 use Rattle.circuits.specs.Literals.{signal_of}
 use Rattle.circuits.specs.Circuits.{Circuit, IsAndAt, IsClosed, signals_in, signal_at, named_by}
-use Rattle.circuits.specs.Levels.{IsWithin, HasLevel, HasNoLevel, Names, Reaches}
+use Rattle.circuits.specs.Levels.{NamesOnly, IsWithin, HasLevel, HasNoLevel, Names, Reaches}
 
 -- the definition is the same at each default
 pub IsAndAt-default : (circuit : Circuit) (d : ℕ) (a b : Lit) → IsAndAt circuit d a b → (other : Def) → get_or circuit.defs d other ≡ And a b
@@ -120,3 +121,76 @@ pub IsClosed-and : (circuit : Circuit) (d : ℕ) (a b : Lit) → IsClosed circui
 IsClosed-and circuit d a b closed is =
     let named = subst (λ def. All (λ s. s < signals_in circuit) (named_by def)) is.is (closed.defs d (And a b) is.there) in
     (named 0 0 (omega arith), named 1 0 (omega arith))
+
+-- whether all that a definition names has P, where P can be told of each signal
+pub named-told : (P : ℕ → Type 0) → ((s : ℕ) → P s ⊎ (P s → ⊥)) → (def : Def) → All P (named_by def) ⊎ (All P (named_by def) → ⊥)
+named-told P tell (And a b) = both (tell (signal_of a)) (tell (signal_of b))
+  where
+    both : P (signal_of a) ⊎ (P (signal_of a) → ⊥) → P (signal_of b) ⊎ (P (signal_of b) → ⊥) → All P (named_by (And a b)) ⊎ (All P (named_by (And a b)) → ⊥)
+    both (inl first) (inl second) = inl (All-named P a b first second)
+    both (inl first) (inr not_second) = inr (λ all. not_second (all 1 0 (omega arith)))
+    both (inr not_first) second = inr (λ all. not_first (all 0 0 (omega arith)))
+
+-- whether a signal is within a level
+pub IsWithin-told : (circuit : Circuit) (l s : ℕ) → IsWithin circuit l s ⊎ (IsWithin circuit l s → ⊥)
+IsWithin-told circuit zero s =
+    elim (cases_lt s (1 + circuit.inputs)) [
+      | inl less ↦ inl less
+      | inr past ↦ inr (λ h. omega arith)
+    ]
+IsWithin-told circuit (suc l) s =
+    elim (cases_lt s (1 + circuit.inputs)) [
+      | inl less ↦ inl (inl less)
+      | inr past ↦ elim (cases_lt (s - (1 + circuit.inputs)) (length circuit.defs)) [
+        | inr outside ↦ inr (λ h. nowhere outside past h)
+        | inl inside ↦ elim (named-told (IsWithin circuit l) (λ u. IsWithin-told circuit l u) (get_or circuit.defs (s - (1 + circuit.inputs)) default)) [
+          | inl all ↦ inl (inr (record {
+            place = s - (1 + circuit.inputs);
+            there = inside;
+            at = omega arith;
+            named = λ d. subst (λ def. All (IsWithin circuit l) (named_by def)) (get_or_default circuit.defs (s - (1 + circuit.inputs)) default d inside) all;
+          }))
+          | inr told_not ↦ inr (λ h. not_all past told_not h)
+        ]
+      ]
+    ]
+  where
+    default : Def
+    default = And (record { 0 = 0 }) (record { 0 = 0 })
+
+    nowhere : length circuit.defs ≤ s - (1 + circuit.inputs) → 1 + circuit.inputs ≤ s → ((s < 1 + circuit.inputs) ⊎ NamesOnly circuit (IsWithin circuit l) s) → ⊥
+    nowhere outside past (inl h) = omega arith
+    nowhere outside past (inr only) = omega (arith, only.there, only.at)
+
+    not_all : 1 + circuit.inputs ≤ s → (All (IsWithin circuit l) (named_by (get_or circuit.defs (s - (1 + circuit.inputs)) default)) → ⊥) → ((s < 1 + circuit.inputs) ⊎ NamesOnly circuit (IsWithin circuit l) s) → ⊥
+    not_all past told_not (inl h) = omega arith
+    not_all past told_not (inr only) =
+        let e : only.place ≡ s - (1 + circuit.inputs) = omega (arith, only.at) in
+        told_not (subst (λ n. All (IsWithin circuit l) (named_by (get_or circuit.defs n default))) e (only.named default))
+
+-- what is within a level has one
+pub least_level : (circuit : Circuit) (l s : ℕ) → IsWithin circuit l s → (m : ℕ) × HasLevel circuit s m
+least_level circuit zero s h = (0, HasLevel-input circuit s h)
+least_level circuit (suc l) s h =
+    elim (IsWithin-told circuit l s) [
+      | inl lower ↦ least_level circuit l s lower
+      | inr told_not ↦ (
+        suc l,
+        record {
+          within = h;
+          least = λ n within. elim (cases_lt n (suc l)) [
+            | inl less ↦ absurd (told_not (IsWithin-le circuit n l s (omega arith) within))
+            | inr past ↦ past
+          ];
+        },
+      )
+    ]
+
+-- the operands of an AND at level n + 1 have levels, of which n is the greater
+pub HasLevel-operands : (circuit : Circuit) (d n : ℕ) (a b : Lit) → IsAndAt circuit d a b → HasLevel circuit (signal_at circuit d) (suc n) → (l m : ℕ) × HasLevel circuit (signal_of a) l × HasLevel circuit (signal_of b) m × (max l m ≡ n)
+HasLevel-operands circuit d n a b is has =
+    let both = IsWithin-operands circuit d n a b is has.within in
+    let first = least_level circuit n (signal_of a) both.0 in
+    let second = least_level circuit n (signal_of b) both.1 in
+    let same = HasLevel-only circuit (signal_at circuit d) (suc (max first.0 second.0)) (suc n) (HasLevel-and circuit d first.0 second.0 a b is first.1 second.1) has in
+    (first.0, second.0, first.1, second.1, omega (arith, same))

@@ -5,3 +5,4 @@ pub mod Entries
 pub mod MatchLaws
 pub mod LevelLaws
 pub mod LevelOrders
+pub mod CircuitValuations

@@ -1,12 +1,13 @@
 //! What the definitions of this crate say together: laws that hold of all netlists, vectors and signed
 //! bijections. Each function does nothing; its contract is the law.
 
-ghost use Rattle.std.specs.Prelude.{ℕ, suc, ◌<◌, ◌^◌, ◌≡◌, ◌↔◌, Bool, List, length};
-ghost use Rattle.circuits.specs.Literals.{vector_of};
+ghost use Rattle.std.specs.Prelude.{ℕ, suc, max, ◌<◌, ◌^◌, ◌≡◌, ◌↔◌, Bool, List, length};
+ghost use Rattle.circuits.specs.Literals.{signal_of, vector_of};
+ghost use Rattle.circuits.specs.declared.netlist.Lit.{Lit};
 ghost use Rattle.circuits.specs.Netlists.{Net, IsOrdered, Fits, valuation_of, function_of};
 ghost use Rattle.circuits.specs.Bijections.{IsSignedBijection, Moves, moved};
-ghost use Rattle.circuits.specs.Circuits.{Circuit, IsClosed, FitsCircuit, circuit_outputs};
-ghost use Rattle.circuits.specs.Levels.{HasNoLevel, IsAcyclic, IsOrderOf, Reaches};
+ghost use Rattle.circuits.specs.Circuits.{Circuit, IsAndAt, IsClosed, FitsCircuit, circuit_outputs, signal_at};
+ghost use Rattle.circuits.specs.Levels.{HasLevel, HasNoLevel, IsAcyclic, IsOrderOf, Reaches};
 ghost use Rattle.circuits.specs.Matches.{IsMatch, IsMatchOfFunctions, AreNpnpEqual};
 
 /// Exactly one valuation fits a netlist in order and a vector as long as it has inputs: the one computed
@@ -57,4 +58,22 @@ pub fn same_function_in_order()
     ensures outputs { (circuit : Circuit) (net : Net) (x v : List Bool) → IsAcyclic circuit → IsClosed circuit
         → IsOrderOf circuit net → length x ≡ circuit.inputs → FitsCircuit circuit x v
         → circuit_outputs circuit v ≡ function_of net x }
+{}
+
+/// Exactly one valuation fits a netlist without a cycle and a vector as long as it has inputs.
+pub fn one_valuation_of_circuit()
+    ensures some { (circuit : Circuit) (x : List Bool) → IsAcyclic circuit → length x ≡ circuit.inputs
+        → (v : List Bool) × FitsCircuit circuit x v }
+    ensures only { (circuit : Circuit) (x v w : List Bool) → IsAcyclic circuit → FitsCircuit circuit x v
+        → FitsCircuit circuit x w → v ≡ w }
+{}
+
+/// An AND is one level above the higher of its operands; and where it has a level, they have levels.
+pub fn level_of_definition()
+    ensures above { (circuit : Circuit) (d l m : ℕ) (a b : Lit) → IsAndAt circuit d a b
+        → HasLevel circuit (signal_of a) l → HasLevel circuit (signal_of b) m
+        → HasLevel circuit (signal_at circuit d) (suc (max l m)) }
+    ensures operands { (circuit : Circuit) (d n : ℕ) (a b : Lit) → IsAndAt circuit d a b
+        → HasLevel circuit (signal_at circuit d) (suc n)
+        → (l m : ℕ) × HasLevel circuit (signal_of a) l × HasLevel circuit (signal_of b) m × (max l m ≡ n) }
 {}

@@ -1,0 +1,5 @@
+use Rattle.circuits.proofs.CircuitValuations.{some_valuation, one_valuation}
+use Rattle.circuits.proofs.laws.one_valuation_of_circuit.Goals as goal
+
+pub returns : goal.returns
+returns c = record { some = some_valuation; only = one_valuation }
