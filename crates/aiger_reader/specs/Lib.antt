@@ -1,4 +1,15 @@
+pub mod Bodies
+pub mod Headers
+pub mod Numbered
+pub mod Numbers
 pub mod Plain
+pub mod Reading
 pub mod Rows
 pub use Rattle.net_core.specs.Graph
 pub use Rattle.circuits.specs.Netlists
+pub mod Aiger
+pub mod Assembly
+pub mod Deltas
+pub mod Symbols
+pub use Rattle.circuits.specs.Circuits
+pub use Rattle.circuits.specs.Levels

@@ -1,17 +1,26 @@
-//! A reader of netlists in the AIGER text format, in its plain form: AND gates in order, without latches,
-//! symbols and comments.
+//! Readers of netlists in the AIGER format: of whole files of either form, without latches and properties, and of
+//! texts in a plain form, AND gates in order, without latches, symbols and comments.
 #![tactic(auto)]
 
 ghost use Rattle.std.specs.Prelude.{◌≡◌};
 ghost use Rattle.aiger_reader.specs.declared.PlainStop.TheVariants.{Memory};
 
+mod body;
+mod deltas;
+mod header;
+mod limits;
+mod literals;
+mod numbering;
 mod parts;
 mod plain;
 mod rows;
+mod symbols;
+mod whole;
 
-pub use net_core::{Gate, Graph, Lit};
+pub use net_core::{Gate, Graph, Lit, Name, Named, NetFault, NetKind, NetStop};
 pub use plain::{one_netlist, read_plain};
 use std::alloc::{AllocError, AllocFailed};
+pub use whole::read;
 
 /// Why a text of the plain form was not read.
 #[derive(Clone, Copy, Debug, PartialEq, Eq)]

@@ -18,8 +18,8 @@ fn next_number(line: &mut Span<'_>) -> Option<u32>
     number_of(word)
 }
 
-// The number that a word writes, if it is one of 32 bits.
-fn number_of(word: Span<'_>) -> Option<u32>
+/// The number that a word writes, if it is one of 32 bits.
+pub(crate) fn number_of(word: Span<'_>) -> Option<u32>
     ensures number { IfSome result (λ n. number word.entry.bytes ≡ Some n) }
     ensures none { IfNone result ((n : ℕ) → n < 2 ^ 32 → number word.entry.bytes ≡ Some n → ⊥) }
 {
@@ -27,8 +27,8 @@ fn number_of(word: Span<'_>) -> Option<u32>
     u32::try_from(number).ok()
 }
 
-// Whether a line has no more words.
-fn has_no_word(line: &mut Span<'_>) -> bool
+/// Whether a line has no more words.
+pub(crate) fn has_no_word(line: &mut Span<'_>) -> bool
     ensures { IsTrue result ↔ (numbers_on line.old.bytes ≡ []) }
 {
     next_word(line).is_none()

@@ -4,6 +4,7 @@
 mod graph;
 mod levels;
 mod matching;
+mod named;
 mod order_fault;
 mod ordering;
 mod plain_net;
@@ -11,6 +12,7 @@ mod plain_net;
 pub use circuits::{Def, Gate, Lit, Pair, PortKind};
 pub use graph::{Graph, lit_value};
 pub use matching::Matching;
+pub use named::{Name, Named, NetFault, NetKind, NetStop};
 pub use order_fault::OrderFault;
 pub use ordering::order;
 pub use plain_net::PlainNet;

@@ -1,0 +1,123 @@
+-- What the numbers on the first line say of each header.
+use Rattle.std.proofs.Common.{◌≡◌, ℕ, suc, ◌+◌, ◌-◌, ◌^◌, ◌<◌, ◌≤◌, ◌==◌, Bool, true, false, IsTrue, List, [], ◌∷◌, ◌++◌, length, map, take, drop, get_or, set, Option, Some, Result, Ok, Err, IfOk, nat_lt, refl, sym, ap, subst, ◌∙◌, arith, length-take, length-drop}
+use Rattle.std.specs.List.{list_any}
+use Rattle.std.proofs.lemmas.List.{length-map, take_more_set}
+use Rattle.std.proofs.lemmas.List.Elements.{All-head, All-tail, All-append}
+use Rattle.text_core.specs.Lines.{lines}
+use Rattle.aiger_reader.specs.declared.header.Numbers.{Numbers}
+use Rattle.aiger_reader.specs.Plain.{numbers_on}
+use Rattle.aiger_reader.specs.Rows.{AreSmall}
+use Rattle.aiger_reader.specs.Headers.{AigerHeader, header_numbers, keyword, HasHeader}
+use Rattle.aiger_reader.specs.Numbers.{header_from, line_behind, WritesHeader, WritesNumbers, IsCounted}
+use Rattle.aiger_reader.proofs.RowLemmas.{none_left, small_cons, small_nil}
+
+-- a word that is no number of 32 bits stands in no row of them
+pub no_number : (done numbers : List ℕ) (word : Option ℕ) (rest : List (Option ℕ)) → AreSmall numbers → ((n : ℕ) → n < 2 ^ 32 → word ≡ Some n → ⊥) → map Some done ++ word ∷ rest ≡ map Some numbers → ⊥
+no_number [] [] word rest small none same = cc
+no_number [] (n ∷ ns) word rest small none same =
+    none n (All-head (λ n. n < 2 ^ 32) n ns small) (cc)
+no_number (d ∷ ds) [] word rest small none same = cc
+no_number (d ∷ ds) (n ∷ ns) word rest small none same =
+    no_number ds ns word rest (All-tail (λ n. n < 2 ^ 32) n ns small) none (cc)
+
+-- one number more at the front of a row
+pub small_more : (row : List ℕ) (i n : ℕ) → i < length row → n < 2 ^ 32 → AreSmall (take i row) → AreSmall (take (i + 1) (set row i n))
+small_more row i n h small front =
+    subst AreSmall (sym (take_more_set row i n h)) (All-append (λ n. n < 2 ^ 32) (take i row) (n ∷ []) front (small_cons n [] small small_nil))
+
+-- numbers that fill a row with a word behind them are more than the row has room for
+pub no_room : (done numbers : List ℕ) (whole left : List (Option ℕ)) → whole ≡ map Some done ++ left → (left ≡ [] → ⊥) → length numbers ≤ length done → whole ≡ map Some numbers → ⊥
+no_room done numbers whole left front some few same = some (none_left done numbers whole left front few same)
+
+-- the first of the lines
+pub line_behind-first : (bytes left line : List ℕ) (rest : List (List ℕ)) → left ≡ drop 4 bytes → lines left ≡ line ∷ rest → line_behind bytes ≡ line
+line_behind-first bytes left line rest behind next =
+    ap (λ (ls : List (List ℕ)). get_or ls 0 []) (ap lines (sym behind) ∙ next)
+
+-- a file with nothing behind the keyword has no numbers
+pub no_line : (bytes left : List ℕ) → left ≡ drop 4 bytes → lines left ≡ [] → (h : AigerHeader) → WritesHeader (line_behind bytes) h → ⊥
+no_line bytes left behind none h writes =
+    let empty : line_behind bytes ≡ [] = ap (λ (ls : List (List ℕ)). get_or ls 0 []) (ap lines (sym behind) ∙ none) in
+    let same : [] ≡ map Some (header_numbers h) = ap numbers_on (sym empty) ∙ writes.written in
+    cc
+
+-- fewer than five numbers are no header
+pub too_few : (line row : List ℕ) (count : ℕ) (h : AigerHeader) → numbers_on line ≡ map Some (take count row) → count < 5 → WritesHeader line h → ⊥
+too_few line row count h numbers few writes =
+    let same : map Some (take count row) ≡ map Some (header_numbers h) = sym numbers ∙ writes.written in
+    omega (arith, ap length same, length-map (take count row) (λ (n : ℕ). Some n), length-map (header_numbers h) (λ (n : ℕ). Some n), length-take count row)
+
+-- five numbers at the front, and the others
+take_five : (row : List ℕ) (k : ℕ) → 5 ≤ length row → take (suc (suc (suc (suc (suc k))))) row ≡ get_or row 0 0 ∷ get_or row 1 0 ∷ get_or row 2 0 ∷ get_or row 3 0 ∷ get_or row 4 0 ∷ take k (drop 5 row)
+take_five [] k h = absurd (omega arith)
+take_five (a ∷ []) k h = absurd (omega arith)
+take_five (a ∷ b ∷ []) k h = absurd (omega arith)
+take_five (a ∷ b ∷ c ∷ []) k h = absurd (omega arith)
+take_five (a ∷ b ∷ c ∷ d ∷ []) k h = absurd (omega arith)
+take_five (a ∷ b ∷ c ∷ d ∷ e ∷ rest) k h = refl
+
+-- five numbers or more that are read are those of a header
+pub numbers_read : (line row : List ℕ) (count : ℕ) (any : Bool) → numbers_on line ≡ map Some (take count row) → 5 ≤ count → count ≤ length row → length row ≡ 9 → AreSmall (take count row) → any ≡ list_any (nat_lt 0) (take (count - 5) (drop 5 row)) → WritesNumbers line (record { variables = get_or row 0 0; inputs = get_or row 1 0; latches = get_or row 2 0; outputs = get_or row 3 0; gates = get_or row 4 0; has_property = any })
+numbers_read line row count any numbers enough within nine small is =
+    let k = count - 5 in
+    let e : count ≡ suc (suc (suc (suc (suc k)))) = omega arith in
+    let front = ap (λ n. take n row) e ∙ take_five row k (omega arith) in
+    record {
+      properties = take k (drop 5 row);
+      header = λ binary. record {
+        written = numbers ∙ ap (map Some) front;
+        few = omega (arith, length-take k (drop 5 row), length-drop 5 row);
+        small = subst AreSmall front small;
+      };
+      property = is;
+    }
+
+map_same : (xs ys : List ℕ) → map Some xs ≡ map Some ys → xs ≡ ys
+map_same [] [] e = refl
+map_same [] (y ∷ ys) e = cc
+map_same (x ∷ xs) [] e = cc
+map_same (x ∷ xs) (y ∷ ys) e =
+    let tails : xs ≡ ys = map_same xs ys (cc) in
+    cc
+
+no_clash : true ≡ false → ⊥
+no_clash e = cc
+
+keyword_same : (a b : Bool) → keyword a ≡ keyword b → a ≡ b
+keyword_same true true e = refl
+keyword_same false false e = refl
+keyword_same true false e = absurd (no_clash (sym (ap (λ (bytes : List ℕ). get_or bytes 1 0 == 97) e)))
+keyword_same false true e = absurd (no_clash (ap (λ (bytes : List ℕ). get_or bytes 1 0 == 97) e))
+
+-- a file's header has the form and the numbers that are read
+header_same : (bytes : List ℕ) (binary : Bool) (numbers : Numbers) (h : AigerHeader) → take 4 bytes ≡ keyword binary → (writes : WritesNumbers (line_behind bytes) numbers) → HasHeader bytes h → (h.binary ≡ binary) × (header_numbers h ≡ header_numbers (header_from binary numbers writes.properties))
+header_same bytes binary numbers h begins writes has =
+    (keyword_same h.binary binary (sym has.begins ∙ begins), map_same _ _ (sym has.numbers ∙ (writes.header binary).written))
+
+pub not_counted : (bytes : List ℕ) (binary : Bool) (numbers : Numbers) → take 4 bytes ≡ keyword binary → WritesNumbers (line_behind bytes) numbers → (IsCounted binary numbers → ⊥) → (h : AigerHeader) → HasHeader bytes h → ⊥
+not_counted bytes binary numbers begins writes not_so h has =
+    let same = header_same bytes binary numbers h begins writes has in
+    let variables : h.variables ≡ numbers.variables = cc in
+    let inputs : h.inputs ≡ numbers.inputs = cc in
+    let latches : h.latches ≡ numbers.latches = cc in
+    let gates : h.gates ≡ numbers.gates = cc in
+    not_so (record {
+      counted = omega (arith, has.counted);
+      no_gaps = λ t. let gaps = has.no_gaps (subst IsTrue (sym same.0) t) in omega (arith, gaps);
+    })
+
+pub header_read : (bytes : List ℕ) (binary : Bool) (numbers : Numbers) → take 4 bytes ≡ keyword binary → (writes : WritesNumbers (line_behind bytes) numbers) → IsCounted binary numbers → HasHeader bytes (header_from binary numbers writes.properties)
+header_read bytes binary numbers begins writes counts =
+    record {
+      begins = begins;
+      numbers = (writes.header binary).written;
+      few = (writes.header binary).few;
+      small = (writes.header binary).small;
+      counted = counts.counted;
+      no_gaps = counts.no_gaps;
+    }
+
+-- two facts about the value that is there
+pub ok_both : {T E : Type 0} (r : Result T E) (P Q R : T → Type 0) → ((x : T) → P x → Q x → R x) → IfOk r P → IfOk r Q → IfOk r R
+ok_both (Ok x) P Q R both p q = both x p q
+ok_both (Err e) P Q R both p q = tt

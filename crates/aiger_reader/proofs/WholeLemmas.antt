@@ -1,0 +1,206 @@
+-- What stands between a file's parts and the whole.
+use Rattle.std.proofs.Common.{◌≡◌, ℕ, ◌+◌, ◌*◌, ◌<◌, ◌≤◌, Bool, true, false, not, List, [], length, map, take, drop, inl, inr, if◌then◌else◌, refl, sym, ap, subst, ◌∙◌, arith, length-drop, length-take, All}
+use Rattle.std.proofs.lemmas.List.{drop_min, length-map}
+use Rattle.text_core.specs.Lines.{lines}
+use Rattle.text_core.specs.Piece.{Piece}
+use Rattle.circuits.specs.Circuits.{Circuit}
+use Rattle.circuits.specs.Levels.{IsAcyclic, IsFirstLooped}
+use Rattle.net_core.specs.declared.named.NetFault.{NetFault}
+use Rattle.net_core.specs.declared.named.NetKind.TheVariants as kind
+use Rattle.aiger_reader.specs.declared.limits.Header.{Header}
+use Rattle.aiger_reader.specs.declared.body.Literals.{Literals}
+use Rattle.aiger_reader.specs.Numbers.{header_of}
+use Rattle.aiger_reader.specs.Headers.{AigerHeader}
+use Rattle.aiger_reader.specs.Bodies.{roles_of, defined, IsBody, IsKnownRow, IsUndefined, text_circuit, line_offset}
+use Rattle.aiger_reader.specs.Deltas.{BeginsGates, IsPairFault, behind_outputs, binary_circuit}
+use Rattle.aiger_reader.specs.Numbered.{circuit_from}
+use Rattle.aiger_reader.specs.Reading.{rows_of, input_lines_of, gate_lines_of, IsAtLine}
+use Rattle.aiger_reader.specs.Aiger.{IsOfForm, IsNetlist, IsGatesFault, IsUndefinedFault, IsNamesFault, IsAigerFault}
+use Rattle.aiger_reader.specs.Symbols.{IsSymbolFault}
+use Rattle.aiger_reader.specs.Assembly.{IsBegun, AreLinesRead, IsNetOf, ArePairsBelow, IsBinaryBody, lit_from, and_from}
+use Rattle.aiger_reader.proofs.RoleLemmas.{length-rows_of, length-roles_of}
+use Rattle.aiger_reader.proofs.NumberingLemmas.{outputs_small}
+use Rattle.aiger_reader.proofs.PairLemmas.{file_fault, file_gates}
+use Rattle.aiger_reader.proofs.BinaryNetLemmas.{begins_below, binary_is, not_looped}
+
+-- what is left behind k lines
+pub rest_is : (bytes : List ℕ) (k : ℕ) (p : Piece) → IsAtLine bytes k p → p.bytes ≡ drop (line_offset bytes k) bytes
+rest_is bytes k p at =
+    at.rest ∙ (ap (λ n. drop n bytes) at.offset ∙ drop_min (line_offset bytes k) bytes)
+
+pub end_is : (bytes : List ℕ) (k : ℕ) (p : Piece) → IsAtLine bytes k p → p.at + length p.bytes ≡ length bytes
+end_is bytes k p at =
+    omega (arith, at.offset, ap length at.rest, length-drop p.at bytes)
+
+-- the first line that reads what no line defines is the file's fault
+pub undefined_fault : (bytes : List ℕ) (header : Header) (literals : Literals) (signals : List ℕ) (rest : Piece) (at : ℕ) (fault : NetFault) → header.binary ≡ false → IsBegun bytes header → AreLinesRead bytes header literals signals rest → ((properties : List ℕ) → IsUndefined bytes (header_of header properties) (rows_of literals) at) → fault ≡ record { kind = kind.Undefined; at = at } → IsAigerFault bytes fault.kind fault.at
+undefined_fault bytes header literals signals rest at fault text begun read why same =
+    let found : IsUndefinedFault bytes kind.Undefined at = record {
+      h = header_of header begun.0;
+      begins = begun.1;
+      rows = rows_of literals;
+      body = read.body begun.0;
+      text = text;
+      is_undefined = refl;
+      why = why begun.0;
+    } in
+    subst (λ f. IsAigerFault bytes f.kind f.at) (sym same) (inr (inr (inr (inl found))))
+
+of_text : (binary : Bool) (bytes : List ℕ) (h : AigerHeader) (rows : List (List ℕ)) (circuit : Circuit) (rest : List ℕ) → binary ≡ false → IsOfForm false bytes h rows circuit rest → IsOfForm binary bytes h rows circuit rest
+of_text binary bytes h rows circuit rest text is =
+    subst (λ t. IsOfForm t bytes h rows circuit rest) (sym text) is
+
+-- the netlist of the ASCII form's lines is the file's
+pub text_is : (bytes : List ℕ) (header : Header) (literals : Literals) (signals : List ℕ) (rest : Piece) (circuit : Circuit) → header.binary ≡ false → IsBegun bytes header → AreLinesRead bytes header literals signals rest → ((properties : List ℕ) (k : ℕ) → k < length (rows_of literals) → IsKnownRow (header_of header properties) (rows_of literals) k) → ((properties : List ℕ) → circuit ≡ text_circuit (header_of header properties) (rows_of literals)) → IsNetOf bytes header circuit rest.bytes
+text_is bytes header literals signals rest circuit text begun read known same =
+    let h = header_of header begun.0 in
+    let rows = rows_of literals in
+    let lines_read : length rows + 1 ≡ 1 + length rows = omega arith in (
+      begun.0,
+      record {
+        begins = begun.1;
+        rows = rows;
+        body = read.body begun.0;
+        form = of_text header.binary bytes h rows circuit rest.bytes text (record {
+          known = known begun.0;
+          same = same begun.0;
+          behind = rest_is bytes (length rows + 1) rest read.left ∙ ap (λ n. drop (line_offset bytes n) bytes) lines_read;
+        });
+      },
+    )
+
+-- what is left behind the lines of the binary form begins with the gates
+behind_is : (bytes : List ℕ) (header : Header) (literals : Literals) (signals : List ℕ) (rest : Piece) (properties : List ℕ) → header.binary ≡ true → AreLinesRead bytes header literals signals rest → rest.bytes ≡ behind_outputs bytes (header_of header properties)
+behind_is bytes header literals signals rest properties binary read =
+    let counts = read.sound.counts in
+    let no_inputs : length literals.inputs.items ≡ 0 = counts.inputs_read ∙ ap (λ t. if t then 0 else header.inputs) binary in
+    let no_gates : length literals.gates.items ≡ 0 = counts.gates_read ∙ ap (λ t. if t then 0 else header.gates) binary in
+    let lines_read : length (rows_of literals) + 1 ≡ 1 + header.outputs = omega (arith, length-rows_of literals, counts.outputs_read) in
+    rest_is bytes (length (rows_of literals) + 1) rest read.left ∙ ap (λ n. drop (line_offset bytes n) bytes) lines_read
+
+pub delta_fault : (bytes : List ℕ) (header : Header) (literals : Literals) (signals : List ℕ) (rest : Piece) (fault : NetFault) → header.binary ≡ true → IsBegun bytes header → AreLinesRead bytes header literals signals rest → fault.kind ≡ kind.Delta → IsPairFault (header.inputs + 1) header.gates rest.bytes (rest.at + length rest.bytes) fault.at → IsAigerFault bytes fault.kind fault.at
+delta_fault bytes header literals signals rest fault binary begun read is why =
+    let h = header_of header begun.0 in
+    let found : IsGatesFault bytes fault.kind fault.at = record {
+      h = h;
+      begins = begun.1;
+      rows = rows_of literals;
+      body = read.body begun.0;
+      binary = binary;
+      is_delta = is;
+      why = file_fault bytes rest.bytes h header.inputs header.gates (rest.at + length rest.bytes) fault.at (behind_is bytes header literals signals rest begun.0 binary read) refl refl (end_is bytes (length (rows_of literals) + 1) rest read.left) why;
+    } in
+    inr (inr (inl found))
+
+of_binary : (binary : Bool) (bytes : List ℕ) (h : AigerHeader) (rows : List (List ℕ)) (circuit : Circuit) (rest : List ℕ) → binary ≡ true → IsOfForm true bytes h rows circuit rest → IsOfForm binary bytes h rows circuit rest
+of_binary binary bytes h rows circuit rest text is =
+    subst (λ t. IsOfForm t bytes h rows circuit rest) (sym text) is
+
+-- the netlist of the gates in the binary form is the file's
+pub deltas_are : (bytes : List ℕ) (header : Header) (literals : Literals) (signals : List ℕ) (rest : Piece) (behind : List ℕ) (circuit : Circuit) (gates : List (ℕ × ℕ)) → header.binary ≡ true → IsBegun bytes header → AreLinesRead bytes header literals signals rest → length gates ≡ header.gates → BeginsGates (header.inputs + 1) rest.bytes gates behind → circuit ≡ circuit_from header.inputs (map and_from gates) (map lit_from literals.outputs.items) → IsNetOf bytes header circuit behind
+deltas_are bytes header literals signals rest behind circuit gates binary begun read count begins same =
+    let h = header_of header begun.0 in
+    let rows = rows_of literals in
+    let gates_are = file_gates bytes rest.bytes behind h header.inputs gates (behind_is bytes header literals signals rest begun.0 binary read) refl count begins in (
+      begun.0,
+      record {
+        begins = begun.1;
+        rows = rows;
+        body = read.body begun.0;
+        form = of_binary header.binary bytes h rows circuit behind binary (record {
+          gates = gates;
+          read = gates_are;
+          same = same ∙ binary_is h literals gates binary read.sound.counts;
+        });
+      },
+    )
+
+-- the outputs and the gates of the binary form are in range
+pub binary_body : (bytes : List ℕ) (header : Header) (literals : Literals) (signals : List ℕ) (rest : Piece) (behind outputs : List ℕ) (gates pairs : List (ℕ × ℕ)) → header.binary ≡ true → IsBegun bytes header → AreLinesRead bytes header literals signals rest → length gates ≡ header.gates → BeginsGates (header.inputs + 1) rest.bytes gates behind → outputs ≡ literals.outputs.items → pairs ≡ gates → IsBinaryBody header outputs pairs
+binary_body bytes header literals signals rest behind outputs gates pairs binary begun read count begins outs gates_same =
+    let sound = read.sound in
+    let h = header_of header [] in
+    let small : All (λ literal. literal ≤ 2 * header.variables + 1) literals.outputs.items = λ k d below. outputs_small h literals signals k d sound below in
+    record {
+      no_gaps = omega (arith, begun.1.header.no_gaps binary);
+      outputs_read = ap length outs ∙ sound.counts.outputs_read;
+      in_range = subst (All (λ literal. literal ≤ 2 * header.variables + 1)) (sym outs) small;
+      gates_read = ap length gates_same ∙ count;
+      below = subst (ArePairsBelow (header.inputs + 1)) (sym gates_same) (begins_below (header.inputs + 1) rest.bytes behind gates begins);
+    }
+
+-- A netlist has as many inputs, outputs and definitions as its file's header says.
+pub record HasSizes (h : AigerHeader) (circuit : Circuit) : Type 0 where
+  pub inputs : circuit.inputs ≡ h.inputs
+  pub outputs : length circuit.outputs ≡ h.outputs
+  pub defs : length circuit.defs ≡ h.gates
+
+text_sizes : (h : AigerHeader) (rows : List (List ℕ)) (circuit : Circuit) → h.binary ≡ false → length rows ≡ length (roles_of h) → circuit ≡ text_circuit h rows → HasSizes h circuit
+text_sizes h rows circuit text whole same =
+    let i : input_lines_of h ≡ h.inputs = ap (λ t. if t then 0 else h.inputs) text in
+    let g : gate_lines_of h ≡ h.gates = ap (λ t. if t then 0 else h.gates) text in
+    let count : length rows ≡ h.inputs + h.outputs + h.gates = omega (arith, whole, length-roles_of h, i, g) in
+    let variables = defined (roles_of h) rows in
+    let sizes : HasSizes h (text_circuit h rows) = record {
+      inputs = refl;
+      outputs = length-map (take h.outputs (drop h.inputs rows)) _ ∙ omega (arith, length-take h.outputs (drop h.inputs rows), length-drop h.inputs rows, count);
+      defs = length-map (drop (h.inputs + h.outputs) rows) _ ∙ omega (arith, length-drop (h.inputs + h.outputs) rows, count);
+    } in
+    subst (HasSizes h) (sym same) sizes
+
+binary_sizes : (h : AigerHeader) (rows : List (List ℕ)) (gates : List (ℕ × ℕ)) (circuit : Circuit) → h.binary ≡ true → length rows ≡ length (roles_of h) → length gates ≡ h.gates → circuit ≡ binary_circuit h rows gates → HasSizes h circuit
+binary_sizes h rows gates circuit binary whole many same =
+    let i : input_lines_of h ≡ 0 = ap (λ t. if t then 0 else h.inputs) binary in
+    let g : gate_lines_of h ≡ 0 = ap (λ t. if t then 0 else h.gates) binary in
+    let count : length rows ≡ h.outputs = omega (arith, whole, length-roles_of h, i, g) in
+    let sizes : HasSizes h (binary_circuit h rows gates) = record {
+      inputs = refl;
+      outputs = length-map rows _ ∙ count;
+      defs = length-map gates _ ∙ many;
+    } in
+    subst (HasSizes h) (sym same) sizes
+
+form_sizes : (binary : Bool) (bytes : List ℕ) (h : AigerHeader) (rows : List (List ℕ)) (circuit : Circuit) (rest : List ℕ) → h.binary ≡ binary → length rows ≡ length (roles_of h) → IsOfForm binary bytes h rows circuit rest → HasSizes h circuit
+form_sizes false bytes h rows circuit rest is whole form =
+    text_sizes h rows circuit is whole form.same
+form_sizes true bytes h rows circuit rest is whole form =
+    binary_sizes h rows form.gates circuit is whole form.read.count form.same
+
+pub net_sizes : (bytes : List ℕ) (h : AigerHeader) (circuit : Circuit) (rest : List ℕ) → IsNetlist bytes h circuit rest → HasSizes h circuit
+net_sizes bytes h circuit rest net =
+    form_sizes h.binary bytes h net.rows circuit rest refl net.body.whole net.form
+
+-- the line of a gate on a cycle is there: in the binary form there is none
+loop_line : (binary : Bool) (bytes : List ℕ) (h : AigerHeader) (rows : List (List ℕ)) (circuit : Circuit) (rest : List ℕ) (d : ℕ) → h.binary ≡ binary → IsBody bytes h rows → IsOfForm binary bytes h rows circuit rest → HasSizes h circuit → IsFirstLooped circuit d → 1 + h.inputs + h.outputs + d < length (lines bytes)
+loop_line false bytes h rows circuit rest d is body form sizes looped =
+    let i : input_lines_of h ≡ h.inputs = ap (λ t. if t then 0 else h.inputs) is in
+    let g : gate_lines_of h ≡ h.gates = ap (λ t. if t then 0 else h.gates) is in
+    omega (arith, body.whole, length-roles_of h, i, g, body.good.there, length-drop 1 (lines bytes), looped.there, sizes.defs)
+loop_line true bytes h rows circuit rest d is body form sizes looped =
+    let variables : h.inputs + 1 ≡ circuit.inputs + 1 = omega (arith, sizes.inputs) in
+    let pairs = begins_below (h.inputs + 1) (behind_outputs bytes h) rest form.gates form.read.read in
+    absurd (not_looped circuit form.gates d (ap (λ c. c.defs) form.same) (subst (λ n. ArePairsBelow n form.gates) variables pairs) looped)
+
+pub loop_there : (bytes : List ℕ) (h : AigerHeader) (circuit : Circuit) (rest : List ℕ) (d : ℕ) → IsNetlist bytes h circuit rest → IsFirstLooped circuit d → 1 + h.inputs + h.outputs + d < length (lines bytes)
+loop_there bytes h circuit rest d net looped =
+    loop_line h.binary bytes h net.rows circuit rest d refl net.body net.form (net_sizes bytes h circuit rest net) looped
+
+-- a fault of the symbols is the file's
+pub names_fault : (bytes : List ℕ) (header : Header) (circuit : Circuit) (rest : Piece) (fault : NetFault) → IsNetOf bytes header circuit rest.bytes → IsAcyclic circuit → rest.at + length rest.bytes ≡ length bytes → fault.kind ≡ kind.BadSymbol → IsSymbolFault header.inputs header.outputs rest.at rest.bytes fault.at → IsAigerFault bytes fault.kind fault.at
+names_fault bytes header circuit rest fault net acyclic end is why =
+    let found : IsNamesFault bytes fault.kind fault.at = record {
+      h = header_of header net.0;
+      circuit = circuit;
+      rest = rest.bytes;
+      base = rest.at;
+      netlist = net.1;
+      acyclic = acyclic;
+      is_symbol = is;
+      behind = end;
+      why = why;
+    } in
+    inr (inr (inr (inr (inr found))))
+
+pub not_false : (t : Bool) → not t ≡ false → t ≡ true
+not_false true e = refl
+not_false false e = cc

@@ -1,0 +1,46 @@
+-- The table's numbers are the netlist's.
+use Rattle.std.proofs.Common.{◌<◌, ◌/◌, ◌^◌, [], length, map, All, subst, sym, ap₂, ◌∙◌, arith}
+use Rattle.aiger_reader.specs.Numbers.{header_of}
+use Rattle.aiger_reader.specs.Numbered.{lit_in, def_in, circuit_from}
+use Rattle.aiger_reader.proofs.NumberingLemmas.{outputs_within, gates_within_a, gates_within_b}
+use Rattle.aiger_reader.proofs.CircuitLemmas.{places_small, circuit_is}
+use Rattle.aiger_reader.proofs.numbering.number_circuit.Goals as goal
+
+pub number_gates-requires-clause-a : goal.number_gates-requires-clause-a
+number_gates-requires-clause-a c =
+    let body = c.args.body.now in
+    let all = gates_within_a (header_of c.args.header []) body.literals body.signals.items c.requires.sound in
+    subst (λ s. All (λ line. line.a / 2 < length s) c.deref-2.result.now) (sym c.deref.ensures.value) (subst (All (λ line. line.a / 2 < length body.signals.items)) (sym c.deref-2.ensures.value) all)
+
+pub number_gates-requires-clause-b : goal.number_gates-requires-clause-b
+number_gates-requires-clause-b c =
+    let body = c.args.body.now in
+    let all = gates_within_b (header_of c.args.header []) body.literals body.signals.items c.requires.sound in
+    subst (λ s. All (λ line. line.b / 2 < length s) c.deref-2.result.now) (sym c.deref.ensures.value) (subst (All (λ line. line.b / 2 < length body.signals.items)) (sym c.deref-2.ensures.value) all)
+
+pub number_gates-requires-clause-small : goal.number_gates-requires-clause-small
+number_gates-requires-clause-small c =
+    let body = c.args.body.now in
+    let header = c.args.header in
+    let all = places_small (header_of header []) body.literals body.signals.items c.requires.sound (omega (arith, header.few_inputs, header.few_outputs, header.few_gates)) in
+    subst (All (λ place. place < 2 ^ 31)) (sym c.deref.ensures.value) all
+
+pub number_outputs-requires-clause-within : goal.number_outputs-requires-clause-within
+number_outputs-requires-clause-within c =
+    let body = c.args.body.now in
+    let all = outputs_within (header_of c.args.header []) body.literals body.signals.items c.requires.sound in
+    subst (λ s. All (λ literal. literal / 2 < length s) c.deref-4.result.now) (sym c.deref-3.ensures.value) (subst (All (λ literal. literal / 2 < length body.signals.items)) (sym c.deref-4.ensures.value) all)
+
+pub number_outputs-requires-clause-small : goal.number_outputs-requires-clause-small
+number_outputs-requires-clause-small c =
+    let body = c.args.body.now in
+    let header = c.args.header in
+    let all = places_small (header_of header []) body.literals body.signals.items c.requires.sound (omega (arith, header.few_inputs, header.few_outputs, header.few_gates)) in
+    subst (All (λ place. place < 2 ^ 31)) (sym c.deref-3.ensures.value) all
+
+pub returns-clause-circuit : goal.returns-clause-circuit
+returns-clause-circuit c = λ properties.
+    let body = c.args.body.now in
+    let defs = c.in-Ok.ensures ∙ ap₂ (λ s xs. map (def_in s) xs) c.deref.ensures.value c.deref-2.ensures.value in
+    let outputs = c.in-Ok-number_outputs.ensures ∙ ap₂ (λ s xs. map (lit_in s) xs) c.deref-3.ensures.value c.deref-4.ensures.value in
+    ap₂ (circuit_from c.args.header.inputs) defs outputs ∙ circuit_is (header_of c.args.header []) body.literals body.signals.items c.requires.text c.requires.sound c.requires.known

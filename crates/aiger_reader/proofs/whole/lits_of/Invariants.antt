@@ -1,0 +1,7 @@
+-- So many numbers are taken.
+use Rattle.std.proofs.Common.{◌≡◌, map, take}
+use Rattle.aiger_reader.specs.Assembly.{lit_from}
+use Rattle.aiger_reader.proofs.whole.lits_of.Given as goal
+
+abbrev pub invariant-loop-number : goal.invariant-loop-number
+invariant-loop-number l = l.lits.items ≡ map lit_from (take l.number-index l.numbers)

@@ -1,0 +1,147 @@
+-- The lines behind the header of an AIGER file (AIGER 1.9): inputs, outputs and AND gates of the ASCII form, whose gates
+-- may stand in any order; of the binary form only the outputs.
+use Rattle.std.specs.Prelude.{◌≡◌, ◌≢◌, ℕ, ◌+◌, ◌*◌, ◌/◌, ◌%◌, ◌<◌, ◌≤◌, ◌==◌, Bool, true, false, IsTrue, List, [], ◌∷◌, ◌++◌, length, map, take, drop, All, AllPairs, Contains, Some, slice_index_or, replicate, if◌then◌else◌}
+use Rattle.std.specs.List.{position_or_len}
+use Rattle.text_core.specs.Lines.{lines, text_of_lines}
+use Rattle.text_core.specs.Words.{words}
+use Rattle.text_core.specs.Numbers.{number}
+use Rattle.circuits.specs.declared.netlist.Lit.{Lit}
+use Rattle.circuits.specs.declared.definition.Def.TheVariants.{And}
+use Rattle.circuits.specs.Circuits.{Circuit}
+use Rattle.net_core.specs.declared.named.NetKind.{NetKind}
+use Rattle.net_core.specs.declared.named.NetKind.TheVariants as kind
+use Rattle.aiger_reader.specs.Headers.{AigerHeader}
+
+-- what a line of the body gives
+pub data Role : Type 0 where
+  Input : Role
+  Output : Role
+  Gate : Role
+
+-- the lines that a header announces
+abbrev pub roles_of : AigerHeader → List Role
+roles_of h = (if h.binary then [] else replicate h.inputs Input) ++ replicate h.outputs Output ++ (if h.binary then [] else replicate h.gates Gate)
+
+abbrev pub role_at : AigerHeader → ℕ → Role
+role_at h k = slice_index_or (roles_of h) k Output
+
+-- how many words a line has
+abbrev pub wanted : Role → ℕ
+wanted Input = 1
+wanted Output = 1
+wanted Gate = 3
+
+-- whether a line defines a variable: the first on it
+abbrev pub defines : Role → Bool
+defines Input = true
+defines Output = false
+defines Gate = true
+
+-- the lines behind the header's, and the offset of line k of a text
+abbrev pub body_lines : List ℕ → List (List ℕ)
+body_lines bytes = drop 1 (lines bytes)
+
+abbrev pub line_offset : List ℕ → ℕ → ℕ
+line_offset bytes k = length (text_of_lines (take k (lines bytes)))
+
+-- A line has exactly the wanted number of words, and they write these numbers.
+pub record Writes (line : List ℕ) (role : Role) (row : List ℕ) : Type 0 where
+  pub numbers : map number (words line) ≡ map Some row
+  pub width : length row ≡ wanted role
+
+abbrev pub first_of : List ℕ → ℕ
+first_of row = slice_index_or row 0 0
+
+-- Literals are of variables up to the greatest, and what is defined is a plain literal and not the constant.
+pub record IsGoodRow (h : AigerHeader) (role : Role) (row : List ℕ) : Type 0 where
+  pub in_range : All (λ literal. literal ≤ 2 * h.variables + 1) row
+  pub plain : IsTrue (defines role) → (first_of row % 2 ≡ 0) × (2 ≤ first_of row)
+
+-- the variables that the rows define, in their order
+abbrev pub defined : List Role → List (List ℕ) → List ℕ
+defined [] rows = []
+defined (role ∷ roles) [] = []
+defined (role ∷ roles) (row ∷ rows) = (if defines role then first_of row / 2 ∷ [] else []) ++ defined roles rows
+
+-- The first lines of the body are good, and these are their numbers.
+pub record AreGood (h : AigerHeader) (body rows : List (List ℕ)) : Type 0 where
+  pub announced : length rows ≤ length (roles_of h)
+  pub there : length rows ≤ length body
+  pub written : (k : ℕ) → k < length rows → Writes (slice_index_or body k []) (role_at h k) (slice_index_or rows k [])
+  pub good : (k : ℕ) → k < length rows → IsGoodRow h (role_at h k) (slice_index_or rows k [])
+  pub distinct : AllPairs (λ one other. one ≢ other) (defined (roles_of h) rows)
+
+-- what is wrong with the line behind the good ones
+pub record IsBadLine (h : AigerHeader) (body rows : List (List ℕ)) : Type 0 where
+  pub there : length rows < length body
+  pub unwritten : (row : List ℕ) → Writes (slice_index_or body (length rows) []) (role_at h (length rows)) row → ⊥
+
+pub record IsBadLiteral (h : AigerHeader) (body rows : List (List ℕ)) : Type 0 where
+  pub row : List ℕ
+  pub there : length rows < length body
+  pub written : Writes (slice_index_or body (length rows) []) (role_at h (length rows)) row
+  pub bad : IsGoodRow h (role_at h (length rows)) row → ⊥
+
+pub record IsRedefined (h : AigerHeader) (body rows : List (List ℕ)) : Type 0 where
+  pub row : List ℕ
+  pub there : length rows < length body
+  pub written : Writes (slice_index_or body (length rows) []) (role_at h (length rows)) row
+  pub good : IsGoodRow h (role_at h (length rows)) row
+  pub defining : IsTrue (defines (role_at h (length rows)))
+  pub before : Contains (defined (roles_of h) rows) (first_of row / 2)
+
+-- how the line behind the good ones is refused, and where: at its first byte, or at the file's end where it is missing
+abbrev pub IsLineFault : List ℕ → AigerHeader → List (List ℕ) → NetKind → ℕ → Type 0
+IsLineFault bytes h rows kind.BadLine at = IsBadLine h (body_lines bytes) rows × (at ≡ line_offset bytes (length rows + 1))
+IsLineFault bytes h rows kind.BadLiteral at = IsBadLiteral h (body_lines bytes) rows × (at ≡ line_offset bytes (length rows + 1))
+IsLineFault bytes h rows kind.Redefined at = IsRedefined h (body_lines bytes) rows × (at ≡ line_offset bytes (length rows + 1))
+IsLineFault bytes h rows kind.Truncated at = (length (body_lines bytes) ≡ length rows) × (at ≡ length bytes)
+IsLineFault bytes h rows other at = ⊥
+
+-- The first fault of the body's lines: the kind, and the offset in the file.
+pub record IsBodyFault (bytes : List ℕ) (h : AigerHeader) (fault : NetKind) (at : ℕ) : Type 0 where
+  pub rows : List (List ℕ)
+  pub good : AreGood h (body_lines bytes) rows
+  pub wanted_line : length rows < length (roles_of h)
+  pub why : IsLineFault bytes h rows fault at
+
+-- The body has all its lines, and they are good.
+pub record IsBody (bytes : List ℕ) (h : AigerHeader) (rows : List (List ℕ)) : Type 0 where
+  pub good : AreGood h (body_lines bytes) rows
+  pub whole : length rows ≡ length (roles_of h)
+
+-- the variables that a line reads
+abbrev pub reads : Role → List ℕ → List ℕ
+reads Input row = []
+reads Output row = row
+reads Gate row = drop 1 row
+
+-- a literal of the constant or of a variable that some line defines
+abbrev pub IsKnown : List ℕ → ℕ → Type 0
+IsKnown variables literal = (literal / 2 ≢ 0) → Contains variables (literal / 2)
+
+-- what line k of the body reads is known
+abbrev pub IsKnownRow : AigerHeader → List (List ℕ) → ℕ → Type 0
+IsKnownRow h rows k = All (IsKnown (defined (roles_of h) rows)) (reads (role_at h k) (slice_index_or rows k []))
+
+-- The first line of the body that reads what no line defines.
+pub record IsUndefined (bytes : List ℕ) (h : AigerHeader) (rows : List (List ℕ)) (at : ℕ) : Type 0 where
+  pub place : ℕ
+  pub there : place < length rows
+  pub unknown : IsKnownRow h rows place → ⊥
+  pub first : (k : ℕ) → k < place → IsKnownRow h rows k
+  pub offset : at ≡ line_offset bytes (place + 1)
+
+-- the literal of the netlist for a literal of the file: the variable that is defined in place p is signal p + 1
+abbrev pub literal_of : List ℕ → ℕ → Lit
+literal_of variables literal = record { 0 = 2 * (if literal / 2 == 0 then 0 else 1 + position_or_len (λ v. v == literal / 2) variables) + literal % 2 }
+
+-- the netlist of the ASCII form's body
+abbrev pub text_circuit : AigerHeader → List (List ℕ) → Circuit
+text_circuit h rows =
+    let variables = defined (roles_of h) rows in
+    record {
+      inputs = h.inputs;
+      defs = map (λ row. And (literal_of variables (slice_index_or row 1 0)) (literal_of variables (slice_index_or row 2 0))) (drop (h.inputs + h.outputs) rows);
+      outputs = map (λ row. literal_of variables (first_of row)) (take h.outputs (drop h.inputs rows));
+    }

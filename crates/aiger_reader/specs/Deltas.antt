@@ -1,0 +1,88 @@
+-- The AND gates of the binary AIGER form (AIGER 1.9): two deltas each, numbers in groups of seven bits, lowest first.
+use Rattle.std.specs.Prelude.{◌≡◌, ℕ, ◌+◌, ◌-◌, ◌*◌, ◌<◌, ◌≤◌, ◌⊎◌, List, [], ◌∷◌, ◌++◌, length, map, drop}
+use Rattle.circuits.specs.declared.definition.Def.TheVariants.{And}
+use Rattle.circuits.specs.Circuits.{Circuit}
+use Rattle.aiger_reader.specs.Headers.{AigerHeader}
+use Rattle.aiger_reader.specs.Bodies.{line_offset, first_of}
+
+-- The last byte of a number is below 128 and stands for itself. One from 128 on has the low seven bits, and the bytes after
+-- it stand for the rest.
+abbrev pub IsInGroups : List ℕ → ℕ → Type 0
+IsInGroups [] n = ⊥
+IsInGroups (byte ∷ []) n = (byte < 128) × (n ≡ byte)
+IsInGroups (byte ∷ next ∷ bytes) n = (128 ≤ byte) × (high : ℕ) × (n ≡ byte - 128 + 128 * high) × IsInGroups (next ∷ bytes) high
+
+-- The bytes begin with a number of at most five groups.
+pub record BeginsDelta (bytes : List ℕ) (delta : ℕ) (rest : List ℕ) : Type 0 where
+  pub groups : List ℕ
+  pub spelled : bytes ≡ groups ++ rest
+  pub value : IsInGroups groups delta
+  pub short : length groups ≤ 5
+
+-- The bytes begin with a number of at most so many groups.
+pub record BeginsGroups (most : ℕ) (bytes : List ℕ) (n : ℕ) (rest : List ℕ) : Type 0 where
+  pub groups : List ℕ
+  pub spelled : bytes ≡ groups ++ rest
+  pub value : IsInGroups groups n
+  pub short : length groups ≤ most
+
+abbrev pub BeginsNoDelta : List ℕ → Type 0
+BeginsNoDelta bytes = (delta : ℕ) (rest : List ℕ) → BeginsDelta bytes delta rest → ⊥
+
+-- The bytes begin with the first operand of the gate with this literal, which is below it.
+pub record BeginsFirst (literal : ℕ) (bytes : List ℕ) (a : ℕ) (rest : List ℕ) : Type 0 where
+  pub delta : ℕ
+  pub read : BeginsDelta bytes delta rest
+  pub above : 0 < delta
+  pub operand : a + delta ≡ literal
+
+-- The bytes begin with its second operand, which is at most the first.
+pub record BeginsSecond (a : ℕ) (bytes : List ℕ) (b : ℕ) (rest : List ℕ) : Type 0 where
+  pub delta : ℕ
+  pub read : BeginsDelta bytes delta rest
+  pub operand : b + delta ≡ a
+
+-- the bytes begin with the gates whose variables begin at `variable`
+abbrev pub BeginsGates : ℕ → List ℕ → List (ℕ × ℕ) → List ℕ → Type 0
+BeginsGates variable bytes [] rest = bytes ≡ rest
+BeginsGates variable bytes (gate ∷ gates) rest = (middle behind : List ℕ) × BeginsFirst (2 * variable) bytes gate.0 middle × BeginsSecond gate.0 middle gate.1 behind × BeginsGates (variable + 1) behind gates rest
+
+-- what stands behind the header's line and the outputs' lines
+abbrev pub behind_outputs : List ℕ → AigerHeader → List ℕ
+behind_outputs bytes h = drop (line_offset bytes (1 + h.outputs)) bytes
+
+-- The gates of a file in the binary form, and what stands behind them.
+pub record AreGates (bytes : List ℕ) (h : AigerHeader) (gates : List (ℕ × ℕ)) (rest : List ℕ) : Type 0 where
+  pub count : length gates ≡ h.gates
+  pub read : BeginsGates (h.inputs + 1) (behind_outputs bytes h) gates rest
+
+-- the first delta of a pair is bad, or the second one; the offset is the file's length less what is left
+abbrev pub IsBadPair : ℕ → List ℕ → ℕ → ℕ → Type 0
+IsBadPair literal bytes total at =
+    (((a : ℕ) (rest : List ℕ) → BeginsFirst literal bytes a rest → ⊥) × (at + length bytes ≡ total))
+    ⊎ ((a : ℕ) × (middle : List ℕ) × BeginsFirst literal bytes a middle × ((b : ℕ) (rest : List ℕ) → BeginsSecond a middle b rest → ⊥) × (at + length middle ≡ total))
+
+-- Fewer than `count` gates, whose variables begin at `variable`, stand at the front of the bytes, and the pair behind
+-- them is bad. The file ends at the offset `total`.
+pub record IsPairFault (variable count : ℕ) (bytes : List ℕ) (total at : ℕ) : Type 0 where
+  pub gates : List (ℕ × ℕ)
+  pub rest : List ℕ
+  pub fewer : length gates < count
+  pub read : BeginsGates variable bytes gates rest
+  pub why : IsBadPair (2 * (variable + length gates)) rest total at
+
+-- The first delta that is cut off, too long or out of range, at its first byte.
+pub record IsDeltaFault (bytes : List ℕ) (h : AigerHeader) (at : ℕ) : Type 0 where
+  pub gates : List (ℕ × ℕ)
+  pub rest : List ℕ
+  pub fewer : length gates < h.gates
+  pub read : BeginsGates (h.inputs + 1) (behind_outputs bytes h) gates rest
+  pub why : IsBadPair (2 * (h.inputs + 1 + length gates)) rest (length bytes) at
+
+-- the netlist of the binary form
+abbrev pub binary_circuit : AigerHeader → List (List ℕ) → List (ℕ × ℕ) → Circuit
+binary_circuit h rows gates = record {
+  inputs = h.inputs;
+  defs = map (λ gate. And (record { 0 = gate.0 }) (record { 0 = gate.1 })) gates;
+  outputs = map (λ row. record { 0 = first_of row }) rows;
+}

@@ -1,0 +1,51 @@
+-- The first line of an AIGER file (AIGER 1.9): `aag` or `aig`, the numbers M I L O A, and at most four more, B C J F.
+use Rattle.std.specs.Prelude.{◌≡◌, ℕ, ◌+◌, ◌^◌, ◌<◌, ◌≤◌, ◌||◌, Bool, IsTrue, List, [], ◌∷◌, length, map, take, drop, All, Option, None, Some, nat_lt, codes, slice_index_or, if◌then◌else◌}
+use Rattle.std.specs.List.{list_any}
+use Rattle.text_core.specs.Lines.{lines}
+use Rattle.text_core.specs.Words.{words}
+use Rattle.text_core.specs.Numbers.{number}
+use Rattle.net_core.specs.declared.named.NetKind.{NetKind}
+use Rattle.net_core.specs.declared.named.NetKind.TheVariants as kind
+
+pub record AigerHeader : Type 0 where
+  -- whether the file is in the binary form
+  pub binary : Bool
+  -- M, the greatest variable
+  pub variables : ℕ
+  pub inputs : ℕ
+  pub latches : ℕ
+  pub outputs : ℕ
+  pub gates : ℕ
+  -- B, C, J and F, as far as they are given
+  pub properties : List ℕ
+
+abbrev pub header_numbers : AigerHeader → List ℕ
+header_numbers h = h.variables ∷ h.inputs ∷ h.latches ∷ h.outputs ∷ h.gates ∷ h.properties
+
+-- the bytes that a file of either form begins with
+abbrev pub keyword : Bool → List ℕ
+keyword binary = if binary then codes "aig " else codes "aag "
+
+-- The file begins with this header.
+pub record HasHeader (bytes : List ℕ) (h : AigerHeader) : Type 0 where
+  pub begins : take 4 bytes ≡ keyword h.binary
+  pub numbers : map number (words (slice_index_or (lines (drop 4 bytes)) 0 [])) ≡ map Some (header_numbers h)
+  pub few : length h.properties ≤ 4
+  pub small : All (λ n. n < 2 ^ 32) (header_numbers h)
+  pub counted : h.inputs + h.latches + h.gates ≤ h.variables
+  pub no_gaps : IsTrue h.binary → h.inputs + h.latches + h.gates ≡ h.variables
+
+-- what a header asks for that isn't accepted, the first of these
+abbrev pub header_fault : AigerHeader → Option NetKind
+header_fault h =
+    if nat_lt 0 h.latches then Some kind.Sequential
+    else if list_any (nat_lt 0) h.properties then Some kind.Property
+    else if nat_lt 1024 h.inputs then Some kind.TooManyInputs
+    else if nat_lt 1024 h.outputs then Some kind.TooManyOutputs
+    else if nat_lt 1000000 h.gates || nat_lt 4000000 h.variables then Some kind.TooManyGates
+    else None
+
+-- The file begins with a header that is accepted.
+pub record Begins (bytes : List ℕ) (h : AigerHeader) : Type 0 where
+  pub header : HasHeader bytes h
+  pub accepted : header_fault h ≡ None

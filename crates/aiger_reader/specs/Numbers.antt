@@ -1,0 +1,63 @@
+-- The header as it is read: its numbers, and what is kept of it (AIGER 1.9).
+use Rattle.std.specs.Prelude.{◌≡◌, ℕ, ◌+◌, ◌^◌, ◌<◌, ◌≤◌, ◌⊎◌, Bool, IsTrue, List, [], length, map, drop, All, Some, nat_lt, slice_index_or}
+use Rattle.std.specs.List.{list_any}
+use Rattle.text_core.specs.Lines.{lines}
+use Rattle.net_core.specs.declared.named.NetKind.{NetKind}
+use Rattle.net_core.specs.declared.named.NetKind.TheVariants as kind
+use Rattle.aiger_reader.specs.declared.limits.Header.{Header}
+use Rattle.aiger_reader.specs.declared.header.Numbers.{Numbers}
+use Rattle.aiger_reader.specs.Plain.{numbers_on}
+use Rattle.aiger_reader.specs.Headers.{AigerHeader, header_numbers, HasHeader, header_fault}
+
+-- the whole header of the numbers that are kept of it: it has no latches
+abbrev pub header_of : Header → List ℕ → AigerHeader
+header_of header properties =
+    record {
+      binary = header.binary;
+      variables = header.variables;
+      inputs = header.inputs;
+      latches = 0;
+      outputs = header.outputs;
+      gates = header.gates;
+      properties = properties;
+    }
+
+-- the whole header of a form and the numbers behind its keyword
+abbrev pub header_from : Bool → Numbers → List ℕ → AigerHeader
+header_from binary numbers properties =
+    record {
+      binary = binary;
+      variables = numbers.variables;
+      inputs = numbers.inputs;
+      latches = numbers.latches;
+      outputs = numbers.outputs;
+      gates = numbers.gates;
+      properties = properties;
+    }
+
+-- the first line of a file behind the keyword
+abbrev pub line_behind : List ℕ → List ℕ
+line_behind bytes = slice_index_or (lines (drop 4 bytes)) 0 []
+
+-- The line writes five to nine numbers of 32 bits: those of a header.
+pub record WritesHeader (line : List ℕ) (h : AigerHeader) : Type 0 where
+  pub written : numbers_on line ≡ map Some (header_numbers h)
+  pub few : length h.properties ≤ 4
+  pub small : All (λ n. n < 2 ^ 32) (header_numbers h)
+
+-- The line writes these numbers, with or without a property.
+pub record WritesNumbers (line : List ℕ) (numbers : Numbers) : Type 0 where
+  pub properties : List ℕ
+  pub header : (binary : Bool) → WritesHeader line (header_from binary numbers properties)
+  pub property : numbers.has_property ≡ list_any (nat_lt 0) properties
+
+-- the variables are enough for what is defined, and no more in the binary form
+pub record IsCounted (binary : Bool) (numbers : Numbers) : Type 0 where
+  pub counted : numbers.inputs + numbers.latches + numbers.gates ≤ numbers.variables
+  pub no_gaps : IsTrue binary → numbers.inputs + numbers.latches + numbers.gates ≡ numbers.variables
+
+-- Why a file has no header that is accepted: it has none, or one with this fault.
+abbrev pub IsHeaderFault : List ℕ → NetKind → Type 0
+IsHeaderFault bytes fault =
+    ((fault ≡ kind.Header) × ((h : AigerHeader) → HasHeader bytes h → ⊥))
+    ⊎ ((h : AigerHeader) × HasHeader bytes h × (header_fault h ≡ Some fault))

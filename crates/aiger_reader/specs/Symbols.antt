@@ -1,0 +1,135 @@
+-- The symbols behind the body of an AIGER file (AIGER 1.9): a line for each port that has a name, then a comment.
+use Rattle.std.specs.Prelude.{◌≡◌, ◌≢◌, ℕ, ◌+◌, ◌<◌, ◌⊎◌, ◌==◌, Bool, true, false, not, List, [], ◌∷◌, ◌++◌, length, take, All, Option, None, Some, slice_index_or, slice_set, take_while, if◌then◌else◌}
+use Rattle.std.specs.Fmt.{decimal}
+use Rattle.circuits.specs.Literals.{EachAt}
+use Rattle.text_core.specs.Bytes.{is_blank}
+use Rattle.text_core.specs.Lines.{lines, text_of_lines}
+use Rattle.text_core.specs.Words.{words}
+use Rattle.text_core.specs.Numbers.{number}
+
+-- a line that opens the comment: all the rest is passed over
+abbrev pub is_comment : List ℕ → Bool
+is_comment line = slice_index_or line 0 0 == 99
+
+-- the lines before the comment
+abbrev pub symbol_lines : List ℕ → List (List ℕ)
+symbol_lines text = take_while (λ line. not (is_comment line)) (lines text)
+
+-- a name without a carriage return at its end; of several only the last goes
+pub record IsWithoutReturn (text name : List ℕ) : Type 0 where
+  pub cases : ((text ≡ name ++ 13 ∷ []) ⊎ ((text ≡ name) × ((front : List ℕ) → text ≢ front ++ 13 ∷ [])))
+
+-- A port by its kind and its position.
+pub record Port : Type 0 where
+  pub is_output : Bool
+  pub position : ℕ
+
+-- The line gives this port this name: `i` or `o`, a position in digits, one blank, and a name that goes to the line's end.
+pub record NamesPort (line : List ℕ) (port : Port) (name : List ℕ) : Type 0 where
+  pub digits : List ℕ
+  pub blank : ℕ
+  pub tail : List ℕ
+  pub form : line ≡ (if port.is_output then 111 else 105) ∷ digits ++ blank ∷ tail
+  pub place : number digits ≡ Some port.position
+  pub blank_is : is_blank blank ≡ true
+  pub name_is : IsWithoutReturn tail name
+  pub named : name ≢ []
+
+-- The bytes begin with a position in digits and one blank, and this stands behind them.
+pub record BeginsPosition (bytes : List ℕ) (position : ℕ) (tail : List ℕ) : Type 0 where
+  pub digits : List ℕ
+  pub blank : ℕ
+  pub form : bytes ≡ digits ++ blank ∷ tail
+  pub place : number digits ≡ Some position
+  pub blank_is : is_blank blank ≡ true
+
+abbrev pub letter_of : Bool → ℕ
+letter_of is_output = if is_output then 111 else 105
+
+abbrev pub port_at : Bool → ℕ → Port
+port_at is_output position = record { is_output = is_output; position = position }
+
+-- the port is there
+abbrev pub IsThere : ℕ → ℕ → Port → Type 0
+IsThere inputs outputs port = port.position < (if port.is_output then outputs else inputs)
+
+-- the port is there and has no name yet
+abbrev pub IsFree : List (Port × List ℕ) → ℕ → ℕ → Port → Type 0
+IsFree before inputs outputs port = IsThere inputs outputs port × All (λ old. old.0 ≢ port) before
+
+-- what one line of the symbols gives: nothing where it has no words, else a name
+abbrev pub GivesName : List ℕ → List (Port × List ℕ) → Type 0
+GivesName line [] = words line ≡ []
+GivesName line (entry ∷ []) = NamesPort line entry.0 entry.1
+GivesName line (entry ∷ other ∷ entries) = ⊥
+
+-- the first lines give these names, to ports that are there and have none yet
+abbrev pub GiveNames : ℕ → ℕ → List (List ℕ) → List (Port × List ℕ) → List (Port × List ℕ) → Type 0
+GiveNames inputs outputs [] before entries = entries ≡ before
+GiveNames inputs outputs (line ∷ lines) before entries = (new : List (Port × List ℕ)) × GivesName line new × All (λ entry. IsThere inputs outputs entry.0) new × All (λ entry. All (λ old. old.0 ≢ entry.0) before) new × GiveNames inputs outputs lines (before ++ new) entries
+
+-- the line goes on from the names before it to those after it
+abbrev pub AddsName : ℕ → ℕ → List ℕ → List (Port × List ℕ) → List (Port × List ℕ) → Type 0
+AddsName inputs outputs line before after = (new : List (Port × List ℕ)) × GivesName line new × All (λ entry. IsThere inputs outputs entry.0) new × All (λ entry. All (λ old. old.0 ≢ entry.0) before) new × (after ≡ before ++ new)
+
+-- The port has a name, and this is the one.
+pub record IsNamed (entries : List (Port × List ℕ)) (port : Port) (name : List ℕ) : Type 0 where
+  pub place : ℕ
+  pub there : place < length entries
+  pub named : (d : Port × List ℕ) → (slice_index_or entries place d).0 ≡ port
+  pub only : (k : ℕ) → k < length entries → (d : Port × List ℕ) → (slice_index_or entries k d).0 ≡ port → name ≡ (slice_index_or entries k d).1
+
+-- the name that the entries give a port, if they give one
+abbrev pub IsGiven : List (Port × List ℕ) → Port → Option (List ℕ) → Type 0
+IsGiven entries port None = All (λ entry. entry.0 ≢ port) entries
+IsGiven entries port (Some name) = IsNamed entries port name
+
+-- the table has these at the positions of the ports of a kind
+abbrev pub IsTable : List (Port × List ℕ) → Bool → List (Option (List ℕ)) → Type 0
+IsTable entries is_output table = EachAt (λ position given. IsGiven entries (port_at is_output position) given) table
+
+-- The tables of the inputs and of the outputs have these names.
+pub record AreTables (entries : List (Port × List ℕ)) (inputs outputs : List (Option (List ℕ))) : Type 0 where
+  pub input_table : IsTable entries false inputs
+  pub output_table : IsTable entries true outputs
+
+-- The name stands at its position in the new table, where the old one had none; all else is as it was.
+pub record Puts (old : List (Option (List ℕ))) (position : ℕ) (name : List ℕ) (new : List (Option (List ℕ))) : Type 0 where
+  pub there : position < length old
+  pub free : (d : Option (List ℕ)) → slice_index_or old position d ≡ None
+  pub put : new ≡ slice_set old position (Some name)
+
+-- the name of a port for which the table has this
+abbrev pub name_or : Port → Option (List ℕ) → List ℕ
+name_or port None = letter_of port.is_output ∷ decimal port.position
+name_or port (Some name) = name
+
+-- The symbols of a text give these names.
+abbrev pub AreSymbols : ℕ → ℕ → List ℕ → List (Port × List ℕ) → Type 0
+AreSymbols inputs outputs text entries = GiveNames inputs outputs (symbol_lines text) [] entries
+
+-- The first line of the symbols that gives no name rightly, at its first byte; `base` is the text's own offset.
+pub record IsSymbolFault (inputs outputs base : ℕ) (text : List ℕ) (at : ℕ) : Type 0 where
+  pub place : ℕ
+  pub entries : List (Port × List ℕ)
+  pub there : place < length (symbol_lines text)
+  pub good : GiveNames inputs outputs (take place (symbol_lines text)) [] entries
+  pub bad : (all : List (Port × List ℕ)) → GiveNames inputs outputs (take (place + 1) (symbol_lines text)) [] all → ⊥
+  pub offset : at ≡ base + length (text_of_lines (take place (lines text)))
+
+-- The name of a port: the one that a symbol gives it, else its letter and its position.
+pub record IsNameOf (entries : List (Port × List ℕ)) (port : Port) (name : List ℕ) : Type 0 where
+  pub given : (k : ℕ) → k < length entries → (d : Port × List ℕ) → (slice_index_or entries k d).0 ≡ port → name ≡ (slice_index_or entries k d).1
+  pub unnamed : All (λ entry. entry.0 ≢ port) entries → name ≡ (if port.is_output then 111 else 105) ∷ decimal port.position
+
+-- the names of all ports of a kind, at their positions
+pub record ArePortNames (entries : List (Port × List ℕ)) (is_output : Bool) (count : ℕ) (names : List (List ℕ)) : Type 0 where
+  pub count_is : length names ≡ count
+  pub each : EachAt (λ position name. IsNameOf entries (port_at is_output position) name) names
+
+-- The ports have these names by the symbols of a text.
+pub record AreNames (inputs outputs : ℕ) (text : List ℕ) (input_names output_names : List (List ℕ)) : Type 0 where
+  pub entries : List (Port × List ℕ)
+  pub symbols : AreSymbols inputs outputs text entries
+  pub input_names_are : ArePortNames entries false inputs input_names
+  pub output_names_are : ArePortNames entries true outputs output_names

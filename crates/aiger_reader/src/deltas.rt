@@ -1,0 +1,149 @@
+//! The AND gates of the binary AIGER form, each as two deltas.
+
+ghost use Rattle.std.specs.Prelude.{◌≡◌, ℕ, ◌+◌, ◌-◌, ◌*◌, ◌^◌, ◌<◌, ◌≤◌, List, [], ◌∷◌, length, IfSome, IfNone, IfOk, IfErr, OnSome, vec_len};
+ghost use Rattle.std.specs.Option.{SomeIff};
+ghost use Rattle.net_core.specs.declared.named.NetFault.{NetFault};
+ghost use Rattle.aiger_reader.specs.Deltas.{BeginsGroups, BeginsDelta, BeginsNoDelta, BeginsFirst, BeginsSecond, BeginsGates, IsBadPair, IsPairFault};
+
+use net_core::{NetFault, NetKind, NetStop};
+use std::alloc::Global;
+use text_core::Cursor;
+
+// The groups that a delta has at most: it is below 2 to the 35.
+const MOST_GROUPS: u32 = 5;
+
+// The next byte, and moves past it.
+fn next_byte(cursor: &mut Cursor<'_>) -> Option<u8>
+    ensures byte { IfSome result (λ byte. cursor.old.bytes ≡ byte ∷ cursor.new.bytes) }
+    ensures none { IfNone result (cursor.old.bytes ≡ []) }
+    ensures end { cursor.new.at + length cursor.new.bytes ≡ cursor.old.at + length cursor.old.bytes }
+{
+    let piece = cursor.take(1)?;
+    piece.bytes().first().copied()
+}
+
+// The number that the next bytes write in at most so many groups of seven bits, and moves past them.
+fn next_groups(cursor: &mut Cursor<'_>, most: u32) -> Option<u64>
+    requires { most ≤ 5 }
+    ensures number { IfSome result (λ n. BeginsGroups most cursor.old.bytes n cursor.new.bytes) }
+    ensures range { IfSome result (λ n. n < 128 ^ most) }
+    ensures none { IfNone result ((n : ℕ) (rest : List ℕ) → BeginsGroups most cursor.old.bytes n rest → ⊥) }
+    ensures end { cursor.new.at + length cursor.new.bytes ≡ cursor.old.at + length cursor.old.bytes }
+{
+    if most == 0 {
+        return None;
+    }
+    let byte = next_byte(cursor)?;
+    if byte < 128 {
+        return Some(u64::from(byte));
+    }
+    let high = next_groups(cursor, most - 1)?;
+    Some(u64::from(byte - 128) + 128 * high)
+}
+
+// The next delta, and moves past it.
+fn next_delta(cursor: &mut Cursor<'_>) -> Option<u64>
+    ensures delta { IfSome result (λ delta. BeginsDelta cursor.old.bytes delta cursor.new.bytes) }
+    ensures range { IfSome result (λ delta. delta < 2 ^ 35) }
+    ensures none { IfNone result (BeginsNoDelta cursor.old.bytes) }
+    ensures end { cursor.new.at + length cursor.new.bytes ≡ cursor.old.at + length cursor.old.bytes }
+{
+    next_groups(cursor, MOST_GROUPS)
+}
+
+// The literal that lies so far below another.
+fn literal_below(literal: u32, delta: u64) -> Option<u32>
+    ensures { SomeIff result (delta ≤ literal) (literal - delta) }
+{
+    if delta > u64::from(literal) {
+        return None;
+    }
+    Some(literal - delta as u32)
+}
+
+// The first operand of the gate with this literal, and moves past its delta.
+fn next_first(cursor: &mut Cursor<'_>, literal: u32) -> Option<u32>
+    ensures operand { IfSome result (λ a. BeginsFirst literal cursor.old.bytes a cursor.new.bytes) }
+    ensures none { IfNone result ((a : ℕ) (rest : List ℕ) → BeginsFirst literal cursor.old.bytes a rest → ⊥) }
+    ensures end { cursor.new.at + length cursor.new.bytes ≡ cursor.old.at + length cursor.old.bytes }
+{
+    let delta = next_delta(cursor)?;
+    if delta == 0 {
+        return None;
+    }
+    literal_below(literal, delta)
+}
+
+// The second operand of a gate with this first one, and moves past its delta.
+fn next_second(cursor: &mut Cursor<'_>, first: u32) -> Option<u32>
+    ensures operand { IfSome result (λ b. BeginsSecond first cursor.old.bytes b cursor.new.bytes) }
+    ensures none { IfNone result ((b : ℕ) (rest : List ℕ) → BeginsSecond first cursor.old.bytes b rest → ⊥) }
+    ensures end { cursor.new.at + length cursor.new.bytes ≡ cursor.old.at + length cursor.old.bytes }
+{
+    let delta = next_delta(cursor)?;
+    literal_below(first, delta)
+}
+
+// The operands of the gate with this literal, and moves past their deltas; or the offset of the first delta that
+// is bad.
+fn next_pair(cursor: &mut Cursor<'_>, literal: u32) -> Result<(u32, u32), u64>
+    ensures first { IfOk result (λ pair. (middle : List ℕ) × BeginsFirst literal cursor.old.bytes pair.0 middle
+        × BeginsSecond pair.0 middle pair.1 cursor.new.bytes) }
+    ensures bad { IfErr result (λ at. IsBadPair literal cursor.old.bytes
+        (cursor.old.at + length cursor.old.bytes) at) }
+    ensures end { cursor.new.at + length cursor.new.bytes ≡ cursor.old.at + length cursor.old.bytes }
+{
+    let at = cursor.at();
+    let Some(first) = next_first(cursor, literal) else {
+        return Err(at);
+    };
+    let behind = cursor.at();
+    let Some(second) = next_second(cursor, first) else {
+        return Err(behind);
+    };
+    Ok((first, second))
+}
+
+/// The operands of so many gates, as literals, and moves past them. The variables of the inputs come first, then
+/// those of the gates, and each gate's operands are below its own literal, the second at most the first.
+///
+/// # Errors
+///
+/// A fault of the kind [`NetKind::Delta`] at the first delta that is cut off, longer than five bytes or out of
+/// range, and [`NetStop::Memory`] for want of memory alone.
+pub(crate) fn read_gates(
+    alloc: Global,
+    cursor: &mut Cursor<'_>,
+    inputs: u32,
+    count: u32,
+) -> Result<Vec<(u32, u32)>, NetStop>
+    requires { inputs + count < 2 ^ 31 }
+    ensures count { IfOk result (λ gates. vec_len gates ≡ count) }
+    ensures gates { IfOk result (λ gates. BeginsGates (inputs + 1) cursor.old.bytes gates.items cursor.new.bytes) }
+    ensures kind { (fault : NetFault) → result ≡ Err (NetStop.Fault fault) → fault.kind ≡ NetKind.Delta }
+    ensures fault { (fault : NetFault) → result ≡ Err (NetStop.Fault fault)
+        → IsPairFault (inputs + 1) count cursor.old.bytes (cursor.old.at + length cursor.old.bytes) fault.at }
+    ensures end { cursor.new.at + length cursor.new.bytes ≡ cursor.old.at + length cursor.old.bytes }
+{
+    let mut gates = Vec::new(alloc);
+    for t in 0..count {
+        let pair = match next_pair(cursor, 2 * (inputs + 1 + t)) {
+            Ok(pair) => pair,
+            Err(at) => {
+                return Err(NetStop::Fault(NetFault {
+                    kind: NetKind::Delta,
+                    at,
+                }));
+            }
+        };
+        let Ok(()) = gates.push(pair) else {
+            return Err(NetStop::Memory);
+        };
+    }
+    Ok(gates)
+}
+
+/// The front of a text writes one delta at most.
+pub(crate) fn one_delta()
+    ensures { (bytes x y : List ℕ) (m n : ℕ) → BeginsDelta bytes m x → BeginsDelta bytes n y → (m ≡ n) × (x ≡ y) }
+{}

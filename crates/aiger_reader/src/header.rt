@@ -1,0 +1,172 @@
+//! The first line of a file in either form.
+
+ghost use Rattle.std.specs.Prelude.{◌≡◌, ℕ, ◌^◌, ◌<◌, ◌≤◌, ◌↔◌, Bool, List, length, map, take, IsTrue, Some, None, IfOk, IfErr, IfSome, IfNone, nat_lt};
+ghost use Rattle.std.specs.List.{list_any};
+ghost use Rattle.aiger_reader.specs.Plain.{numbers_on};
+ghost use Rattle.aiger_reader.specs.Rows.{AreSmall};
+ghost use Rattle.aiger_reader.specs.Headers.{AigerHeader, keyword, HasHeader, Begins, header_fault};
+ghost use Rattle.aiger_reader.specs.Numbers.{header_of, header_from, line_behind, WritesHeader, WritesNumbers, IsCounted, IsHeaderFault};
+
+pub(crate) use crate::limits::Header;
+use crate::limits::{MOST_GATES, MOST_INPUTS, MOST_OUTPUTS, MOST_VARIABLES};
+use crate::rows::{has_no_word, number_of};
+use net_core::NetKind;
+use text_core::{Cursor, Span, next_word};
+
+/// The numbers behind the keyword, M I L O A, and whether one of the others, B C J F, is above 0.
+#[derive(Clone, Copy, Debug)]
+struct Numbers {
+    variables: u32,
+    inputs: u32,
+    latches: u32,
+    outputs: u32,
+    gates: u32,
+    has_property: bool,
+}
+
+impl Numbers {
+    // Whether there are enough variables for the inputs, latches and gates, and in the binary form no more.
+    fn is_counted(&self, binary: bool) -> bool
+        ensures { IsTrue result ↔ IsCounted binary self.now }
+    {
+        let defined = u64::from(self.inputs) + u64::from(self.latches) + u64::from(self.gates);
+        let variables = u64::from(self.variables);
+        if binary {
+            defined == variables
+        } else {
+            defined <= variables
+        }
+    }
+
+    // The header of a form with these numbers, or what it asks for that isn't accepted.
+    fn accept(&self, binary: bool) -> Result<Header, NetKind>
+        ensures header { IfOk result (λ header. (properties : List ℕ)
+            → header_of header properties ≡ header_from binary self.now properties) }
+        ensures accepted { IfOk result (λ header. (properties : List ℕ)
+            → self.now.has_property ≡ list_any (nat_lt 0) properties
+            → header_fault (header_from binary self.now properties) ≡ None) }
+        ensures fault { IfErr result (λ fault. (properties : List ℕ)
+            → self.now.has_property ≡ list_any (nat_lt 0) properties
+            → header_fault (header_from binary self.now properties) ≡ Some fault) }
+    {
+        if self.latches > 0 {
+            return Err(NetKind::Sequential);
+        }
+        if self.has_property {
+            return Err(NetKind::Property);
+        }
+        if self.inputs > MOST_INPUTS {
+            return Err(NetKind::TooManyInputs);
+        }
+        if self.outputs > MOST_OUTPUTS {
+            return Err(NetKind::TooManyOutputs);
+        }
+        if self.gates > MOST_GATES {
+            return Err(NetKind::TooManyGates);
+        }
+        if self.variables > MOST_VARIABLES {
+            return Err(NetKind::TooManyGates);
+        }
+        Ok(Header {
+            binary,
+            variables: self.variables,
+            inputs: self.inputs,
+            outputs: self.outputs,
+            gates: self.gates,
+        })
+    }
+}
+
+/// The header that a file of either form begins with: `aag` or `aig` and a space, and behind them on the first
+/// line five to nine numbers below 2^32, the greatest variable, the inputs, latches, outputs and gates, and the
+/// bad states, constraints, justice and fairness properties (AIGER 1.9).
+///
+/// # Errors
+///
+/// [`NetKind::Header`] exactly where the file has no such header, or one whose greatest variable is below the
+/// number of inputs, latches and gates, or in the binary form above it. Else, and in this order,
+/// [`NetKind::Sequential`] where there are latches, [`NetKind::Property`] where there is one of the properties,
+/// and [`NetKind::TooManyInputs`], [`NetKind::TooManyOutputs`] and [`NetKind::TooManyGates`] where there are more
+/// than 1,024 inputs, 1,024 outputs, or 1,000,000 gates or 4,000,000 variables.
+pub(crate) fn read_header(input: &[u8]) -> Result<Header, NetKind>
+    ensures begins { IfOk result (λ header. (properties : List ℕ)
+        × Begins input.now (header_of header properties)) }
+    ensures fault { IfErr result (IsHeaderFault input.now) }
+{
+    let Some(binary) = form_of(input) else {
+        return Err(NetKind::Header);
+    };
+    let Some(numbers) = read_numbers(input) else {
+        return Err(NetKind::Header);
+    };
+    if !numbers.is_counted(binary) {
+        return Err(NetKind::Header);
+    }
+    numbers.accept(binary)
+}
+
+// Whether a file begins as one of the binary form: `None` where it begins as one of neither form.
+fn form_of(input: &[u8]) -> Option<bool>
+    ensures form { IfSome result (λ binary. take 4 input.now ≡ keyword binary) }
+    ensures neither { IfNone result ((binary : Bool) → take 4 input.now ≡ keyword binary → ⊥) }
+{
+    if input.starts_with(b"aag ") {
+        return Some(false);
+    }
+    if input.starts_with(b"aig ") {
+        return Some(true);
+    }
+    None
+}
+
+// The numbers on the first line behind the keyword, where these are five to nine of 32 bits.
+fn read_numbers(input: &[u8]) -> Option<Numbers>
+    requires { 4 ≤ length input.now }
+    ensures numbers { IfSome result (WritesNumbers (line_behind input.now)) }
+    ensures none { IfNone result ((h : AigerHeader) → WritesHeader (line_behind input.now) h → ⊥) }
+{
+    let mut line = Cursor::new(&input[4..]).next_line()?;
+    let mut row = [0; 9];
+    let count = fill(&mut line, &mut row)?;
+    if count < 5 {
+        return None;
+    }
+    let [variables, inputs, latches, outputs, gates, ..] = row;
+    Some(Numbers {
+        variables,
+        inputs,
+        latches,
+        outputs,
+        gates,
+        has_property: is_any_above_zero(&row[5..count]),
+    })
+}
+
+// Whether one of the numbers is above 0.
+fn is_any_above_zero(numbers: &[u32]) -> bool
+    ensures { result ≡ list_any (nat_lt 0) numbers.now }
+{
+    numbers.iter().any(|number| *number > 0)
+}
+
+// Writes the numbers on a line to the front of the row, and says how many they are.
+// `None` where they are more than the row has room for, or a word is no number of 32 bits.
+fn fill(line: &mut Span<'_>, row: &mut [u32]) -> Option<usize>
+    ensures numbers { IfSome result (λ count.
+        numbers_on line.old.bytes ≡ map Some (take count row.new)) }
+    ensures within { IfSome result (λ count. count ≤ length row.new) }
+    ensures small { IfSome result (λ count. AreSmall (take count row.new)) }
+    ensures none { IfNone result ((numbers : List ℕ) → length numbers ≤ length row.old
+        → AreSmall numbers → numbers_on line.old.bytes ≡ map Some numbers → ⊥) }
+{
+    for (count, number) in row.iter_mut().enumerate() {
+        let Some(word) = next_word(line) else {
+            return Some(count);
+        };
+        *number = number_of(word)?;
+    }
+    if !has_no_word(line) {
+        return None;
+    }
+    Some(row.len())
+}

@@ -1,0 +1,192 @@
+//! What the lines of the body read, and the netlist's own numbers for it.
+
+ghost use Rattle.std.specs.Prelude.{◌≡◌, ℕ, ◌+◌, ◌*◌, ◌/◌, ◌^◌, ◌<◌, ◌≤◌, false, List, [], length, map, All, IfOk, IfErr, IfNone, IfSome};
+ghost use Rattle.std.specs.List.{prefix_len};
+ghost use Rattle.text_core.specs.Lines.{lines};
+ghost use Rattle.aiger_reader.specs.Numbers.{header_of};
+ghost use Rattle.aiger_reader.specs.Bodies.{line_offset, roles_of, IsBody, IsKnownRow, IsUndefined, text_circuit};
+ghost use Rattle.aiger_reader.specs.Reading.{rows_of};
+ghost use Rattle.aiger_reader.specs.Numbered.{IsSound, has_place, have_places, lit_in, def_in, circuit_from};
+
+use crate::body::{AndLine, Body, gate_lines, input_lines};
+use crate::limits::Header;
+use circuits::{Def, Lit};
+use net_core::NetStop;
+use std::alloc::{AllocFailed, Global};
+use text_core::Cursor;
+
+// Whether a literal is of the constant or of a variable that has a place.
+fn has_place(signals: &[u32], literal: u32) -> bool
+    requires { literal / 2 < length signals.now }
+    ensures { result ≡ has_place signals.now literal }
+{
+    let variable = (literal / 2) as usize;
+    variable == 0 || signals[variable] > 0
+}
+
+// How many outputs stand before the first of a variable without a place, or all where there is none.
+fn known_outputs(signals: &[u32], outputs: &[u32]) -> usize
+    requires { All (λ literal. literal / 2 < length signals.now) outputs.now }
+    ensures count { result ≡ prefix_len (has_place signals.now) outputs.now }
+    ensures within { result ≤ length outputs.now }
+{
+    outputs
+        .iter()
+        .take_while(|literal| has_place(signals, **literal))
+        .count()
+}
+
+// How many gates stand before the first with an operand of a variable without a place, or all where there is none.
+fn known_gates(signals: &[u32], gates: &[AndLine]) -> usize
+    requires a { All (λ line. line.a / 2 < length signals.now) gates.now }
+    requires b { All (λ line. line.b / 2 < length signals.now) gates.now }
+    ensures count { result ≡ prefix_len (have_places signals.now) gates.now }
+    ensures within { result ≤ length gates.now }
+{
+    gates
+        .iter()
+        .take_while(|line| has_place(signals, line.a) && has_place(signals, line.b))
+        .count()
+}
+
+// How many lines of the body stand before the first that reads what no line defines, or all where there is none.
+fn known_lines(header: Header, body: &Body<'_>) -> usize
+    requires { IsSound (header_of header []) body.now.literals body.now.signals.items }
+    ensures within { result ≤ length (rows_of body.now.literals) }
+    ensures known { (k : ℕ) → k < result
+        → IsKnownRow (header_of header []) (rows_of body.now.literals) k }
+    ensures unknown { result < length (rows_of body.now.literals)
+        → IsKnownRow (header_of header []) (rows_of body.now.literals) result → ⊥ }
+{
+    let inputs = input_lines(header) as usize;
+    let outputs = known_outputs(&body.signals, &body.literals.outputs);
+    if outputs < header.outputs as usize {
+        return inputs + outputs;
+    }
+    inputs + outputs + known_gates(&body.signals, &body.literals.gates)
+}
+
+// How many lines the body has.
+fn line_count(header: Header) -> usize
+    ensures { result ≡ length (roles_of (header_of header [])) }
+{
+    input_lines(header) as usize + header.outputs as usize + gate_lines(header) as usize
+}
+
+/// The offset of a line of a text.
+pub(crate) fn offset_of_line(input: &[u8], line: usize) -> u64
+    requires { line < length (lines input.now) }
+    ensures { result ≡ line_offset input.now line }
+{
+    let mut cursor = Cursor::new(input);
+    for _ in 0..line {
+        let _ = cursor.next_line();
+    }
+    cursor.at()
+}
+
+/// Where the first line of the body stands that reads a variable which no line defines: an output, or an operand
+/// of a gate. The constant is always there.
+pub(crate) fn find_undefined(input: &[u8], header: Header, body: &Body<'_>) -> Option<u64>
+    requires read { IsBody input.now (header_of header []) (rows_of body.now.literals) }
+    requires sound { IsSound (header_of header []) body.now.literals body.now.signals.items }
+    ensures known { IfNone result ((properties : List ℕ) (k : ℕ)
+        → k < length (rows_of body.now.literals)
+        → IsKnownRow (header_of header properties) (rows_of body.now.literals) k) }
+    ensures undefined { IfSome result (λ at. (properties : List ℕ)
+        → IsUndefined input.now (header_of header properties) (rows_of body.now.literals) at) }
+{
+    let line = known_lines(header, body);
+    if line == line_count(header) {
+        return None;
+    }
+    Some(offset_of_line(input, line + 1))
+}
+
+// The netlist's literal for a literal of the file.
+fn lit_of(signals: &[u32], literal: u32) -> Lit
+    requires within { literal / 2 < length signals.now }
+    requires small { All (λ place. place < 2 ^ 31) signals.now }
+    ensures { result ≡ lit_in signals.now literal }
+{
+    let variable = (literal / 2) as usize;
+    if variable == 0 {
+        return Lit(literal % 2);
+    }
+    Lit(2 * signals[variable] + literal % 2)
+}
+
+// The netlist's outputs.
+fn number_outputs(
+    alloc: Global,
+    signals: &[u32],
+    outputs: &[u32],
+) -> Result<Vec<Lit>, AllocFailed<Lit>>
+    requires within { All (λ literal. literal / 2 < length signals.now) outputs.now }
+    requires small { All (λ place. place < 2 ^ 31) signals.now }
+    ensures { IfOk result (λ lits. lits.items ≡ map (lit_in signals.now) outputs.now) }
+{
+    let mut lits = Vec::new(alloc);
+    for literal in outputs {
+        lits.push(lit_of(signals, *literal))?;
+    }
+    Ok(lits)
+}
+
+// The netlist's definitions.
+fn number_gates(
+    alloc: Global,
+    signals: &[u32],
+    gates: &[AndLine],
+) -> Result<Vec<Def>, AllocFailed<Def>>
+    requires a { All (λ line. line.a / 2 < length signals.now) gates.now }
+    requires b { All (λ line. line.b / 2 < length signals.now) gates.now }
+    requires small { All (λ place. place < 2 ^ 31) signals.now }
+    ensures { IfOk result (λ defs. defs.items ≡ map (def_in signals.now) gates.now) }
+{
+    let mut defs = Vec::new(alloc);
+    for line in gates {
+        defs.push(Def::And {
+            a: lit_of(signals, line.a),
+            b: lit_of(signals, line.b),
+        })?;
+    }
+    Ok(defs)
+}
+
+/// A netlist in the numbers of its own: signal 0 is the constant, input i is signal i + 1, and then come the
+/// definitions, in the order of the file.
+#[derive(Debug, Drop)]
+pub(crate) struct Numbered {
+    pub(crate) inputs: u32,
+    pub(crate) defs: Vec<Def>,
+    pub(crate) outputs: Vec<Lit>,
+}
+
+/// The netlist of an ASCII form's body, each line of which reads what some line defines.
+pub(crate) fn number_circuit(
+    alloc: Global,
+    header: Header,
+    body: &Body<'_>,
+) -> Result<Numbered, NetStop>
+    requires text { header.binary ≡ false }
+    requires sound { IsSound (header_of header []) body.now.literals body.now.signals.items }
+    requires known { (k : ℕ) → k < length (rows_of body.now.literals)
+        → IsKnownRow (header_of header []) (rows_of body.now.literals) k }
+    ensures circuit { IfOk result (λ numbered. (properties : List ℕ)
+        → circuit_from numbered.inputs numbered.defs.items numbered.outputs.items
+        ≡ text_circuit (header_of header properties) (rows_of body.now.literals)) }
+    ensures memory { IfErr result (λ stop. stop ≡ NetStop.Memory) }
+{
+    let Ok(defs) = number_gates(alloc, &body.signals, &body.literals.gates) else {
+        return Err(NetStop::Memory);
+    };
+    let Ok(outputs) = number_outputs(alloc, &body.signals, &body.literals.outputs) else {
+        return Err(NetStop::Memory);
+    };
+    Ok(Numbered {
+        inputs: header.inputs,
+        defs,
+        outputs,
+    })
+}
