@@ -34,12 +34,13 @@ pub record IsNetlist (bytes : List ℕ) (h : AigerHeader) (circuit : Circuit) (r
   pub body : IsBody bytes h rows
   pub form : IsOfForm h.binary bytes h rows circuit rest
 
--- The file is this netlist, with these names of its ports.
+-- The file is this netlist, which has no cycle, with these names of its ports.
 pub record IsAiger (bytes : List ℕ) (net : Net) (input_names output_names : List (List ℕ)) : Type 0 where
   pub h : AigerHeader
   pub circuit : Circuit
   pub rest : List ℕ
   pub netlist : IsNetlist bytes h circuit rest
+  pub acyclic : IsAcyclic circuit
   pub ordered : IsOrderOf circuit net
   pub names : AreNames h.inputs h.outputs rest input_names output_names
 
