@@ -41,7 +41,7 @@ begins_below variable bytes rest (gate ∷ gates) begins =
     }
 
 -- the netlist is closed
-binary_closed : (inputs : ℕ) (gates : List (ℕ × ℕ)) (outputs : List ℕ) → ArePairsBelow (inputs + 1) gates → All (λ literal. literal ≤ 2 * (inputs + length gates) + 1) outputs → IsClosed (circuit_from inputs (map and_from gates) (map lit_from outputs))
+pub binary_closed : (inputs : ℕ) (gates : List (ℕ × ℕ)) (outputs : List ℕ) → ArePairsBelow (inputs + 1) gates → All (λ literal. literal ≤ 2 * (inputs + length gates) + 1) outputs → IsClosed (circuit_from inputs (map and_from gates) (map lit_from outputs))
 binary_closed inputs gates outputs pairs small =
     let below : ℕ → Type 0 = λ s. s < 1 + inputs + length (map and_from gates) in
     let count = length-map gates and_from in

@@ -20,7 +20,7 @@ use Rattle.aiger_reader.proofs.GoodLemmas.{defined_few}
 use Rattle.aiger_reader.proofs.RoleLemmas.{length-rows_of, length-roles_of, roles_few}
 use Rattle.aiger_reader.proofs.NumberingLemmas.{output_reads, gate_reads}
 
-same_test : (n : ℕ) → (n == n) ≡ true
+pub same_test : (n : ℕ) → (n == n) ≡ true
 same_test n = grind (arith, nat_tests)
 
 -- functions that agree on a list's elements

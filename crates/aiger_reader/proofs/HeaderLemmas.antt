@@ -72,7 +72,7 @@ numbers_read line row count any numbers enough within nine small is =
       property = is;
     }
 
-map_same : (xs ys : List ℕ) → map Some xs ≡ map Some ys → xs ≡ ys
+pub map_same : (xs ys : List ℕ) → map Some xs ≡ map Some ys → xs ≡ ys
 map_same [] [] e = refl
 map_same [] (y ∷ ys) e = cc
 map_same (x ∷ xs) [] e = cc
@@ -80,10 +80,10 @@ map_same (x ∷ xs) (y ∷ ys) e =
     let tails : xs ≡ ys = map_same xs ys (cc) in
     cc
 
-no_clash : true ≡ false → ⊥
+pub no_clash : true ≡ false → ⊥
 no_clash e = cc
 
-keyword_same : (a b : Bool) → keyword a ≡ keyword b → a ≡ b
+pub keyword_same : (a b : Bool) → keyword a ≡ keyword b → a ≡ b
 keyword_same true true e = refl
 keyword_same false false e = refl
 keyword_same true false e = absurd (no_clash (sym (ap (λ (bytes : List ℕ). get_or bytes 1 0 == 97) e)))

@@ -24,3 +24,8 @@ pub mod NameLemmas
 pub mod TextNetLemmas
 pub mod BinaryNetLemmas
 pub mod WholeLemmas
+pub mod OneBody
+pub mod OneDelta
+pub mod OneSymbols
+pub mod ClosedNets
+pub mod OneAiger

@@ -63,7 +63,7 @@ place_within greatest variables signals v numbering there =
     let place : get_or signals v 0 ≡ i + 1 = ap (λ w. get_or signals w 0) (sym here) ∙ numbering.places i there.1 in
     omega (arith, place, there.1)
 
-signal_below : (t : Bool) (place r n : ℕ) → r < 2 → (t ≡ false → place ≤ n) → (2 * (if t then 0 else place) + r) / 2 < 1 + n
+pub signal_below : (t : Bool) (place r n : ℕ) → r < 2 → (t ≡ false → place ≤ n) → (2 * (if t then 0 else place) + r) / 2 < 1 + n
 signal_below true place r n small within = omega arith
 signal_below false place r n small within =
     let few : place ≤ n = within refl in

@@ -8,6 +8,7 @@ ghost use Rattle.aiger_reader.specs.declared.PlainStop.TheVariants.{Memory};
 mod body;
 mod deltas;
 mod header;
+mod laws;
 mod limits;
 mod literals;
 mod numbering;
@@ -17,6 +18,7 @@ mod rows;
 mod symbols;
 mod whole;
 
+pub use laws::{aiger_or_fault, one_aiger, one_aiger_fault};
 pub use net_core::{Gate, Graph, Lit, Name, Named, NetFault, NetKind, NetStop};
 pub use plain::{one_netlist, read_plain};
 use std::alloc::{AllocError, AllocFailed};

@@ -6,3 +6,4 @@ pub mod MatchLaws
 pub mod LevelLaws
 pub mod LevelOrders
 pub mod CircuitValuations
+pub mod OneOrder

@@ -60,6 +60,12 @@ pub fn same_function_in_order()
         → circuit_outputs circuit v ≡ function_of net x }
 {}
 
+/// A netlist without a cycle has one order at most.
+pub fn one_order()
+    ensures { (circuit : Circuit) (a b : Net) → IsAcyclic circuit → IsClosed circuit → IsOrderOf circuit a
+        → IsOrderOf circuit b → a ≡ b }
+{}
+
 /// Exactly one valuation fits a netlist without a cycle and a vector as long as it has inputs.
 pub fn one_valuation_of_circuit()
     ensures some { (circuit : Circuit) (x : List Bool) → IsAcyclic circuit → length x ≡ circuit.inputs

@@ -1,0 +1,5 @@
+use Rattle.circuits.proofs.OneOrder.{one_order}
+use Rattle.circuits.proofs.laws.one_order.Goals as goal
+
+pub returns : goal.returns
+returns c = one_order
