@@ -1,18 +1,21 @@
 -- That exactly one valuation fits a netlist without a cycle and a vector.
-use Rattle.std.proofs.Common.{ℕ, zero, suc, ◌+◌, ◌-◌, ◌<◌, ◌≤◌, ◌≡◌, Bool, false, ◌&&◌, List, [], ◌∷◌, ◌++◌, length, get_or, map, All, refl, sym, ap, subst, ◌∙◌, inl, inr, arith, ext_get_or, length-append}
+use Rattle.std.proofs.Common.{ℕ, zero, suc, ◌+◌, ◌-◌, ◌<◌, ◌≤◌, ◌≡◌, Bool, true, false, ◌&&◌, List, [], ◌∷◌, ◌++◌, length, get_or, map, All, refl, sym, ap, subst, ◌∙◌, inl, inr, arith, ext_get_or, length-append}
 use Rattle.std.proofs.lemmas.Bool.{cases_lt}
 use Rattle.std.proofs.lemmas.List.{get_or_append_left, get_or-append-add, length-map, get_or-map}
 use Rattle.circuits.specs.declared.definition.Def.{Def}
-use Rattle.circuits.specs.declared.definition.Def.TheVariants.{And}
+use Rattle.circuits.specs.declared.definition.Def.TheVariants.{And, Cover}
 use Rattle.circuits.specs.Literals.{bit, differ, is_negated, literal_bit}
-use Rattle.circuits.specs.Circuits.{Circuit, FitsCircuit, signals_in, signal_at, named_by, def_bit}
+use Rattle.circuits.specs.Circuits.{Circuit, FitsCircuit, signals_in, signal_at, def_at, named_by, names_of, cover_bit, def_bit}
 use Rattle.circuits.specs.Levels.{IsWithin, IsAcyclic}
 use Rattle.circuits.proofs.LevelLaws.{IsWithin-le}
+use Rattle.circuits.proofs.Expansions.{map-agree}
 
 -- a definition has one bit under valuations that agree where it looks
 pub def_bit-agree : (v w : List Bool) (def : Def) → All (λ s. bit v s ≡ bit w s) (named_by def) → def_bit v def ≡ def_bit w def
 def_bit-agree v w (And a b) same =
     ap (λ x. differ x (is_negated a) && literal_bit v b) (same 0 0 (omega arith)) ∙ ap (λ x. literal_bit w a && differ x (is_negated b)) (same 1 0 (omega arith))
+def_bit-agree v w (Cover names rows on) same =
+    ap (λ values. cover_bit values rows on) (map-agree (bit v) (bit w) names same)
 
 -- each definition's bit, computed once from the bits before
 abbrev pub next_round : Circuit → List Bool → List Bool → List Bool
@@ -51,12 +54,10 @@ rounds-stay circuit x zero k s len h =
 rounds-stay circuit x (suc l) k s len (inl h) =
     rounds-input circuit x (suc l + k) s len h ∙ sym (rounds-input circuit x (suc l) s len h)
 rounds-stay circuit x (suc l) k s len (inr only) =
-    let default : Def = And (record { 0 = 0 }) (record { 0 = 0 }) in
-    let def = get_or circuit.defs only.place default in
     let later : suc l + k ≡ suc (l + k) = omega arith in
-    let agree = def_bit-agree (rounds circuit x (l + k)) (rounds circuit x l) def (λ i e h. rounds-stay circuit x l k (get_or (named_by def) i e) len (only.named default i e h)) in
-    let high = next_round-def circuit x (rounds circuit x (l + k)) only.place default len only.there in
-    let low = next_round-def circuit x (rounds circuit x l) only.place default len only.there in
+    let agree = def_bit-agree (rounds circuit x (l + k)) (rounds circuit x l) (def_at circuit only.place) (λ i e h. rounds-stay circuit x l k (get_or (names_of circuit only.place) i e) len (only.named i e h)) in
+    let high = next_round-def circuit x (rounds circuit x (l + k)) only.place (Cover [] [] true) len only.there in
+    let low = next_round-def circuit x (rounds circuit x l) only.place (Cover [] [] true) len only.there in
     ap (λ n. bit (rounds circuit x n) s) later ∙ (ap (bit (rounds circuit x (suc (l + k)))) only.at ∙ (high ∙ (agree ∙ (sym low ∙ ap (bit (rounds circuit x (suc l))) (sym only.at)))))
 
 -- one level that the first so many definitions are within
@@ -106,10 +107,9 @@ pub fits-agree : (circuit : Circuit) (x v w : List Bool) (l s : ℕ) → FitsCir
 fits-agree circuit x v w zero s one other h = fits-agree_input circuit x v w s one other h
 fits-agree circuit x v w (suc l) s one other (inl h) = fits-agree_input circuit x v w s one other h
 fits-agree circuit x v w (suc l) s one other (inr only) =
-    let default : Def = And (record { 0 = 0 }) (record { 0 = 0 }) in
-    let def = get_or circuit.defs only.place default in
-    let agree = def_bit-agree v w def (λ i e h. fits-agree circuit x v w l (get_or (named_by def) i e) one other (only.named default i e h)) in
-    ap (bit v) only.at ∙ (one.defs only.place default only.there ∙ (agree ∙ (sym (other.defs only.place default only.there) ∙ ap (bit w) (sym only.at))))
+    let nothing : Def = Cover [] [] true in
+    let agree = def_bit-agree v w (def_at circuit only.place) (λ i e h. fits-agree circuit x v w l (get_or (names_of circuit only.place) i e) one other (only.named i e h)) in
+    ap (bit v) only.at ∙ (one.defs only.place nothing only.there ∙ (agree ∙ (sym (other.defs only.place nothing only.there) ∙ ap (bit w) (sym only.at))))
 
 pub one_valuation : (circuit : Circuit) (x v w : List Bool) → IsAcyclic circuit → FitsCircuit circuit x v → FitsCircuit circuit x w → v ≡ w
 one_valuation circuit x v w acyclic one other =

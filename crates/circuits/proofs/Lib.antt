@@ -5,5 +5,7 @@ pub mod Entries
 pub mod MatchLaws
 pub mod LevelLaws
 pub mod LevelOrders
+pub mod Expansions
 pub mod CircuitValuations
+pub mod GateCounts
 pub mod OneOrder

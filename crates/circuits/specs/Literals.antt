@@ -1,5 +1,5 @@
 -- Vectors of bits, and literals as the AIGER format numbers them.
-use Rattle.std.specs.Prelude.{ℕ, ◌/◌, ◌%◌, ◌^◌, ◌<◌, ◌==◌, Bool, false, not, List, length, map, slice_index_or}
+use Rattle.std.specs.Prelude.{ℕ, ◌+◌, ◌-◌, ◌*◌, ◌/◌, ◌%◌, ◌^◌, ◌<◌, ◌==◌, Bool, false, not, List, length, map, slice_index_or, if◌then◌else◌}
 use Rattle.std.specs.Bool.{beq}
 use Rattle.std.specs.List.{range_with_len}
 use Rattle.circuits.specs.declared.netlist.Lit.{Lit}
@@ -31,3 +31,22 @@ is_negated literal = literal.0 % 2 == 1
 -- the literal's bit where each signal has the bit that v gives it
 abbrev pub literal_bit : List Bool → Lit → Bool
 literal_bit v literal = differ (bit v (signal_of literal)) (is_negated literal)
+
+-- the plain literal of a signal
+abbrev pub plain_literal : ℕ → Lit
+plain_literal signal = record { 0 = 2 * signal }
+
+-- the literal of the same signal with the other sign
+abbrev pub inverse : Lit → Lit
+inverse literal = record { 0 = 2 * signal_of literal + (1 - literal.0 % 2) }
+
+-- a literal that stands for the signal of another, with that one's sign
+abbrev pub signed_as : Lit → Lit → Lit
+signed_as literal signal = if is_negated literal then inverse signal else signal
+
+-- the literals of the constant
+abbrev pub false_literal : Lit
+false_literal = record { 0 = 0 }
+
+abbrev pub true_literal : Lit
+true_literal = record { 0 = 1 }

@@ -1,13 +1,13 @@
 //! What the definitions of this crate say together: laws that hold of all netlists, vectors and signed
 //! bijections. Each function does nothing; its contract is the law.
 
-ghost use Rattle.std.specs.Prelude.{ℕ, suc, max, ◌<◌, ◌^◌, ◌≡◌, ◌↔◌, Bool, List, length};
-ghost use Rattle.circuits.specs.Literals.{signal_of, vector_of};
-ghost use Rattle.circuits.specs.declared.netlist.Lit.{Lit};
+ghost use Rattle.std.specs.Prelude.{ℕ, suc, max, ◌<◌, ◌^◌, ◌≡◌, ◌↔◌, Bool, List, [], ◌∷◌, ◌++◌, length};
+ghost use Rattle.circuits.specs.Literals.{vector_of};
 ghost use Rattle.circuits.specs.Netlists.{Net, IsOrdered, Fits, valuation_of, function_of};
 ghost use Rattle.circuits.specs.Bijections.{IsSignedBijection, Moves, moved};
-ghost use Rattle.circuits.specs.Circuits.{Circuit, IsAndAt, IsClosed, FitsCircuit, circuit_outputs, signal_at};
-ghost use Rattle.circuits.specs.Levels.{HasLevel, HasNoLevel, IsAcyclic, IsOrderOf, Reaches};
+ghost use Rattle.circuits.specs.Circuits.{Circuit, IsClosed, FitsCircuit, circuit_outputs, names_of, signal_at};
+ghost use Rattle.circuits.specs.Expansion.{gates_in};
+ghost use Rattle.circuits.specs.Levels.{HasLevel, HaveLevel, HasNoLevel, IsAcyclic, IsOrderOf, Reaches};
 ghost use Rattle.circuits.specs.Matches.{IsMatch, IsMatchOfFunctions, AreNpnpEqual};
 
 /// Exactly one valuation fits a netlist in order and a vector as long as it has inputs: the one computed
@@ -60,9 +60,16 @@ pub fn same_function_in_order()
         → circuit_outputs circuit v ≡ function_of net x }
 {}
 
+/// The ordered netlist has as many inputs and outputs.
+pub fn same_ports_in_order()
+    ensures inputs { (circuit : Circuit) (net : Net) → IsOrderOf circuit net → net.inputs ≡ circuit.inputs }
+    ensures outputs { (circuit : Circuit) (net : Net) → IsOrderOf circuit net
+        → length net.outputs ≡ length circuit.outputs }
+{}
+
 /// A netlist without a cycle has one order at most.
 pub fn one_order()
-    ensures { (circuit : Circuit) (a b : Net) → IsAcyclic circuit → IsClosed circuit → IsOrderOf circuit a
+    ensures { (circuit : Circuit) (a b : Net) → IsAcyclic circuit → IsOrderOf circuit a
         → IsOrderOf circuit b → a ≡ b }
 {}
 
@@ -74,12 +81,24 @@ pub fn one_valuation_of_circuit()
         → FitsCircuit circuit x w → v ≡ w }
 {}
 
-/// An AND is one level above the higher of its operands; and where it has a level, they have levels.
+/// The level of several signals is the greatest of their levels, and 0 where there are none.
+pub fn level_of_signals()
+    ensures none { (circuit : Circuit) → HaveLevel circuit [] 0 }
+    ensures more { (circuit : Circuit) (signals : List ℕ) (s l m : ℕ) → HaveLevel circuit signals l
+        → HasLevel circuit s m → HaveLevel circuit (signals ++ s ∷ []) (max l m) }
+{}
+
+/// A definition is one level above the signals that it names; and where it has a level, they have the one
+/// below it.
 pub fn level_of_definition()
-    ensures above { (circuit : Circuit) (d l m : ℕ) (a b : Lit) → IsAndAt circuit d a b
-        → HasLevel circuit (signal_of a) l → HasLevel circuit (signal_of b) m
-        → HasLevel circuit (signal_at circuit d) (suc (max l m)) }
-    ensures operands { (circuit : Circuit) (d n : ℕ) (a b : Lit) → IsAndAt circuit d a b
-        → HasLevel circuit (signal_at circuit d) (suc n)
-        → (l m : ℕ) × HasLevel circuit (signal_of a) l × HasLevel circuit (signal_of b) m × (max l m ≡ n) }
+    ensures above { (circuit : Circuit) (d n : ℕ) → d < length circuit.defs
+        → HaveLevel circuit (names_of circuit d) n → HasLevel circuit (signal_at circuit d) (suc n) }
+    ensures named { (circuit : Circuit) (d n : ℕ) → d < length circuit.defs
+        → HasLevel circuit (signal_at circuit d) (suc n) → HaveLevel circuit (names_of circuit d) n }
+{}
+
+/// The ordered netlist has as many gates as its definitions' expansions.
+pub fn gates_in_order()
+    ensures { (circuit : Circuit) (net : Net) → IsClosed circuit → IsOrderOf circuit net
+        → length net.gates ≡ gates_in circuit }
 {}

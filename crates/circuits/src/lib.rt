@@ -8,6 +8,6 @@ mod netlist;
 pub mod plain;
 mod port;
 
-pub use definition::Def;
+pub use definition::{Def, Trit};
 pub use netlist::{Gate, Lit, Netlist};
 pub use port::{Pair, PortKind};

@@ -1,7 +1,7 @@
 //! Literals, AND gates and netlists, as the AIGER format numbers them.
 
 ghost use Rattle.std.specs.Prelude.{◌≡◌, ◌↔◌, ◌<◌, ◌+◌, ◌^◌, All, IsTrue, length};
-ghost use Rattle.circuits.specs.Literals.{EachAt, signal_of, is_negated};
+ghost use Rattle.circuits.specs.Literals.{EachAt, inverse, signal_of, is_negated};
 
 use std::marker::Model;
 
@@ -23,6 +23,17 @@ impl Lit {
         ensures { result ≡ is_negated self }
     {
         self.0 % 2 == 1
+    }
+
+    /// The literal of the same signal with the other sign.
+    pub fn inverse(self) -> Lit
+        ensures { result ≡ inverse self }
+    {
+        if self.is_negated() {
+            Lit(self.0 - 1)
+        } else {
+            Lit(self.0 + 1)
+        }
     }
 }
 

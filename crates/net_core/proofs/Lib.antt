@@ -1,2 +1,3 @@
 pub mod SearchLaws
 pub mod OrderLaws
+pub mod ExpandLaws

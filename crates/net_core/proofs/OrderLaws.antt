@@ -1,15 +1,16 @@
 -- From the levels of a netlist's definitions to the ordered netlist.
-use Rattle.std.proofs.Common.{ℕ, ◌+◌, ◌<◌, ◌≤◌, ◌≡◌, ◌≢◌, ◌⊎◌, false, eqb, List, [], ◌∷◌, ◌++◌, length, get_or, map, All, AllPairs, IsSorted, refl, sym, ap, subst, ◌∙◌, inl, inr, arith}
+use Rattle.std.proofs.Common.{ℕ, ◌+◌, ◌<◌, ◌≤◌, ◌≡◌, ◌≢◌, ◌⊎◌, false, eqb, List, [], ◌∷◌, ◌++◌, length, get_or, map, All, AllPairs, IsPermutation, IsSorted, refl, sym, ap, subst, ◌∙◌, inl, inr, arith, ext_get_or}
 use Rattle.std.specs.declared.cmp.Ordering.{Ordering}
 use Rattle.std.specs.declared.cmp.Ordering.TheVariants.{Less, Equal, Greater}
 use Rattle.std.specs.Ordering.{nat_cmp, ordering_then, is_lt}
 use Rattle.std.specs.Cmp.{IsTotalOrder}
-use Rattle.std.specs.List.{IsDistinct}
+use Rattle.std.specs.List.{IsDistinct, range_with_len}
 use Rattle.std.proofs.lemmas.Bool.{cases_lt, false≢true}
 use Rattle.std.proofs.lemmas.Bool.Decides.{Decides-eqb}
 use Rattle.std.proofs.lemmas.Cmp.{ranked, by_ranked, nat_cmp_total, nat_eq_equiv, then_total, on_total}
 use Rattle.std.proofs.lemmas.List.{get_or_default, get_or_append_left, get_or_push, length-map, get_or-map}
 use Rattle.std.proofs.lemmas.List.Sorted.{sorted_far, ranks_by, IsPermutation-map, length_permutation, All-permutation}
+use Rattle.std.proofs.lemmas.List.FromFn.{length-range_with_len, get_or-range_with_len}
 use Rattle.std.proofs.lemmas.Map.Keys.{IsDistinct-IsPermutation, ge_from_not_lt}
 use Rattle.std.proofs.lemmas.Map.Made.{AllPairs-from_IsDistinct, IsDistinct-from_AllPairs}
 use Rattle.circuits.specs.declared.netlist.Lit.{Lit}
@@ -18,7 +19,8 @@ use Rattle.circuits.specs.declared.definition.Def.{Def}
 use Rattle.circuits.specs.declared.definition.Def.TheVariants.{And}
 use Rattle.circuits.specs.Netlists.{Net}
 use Rattle.circuits.specs.Circuits.{Circuit, signal_at}
-use Rattle.circuits.specs.Levels.{HasLevel, IsAcyclic, IsFirstLooped, IsLevelOrder, StandsFor, IsGateOf, IsOrderOf}
+use Rattle.circuits.specs.Expansion.{gates_in}
+use Rattle.circuits.specs.Levels.{HasLevel, IsAcyclic, IsFirstLooped, IsLevelOrder, IsOrderOf}
 use Rattle.circuits.proofs.LevelOrders.{IsOrderOf-ordered}
 use Rattle.circuits.proofs.LevelLaws.{HasLevel-only}
 use Rattle.net_core.specs.declared.levels.Placed.{Placed}
@@ -28,7 +30,7 @@ use Rattle.net_core.specs.declared.order_fault.OrderFault.TheVariants.{Cycle, To
 use Rattle.net_core.specs.Graph.{IsGraph}
 use Rattle.net_core.specs.PlainNets.{IsPlainNet}
 use Rattle.net_core.specs.Search.{IsFaultOf}
-use Rattle.net_core.specs.Orders.{AreListed, AreLevels, IsSortedOrder, placed_cmp, AreRanks, IsRenamed, IsGateRenamed, AreGatesRenamed, AreRenamed}
+use Rattle.net_core.specs.Orders.{AreListed, AreLevels, IsSortedOrder, placed_cmp}
 
 abbrev IsListedAs : Circuit → ℕ → Placed → Type 0
 IsListedAs circuit k entry = (entry.position ≡ k) × HasLevel circuit (signal_at circuit k) entry.level
@@ -98,8 +100,7 @@ IsEntry circuit entry = (entry.position < length circuit.defs) × HasLevel circu
 
 pub IsLevelOrder-sorted : (circuit : Circuit) (placed : List Placed) (order : List ℕ) → AreLevels circuit placed → IsSortedOrder placed order → IsLevelOrder circuit order
 IsLevelOrder-sorted circuit placed order levels is = record {
-  entries = len ∙ levels.entries;
-  in_range = λ k d h. omega (arith, (listed k d h).0, (listed k d h).1);
+  each_once = subst (IsPermutation (range_with_len 0 (length circuit.defs))) (sym is.positions) (subst (λ xs. IsPermutation xs (map (λ (entry : Placed). entry.position) is.sorted)) in_text (IsPermutation-map (λ (entry : Placed). entry.position) placed is.sorted is.permutation));
   ascending = λ i j d less h l m one other.
       let default : Placed = record { level = 0; position = d } in
       let first = listed i d (omega arith) in
@@ -116,8 +117,13 @@ IsLevelOrder-sorted circuit placed order levels is = record {
     len_sorted : length order ≡ length is.sorted
     len_sorted = ap length is.positions ∙ length-map is.sorted (λ (entry : Placed). entry.position)
 
-    len : length order ≡ length placed
-    len = len_sorted ∙ length_permutation placed is.sorted is.permutation
+    in_text : map (λ (entry : Placed). entry.position) placed ≡ range_with_len 0 (length circuit.defs)
+    in_text =
+        let len = length-map placed (λ (entry : Placed). entry.position) in
+        ext_get_or 0 (map (λ (entry : Placed). entry.position) placed) (range_with_len 0 (length circuit.defs)) (omega (arith, len, levels.entries, length-range_with_len 0 (length circuit.defs))) (λ k h. let default : Placed = record { level = 0; position = 0 } in
+        let k_in : k < length placed = omega (arith, len) in
+        let k_def : k < length circuit.defs = omega (arith, levels.entries) in
+        omega (arith, get_or-map (λ (entry : Placed). entry.position) placed k default 0 k_in, (levels.listed k default k_def).0, get_or-range_with_len 0 (length circuit.defs) k 0 k_def))
 
     entries : All (IsEntry circuit) placed
     entries k entry h =
@@ -132,57 +138,9 @@ IsLevelOrder-sorted circuit placed order levels is = record {
         let entry = All-permutation (IsEntry circuit) placed is.sorted is.permutation entries k default within in
         (at, entry.0, subst (λ n. HasLevel circuit (signal_at circuit n) (get_or is.sorted k default).level) (sym at) entry.1)
 
--- one more output, or gate
-pub AreRenamed-push : (circuit : Circuit) (ranks : List ℕ) (olds news : List Lit) (i : ℕ) (d other : Lit) → i < length olds → length news ≡ i → IsRenamed circuit ranks (get_or olds i d) other → ((k : ℕ) (old new : Lit) → k < i → IsRenamed circuit ranks (get_or olds k old) (get_or news k new)) → (k : ℕ) (old new : Lit) → k < i + 1 → IsRenamed circuit ranks (get_or olds k old) (get_or (news ++ other ∷ []) k new)
-AreRenamed-push circuit ranks olds news i d other h len renamed before k old new l =
-    elim (cases_lt k i) [
-      | inl less ↦
-          let same = get_or_append_left news (other ∷ []) new k (omega (arith, len)) in
-          subst (IsRenamed circuit ranks (get_or olds k old)) (sym same) (before k old new less)
-      | inr past ↦
-          let e : i ≡ k = omega arith in
-          let same = get_or_push news other new k (len ∙ e) in
-          let is : get_or olds i d ≡ get_or olds k old = get_or_default olds i d old h ∙ ap (λ n. get_or olds n old) e in
-          subst (IsRenamed circuit ranks (get_or olds k old)) (sym same) (subst (λ x. IsRenamed circuit ranks x other) is renamed)
-    ]
-
-pub StandsFor-renamed : (circuit : Circuit) (order ranks : List ℕ) (old new : Lit) → AreRanks order ranks → IsRenamed circuit ranks old new → StandsFor circuit order old new
-StandsFor-renamed circuit order ranks old new are renamed = record {
-  sign = renamed.sign;
-  signal = (renamed.kept, λ k d h at. renamed.ranked (get_or order k d) at ∙ ap (signal_at circuit) (ap (λ n. get_or ranks n 0) (get_or_default order k d 0 h) ∙ are.at k h));
-}
-
--- the renamed AND stands for the definition
-pub IsGateOf-renamed : (circuit : Circuit) (order ranks : List ℕ) (def : Def) (gate : Gate) → AreRanks order ranks → IsGateRenamed circuit ranks def gate → IsGateOf circuit order def gate
-IsGateOf-renamed circuit order ranks (And a b) gate are renamed =
-    (StandsFor-renamed circuit order ranks a gate.a are renamed.0, StandsFor-renamed circuit order ranks b gate.b are renamed.1)
-
-pub IsOrderOf-renamed : (circuit : Circuit) (order ranks : List ℕ) (gates : List Gate) (outputs : List Lit) → IsLevelOrder circuit order → AreRanks order ranks → AreGatesRenamed circuit ranks order gates → AreRenamed circuit ranks circuit.outputs outputs → IsOrderOf circuit (record { inputs = circuit.inputs; gates = gates; outputs = outputs })
-IsOrderOf-renamed circuit order ranks gates outputs is are all_gates all_outputs = record {
-  order = order;
-  is_order = is;
-  same_inputs = refl;
-  count = all_gates.entries;
-  gates = λ k i gate def h. IsGateOf-renamed circuit order ranks (get_or circuit.defs (get_or order k i) def) (get_or gates k gate) are (subst (λ d. IsGateRenamed circuit ranks (get_or circuit.defs d def) (get_or gates k gate)) (get_or_default order k 0 i h) (all_gates.renamed k gate h def));
-  same_outputs = all_outputs.entries;
-  outputs = λ k old new h. StandsFor-renamed circuit order ranks (get_or circuit.outputs k old) (get_or outputs k new) are (all_outputs.renamed k old new h);
-}
-
 -- what a search that failed says of the whole
 pub cycle_from_fault : (circuit : Circuit) (fault : OrderFault) (d : ℕ) → IsFaultOf circuit fault → fault ≡ Cycle d → IsFirstLooped circuit d
 cycle_from_fault circuit fault d is same = subst (IsFaultOf circuit) same is
 
-pub too_many_from_fault : (circuit : Circuit) (fault : OrderFault) → IsFaultOf circuit fault → fault ≡ TooManyGates → IsAcyclic circuit × (1000000 < length circuit.defs)
+pub too_many_from_fault : (circuit : Circuit) (fault : OrderFault) → IsFaultOf circuit fault → fault ≡ TooManyGates → IsAcyclic circuit × (1000000 < gates_in circuit)
 too_many_from_fault circuit fault is same = subst (IsFaultOf circuit) same is
-
--- the parts make the ordered netlist
-pub IsOrderOf-parts : (circuit : Circuit) (inputs : ℕ) (order ranks first second : List ℕ) (gates : List Gate) (outputs : List Lit) → inputs ≡ circuit.inputs → first ≡ ranks → second ≡ ranks → IsLevelOrder circuit order → AreRanks order ranks → AreGatesRenamed circuit first order gates → AreRenamed circuit second circuit.outputs outputs → IsOrderOf circuit (record { inputs = inputs; gates = gates; outputs = outputs })
-IsOrderOf-parts circuit inputs order ranks first second gates outputs same one other is are all_gates all_outputs =
-    subst (λ n. IsOrderOf circuit (record { inputs = n; gates = gates; outputs = outputs })) (sym same) (IsOrderOf-renamed circuit order ranks gates outputs is are (subst (λ r. AreGatesRenamed circuit r order gates) one all_gates) (subst (λ r. AreRenamed circuit r circuit.outputs outputs) other all_outputs))
-
-pub IsGraph-in_order : (circuit : Circuit) (net : Net) → IsPlainNet circuit → IsAcyclic circuit → IsOrderOf circuit net → IsGraph net
-IsGraph-in_order circuit net plain acyclic is = record {
-  ordered = IsOrderOf-ordered circuit net acyclic plain.closed is;
-  signals = omega (arith, plain.signals, is.same_inputs, is.count, is.is_order.entries);
-  outputs = omega (arith, plain.outputs, is.same_outputs);
-}

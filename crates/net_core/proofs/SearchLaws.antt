@@ -1,20 +1,20 @@
 -- That each step of the search keeps what is known, and that a loop is one.
-use Rattle.std.proofs.Common.{ℕ, suc, ◌+◌, ◌-◌, ◌*◌, ◌<◌, ◌≤◌, ◌≡◌, ◌≢◌, ◌⊎◌, max, cond, List, [], ◌∷◌, ◌++◌, length, get_or, set, take, replicate, Contains, refl, sym, ap, subst, ◌∙◌, inl, inr, arith}
+use Rattle.std.proofs.Common.{ℕ, suc, ◌+◌, ◌-◌, ◌*◌, ◌<◌, ◌≤◌, ◌≡◌, ◌≢◌, ◌⊎◌, max, cond, List, [], ◌∷◌, ◌++◌, length, get_or, map, set, take, replicate, All, Contains, refl, sym, ap, subst, ◌∙◌, inl, inr, arith}
+use Rattle.std.proofs.Math.Seq.{map-set_same, take-suc}
 use Rattle.std.proofs.lemmas.Bool.{cases_eq, cases_lt}
-use Rattle.std.proofs.lemmas.List.{get_or_default, get_or-set_same, get_or-set_other, get_or_append_left, get_or_push, get_or-take, get_or-replicate, get_or_past, length_push, length-set, length-take-le, length-replicate}
-use Rattle.std.proofs.lemmas.List.Elements.{All-push, All-take, Contains-push, Contains-append_left}
+use Rattle.std.proofs.lemmas.List.{get_or_default, get_or-set_same, get_or-set_other, get_or_append_left, get_or_push, get_or-take, get_or-map, get_or-replicate, get_or_past, length_push, length-map, length-set, length-take-le, length-replicate, map-append, take-map, take_all}
+use Rattle.std.proofs.lemmas.List.Elements.{All-push, All-set, All-take, Contains-push, Contains-append_left}
 use Rattle.std.proofs.lemmas.List.Sums.{sum_by-set, count_by-le-length}
-use Rattle.circuits.specs.declared.netlist.Lit.{Lit}
-use Rattle.circuits.specs.Literals.{signal_of}
-use Rattle.circuits.specs.Circuits.{Circuit, IsAndAt, signal_at}
-use Rattle.circuits.specs.Levels.{HasLevel, HasNoLevel, Names}
-use Rattle.circuits.proofs.LevelLaws.{no_level, HasLevel-and}
+use Rattle.circuits.specs.Circuits.{Circuit, names_of, signal_at}
+use Rattle.circuits.specs.Levels.{HasLevel, HaveLevel, HasNoLevel, Names}
+use Rattle.circuits.proofs.LevelLaws.{no_level, HasLevel-above, HaveLevel-none, HaveLevel-more}
+use Rattle.net_core.specs.declared.levels.Frame.{Frame}
 use Rattle.net_core.specs.declared.levels.Visit.{Visit}
 use Rattle.net_core.specs.declared.levels.Visit.TheVariants.{New, Open, Level}
 use Rattle.net_core.specs.declared.levels.Step.TheVariants.{Enter, Close, Loop}
 use Rattle.net_core.specs.declared.order_fault.OrderFault.{OrderFault}
 use Rattle.net_core.specs.declared.order_fault.OrderFault.TheVariants.{Cycle, TooManyGates, Memory}
-use Rattle.net_core.specs.Search.{visit_of, is_new, left, IsFound, Knows, AreMet, IsPath, IsUnderWay, IsReady, IsAt, IsStep, IsFaultAt, IsFaultOf}
+use Rattle.net_core.specs.Search.{visit_of, is_new, left, positions, IsFound, IsLooked, Knows, AreMet, IsPath, IsUnderWay, IsReady, IsAt, IsStep, IsFaultAt, IsFaultOf}
 
 abbrev pub weight : Visit → ℕ
 weight v = cond (is_new v) 1 0
@@ -171,39 +171,127 @@ pub seen_level : (circuit : Circuit) (visits : List Visit) (stack : List ℕ) (s
 seen_level circuit visits stack s k level visit h at is same knows =
     subst (λ u. IsFound circuit (left visits stack) u level) (sym same) (knows.levels k level (get_or_default visits k New visit h ∙ (sym at ∙ is)))
 
--- what is to be done where an operand was new, is on the stack, or where both have levels
-pub step_enter : (circuit : Circuit) (visits : List Visit) (stack : List ℕ) (d e s : ℕ) → Names circuit (signal_at circuit d) s → IsAt circuit visits New s e → IsStep circuit visits stack d (Enter e)
-step_enter circuit visits stack d e s names at =
-    (at.there, at.is, subst (Names circuit (signal_at circuit d)) at.at names)
+-- the definition at a place of its names
+pub Names-at : (circuit : Circuit) (d k s : ℕ) → d < length circuit.defs → k < length (names_of circuit d) → s ≡ get_or (names_of circuit d) k s → Names circuit (signal_at circuit d) s
+Names-at circuit d k s h k_in same = record { place = d; there = h; at = refl; named = (k, k_in, sym same) }
+
+-- what is to be done where a name was new, is on the stack, or where all names have levels
+pub step_enter : (circuit : Circuit) (visits : List Visit) (stack : List ℕ) (d e s : ℕ) (looked : Frame) → Names circuit (signal_at circuit d) s → IsAt circuit visits New s e → IsLooked circuit (left visits stack) looked → looked.position ≡ d → IsStep circuit visits stack d (Enter e looked)
+step_enter circuit visits stack d e s looked names at is same =
+    (at.there, at.is, subst (Names circuit (signal_at circuit d)) at.at names, is, same)
 
 pub step_loop : (circuit : Circuit) (visits : List Visit) (stack : List ℕ) (d s : ℕ) → Names circuit (signal_at circuit d) s → ((e : ℕ) × IsAt circuit visits Open s e) → IsStep circuit visits stack d Loop
 step_loop circuit visits stack d s names seen =
     (seen.0, seen.1.is, subst (Names circuit (signal_at circuit d)) seen.1.at names)
 
-pub step_close : (circuit : Circuit) (visits : List Visit) (stack : List ℕ) (d l m level : ℕ) (a b : Lit) → level ≡ max l m + 1 → IsAndAt circuit d a b → IsFound circuit (left visits stack) (signal_of a) l → IsFound circuit (left visits stack) (signal_of b) m → IsStep circuit visits stack d (Close level)
-step_close circuit visits stack d l m level a b is def first second =
-    let e : suc (max l m) ≡ level = omega (arith, is) in
-    (subst (HasLevel circuit (signal_at circuit d)) e (HasLevel-and circuit d l m a b def first.has second.has), omega (arith, first.few, second.few, is))
+pub step_close : (circuit : Circuit) (visits : List Visit) (stack : List ℕ) (d n highest level : ℕ) → level ≡ highest + 1 → d < length circuit.defs → length (names_of circuit d) ≤ n → HaveLevel circuit (take n (names_of circuit d)) highest → highest + left visits stack ≤ 2 * length circuit.defs → IsStep circuit visits stack d (Close level)
+step_close circuit visits stack d n highest level is h past have few =
+    let e : suc highest ≡ level = omega (arith, is) in
+    let all = subst (λ xs. HaveLevel circuit xs highest) (take_all n (names_of circuit d) past) have in
+    (subst (HasLevel circuit (signal_at circuit d)) e (HasLevel-above circuit d highest h all), omega (arith, few, is))
 
-pub IsUnderWay-enter : (circuit : Circuit) (root : ℕ) (visits : List Visit) (stack : List ℕ) (d e : ℕ) → 0 < length stack → d ≡ get_or stack (length stack - 1) d → IsStep circuit visits stack d (Enter e) → IsUnderWay circuit root visits stack → IsUnderWay circuit root (set visits e Open) (stack ++ e ∷ [])
-IsUnderWay-enter circuit root visits stack d e more top step way =
-    let h : e < length visits = omega (arith, step.0, way.knows.entries) in
-    record {
-      knows = Knows-enter circuit visits stack e h step.1 way.knows;
-      path = IsPath-enter circuit root stack d e more top step.0 step.2 way.path;
-      met = AreMet-set visits (root + 1) e Open h (λ is. cc) way.met;
-    }
+-- one name more was looked at
+pub HaveLevel-next : (circuit : Circuit) (d n s l m : ℕ) → n < length (names_of circuit d) → s ≡ get_or (names_of circuit d) n s → HaveLevel circuit (take n (names_of circuit d)) l → HasLevel circuit s m → HaveLevel circuit (take (n + 1) (names_of circuit d)) (max l m)
+HaveLevel-next circuit d n s l m h same have has =
+    let next : suc n ≡ n + 1 = omega arith in
+    let more = take-suc (names_of circuit d) n s h ∙ ap (λ u. take n (names_of circuit d) ++ u ∷ []) (sym same) in
+    subst (λ k. HaveLevel circuit (take k (names_of circuit d)) (max l m)) next (subst (λ xs. HaveLevel circuit xs (max l m)) (sym more) (HaveLevel-more circuit (take n (names_of circuit d)) s l m have has))
 
-pub IsUnderWay-close : (circuit : Circuit) (root : ℕ) (visits : List Visit) (stack : List ℕ) (d level : ℕ) → d < length visits → 0 < length stack → d ≡ get_or stack (length stack - 1) d → IsStep circuit visits stack d (Close level) → IsUnderWay circuit root visits stack → IsUnderWay circuit root (set visits d (Level level)) (take (length stack - 1) stack)
-IsUnderWay-close circuit root visits stack d level h more top step way = record {
-  knows = Knows-close circuit visits stack d level h more top step.0 step.1 way.knows;
-  path = IsPath-take circuit root (length stack - 1) stack (omega arith) way.path;
-  met = AreMet-set visits (root + 1) d (Level level) h (λ is. cc) way.met;
+pub IsLooked-later : (circuit : Circuit) (before after : ℕ) (frame : Frame) → after ≤ before → IsLooked circuit before frame → IsLooked circuit after frame
+IsLooked-later circuit before after frame le is = record { within = is.within; have = is.have; few = omega (arith, is.few) }
+
+-- a definition that was not looked at yet
+abbrev pub fresh : ℕ → Frame
+fresh e = record { position = e; next = 0; highest = 0 }
+
+pub IsLooked-fresh : (circuit : Circuit) (steps e : ℕ) → steps ≤ 2 * length circuit.defs → IsLooked circuit steps (fresh e)
+IsLooked-fresh circuit steps e few = record { within = omega arith; have = HaveLevel-none circuit; few = omega arith }
+
+pub positions-push : (stack : List Frame) (frame : Frame) → positions (stack ++ frame ∷ []) ≡ positions stack ++ frame.position ∷ []
+positions-push stack frame = map-append (λ (f : Frame). f.position) stack (frame ∷ [])
+
+-- the position on top
+pub top-position : (stack : List Frame) (frame : Frame) → 0 < length stack → frame ≡ get_or stack (length stack - 1) frame → frame.position ≡ get_or (positions stack) (length (positions stack) - 1) frame.position
+top-position stack frame more top =
+    let len : length (positions stack) ≡ length stack = length-map stack (λ (f : Frame). f.position) in
+    let at = get_or-map (λ (f : Frame). f.position) stack (length stack - 1) frame frame.position (omega arith) in
+    ap (λ (f : Frame). f.position) top ∙ (sym at ∙ ap (λ n. get_or (positions stack) (n - 1) frame.position) (sym len))
+
+pub positions-set_top : (stack : List Frame) (i : ℕ) (frame looked : Frame) → frame ≡ get_or stack i frame → looked.position ≡ frame.position → positions (set stack i looked) ≡ positions stack
+positions-set_top stack i frame looked top same =
+    map-set_same (λ (f : Frame). f.position) stack i looked frame (same ∙ ap (λ (f : Frame). f.position) top)
+
+pub IsUnderWay-enter : (circuit : Circuit) (root : ℕ) (visits : List Visit) (stack : List Frame) (frame looked : Frame) (e : ℕ) → 0 < length stack → frame ≡ get_or stack (length stack - 1) frame → IsStep circuit visits (positions stack) frame.position (Enter e looked) → IsUnderWay circuit root visits stack → IsUnderWay circuit root (set visits e Open) (set stack (length stack - 1) looked ++ fresh e ∷ [])
+IsUnderWay-enter circuit root visits stack frame looked e more top step way = record {
+  knows = subst (Knows circuit (set visits e Open)) (sym same) (Knows-enter circuit visits (positions stack) e h step.1 way.knows);
+  path = subst (IsPath circuit root) (sym same) (IsPath-enter circuit root (positions stack) frame.position e (omega (arith, length-map stack (λ (f : Frame). f.position))) (top-position stack frame more top) step.0 step.2 way.path);
+  looked = All-push (IsLooked circuit steps) (set stack (length stack - 1) looked) (fresh e) (All-set (IsLooked circuit steps) stack (length stack - 1) looked (later looked step.3) (λ k f l. later (get_or stack k f) (way.looked k f l))) (IsLooked-fresh circuit steps e (omega (arith, less, way.knows.room)));
+  met = AreMet-set visits (root + 1) e Open h (λ is. cc) way.met;
 }
+  where
+    h : e < length visits
+    h = omega (arith, step.0, way.knows.entries)
 
-pub IsUnderWay-loop : (circuit : Circuit) (root : ℕ) (visits : List Visit) (stack : List ℕ) (d : ℕ) → 0 < length stack → d ≡ get_or stack (length stack - 1) d → IsStep circuit visits stack d Loop → IsUnderWay circuit root visits stack → HasNoLevel circuit (signal_at circuit root)
-IsUnderWay-loop circuit root visits stack d more top step way =
-    no_level-stack circuit root stack d step.0 more top (way.knows.opens step.0 step.1) step.2 way.path
+    same : positions (set stack (length stack - 1) looked ++ fresh e ∷ []) ≡ positions stack ++ e ∷ []
+    same =
+        positions-push (set stack (length stack - 1) looked) (fresh e) ∙ ap (λ xs. xs ++ e ∷ []) (positions-set_top stack (length stack - 1) frame looked top step.4)
+
+    steps : ℕ
+    steps = left (set visits e Open) (positions (set stack (length stack - 1) looked ++ fresh e ∷ []))
+
+    less : left (set visits e Open) (positions (set stack (length stack - 1) looked ++ fresh e ∷ [])) + 1 ≡ left visits (positions stack)
+    less =
+        ap (λ xs. left (set visits e Open) xs + 1) same ∙ left-enter visits (positions stack) e h step.1
+
+    later : (f : Frame) → IsLooked circuit (left visits (positions stack)) f → IsLooked circuit (left (set visits e Open) (positions (set stack (length stack - 1) looked ++ fresh e ∷ []))) f
+    later f is =
+        IsLooked-later circuit (left visits (positions stack)) (left (set visits e Open) (positions (set stack (length stack - 1) looked ++ fresh e ∷ []))) f (omega (arith, less)) is
+
+-- what is left where one was entered
+pub left-entered : (circuit : Circuit) (root : ℕ) (visits : List Visit) (stack : List Frame) (frame looked : Frame) (e : ℕ) → frame ≡ get_or stack (length stack - 1) frame → IsStep circuit visits (positions stack) frame.position (Enter e looked) → IsUnderWay circuit root visits stack → left (set visits e Open) (positions (set stack (length stack - 1) looked ++ fresh e ∷ [])) < left visits (positions stack)
+left-entered circuit root visits stack frame looked e top step way =
+    let h : e < length visits = omega (arith, step.0, way.knows.entries) in
+    let same = positions-push (set stack (length stack - 1) looked) (fresh e) ∙ ap (λ xs. xs ++ e ∷ []) (positions-set_top stack (length stack - 1) frame looked top step.4) in
+    omega (arith, ap (λ xs. left (set visits e Open) xs) same, left-enter visits (positions stack) e h step.1)
+
+pub positions-take : (stack : List Frame) (n : ℕ) → positions (take n stack) ≡ take n (positions stack)
+positions-take stack n = sym (take-map (λ (f : Frame). f.position) n stack)
+
+pub positions-pop : (stack : List Frame) → positions (take (length stack - 1) stack) ≡ take (length (positions stack) - 1) (positions stack)
+positions-pop stack =
+    positions-take stack (length stack - 1) ∙ ap (λ n. take (n - 1) (positions stack)) (sym (length-map stack (λ (f : Frame). f.position)))
+
+pub left-closed : (visits : List Visit) (stack : List Frame) (d level : ℕ) → d < length visits → 0 < length stack → left (set visits d (Level level)) (positions (take (length stack - 1) stack)) < left visits (positions stack)
+left-closed visits stack d level h more =
+    let shorter : length (positions (take (length stack - 1) stack)) + 1 ≡ length (positions stack) = omega (arith, length-map (take (length stack - 1) stack) (λ (f : Frame). f.position), length-map stack (λ (f : Frame). f.position), length-take-le (length stack - 1) stack (omega arith)) in
+    omega (arith, left-close visits (positions stack) (positions (take (length stack - 1) stack)) d level h shorter)
+
+pub IsUnderWay-close : (circuit : Circuit) (root : ℕ) (visits : List Visit) (stack : List Frame) (frame : Frame) (level : ℕ) → frame.position < length visits → 0 < length stack → frame ≡ get_or stack (length stack - 1) frame → IsStep circuit visits (positions stack) frame.position (Close level) → IsUnderWay circuit root visits stack → IsUnderWay circuit root (set visits frame.position (Level level)) (take (length stack - 1) stack)
+IsUnderWay-close circuit root visits stack frame level h more top step way = record {
+  knows = subst (Knows circuit (set visits frame.position (Level level))) (sym same) (Knows-close circuit visits (positions stack) frame.position level h (omega (arith, len)) (top-position stack frame more top) step.0 step.1 way.knows);
+  path = subst (IsPath circuit root) (sym same) (IsPath-take circuit root (length (positions stack) - 1) (positions stack) (omega arith) way.path);
+  looked = All-take (IsLooked circuit (left (set visits frame.position (Level level)) (positions (take (length stack - 1) stack)))) (length stack - 1) stack (λ k f l. IsLooked-later circuit (left visits (positions stack)) (left (set visits frame.position (Level level)) (positions (take (length stack - 1) stack))) (get_or stack k f) (omega (arith, left-closed visits stack frame.position level h more)) (way.looked k f l));
+  met = AreMet-set visits (root + 1) frame.position (Level level) h (λ is. cc) way.met;
+}
+  where
+    len : length (positions stack) ≡ length stack
+    len = length-map stack (λ (f : Frame). f.position)
+
+    same : positions (take (length stack - 1) stack) ≡ take (length (positions stack) - 1) (positions stack)
+    same = positions-pop stack
+
+pub IsUnderWay-loop : (circuit : Circuit) (root : ℕ) (visits : List Visit) (stack : List Frame) (frame : Frame) → 0 < length stack → frame ≡ get_or stack (length stack - 1) frame → IsStep circuit visits (positions stack) frame.position Loop → IsUnderWay circuit root visits stack → HasNoLevel circuit (signal_at circuit root)
+IsUnderWay-loop circuit root visits stack frame more top step way =
+    no_level-stack circuit root (positions stack) frame.position step.0 (omega (arith, length-map stack (λ (f : Frame). f.position))) (top-position stack frame more top) (way.knows.opens step.0 step.1) step.2 way.path
+
+-- the definition on top is one of the netlist
+pub top-there : (circuit : Circuit) (root : ℕ) (visits : List Visit) (stack : List Frame) (frame : Frame) → 0 < length stack → frame ≡ get_or stack (length stack - 1) frame → IsUnderWay circuit root visits stack → frame.position < length circuit.defs
+top-there circuit root visits stack frame more top way =
+    omega (arith, top-position stack frame more top, way.path.there (length (positions stack) - 1) frame.position (omega (arith, length-map stack (λ (f : Frame). f.position))))
+
+pub top-looked : (circuit : Circuit) (root : ℕ) (visits : List Visit) (stack : List Frame) (frame : Frame) → 0 < length stack → frame ≡ get_or stack (length stack - 1) frame → IsUnderWay circuit root visits stack → IsLooked circuit (left visits (positions stack)) frame
+top-looked circuit root visits stack frame more top way =
+    subst (IsLooked circuit (left visits (positions stack))) (sym top) (way.looked (length stack - 1) frame (omega arith))
 
 -- a search begins at a root that was new, and ends with an empty stack
 pub AreMet-more : (visits : List Visit) (count : ℕ) → visit_of visits count ≢ New → AreMet count visits → AreMet (count + 1) visits
@@ -213,23 +301,36 @@ AreMet-more visits count here before k l =
       | inr same ↦ let e : count ≡ k = omega arith in subst (λ n. visit_of visits n ≢ New) e here
     ]
 
-pub nil-from_length : (xs : List ℕ) → length xs ≡ 0 → xs ≡ []
+pub nil-from_length : (xs : List Frame) → length xs ≡ 0 → xs ≡ []
 nil-from_length [] h = refl
 nil-from_length (x ∷ xs) h = absurd (omega arith)
 
-pub IsUnderWay-start : (circuit : Circuit) (root : ℕ) (visits : List Visit) (stack : List ℕ) → root < length circuit.defs → visit_of visits root ≡ New → IsReady circuit root visits stack → IsUnderWay circuit root (set visits root Open) (stack ++ root ∷ [])
+pub IsUnderWay-start : (circuit : Circuit) (root : ℕ) (visits : List Visit) (stack : List Frame) → root < length circuit.defs → visit_of visits root ≡ New → IsReady circuit root visits stack → IsUnderWay circuit root (set visits root Open) (stack ++ fresh root ∷ [])
 IsUnderWay-start circuit root visits stack h new ready =
-    let there : root < length visits = omega (arith, h, ready.knows.entries) in
-    record {
-      knows = Knows-enter circuit visits stack root there new ready.knows;
-      path = subst (λ xs. IsPath circuit root (xs ++ root ∷ [])) (sym (nil-from_length stack ready.no_stack)) (IsPath-start circuit root h);
-      met = AreMet-more (set visits root Open) root (λ is. met (sym (get_or-set_same visits root Open New there) ∙ is)) (AreMet-set visits root root Open there met ready.met);
-    }
+    subst (λ xs. IsUnderWay circuit root (set visits root Open) (xs ++ fresh root ∷ [])) (sym none) start
   where
+    none : stack ≡ []
+    none = nil-from_length stack ready.no_stack
+
+    there : root < length visits
+    there = omega (arith, h, ready.knows.entries)
+
+    knows : Knows circuit (set visits root Open) (root ∷ [])
+    knows =
+        Knows-enter circuit visits [] root there new (subst (λ (xs : List Frame). Knows circuit visits (positions xs)) none ready.knows)
+
     met : Open ≢ New
     met is = cc
 
-pub IsReady-end : (circuit : Circuit) (root : ℕ) (visits : List Visit) (stack : List ℕ) → length stack ≡ 0 → IsUnderWay circuit root visits stack → IsReady circuit (root + 1) visits stack
+    start : IsUnderWay circuit root (set visits root Open) (fresh root ∷ [])
+    start = record {
+      knows = knows;
+      path = IsPath-start circuit root h;
+      looked = All-push (IsLooked circuit (left (set visits root Open) (root ∷ []))) [] (fresh root) (λ k d l. absurd (omega arith)) (IsLooked-fresh circuit (left (set visits root Open) (root ∷ [])) root knows.room);
+      met = AreMet-more (set visits root Open) root (λ is. met (sym (get_or-set_same visits root Open New there) ∙ is)) (AreMet-set visits root root Open there met ready.met);
+    }
+
+pub IsReady-end : (circuit : Circuit) (root : ℕ) (visits : List Visit) (stack : List Frame) → length stack ≡ 0 → IsUnderWay circuit root visits stack → IsReady circuit (root + 1) visits stack
 IsReady-end circuit root visits stack none way = record {
   knows = way.knows;
   no_stack = none;
@@ -242,16 +343,16 @@ visit_cases Open = inr (inl refl)
 visit_cases (Level level) = inr (inr (level, refl))
 
 -- between two searches each definition that was met has its level
-pub level_found : (circuit : Circuit) (count : ℕ) (visits : List Visit) (stack : List ℕ) (k : ℕ) → IsReady circuit count visits stack → k < count → (level : ℕ) × (visit_of visits k ≡ Level level) × HasLevel circuit (signal_at circuit k) level
+pub level_found : (circuit : Circuit) (count : ℕ) (visits : List Visit) (stack : List Frame) (k : ℕ) → IsReady circuit count visits stack → k < count → (level : ℕ) × (visit_of visits k ≡ Level level) × HasLevel circuit (signal_at circuit k) level
 level_found circuit count visits stack k ready h =
     elim (visit_cases (visit_of visits k)) [
       | inl new ↦ absurd (ready.met k h new)
-      | inr (inl open_one) ↦ let has = ready.knows.opens k open_one in absurd (omega (arith, has.1, ready.no_stack))
+      | inr (inl open_one) ↦ let has = ready.knows.opens k open_one in absurd (omega (arith, has.1, ready.no_stack, length-map stack (λ (f : Frame). f.position)))
       | inr (inr found) ↦ (found.0, found.1, (ready.knows.levels k found.0 found.1).has)
     ]
 
 -- a loop that the search from a root finds makes that root the first without a level
-pub fault_at_root : (circuit : Circuit) (root : ℕ) (visits : List Visit) (stack : List ℕ) (fault : OrderFault) → root < length circuit.defs → IsReady circuit root visits stack → IsFaultAt circuit root fault → IsFaultOf circuit fault
+pub fault_at_root : (circuit : Circuit) (root : ℕ) (visits : List Visit) (stack : List Frame) (fault : OrderFault) → root < length circuit.defs → IsReady circuit root visits stack → IsFaultAt circuit root fault → IsFaultOf circuit fault
 fault_at_root circuit root visits stack (Cycle d) h ready at = record {
   there = omega (arith, at.0, h);
   looped = subst (λ n. HasNoLevel circuit (signal_at circuit n)) (sym at.0) at.1;
@@ -267,7 +368,7 @@ get_or-all_new n k =
       | inr past ↦ get_or_past (replicate n New) k New (omega (arith, length-replicate n New))
     ]
 
-pub IsReady-start : (circuit : Circuit) (visits : List Visit) (stack : List ℕ) → visits ≡ replicate (length circuit.defs) New → stack ≡ [] → IsReady circuit 0 visits stack
+pub IsReady-start : (circuit : Circuit) (visits : List Visit) (stack : List Frame) → visits ≡ replicate (length circuit.defs) New → stack ≡ [] → IsReady circuit 0 visits stack
 IsReady-start circuit visits stack all none =
     subst (λ xs. IsReady circuit 0 visits xs) (sym none) (subst (λ vs. IsReady circuit 0 vs []) (sym all) start)
   where

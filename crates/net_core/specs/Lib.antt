@@ -3,9 +3,12 @@ pub mod Kinds
 pub mod PlainNets
 pub mod Search
 pub mod Orders
+pub mod Rows
+pub mod Sides
 pub use Rattle.circuits.specs.Literals
 pub use Rattle.circuits.specs.Netlists
 pub use Rattle.circuits.specs.Bijections
 pub use Rattle.circuits.specs.Matches
 pub use Rattle.circuits.specs.Circuits
+pub use Rattle.circuits.specs.Expansion
 pub use Rattle.circuits.specs.Levels

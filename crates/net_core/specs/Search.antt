@@ -1,7 +1,9 @@
 -- What a depth-first search for levels knows while it is under way (depth-first search with a stack, as in textbooks).
-use Rattle.std.specs.Prelude.{ℕ, suc, ◌+◌, ◌*◌, ◌<◌, ◌≤◌, ◌≡◌, ◌≢◌, Bool, true, false, List, length, All, Contains, count_by, slice_index_or}
-use Rattle.circuits.specs.Circuits.{Circuit, signal_at}
-use Rattle.circuits.specs.Levels.{HasLevel, HasNoLevel, IsAcyclic, IsFirstLooped, Names}
+use Rattle.std.specs.Prelude.{ℕ, suc, ◌+◌, ◌*◌, ◌<◌, ◌≤◌, ◌≡◌, ◌≢◌, Bool, true, false, List, length, map, take, All, Contains, count_by, slice_index_or}
+use Rattle.circuits.specs.Circuits.{Circuit, names_of, signal_at}
+use Rattle.circuits.specs.Expansion.{gates_in}
+use Rattle.circuits.specs.Levels.{HasLevel, HaveLevel, HasNoLevel, IsAcyclic, IsFirstLooped, Names}
+use Rattle.net_core.specs.declared.levels.Frame.{Frame}
 use Rattle.net_core.specs.declared.levels.Visit.{Visit}
 use Rattle.net_core.specs.declared.levels.Visit.TheVariants.{New, Open, Level}
 use Rattle.net_core.specs.declared.levels.Seen.{Seen}
@@ -19,6 +21,10 @@ is_new New = true
 is_new Open = false
 is_new (Level level) = false
 
+-- the definitions on the stack
+abbrev pub positions : List Frame → List ℕ
+positions stack = map (λ frame. frame.position) stack
+
 -- how much is left to do: each definition that is new is entered and left, each one on the stack is left
 abbrev pub left : List Visit → List ℕ → ℕ
 left visits stack = 2 * count_by is_new visits + length stack
@@ -27,6 +33,13 @@ left visits stack = 2 * count_by is_new visits + length stack
 pub record IsFound (circuit : Circuit) (steps d level : ℕ) : Type 0 where
   pub has : HasLevel circuit d level
   pub few : level + steps ≤ 2 * length circuit.defs
+
+-- The names of a definition on the stack before `next` were looked at: `highest` is the greatest of their levels, and no
+-- more steps were taken than it says.
+pub record IsLooked (circuit : Circuit) (steps : ℕ) (frame : Frame) : Type 0 where
+  pub within : frame.next ≤ length (names_of circuit frame.position)
+  pub have : HaveLevel circuit (take frame.next (names_of circuit frame.position)) frame.highest
+  pub few : frame.highest + steps ≤ 2 * length circuit.defs
 
 -- what is known of the definitions
 pub record Knows (circuit : Circuit) (visits : List Visit) (stack : List ℕ) : Type 0 where
@@ -45,14 +58,15 @@ pub record IsPath (circuit : Circuit) (root : ℕ) (stack : List ℕ) : Type 0 w
   pub bottom : (d : ℕ) → 0 < length stack → slice_index_or stack 0 d ≡ root
   pub steps : (j d : ℕ) → suc j < length stack → Names circuit (signal_at circuit (slice_index_or stack j d)) (signal_at circuit (slice_index_or stack (suc j) d))
 
-pub record IsUnderWay (circuit : Circuit) (root : ℕ) (visits : List Visit) (stack : List ℕ) : Type 0 where
-  pub knows : Knows circuit visits stack
-  pub path : IsPath circuit root stack
+pub record IsUnderWay (circuit : Circuit) (root : ℕ) (visits : List Visit) (stack : List Frame) : Type 0 where
+  pub knows : Knows circuit visits (positions stack)
+  pub path : IsPath circuit root (positions stack)
+  pub looked : All (IsLooked circuit (left visits (positions stack))) stack
   pub met : AreMet (root + 1) visits
 
 -- no search is under way, and the first so many definitions were met
-pub record IsReady (circuit : Circuit) (count : ℕ) (visits : List Visit) (stack : List ℕ) : Type 0 where
-  pub knows : Knows circuit visits stack
+pub record IsReady (circuit : Circuit) (count : ℕ) (visits : List Visit) (stack : List Frame) : Type 0 where
+  pub knows : Knows circuit visits (positions stack)
   pub no_stack : length stack ≡ 0
   pub met : AreMet count visits
 
@@ -72,16 +86,16 @@ IsSeen circuit visits stack s (Fresh e) = IsAt circuit visits New s e
 IsSeen circuit visits stack s Above = (e : ℕ) × IsAt circuit visits Open s e
 IsSeen circuit visits stack s (Below level) = IsFound circuit (left visits stack) s level
 
--- what is to be done at a definition
+-- what is to be done at a definition on the stack
 abbrev pub IsStep : Circuit → List Visit → List ℕ → ℕ → Step → Type 0
-IsStep circuit visits stack d (Enter e) = (e < length circuit.defs) × (visit_of visits e ≡ New) × Names circuit (signal_at circuit d) (signal_at circuit e)
+IsStep circuit visits stack d (Enter e looked) = (e < length circuit.defs) × (visit_of visits e ≡ New) × Names circuit (signal_at circuit d) (signal_at circuit e) × IsLooked circuit (left visits stack) looked × (looked.position ≡ d)
 IsStep circuit visits stack d Loop = (e : ℕ) × (visit_of visits e ≡ Open) × Names circuit (signal_at circuit d) (signal_at circuit e)
 IsStep circuit visits stack d (Close level) = HasLevel circuit (signal_at circuit d) level × (level + left visits stack ≤ 2 * length circuit.defs + 1)
 
 -- what each fault says
 abbrev pub IsFaultOf : Circuit → OrderFault → Type 0
 IsFaultOf circuit (Cycle d) = IsFirstLooped circuit d
-IsFaultOf circuit TooManyGates = IsAcyclic circuit × (1000000 < length circuit.defs)
+IsFaultOf circuit TooManyGates = IsAcyclic circuit × (1000000 < gates_in circuit)
 IsFaultOf circuit Memory = Unit {0}
 
 -- what a fault says while the search from a root goes on

@@ -1,12 +1,13 @@
 //! Graphs of AND gates, each of which stands behind its operands.
 
-ghost use Rattle.std.specs.Prelude.{◌≡◌, ◌+◌, ◌^◌, ◌<◌, ◌↔◌, All, IsTrue, IsSome, IfSome, false, ◌∷◌, length, take, vec_len};
+ghost use Rattle.std.specs.Prelude.{◌≡◌, ◌+◌, ◌^◌, ◌<◌, ◌↔◌, All, IsTrue, IsSome, IfOk, IfSome, false, ◌∷◌, length, take, vec_len};
 ghost use Rattle.circuits.specs.Literals.{literal_bit, signal_of};
 ghost use Rattle.circuits.specs.Netlists.{IsOrdered, signals_of, valuation_of, with_gates};
 ghost use Rattle.net_core.specs.Graph.{IsGraph, AreInOrder};
 
 use circuits::plain::{gate_bit, literal_bit};
 use circuits::{Gate, Lit};
+use std::alloc::{AllocError, Global};
 use std::marker::Model;
 
 /// A netlist of AND gates in order. Signal 0 is false, input i is signal i + 1, and gate t is signal
@@ -98,6 +99,20 @@ impl Graph {
         ensures graph { IsGraph self.now }
     {
         self.inputs as usize + 1 + self.gates.len()
+    }
+
+    /// An equal graph.
+    pub fn copy(&self, alloc: Global) -> Result<Graph, AllocError>
+        ensures copy { IfOk result (λ graph. graph ≡ self.now) }
+        ensures sound { IfOk result IsGraph }
+    {
+        let gates = Vec::from_slice(alloc, &self.gates)?;
+        let outputs = Vec::from_slice(alloc, &self.outputs)?;
+        Ok(Graph {
+            inputs: self.inputs,
+            gates,
+            outputs,
+        })
     }
 
     /// Gives each signal the bit that it has where the inputs have the bits of `vector`.

@@ -1,15 +1,12 @@
 //! The levels of a netlist's definitions, found by a depth-first search with a stack of its own.
 
 ghost use Rattle.std.specs.Prelude.{◌≡◌, ◌+◌, ◌-◌, ◌<◌, [], ◌∷◌, ◌++◌, length, take, vec_len, slice_set, IfOk, IfErr};
-ghost use Rattle.circuits.specs.Literals.{signal_of};
-ghost use Rattle.circuits.specs.Circuits.{IsAndAt, signals_in};
-ghost use Rattle.net_core.specs.PlainNets.{IsPlainNet};
-ghost use Rattle.net_core.specs.Search.{IsUnderWay, IsReady, Knows, IsSeen, IsStep, IsFaultAt, IsFaultOf, AreAllFound, left};
+ghost use Rattle.circuits.specs.Circuits.{signals_in};
+ghost use Rattle.net_core.specs.Search.{IsUnderWay, IsReady, IsLooked, Knows, IsSeen, IsStep, IsFaultAt, IsFaultOf, AreAllFound, left, positions};
 ghost use Rattle.net_core.specs.Orders.{AreLevels};
 
 use crate::order_fault::OrderFault;
 use crate::plain_net::PlainNet;
-use circuits::{Def, Lit};
 use std::alloc::{AllocError, Global};
 
 /// How far the search has come at a definition.
@@ -23,7 +20,17 @@ enum Visit {
     Level(u32),
 }
 
-/// What an operand is for the search.
+/// A definition on the stack, and how far it was looked at.
+#[derive(Clone, Copy, Debug, Drop, PartialEq, Eq)]
+struct Frame {
+    position: usize,
+    /// The first of its names that was not looked at.
+    next: usize,
+    /// The greatest level of the names before.
+    highest: u32,
+}
+
+/// What a name is for the search.
 enum Seen {
     /// Its level is known.
     Below(u32),
@@ -35,8 +42,8 @@ enum Seen {
 
 /// What is to be done next at a definition.
 enum Step {
-    /// To look at the definition at this position first.
-    Enter(usize),
+    /// To look at the definition at this place first, and to go on here where the frame says.
+    Enter { place: usize, looked: Frame },
     /// To leave the definition, which has this level.
     Close(u32),
     /// To give up: the definition names one that is on the stack.
@@ -47,18 +54,18 @@ enum Step {
 #[derive(Drop)]
 struct Search {
     visits: Vec<Visit>,
-    stack: Vec<usize>,
+    stack: Vec<Frame>,
 }
 
 impl Search {
-    /// What the search knows of a literal's signal. The constant and the inputs have level 0.
-    fn seen(&self, net: &PlainNet, literal: Lit) -> Seen
-        requires there { signal_of literal < signals_in net.now }
-        requires knows { Knows net.now self.now.visits.items self.now.stack.items }
-        ensures { IsSeen net.now self.now.visits.items self.now.stack.items (signal_of literal) result }
+    /// What the search knows of a signal. The constant and the inputs have level 0.
+    fn seen(&self, net: &PlainNet, signal: u32) -> Seen
+        requires there { signal < signals_in net.now }
+        requires knows { Knows net.now self.now.visits.items (positions self.now.stack.items) }
+        ensures { IsSeen net.now self.now.visits.items (positions self.now.stack.items) signal result }
     {
         let first = net.inputs() as usize + 1;
-        let signal = literal.signal() as usize;
+        let signal = signal as usize;
         if signal < first {
             return Seen::Below(0);
         }
@@ -69,35 +76,32 @@ impl Search {
         }
     }
 
-    /// What is to be done next at the definition at a position.
-    fn next_step(&self, net: &PlainNet, position: usize) -> Step
-        requires there { position < length net.now.defs }
-        requires knows { Knows net.now self.now.visits.items self.now.stack.items }
-        ensures { IsStep net.now self.now.visits.items self.now.stack.items position result }
+    /// What is to be done next at a definition on the stack. Its names are looked at from where the frame
+    /// says, so that each is looked at twice at most.
+    fn next_step(&self, net: &PlainNet, frame: Frame) -> Step
+        requires there { frame.position < length net.now.defs }
+        requires looked { IsLooked net.now (left self.now.visits.items (positions self.now.stack.items)) frame }
+        requires knows { Knows net.now self.now.visits.items (positions self.now.stack.items) }
+        ensures { IsStep net.now self.now.visits.items (positions self.now.stack.items) frame.position result }
     {
-        match net.def_at(position) {
-            Def::And { a, b } => self.step_at_and(net, position, a, b),
+        let def = net.def_at(frame.position);
+        let mut highest = frame.highest;
+        for next in frame.next..def.names() {
+            let level = match self.seen(net, def.name(next)) {
+                Seen::Below(level) => level,
+                Seen::Fresh(place) => {
+                    let looked = Frame {
+                        position: frame.position,
+                        next,
+                        highest,
+                    };
+                    return Step::Enter { place, looked };
+                }
+                Seen::Above => return Step::Loop,
+            };
+            highest = highest.max(level);
         }
-    }
-
-    /// What is to be done next at an AND.
-    fn step_at_and(&self, net: &PlainNet, position: usize, a: Lit, b: Lit) -> Step
-        requires is { IsAndAt net.now position a b }
-        requires net { IsPlainNet net.now }
-        requires knows { Knows net.now self.now.visits.items self.now.stack.items }
-        ensures { IsStep net.now self.now.visits.items self.now.stack.items position result }
-    {
-        let first = match self.seen(net, a) {
-            Seen::Below(level) => level,
-            Seen::Fresh(place) => return Step::Enter(place),
-            Seen::Above => return Step::Loop,
-        };
-        let second = match self.seen(net, b) {
-            Seen::Below(level) => level,
-            Seen::Fresh(place) => return Step::Enter(place),
-            Seen::Above => return Step::Loop,
-        };
-        Step::Close(first.max(second) + 1)
+        Step::Close(highest + 1)
     }
 
     /// Puts a definition that was not met yet on the stack.
@@ -105,12 +109,35 @@ impl Search {
         requires { position < vec_len self.old.visits }
         ensures visits { IfOk result
             (λ _. self.new.visits.items ≡ slice_set self.old.visits.items position Visit.Open) }
-        ensures stack { IfOk result (λ _. self.new.stack.items ≡ self.old.stack.items ++ position ∷ []) }
+        ensures stack { IfOk result
+            (λ _. self.new.stack.items
+            ≡ self.old.stack.items ++ record { position = position; next = 0; highest = 0 } ∷ []) }
         ensures err { IfErr result (λ fault. fault ≡ OrderFault.Memory) }
     {
         self.visits[position] = Visit::Open;
-        self.stack.push(position)?;
+        self.stack.push(Frame {
+            position,
+            next: 0,
+            highest: 0,
+        })?;
         Ok(())
+    }
+
+    /// Notes how far the definition on top was looked at, and puts one that it names above it.
+    fn descend(&mut self, looked: Frame, place: usize) -> Result<(), OrderFault>
+        requires there { place < vec_len self.old.visits }
+        requires more { 0 < vec_len self.old.stack }
+        ensures visits { IfOk result
+            (λ _. self.new.visits.items ≡ slice_set self.old.visits.items place Visit.Open) }
+        ensures stack { IfOk result
+            (λ _. self.new.stack.items
+            ≡ slice_set self.old.stack.items (length self.old.stack.items - 1) looked
+            ++ record { position = place; next = 0; highest = 0 } ∷ []) }
+        ensures err { IfErr result (λ fault. fault ≡ OrderFault.Memory) }
+    {
+        let top = self.stack.len() - 1;
+        self.stack[top] = looked;
+        self.enter(place)
     }
 
     /// Takes the definition on top, whose level is found, off the stack.
@@ -131,14 +158,14 @@ impl Search {
         ensures under_way { IfOk result
             (λ _. IsUnderWay net.now root self.new.visits.items self.new.stack.items) }
         ensures less { IfOk result
-            (λ _. left self.new.visits.items self.new.stack.items
-            < left self.old.visits.items self.old.stack.items) }
+            (λ _. left self.new.visits.items (positions self.new.stack.items)
+            < left self.old.visits.items (positions self.old.stack.items)) }
         ensures fault { IfErr result (IsFaultAt net.now root) }
     {
-        let position = self.stack[self.stack.len() - 1];
-        match self.next_step(net, position) {
-            Step::Enter(place) => self.enter(place)?,
-            Step::Close(level) => self.close(position, level),
+        let frame = self.stack[self.stack.len() - 1];
+        match self.next_step(net, frame) {
+            Step::Enter { place, looked } => self.descend(looked, place)?,
+            Step::Close(level) => self.close(frame.position, level),
             Step::Loop => return Err(OrderFault::Cycle(root)),
         }
         Ok(())

@@ -1,7 +1,10 @@
 //! Netlists in any order and in order, their evaluation, and port tables.
 #![tactic(auto)]
 
+mod counting;
+mod expanding;
 mod graph;
+mod graphs;
 mod levels;
 mod matching;
 mod named;
@@ -9,8 +12,9 @@ mod order_fault;
 mod ordering;
 mod plain_net;
 
-pub use circuits::{Def, Gate, Lit, Pair, PortKind};
+pub use circuits::{Def, Gate, Lit, Pair, PortKind, Trit};
 pub use graph::{Graph, lit_value};
+pub use graphs::{Graphs, Side};
 pub use matching::Matching;
 pub use named::{Name, Named, NetFault, NetKind, NetStop};
 pub use order_fault::OrderFault;

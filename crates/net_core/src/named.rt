@@ -50,6 +50,32 @@ pub enum NetKind {
     BadSymbol,
     /// 14: the AIGER file ends where a line is wanted.
     Truncated,
+    /// 20: a BLIF directive isn't known, a `.names` line has no word behind it, or a line stands behind `.end`.
+    Directive,
+    /// 21: the BLIF file has a latch.
+    Latch,
+    /// 22: the BLIF file gives don't-cares.
+    DontCare,
+    /// 23: the BLIF file has a second model.
+    SecondModel,
+    /// 24: a row of a BLIF cover has a wrong number of words, or a word of a wrong length.
+    RowWidth,
+    /// 25: a row of a BLIF cover has a byte that may not stand at its place.
+    RowChar,
+    /// 26: a row of a BLIF cover is of the on-set where an earlier one is of the off-set, or the other way round.
+    MixedCover,
+    /// 27: a row of the BLIF file is in no cover.
+    RowOutside,
+    /// 28: the BLIF file has no `.inputs` line or no `.outputs` line.
+    NoPortLine,
+    /// 29: a name is given to two inputs of the BLIF file, or to two outputs.
+    DuplicatePort,
+    /// 30: a BLIF cover defines an input, or a name that an earlier one defines.
+    NameRedefined,
+    /// 31: a name that a BLIF file reads is neither an input nor defined by a cover.
+    NameUndefined,
+    /// 32: a BLIF cover is on a cycle or above one.
+    CoverCycle,
 }
 
 impl NetKind {
@@ -72,6 +98,19 @@ impl NetKind {
             NetKind::Cycle => 12,
             NetKind::BadSymbol => 13,
             NetKind::Truncated => 14,
+            NetKind::Directive => 20,
+            NetKind::Latch => 21,
+            NetKind::DontCare => 22,
+            NetKind::SecondModel => 23,
+            NetKind::RowWidth => 24,
+            NetKind::RowChar => 25,
+            NetKind::MixedCover => 26,
+            NetKind::RowOutside => 27,
+            NetKind::NoPortLine => 28,
+            NetKind::DuplicatePort => 29,
+            NetKind::NameRedefined => 30,
+            NetKind::NameUndefined => 31,
+            NetKind::CoverCycle => 32,
         }
     }
 }

@@ -7,7 +7,7 @@ use std::alloc::{AllocError, AllocFailed};
 pub enum OrderFault {
     /// The first definition, by its position, that is on a cycle or above one.
     Cycle(u32),
-    /// There is no cycle, but there are more than 1,000,000 definitions.
+    /// There is no cycle, but the definitions have more than 1,000,000 gates.
     TooManyGates,
     /// Memory is wanting.
     Memory,

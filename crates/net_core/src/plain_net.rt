@@ -1,7 +1,7 @@
 //! Netlists as their files give them: the definitions stand in any order.
 
-ghost use Rattle.std.specs.Prelude.{◌≡◌, ◌+◌, ◌^◌, ◌<◌, length, slice_index_or};
-ghost use Rattle.circuits.specs.Circuits.{IsClosed};
+ghost use Rattle.std.specs.Prelude.{◌≡◌, ◌+◌, ◌^◌, ◌<◌, length};
+ghost use Rattle.circuits.specs.Circuits.{IsClosed, def_at};
 ghost use Rattle.net_core.specs.PlainNets.{IsPlainNet};
 
 use circuits::{Def, Lit};
@@ -9,8 +9,9 @@ use items::Items;
 use std::marker::Model;
 
 /// A netlist whose definitions may stand in any order. Signal 0 is false, input i is signal i + 1, and
-/// definition d is signal inputs + 1 + d. Each signal that a definition or an output names is there.
-/// There are fewer than 2^30 signals and fewer than 2^32 outputs.
+/// definition d is signal inputs + 1 + d. Each signal that a definition or an output names is there, and
+/// each row of a cover is as wide as its names. There are fewer than 2^30 signals and fewer than 2^32
+/// outputs.
 #[derive(Debug, Drop)]
 pub struct PlainNet {
     pub inputs: u32,
@@ -30,7 +31,8 @@ impl Model for PlainNet {
 }
 
 impl PlainNet {
-    /// The netlist with these parts, which name only signals that are there.
+    /// The netlist with these parts, which name only signals that are there, and whose rows are as wide as
+    /// their names.
     pub fn new(inputs: u32, defs: Items<Def>, outputs: Items<Lit>) -> PlainNet
         requires closed { IsClosed (record { inputs = inputs; defs = defs; outputs = outputs }) }
         requires signals { 1 + inputs + length defs < 2 ^ 30 }
@@ -69,11 +71,11 @@ impl PlainNet {
     }
 
     /// The definition at a position.
-    pub fn def_at(&self, position: usize) -> Def
+    pub fn def_at(&self, position: usize) -> &Def
         requires { position < length self.now.defs }
-        ensures value { result ≡ slice_index_or self.now.defs position result }
+        ensures value { result.now ≡ def_at self.now position }
         ensures net { IsPlainNet self.now }
     {
-        self.defs[position]
+        &self.defs[position]
     }
 }

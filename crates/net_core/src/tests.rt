@@ -1,8 +1,10 @@
 //! Two circuits that are worked out by hand, and one of their matches.
 
+mod covers;
 mod in_order;
+mod nets;
 
-use crate::{Gate, Graph, Lit, Matching, lit_value};
+use crate::{Gate, Graph, Graphs, Lit, Matching, Side, lit_value};
 use items::Items;
 use std::test::Fail;
 
@@ -83,5 +85,21 @@ fn moves_vectors(rt: HostRuntime) -> Result<(), Fail> {
         outputs: Items::from_vec(vec![in rt.alloc()]?),
     };
     assert!(rt; !twice.check_shape(2, 0));
+    Ok(())
+}
+
+#[test]
+fn copies_and_picks_sides(rt: HostRuntime) -> Result<(), Fail> {
+    let graph = first(&rt)?.ok_or("no graph")?;
+    let copy = graph.copy(rt.alloc())?;
+    let alone = Graph::new(1, Vec::new(rt.alloc()), Vec::new(rt.alloc())).ok_or("no graph")?;
+    let graphs = Graphs {
+        first: copy,
+        second: alone,
+    };
+    assert_eq!(rt; graphs.side(Side::First).gates(), graph.gates());
+    assert_eq!(rt; graphs.side(Side::First).outputs(), graph.outputs());
+    assert_eq!(rt; graphs.side(Side::First).inputs(), 2);
+    assert_eq!(rt; graphs.side(Side::Second).inputs(), 1);
     Ok(())
 }

@@ -1,47 +1,9 @@
 //! Netlists whose definitions stand in any order, worked out by hand.
 
-ghost use Rattle.std.specs.Prelude.{◌↔◌, ◌+◌, ◌<◌, All, IsTrue, length};
-ghost use Rattle.circuits.specs.Literals.{signal_of};
-ghost use Rattle.circuits.specs.Circuits.{named_by};
-
-use crate::{Def, Graph, Lit, OrderFault, PlainNet, order};
+use super::nets::{and, plain_net};
+use crate::{Graph, Lit, OrderFault, order};
 use items::Items;
 use std::test::Fail;
-
-fn names_signals(signals: u32, def: Def) -> bool
-    ensures { IsTrue result ↔ All (λ s. s < signals) (named_by def) }
-{
-    match def {
-        Def::And { a, b } => (a.signal() < signals) & (b.signal() < signals),
-    }
-}
-
-fn are_closed(signals: u32, defs: &[Def]) -> bool
-    ensures { IsTrue result ↔ All (λ def. All (λ s. s < signals) (named_by def)) defs.now }
-{
-    defs.iter().all(|def| names_signals(signals, *def))
-}
-
-fn are_signals(signals: u32, outputs: &[Lit]) -> bool
-    ensures { IsTrue result ↔ All (λ output. signal_of output < signals) outputs.now }
-{
-    outputs.iter().all(|output| output.signal() < signals)
-}
-
-/// The netlist of these parts, if they name only signals that are there.
-fn plain_net(inputs: u32, defs: Items<Def>, outputs: Items<Lit>) -> Option<PlainNet> {
-    if inputs > 1000 || defs.len() > 100_000 || outputs.len() > 1000 {
-        return None;
-    }
-    let signals = 1 + inputs + defs.len() as u32;
-    if !are_closed(signals, &defs) {
-        return None;
-    }
-    if !are_signals(signals, &outputs) {
-        return None;
-    }
-    Some(PlainNet::new(inputs, defs, outputs))
-}
 
 /// Orders the netlist of these ANDs and outputs.
 fn ordered(
@@ -52,10 +14,7 @@ fn ordered(
 ) -> Result<Result<Graph, OrderFault>, Fail> {
     let mut defs = Items::new(rt.alloc());
     for (a, b) in ands {
-        defs.push(Def::And {
-            a: Lit(*a),
-            b: Lit(*b),
-        })?;
+        defs.push(and(*a, *b))?;
     }
     let mut outputs = Items::new(rt.alloc());
     outputs.push(Lit(output))?;

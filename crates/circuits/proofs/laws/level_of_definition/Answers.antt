@@ -1,5 +1,5 @@
-use Rattle.circuits.proofs.LevelLaws.{HasLevel-and, HasLevel-operands}
+use Rattle.circuits.proofs.LevelLaws.{HasLevel-above, HaveLevel-below}
 use Rattle.circuits.proofs.laws.level_of_definition.Goals as goal
 
 pub returns : goal.returns
-returns c = record { above = HasLevel-and; operands = HasLevel-operands }
+returns c = record { above = HasLevel-above; named = HaveLevel-below }

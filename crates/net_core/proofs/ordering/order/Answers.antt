@@ -1,24 +1,28 @@
-use Rattle.std.proofs.Common.{length, ap, arith}
+use Rattle.std.proofs.Common.{arith}
+use Rattle.circuits.proofs.GateCounts.{gates_in_order}
 use Rattle.circuits.proofs.LevelOrders.{same_function}
 use Rattle.net_core.proofs.OrderLaws.{IsAcyclic-levels, IsLevelOrder-sorted}
 use Rattle.net_core.proofs.ordering.order.Goals as goal
 
-pub returns-then-defs-gt-MOST_GATES-clause-too_many : goal.returns-then-defs-gt-MOST_GATES-clause-too_many
-returns-then-defs-gt-MOST_GATES-clause-too_many c = λ _.
-    (IsAcyclic-levels c.args.net.now c.in_ok-placed.placed.items c.in_ok-placed.ensures.levels, omega (arith, ap length c.defs.ensures.value))
+pub returns-then-gate_count-gt-MOST_GATES-clause-too_many : goal.returns-then-gate_count-gt-MOST_GATES-clause-too_many
+returns-then-gate_count-gt-MOST_GATES-clause-too_many c = λ _.
+    (IsAcyclic-levels c.args.net.now c.in_ok-placed.placed.items c.in_ok-placed.ensures.levels, omega arith)
 
-pub graph_in_order-requires-clause-order : goal.graph_in_order-requires-clause-order
-graph_in_order-requires-clause-order c =
+pub expand-requires-clause-order : goal.expand-requires-clause-order
+expand-requires-clause-order c =
     rw c.deref.ensures.value (IsLevelOrder-sorted c.args.net.now c.in_ok-placed.placed.items c.in_ok-order.order.items c.in_ok-placed.ensures.levels c.in_ok-order.ensures)
 
-pub graph_in_order-requires-clause-acyclic : goal.graph_in_order-requires-clause-acyclic
-graph_in_order-requires-clause-acyclic c =
+pub expand-requires-clause-acyclic : goal.expand-requires-clause-acyclic
+expand-requires-clause-acyclic c =
     IsAcyclic-levels c.args.net.now c.in_ok-placed.placed.items c.in_ok-placed.ensures.levels
 
 pub returns-clause-function : goal.returns-clause-function
 returns-clause-function c = λ x v.
-    same_function c.args.net.now c.in_ok-graph.graph x v (IsAcyclic-levels c.args.net.now c.in_ok-placed.placed.items c.in_ok-placed.ensures.levels) c.defs.ensures.net.closed c.in_ok-graph.ensures.graph
+    same_function c.args.net.now c.in_ok-graph.graph x v (IsAcyclic-levels c.args.net.now c.in_ok-placed.placed.items c.in_ok-placed.ensures.levels) c.in_ok-graph.ensures.plain.closed c.in_ok-graph.ensures.graph
 
 pub returns-clause-acyclic : goal.returns-clause-acyclic
 returns-clause-acyclic c =
     IsAcyclic-levels c.args.net.now c.in_ok-placed.placed.items c.in_ok-placed.ensures.levels
+
+pub returns-clause-few : goal.returns-clause-few
+returns-clause-few c = omega (arith, gates_in_order c.args.net.now c.in_ok-graph.graph c.in_ok-graph.ensures.plain.closed c.in_ok-graph.ensures.graph)

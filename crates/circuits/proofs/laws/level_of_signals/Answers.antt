@@ -1,0 +1,5 @@
+use Rattle.circuits.proofs.LevelLaws.{HaveLevel-none, HaveLevel-more}
+use Rattle.circuits.proofs.laws.level_of_signals.Goals as goal
+
+pub returns : goal.returns
+returns c = record { none = HaveLevel-none; more = HaveLevel-more }
