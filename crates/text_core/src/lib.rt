@@ -13,7 +13,7 @@ pub use laws::{
     words_from_first_word, words_of_line,
 };
 pub use numbers::{NumberFault, decimal, put_decimal};
-pub use spans::{Cursor, Span, next_word};
+pub use spans::{Cursor, Span, is_blank, next_word};
 
 #[cfg(test)]
 mod tests;

@@ -44,8 +44,8 @@ impl<'a> Span<'a> {
         self.at
     }
 
-    // The first `count` bytes, or all where there are fewer.
-    fn front(&self, count: usize) -> Span<'a>
+    /// The first `count` bytes, or all where there are fewer.
+    pub fn front(&self, count: usize) -> Span<'a>
         ensures { result ≡ front count self.now }
     {
         let end = count.min(self.bytes.len());
@@ -162,7 +162,8 @@ pub fn next_word<'a>(line: &mut Span<'a>) -> Option<Span<'a>>
     Some(word)
 }
 
-fn is_blank(byte: u8) -> bool
+/// Whether a byte is a blank: a space, a tab or a carriage return.
+pub fn is_blank(byte: u8) -> bool
     ensures { result ≡ is_blank byte }
 {
     byte == b' ' || byte == b'\t' || byte == b'\r'

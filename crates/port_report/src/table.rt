@@ -1,0 +1,98 @@
+ghost use Rattle.std.specs.Prelude.{◌≡◌, ◌<◌, ◌≤◌, [], ◌++◌, length, codes, if◌then◌else◌, All, OnOk};
+ghost use Rattle.circuits.specs.Bijections.{IsSignedBijection};
+ghost use Rattle.port_report.specs.Reports.{port_among, entry_line, entry_lines, match_text};
+
+use net_core::{Matching, Name, Named};
+use std::alloc::AllocError;
+use text_core::put_decimal;
+
+/// Writes at the end of `out` where each port of the first circuit goes: a line for each input in order, then one for
+/// each output, as `input 0 a = not input 1 b`. Names are written byte for byte.
+/// A first part of the lines may stand in `out` where memory is wanting.
+pub fn put_match(
+    first: &Named,
+    second: &Named,
+    matching: &Matching,
+    out: &mut Vec<u8>,
+) -> Result<(), AllocError>
+    requires inputs { second.now.graph.inputs ≡ first.now.graph.inputs }
+    requires outputs { length second.now.graph.outputs ≡ length first.now.graph.outputs }
+    requires inputs_placed { IsSignedBijection first.now.graph.inputs matching.now.inputs }
+    requires outputs_placed { IsSignedBijection (length first.now.graph.outputs) matching.now.outputs }
+    ensures ok { OnOk result (out.new.items ≡ out.old.items ++ match_text first.now second.now matching.now) }
+{
+    put_entries(
+        b"input",
+        &first.input_names,
+        &second.input_names,
+        &matching.inputs,
+        out,
+    )?;
+    put_entries(
+        b"output",
+        &first.output_names,
+        &second.output_names,
+        &matching.outputs,
+        out,
+    )
+}
+
+// Writes where each port of a kind goes, on a line of its own.
+fn put_entries(
+    kind: &[u8],
+    firsts: &[Name],
+    seconds: &[Name],
+    entries: &[(u32, bool)],
+    out: &mut Vec<u8>,
+) -> Result<(), AllocError>
+    requires ports { length entries.now ≤ length firsts.now }
+    requires places { All (λ entry. entry.0 < length seconds.now) entries.now }
+    ensures { OnOk result (out.new.items ≡ out.old.items ++ entry_lines kind.now firsts.now seconds.now 0 entries.now) }
+{
+    for (port, entry) in entries.iter().enumerate() {
+        put_entry(kind, firsts, seconds, port, *entry, out)?;
+    }
+    Ok(())
+}
+
+fn put_entry(
+    kind: &[u8],
+    firsts: &[Name],
+    seconds: &[Name],
+    port: usize,
+    entry: (u32, bool),
+    out: &mut Vec<u8>,
+) -> Result<(), AllocError>
+    requires port { port < length firsts.now }
+    requires place { entry.0 < length seconds.now }
+    ensures { OnOk result (out.new.items ≡ out.old.items ++ entry_line kind.now firsts.now seconds.now port entry) }
+{
+    let (place, inverted) = entry;
+    put_port(kind, firsts, port, out)?;
+    out.extend_from_slice(b" = ")?;
+    put_sign(inverted, out)?;
+    put_port(kind, seconds, place as usize, out)?;
+    out.extend_from_slice(b"\n")
+}
+
+fn put_sign(inverted: bool, out: &mut Vec<u8>) -> Result<(), AllocError>
+    ensures { OnOk result (out.new.items ≡ out.old.items ++ (if inverted then codes "not " else [])) }
+{
+    if inverted {
+        out.extend_from_slice(b"not ")
+    } else {
+        Ok(())
+    }
+}
+
+// Writes a port by its kind, its number and its name.
+fn put_port(kind: &[u8], names: &[Name], port: usize, out: &mut Vec<u8>) -> Result<(), AllocError>
+    requires { port < length names.now }
+    ensures { OnOk result (out.new.items ≡ out.old.items ++ port_among kind.now names.now port) }
+{
+    out.extend_from_slice(kind)?;
+    out.extend_from_slice(b" ")?;
+    put_decimal(port as u64, out)?;
+    out.extend_from_slice(b" ")?;
+    out.extend_from_slice(&names[port])
+}
