@@ -6,18 +6,19 @@ use Rattle.std.proofs.lemmas.List.Elements.{All-nil, All-cons, All-map}
 use Rattle.std.proofs.lemmas.Simd.{map-map}
 use Rattle.circuits.specs.declared.netlist.Lit.{Lit}
 use Rattle.circuits.specs.Literals.{signal_of}
-use Rattle.circuits.specs.Circuits.{Circuit, IsClosed, named_by, signals_in, signal_at}
+use Rattle.circuits.specs.declared.definition.Def.TheVariants.{Cover}
+use Rattle.circuits.specs.Circuits.{Circuit, HasWideRows, IsClosed, named_by, signals_in, signal_at}
 use Rattle.circuits.specs.Levels.{IsWithin, IsFirstLooped}
 use Rattle.net_core.specs.PlainNets.{IsPlainNet}
 use Rattle.aiger_reader.specs.declared.limits.Header.{Header}
 use Rattle.aiger_reader.specs.declared.body.AndLine.{AndLine}
 use Rattle.aiger_reader.specs.declared.body.Literals.{Literals}
 use Rattle.aiger_reader.specs.Headers.{AigerHeader}
-use Rattle.aiger_reader.specs.Bodies.{first_of}
-use Rattle.aiger_reader.specs.Deltas.{BeginsGates, binary_circuit}
+use Rattle.aiger_reader.specs.Bodies.{first_of, lit_from}
+use Rattle.aiger_reader.specs.Deltas.{BeginsGates, and_from, binary_circuit}
 use Rattle.aiger_reader.specs.Reading.{rows_of, row_of, input_lines_of, gate_lines_of, HasCounts}
 use Rattle.aiger_reader.specs.Numbered.{circuit_from}
-use Rattle.aiger_reader.specs.Assembly.{ArePairsBelow, IsBinaryBody, lit_from, and_from}
+use Rattle.aiger_reader.specs.Assembly.{ArePairsBelow, IsBinaryBody}
 
 -- the operands of the gates are below them
 each_more : (f : ℕ × ℕ → ℕ) (variable : ℕ) (gate : ℕ × ℕ) (gates : List (ℕ × ℕ)) → f gate < 2 * variable → ((k : ℕ) (d : ℕ × ℕ) → k < length gates → f (get_or gates k d) < 2 * (variable + 1 + k)) → (k : ℕ) (d : ℕ × ℕ) → k < length (gate ∷ gates) → f (get_or (gate ∷ gates) k d) < 2 * (variable + k)
@@ -48,6 +49,7 @@ binary_closed inputs gates outputs pairs small =
     let both : (gate : ℕ × ℕ) (k : ℕ) → k < length gates → gate.0 < 2 * (inputs + 1 + k) → gate.1 < 2 * (inputs + 1 + k) → All below (named_by (and_from gate)) = λ gate k here a b. All-cons below (gate.0 / 2) (gate.1 / 2 ∷ []) (omega (arith, count)) (All-cons below (gate.1 / 2) [] (omega (arith, count)) (All-nil below)) in
     record {
       defs = All-map (λ def. All below (named_by def)) and_from gates (λ k d here. both (get_or gates k d) k here (pairs.first_operands k d here) (pairs.second_operands k d here));
+      rows = All-map HasWideRows and_from gates (λ k d here. tt);
       outputs = All-map (λ output. below (signal_of output)) lit_from outputs (λ k d here. let most = small k d here in omega (arith, count, most));
     }
 
@@ -93,7 +95,7 @@ within_level circuit gates same pairs (suc l) s small there =
             place = place;
             there = omega (arith, count);
             at = omega arith;
-            named = λ d. subst (λ def. All (IsWithin circuit l) (named_by def)) (sym (ap (λ defs. get_or defs place d) same ∙ get_or-map and_from gates place (0, 0) d here)) all;
+            named = subst (λ def. All (IsWithin circuit l) (named_by def)) (sym (ap (λ defs. get_or defs place (Cover [] [] true)) same ∙ get_or-map and_from gates place (0, 0) (Cover [] [] true) here)) all;
           })
     ]
 

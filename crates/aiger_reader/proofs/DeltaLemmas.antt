@@ -24,9 +24,13 @@ one_row (p ∷ r ∷ ps) (q ∷ s ∷ qs) x y m n one other same =
     let e : p ≡ q = cc in
     (omega (arith, one.2, other.2, tails.0), tails.1)
 
+-- a delta at the front of the bytes
+pub one_delta : (bytes others x y : List ℕ) (m n : ℕ) → bytes ≡ others → BeginsDelta bytes m x → BeginsDelta others n y → (m ≡ n) × (x ≡ y)
+one_delta bytes others x y m n same one other =
+    one_row one.groups other.groups x y m n one.value other.value (sym one.spelled ∙ (same ∙ other.spelled))
+
 pub delta_same : (bytes x y : List ℕ) (m n : ℕ) → BeginsDelta bytes m x → BeginsDelta bytes n y → (m ≡ n) × (x ≡ y)
-delta_same bytes x y m n one other =
-    one_row one.groups other.groups x y m n one.value other.value (sym one.spelled ∙ other.spelled)
+delta_same bytes x y m n = one_delta bytes bytes x y m n refl
 
 -- a last group
 pub last_group : (most byte n : ℕ) (bytes rest : List ℕ) → bytes ≡ byte ∷ rest → byte < 128 → n ≡ byte → 0 < most → BeginsGroups most bytes n rest

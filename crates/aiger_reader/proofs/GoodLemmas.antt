@@ -6,7 +6,7 @@ use Rattle.text_core.specs.Piece.{Piece}
 use Rattle.text_core.specs.Lines.{after_line}
 use Rattle.net_core.specs.declared.named.NetKind.{NetKind}
 use Rattle.net_core.specs.declared.named.NetKind.TheVariants as kind
-use Rattle.aiger_reader.specs.Plain.{numbers_on}
+use Rattle.aiger_reader.specs.Words.{numbers_on}
 use Rattle.aiger_reader.specs.Headers.{AigerHeader}
 use Rattle.aiger_reader.specs.Bodies.{Role, Output, roles_of, role_at, defines, defined, body_lines, line_offset, first_of, Writes, IsGoodRow, AreGood, IsBodyFault}
 use Rattle.aiger_reader.specs.Reading.{IsAtLine, IsReading, IsWanted, IsRowOn, IsNextFault, IsNumbering, IsRowRead, next_line_of}

@@ -1,15 +1,18 @@
 -- What the numbers on the first line say of each header.
-use Rattle.std.proofs.Common.{◌≡◌, ℕ, suc, ◌+◌, ◌-◌, ◌^◌, ◌<◌, ◌≤◌, ◌==◌, Bool, true, false, IsTrue, List, [], ◌∷◌, ◌++◌, length, map, take, drop, get_or, set, Option, Some, Result, Ok, Err, IfOk, nat_lt, refl, sym, ap, subst, ◌∙◌, arith, length-take, length-drop}
+use Rattle.std.proofs.Common.{◌≡◌, ℕ, suc, ◌+◌, ◌-◌, ◌^◌, ◌<◌, ◌≤◌, ◌==◌, Bool, true, false, IsTrue, List, [], ◌∷◌, ◌++◌, length, map, take, drop, get_or, set, Option, Some, Result, Ok, Err, IfOk, nat_lt, refl, sym, ap, subst, ◌∙◌, arith, length-append, length-take, length-drop}
 use Rattle.std.specs.List.{list_any}
-use Rattle.std.proofs.lemmas.List.{length-map, take_more_set}
-use Rattle.std.proofs.lemmas.List.Elements.{All-head, All-tail, All-append}
+use Rattle.std.proofs.lemmas.List.{length-map, nil_from_length, take_more_set}
+use Rattle.std.proofs.lemmas.List.Elements.{All-nil, All-cons, All-head, All-tail, All-append}
 use Rattle.text_core.specs.Lines.{lines}
 use Rattle.aiger_reader.specs.declared.header.Numbers.{Numbers}
-use Rattle.aiger_reader.specs.Plain.{numbers_on}
-use Rattle.aiger_reader.specs.Rows.{AreSmall}
-use Rattle.aiger_reader.specs.Headers.{AigerHeader, header_numbers, keyword, HasHeader}
-use Rattle.aiger_reader.specs.Numbers.{header_from, line_behind, WritesHeader, WritesNumbers, IsCounted}
-use Rattle.aiger_reader.proofs.RowLemmas.{none_left, small_cons, small_nil}
+use Rattle.aiger_reader.specs.Words.{numbers_on, AreSmall}
+use Rattle.aiger_reader.specs.Headers.{AigerHeader, header_numbers, keyword, line_behind, WritesHeader, HasHeader}
+use Rattle.aiger_reader.specs.Numbers.{header_from, WritesNumbers, IsCounted}
+
+-- behind as many numbers as a row has, nothing is left
+none_left : (done numbers : List ℕ) (whole left : List (Option ℕ)) → whole ≡ map Some done ++ left → length numbers ≤ length done → whole ≡ map Some numbers → left ≡ []
+none_left done numbers whole left front all same =
+    nil_from_length left (omega (arith, ap length front, ap length same, length-append (map Some done) left, length-map done (λ (n : ℕ). Some n), length-map numbers (λ (n : ℕ). Some n)))
 
 -- a word that is no number of 32 bits stands in no row of them
 pub no_number : (done numbers : List ℕ) (word : Option ℕ) (rest : List (Option ℕ)) → AreSmall numbers → ((n : ℕ) → n < 2 ^ 32 → word ≡ Some n → ⊥) → map Some done ++ word ∷ rest ≡ map Some numbers → ⊥
@@ -23,7 +26,7 @@ no_number (d ∷ ds) (n ∷ ns) word rest small none same =
 -- one number more at the front of a row
 pub small_more : (row : List ℕ) (i n : ℕ) → i < length row → n < 2 ^ 32 → AreSmall (take i row) → AreSmall (take (i + 1) (set row i n))
 small_more row i n h small front =
-    subst AreSmall (sym (take_more_set row i n h)) (All-append (λ n. n < 2 ^ 32) (take i row) (n ∷ []) front (small_cons n [] small small_nil))
+    subst AreSmall (sym (take_more_set row i n h)) (All-append (λ n. n < 2 ^ 32) (take i row) (n ∷ []) front (All-cons (λ n. n < 2 ^ 32) n [] small (All-nil (λ n. n < 2 ^ 32))))
 
 -- numbers that fill a row with a word behind them are more than the row has room for
 pub no_room : (done numbers : List ℕ) (whole left : List (Option ℕ)) → whole ≡ map Some done ++ left → (left ≡ [] → ⊥) → length numbers ≤ length done → whole ≡ map Some numbers → ⊥
@@ -92,7 +95,7 @@ keyword_same false true e = absurd (no_clash (ap (λ (bytes : List ℕ). get_or 
 -- a file's header has the form and the numbers that are read
 header_same : (bytes : List ℕ) (binary : Bool) (numbers : Numbers) (h : AigerHeader) → take 4 bytes ≡ keyword binary → (writes : WritesNumbers (line_behind bytes) numbers) → HasHeader bytes h → (h.binary ≡ binary) × (header_numbers h ≡ header_numbers (header_from binary numbers writes.properties))
 header_same bytes binary numbers h begins writes has =
-    (keyword_same h.binary binary (sym has.begins ∙ begins), map_same _ _ (sym has.numbers ∙ (writes.header binary).written))
+    (keyword_same h.binary binary (sym has.begins ∙ begins), map_same _ _ (sym has.numbers.written ∙ (writes.header binary).written))
 
 pub not_counted : (bytes : List ℕ) (binary : Bool) (numbers : Numbers) → take 4 bytes ≡ keyword binary → WritesNumbers (line_behind bytes) numbers → (IsCounted binary numbers → ⊥) → (h : AigerHeader) → HasHeader bytes h → ⊥
 not_counted bytes binary numbers begins writes not_so h has =
@@ -110,9 +113,7 @@ pub header_read : (bytes : List ℕ) (binary : Bool) (numbers : Numbers) → tak
 header_read bytes binary numbers begins writes counts =
     record {
       begins = begins;
-      numbers = (writes.header binary).written;
-      few = (writes.header binary).few;
-      small = (writes.header binary).small;
+      numbers = writes.header binary;
       counted = counts.counted;
       no_gaps = counts.no_gaps;
     }

@@ -1,10 +1,5 @@
-pub mod Fronts
 pub mod HeaderLemmas
 pub mod LiteralLemmas
-pub mod RowLemmas
-pub mod PartLemmas
-pub mod BodyLemmas
-pub mod PlainLemmas
 pub mod PlaceLemmas
 pub mod TableLemmas
 pub mod GoodLemmas
@@ -27,5 +22,5 @@ pub mod WholeLemmas
 pub mod OneBody
 pub mod OneDelta
 pub mod OneSymbols
-pub mod ClosedNets
 pub mod OneAiger
+pub mod FewPorts

@@ -10,18 +10,16 @@ use Rattle.circuits.specs.Levels.{IsAcyclic, IsFirstLooped, IsOrderOf}
 use Rattle.circuits.proofs.OneOrder.{one_order, one_first_looped, acyclic_not_looped}
 use Rattle.net_core.specs.declared.named.NetKind.{NetKind}
 use Rattle.aiger_reader.specs.Headers.{AigerHeader, header_fault, Begins}
-use Rattle.aiger_reader.specs.Bodies.{Output, role_at, wanted, first_of, IsBody, IsBodyFault, IsUndefined, line_offset}
-use Rattle.aiger_reader.specs.Deltas.{AreGates, IsDeltaFault, behind_outputs, binary_circuit}
+use Rattle.aiger_reader.specs.Bodies.{Output, role_at, wanted, first_of, IsBody, IsBodyFault, IsUndefined, line_offset, lit_from}
+use Rattle.aiger_reader.specs.Deltas.{AreGates, IsDeltaFault, and_from, behind_outputs, binary_circuit}
 use Rattle.aiger_reader.specs.Numbers.{IsHeaderFault}
 use Rattle.aiger_reader.specs.Numbered.{circuit_from}
 use Rattle.aiger_reader.specs.Reading.{input_lines_of, gate_lines_of}
 use Rattle.aiger_reader.specs.Symbols.{AreNames, IsSymbolFault}
-use Rattle.aiger_reader.specs.Assembly.{lit_from, and_from}
 use Rattle.aiger_reader.specs.Aiger.{IsOfForm, IsNetlist, IsAiger, IsLinesFault, IsGatesFault, IsUndefinedFault, IsCycleFault, IsNamesFault, IsAigerFault}
 use Rattle.aiger_reader.proofs.HeaderLemmas.{no_clash}
 use Rattle.aiger_reader.proofs.RoleLemmas.{length-roles_of, role_is, output_role}
 use Rattle.aiger_reader.proofs.BinaryNetLemmas.{begins_below, binary_closed}
-use Rattle.aiger_reader.proofs.ClosedNets.{text_closed}
 use Rattle.aiger_reader.proofs.OneBody.{one_header, one_body, body_or_fault, one_body_fault, compared}
 use Rattle.aiger_reader.proofs.OneDelta.{one_are_gates, gates_or_fault, one_delta_fault}
 use Rattle.aiger_reader.proofs.OneSymbols.{names_same, names_or_fault, fault_same}
@@ -32,31 +30,6 @@ no_latches h none =
       | inl (t, some) ↦ absurd (cc (none, t))
       | inr (f, few) ↦ omega arith
     ]
-
--- the netlist of the binary form is closed
-closed_binary : (bytes : List ℕ) (h : AigerHeader) (rows : List (List ℕ)) (gates : List (ℕ × ℕ)) (rest : List ℕ) → h.binary ≡ true → Begins bytes h → IsBody bytes h rows → AreGates bytes h gates rest → IsClosed (binary_circuit h rows gates)
-closed_binary bytes h rows gates rest binary begins body read =
-    let i : input_lines_of h ≡ 0 = ap (λ t. if t then 0 else h.inputs) binary in
-    let g : gate_lines_of h ≡ 0 = ap (λ t. if t then 0 else h.gates) binary in
-    let no_gaps : h.inputs + length gates ≡ h.variables = omega (arith, begins.header.no_gaps binary, no_latches h begins.accepted, read.count) in
-    let small : All (λ literal. literal ≤ 2 * (h.inputs + length gates) + 1) (map first_of rows) = All-map (λ literal. literal ≤ 2 * (h.inputs + length gates) + 1) first_of rows (λ k d here.
-    let row = get_or rows k [] in
-    let role : role_at h k ≡ Output = role_is h k ∙ output_role (input_lines_of h) h.outputs (gate_lines_of h) k (omega (arith, i)) (omega (arith, i, g, body.whole, length-roles_of h, here)) in
-    let wide : length row ≡ 1 = (body.good.written k here).width ∙ ap wanted role in
-    let most = (body.good.good k here).in_range 0 0 (omega (arith, wide)) in
-    let e : get_or rows k d ≡ row = get_or_default rows k d [] here in
-    subst (λ r. first_of r ≤ 2 * (h.inputs + length gates) + 1) (sym e) (omega (arith, most, no_gaps))) in
-    subst IsClosed (ap (circuit_from h.inputs (map and_from gates)) (map-map lit_from first_of rows)) (binary_closed h.inputs gates (map first_of rows) (begins_below (h.inputs + 1) (behind_outputs bytes h) rest gates read.read) small)
-
-closed_form : (binary : Bool) (bytes : List ℕ) (h : AigerHeader) (rows : List (List ℕ)) (circuit : Circuit) (rest : List ℕ) → h.binary ≡ binary → Begins bytes h → IsBody bytes h rows → IsOfForm binary bytes h rows circuit rest → IsClosed circuit
-closed_form false bytes h rows circuit rest is begins body form =
-    subst IsClosed (sym form.same) (text_closed bytes h rows is body form.known)
-closed_form true bytes h rows circuit rest is begins body form =
-    subst IsClosed (sym form.same) (closed_binary bytes h rows form.gates rest is begins body form.read)
-
-closed_net : (bytes : List ℕ) (h : AigerHeader) (circuit : Circuit) (rest : List ℕ) → IsNetlist bytes h circuit rest → IsClosed circuit
-closed_net bytes h circuit rest net =
-    closed_form h.binary bytes h net.rows circuit rest refl net.begins net.body net.form
 
 -- one header, one netlist and one rest
 same_form : (binary : Bool) (bytes : List ℕ) (h : AigerHeader) (rows : List (List ℕ)) (c d : Circuit) (r s : List ℕ) → IsOfForm binary bytes h rows c r → IsOfForm binary bytes h rows d s → (c ≡ d) × (r ≡ s)
@@ -85,7 +58,7 @@ one_netlist bytes a b i o j p one other =
     let ordered = subst (λ c. IsOrderOf c b) (sym same.1) other.ordered in
     let named = subst (λ h. AreNames h.inputs h.outputs one.rest j p) (sym same.0) (subst (λ r. AreNames other.h.inputs other.h.outputs r j p) (sym same.2) other.names) in
     let names = names_same one.h.inputs one.h.outputs one.rest i j o p one.names named in
-    (one_order one.circuit a b one.acyclic (closed_net bytes one.h one.circuit one.rest one.netlist) one.ordered ordered, names.0, names.1)
+    (one_order one.circuit a b one.acyclic one.ordered ordered, names.0, names.1)
 
 -- the lines behind some accepted header are good
 abbrev HasBody : List ℕ → Type 0

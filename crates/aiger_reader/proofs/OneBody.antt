@@ -23,7 +23,7 @@ header_from_row binary row = record {
 
 pub one_header : (bytes : List ℕ) (h g : AigerHeader) → HasHeader bytes h → HasHeader bytes g → h ≡ g
 one_header bytes h g one other =
-    ap₂ header_from_row (keyword_same h.binary g.binary (sym one.begins ∙ other.begins)) (map_same (header_numbers h) (header_numbers g) (sym one.numbers ∙ other.numbers))
+    ap₂ header_from_row (keyword_same h.binary g.binary (sym one.begins ∙ other.begins)) (map_same (header_numbers h) (header_numbers g) (sym one.numbers.written ∙ other.numbers.written))
 
 pub one_row : (line : List ℕ) (role : Role) (a b : List ℕ) → Writes line role a → Writes line role b → a ≡ b
 one_row line role a b one other = map_same a b (sym one.numbers ∙ other.numbers)

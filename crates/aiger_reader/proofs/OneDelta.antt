@@ -2,18 +2,9 @@
 use Rattle.std.proofs.Common.{◌≡◌, ℕ, ◌+◌, ◌*◌, ◌<◌, List, [], ◌∷◌, length, inl, inr, refl, sym, ap, ap₂, subst, ◌∙◌, arith}
 use Rattle.std.proofs.lemmas.Bool.{cases_lt}
 use Rattle.aiger_reader.specs.Headers.{AigerHeader}
-use Rattle.aiger_reader.specs.Deltas.{BeginsDelta, BeginsGroups, BeginsFirst, BeginsSecond, BeginsGates, AreGates, IsBadPair, IsDeltaFault, behind_outputs}
-use Rattle.aiger_reader.proofs.DeltaLemmas.{one_row}
+use Rattle.aiger_reader.specs.Deltas.{BeginsFirst, BeginsSecond, BeginsGates, AreGates, IsBadPair, IsDeltaFault, behind_outputs}
+use Rattle.aiger_reader.proofs.DeltaLemmas.{one_delta}
 use Rattle.aiger_reader.proofs.PairLemmas.{BeginsPair}
-
--- a number at the front of the bytes
-pub one_number : (most least : ℕ) (bytes others x y : List ℕ) (m n : ℕ) → bytes ≡ others → BeginsGroups most bytes m x → BeginsGroups least others n y → (m ≡ n) × (x ≡ y)
-one_number most least bytes others x y m n same one other =
-    one_row one.groups other.groups x y m n one.value other.value (sym one.spelled ∙ (same ∙ other.spelled))
-
-pub one_delta : (bytes others x y : List ℕ) (m n : ℕ) → bytes ≡ others → BeginsDelta bytes m x → BeginsDelta others n y → (m ≡ n) × (x ≡ y)
-one_delta bytes others x y m n same one other =
-    one_row one.groups other.groups x y m n one.value other.value (sym one.spelled ∙ (same ∙ other.spelled))
 
 -- the operands of a gate
 pub one_first : (literal : ℕ) (bytes others x y : List ℕ) (a b : ℕ) → bytes ≡ others → BeginsFirst literal bytes a x → BeginsFirst literal others b y → (a ≡ b) × (x ≡ y)

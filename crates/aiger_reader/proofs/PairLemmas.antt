@@ -2,13 +2,8 @@
 use Rattle.std.proofs.Common.{◌≡◌, ℕ, ◌+◌, ◌-◌, ◌*◌, ◌<◌, ◌≤◌, List, [], ◌∷◌, ◌++◌, length, Option, None, Some, IfNone, refl, sym, subst, arith}
 use Rattle.std.specs.Option.{SomeIff}
 use Rattle.aiger_reader.specs.Headers.{AigerHeader}
-use Rattle.aiger_reader.specs.Deltas.{BeginsGroups, BeginsDelta, BeginsNoDelta, BeginsFirst, BeginsSecond, BeginsGates, IsBadPair, IsPairFault, IsDeltaFault, AreGates, behind_outputs}
+use Rattle.aiger_reader.specs.Deltas.{BeginsDelta, BeginsFirst, BeginsSecond, BeginsGates, IsBadPair, IsPairFault, IsDeltaFault, AreGates, behind_outputs}
 use Rattle.aiger_reader.proofs.DeltaLemmas.{delta_same}
-
-pub no_delta : (r : Option ℕ) (bytes : List ℕ) → IfNone r ((n : ℕ) (rest : List ℕ) → BeginsGroups 5 bytes n rest → ⊥) → IfNone r (BeginsNoDelta bytes)
-no_delta None bytes none = λ delta rest begins.
-    none delta rest (record { groups = begins.groups; spelled = begins.spelled; value = begins.value; short = begins.short })
-no_delta (Some n) bytes none = tt
 
 -- a delta that is greater than the literal
 pub no_first : (r : Option ℕ) (literal delta : ℕ) (bytes behind : List ℕ) → SomeIff r (delta ≤ literal) (literal - delta) → BeginsDelta bytes delta behind → IfNone r ((a : ℕ) (rest : List ℕ) → BeginsFirst literal bytes a rest → ⊥)
@@ -56,14 +51,7 @@ file_fault bytes left h inputs count total at here same as_many end fault =
     let Q : ℕ → Type 0 = λ n. IsPairFault (n + 1) count (behind_outputs bytes h) total at in
     let R : ℕ → Type 0 = λ n. IsPairFault (h.inputs + 1) n (behind_outputs bytes h) total at in
     let S : ℕ → Type 0 = λ n. IsPairFault (h.inputs + 1) h.gates (behind_outputs bytes h) n at in
-    let whole = subst S end (subst R as_many (subst Q same (subst P here fault))) in
-    record {
-      gates = whole.gates;
-      rest = whole.rest;
-      fewer = whole.fewer;
-      read = whole.read;
-      why = whole.why;
-    }
+    subst S end (subst R as_many (subst Q same (subst P here fault)))
 
 pub file_gates : (bytes left rest : List ℕ) (h : AigerHeader) (inputs : ℕ) (gates : List (ℕ × ℕ)) → left ≡ behind_outputs bytes h → inputs ≡ h.inputs → length gates ≡ h.gates → BeginsGates (inputs + 1) left gates rest → AreGates bytes h gates rest
 file_gates bytes left rest h inputs gates here same count begins =

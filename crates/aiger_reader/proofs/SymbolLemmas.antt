@@ -1,5 +1,5 @@
 -- A line of the symbols gives one name at most, and to one port.
-use Rattle.std.proofs.Common.{◌≡◌, ℕ, Bool, true, false, List, [], ◌∷◌, ◌++◌, drop, filter, inl, inr, refl, sym, ap, ap₂, ◌∙◌, subst, arith}
+use Rattle.std.proofs.Common.{◌≡◌, ℕ, Bool, true, false, List, [], ◌∷◌, drop, filter, inl, inr, refl, sym, ap, ap₂, ◌∙◌, subst, arith}
 use Rattle.std.specs.List.{onto_first, slice_split}
 use Rattle.std.proofs.lemmas.List.{same_from_push}
 use Rattle.std.proofs.lemmas.List.Splits.{slice_split-cons_no}
@@ -33,13 +33,10 @@ return_same text a b one other =
 
 -- what stands behind the letter
 pub behind_letter : (line rest name : List ℕ) (port : Port) → (named : NamesPort line port name) → rest ≡ drop 1 line → BeginsPosition rest port.position named.tail
-behind_letter line rest name port named same = record {
-  digits = named.digits;
-  blank = named.blank;
-  form = same ∙ ap (drop 1) named.form;
-  place = named.place;
-  blank_is = named.blank_is;
-}
+behind_letter line rest name port named same =
+    let P : List ℕ → Type 0 = λ xs. BeginsPosition xs port.position named.tail in
+    let e : rest ≡ named.rest = same ∙ ap (drop 1) named.form in
+    subst P (sym e) named.place
 
 pub named_same : (line a b : List ℕ) (p q : Port) → NamesPort line p a → NamesPort line q b → (p ≡ q) × (a ≡ b)
 named_same line a b p q one other =
@@ -66,7 +63,7 @@ filled_front x (part ∷ parts) h = let e = filter_filled x part parts in cc
 -- a line that names a port has a word
 pub named_has_word : (line name : List ℕ) (port : Port) → NamesPort line port name → words line ≡ [] → ⊥
 named_has_word line name port named none =
-    let rest = named.digits ++ named.blank ∷ named.tail in
+    let rest = named.rest in
     let x = letter_of port.is_output in
     filled_front x (slice_split is_blank rest) (sym (ap (filter is_not_empty) (slice_split-cons_no is_blank x rest (letter_not_blank port.is_output))) ∙ (sym (ap words named.form) ∙ none))
 

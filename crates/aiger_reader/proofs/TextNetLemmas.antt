@@ -4,7 +4,7 @@ use Rattle.std.proofs.lemmas.Bool.{eqb-false}
 use Rattle.std.proofs.lemmas.List.{length-map, get_or_default}
 use Rattle.std.proofs.lemmas.List.Elements.{All-nil, All-cons, All-map}
 use Rattle.circuits.specs.Literals.{signal_of}
-use Rattle.circuits.specs.Circuits.{Circuit, IsClosed, named_by}
+use Rattle.circuits.specs.Circuits.{Circuit, HasWideRows, IsClosed, named_by}
 use Rattle.net_core.specs.PlainNets.{IsPlainNet}
 use Rattle.aiger_reader.specs.declared.body.AndLine.{AndLine}
 use Rattle.aiger_reader.specs.declared.body.Literals.{Literals}
@@ -84,6 +84,7 @@ table_closed h literals signals n sound same count known =
     let both : (line : AndLine) → IsKnown variables line.a → IsKnown variables line.b → All below (named_by (def_in signals line)) = λ line a b. All-cons below (signal_of (lit_in signals line.a)) (signal_of (lit_in signals line.b) ∷ []) (there line.a a) (All-cons below (signal_of (lit_in signals line.b)) [] (there line.b b) (All-nil below)) in
     record {
       defs = All-map (λ def. All below (named_by def)) (def_in signals) literals.gates.items (λ k d here. let is = gates_are_known h literals signals sound known k d here in both (get_or literals.gates.items k d) is.0 is.1);
+      rows = All-map HasWideRows (def_in signals) literals.gates.items (λ k d here. tt);
       outputs = All-map (λ output. below (signal_of output)) (lit_in signals) literals.outputs.items (λ k d here. there (get_or literals.outputs.items k d) (outputs_are_known h literals signals sound known k d here));
     }
 

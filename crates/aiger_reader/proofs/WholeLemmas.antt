@@ -11,13 +11,13 @@ use Rattle.aiger_reader.specs.declared.limits.Header.{Header}
 use Rattle.aiger_reader.specs.declared.body.Literals.{Literals}
 use Rattle.aiger_reader.specs.Numbers.{header_of}
 use Rattle.aiger_reader.specs.Headers.{AigerHeader}
-use Rattle.aiger_reader.specs.Bodies.{roles_of, defined, IsBody, IsKnownRow, IsUndefined, text_circuit, line_offset}
-use Rattle.aiger_reader.specs.Deltas.{BeginsGates, IsPairFault, behind_outputs, binary_circuit}
+use Rattle.aiger_reader.specs.Bodies.{roles_of, defined, IsBody, IsKnownRow, IsUndefined, lit_from, text_circuit, line_offset}
+use Rattle.aiger_reader.specs.Deltas.{BeginsGates, IsPairFault, and_from, behind_outputs, binary_circuit}
 use Rattle.aiger_reader.specs.Numbered.{circuit_from}
 use Rattle.aiger_reader.specs.Reading.{rows_of, input_lines_of, gate_lines_of, IsAtLine}
 use Rattle.aiger_reader.specs.Aiger.{IsOfForm, IsNetlist, IsGatesFault, IsUndefinedFault, IsNamesFault, IsAigerFault}
 use Rattle.aiger_reader.specs.Symbols.{IsSymbolFault}
-use Rattle.aiger_reader.specs.Assembly.{IsBegun, AreLinesRead, IsNetOf, ArePairsBelow, IsBinaryBody, lit_from, and_from}
+use Rattle.aiger_reader.specs.Assembly.{IsBegun, AreLinesRead, IsNetOf, ArePairsBelow, IsBinaryBody}
 use Rattle.aiger_reader.proofs.RoleLemmas.{length-rows_of, length-roles_of}
 use Rattle.aiger_reader.proofs.NumberingLemmas.{outputs_small}
 use Rattle.aiger_reader.proofs.PairLemmas.{file_fault, file_gates}
@@ -169,6 +169,11 @@ form_sizes true bytes h rows circuit rest is whole form =
 pub net_sizes : (bytes : List ℕ) (h : AigerHeader) (circuit : Circuit) (rest : List ℕ) → IsNetlist bytes h circuit rest → HasSizes h circuit
 net_sizes bytes h circuit rest net =
     form_sizes h.binary bytes h net.rows circuit rest refl net.body.whole net.form
+
+-- there are no more definitions than the header's limit
+pub few_defs : (bytes : List ℕ) (header : Header) (circuit : Circuit) (rest : List ℕ) → IsNetOf bytes header circuit rest → length circuit.defs ≤ 1000000
+few_defs bytes header circuit rest net =
+    omega (arith, (net_sizes bytes (header_of header net.0) circuit rest net.1).defs, header.few_gates)
 
 -- the line of a gate on a cycle is there: in the binary form there is none
 loop_line : (binary : Bool) (bytes : List ℕ) (h : AigerHeader) (rows : List (List ℕ)) (circuit : Circuit) (rest : List ℕ) (d : ℕ) → h.binary ≡ binary → IsBody bytes h rows → IsOfForm binary bytes h rows circuit rest → HasSizes h circuit → IsFirstLooped circuit d → 1 + h.inputs + h.outputs + d < length (lines bytes)

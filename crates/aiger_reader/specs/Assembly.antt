@@ -3,9 +3,6 @@ use Rattle.std.specs.Prelude.{◌≡◌, ℕ, ◌+◌, ◌*◌, ◌<◌, ◌≤�
 use Rattle.text_core.specs.Piece.{Piece}
 use Rattle.circuits.specs.Literals.{EachAt}
 use Rattle.circuits.specs.Circuits.{Circuit}
-use Rattle.circuits.specs.declared.netlist.Lit.{Lit}
-use Rattle.circuits.specs.declared.definition.Def.{Def}
-use Rattle.circuits.specs.declared.definition.Def.TheVariants.{And}
 use Rattle.aiger_reader.specs.declared.limits.Header.{Header}
 use Rattle.aiger_reader.specs.declared.body.Literals.{Literals}
 use Rattle.aiger_reader.specs.Headers.{Begins}
@@ -41,10 +38,3 @@ pub record IsBinaryBody (header : Header) (outputs : List ℕ) (gates : List (�
   pub in_range : All (λ literal. literal ≤ 2 * header.variables + 1) outputs
   pub gates_read : length gates ≡ header.gates
   pub below : ArePairsBelow (header.inputs + 1) gates
-
--- the literal with this number, and the AND of two literals with these
-abbrev pub lit_from : ℕ → Lit
-lit_from number = record { 0 = number }
-
-abbrev pub and_from : ℕ × ℕ → Def
-and_from gate = And (lit_from gate.0) (lit_from gate.1)

@@ -3,13 +3,12 @@
 use Rattle.std.specs.Prelude.{◌≡◌, ◌≢◌, ℕ, ◌+◌, ◌*◌, ◌/◌, ◌%◌, ◌<◌, ◌≤◌, ◌==◌, Bool, true, false, IsTrue, List, [], ◌∷◌, ◌++◌, length, map, take, drop, All, AllPairs, Contains, Some, slice_index_or, replicate, if◌then◌else◌}
 use Rattle.std.specs.List.{position_or_len}
 use Rattle.text_core.specs.Lines.{lines, text_of_lines}
-use Rattle.text_core.specs.Words.{words}
-use Rattle.text_core.specs.Numbers.{number}
 use Rattle.circuits.specs.declared.netlist.Lit.{Lit}
 use Rattle.circuits.specs.declared.definition.Def.TheVariants.{And}
 use Rattle.circuits.specs.Circuits.{Circuit}
 use Rattle.net_core.specs.declared.named.NetKind.{NetKind}
 use Rattle.net_core.specs.declared.named.NetKind.TheVariants as kind
+use Rattle.aiger_reader.specs.Words.{numbers_on}
 use Rattle.aiger_reader.specs.Headers.{AigerHeader}
 
 -- what a line of the body gives
@@ -46,7 +45,7 @@ line_offset bytes k = length (text_of_lines (take k (lines bytes)))
 
 -- A line has exactly the wanted number of words, and they write these numbers.
 pub record Writes (line : List ℕ) (role : Role) (row : List ℕ) : Type 0 where
-  pub numbers : map number (words line) ≡ map Some row
+  pub numbers : numbers_on line ≡ map Some row
   pub width : length row ≡ wanted role
 
 abbrev pub first_of : List ℕ → ℕ
@@ -132,9 +131,14 @@ pub record IsUndefined (bytes : List ℕ) (h : AigerHeader) (rows : List (List �
   pub first : (k : ℕ) → k < place → IsKnownRow h rows k
   pub offset : at ≡ line_offset bytes (place + 1)
 
+-- the literal with this number
+abbrev pub lit_from : ℕ → Lit
+lit_from number = record { 0 = number }
+
 -- the literal of the netlist for a literal of the file: the variable that is defined in place p is signal p + 1
 abbrev pub literal_of : List ℕ → ℕ → Lit
-literal_of variables literal = record { 0 = 2 * (if literal / 2 == 0 then 0 else 1 + position_or_len (λ v. v == literal / 2) variables) + literal % 2 }
+literal_of variables literal =
+    lit_from (2 * (if literal / 2 == 0 then 0 else 1 + position_or_len (λ v. v == literal / 2) variables) + literal % 2)
 
 -- the netlist of the ASCII form's body
 abbrev pub text_circuit : AigerHeader → List (List ℕ) → Circuit

@@ -1,9 +1,10 @@
 -- The AND gates of the binary AIGER form (AIGER 1.9): two deltas each, numbers in groups of seven bits, lowest first.
 use Rattle.std.specs.Prelude.{◌≡◌, ℕ, ◌+◌, ◌-◌, ◌*◌, ◌<◌, ◌≤◌, ◌⊎◌, List, [], ◌∷◌, ◌++◌, length, map, drop}
+use Rattle.circuits.specs.declared.definition.Def.{Def}
 use Rattle.circuits.specs.declared.definition.Def.TheVariants.{And}
 use Rattle.circuits.specs.Circuits.{Circuit}
 use Rattle.aiger_reader.specs.Headers.{AigerHeader}
-use Rattle.aiger_reader.specs.Bodies.{line_offset, first_of}
+use Rattle.aiger_reader.specs.Bodies.{line_offset, first_of, lit_from}
 
 -- The last byte of a number is below 128 and stands for itself. One from 128 on has the low seven bits, and the bytes after
 -- it stand for the rest.
@@ -12,19 +13,16 @@ IsInGroups [] n = ⊥
 IsInGroups (byte ∷ []) n = (byte < 128) × (n ≡ byte)
 IsInGroups (byte ∷ next ∷ bytes) n = (128 ≤ byte) × (high : ℕ) × (n ≡ byte - 128 + 128 * high) × IsInGroups (next ∷ bytes) high
 
--- The bytes begin with a number of at most five groups.
-pub record BeginsDelta (bytes : List ℕ) (delta : ℕ) (rest : List ℕ) : Type 0 where
-  pub groups : List ℕ
-  pub spelled : bytes ≡ groups ++ rest
-  pub value : IsInGroups groups delta
-  pub short : length groups ≤ 5
-
 -- The bytes begin with a number of at most so many groups.
 pub record BeginsGroups (most : ℕ) (bytes : List ℕ) (n : ℕ) (rest : List ℕ) : Type 0 where
   pub groups : List ℕ
   pub spelled : bytes ≡ groups ++ rest
   pub value : IsInGroups groups n
   pub short : length groups ≤ most
+
+-- a delta has five groups at most
+abbrev pub BeginsDelta : List ℕ → ℕ → List ℕ → Type 0
+BeginsDelta bytes delta rest = BeginsGroups 5 bytes delta rest
 
 abbrev pub BeginsNoDelta : List ℕ → Type 0
 BeginsNoDelta bytes = (delta : ℕ) (rest : List ℕ) → BeginsDelta bytes delta rest → ⊥
@@ -72,17 +70,17 @@ pub record IsPairFault (variable count : ℕ) (bytes : List ℕ) (total at : ℕ
   pub why : IsBadPair (2 * (variable + length gates)) rest total at
 
 -- The first delta that is cut off, too long or out of range, at its first byte.
-pub record IsDeltaFault (bytes : List ℕ) (h : AigerHeader) (at : ℕ) : Type 0 where
-  pub gates : List (ℕ × ℕ)
-  pub rest : List ℕ
-  pub fewer : length gates < h.gates
-  pub read : BeginsGates (h.inputs + 1) (behind_outputs bytes h) gates rest
-  pub why : IsBadPair (2 * (h.inputs + 1 + length gates)) rest (length bytes) at
+abbrev pub IsDeltaFault : List ℕ → AigerHeader → ℕ → Type 0
+IsDeltaFault bytes h at = IsPairFault (h.inputs + 1) h.gates (behind_outputs bytes h) (length bytes) at
+
+-- the AND of the literals with these numbers
+abbrev pub and_from : ℕ × ℕ → Def
+and_from gate = And (lit_from gate.0) (lit_from gate.1)
 
 -- the netlist of the binary form
 abbrev pub binary_circuit : AigerHeader → List (List ℕ) → List (ℕ × ℕ) → Circuit
 binary_circuit h rows gates = record {
   inputs = h.inputs;
-  defs = map (λ gate. And (record { 0 = gate.0 }) (record { 0 = gate.1 })) gates;
-  outputs = map (λ row. record { 0 = first_of row }) rows;
+  defs = map and_from gates;
+  outputs = map (λ row. lit_from (first_of row)) rows;
 }

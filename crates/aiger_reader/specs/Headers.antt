@@ -1,11 +1,10 @@
 -- The first line of an AIGER file (AIGER 1.9): `aag` or `aig`, the numbers M I L O A, and at most four more, B C J F.
-use Rattle.std.specs.Prelude.{◌≡◌, ℕ, ◌+◌, ◌^◌, ◌<◌, ◌≤◌, ◌||◌, Bool, IsTrue, List, [], ◌∷◌, length, map, take, drop, All, Option, None, Some, nat_lt, codes, slice_index_or, if◌then◌else◌}
+use Rattle.std.specs.Prelude.{◌≡◌, ℕ, ◌+◌, ◌≤◌, ◌||◌, Bool, IsTrue, List, [], ◌∷◌, length, map, take, drop, Option, None, Some, nat_lt, codes, slice_index_or, if◌then◌else◌}
 use Rattle.std.specs.List.{list_any}
 use Rattle.text_core.specs.Lines.{lines}
-use Rattle.text_core.specs.Words.{words}
-use Rattle.text_core.specs.Numbers.{number}
 use Rattle.net_core.specs.declared.named.NetKind.{NetKind}
 use Rattle.net_core.specs.declared.named.NetKind.TheVariants as kind
+use Rattle.aiger_reader.specs.Words.{numbers_on, AreSmall}
 
 pub record AigerHeader : Type 0 where
   -- whether the file is in the binary form
@@ -26,12 +25,20 @@ header_numbers h = h.variables ∷ h.inputs ∷ h.latches ∷ h.outputs ∷ h.ga
 abbrev pub keyword : Bool → List ℕ
 keyword binary = if binary then codes "aig " else codes "aag "
 
+-- the first line of a file behind the keyword
+abbrev pub line_behind : List ℕ → List ℕ
+line_behind bytes = slice_index_or (lines (drop 4 bytes)) 0 []
+
+-- The line writes five to nine numbers of 32 bits: those of a header.
+pub record WritesHeader (line : List ℕ) (h : AigerHeader) : Type 0 where
+  pub written : numbers_on line ≡ map Some (header_numbers h)
+  pub few : length h.properties ≤ 4
+  pub small : AreSmall (header_numbers h)
+
 -- The file begins with this header.
 pub record HasHeader (bytes : List ℕ) (h : AigerHeader) : Type 0 where
   pub begins : take 4 bytes ≡ keyword h.binary
-  pub numbers : map number (words (slice_index_or (lines (drop 4 bytes)) 0 [])) ≡ map Some (header_numbers h)
-  pub few : length h.properties ≤ 4
-  pub small : All (λ n. n < 2 ^ 32) (header_numbers h)
+  pub numbers : WritesHeader (line_behind bytes) h
   pub counted : h.inputs + h.latches + h.gates ≤ h.variables
   pub no_gaps : IsTrue h.binary → h.inputs + h.latches + h.gates ≡ h.variables
 

@@ -2,9 +2,8 @@ pub mod Bodies
 pub mod Headers
 pub mod Numbered
 pub mod Numbers
-pub mod Plain
+pub mod Words
 pub mod Reading
-pub mod Rows
 pub use Rattle.net_core.specs.Graph
 pub use Rattle.circuits.specs.Netlists
 pub mod Aiger

@@ -7,7 +7,7 @@ use Rattle.circuits.specs.declared.definition.Def.TheVariants.{And}
 use Rattle.aiger_reader.specs.declared.body.AndLine.{AndLine}
 use Rattle.aiger_reader.specs.declared.body.Literals.{Literals}
 use Rattle.aiger_reader.specs.Headers.{AigerHeader}
-use Rattle.aiger_reader.specs.Bodies.{roles_of, defined}
+use Rattle.aiger_reader.specs.Bodies.{roles_of, defined, lit_from}
 use Rattle.aiger_reader.specs.Reading.{rows_of, input_lines_of, gate_lines_of, HasCounts, IsNumbering}
 
 -- All announced lines are read, with literals in range, and the table is of the variables that they define.
@@ -26,7 +26,8 @@ have_places signals line = has_place signals line.a && has_place signals line.b
 
 -- the literal of the netlist, by the table
 abbrev pub lit_in : List ℕ → ℕ → Lit
-lit_in signals literal = record { 0 = 2 * (if literal / 2 == 0 then 0 else slice_index_or signals (literal / 2) 0) + literal % 2 }
+lit_in signals literal =
+    lit_from (2 * (if literal / 2 == 0 then 0 else slice_index_or signals (literal / 2) 0) + literal % 2)
 
 -- the definition of a gate, by the table
 abbrev pub def_in : List ℕ → AndLine → Def

@@ -1,13 +1,11 @@
 -- The header as it is read: its numbers, and what is kept of it (AIGER 1.9).
-use Rattle.std.specs.Prelude.{◌≡◌, ℕ, ◌+◌, ◌^◌, ◌<◌, ◌≤◌, ◌⊎◌, Bool, IsTrue, List, [], length, map, drop, All, Some, nat_lt, slice_index_or}
+use Rattle.std.specs.Prelude.{◌≡◌, ℕ, ◌+◌, ◌≤◌, ◌⊎◌, Bool, IsTrue, List, Some, nat_lt}
 use Rattle.std.specs.List.{list_any}
-use Rattle.text_core.specs.Lines.{lines}
 use Rattle.net_core.specs.declared.named.NetKind.{NetKind}
 use Rattle.net_core.specs.declared.named.NetKind.TheVariants as kind
 use Rattle.aiger_reader.specs.declared.limits.Header.{Header}
 use Rattle.aiger_reader.specs.declared.header.Numbers.{Numbers}
-use Rattle.aiger_reader.specs.Plain.{numbers_on}
-use Rattle.aiger_reader.specs.Headers.{AigerHeader, header_numbers, HasHeader, header_fault}
+use Rattle.aiger_reader.specs.Headers.{AigerHeader, WritesHeader, HasHeader, header_fault}
 
 -- the whole header of the numbers that are kept of it: it has no latches
 abbrev pub header_of : Header → List ℕ → AigerHeader
@@ -34,16 +32,6 @@ header_from binary numbers properties =
       gates = numbers.gates;
       properties = properties;
     }
-
--- the first line of a file behind the keyword
-abbrev pub line_behind : List ℕ → List ℕ
-line_behind bytes = slice_index_or (lines (drop 4 bytes)) 0 []
-
--- The line writes five to nine numbers of 32 bits: those of a header.
-pub record WritesHeader (line : List ℕ) (h : AigerHeader) : Type 0 where
-  pub written : numbers_on line ≡ map Some (header_numbers h)
-  pub few : length h.properties ≤ 4
-  pub small : All (λ n. n < 2 ^ 32) (header_numbers h)
 
 -- The line writes these numbers, with or without a property.
 pub record WritesNumbers (line : List ℕ) (numbers : Numbers) : Type 0 where

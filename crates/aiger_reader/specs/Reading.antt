@@ -9,7 +9,7 @@ use Rattle.net_core.specs.declared.named.NetStop.{NetStop}
 use Rattle.net_core.specs.declared.named.NetStop.TheVariants.{Fault, Memory}
 use Rattle.aiger_reader.specs.declared.body.AndLine.{AndLine}
 use Rattle.aiger_reader.specs.declared.body.Literals.{Literals}
-use Rattle.aiger_reader.specs.Plain.{numbers_on}
+use Rattle.aiger_reader.specs.Words.{numbers_on}
 use Rattle.aiger_reader.specs.Headers.{AigerHeader}
 use Rattle.aiger_reader.specs.Bodies.{roles_of, role_at, wanted, defines, defined, body_lines, line_offset, first_of, AreGood, IsBodyFault}
 

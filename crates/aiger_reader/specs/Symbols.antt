@@ -24,16 +24,9 @@ pub record Port : Type 0 where
   pub is_output : Bool
   pub position : ℕ
 
--- The line gives this port this name: `i` or `o`, a position in digits, one blank, and a name that goes to the line's end.
-pub record NamesPort (line : List ℕ) (port : Port) (name : List ℕ) : Type 0 where
-  pub digits : List ℕ
-  pub blank : ℕ
-  pub tail : List ℕ
-  pub form : line ≡ (if port.is_output then 111 else 105) ∷ digits ++ blank ∷ tail
-  pub place : number digits ≡ Some port.position
-  pub blank_is : is_blank blank ≡ true
-  pub name_is : IsWithoutReturn tail name
-  pub named : name ≢ []
+-- the letter that a port's line begins with: `o` or `i`
+abbrev pub letter_of : Bool → ℕ
+letter_of is_output = if is_output then 111 else 105
 
 -- The bytes begin with a position in digits and one blank, and this stands behind them.
 pub record BeginsPosition (bytes : List ℕ) (position : ℕ) (tail : List ℕ) : Type 0 where
@@ -43,8 +36,14 @@ pub record BeginsPosition (bytes : List ℕ) (position : ℕ) (tail : List ℕ) 
   pub place : number digits ≡ Some position
   pub blank_is : is_blank blank ≡ true
 
-abbrev pub letter_of : Bool → ℕ
-letter_of is_output = if is_output then 111 else 105
+-- The line gives this port this name: a letter, a position and one blank, and a name that goes to the line's end.
+pub record NamesPort (line : List ℕ) (port : Port) (name : List ℕ) : Type 0 where
+  pub rest : List ℕ
+  pub tail : List ℕ
+  pub form : line ≡ letter_of port.is_output ∷ rest
+  pub place : BeginsPosition rest port.position tail
+  pub name_is : IsWithoutReturn tail name
+  pub named : name ≢ []
 
 abbrev pub port_at : Bool → ℕ → Port
 port_at is_output position = record { is_output = is_output; position = position }
@@ -68,9 +67,9 @@ abbrev pub GiveNames : ℕ → ℕ → List (List ℕ) → List (Port × List �
 GiveNames inputs outputs [] before entries = entries ≡ before
 GiveNames inputs outputs (line ∷ lines) before entries = (new : List (Port × List ℕ)) × GivesName line new × All (λ entry. IsThere inputs outputs entry.0) new × All (λ entry. All (λ old. old.0 ≢ entry.0) before) new × GiveNames inputs outputs lines (before ++ new) entries
 
--- the line goes on from the names before it to those after it
+-- one line goes on from the names before it to those after it
 abbrev pub AddsName : ℕ → ℕ → List ℕ → List (Port × List ℕ) → List (Port × List ℕ) → Type 0
-AddsName inputs outputs line before after = (new : List (Port × List ℕ)) × GivesName line new × All (λ entry. IsThere inputs outputs entry.0) new × All (λ entry. All (λ old. old.0 ≢ entry.0) before) new × (after ≡ before ++ new)
+AddsName inputs outputs line before after = GiveNames inputs outputs (line ∷ []) before after
 
 -- The port has a name, and this is the one.
 pub record IsNamed (entries : List (Port × List ℕ)) (port : Port) (name : List ℕ) : Type 0 where
@@ -120,7 +119,7 @@ pub record IsSymbolFault (inputs outputs base : ℕ) (text : List ℕ) (at : ℕ
 -- The name of a port: the one that a symbol gives it, else its letter and its position.
 pub record IsNameOf (entries : List (Port × List ℕ)) (port : Port) (name : List ℕ) : Type 0 where
   pub given : (k : ℕ) → k < length entries → (d : Port × List ℕ) → (slice_index_or entries k d).0 ≡ port → name ≡ (slice_index_or entries k d).1
-  pub unnamed : All (λ entry. entry.0 ≢ port) entries → name ≡ (if port.is_output then 111 else 105) ∷ decimal port.position
+  pub unnamed : All (λ entry. entry.0 ≢ port) entries → name ≡ letter_of port.is_output ∷ decimal port.position
 
 -- the names of all ports of a kind, at their positions
 pub record ArePortNames (entries : List (Port × List ℕ)) (is_output : Bool) (count : ℕ) (names : List (List ℕ)) : Type 0 where

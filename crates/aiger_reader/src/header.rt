@@ -2,14 +2,13 @@
 
 ghost use Rattle.std.specs.Prelude.{◌≡◌, ℕ, ◌^◌, ◌<◌, ◌≤◌, ◌↔◌, Bool, List, length, map, take, IsTrue, Some, None, IfOk, IfErr, IfSome, IfNone, nat_lt};
 ghost use Rattle.std.specs.List.{list_any};
-ghost use Rattle.aiger_reader.specs.Plain.{numbers_on};
-ghost use Rattle.aiger_reader.specs.Rows.{AreSmall};
-ghost use Rattle.aiger_reader.specs.Headers.{AigerHeader, keyword, HasHeader, Begins, header_fault};
-ghost use Rattle.aiger_reader.specs.Numbers.{header_of, header_from, line_behind, WritesHeader, WritesNumbers, IsCounted, IsHeaderFault};
+ghost use Rattle.aiger_reader.specs.Words.{numbers_on, AreSmall};
+ghost use Rattle.aiger_reader.specs.Headers.{AigerHeader, keyword, line_behind, WritesHeader, HasHeader, Begins, header_fault};
+ghost use Rattle.aiger_reader.specs.Numbers.{header_of, header_from, WritesNumbers, IsCounted, IsHeaderFault};
 
 pub(crate) use crate::limits::Header;
 use crate::limits::{MOST_GATES, MOST_INPUTS, MOST_OUTPUTS, MOST_VARIABLES};
-use crate::rows::{has_no_word, number_of};
+use crate::words::{has_no_word, number_of};
 use net_core::NetKind;
 use text_core::{Cursor, Span, next_word};
 

@@ -1,6 +1,6 @@
 //! Laws of the definitions: what a file is, and its first fault, are determined.
 
-ghost use Rattle.std.specs.Prelude.{◌≡◌, ℕ, List};
+ghost use Rattle.std.specs.Prelude.{◌≡◌, ℕ, ◌≤◌, List, length};
 ghost use Rattle.circuits.specs.Netlists.{Net};
 ghost use Rattle.net_core.specs.declared.named.NetKind.{NetKind};
 ghost use Rattle.aiger_reader.specs.Aiger.{IsAiger, IsAigerFault};
@@ -21,4 +21,10 @@ pub fn aiger_or_fault()
 pub fn one_aiger_fault()
     ensures { (bytes : List ℕ) (fault other : NetKind) (at place : ℕ) → IsAigerFault bytes fault at
         → IsAigerFault bytes other place → (fault ≡ other) × (at ≡ place) }
+{}
+
+/// A file that is a netlist has at most 1,024 inputs and as many outputs.
+pub fn few_ports()
+    ensures { (bytes : List ℕ) (net : Net) (i o : List (List ℕ)) → IsAiger bytes net i o
+        → (net.inputs ≤ 1024) × (length net.outputs ≤ 1024) }
 {}

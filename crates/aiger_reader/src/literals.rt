@@ -6,7 +6,7 @@ ghost use Rattle.text_core.specs.Lines.{after_line};
 ghost use Rattle.text_core.specs.Numbers.{number};
 ghost use Rattle.aiger_reader.specs.Reading.{capped_on, next_line_of, IsRowOn, IsRowFault, IsNextFault};
 
-use crate::rows::has_no_word;
+use crate::words::has_no_word;
 use net_core::{NetFault, NetKind};
 use text_core::{Cursor, NumberFault, Span, decimal, next_word};
 

@@ -3,115 +3,6 @@ use items::Items;
 use std::alloc::Global;
 use std::test::Fail;
 
-#[test]
-fn reads_the_plain_form(rt: HostRuntime) -> Result<(), Fail> {
-    let gate = |a, b| Gate {
-        a: Lit(a),
-        b: Lit(b),
-    };
-    let table: [(&[u8], u32, &[Gate], &[Lit]); 9] = [
-        (
-            b"aag 3 2 0 2 1\n2\n4\n6\n2\n6 2 4\n",
-            2,
-            &[gate(2, 4)],
-            &[Lit(6), Lit(2)],
-        ),
-        (
-            b"aag 4 2 0 1 2\n2\n4\n9\n6 5 2\n8 7 3\n",
-            2,
-            &[gate(5, 2), gate(7, 3)],
-            &[Lit(9)],
-        ),
-        (b"aag 1 0 0 1 1\n2\n2 1 0\n", 0, &[gate(1, 0)], &[Lit(2)]),
-        (
-            b"aag 12 12 0 0 0\n2\n4\n6\n8\n10\n12\n14\n16\n18\n20\n22\n24\n",
-            12,
-            &[],
-            &[],
-        ),
-        (b"aag 0 0 0 0 0\n", 0, &[], &[]),
-        (b"aag 1 1 0 1 0\n2\n3\n", 1, &[], &[Lit(3)]),
-        (b"aag 1 1 0 1 0\n2\n3", 1, &[], &[Lit(3)]),
-        (b"aag 1 1 0 0 0\n00000000000000000002\n", 1, &[], &[]),
-        (
-            b"aag  \t3 2\t 0 2   1 \r\n 2\r\n\t4\n6 \n2\t\n6  2 \t4 \r\n",
-            2,
-            &[gate(2, 4)],
-            &[Lit(6), Lit(2)],
-        ),
-    ];
-    for (text, inputs, gates, outputs) in table {
-        let graph = read_plain(rt.alloc(), text)?;
-        assert_eq!(rt; graph.inputs(), inputs, "at {text:?}");
-        assert_eq!(rt; graph.gates(), gates, "at {text:?}");
-        assert_eq!(rt; graph.outputs(), outputs, "at {text:?}");
-    }
-    Ok(())
-}
-
-#[test]
-fn refuses_all_else(rt: HostRuntime) {
-    let table: [&[u8]; 45] = [
-        // nothing, another format, or no header
-        b"",
-        b"aag",
-        b"aag ",
-        b"aag \n",
-        b"aig 0 0 0 0 0\n",
-        b" aag 0 0 0 0 0\n",
-        b"aag\t0 0 0 0 0\n",
-        b"aag 0 0 0 0\n",
-        b"aag 0 0 0 0 0 0\n",
-        b"aag 0 0 0 0 -0\n",
-        // each count off by one
-        b"aag 4 2 0 2 1\n2\n4\n6\n2\n6 2 4\n",
-        b"aag 2 2 0 2 1\n2\n4\n6\n2\n6 2 4\n",
-        b"aag 3 3 0 2 1\n2\n4\n6\n2\n6 2 4\n",
-        b"aag 3 1 0 2 1\n2\n4\n6\n2\n6 2 4\n",
-        b"aag 3 2 1 2 1\n2\n4\n6\n2\n6 2 4\n",
-        b"aag 3 2 0 3 1\n2\n4\n6\n2\n6 2 4\n",
-        b"aag 3 2 0 1 1\n2\n4\n6\n2\n6 2 4\n",
-        b"aag 3 2 0 2 2\n2\n4\n6\n2\n6 2 4\n",
-        b"aag 3 2 0 2 0\n2\n4\n6\n2\n6 2 4\n",
-        // a latch, and thirteen inputs
-        b"aag 1 0 1 0 0\n2 2\n",
-        b"aag 13 13 0 0 0\n2\n4\n6\n8\n10\n12\n14\n16\n18\n20\n22\n24\n26\n",
-        // inputs that are no plain literals in order
-        b"aag 2 2 0 0 0\n4\n2\n",
-        b"aag 1 1 0 0 0\n3\n",
-        b"aag 1 1 0 0 0\n+2\n",
-        b"aag 1 1 0 0 0\n2 2\n",
-        b"aag 1 1 0 0 0\n4294967298\n",
-        b"aag 1 1 0 0 0\n18446744073709551618\n",
-        // an output without a variable
-        b"aag 1 1 0 1 0\n2\n4\n",
-        b"aag 0 0 0 1 0\n2\n",
-        // gates out of order
-        b"aag 1 0 0 0 1\n4 0 0\n",
-        b"aag 1 0 0 0 1\n3 0 0\n",
-        b"aag 1 0 0 0 1\n2 2 0\n",
-        b"aag 1 0 0 0 1\n2 0 2\n",
-        b"aag 3 1 0 0 2\n2\n4 2 3\n6 7 2\n",
-        b"aag 3 1 0 0 2\n2\n4 2 3\n6 2 8\n",
-        b"aag 1 0 0 0 1\n2 0\n",
-        b"aag 1 0 0 0 1\n2 0 0 0\n",
-        // lines that are missing or too many
-        b"aag 1 1 0 1 0\n2\n",
-        b"aag 1 1 0 1 0\n2\n\n3\n",
-        b"aag 1 1 0 1 0\n2\n3\n\n",
-        b"aag 1 1 0 1 0\n2\n3\n2\n",
-        b"aag 1 1 0 0 0\n2\ni0 a\n",
-        b"aag 0 0 0 0 0\nc\n",
-        // a byte that is no blank
-        b"aag 0 0 0 0 0\0\n",
-        b"aag 0 0 0 0 0\n\0",
-    ];
-    for text in table {
-        let stop = read_plain(rt.alloc(), text).err();
-        assert_eq!(rt; stop, Some(PlainStop::Unbuilt), "at {text:?}");
-    }
-}
-
 // The names one after another, each with a comma behind it.
 fn joined(alloc: Global, names: &Items<Name>) -> Result<Vec<u8>, NetStop> {
     let mut text = Vec::new(alloc);
@@ -132,7 +23,7 @@ fn reads_either_form(rt: HostRuntime) -> Result<(), Fail> {
         a: Lit(a),
         b: Lit(b),
     };
-    let table: [(&[u8], u32, &[Gate], &[Lit], &[u8], &[u8]); 6] = [
+    let table: [(&[u8], u32, &[Gate], &[Lit], &[u8], &[u8]); 10] = [
         // an AND gate in both forms
         (
             b"aag 3 2 0 1 1\n2\n4\n6\n6 2 4\n",
@@ -166,6 +57,48 @@ fn reads_either_form(rt: HostRuntime) -> Result<(), Fail> {
             &[gate(2, 1), gate(4, 3)],
             &[Lit(7)],
             b"i0,",
+            b"o0,",
+        ),
+        // gates behind those that read them: the first is of level 2
+        (
+            b"aag 4 2 0 1 2\n2\n4\n8\n8 6 2\n6 2 4\n",
+            2,
+            &[gate(2, 4), gate(6, 2)],
+            &[Lit(8)],
+            b"i0,i1,",
+            b"o0,",
+        ),
+        (
+            b"aag 5 2 0 1 3\n2\n4\n10\n10 7 9\n8 3 5\n6 2 4\n",
+            2,
+            &[gate(3, 5), gate(2, 4), gate(9, 7)],
+            &[Lit(10)],
+            b"i0,i1,",
+            b"o0,",
+        ),
+        // six NAND gates of five inputs, each numbered behind its operands
+        (
+            b"aig 11 5 0 2 6\n23\n21\n\x04\x03\x08\x01\x03\x03\x05\x0b\x03\x02\x03\x02",
+            5,
+            &[
+                gate(8, 5),
+                gate(6, 5),
+                gate(13, 10),
+                gate(13, 2),
+                gate(17, 15),
+                gate(19, 17),
+            ],
+            &[Lit(23), Lit(21)],
+            b"i0,i1,i2,i3,i4,",
+            b"o0,o1,",
+        ),
+        // blanks between the words, a carriage return, leading zeros, and no line feed at the end
+        (
+            b"aag  \t3 2\t 0 1   1 \r\n 2\r\n\t4\n0006 \n6  2 \t4",
+            2,
+            &[gate(2, 4)],
+            &[Lit(6)],
+            b"i0,i1,",
             b"o0,",
         ),
         // constants, and a delta of two bytes
@@ -204,25 +137,143 @@ fn reads_either_form(rt: HostRuntime) -> Result<(), Fail> {
 }
 
 #[test]
+fn reads_names(rt: HostRuntime) -> Result<(), Fail> {
+    let table: [(&[u8], &[u8], &[u8]); 7] = [
+        // a name with a blank, and a comment
+        (
+            b"aag 1 1 0 1 0\n2\n2\ni0 in put\no0 q\nc\nx",
+            b"in put,",
+            b"q,",
+        ),
+        // a name that begins with a blank; of two carriage returns at the end only the last goes
+        (b"aag 1 1 0 1 0\n2\n2\ni0  x\no0 q\r\r\n", b" x,", b"q\r,"),
+        // blank lines among the symbols, and no line feed at the end
+        (b"aag 1 1 0 1 0\n2\n2\n\ni0 a\n \t\r\n\no0\tb", b"a,", b"b,"),
+        // outputs first, positions with leading zeros, and ports that have no name
+        (b"aag 2 2 0 1 0\n2\n4\n2\no00 f\ni01 i0\n", b"i0,i0,", b"f,"),
+        // names of the binary form
+        (
+            b"aig 3 2 0 1 1\n6\n\x02\x02i0 a\ni1 b\no0 c\n",
+            b"a,b,",
+            b"c,",
+        ),
+        // whatever begins with `c` opens the comment
+        (b"aag 1 1 0 1 0\n2\n2\ncomment\ni9 x\n", b"i0,", b"o0,"),
+        // bytes of no alphabet
+        (b"aag 1 1 0 1 0\n2\n2\ni0 \xff\x00\n", b"\xff\x00,", b"o0,"),
+    ];
+    for (text, input_names, output_names) in table {
+        let named = read(rt.alloc(), text)?;
+        let inputs = joined(rt.alloc(), &named.input_names)?;
+        let outputs = joined(rt.alloc(), &named.output_names)?;
+        assert_eq!(rt; inputs.as_slice(), input_names, "at {text:?}");
+        assert_eq!(rt; outputs.as_slice(), output_names, "at {text:?}");
+    }
+    Ok(())
+}
+
+#[test]
+fn finds_faults_of_the_header(rt: HostRuntime) {
+    let table: [(&[u8], NetKind); 24] = [
+        // no header of either form
+        (b"", NetKind::Header),
+        (b"aag", NetKind::Header),
+        (b"aag ", NetKind::Header),
+        (b" aag 0 0 0 0 0\n", NetKind::Header),
+        (b"aag\t0 0 0 0 0\n", NetKind::Header),
+        (b"aig 0 0 0 0\n", NetKind::Header),
+        (b"aag 0 0 0 0 0 0 0 0 0 0\n", NetKind::Header),
+        (b"aag 0 0 0 0 -0\n", NetKind::Header),
+        (b"aag 0 0 0 0 0\0\n", NetKind::Header),
+        (b"aag 4294967296 0 0 0 0\n", NetKind::Header),
+        // variables too few, or in the binary form too many
+        (b"aag 1 1 0 0 1\n2\n4 2 2\n", NetKind::Header),
+        (b"aag 1 1 1 0 0\n2\n", NetKind::Header),
+        (b"aig 4 2 0 1 1\n6\n\x02\x02", NetKind::Header),
+        (b"aig 0 0 0 0 1\n", NetKind::Header),
+        // latches come before properties, and these before limits
+        (b"aag 1 0 1 0 0\n2 3\n", NetKind::Sequential),
+        (b"aag 1 0 1 0 0 1\n2 3\n2\n", NetKind::Sequential),
+        (b"aag 0 0 0 0 0 1\n0\n", NetKind::Property),
+        (b"aag 1025 1025 0 0 0 0 0 0 1\n", NetKind::Property),
+        (b"aag 1025 1025 0 0 0\n", NetKind::TooManyInputs),
+        (b"aag 1025 1025 0 1025 0\n", NetKind::TooManyInputs),
+        (b"aag 0 0 0 1025 0\n", NetKind::TooManyOutputs),
+        (b"aag 1000001 0 0 0 1000001\n", NetKind::TooManyGates),
+        (b"aag 4000001 0 0 0 0\n", NetKind::TooManyGates),
+        (b"aag 4294967295 0 0 0 0\n", NetKind::TooManyGates),
+    ];
+    for (text, kind) in table {
+        let stop = NetStop::Fault(NetFault { kind, at: 0 });
+        assert_eq!(rt; read(rt.alloc(), text).err(), Some(stop), "at {text:?}");
+    }
+}
+
+#[test]
 fn finds_the_first_fault(rt: HostRuntime) {
-    let table: [(&[u8], NetKind, u64); 17] = [
-        (b"", NetKind::Header, 0),
-        (b"aig 4 2 0 1 1\n6\n\x02\x02", NetKind::Header, 0),
-        (b"aag 1 0 1 0 0\n2 2\n", NetKind::Sequential, 0),
-        (b"aag 0 0 0 0 0 1\n0\n", NetKind::Property, 0),
-        (b"aag 1025 1025 0 0 0\n", NetKind::TooManyInputs, 0),
-        (b"aag 0 0 0 1025 0\n", NetKind::TooManyOutputs, 0),
-        (b"aag 1000001 0 0 0 1000001\n", NetKind::TooManyGates, 0),
-        (b"aag 4000001 0 0 0 0\n", NetKind::TooManyGates, 0),
+    let table: [(&[u8], NetKind, u64); 41] = [
+        // lines that aren't what the header announces
+        (b"aag 0 0 0 1 0\nx\n", NetKind::BadLine, 14),
+        (b"aag 0 0 0 1 0\n\n", NetKind::BadLine, 14),
         (b"aag 1 1 0 1 0\n2\n2 2\n", NetKind::BadLine, 16),
-        (b"aag 1 1 0 1 0\n3\n", NetKind::BadLiteral, 14),
+        (b"aag 1 1 0 0 0\n+2\n", NetKind::BadLine, 14),
+        (b"aag 1 0 0 0 1\n2 0\n", NetKind::BadLine, 14),
+        (b"aag 1 0 0 0 1\n2 0 0 0\n", NetKind::BadLine, 14),
+        (b"aag 1 0 0 1 0\n4\n", NetKind::BadLiteral, 14),
+        (b"aag 1 1 0 0 0\n0\n", NetKind::BadLiteral, 14),
+        (b"aag 1 1 0 0 0\n3\n", NetKind::BadLiteral, 14),
+        (b"aag 1 0 0 0 1\n3 0 0\n", NetKind::BadLiteral, 14),
+        (b"aag 1 0 0 0 1\n1 0 0\n", NetKind::BadLiteral, 14),
+        (b"aag 1 0 0 0 1\n2 0 4\n", NetKind::BadLiteral, 14),
+        (b"aag 1 1 0 0 0\n4294967298\n", NetKind::BadLiteral, 14),
+        (
+            b"aag 1 1 0 0 0\n18446744073709551618\n",
+            NetKind::BadLiteral,
+            14,
+        ),
         (b"aag 2 2 0 0 0\n2\n2\n", NetKind::Redefined, 16),
-        (b"aag 2 1 0 1 0\n2\n4\n", NetKind::Undefined, 16),
-        (b"aig 3 2 0 1 1\n6\n\x02", NetKind::Delta, 17),
-        (b"aag 3 1 0 0 2\n2\n4 2 2\n6 6 2\n", NetKind::Cycle, 22),
-        (b"aag 1 1 0 0 0\n2\ni1 x\n", NetKind::BadSymbol, 16),
-        (b"aag 1 1 0 0 0\n2\ni0 x\ni0 y\n", NetKind::BadSymbol, 21),
+        (b"aag 2 1 0 0 1\n2\n2 0 0\n", NetKind::Redefined, 16),
+        (b"aag 0 0 0 1 0\n", NetKind::Truncated, 14),
         (b"aag 1 1 0 1 0\n2\n", NetKind::Truncated, 16),
+        (b"aag 1 1 0 1 0\n2", NetKind::Truncated, 15),
+        (b"aig 1 1 0 2 0\n2\n", NetKind::Truncated, 16),
+        // a literal that is bad stands before a variable that is defined twice, and both before one of no line
+        (b"aag 2 1 0 0 1\n2\n2 0 9\n", NetKind::BadLiteral, 16),
+        (b"aag 3 2 0 1 0\n2\n4\n6\n", NetKind::Undefined, 18),
+        (b"aag 1 0 0 1 0\n2\n", NetKind::Undefined, 14),
+        (b"aag 3 2 0 1 1\n2\n2\n7\n6 2 4\n", NetKind::Redefined, 16),
+        (b"aag 3 1 0 0 1\n2\n6 2 4\n", NetKind::Undefined, 16),
+        // deltas that are cut off, too long or out of range
+        (b"aig 3 2 0 1 1\n6\n", NetKind::Delta, 16),
+        (b"aig 3 2 0 1 1\n6\n\x82", NetKind::Delta, 16),
+        (b"aig 3 2 0 1 1\n6\n\x02", NetKind::Delta, 17),
+        (b"aig 3 2 0 1 1\n6\n\x07\x00", NetKind::Delta, 16),
+        (b"aig 3 2 0 1 1\n6\n\x00\x00", NetKind::Delta, 16),
+        (b"aig 3 2 0 1 1\n6\n\x02\x05", NetKind::Delta, 17),
+        (b"aig 1 0 0 0 1\n\x82\x82\x82\x82\x82", NetKind::Delta, 14),
+        (
+            b"aig 1 0 0 0 1\n\x82\x80\x80\x80\x80\x00\x00",
+            NetKind::Delta,
+            14,
+        ),
+        // cycles, at the first definition that is on one or above one
+        (
+            b"aag 4 2 0 1 2\n2\n4\n8\n8 6 2\n6 8 4\n",
+            NetKind::Cycle,
+            20,
+        ),
+        (b"aag 3 1 0 0 2\n2\n4 2 2\n6 6 2\n", NetKind::Cycle, 22),
+        // symbols
+        (b"aag 1 1 0 1 0\n2\n2\ni1 x\n", NetKind::BadSymbol, 18),
+        (b"aag 1 1 0 0 0\n2\ni0 x\ni0 y\n", NetKind::BadSymbol, 21),
+        (b"aag 1 1 0 0 0\n2\ni0 \n", NetKind::BadSymbol, 16),
+        (b"aag 1 1 0 0 0\n2\ni0\n", NetKind::BadSymbol, 16),
+        (b"aag 1 1 0 0 0\n2\n i0 x\n", NetKind::BadSymbol, 16),
+        (
+            b"aig 3 2 0 1 1\n6\n\x02\x02\no1 x\n",
+            NetKind::BadSymbol,
+            19,
+        ),
     ];
     for (text, kind, at) in table {
         let stop = NetStop::Fault(NetFault { kind, at });

@@ -7,8 +7,8 @@ ghost use Rattle.net_core.specs.declared.named.NetFault.{NetFault};
 ghost use Rattle.text_core.specs.Lines.{lines};
 ghost use Rattle.aiger_reader.specs.Numbers.{header_of};
 ghost use Rattle.aiger_reader.specs.Reading.{rows_of};
-ghost use Rattle.aiger_reader.specs.Bodies.{IsKnownRow, first_of, text_circuit, line_offset};
-ghost use Rattle.aiger_reader.specs.Assembly.{lit_from, and_from};
+ghost use Rattle.aiger_reader.specs.Bodies.{IsKnownRow, first_of, lit_from, text_circuit, line_offset};
+ghost use Rattle.aiger_reader.specs.Deltas.{and_from};
 ghost use Rattle.aiger_reader.specs.Numbered.{IsSound, circuit_from};
 ghost use Rattle.aiger_reader.specs.Symbols.{AreNames, IsSymbolFault};
 ghost use Rattle.aiger_reader.specs.Aiger.{IsAiger, IsAigerFault};
@@ -183,7 +183,7 @@ fn lits_of(alloc: Global, numbers: &[u32]) -> Result<Vec<Lit>, AllocFailed<Lit>>
     Ok(lits)
 }
 
-// The netlist in order. Its gates aren't too many, by the limit of the header.
+// The netlist in order.
 fn put_in_order(
     alloc: Global,
     input: &[u8],
@@ -202,7 +202,9 @@ fn put_in_order(
             kind: NetKind::Cycle,
             at: offset_of_line(input, gate_line(header, definition)),
         })),
-        Err(OrderFault::TooManyGates | OrderFault::Memory) => Err(NetStop::Memory),
+        // the header has a limit for them
+        Err(OrderFault::TooManyGates) => unreachable!(),
+        Err(OrderFault::Memory) => Err(NetStop::Memory),
     }
 }
 

@@ -1,7 +1,7 @@
 -- A word that is no number refutes each row.
 use Rattle.std.proofs.Common.{◌++◌, List, ℕ, map, take, Some, sym, ap, ◌∙◌}
 use Rattle.text_core.specs.Numbers.{number}
-use Rattle.aiger_reader.specs.Plain.{numbers_on}
+use Rattle.aiger_reader.specs.Words.{numbers_on}
 use Rattle.aiger_reader.proofs.HeaderLemmas.{no_number}
 use Rattle.aiger_reader.proofs.header.fill.Goals as goal
 

@@ -1,7 +1,6 @@
 -- The numbers so far and those that are left are those of the line.
 use Rattle.std.proofs.Common.{◌≡◌, ◌++◌, map, take, Some}
-use Rattle.aiger_reader.specs.Plain.{numbers_on}
-use Rattle.aiger_reader.specs.Rows.{AreSmall}
+use Rattle.aiger_reader.specs.Words.{numbers_on, AreSmall}
 use Rattle.aiger_reader.proofs.header.fill.Given as goal
 
 abbrev pub invariant-loop-count : goal.invariant-loop-count

@@ -2,9 +2,9 @@
 use Rattle.std.proofs.Common.{◌≡◌, drop, sym, ap, ◌∙◌, arith}
 use Rattle.std.proofs.lemmas.List.{take_rest}
 use Rattle.text_core.specs.Lines.{lines}
-use Rattle.aiger_reader.specs.Plain.{numbers_on}
+use Rattle.aiger_reader.specs.Words.{numbers_on}
 use Rattle.aiger_reader.specs.Headers.{header_numbers}
-use Rattle.aiger_reader.specs.Numbers.{line_behind}
+use Rattle.aiger_reader.specs.Headers.{line_behind}
 use Rattle.aiger_reader.proofs.HeaderLemmas.{line_behind-first, too_few, numbers_read}
 use Rattle.aiger_reader.proofs.header.read_numbers.Goals as goal
 

@@ -1,6 +1,6 @@
 -- So many gates are taken.
 use Rattle.std.proofs.Common.{◌≡◌, map, take}
-use Rattle.aiger_reader.specs.Assembly.{and_from}
+use Rattle.aiger_reader.specs.Deltas.{and_from}
 use Rattle.aiger_reader.proofs.whole.defs_of.Given as goal
 
 abbrev pub invariant-loop-gate : goal.invariant-loop-gate

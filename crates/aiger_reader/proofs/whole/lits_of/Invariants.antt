@@ -1,6 +1,6 @@
 -- So many numbers are taken.
 use Rattle.std.proofs.Common.{◌≡◌, map, take}
-use Rattle.aiger_reader.specs.Assembly.{lit_from}
+use Rattle.aiger_reader.specs.Bodies.{lit_from}
 use Rattle.aiger_reader.proofs.whole.lits_of.Given as goal
 
 abbrev pub invariant-loop-number : goal.invariant-loop-number

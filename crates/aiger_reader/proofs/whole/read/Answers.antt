@@ -1,6 +1,7 @@
 -- What the parts say of the whole.
 use Rattle.std.proofs.Common.{arith}
 use Rattle.std.proofs.lemmas.Result.{err_from_is_err_and}
+use Rattle.circuits.proofs.LevelOrders.{IsOrderOf-outputs}
 use Rattle.aiger_reader.specs.Numbers.{header_of}
 use Rattle.aiger_reader.proofs.WholeLemmas.{net_sizes, names_fault}
 use Rattle.aiger_reader.proofs.whole.read.Goals as goal
@@ -24,7 +25,7 @@ pub name_ports-requires-clause-outputs : goal.name_ports-requires-clause-outputs
 name_ports-requires-clause-outputs c =
     let net = c.in_ok-net.ensures.netlist in
     let sizes = net_sizes c.args.input.now (header_of c.in_ok-header.header net.0) c.in_ok-net.net _ net.1 in
-    omega (arith, sizes.outputs, c.in_ok-graph.ensures.order.same_outputs)
+    omega (arith, sizes.outputs, IsOrderOf-outputs c.in_ok-net.net c.in_ok-graph.graph c.in_ok-graph.ensures.order)
 
 pub returns-clause-fault : goal.returns-clause-fault
 returns-clause-fault c = λ fault same.

@@ -2,7 +2,9 @@
 use Rattle.std.proofs.Common.{◌≡◌, map, ap₂, ◌∙◌, arith}
 use Rattle.std.proofs.lemmas.Result.{IfOk-weaker, err_from_is_err_and}
 use Rattle.aiger_reader.specs.Numbered.{circuit_from}
-use Rattle.aiger_reader.specs.Assembly.{IsNetOf, lit_from, and_from}
+use Rattle.aiger_reader.specs.Assembly.{IsNetOf}
+use Rattle.aiger_reader.specs.Bodies.{lit_from}
+use Rattle.aiger_reader.specs.Deltas.{and_from}
 use Rattle.aiger_reader.proofs.WholeLemmas.{delta_fault, deltas_are, binary_body, not_false}
 use Rattle.aiger_reader.proofs.whole.read_net.Goals as goal
 
