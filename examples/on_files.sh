@@ -12,6 +12,10 @@ sed 's/i1+0/i1+1/' a-b.match >twice.match
 sed '/end/d' a-b.match >cut.match
 sed 's/6 5 2/6 5 3/' b.aag >other.aag
 mkdir folder
+printf 'aag 13 13 0 0 0\n' >wide.aag
+for i in {1..13}; do echo $((2 * i)); done >>wide.aag
+printf 'aig 3 2 0 2 1\n6\n2\n\2\2' >a.aig
+printf 'npnp 1\nmatch i0+0 i1+1 o0+0 o1+1\nend\n' >a.match
 failed=0
 
 wants() { # STATUS FIRST-LINE WORDS..
@@ -33,11 +37,13 @@ wants 2 'rejected' check a.aag b.aag twice.match
 wants 2 'rejected' check a.aag b.aag cut.match
 wants 2 'rejected' check a.aag other.aag a-b.match
 wants 2 'rejected' check a.aag b.aag a.aag
-wants 5 'unbuilt' check a.aag b.aag absent.match
-wants 5 'unbuilt' check absent.aag b.aag a-b.match
-wants 5 'unbuilt' check a.aag a-b.match a-b.match
-wants 5 'unbuilt' match a.aag b.aag a-b.match
-wants 5 'unbuilt'
+wants 5 'absent account' check a.aag b.aag absent.match
+wants 5 'absent first' check absent.aag b.aag a-b.match
+wants 5 'malformed second 1 0' check a.aag a-b.match a-b.match
+wants 5 'wide' check wide.aag a.aag absent.match
+wants 0 'accepted match' check a.aag a.aig a.match
+wants 4 'usage' match a.aag b.aag a-b.match
+wants 4 'usage'
 wants 6 'read fault' check folder b.aag a-b.match
 wants 6 'read fault' check a.aag b.aag folder
 exit "$failed"

@@ -1,33 +1,32 @@
 -- The words and the files determine what `check` answers.
-use Rattle.std.proofs.Common.{◌≡◌, ◌≢◌, ℕ, ◌<◌, ◌≤◌, ◌↔◌, ◌==◌, inl, inr, Bool, false, IsTrue, List, [], ◌∷◌, All, length, Option, None, Some, Result, Ok, Err, IfOk, MatchOption, get_or, refl, sym, ◌∙◌, ap, subst, arith}
+use Rattle.std.proofs.Common.{◌≡◌, ◌≢◌, ℕ, ◌<◌, ◌≤◌, ◌↔◌, ◌⊎◌, ◌==◌, inl, inr, Bool, false, IsTrue, List, [], ◌∷◌, length, Option, None, Some, Result, Err, get_or, refl, sym, ◌∙◌, ap, subst, arith}
 use Rattle.std.proofs.lemmas.Bool.{false≢true, cases_lt}
 use Rattle.shelf_core.specs.Fault.{Rose}
 use Rattle.circuits.specs.Netlists.{Net}
-use Rattle.circuits.specs.Bijections.{IsSignedBijection}
-use Rattle.circuits.specs.Matches.{IsMatch}
-use Rattle.aiger_reader.specs.Plain.{IsPlain}
+use Rattle.aiger_reader.specs.Aiger.{IsAiger, IsAigerFault}
+use Rattle.aiger_reader.proofs.OneAiger.{one_netlist, netlist_or_fault, one_fault}
+use Rattle.aiger_reader.proofs.FewPorts.{few_ports}
 use Rattle.net_core.specs.declared.matching.Matching.{Matching}
-use Rattle.npnp.specs.Words.{AsksCheck}
-use Rattle.npnp.specs.Check.{HoldsNetlist, IsAsked, IsMatchingTable, IsAccepted, IsRejected, IsUnbuilt, IsRight, IsDecided, IsTold}
-use Rattle.npnp.specs.Steps.{IsSmall, IsSettledBy, IsRightBy, AreSettled, IsRightOf}
-use Rattle.npnp.specs.Table.{table_text, ArePorts}
-use Rattle.npnp.specs.declared.outcome.Outcome.{Outcome}
-use Rattle.npnp.specs.declared.outcome.Outcome.TheVariants.{AcceptedMatch, NotATable, Unbuilt, ReadFault, WriteFault, Memory}
+use Rattle.net_core.specs.declared.named.NetKind.{NetKind}
+use Rattle.port_table.specs.Table.{IsMatchingTable, IsSmall}
+use Rattle.port_table.proofs.MatchLemmas.{one_matching_table}
+use Rattle.npnp.specs.Words.{AsksCheck, AskNothing}
+use Rattle.npnp.specs.Check.{Netlist, HoldsNetlist, HoldsFault, HoldsTooMuch, EndsAt, EndsEarly, IsAsked, AreWide, AreNarrow, IsRight, IsDecided, IsTold}
+use Rattle.net_core.specs.declared.named.Named.{Named}
+use Rattle.shelf_core.specs.State.{ShelfState}
+use Rattle.npnp.specs.Report.{IsReport}
+use Rattle.npnp.specs.Steps.{IsVerdict, IsVerdictOn, IsOfReading, IsJudged, Decides}
+use Rattle.npnp.specs.Stops.{outcome_of}
+use Rattle.npnp.specs.declared.run.Ending.{Ending}
+use Rattle.npnp.specs.declared.files.Stop.{Stop}
+use Rattle.npnp.specs.declared.files.Stop.TheVariants as stop
 use Rattle.npnp.specs.Files.{Tells}
 use Rattle.npnp.specs.declared.files.File.{File}
-use Rattle.npnp.specs.declared.files.File.TheVariants.{Absent, TooLong, Bytes}
-use Rattle.npnp.specs.declared.files.Stop.{Stop}
-use Rattle.aiger_reader.proofs.PlainLemmas.{plain_same}
-use Rattle.npnp.proofs.TableLemmas.{one_table, short_table}
-
--- what an answer says where it is none, and where it is some
-pub at_none : (X P : Type 0) (Q : X → Type 0) (answer : Option X) → answer ≡ None → MatchOption answer P Q → P
-at_none X P Q None e fact = fact
-at_none X P Q (Some x) e fact = cc
-
-pub at_some : (X P : Type 0) (Q : X → Type 0) (answer : Option X) (x : X) → answer ≡ Some x → MatchOption answer P Q → Q x
-at_some X P Q None x e fact = cc
-at_some X P Q (Some y) x e fact = let same : y ≡ x = cc in subst Q same fact
+use Rattle.npnp.specs.declared.files.File.TheVariants.{Absent as NoFile, TooLong, Bytes}
+use Rattle.npnp.specs.declared.outcome.Which.{Which}
+use Rattle.npnp.specs.declared.outcome.Which.TheVariants.{First, Second, Account}
+use Rattle.npnp.specs.declared.outcome.Outcome.{Outcome}
+use Rattle.npnp.specs.declared.outcome.Outcome.TheVariants.{AcceptedMatch, NotATable, Wide, Usage, Absent, TooLarge, Malformed, ReadFault, WriteFault, Memory}
 
 -- a count that rose in the last of several calls
 pub rose_later : (a b c : ℕ) → a ≤ b → b ≤ c → Rose b c → Rose a c
@@ -41,175 +40,6 @@ rose_later a b c before after rose =
 pub not_empty : (text : List ℕ) (empty : Bool) → empty ≡ (length text == 0) → empty ≡ false → text ≢ []
 not_empty text empty test refused e = false≢true (sym refused ∙ test ∙ ap (λ t. length t == 0) e)
 
--- the netlist under a name, the files under three names, and what the words name, are one
-netlist_one : (held : List ℕ → Option (List ℕ)) (name : List ℕ) (a b : Net) → HoldsNetlist held name a → HoldsNetlist held name b → a ≡ b
-netlist_one held name a b one other =
-    let same : other.bytes ≡ one.bytes = cc in
-    plain_same one.bytes a b one.plain (subst (λ bytes. IsPlain bytes b) same other.plain)
-
-asked_one : (held : List ℕ → Option (List ℕ)) (words : List (List ℕ)) (f f' g g' : Net) (t t' : List ℕ) → IsAsked held words f g t → IsAsked held words f' g' t' → (f ≡ f') × (g ≡ g') × (t ≡ t')
-asked_one held words f f' g g' t t' one other =
-    let form = one.asks.form in
-    let form' = other.asks.form in
-    let first : other.first_name ≡ one.first_name = cc in
-    let second : other.second_name ≡ one.second_name = cc in
-    let account : other.account_name ≡ one.account_name = cc in
-    let there = one.are_held.account_held in
-    let there' : held one.account_name ≡ Some t' = subst (λ name. held name ≡ Some t') account other.are_held.account_held in
-    (netlist_one held one.first_name f f' one.are_held.first_held (subst (λ name. HoldsNetlist held name f') first other.are_held.first_held), netlist_one held one.second_name g g' one.are_held.second_held (subst (λ name. HoldsNetlist held name g') second other.are_held.second_held), cc)
-
--- the table of one circuit's files is a table of the same files
-same_table : (f f' g g' : Net) (t t' : List ℕ) (table : Matching) → f ≡ f' → g ≡ g' → t ≡ t' → IsMatchingTable f' g' t' table → IsMatchingTable f g t table
-same_table f f' g g' t t' table e e' e'' fact =
-    subst (λ h. IsMatchingTable h g t table) (sym e) (subst (λ h. IsMatchingTable f' h t table) (sym e') (subst (λ h. IsMatchingTable f' g' h table) (sym e'') fact))
-
--- a netlist of the plain form is small, and so are the numbers of a match
-pub small_from_plain : (bytes : List ℕ) (net : Net) → IsPlain bytes net → IsSmall net
-small_from_plain bytes net plain = record { inputs = plain.few_inputs; outputs = plain.few_outputs }
-
-ports_from_bijection : (n : ℕ) (p : List (ℕ × Bool)) → n ≤ 1024 → IsSignedBijection n p → ArePorts p
-ports_from_bijection n p few bijection = λ k d h. omega (arith, bijection.in_range k d h)
-
-pub ports_from_match : (f g : Net) (p q : List (ℕ × Bool)) → IsSmall f → IsMatch f g p q → ArePorts p × ArePorts q
-ports_from_match f g p q small m =
-    (ports_from_bijection f.inputs p (omega arith) m.inputs, ports_from_bijection (length f.outputs) q small.outputs m.outputs)
-
-below_1024 : (n : ℕ) (p : List (ℕ × Bool)) → n ≤ 1024 → IsSignedBijection n p → All (λ entry. entry.0 < 1024) p
-below_1024 n p few bijection = λ k d h. omega (arith, bijection.in_range k d h)
-
--- an account that is too long is no table that is a match
-pub too_long : (f g : Net) (account : List ℕ) (table : Matching) → IsSmall f → 65535 < length account → IsMatchingTable f g account table → ⊥
-too_long f g account table small long fact =
-    let m = fact.matches in
-    let short = short_table table.inputs table.outputs (omega (arith, m.inputs.entries)) (omega (arith, m.outputs.entries)) (below_1024 f.inputs table.inputs (omega arith) m.inputs) (below_1024 (length f.outputs) table.outputs small.outputs m.outputs) in
-    absurd (omega (arith, short, ap length fact.spelled))
-
--- what a file that is too long says
-pub at_too_long : (limit : ℕ) (held : Option (List ℕ)) (file : File) → file ≡ TooLong → Tells limit held file → (bytes : List ℕ) × (held ≡ Some bytes) × (limit < length bytes)
-at_too_long limit held Absent e fact = cc
-at_too_long limit held TooLong e fact = fact
-at_too_long limit held (Bytes bytes) e fact = cc
-
-tables_same : (a b : Matching) → (a.inputs ≡ b.inputs) × (a.outputs ≡ b.outputs) → a ≡ b
-tables_same a b e = λ i. record { inputs = e.0 i; outputs = e.1 i }
-
--- two tables with one spelling are one
-pub one_matching : (account : List ℕ) (a b : Matching) → ArePorts a.inputs → ArePorts a.outputs → ArePorts b.inputs → ArePorts b.outputs → account ≡ table_text a.inputs a.outputs → account ≡ table_text b.inputs b.outputs → a ≡ b
-one_matching account a b ai ao bi bo ea eb = tables_same a b (one_table a.inputs a.outputs b.inputs b.outputs ai ao bi bo (sym ea ∙ eb))
-
--- a table that is none, though it is spelled
-pub no_match : (f g : Net) (account : List ℕ) (found table : Matching) (matches : Bool) → IsSmall f → ArePorts found.inputs → ArePorts found.outputs → account ≡ table_text found.inputs found.outputs → (IsTrue matches ↔ IsMatch f g found.inputs found.outputs) → matches ≡ false → IsMatchingTable f g account table → ⊥
-no_match f g account found table matches small fi fo spelled exact refused fact =
-    let ports = ports_from_match f g table.inputs table.outputs small fact.matches in
-    let same = one_matching account table found ports.0 ports.1 fi fo fact.spelled spelled in
-    false≢true (sym refused ∙ exact.1 (subst (λ t. IsMatch f g t.inputs t.outputs) same fact.matches))
-
-accepted_one : (held : List ℕ → Option (List ℕ)) (words : List (List ℕ)) (a b : Matching) → IsAccepted held words a → IsAccepted held words b → a ≡ b
-accepted_one held words a b one other =
-    let e = asked_one held words one.first other.first one.second other.second one.account other.account one.asked other.asked in
-    let fact = same_table one.first other.first one.second other.second one.account other.account b e.0 e.1 e.2 other.accepted in
-    let small = small_from_plain _ _ one.asked.are_held.first_held.plain in
-    let pa = ports_from_match one.first one.second a.inputs a.outputs small one.accepted.matches in
-    let pb = ports_from_match one.first one.second b.inputs b.outputs small fact.matches in
-    one_matching one.account a b pa.0 pa.1 pb.0 pb.1 one.accepted.spelled fact.spelled
-
-accepted_or_rejected : (held : List ℕ → Option (List ℕ)) (words : List (List ℕ)) (table : Matching) → IsAccepted held words table → IsRejected held words → ⊥
-accepted_or_rejected held words table one other =
-    let e = asked_one held words other.first one.first other.second one.second other.account one.account other.asked one.asked in
-    other.rejected table (same_table other.first one.first other.second one.second other.account one.account table e.0 e.1 e.2 one.accepted)
-
--- an outcome that is right is the only one
-accepted_only : (held : List ℕ → Option (List ℕ)) (words : List (List ℕ)) (answer : Outcome) → IsRight held words answer → IsDecided answer → (table : Matching) → IsAccepted held words table → answer ≡ AcceptedMatch table
-accepted_only held words (AcceptedMatch other) right decided table fact = ap AcceptedMatch (accepted_one held words other table right fact)
-accepted_only held words NotATable right decided table fact = absurd (accepted_or_rejected held words table fact right)
-accepted_only held words Unbuilt right decided table fact = absurd (right fact.first fact.second fact.account fact.asked)
-accepted_only held words ReadFault right decided table fact = absurd decided
-accepted_only held words WriteFault right decided table fact = absurd decided
-accepted_only held words Memory right decided table fact = absurd decided
-
-rejected_only : (held : List ℕ → Option (List ℕ)) (words : List (List ℕ)) (answer : Outcome) → IsRight held words answer → IsDecided answer → IsRejected held words → answer ≡ NotATable
-rejected_only held words (AcceptedMatch other) right decided fact = absurd (accepted_or_rejected held words other right fact)
-rejected_only held words NotATable right decided fact = refl
-rejected_only held words Unbuilt right decided fact = absurd (right fact.first fact.second fact.account fact.asked)
-rejected_only held words ReadFault right decided fact = absurd decided
-rejected_only held words WriteFault right decided fact = absurd decided
-rejected_only held words Memory right decided fact = absurd decided
-
-unbuilt_only : (held : List ℕ → Option (List ℕ)) (words : List (List ℕ)) (answer : Outcome) → IsRight held words answer → IsDecided answer → IsUnbuilt held words → answer ≡ Unbuilt
-unbuilt_only held words (AcceptedMatch other) right decided fact = absurd (fact right.first right.second right.account right.asked)
-unbuilt_only held words NotATable right decided fact = absurd (fact right.first right.second right.account right.asked)
-unbuilt_only held words Unbuilt right decided fact = refl
-unbuilt_only held words ReadFault right decided fact = absurd decided
-unbuilt_only held words WriteFault right decided fact = absurd decided
-unbuilt_only held words Memory right decided fact = absurd decided
-
-told_from_decided : (answer : Outcome) → IsDecided answer → IsTold answer
-told_from_decided (AcceptedMatch table) decided = tt
-told_from_decided NotATable decided = tt
-told_from_decided Unbuilt decided = tt
-told_from_decided ReadFault decided = tt
-told_from_decided WriteFault decided = decided
-told_from_decided Memory decided = decided
-
--- The outcome of a run that was asked to tell a right one is exactly what the words and the files say.
-module _ (held : List ℕ → Option (List ℕ)) (words : List (List ℕ)) (asked answer : Outcome) (right : IsRight held words asked) (same : IsTold answer → answer ≡ asked) (decided : IsDecided answer) where
-  stays_right : IsRight held words answer
-  stays_right = subst (IsRight held words) (sym (same (told_from_decided answer decided))) right
-
-  pub exactly_accepted : (table : Matching) → ((answer ≡ AcceptedMatch table) ↔ IsAccepted held words table)
-  exactly_accepted table = (λ is. subst (IsRight held words) is stays_right, accepted_only held words answer stays_right decided table)
-
-  pub exactly_rejected : (answer ≡ NotATable) ↔ IsRejected held words
-  exactly_rejected = (λ is. subst (IsRight held words) is stays_right, rejected_only held words answer stays_right decided)
-
-  pub exactly_unbuilt : (answer ≡ Unbuilt) ↔ IsUnbuilt held words
-  exactly_unbuilt = (λ is. subst (IsRight held words) is stays_right, unbuilt_only held words answer stays_right decided)
-
--- a shelf that holds the same holds the same netlists
-pub held_before : (old new : List ℕ → Option (List ℕ)) (name : List ℕ) (net : Net) → ((n : List ℕ) → new n ≡ old n) → HoldsNetlist new name net → HoldsNetlist old name net
-held_before old new name net files h = record { bytes = h.bytes; there = sym (files name) ∙ h.there; short = h.short; plain = h.plain }
-
-pub held_after : (old new : List ℕ → Option (List ℕ)) (name : List ℕ) (net : Net) → ((n : List ℕ) → new n ≡ old n) → HoldsNetlist old name net → HoldsNetlist new name net
-held_after old new name net files h = record { bytes = h.bytes; there = files name ∙ h.there; short = h.short; plain = h.plain }
-
-settled_right : (held : List ℕ → Option (List ℕ)) (n1 n2 n3 : List ℕ) (first second : Net) (answer : Outcome) → HoldsNetlist held n1 first → HoldsNetlist held n2 second → IsSettledBy first second (held n3) answer → AreSettled held n1 n2 n3 answer
-settled_right held n1 n2 n3 first second answer h1 h2 s = record { first = first; second = second; account = s.account; are_held = record { first_held = h1; second_held = h2; account_held = s.there }; settled = s.settled }
-
-right_by : (held : List ℕ → Option (List ℕ)) (n1 n2 n3 : List ℕ) (first second : Net) → HoldsNetlist held n1 first → HoldsNetlist held n2 second → (answer : Outcome) → IsRightBy first second (held n3) answer → IsRightOf held n1 n2 n3 answer
-right_by held n1 n2 n3 first second h1 h2 (AcceptedMatch table) s = settled_right held n1 n2 n3 first second (AcceptedMatch table) h1 h2 s
-right_by held n1 n2 n3 first second h1 h2 NotATable s = settled_right held n1 n2 n3 first second NotATable h1 h2 s
-right_by held n1 n2 n3 first second h1 h2 Unbuilt s = λ f g account h. let there = h.account_held in cc
-right_by held n1 n2 n3 first second h1 h2 ReadFault s = s
-right_by held n1 n2 n3 first second h1 h2 WriteFault s = s
-right_by held n1 n2 n3 first second h1 h2 Memory s = s
-
--- what the account decides of two netlists, said of three names
-pub decided_by_account : (held : List ℕ → Option (List ℕ)) (n1 n2 n3 : List ℕ) (first second : Net) (there : Option (List ℕ)) → HoldsNetlist held n1 first → HoldsNetlist held n2 second → there ≡ held n3 → (result : Result Outcome Stop) → IfOk result (IsRightBy first second there) → IfOk result (IsRightOf held n1 n2 n3)
-decided_by_account held n1 n2 n3 first second there h1 h2 e (Ok answer) right = right_by held n1 n2 n3 first second h1 h2 answer (subst (λ t. IsRightBy first second t answer) e right)
-decided_by_account held n1 n2 n3 first second there h1 h2 e (Err stop) right = tt
-
-settled_asked : (held : List ℕ → Option (List ℕ)) (words : List (List ℕ)) (n1 n2 n3 : List ℕ) (answer : Outcome) → AsksCheck words n1 n2 n3 → (s : AreSettled held n1 n2 n3 answer) → IsAsked held words s.first s.second s.account
-settled_asked held words n1 n2 n3 answer asks s = record { first_name = n1; second_name = n2; account_name = n3; asks = asks; are_held = s.are_held }
-
--- what the files decide under the names that the words give
-pub right_from_names : (held : List ℕ → Option (List ℕ)) (words : List (List ℕ)) (n1 n2 n3 : List ℕ) → AsksCheck words n1 n2 n3 → (answer : Outcome) → IsRightOf held n1 n2 n3 answer → IsRight held words answer
-right_from_names held words n1 n2 n3 asks (AcceptedMatch table) s = record { first = s.first; second = s.second; account = s.account; asked = settled_asked held words n1 n2 n3 (AcceptedMatch table) asks s; accepted = s.settled }
-right_from_names held words n1 n2 n3 asks NotATable s = record { first = s.first; second = s.second; account = s.account; asked = settled_asked held words n1 n2 n3 NotATable asks s; rejected = s.settled }
-right_from_names held words n1 n2 n3 asks Unbuilt none = λ f g account asked.
-    let form = asks.form in
-    let form' = asked.asks.form in
-    let first : asked.first_name ≡ n1 = cc in
-    let second : asked.second_name ≡ n2 = cc in
-    let third : asked.account_name ≡ n3 = cc in
-    none f g account (record {
-      first_held = subst (λ name. HoldsNetlist held name f) first asked.are_held.first_held;
-      second_held = subst (λ name. HoldsNetlist held name g) second asked.are_held.second_held;
-      account_held = subst (λ name. held name ≡ Some account) third asked.are_held.account_held;
-    })
-right_from_names held words n1 n2 n3 asks ReadFault s = tt
-right_from_names held words n1 n2 n3 asks WriteFault s = tt
-right_from_names held words n1 n2 n3 asks Memory s = tt
-
 -- four words that were read by their places
 pub four : {X : Type 0} (xs : List X) (a b c d : X) → 4 ≤ length xs → length xs < 5 → a ≡ get_or xs 0 a → b ≡ get_or xs 1 b → c ≡ get_or xs 2 c → d ≡ get_or xs 3 d → xs ≡ a ∷ b ∷ c ∷ d ∷ []
 four [] a b c d low high ea eb ec ed = absurd (omega arith)
@@ -218,3 +48,359 @@ four (x ∷ y ∷ []) a b c d low high ea eb ec ed = absurd (omega arith)
 four (x ∷ y ∷ z ∷ []) a b c d low high ea eb ec ed = absurd (omega arith)
 four (x ∷ y ∷ z ∷ w ∷ []) a b c d low high ea eb ec ed = cc
 four (x ∷ y ∷ z ∷ w ∷ v ∷ rest) a b c d low high ea eb ec ed = absurd (omega arith)
+
+-- what a file that is too long says
+pub at_too_long : (limit : ℕ) (held : Option (List ℕ)) (file : File) → file ≡ TooLong → Tells limit held file → (bytes : List ℕ) × (held ≡ Some bytes) × (limit < length bytes)
+at_too_long limit held NoFile e fact = cc
+at_too_long limit held TooLong e fact = fact
+at_too_long limit held (Bytes bytes) e fact = cc
+
+-- two circuits of which a test said that they aren't wide
+pub narrow_by : (f g : Net) (wide : Bool) → (IsTrue wide ↔ AreWide f g) → wide ≡ false → AreNarrow f g
+narrow_by f g wide exact refused =
+    record {
+      first = elim (cases_lt 12 f.inputs) [ inl more ↦ absurd (false≢true (sym refused ∙ exact.1 (inl more))) | inr few ↦ few ];
+      second = elim (cases_lt 12 g.inputs) [ inl more ↦ absurd (false≢true (sym refused ∙ exact.1 (inr more))) | inr few ↦ few ];
+    }
+
+-- one name holds one netlist, or one thing that ends the check
+
+netlist_one : (content : Option (List ℕ)) (a b : Netlist) → HoldsNetlist content a → HoldsNetlist content b → a.net ≡ b.net
+netlist_one content a b one other =
+    let same : other.bytes ≡ one.bytes = let e = one.there in let e' = other.there in cc in
+    (one_netlist one.bytes a.net b.net a.input_names a.output_names b.input_names b.output_names one.is (subst (λ bytes. IsAiger bytes b.net b.input_names b.output_names) same other.is)).0
+
+fault_one : (content : Option (List ℕ)) (kind other_kind : NetKind) (at place : ℕ) → HoldsFault content kind at → HoldsFault content other_kind place → (kind ≡ other_kind) × (at ≡ place)
+fault_one content kind other_kind at place one other =
+    let same : other.bytes ≡ one.bytes = let e = one.there in let e' = other.there in cc in
+    one_fault one.bytes kind other_kind at place one.is (subst (λ bytes. IsAigerFault bytes other_kind place) same other.is)
+
+-- what ends the check at a file, one of three
+abbrev pub IsEnd : Which → Option (List ℕ) → Outcome → Type 0
+IsEnd file content o = ((o ≡ Absent file) × (content ≡ None)) ⊎ ((o ≡ TooLarge file) × HoldsTooMuch content) ⊎ ((kind : NetKind) × (at : ℕ) × (o ≡ Malformed file kind at) × HoldsFault content kind at)
+
+end_of : (file : Which) (content : Option (List ℕ)) (o : Outcome) → IsDecided o → EndsAt file content o → IsEnd file content o
+end_of file content (AcceptedMatch table) decided fact = absurd fact
+end_of file content NotATable decided fact = absurd fact
+end_of file content Wide decided fact = absurd fact
+end_of file content Usage decided fact = absurd fact
+end_of file content (Absent which) decided fact = inl (ap Absent fact.0, fact.1)
+end_of file content (TooLarge which) decided fact = inr (inl (ap TooLarge fact.0, fact.1))
+end_of file content (Malformed which kind at) decided fact = inr (inr (kind, at, ap (λ w. Malformed w kind at) fact.0, fact.1))
+end_of file content ReadFault decided fact = absurd (decided.read refl)
+end_of file content WriteFault decided fact = absurd fact
+end_of file content Memory decided fact = absurd (decided.told.room refl)
+
+-- no name holds two of them
+too_much_or_fault : (content : Option (List ℕ)) (kind : NetKind) (at : ℕ) → HoldsTooMuch content → HoldsFault content kind at → ⊥
+too_much_or_fault content kind at much fault =
+    let same : fault.bytes ≡ much.bytes = let e = much.there in let e' = fault.there in cc in
+    absurd (omega (arith, much.long, fault.short, ap length same))
+
+end_one : (file : Which) (content : Option (List ℕ)) (a b : Outcome) → IsEnd file content a → IsEnd file content b → a ≡ b
+end_one file content a b one other =
+    elim one [
+      | inl (e, none) ↦ elim other [
+        | inl (e', none') ↦ e ∙ sym e'
+        | inr (inl (e', much)) ↦ let there = much.there in cc
+        | inr (inr (kind, at, e', fault)) ↦ let there = fault.there in cc
+      ]
+      | inr (inl (e, much)) ↦ elim other [
+        | inl (e', none) ↦ let there = much.there in cc
+        | inr (inl (e', much')) ↦ e ∙ sym e'
+        | inr (inr (kind, at, e', fault)) ↦ absurd (too_much_or_fault content kind at much fault)
+      ]
+      | inr (inr (kind, at, e, fault)) ↦ elim other [
+        | inl (e', none) ↦ let there = fault.there in cc
+        | inr (inl (e', much)) ↦ absurd (too_much_or_fault content kind at much fault)
+        | inr (inr (kind', at', e', fault')) ↦ let same = fault_one content kind kind' at at' fault fault' in let k = same.0 in let p = same.1 in cc
+      ]
+    ]
+
+end_or_netlist : (file : Which) (content : Option (List ℕ)) (o : Outcome) (f : Netlist) → IsEnd file content o → HoldsNetlist content f → ⊥
+end_or_netlist file content o f end net =
+    let there = net.there in
+    elim end [
+      | inl (e, none) ↦ cc
+      | inr (inl (e, much)) ↦
+          let same : net.bytes ≡ much.bytes = let e' = much.there in cc in
+          absurd (omega (arith, much.long, net.short, ap length same))
+      | inr (inr (kind, at, e, fault)) ↦
+          let same : fault.bytes ≡ net.bytes = let e' = fault.there in cc in
+          netlist_or_fault net.bytes f.net f.input_names f.output_names kind at net.is (subst (λ bytes. IsAigerFault bytes kind at) same fault.is)
+    ]
+
+-- two circuits and what the account's name holds have one verdict
+
+narrow_or_wide : (f g : Net) → AreNarrow f g → AreWide f g → ⊥
+narrow_or_wide f g narrow wide = elim wide [ inl first ↦ absurd (omega (arith, narrow.first, first)) | inr second ↦ absurd (omega (arith, narrow.second, second)) ]
+
+wide_only : (f g : Net) (content : Option (List ℕ)) → AreWide f g → (o : Outcome) → IsVerdict f g content o → o ≡ Wide
+wide_only f g content wide (AcceptedMatch table) fact = absurd (narrow_or_wide f g fact.0 wide)
+wide_only f g content wide NotATable fact = absurd (narrow_or_wide f g fact.0 wide)
+wide_only f g content wide Wide fact = refl
+wide_only f g content wide Usage fact = absurd fact
+wide_only f g content wide (Absent which) fact = absurd (narrow_or_wide f g fact.1 wide)
+wide_only f g content wide (TooLarge which) fact = absurd fact
+wide_only f g content wide (Malformed which kind at) fact = absurd fact
+wide_only f g content wide ReadFault fact = absurd fact
+wide_only f g content wide WriteFault fact = absurd fact
+wide_only f g content wide Memory fact = absurd fact
+
+absent_only : (f g : Net) (content : Option (List ℕ)) → AreNarrow f g → content ≡ None → (o : Outcome) → IsVerdict f g content o → o ≡ Absent Account
+absent_only f g content narrow none (AcceptedMatch table) fact = let there = fact.2 in cc
+absent_only f g content narrow none NotATable fact = let there = fact.2 in cc
+absent_only f g content narrow none Wide fact = absurd (narrow_or_wide f g narrow fact)
+absent_only f g content narrow none Usage fact = absurd fact
+absent_only f g content narrow none (Absent which) fact = ap Absent fact.0
+absent_only f g content narrow none (TooLarge which) fact = absurd fact
+absent_only f g content narrow none (Malformed which kind at) fact = absurd fact
+absent_only f g content narrow none ReadFault fact = absurd fact
+absent_only f g content narrow none WriteFault fact = absurd fact
+absent_only f g content narrow none Memory fact = absurd fact
+
+-- the account that a name holds
+same_account : (content : Option (List ℕ)) (account other : List ℕ) → content ≡ Some account → content ≡ Some other → other ≡ account
+same_account content account other e e' = cc
+
+rejected_only : (f g : Net) (content : Option (List ℕ)) (account : List ℕ) → AreNarrow f g → content ≡ Some account → ((table : Matching) → IsMatchingTable f g account table → ⊥) → (o : Outcome) → IsVerdict f g content o → o ≡ NotATable
+rejected_only f g content account narrow there none (AcceptedMatch table) fact = absurd (none table (subst (λ a. IsMatchingTable f g a table) (same_account content account fact.1 there fact.2) fact.3))
+rejected_only f g content account narrow there none NotATable fact = refl
+rejected_only f g content account narrow there none Wide fact = absurd (narrow_or_wide f g narrow fact)
+rejected_only f g content account narrow there none Usage fact = absurd fact
+rejected_only f g content account narrow there none (Absent which) fact = let absent = fact.2 in cc
+rejected_only f g content account narrow there none (TooLarge which) fact = absurd fact
+rejected_only f g content account narrow there none (Malformed which kind at) fact = absurd fact
+rejected_only f g content account narrow there none ReadFault fact = absurd fact
+rejected_only f g content account narrow there none WriteFault fact = absurd fact
+rejected_only f g content account narrow there none Memory fact = absurd fact
+
+accepted_only : (f g : Net) (content : Option (List ℕ)) (account : List ℕ) (found : Matching) → IsSmall f → AreNarrow f g → content ≡ Some account → IsMatchingTable f g account found → (o : Outcome) → IsVerdict f g content o → o ≡ AcceptedMatch found
+accepted_only f g content account found small narrow there is (AcceptedMatch table) fact = ap AcceptedMatch (sym (one_matching_table f g account found table small is (subst (λ a. IsMatchingTable f g a table) (same_account content account fact.1 there fact.2) fact.3)))
+accepted_only f g content account found small narrow there is NotATable fact = absurd (fact.3 found (subst (λ a. IsMatchingTable f g a found) (sym (same_account content account fact.1 there fact.2)) is))
+accepted_only f g content account found small narrow there is Wide fact = absurd (narrow_or_wide f g narrow fact)
+accepted_only f g content account found small narrow there is Usage fact = absurd fact
+accepted_only f g content account found small narrow there is (Absent which) fact = let absent = fact.2 in cc
+accepted_only f g content account found small narrow there is (TooLarge which) fact = absurd fact
+accepted_only f g content account found small narrow there is (Malformed which kind at) fact = absurd fact
+accepted_only f g content account found small narrow there is ReadFault fact = absurd fact
+accepted_only f g content account found small narrow there is WriteFault fact = absurd fact
+accepted_only f g content account found small narrow there is Memory fact = absurd fact
+
+verdict_one : (f g : Net) (content : Option (List ℕ)) → length f.outputs ≤ 1024 → (a b : Outcome) → IsVerdict f g content a → IsVerdict f g content b → a ≡ b
+verdict_one f g content few (AcceptedMatch table) b one other = sym (accepted_only f g content one.1 table (record { inputs = one.0.first; outputs = few }) one.0 one.2 one.3 b other)
+verdict_one f g content few NotATable b one other = sym (rejected_only f g content one.1 one.0 one.2 one.3 b other)
+verdict_one f g content few Wide b one other = sym (wide_only f g content one b other)
+verdict_one f g content few Usage b one other = absurd one
+verdict_one f g content few (Absent which) b one other = ap Absent one.0 ∙ sym (absent_only f g content one.1 one.2 b other)
+verdict_one f g content few (TooLarge which) b one other = absurd one
+verdict_one f g content few (Malformed which kind at) b one other = absurd one
+verdict_one f g content few ReadFault b one other = absurd one
+verdict_one f g content few WriteFault b one other = absurd one
+verdict_one f g content few Memory b one other = absurd one
+
+-- the outcome is what the words say, or what the files under their names say
+
+abbrev pub SaysSecond : (List ℕ → Option (List ℕ)) → List ℕ → List ℕ → Netlist → Outcome → Type 0
+SaysSecond held second account f o = IsEnd Second (held second) o ⊎ ((g : Netlist) × HoldsNetlist (held second) g × IsVerdict f.net g.net (held account) o)
+
+abbrev pub SaysFirst : (List ℕ → Option (List ℕ)) → List ℕ → List ℕ → List ℕ → Outcome → Type 0
+SaysFirst held first second account o = IsEnd First (held first) o ⊎ ((f : Netlist) × HoldsNetlist (held first) f × SaysSecond held second account f o)
+
+abbrev pub Says : (List ℕ → Option (List ℕ)) → List (List ℕ) → Outcome → Type 0
+Says held words o = ((o ≡ Usage) × AskNothing words) ⊎ ((first : List ℕ) × (second : List ℕ) × (account : List ℕ) × AsksCheck words first second account × SaysFirst held first second account o)
+
+second_one : (held : List ℕ → Option (List ℕ)) (second account : List ℕ) (f f' : Netlist) (a b : Outcome) → length f.net.outputs ≤ 1024 → f.net ≡ f'.net → SaysSecond held second account f a → SaysSecond held second account f' b → a ≡ b
+second_one held second account f f' a b few same one other =
+    elim one [
+      | inl end ↦ elim other [
+        | inl end' ↦ end_one Second (held second) a b end end'
+        | inr (g, there, fact) ↦ absurd (end_or_netlist Second (held second) a g end there)
+      ]
+      | inr (g, there, fact) ↦ elim other [
+        | inl end' ↦ absurd (end_or_netlist Second (held second) b g end' there)
+        | inr (g', there', fact') ↦
+            let e = netlist_one (held second) g g' there there' in
+            let moved : IsVerdict f.net g.net (held account) b = subst (λ n. IsVerdict n g.net (held account) b) (sym same) (subst (λ n. IsVerdict f'.net n (held account) b) (sym e) fact') in
+            verdict_one f.net g.net (held account) few a b fact moved
+      ]
+    ]
+
+few_outputs : (content : Option (List ℕ)) (f : Netlist) → HoldsNetlist content f → length f.net.outputs ≤ 1024
+few_outputs content f holds = (few_ports holds.bytes f.net f.input_names f.output_names holds.is).1
+
+first_one : (held : List ℕ → Option (List ℕ)) (first second account : List ℕ) (a b : Outcome) → SaysFirst held first second account a → SaysFirst held first second account b → a ≡ b
+first_one held first second account a b one other =
+    elim one [
+      | inl end ↦ elim other [
+        | inl end' ↦ end_one First (held first) a b end end'
+        | inr (f, there, fact) ↦ absurd (end_or_netlist First (held first) a f end there)
+      ]
+      | inr (f, there, fact) ↦ elim other [
+        | inl end' ↦ absurd (end_or_netlist First (held first) b f end' there)
+        | inr (f', there', fact') ↦ second_one held second account f f' a b (few_outputs (held first) f there) (netlist_one (held first) f f' there there') fact fact'
+      ]
+    ]
+
+names_one : (words : List (List ℕ)) (f g t f' g' t' : List ℕ) → AsksCheck words f g t → AsksCheck words f' g' t' → (f' ≡ f) × (g' ≡ g) × (t' ≡ t)
+names_one words f g t f' g' t' one other = let e = one.form in let e' = other.form in (cc, cc, cc)
+
+says_one : (held : List ℕ → Option (List ℕ)) (words : List (List ℕ)) (a b : Outcome) → Says held words a → Says held words b → a ≡ b
+says_one held words a b one other =
+    elim one [
+      | inl (e, nothing) ↦ elim other [
+        | inl (e', nothing') ↦ e ∙ sym e'
+        | inr (f, g, t, asks, says) ↦ absurd (nothing f g t asks)
+      ]
+      | inr (f, g, t, asks, says) ↦ elim other [
+        | inl (e', nothing) ↦ absurd (nothing f g t asks)
+        | inr (f', g', t', asks', says') ↦
+            let e = names_one words f g t f' g' t' asks asks' in
+            let moved : SaysFirst held f g t b = subst (λ n. SaysFirst held n g t b) e.0 (subst (λ n. SaysFirst held f' n t b) e.1 (subst (λ n. SaysFirst held f' g' n b) e.2 says')) in
+            first_one held f g t a b says moved
+      ]
+    ]
+
+-- what is right is said so
+
+says_early : (held : List ℕ → Option (List ℕ)) (words : List (List ℕ)) (o : Outcome) → IsDecided o → EndsEarly held words o → Says held words o
+says_early held words o decided early =
+    elim early [
+      | inl at ↦ inr (at.first_name, at.second_name, at.account_name, at.asks, inl (end_of First (held at.first_name) o decided at.ends))
+      | inr at ↦ inr (at.first_name, at.second_name, at.account_name, at.asks, inr (at.first, at.first_held, inl (end_of Second (held at.second_name) o decided at.ends)))
+    ]
+
+says_asked : (held : List ℕ → Option (List ℕ)) (words : List (List ℕ)) (f g : Netlist) (account : List ℕ) (o : Outcome) → IsAsked held words f g account → IsVerdict f.net g.net (held account) o → Says held words o
+says_asked held words f g account o asked verdict =
+    inr (asked.first_name, asked.second_name, account, asked.asks, inr (f, asked.first_held, inr (g, asked.second_held, verdict)))
+
+says : (held : List ℕ → Option (List ℕ)) (words : List (List ℕ)) (o : Outcome) → IsDecided o → IsRight held words o → Says held words o
+says held words (AcceptedMatch table) decided right = says_asked held words right.first right.second right.has.account_name (AcceptedMatch table) right.has.asked (right.has.narrow, right.account, right.has.there, right.accepted)
+says held words NotATable decided right = says_asked held words right.first right.second right.has.account_name NotATable right.has.asked (right.has.narrow, right.account, right.has.there, right.rejected)
+says held words Wide decided right = says_asked held words right.first right.second right.account_name Wide right.asked right.wide
+says held words Usage decided right = inl (refl, right)
+says held words (Absent which) decided right = elim right [ inl early ↦ says_early held words (Absent which) decided early | inr (e, lacks) ↦ says_asked held words lacks.first lacks.second lacks.account_name (Absent which) lacks.asked (e, lacks.narrow, lacks.absent) ]
+says held words (TooLarge which) decided right = says_early held words (TooLarge which) decided right
+says held words (Malformed which kind at) decided right = says_early held words (Malformed which kind at) decided right
+says held words ReadFault decided right = absurd (decided.read refl)
+says held words WriteFault decided right = absurd (decided.told.written refl)
+says held words Memory decided right = absurd (decided.told.room refl)
+
+-- what one file, or the verdict of all, makes right
+
+pub right_at_first : (held : List ℕ → Option (List ℕ)) (words : List (List ℕ)) (f g t : List ℕ) → AsksCheck words f g t → (o : Outcome) → EndsAt First (held f) o → IsRight held words o
+right_at_first held words f g t asks (AcceptedMatch table) ends = absurd ends
+right_at_first held words f g t asks NotATable ends = absurd ends
+right_at_first held words f g t asks Wide ends = absurd ends
+right_at_first held words f g t asks Usage ends = absurd ends
+right_at_first held words f g t asks (Absent which) ends = inl (inl (record { first_name = f; second_name = g; account_name = t; asks = asks; ends = ends }))
+right_at_first held words f g t asks (TooLarge which) ends = inl (record { first_name = f; second_name = g; account_name = t; asks = asks; ends = ends })
+right_at_first held words f g t asks (Malformed which kind at) ends = inl (record { first_name = f; second_name = g; account_name = t; asks = asks; ends = ends })
+right_at_first held words f g t asks ReadFault ends = tt
+right_at_first held words f g t asks WriteFault ends = absurd ends
+right_at_first held words f g t asks Memory ends = tt
+
+pub right_at_second : (held : List ℕ → Option (List ℕ)) (words : List (List ℕ)) (f g t : List ℕ) (first : Netlist) → AsksCheck words f g t → HoldsNetlist (held f) first → (o : Outcome) → EndsAt Second (held g) o → IsRight held words o
+right_at_second held words f g t first asks there (AcceptedMatch table) ends = absurd ends
+right_at_second held words f g t first asks there NotATable ends = absurd ends
+right_at_second held words f g t first asks there Wide ends = absurd ends
+right_at_second held words f g t first asks there Usage ends = absurd ends
+right_at_second held words f g t first asks there (Absent which) ends = inl (inr (record { first_name = f; second_name = g; account_name = t; asks = asks; first = first; first_held = there; ends = ends }))
+right_at_second held words f g t first asks there (TooLarge which) ends = inr (record { first_name = f; second_name = g; account_name = t; asks = asks; first = first; first_held = there; ends = ends })
+right_at_second held words f g t first asks there (Malformed which kind at) ends = inr (record { first_name = f; second_name = g; account_name = t; asks = asks; first = first; first_held = there; ends = ends })
+right_at_second held words f g t first asks there ReadFault ends = tt
+right_at_second held words f g t first asks there WriteFault ends = absurd ends
+right_at_second held words f g t first asks there Memory ends = tt
+
+pub right_by_verdict : (held : List ℕ → Option (List ℕ)) (words : List (List ℕ)) (f g : Netlist) (t : List ℕ) → IsAsked held words f g t → (o : Outcome) → IsVerdict f.net g.net (held t) o → IsRight held words o
+right_by_verdict held words f g t asked (AcceptedMatch table) fact = record { first = f; second = g; account = fact.1; has = record { account_name = t; asked = asked; narrow = fact.0; there = fact.2 }; accepted = fact.3 }
+right_by_verdict held words f g t asked NotATable fact = record { first = f; second = g; account = fact.1; has = record { account_name = t; asked = asked; narrow = fact.0; there = fact.2 }; rejected = fact.3 }
+right_by_verdict held words f g t asked Wide fact = record { first = f; second = g; account_name = t; asked = asked; wide = fact }
+right_by_verdict held words f g t asked Usage fact = absurd fact
+right_by_verdict held words f g t asked (Absent which) fact = inr (fact.0, record { first = f; second = g; account_name = t; asked = asked; narrow = fact.1; absent = fact.2 })
+right_by_verdict held words f g t asked (TooLarge which) fact = absurd fact
+right_by_verdict held words f g t asked (Malformed which kind at) fact = absurd fact
+right_by_verdict held words f g t asked ReadFault fact = absurd fact
+right_by_verdict held words f g t asked WriteFault fact = absurd fact
+right_by_verdict held words f g t asked Memory fact = absurd fact
+
+-- The outcome of a run that was asked to tell a right one is exactly what the words and the files say.
+module _ (held : List ℕ → Option (List ℕ)) (words : List (List ℕ)) (asked answer : Outcome) (right : IsRight held words asked) (same : IsTold answer → answer ≡ asked) (decided : IsDecided answer) where
+  stays_right : IsRight held words answer
+  stays_right = subst (IsRight held words) (sym (same decided.told)) right
+
+  pub exactly : (o : Outcome) → IsDecided o → (answer ≡ o) ↔ IsRight held words o
+  exactly o known = (λ is. subst (IsRight held words) is stays_right, λ fact. says_one held words answer o (says held words answer decided stays_right) (says held words o known fact))
+
+-- outcomes between which and the words no fault and no want of memory came
+
+pub decided_accepted : (table : Matching) → IsDecided (AcceptedMatch table)
+decided_accepted table = record { read = λ e. cc; told = record { written = λ e. cc; room = λ e. cc } }
+
+pub decided_rejected : IsDecided NotATable
+decided_rejected = record { read = λ e. cc; told = record { written = λ e. cc; room = λ e. cc } }
+
+pub decided_wide : IsDecided Wide
+decided_wide = record { read = λ e. cc; told = record { written = λ e. cc; room = λ e. cc } }
+
+pub decided_absent : (which : Which) → IsDecided (Absent which)
+decided_absent which = record { read = λ e. cc; told = record { written = λ e. cc; room = λ e. cc } }
+
+pub decided_too_large : (which : Which) → IsDecided (TooLarge which)
+decided_too_large which = record { read = λ e. cc; told = record { written = λ e. cc; room = λ e. cc } }
+
+pub decided_malformed : (which : Which) (kind : NetKind) (at : ℕ) → IsDecided (Malformed which kind at)
+decided_malformed which kind at = record { read = λ e. cc; told = record { written = λ e. cc; room = λ e. cc } }
+
+-- what a refusal of a read ends the run with
+
+pub stop_right : (held : List ℕ → Option (List ℕ)) (words : List (List ℕ)) (s : Stop) → IsRight held words (outcome_of s)
+stop_right held words stop.ReadFault = tt
+stop_right held words stop.Memory = tt
+
+pub stop_reading : (s : Stop) → IsOfReading (outcome_of s)
+stop_reading stop.ReadFault = record { no_table = λ table e. cc; asked = λ e. cc; unwritten = λ e. cc }
+stop_reading stop.Memory = record { no_table = λ table e. cc; asked = λ e. cc; unwritten = λ e. cc }
+
+pub stop_is : (s : Stop) → outcome_of s ≡ ReadFault → s ≡ stop.ReadFault
+stop_is stop.ReadFault e = refl
+stop_is stop.Memory e = cc
+
+-- what was judged wasn't a matter of the words or the outside
+pub judged_on : (first second : Named) (o : Outcome) → IsVerdictOn first second o → IsJudged o
+judged_on first second (AcceptedMatch table) fact = record { asked = λ e. cc; read = λ e. cc; unwritten = λ e. cc }
+judged_on first second NotATable fact = record { asked = λ e. cc; read = λ e. cc; unwritten = λ e. cc }
+judged_on first second Wide fact = record { asked = λ e. cc; read = λ e. cc; unwritten = λ e. cc }
+judged_on first second Usage fact = absurd fact
+judged_on first second (Absent which) fact = record { asked = λ e. cc; read = λ e. cc; unwritten = λ e. cc }
+judged_on first second (TooLarge which) fact = absurd fact
+judged_on first second (Malformed which kind at) fact = absurd fact
+judged_on first second ReadFault fact = absurd fact
+judged_on first second WriteFault fact = absurd fact
+judged_on first second Memory fact = absurd fact
+
+-- the files were read up to an outcome that ends the run
+pub stopped : (tells : Bool) (first second account : List ℕ) (old new : ShelfState) (result : Result Ending Outcome) (o : Outcome) → result ≡ Err o → ((n : List ℕ) → new.held n ≡ old.held n) → (IsTrue tells → (words : List (List ℕ)) → AsksCheck words first second account → IsRight old.held words o) → IsOfReading o → (o ≡ ReadFault → Rose old.faults new.faults) → Decides tells first second account old new result
+stopped tells first second account old new result o same files ended reading failed =
+    subst (λ r. Decides tells first second account old new r) (sym same) (record {
+      files = files;
+      right = λ t words asks. tt;
+      ended = ended;
+      report = λ words asks. tt;
+      judged = tt;
+      reading = reading;
+      failed = λ e. failed (cc e);
+    })
+
+pub report_of_same : (tells : Bool) (held : List ℕ → Option (List ℕ)) (words : List (List ℕ)) (told asked : Outcome) (text : List ℕ) → told ≡ asked → IsReport tells held words asked text → IsReport tells held words told text
+report_of_same tells held words told asked text same report = subst (λ o. IsReport tells held words o text) (sym same) report
+
+-- the words ask for a check of two files that were read
+pub asks_both : (held : List ℕ → Option (List ℕ)) (content : Option (List ℕ)) (words : List (List ℕ)) (f g t : List ℕ) (first second : Netlist) → content ≡ held g → AsksCheck words f g t → HoldsNetlist (held f) first → HoldsNetlist content second → IsAsked held words first second t
+asks_both held content words f g t first second same asks holds other = record {
+  first_name = f;
+  second_name = g;
+  asks = asks;
+  first_held = holds;
+  second_held = subst (λ content. HoldsNetlist content second) same other;
+}

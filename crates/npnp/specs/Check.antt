@@ -1,83 +1,150 @@
 -- What `check` answers, said of the words and of the files that are held.
-use Rattle.std.specs.Prelude.{◌≡◌, ℕ, ◌≤◌, List, length, Option, Some}
+use Rattle.std.specs.Prelude.{◌≡◌, ◌≢◌, ℕ, ◌<◌, ◌≤◌, ◌⊎◌, List, length, Option, None, Some}
 use Rattle.circuits.specs.Netlists.{Net}
-use Rattle.circuits.specs.Matches.{IsMatch}
-use Rattle.aiger_reader.specs.Plain.{IsPlain}
+use Rattle.aiger_reader.specs.Aiger.{IsAiger, IsAigerFault}
 use Rattle.net_core.specs.declared.matching.Matching.{Matching}
-use Rattle.npnp.specs.Words.{AsksCheck}
-use Rattle.npnp.specs.Table.{table_text}
+use Rattle.net_core.specs.declared.named.NetKind.{NetKind}
+use Rattle.port_table.specs.Table.{IsMatchingTable}
+use Rattle.npnp.specs.Words.{AsksCheck, AskNothing}
+use Rattle.npnp.specs.declared.outcome.Which.{Which}
+use Rattle.npnp.specs.declared.outcome.Which.TheVariants.{First, Second, Account}
 use Rattle.npnp.specs.declared.outcome.Outcome.{Outcome}
-use Rattle.npnp.specs.declared.outcome.Outcome.TheVariants.{AcceptedMatch, NotATable, Unbuilt, ReadFault, WriteFault, Memory}
+use Rattle.npnp.specs.declared.outcome.Outcome.TheVariants.{AcceptedMatch, NotATable, Wide, Usage, Absent, TooLarge, Malformed, ReadFault, WriteFault, Memory}
 
--- Under a name stands a netlist of the plain form, in at most 67,108,864 bytes.
-pub record HoldsNetlist (held : List ℕ → Option (List ℕ)) (name : List ℕ) (net : Net) : Type 0 where
+-- A netlist with the names of its ports.
+pub record Netlist : Type 0 where
+  pub net : Net
+  pub input_names : List (List ℕ)
+  pub output_names : List (List ℕ)
+
+-- What a name holds is an AIGER file, of at most 67,108,864 bytes, that is this netlist.
+pub record HoldsNetlist (content : Option (List ℕ)) (netlist : Netlist) : Type 0 where
   pub bytes : List ℕ
-  pub there : held name ≡ Some bytes
+  pub there : content ≡ Some bytes
   pub short : length bytes ≤ 67108864
-  pub plain : IsPlain bytes net
+  pub is : IsAiger bytes netlist.net netlist.input_names netlist.output_names
 
--- Under three names stand two netlists, and an account with these bytes.
-pub record AreHeld (held : List ℕ → Option (List ℕ)) (first_name second_name account_name : List ℕ) (first second : Net) (account : List ℕ) : Type 0 where
-  pub first_held : HoldsNetlist held first_name first
-  pub second_held : HoldsNetlist held second_name second
-  pub account_held : held account_name ≡ Some account
+-- What a name holds is a file of at most 67,108,864 bytes with this first fault.
+pub record HoldsFault (content : Option (List ℕ)) (kind : NetKind) (at : ℕ) : Type 0 where
+  pub bytes : List ℕ
+  pub there : content ≡ Some bytes
+  pub short : length bytes ≤ 67108864
+  pub is : IsAigerFault bytes kind at
 
--- The words ask for a check, and what they name is there.
-pub record IsAsked (held : List ℕ → Option (List ℕ)) (words : List (List ℕ)) (first second : Net) (account : List ℕ) : Type 0 where
+-- What a name holds is a file of more than 67,108,864 bytes.
+pub record HoldsTooMuch (content : Option (List ℕ)) : Type 0 where
+  pub bytes : List ℕ
+  pub there : content ≡ Some bytes
+  pub long : 67108864 < length bytes
+
+-- What a file that is no netlist ends the check with, where a name holds it: `file` says which one it is. Faults of the
+-- outside and want of memory say nothing of it.
+abbrev pub EndsAt : Which → Option (List ℕ) → Outcome → Type 0
+EndsAt file content (Absent which) = (which ≡ file) × (content ≡ None)
+EndsAt file content (TooLarge which) = (which ≡ file) × HoldsTooMuch content
+EndsAt file content (Malformed which kind at) = (which ≡ file) × HoldsFault content kind at
+EndsAt file content ReadFault = Unit {0}
+EndsAt file content Memory = Unit {0}
+EndsAt file content other = ⊥
+
+-- The words ask for a check, and its first file ends it.
+pub record EndsAtFirst (held : List ℕ → Option (List ℕ)) (words : List (List ℕ)) (outcome : Outcome) : Type 0 where
   pub first_name : List ℕ
   pub second_name : List ℕ
   pub account_name : List ℕ
   pub asks : AsksCheck words first_name second_name account_name
-  pub are_held : AreHeld held first_name second_name account_name first second account
+  pub ends : EndsAt First (held first_name) outcome
 
--- The account is the table, and the table is a match of the netlists.
-pub record IsMatchingTable (first second : Net) (account : List ℕ) (table : Matching) : Type 0 where
-  pub spelled : account ≡ table_text table.inputs table.outputs
-  pub matches : IsMatch first second table.inputs table.outputs
+-- The words ask for a check, its first file is a netlist, and its second one ends it.
+pub record EndsAtSecond (held : List ℕ → Option (List ℕ)) (words : List (List ℕ)) (outcome : Outcome) : Type 0 where
+  pub first_name : List ℕ
+  pub second_name : List ℕ
+  pub account_name : List ℕ
+  pub asks : AsksCheck words first_name second_name account_name
+  pub first : Netlist
+  pub first_held : HoldsNetlist (held first_name) first
+  pub ends : EndsAt Second (held second_name) outcome
 
--- A check is asked, and the account is this table, a match.
+abbrev pub EndsEarly : (List ℕ → Option (List ℕ)) → List (List ℕ) → Outcome → Type 0
+EndsEarly held words outcome = EndsAtFirst held words outcome ⊎ EndsAtSecond held words outcome
+
+-- The words ask for a check of two files that are netlists, and of the account under a name.
+pub record IsAsked (held : List ℕ → Option (List ℕ)) (words : List (List ℕ)) (first second : Netlist) (account_name : List ℕ) : Type 0 where
+  pub first_name : List ℕ
+  pub second_name : List ℕ
+  pub asks : AsksCheck words first_name second_name account_name
+  pub first_held : HoldsNetlist (held first_name) first
+  pub second_held : HoldsNetlist (held second_name) second
+
+-- more inputs than are tried on every vector
+abbrev pub AreWide : Net → Net → Type 0
+AreWide first second = (12 < first.inputs) ⊎ (12 < second.inputs)
+
+pub record AreNarrow (one other : Net) : Type 0 where
+  pub first : one.inputs ≤ 12
+  pub second : other.inputs ≤ 12
+
+-- Both files are netlists, and one of them has more than 12 inputs.
+pub record IsWide (held : List ℕ → Option (List ℕ)) (words : List (List ℕ)) : Type 0 where
+  pub first : Netlist
+  pub second : Netlist
+  pub account_name : List ℕ
+  pub asked : IsAsked held words first second account_name
+  pub wide : AreWide first.net second.net
+
+-- Both files are netlists of at most 12 inputs, and there is no account.
+pub record LacksAccount (held : List ℕ → Option (List ℕ)) (words : List (List ℕ)) : Type 0 where
+  pub first : Netlist
+  pub second : Netlist
+  pub account_name : List ℕ
+  pub asked : IsAsked held words first second account_name
+  pub narrow : AreNarrow first.net second.net
+  pub absent : held account_name ≡ None
+
+-- Both files are netlists of at most 12 inputs, and the account holds these bytes.
+pub record HasAccount (held : List ℕ → Option (List ℕ)) (words : List (List ℕ)) (first second : Netlist) (account : List ℕ) : Type 0 where
+  pub account_name : List ℕ
+  pub asked : IsAsked held words first second account_name
+  pub narrow : AreNarrow first.net second.net
+  pub there : held account_name ≡ Some account
+
+-- The account is this table, a match of the two netlists.
 pub record IsAccepted (held : List ℕ → Option (List ℕ)) (words : List (List ℕ)) (table : Matching) : Type 0 where
-  pub first : Net
-  pub second : Net
+  pub first : Netlist
+  pub second : Netlist
   pub account : List ℕ
-  pub asked : IsAsked held words first second account
-  pub accepted : IsMatchingTable first second account table
+  pub has : HasAccount held words first second account
+  pub accepted : IsMatchingTable first.net second.net account table
 
--- A check is asked, and the account is no table that is a match.
+-- The account is no table that is a match of the two netlists.
 pub record IsRejected (held : List ℕ → Option (List ℕ)) (words : List (List ℕ)) : Type 0 where
-  pub first : Net
-  pub second : Net
+  pub first : Netlist
+  pub second : Netlist
   pub account : List ℕ
-  pub asked : IsAsked held words first second account
-  pub rejected : (table : Matching) → IsMatchingTable first second account table → ⊥
+  pub has : HasAccount held words first second account
+  pub rejected : (table : Matching) → IsMatchingTable first.net second.net account table → ⊥
 
--- no check is asked, or what it names isn't there or isn't of the plain form
-abbrev pub IsUnbuilt : (List ℕ → Option (List ℕ)) → List (List ℕ) → Type 0
-IsUnbuilt held words = (first second : Net) (account : List ℕ) → IsAsked held words first second account → ⊥
+-- there is no such file when its turn comes
+abbrev pub IsAbsent : (List ℕ → Option (List ℕ)) → List (List ℕ) → Which → Type 0
+IsAbsent held words which = EndsEarly held words (Absent which) ⊎ ((which ≡ Account) × LacksAccount held words)
 
 -- what an outcome says of the words and the files; the faults and the want of memory say nothing of them
 abbrev pub IsRight : (List ℕ → Option (List ℕ)) → List (List ℕ) → Outcome → Type 0
 IsRight held words (AcceptedMatch table) = IsAccepted held words table
 IsRight held words NotATable = IsRejected held words
-IsRight held words Unbuilt = IsUnbuilt held words
-IsRight held words ReadFault = Unit {0}
-IsRight held words WriteFault = Unit {0}
-IsRight held words Memory = Unit {0}
-
--- no fault and no want of memory came between
-abbrev pub IsDecided : Outcome → Type 0
-IsDecided (AcceptedMatch table) = Unit {0}
-IsDecided NotATable = Unit {0}
-IsDecided Unbuilt = Unit {0}
-IsDecided ReadFault = ⊥
-IsDecided WriteFault = ⊥
-IsDecided Memory = ⊥
+IsRight held words Wide = IsWide held words
+IsRight held words Usage = AskNothing words
+IsRight held words (Absent which) = IsAbsent held words which
+IsRight held words (TooLarge which) = EndsEarly held words (TooLarge which)
+IsRight held words (Malformed which kind at) = EndsEarly held words (Malformed which kind at)
+IsRight held words other = Unit {0}
 
 -- the report was put whole
-abbrev pub IsTold : Outcome → Type 0
-IsTold (AcceptedMatch table) = Unit {0}
-IsTold NotATable = Unit {0}
-IsTold Unbuilt = Unit {0}
-IsTold ReadFault = Unit {0}
-IsTold WriteFault = ⊥
-IsTold Memory = ⊥
+pub record IsTold (outcome : Outcome) : Type 0 where
+  pub written : outcome ≢ WriteFault
+  pub room : outcome ≢ Memory
+
+-- no fault and no want of memory came between
+pub record IsDecided (outcome : Outcome) : Type 0 where
+  pub read : outcome ≢ ReadFault
+  pub told : IsTold outcome

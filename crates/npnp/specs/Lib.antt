@@ -4,6 +4,6 @@ pub mod Report
 pub mod Status
 pub mod Steps
 pub mod Stops
-pub mod Table
-pub mod TableParts
 pub mod Words
+pub use Rattle.port_table.specs.Table
+pub use Rattle.port_report.specs.Reports

@@ -1,27 +1,56 @@
 -- What the program prints.
-use Rattle.std.specs.Prelude.{ℕ, ◌+◌, Bool, List, [], ◌∷◌, ◌++◌, codes, if◌then◌else◌}
+use Rattle.std.specs.Prelude.{◌≡◌, ◌≢◌, ℕ, ◌⊎◌, Bool, IsTrue, List, [], ◌∷◌, ◌++◌, codes, Option}
 use Rattle.std.specs.Fmt.{decimal}
+use Rattle.net_core.specs.Kinds.{number_of}
+use Rattle.net_core.specs.declared.matching.Matching.{Matching}
+use Rattle.net_core.specs.declared.named.Named.{Named}
+use Rattle.port_report.specs.Reports.{match_text}
+use Rattle.npnp.specs.Check.{Netlist, IsAsked}
+use Rattle.npnp.specs.declared.outcome.Which.{Which}
+use Rattle.npnp.specs.declared.outcome.Which.TheVariants.{First, Second, Account}
 use Rattle.npnp.specs.declared.outcome.Outcome.{Outcome}
-use Rattle.npnp.specs.declared.outcome.Outcome.TheVariants.{AcceptedMatch, NotATable, Unbuilt, ReadFault, WriteFault, Memory}
+use Rattle.npnp.specs.declared.outcome.Outcome.TheVariants.{AcceptedMatch, NotATable, Wide, Usage, Absent, TooLarge, Malformed, ReadFault, WriteFault, Memory}
 
--- a port by its kind, its number and its name, which is the first letter of the kind and the number: `input 0 i0`
-abbrev pub port_text : List ℕ → ℕ → ℕ → List ℕ
-port_text kind letter port = kind ++ 32 ∷ decimal port ++ 32 ∷ letter ∷ decimal port
+-- the word for a file
+abbrev pub file_word : Which → List ℕ
+file_word First = codes "first"
+file_word Second = codes "second"
+file_word Account = codes "account"
 
--- where a port goes: `input 0 i0 = not input 1 i1`, on a line of its own
-abbrev pub entry_line : List ℕ → ℕ → ℕ → ℕ × Bool → List ℕ
-entry_line kind letter port entry = port_text kind letter port ++ codes " = " ++ (if entry.1 then codes "not " else []) ++ port_text kind letter entry.0 ++ 10 ∷ []
+-- the line that names an outcome; a failed write has none
+abbrev pub line_of : Outcome → List ℕ
+line_of (AcceptedMatch table) = codes "accepted match" ++ 10 ∷ []
+line_of NotATable = codes "rejected" ++ 10 ∷ []
+line_of Wide = codes "wide" ++ 10 ∷ []
+line_of Usage = codes "usage" ++ 10 ∷ []
+line_of (Absent file) = codes "absent " ++ file_word file ++ 10 ∷ []
+line_of (TooLarge file) = codes "too large " ++ file_word file ++ 10 ∷ []
+line_of (Malformed file kind at) = codes "malformed " ++ file_word file ++ 32 ∷ decimal (number_of kind) ++ 32 ∷ decimal at ++ 10 ∷ []
+line_of ReadFault = codes "read fault" ++ 10 ∷ []
+line_of WriteFault = []
+line_of Memory = codes "out of memory" ++ 10 ∷ []
 
--- the lines of the ports from `port` on
-abbrev pub entry_lines : List ℕ → ℕ → ℕ → List (ℕ × Bool) → List ℕ
-entry_lines kind letter port [] = []
-entry_lines kind letter port (entry ∷ entries) = entry_line kind letter port entry ++ entry_lines kind letter (port + 1) entries
+-- the outcome is no accepted match
+abbrev pub HasNoTable : Outcome → Type 0
+HasNoTable outcome = (table : Matching) → outcome ≢ AcceptedMatch table
 
--- the report of each outcome; a failed write has none
-abbrev pub report_of : Outcome → List ℕ
-report_of (AcceptedMatch table) = codes "accepted match" ++ 10 ∷ entry_lines (codes "input") 105 0 table.inputs ++ entry_lines (codes "output") 111 0 table.outputs
-report_of NotATable = codes "rejected" ++ 10 ∷ []
-report_of Unbuilt = codes "unbuilt" ++ 10 ∷ []
-report_of ReadFault = codes "read fault" ++ 10 ∷ []
-report_of WriteFault = []
-report_of Memory = codes "out of memory" ++ 10 ∷ []
+-- the report of an outcome of two netlists: its line, and after an accepted match the port table
+abbrev pub report_on : Named → Named → Outcome → List ℕ
+report_on first second (AcceptedMatch table) = line_of (AcceptedMatch table) ++ match_text first second table
+report_on first second other = line_of other
+
+-- a netlist of a program, as it is said of files
+abbrev pub netlist_of : Named → Netlist
+netlist_of named = record { net = named.graph; input_names = named.input_names; output_names = named.output_names }
+
+-- The text is the report of an outcome of the two files that the words name, with the names of their ports.
+pub record IsNamedReport (tells : Bool) (held : List ℕ → Option (List ℕ)) (words : List (List ℕ)) (outcome : Outcome) (text : List ℕ) : Type 0 where
+  pub first : Named
+  pub second : Named
+  pub account_name : List ℕ
+  pub of_files : IsTrue tells → IsAsked held words (netlist_of first) (netlist_of second) account_name
+  pub same : text ≡ report_on first second outcome
+
+-- The text is the report of an outcome: the line of one that has no table, or a report with the names of the two files.
+abbrev pub IsReport : Bool → (List ℕ → Option (List ℕ)) → List (List ℕ) → Outcome → List ℕ → Type 0
+IsReport tells held words outcome text = (HasNoTable outcome × (text ≡ line_of outcome)) ⊎ IsNamedReport tells held words outcome text

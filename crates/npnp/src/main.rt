@@ -2,12 +2,11 @@
 //! negation of their inputs and outputs.
 #![tactic(auto)]
 
-mod compare;
 mod files;
+mod netlists;
 mod outcome;
 mod report;
 mod run;
-mod table;
 mod words;
 
 use shelf_core::{DiskShelf, StdSink};

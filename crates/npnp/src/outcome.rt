@@ -3,7 +3,20 @@
 ghost use Rattle.std.specs.Prelude.{◌≡◌};
 ghost use Rattle.npnp.specs.Status.{status_of};
 
-use net_core::Matching;
+use crate::files::Stop;
+use net_core::{Matching, NetKind};
+use std::alloc::AllocError;
+
+/// A file of the command line.
+#[derive(Clone, Copy, Debug, PartialEq, Eq, PartialOrd, Ord, Hash)]
+pub enum Which {
+    /// The first netlist.
+    First,
+    /// The second netlist.
+    Second,
+    /// The account.
+    Account,
+}
 
 /// How a run ends.
 #[derive(Debug, Drop)]
@@ -12,8 +25,20 @@ pub enum Outcome {
     AcceptedMatch(Matching),
     /// The account is no port table, or not one under which the circuits agree on every vector.
     NotATable,
-    /// The words or the files are of a kind that isn't built yet, or a file isn't there.
-    Unbuilt,
+    /// A netlist has more inputs than are tried on every vector.
+    Wide,
+    /// The words are of no form that the program knows.
+    Usage,
+    /// There is no such file.
+    Absent(Which),
+    /// The netlist's file is longer than the limit.
+    TooLarge(Which),
+    /// The netlist's file is malformed: the kind of its first fault, and the offset where it stands.
+    Malformed {
+        which: Which,
+        kind: NetKind,
+        at: u64,
+    },
     /// A file couldn't be read.
     ReadFault,
     /// The report couldn't be written.
@@ -23,18 +48,45 @@ pub enum Outcome {
 }
 
 impl Outcome {
-    /// The exit status of the program: 0 accepted, 2 rejected, 5 not built or not there, 6 a fault of the
-    /// outside, 7 no memory.
+    /// The exit status of the program: 0 accepted, 2 rejected, 4 words of no known form, 5 a file that isn't there
+    /// or isn't a netlist that can be checked, 6 a fault of the outside, 7 no memory.
     pub fn status(&self) -> u8
         ensures { result ≡ status_of self.now }
     {
         match self {
             Outcome::AcceptedMatch(_) => 0,
             Outcome::NotATable => 2,
-            Outcome::Unbuilt => 5,
+            Outcome::Usage => 4,
+            Outcome::Wide => 5,
+            Outcome::Absent(_) => 5,
+            Outcome::TooLarge(_) => 5,
+            Outcome::Malformed { .. } => 5,
             Outcome::ReadFault => 6,
             Outcome::WriteFault => 6,
             Outcome::Memory => 7,
         }
+    }
+}
+
+impl From<Stop> for Outcome {
+    ghost use Rattle.npnp.specs.Stops.{outcome_of};
+
+    ghost from_gives = { λ stop e. e ≡ outcome_of stop };
+
+    fn from(stop: Stop) -> Outcome {
+        match stop {
+            Stop::ReadFault => Outcome::ReadFault,
+            Stop::Memory => Outcome::Memory,
+        }
+    }
+}
+
+impl From<AllocError> for Outcome {
+    ghost use Rattle.npnp.specs.declared.outcome.Outcome.TheVariants.{Memory};
+
+    ghost from_gives = { λ _ e. e ≡ Memory };
+
+    fn from(_stop: AllocError) -> Outcome {
+        Outcome::Memory
     }
 }

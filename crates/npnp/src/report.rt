@@ -1,86 +1,88 @@
 //! The report of a run: what the program prints on its standard output.
 
-ghost use Rattle.std.specs.Prelude.{◌≡◌, [], ◌++◌, codes, if◌then◌else◌, OnOk};
-ghost use Rattle.npnp.specs.Report.{port_text, entry_line, entry_lines, report_of};
+ghost use Rattle.std.specs.Prelude.{◌≡◌, [], ◌∷◌, ◌++◌, OnOk, IfOk};
+ghost use Rattle.npnp.specs.Report.{file_word, line_of, report_on};
+ghost use Rattle.npnp.specs.Steps.{IsVerdictOn};
 
-use crate::outcome::Outcome;
-use net_core::Matching;
-use std::alloc::AllocError;
+use crate::outcome::{Outcome, Which};
+use net_core::{Named, NetKind};
+use port_report::put_match;
+use std::alloc::{AllocError, Global};
 use text_core::put_decimal;
 
-/// Writes the report of an outcome at the end of `out`: a line that names the outcome, and after an accepted match a
-/// line for each input and each output of the first circuit that says where it goes. A failed write has no report.
-/// The error says that memory is wanting; a first part of the report may stand in `out` then.
-pub fn put_report(outcome: &Outcome, out: &mut Vec<u8>) -> Result<(), AllocError>
-    ensures ok { OnOk result (out.new.items ≡ out.old.items ++ report_of outcome.now) }
+/// The report of an outcome of two netlists: a line that names it, and after an accepted match a line for each input
+/// and each output of the first netlist that says where it goes.
+pub fn report_named(
+    alloc: Global,
+    first: &Named,
+    second: &Named,
+    outcome: &Outcome,
+) -> Result<Vec<u8>, AllocError>
+    requires { IsVerdictOn first.now second.now outcome.now }
+    ensures { IfOk result (λ text. text.items ≡ report_on first.now second.now outcome.now) }
+{
+    let mut text = report_line(alloc, outcome)?;
+    if let Outcome::AcceptedMatch(table) = outcome {
+        put_match(first, second, table, &mut text)?;
+    }
+    Ok(text)
+}
+
+/// The line that names an outcome, by itself. A failed write has none.
+pub fn report_line(alloc: Global, outcome: &Outcome) -> Result<Vec<u8>, AllocError>
+    ensures { IfOk result (λ text. text.items ≡ line_of outcome.now) }
+{
+    let mut text = Vec::new(alloc);
+    put_line(outcome, &mut text)?;
+    Ok(text)
+}
+
+// Writes the line that names an outcome at the end of `out`.
+fn put_line(outcome: &Outcome, out: &mut Vec<u8>) -> Result<(), AllocError>
+    ensures { OnOk result (out.new.items ≡ out.old.items ++ line_of outcome.now) }
 {
     match outcome {
-        Outcome::AcceptedMatch(table) => put_match(table, out),
+        Outcome::AcceptedMatch(_) => out.extend_from_slice(b"accepted match\n"),
         Outcome::NotATable => out.extend_from_slice(b"rejected\n"),
-        Outcome::Unbuilt => out.extend_from_slice(b"unbuilt\n"),
+        Outcome::Wide => out.extend_from_slice(b"wide\n"),
+        Outcome::Usage => out.extend_from_slice(b"usage\n"),
+        Outcome::Absent(which) => put_file(b"absent ", *which, out),
+        Outcome::TooLarge(which) => put_file(b"too large ", *which, out),
+        Outcome::Malformed { which, kind, at } => put_malformed(*which, *kind, *at, out),
         Outcome::ReadFault => out.extend_from_slice(b"read fault\n"),
         Outcome::WriteFault => Ok(()),
         Outcome::Memory => out.extend_from_slice(b"out of memory\n"),
     }
 }
 
-fn put_match(table: &Matching, out: &mut Vec<u8>) -> Result<(), AllocError>
-    ensures { OnOk result (out.new.items ≡ out.old.items ++ report_of (Outcome.AcceptedMatch table.now)) }
+// Writes a line that ends in the word for a file.
+fn put_file(what: &[u8], which: Which, out: &mut Vec<u8>) -> Result<(), AllocError>
+    ensures { OnOk result (out.new.items ≡ out.old.items ++ what.now ++ file_word which ++ 10 ∷ []) }
 {
-    out.extend_from_slice(b"accepted match\n")?;
-    put_entries(b"input", b'i', &table.inputs, out)?;
-    put_entries(b"output", b'o', &table.outputs, out)
-}
-
-// Writes where each port of a kind goes, on a line of its own.
-fn put_entries(
-    kind: &[u8],
-    letter: u8,
-    entries: &[(u32, bool)],
-    out: &mut Vec<u8>,
-) -> Result<(), AllocError>
-    ensures { OnOk result (out.new.items ≡ out.old.items ++ entry_lines kind.now letter 0 entries.now) }
-{
-    for (port, entry) in entries.iter().enumerate() {
-        put_entry(kind, letter, port as u64, *entry, out)?;
-    }
-    Ok(())
-}
-
-fn put_entry(
-    kind: &[u8],
-    letter: u8,
-    port: u64,
-    entry: (u32, bool),
-    out: &mut Vec<u8>,
-) -> Result<(), AllocError>
-    ensures { OnOk result (out.new.items ≡ out.old.items ++ entry_line kind.now letter port entry) }
-{
-    let (place, inverted) = entry;
-    put_port(kind, letter, port, out)?;
-    out.extend_from_slice(b" = ")?;
-    put_sign(inverted, out)?;
-    put_port(kind, letter, u64::from(place), out)?;
+    out.extend_from_slice(what)?;
+    put_word(which, out)?;
     out.extend_from_slice(b"\n")
 }
 
-fn put_sign(inverted: bool, out: &mut Vec<u8>) -> Result<(), AllocError>
-    ensures { OnOk result (out.new.items ≡ out.old.items ++ (if inverted then codes "not " else [])) }
+// Writes the line of a malformed netlist: which file it is, the fault's number, and its offset.
+fn put_malformed(which: Which, kind: NetKind, at: u64, out: &mut Vec<u8>) -> Result<(), AllocError>
+    ensures { OnOk result (out.new.items ≡ out.old.items ++ line_of (Outcome.Malformed which kind at)) }
 {
-    if inverted {
-        out.extend_from_slice(b"not ")
-    } else {
-        Ok(())
-    }
+    out.extend_from_slice(b"malformed ")?;
+    put_word(which, out)?;
+    out.extend_from_slice(b" ")?;
+    put_decimal(u64::from(kind.number()), out)?;
+    out.extend_from_slice(b" ")?;
+    put_decimal(at, out)?;
+    out.extend_from_slice(b"\n")
 }
 
-// Writes a port by its kind, its number and its name.
-fn put_port(kind: &[u8], letter: u8, port: u64, out: &mut Vec<u8>) -> Result<(), AllocError>
-    ensures { OnOk result (out.new.items ≡ out.old.items ++ port_text kind.now letter port) }
+fn put_word(which: Which, out: &mut Vec<u8>) -> Result<(), AllocError>
+    ensures { OnOk result (out.new.items ≡ out.old.items ++ file_word which) }
 {
-    out.extend_from_slice(kind)?;
-    out.extend_from_slice(b" ")?;
-    put_decimal(port, out)?;
-    out.extend_from_slice(&[b' ', letter])?;
-    put_decimal(port, out)
+    match which {
+        Which::First => out.extend_from_slice(b"first"),
+        Which::Second => out.extend_from_slice(b"second"),
+        Which::Account => out.extend_from_slice(b"account"),
+    }
 }

@@ -1,43 +1,52 @@
 //! One run of the program: words in, files read, one report out.
 
-ghost use Rattle.std.specs.Prelude.{◌≡◌, ◌≢◌, ℕ, ◌≤◌, ◌++◌, ◌↔◌, ◌⊎◌, List, IsTrue, IfOk, IfErr, IfSome, IfNone, map, take, string_bytes};
-ghost use Rattle.circuits.specs.Netlists.{Net};
-ghost use Rattle.aiger_reader.specs.Plain.{IsPlain};
+ghost use Rattle.std.specs.Prelude.{◌≡◌, ◌≢◌, ℕ, ◌≤◌, ◌++◌, ◌↔◌, ◌⊎◌, List, IsTrue, IfOk, length, map, string_bytes};
 ghost use Rattle.net_core.specs.declared.matching.Matching.{Matching as Table};
+ghost use Rattle.net_core.specs.declared.named.NetKind.{NetKind};
 ghost use Rattle.shelf_core.specs.Fault.{Rose};
 ghost use Rattle.shelf_core.specs.State.{Closed};
 ghost use Rattle.npnp.specs.declared.outcome.Outcome.{Outcome as AnyOutcome};
+ghost use Rattle.npnp.specs.declared.outcome.Which.{Which as AnyFile};
 ghost use Rattle.npnp.specs.Words.{AskNothing};
-ghost use Rattle.npnp.specs.Check.{IsAccepted, IsRejected, IsUnbuilt, IsRight, IsDecided, IsTold};
-ghost use Rattle.npnp.specs.Report.{report_of};
-ghost use Rattle.npnp.specs.Steps.{IsSmall, ReadsNetlist, Settles, SettlesBy, Decides, PutsText, WritesPart};
+ghost use Rattle.npnp.specs.Check.{IsRight, IsAccepted, IsRejected, IsWide, IsAbsent, EndsEarly, IsDecided, IsTold, AreWide};
+ghost use Rattle.port_table.specs.Table.{IsSmall};
+ghost use Rattle.npnp.specs.Report.{IsReport, line_of};
+ghost use Rattle.npnp.specs.Steps.{Settles, Judges, Decides, TellsLine, PutsText, WritesPart};
 
-use crate::compare::is_match;
 use crate::files::{File, Stop, read_file};
-use crate::outcome::Outcome;
-use crate::report::put_report;
-use crate::table::parse;
+use crate::netlists::read_netlist;
+use crate::outcome::{Outcome, Which};
+use crate::report::{report_line, report_named};
 use crate::words::{Check, check_asked};
-use aiger_reader::{PlainStop, read_plain};
-use net_core::Graph;
+use net_core::{Graph, Named};
+use port_table::match_spelled;
 use shelf_core::{Shelf, ShelfStop, Sink};
 use std::alloc::{AllocError, Global};
 
-/// The most bytes that a netlist may have.
-const NETLIST_LIMIT: u64 = 67_108_864;
+/// The most bytes that a port table may have. A match of circuits that are tried on every vector has fewer.
+const TABLE_LIMIT: u64 = 65_536;
 
-/// The most bytes that a port table may have. A match of circuits that can be read has fewer.
-const TABLE_LIMIT: u64 = 65_535;
+/// The most inputs of circuits that are tried on every vector.
+const MOST_INPUTS: u32 = 12;
 
 /// What is printed where there is no memory.
 const OUT_OF_MEMORY: &[u8] = b"out of memory\n";
 
+/// How a run ends, and the report that says so. Where there is no memory the report is nothing, and is written from
+/// a constant.
+#[derive(Debug, Drop)]
+pub struct Ending {
+    pub outcome: Outcome,
+    pub report: Vec<u8>,
+}
+
 /// Runs the program on the words of its command line: reads the files that they name, decides, and puts one
-/// report. The words that it knows are `check FIRST SECOND ACCOUNT`: FIRST and SECOND are netlists in the
-/// plain form of AIGER, and ACCOUNT is a port table, which is accepted exactly where it is a match of the two.
+/// report. The words that it knows are `check FIRST SECOND ACCOUNT`: FIRST and SECOND are netlists in the AIGER
+/// format, and ACCOUNT is a port table, which is accepted exactly where it is a match of the two.
 ///
 /// The files are opened in this order, each read and closed before the next. A netlist of more than 67,108,864
-/// bytes and an account of more than 65,535 are closed unread.
+/// bytes and an account of more than 65,536 are closed unread. Netlists of more than 12 inputs aren't compared, and
+/// the account isn't opened then.
 pub fn run<S: Shelf, K: Sink>(
     alloc: Global,
     words: &[String],
@@ -53,9 +62,25 @@ pub fn run<S: Shelf, K: Sink>(
     ensures rejected { IsTrue S.tells → IsDecided result
         → ((result ≡ Outcome.NotATable)
         ↔ IsRejected (S.state shelf.old).held (map string_bytes words.now)) }
-    ensures unbuilt { IsTrue S.tells → IsDecided result
-        → ((result ≡ Outcome.Unbuilt)
-        ↔ IsUnbuilt (S.state shelf.old).held (map string_bytes words.now)) }
+    ensures wide { IsTrue S.tells → IsDecided result
+        → ((result ≡ Outcome.Wide)
+        ↔ IsWide (S.state shelf.old).held (map string_bytes words.now)) }
+    ensures absent { IsTrue S.tells → IsDecided result → (which : AnyFile)
+        → ((result ≡ Outcome.Absent which)
+        ↔ IsAbsent (S.state shelf.old).held (map string_bytes words.now) which) }
+    ensures too_large { IsTrue S.tells → IsDecided result → (which : AnyFile)
+        → ((result ≡ Outcome.TooLarge which)
+        ↔ EndsEarly (S.state shelf.old).held (map string_bytes words.now) (Outcome.TooLarge which)) }
+    ensures malformed { IsTrue S.tells → IsDecided result
+        → (which : AnyFile) (kind : NetKind) (at : ℕ)
+        → ((result ≡ Outcome.Malformed which kind at)
+        ↔ EndsEarly (S.state shelf.old).held (map string_bytes words.now)
+        (Outcome.Malformed which kind at)) }
+
+    // Words of no known form are answered so, and make no call of the shelf.
+    ensures usage { IsTold result
+        → ((result ≡ Outcome.Usage) ↔ AskNothing (map string_bytes words.now)) }
+    ensures no_call { AskNothing (map string_bytes words.now) → shelf.new ≡ shelf.old }
 
     // A fault has its cause outside, in this call.
     ensures read_fault { result ≡ Outcome.ReadFault
@@ -63,110 +88,109 @@ pub fn run<S: Shelf, K: Sink>(
     ensures write_fault { result ≡ Outcome.WriteFault
         → Rose (K.state out.old).faults (K.state out.new).faults }
 
-    // Words of no form make no call of the shelf.
-    ensures no_form { AskNothing (map string_bytes words.now) → shelf.new ≡ shelf.old }
-    ensures no_form_unbuilt { AskNothing (map string_bytes words.now) → IsTold result
-        → result ≡ Outcome.Unbuilt }
-
     // No file changes.
     ensures files { IsTrue S.tells → (name : List ℕ)
         → (S.state shelf.new).held name ≡ (S.state shelf.old).held name }
 
     // The report is put whole, or after a failed write or want of memory a first part of a right one.
     ensures report { IsTrue K.tells → IsTold result
-        → (K.state out.new).written ≡ (K.state out.old).written ++ report_of result }
+        → (text : List ℕ)
+        × IsReport S.tells (S.state shelf.old).held (map string_bytes words.now) result text
+        × ((K.state out.new).written ≡ (K.state out.old).written ++ text) }
     ensures part { IsTrue S.tells → IsTrue K.tells
-        → (asked : AnyOutcome) × IsRight (S.state shelf.old).held (map string_bytes words.now) asked
-        × WritesPart (K.state out.old) (K.state out.new) (report_of asked) }
+        → (asked : AnyOutcome) × (text : List ℕ)
+        × IsRight (S.state shelf.old).held (map string_bytes words.now) asked
+        × IsReport S.tells (S.state shelf.old).held (map string_bytes words.now) asked text
+        × WritesPart (K.state out.old) (K.state out.new) text }
 {
-    let outcome = answer(alloc, words, shelf);
-    tell(alloc, outcome, out)
+    let ending = answer(alloc, words, shelf);
+    tell(ending, out)
 }
 
-/// The outcome that the words and the files decide, or the fault that came between.
-fn answer<S: Shelf>(alloc: Global, words: &[String], shelf: &mut S) -> Outcome
+/// How the words and the files, or a fault that came between, end the run.
+fn answer<S: Shelf>(alloc: Global, words: &[String], shelf: &mut S) -> Ending
     requires { (S.state shelf.old).mode ≡ Closed }
     ensures right { IsTrue S.tells
-        → IsRight (S.state shelf.old).held (map string_bytes words.now) result }
+        → IsRight (S.state shelf.old).held (map string_bytes words.now) result.outcome }
+    ensures report { (result.outcome ≡ Outcome.Memory)
+        ⊎ IsReport S.tells (S.state shelf.old).held (map string_bytes words.now)
+        result.outcome result.report.items }
     ensures files { (name : List ℕ)
         → (S.state shelf.new).held name ≡ (S.state shelf.old).held name }
-    ensures read_fault { result ≡ Outcome.ReadFault
+    ensures read_fault { result.outcome ≡ Outcome.ReadFault
         → Rose (S.state shelf.old).faults (S.state shelf.new).faults }
-    ensures no_write_fault { result ≢ Outcome.WriteFault }
+    ensures no_write_fault { result.outcome ≢ Outcome.WriteFault }
+    ensures usage { result.outcome ≡ Outcome.Usage → AskNothing (map string_bytes words.now) }
     ensures no_form { AskNothing (map string_bytes words.now)
-        → (shelf.new ≡ shelf.old) × (result ≡ Outcome.Unbuilt) }
+        → (shelf.new ≡ shelf.old) × ((result.outcome ≡ Outcome.Usage) ⊎ (result.outcome ≡ Outcome.Memory)) }
 {
     let Some(check) = check_asked(words) else {
-        return Outcome::Unbuilt;
+        return end_by_line(alloc, Outcome::Usage);
     };
     match decide(alloc, &check, shelf) {
-        Ok(outcome) => outcome,
-        Err(Stop::ReadFault) => Outcome::ReadFault,
-        Err(Stop::Memory) => Outcome::Memory,
+        Ok(ending) => ending,
+        Err(outcome) => end_by_line(alloc, outcome),
     }
 }
 
-/// What the files that a check names decide.
-fn decide<S: Shelf>(alloc: Global, check: &Check<'_>, shelf: &mut S) -> Result<Outcome, Stop>
+/// The end of a run with an outcome whose report is one line.
+fn end_by_line(alloc: Global, outcome: Outcome) -> Ending
+    ensures { TellsLine outcome result }
+{
+    match report_line(alloc, &outcome) {
+        Ok(report) => Ending { outcome, report },
+        Err(_) => Ending {
+            outcome: Outcome::Memory,
+            report: Vec::new(alloc),
+        },
+    }
+}
+
+/// How the files that a check names end the run. The error is an outcome that came before both netlists were read, or
+/// a fault.
+fn decide<S: Shelf>(alloc: Global, check: &Check<'_>, shelf: &mut S) -> Result<Ending, Outcome>
     requires { (S.state shelf.old).mode ≡ Closed }
     ensures { Decides S.tells check.now.first.now check.now.second.now check.now.account.now
         (S.state shelf.old) (S.state shelf.new) result }
 {
-    let Some(first) = read_netlist(alloc, shelf, check.first)? else {
-        return Ok(Outcome::Unbuilt);
-    };
-    let Some(second) = read_netlist(alloc, shelf, check.second)? else {
-        return Ok(Outcome::Unbuilt);
-    };
-    settle_by(alloc, &first, &second, shelf, check.account)
+    let first = read_netlist(alloc, shelf, Which::First, check.first)?;
+    let second = read_netlist(alloc, shelf, Which::Second, check.second)?;
+    let outcome = judge(alloc, &first, &second, shelf, check.account)?;
+    let report = report_named(alloc, &first, &second, &outcome)?;
+    Ok(Ending { outcome, report })
 }
 
-/// What the account under a name decides of two netlists.
-fn settle_by<S: Shelf>(
+/// What the account under a name says of two netlists.
+fn judge<S: Shelf>(
     alloc: Global,
-    first: &Graph,
-    second: &Graph,
+    first: &Named,
+    second: &Named,
     shelf: &mut S,
     name: &str,
 ) -> Result<Outcome, Stop>
     requires closed { (S.state shelf.old).mode ≡ Closed }
-    requires small { IsSmall first.now }
-    ensures { SettlesBy S.tells first.now second.now name.now
+    requires few_outputs { length first.now.graph.outputs ≤ 1024 }
+    ensures { Judges S.tells first.now second.now name.now
         (S.state shelf.old) (S.state shelf.new) result }
 {
+    if are_wide(first, second) {
+        return Ok(Outcome::Wide);
+    }
     match read_file(alloc, shelf, name, TABLE_LIMIT)? {
-        File::Absent => Ok(Outcome::Unbuilt),
+        File::Absent => Ok(Outcome::Absent(Which::Account)),
         File::TooLong => Ok(Outcome::NotATable),
-        File::Bytes(account) => Ok(settle(alloc, first, second, &account)?),
+        File::Bytes(account) => Ok(settle(alloc, &first.graph, &second.graph, &account)?),
     }
 }
 
-/// The netlist under a name, or None where none that can be read stands there.
-fn read_netlist<S: Shelf>(alloc: Global, shelf: &mut S, name: &str) -> Result<Option<Graph>, Stop>
-    requires { (S.state shelf.old).mode ≡ Closed }
-    ensures { ReadsNetlist S.tells name.now (S.state shelf.old) (S.state shelf.new) result }
+/// Whether one of the netlists has more inputs than are tried on every vector.
+fn are_wide(first: &Named, second: &Named) -> bool
+    ensures { IsTrue result ↔ AreWide first.now.graph second.now.graph }
 {
-    match read_file(alloc, shelf, name, NETLIST_LIMIT)? {
-        File::Absent => Ok(None),
-        File::TooLong => Ok(None),
-        File::Bytes(bytes) => graph_of(alloc, &bytes),
-    }
+    first.graph.inputs() > MOST_INPUTS || second.graph.inputs() > MOST_INPUTS
 }
 
-/// The graph that the bytes are the plain form of, or None where they are of none.
-fn graph_of(alloc: Global, bytes: &[u8]) -> Result<Option<Graph>, Stop>
-    ensures plain { IfOk result (λ answer. IfSome answer (IsPlain bytes.now)) }
-    ensures none { IfOk result (λ answer. IfNone answer ((net : Net) → IsPlain bytes.now net → ⊥)) }
-    ensures memory { IfErr result (λ stop. stop ≡ Stop.Memory) }
-{
-    match read_plain(alloc, bytes) {
-        Ok(graph) => Ok(Some(graph)),
-        Err(PlainStop::Unbuilt) => Ok(None),
-        Err(PlainStop::Memory) => Err(Stop::Memory),
-    }
-}
-
-/// Whether the account is a table that is a match.
+/// What the bytes of an account say of two circuits.
 fn settle(
     alloc: Global,
     first: &Graph,
@@ -176,42 +200,30 @@ fn settle(
     requires { IsSmall first.now }
     ensures { IfOk result (Settles first.now second.now account.now) }
 {
-    let Some(table) = parse(alloc, account)? else {
+    let Some(table) = match_spelled(alloc, first, second, account)? else {
         return Ok(Outcome::NotATable);
     };
-    if !is_match(alloc, first, second, &table)? {
-        return Ok(Outcome::NotATable);
-    }
     Ok(Outcome::AcceptedMatch(table))
 }
 
-/// Puts the report of an outcome, and answers how the run ends with that.
-fn tell<K: Sink>(alloc: Global, outcome: Outcome, out: &mut K) -> Outcome
-    requires { outcome ≢ Outcome.WriteFault }
+/// Puts the report of an ending, and answers how the run ends with that.
+fn tell<K: Sink>(ending: Ending, out: &mut K) -> Outcome
+    requires { ending.outcome ≢ Outcome.WriteFault }
     ensures report { IsTrue K.tells → IsTold result
-        → (K.state out.new).written ≡ (K.state out.old).written ++ report_of outcome }
-    ensures part { IsTrue K.tells → WritesPart (K.state out.old) (K.state out.new) (report_of outcome)
-        ⊎ WritesPart (K.state out.old) (K.state out.new) (report_of Outcome.Memory) }
-    ensures same { IsTold result → result ≡ outcome }
+        → (K.state out.new).written ≡ (K.state out.old).written ++ ending.report.items }
+    ensures part { IsTrue K.tells
+        → ((ending.outcome ≢ Outcome.Memory)
+        × WritesPart (K.state out.old) (K.state out.new) ending.report.items)
+        ⊎ WritesPart (K.state out.old) (K.state out.new) (line_of Outcome.Memory) }
+    ensures same { IsTold result → result ≡ ending.outcome }
     ensures write_fault { result ≡ Outcome.WriteFault
         → Rose (K.state out.old).faults (K.state out.new).faults }
 {
+    let Ending { outcome, report } = ending;
     if let Outcome::Memory = outcome {
-        return put(OUT_OF_MEMORY, Outcome::Memory, out);
+        return put(OUT_OF_MEMORY, outcome, out);
     }
-    match report(alloc, &outcome) {
-        Ok(text) => put(&text, outcome, out),
-        Err(_) => put(OUT_OF_MEMORY, Outcome::Memory, out),
-    }
-}
-
-/// The report of an outcome.
-fn report(alloc: Global, outcome: &Outcome) -> Result<Vec<u8>, AllocError>
-    ensures { IfOk result (λ text. text.items ≡ report_of outcome.now) }
-{
-    let mut text = Vec::new(alloc);
-    put_report(outcome, &mut text)?;
-    Ok(text)
+    put(&report, outcome, out)
 }
 
 /// Puts a text that is the report of an outcome.

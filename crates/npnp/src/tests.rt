@@ -54,6 +54,8 @@ fn answer(
 fn decides_tables(rt: HostRuntime) -> Result<(), Fail> {
     let accepted =
         b"accepted match\ninput 0 i0 = not input 1 i1\ninput 1 i1 = input 0 i0\noutput 0 o0 = not output 1 o1\noutput 1 o1 = output 0 o0\n";
+    let reversed = b"aag 4 2 0 1 2\n2\n4\n8\n8 6 2\n6 2 4\n";
+    let named = b"aag 1 1 0 1 0\n2\n2\ni0 in put\no0 q\nc\nx";
     let rows: [(&[u8], &[u8], &[u8], u8, &[u8]); 9] = [
         (A, B, TABLE, 0, accepted),
         (
@@ -77,20 +79,6 @@ fn decides_tables(rt: HostRuntime) -> Result<(), Fail> {
             2,
             b"rejected\n",
         ),
-        (
-            A,
-            B,
-            b"npnp 1\nmatch i0-1 i1+0 o0-1 o1+0\nend",
-            2,
-            b"rejected\n",
-        ),
-        (
-            A,
-            B,
-            b"npnp 1\nmatch i0-1 i1+0 o0-01 o1+0\nend\n",
-            2,
-            b"rejected\n",
-        ),
         (A, B, b"", 2, b"rejected\n"),
         (
             EMPTY,
@@ -100,6 +88,20 @@ fn decides_tables(rt: HostRuntime) -> Result<(), Fail> {
             b"accepted match\n",
         ),
         (A, EMPTY, TABLE, 2, b"rejected\n"),
+        (
+            reversed,
+            reversed,
+            b"npnp 1\nmatch i0+0 i1+1 o0+0\nend\n",
+            0,
+            b"accepted match\ninput 0 i0 = input 0 i0\ninput 1 i1 = input 1 i1\noutput 0 o0 = output 0 o0\n",
+        ),
+        (
+            named,
+            named,
+            b"npnp 1\nmatch i0+0 o0+0\nend\n",
+            0,
+            b"accepted match\ninput 0 in put = input 0 in put\noutput 0 q = output 0 q\n",
+        ),
     ];
     for (first, second, account, status, report) in rows {
         let (ended, printed) = answer(&rt, &["check", "A", "B", "t"], [first, second, account])?;
@@ -110,30 +112,91 @@ fn decides_tables(rt: HostRuntime) -> Result<(), Fail> {
 }
 
 #[test]
-fn leaves_the_rest_unbuilt(rt: HostRuntime) -> Result<(), Fail> {
-    let thirteen = b"aag 13 13 0 0 0\n2\n4\n6\n8\n10\n12\n14\n16\n18\n20\n22\n24\n26\n";
-    let rows: [(&[&str], &[u8], &[u8]); 9] = [
-        (&[], A, B),
-        (&["match", "A", "B", "t"], A, B),
-        (&["check", "A", "B"], A, B),
-        (&["check", "A", "B", "t", "t"], A, B),
-        (&["check", "", "B", "t"], A, B),
-        (&["check", "A", "B", "z"], A, B),
-        (&["check", "z", "B", "t"], A, B),
-        (&["check", "A", "B", "t"], thirteen, thirteen),
-        (&["check", "A", "B", "t"], A, b"aig 0 0 0 0 0\n"),
+fn names_what_is_missing(rt: HostRuntime) -> Result<(), Fail> {
+    let rows: [(&[&str], u8, &[u8]); 8] = [
+        (&[], 4, b"usage\n"),
+        (&["match", "A", "B", "t"], 4, b"usage\n"),
+        (&["check", "A", "B"], 4, b"usage\n"),
+        (&["check", "A", "B", "t", "t"], 4, b"usage\n"),
+        (&["check", "", "B", "t"], 4, b"usage\n"),
+        (&["check", "z", "y", "x"], 5, b"absent first\n"),
+        (&["check", "A", "z", "x"], 5, b"absent second\n"),
+        (&["check", "A", "B", "z"], 5, b"absent account\n"),
     ];
-    for (words, first, second) in rows {
-        let (ended, printed) = answer(&rt, words, [first, second, TABLE])?;
-        assert_eq!(rt; printed.as_slice(), b"unbuilt\n".as_slice());
+    for (words, status, report) in rows {
+        let (ended, printed) = answer(&rt, words, [A, B, TABLE])?;
+        assert_eq!(rt; printed.as_slice(), report);
+        assert_eq!(rt; ended, status);
+    }
+    Ok(())
+}
+
+#[test]
+fn refuses_what_is_too_wide(rt: HostRuntime) -> Result<(), Fail> {
+    let wide = b"aag 13 13 0 0 0\n2\n4\n6\n8\n10\n12\n14\n16\n18\n20\n22\n24\n26\n";
+    // the account that isn't there isn't looked for
+    let rows: [(&[u8], &[u8], &[u8]); 4] = [
+        (wide, wide, b"t"),
+        (wide, wide, b"z"),
+        (A, wide, b"t"),
+        (wide, A, b"t"),
+    ];
+    for (first, second, account) in rows {
+        let name = if account == b"t".as_slice() { "t" } else { "z" };
+        let (ended, printed) = answer(&rt, &["check", "A", "B", name], [first, second, TABLE])?;
+        assert_eq!(rt; printed.as_slice(), b"wide\n".as_slice());
         assert_eq!(rt; ended, 5);
     }
     Ok(())
 }
 
-/// A shelf on which each name holds the empty circuit, and whose call of one number fails.
+#[test]
+fn refuses_malformed_netlists_at_their_place(rt: HostRuntime) -> Result<(), Fail> {
+    let rows: [(&[u8], &[u8]); 19] = [
+        (b"", b"malformed first 1 0\n"),
+        (b"aag 4294967295 0 0 0 0\n", b"malformed first 6 0\n"),
+        (b"aag 4294967296 0 0 0 0\n", b"malformed first 1 0\n"),
+        (b"aag 1025 1025 0 0 0\n", b"malformed first 4 0\n"),
+        (b"aag 1 0 1 0 0\n2 3\n", b"malformed first 2 0\n"),
+        (b"aag 0 0 0 1 0\nx\n", b"malformed first 7 14\n"),
+        (b"aag 1 0 0 1 0\n4\n", b"malformed first 8 14\n"),
+        (b"aag 1 1 0 0 0\n3\n", b"malformed first 8 14\n"),
+        (b"aag 2 2 0 0 0\n2\n2\n", b"malformed first 9 16\n"),
+        (b"aag 1 0 0 1 0\n2\n", b"malformed first 10 14\n"),
+        (b"aag 0 0 0 1 0\n", b"malformed first 14 14\n"),
+        (b"aag 1 1 0 1 0\n2\n", b"malformed first 14 16\n"),
+        (b"aig 0 0 0 0 1\n", b"malformed first 1 0\n"),
+        (
+            b"aig 1 0 0 0 1\n\x82\x82\x82\x82\x82",
+            b"malformed first 11 14\n",
+        ),
+        (b"aig 3 2 0 1 1\n6\n\x82", b"malformed first 11 16\n"),
+        (b"aig 3 2 0 1 1\n6\n\x02", b"malformed first 11 17\n"),
+        (b"aig 3 2 0 1 1\n6\n\x07\x00", b"malformed first 11 16\n"),
+        (
+            b"aag 4 2 0 1 2\n2\n4\n8\n8 6 2\n6 8 4\n",
+            b"malformed first 12 20\n",
+        ),
+        (b"aag 1 1 0 1 0\n2\n2\ni1 x\n", b"malformed first 13 18\n"),
+    ];
+    for (first, report) in rows {
+        let (ended, printed) = answer(&rt, &["check", "A", "B", "t"], [first, B, TABLE])?;
+        assert_eq!(rt; printed.as_slice(), report);
+        assert_eq!(rt; ended, 5);
+    }
+    let (_, printed) = answer(
+        &rt,
+        &["check", "A", "B", "t"],
+        [A, b"aag 0 0 0 1 0\nx\n", TABLE],
+    )?;
+    assert_eq!(rt; printed.as_slice(), b"malformed second 7 14\n".as_slice());
+    Ok(())
+}
+
+/// A shelf on which each name holds the empty circuit in so many bytes, and whose call of one number fails.
 #[derive(Drop)]
 struct Failing {
+    size: u64,
     reading: bool,
     writing: bool,
     left: u64,
@@ -145,7 +208,7 @@ struct Failing {
 impl Failing {
     /// Counts a call, and tells whether it fails.
     fn call(&mut self) -> bool
-        ensures { (self.new.reading ≡ self.old.reading) × (self.new.writing ≡ self.old.writing) × (self.new.left ≡ self.old.left) × (self.new.faults ≡ self.old.faults) }
+        ensures { (self.new.size ≡ self.old.size) × (self.new.reading ≡ self.old.reading) × (self.new.writing ≡ self.old.writing) × (self.new.left ≡ self.old.left) × (self.new.faults ≡ self.old.faults) }
     {
         let fails = self.calls == self.fails;
         self.calls = self.calls.saturating_add(1);
@@ -171,7 +234,7 @@ impl Shelf for Failing {
             return Err(ShelfStop::Failed);
         }
         self.reading = true;
-        self.left = EMPTY.len() as u64;
+        self.left = self.size;
         Ok(Some(self.left))
     }
 
@@ -214,6 +277,7 @@ fn calls_nothing_after_a_fault(rt: HostRuntime) -> Result<(), Fail> {
     // open, read and close of each of three files
     for fails in 0..9 {
         let mut shelf = Failing {
+            size: EMPTY.len() as u64,
             reading: false,
             writing: false,
             left: 0,
@@ -256,5 +320,26 @@ fn ends_where_nothing_can_be_printed(rt: HostRuntime) -> Result<(), Fail> {
     let outcome = run(rt.alloc(), words.as_slice(), &mut shelf, &mut sink);
     assert_eq!(rt; outcome.status(), 6);
     assert_eq!(rt; sink.faults, 1);
+    Ok(())
+}
+
+#[test]
+fn closes_a_long_netlist_unread(rt: HostRuntime) -> Result<(), Fail> {
+    let mut shelf = Failing {
+        size: 67_108_865,
+        reading: false,
+        writing: false,
+        left: 0,
+        calls: 0,
+        fails: u64::MAX,
+        faults: 0,
+    };
+    let mut sink = SafeSink::new(rt.alloc());
+    let words = words_of(rt.alloc(), &["check", "A", "B", "t"])?;
+    let outcome = run(rt.alloc(), words.as_slice(), &mut shelf, &mut sink);
+    assert_eq!(rt; outcome.status(), 5);
+    assert_eq!(rt; sink.written(), b"too large first\n".as_slice());
+    // open and close
+    assert_eq!(rt; shelf.calls, 2);
     Ok(())
 }

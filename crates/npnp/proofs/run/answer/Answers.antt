@@ -1,6 +1,14 @@
--- The names are those of the words.
-use Rattle.npnp.proofs.CheckLemmas.{right_from_names}
+-- The words name the files that were read.
+use Rattle.std.proofs.Common.{inl, inr, sym, subst}
+use Rattle.npnp.specs.Check.{IsRight}
 use Rattle.npnp.proofs.run.answer.Goals as goal
 
 pub returns-in-Ok-clause-right : goal.returns-in-Ok-clause-right
-returns-in-Ok-clause-right g c = λ tells. right_from_names _ _ _ _ _ c.in-Some.ensures.asked _ (c.in-Ok.ensures.right tells)
+returns-in-Ok-clause-right g c = λ tells. c.in-Ok.ensures.right tells _ c.in-Some.ensures.asked
+
+pub returns-in-Err-clause-right : goal.returns-in-Err-clause-right
+returns-in-Err-clause-right g c = λ tells.
+    elim c.end_by_line-in-Err.ensures [
+      | inl (same, text) ↦ subst (IsRight _ _) (sym same) (c.in-Err.ensures.ended tells _ c.in-Some.ensures.asked)
+      | inr memory ↦ subst (IsRight _ _) (sym memory) tt
+    ]

@@ -1,34 +1,48 @@
 -- What the files decide, one after the other: no call changes what is held.
-use Rattle.std.proofs.Common.{◌∙◌, arith}
-use Rattle.npnp.proofs.CheckLemmas.{at_none, at_some, rose_later, held_before, held_after, decided_by_account}
+use Rattle.std.proofs.Common.{inr, ◌∙◌, subst, arith}
+use Rattle.std.proofs.lemmas.Result.{err_from_is_err_and}
+use Rattle.npnp.specs.Check.{EndsAt}
+use Rattle.npnp.specs.Report.{netlist_of}
+use Rattle.npnp.specs.Steps.{IsVerdict}
+use Rattle.npnp.specs.Stops.{outcome_of}
+use Rattle.npnp.specs.declared.outcome.Which.TheVariants.{Second}
+use Rattle.npnp.proofs.CheckLemmas.{rose_later, right_at_second, right_by_verdict, asks_both, stopped, stop_right, stop_reading, stop_is, judged_on}
 use Rattle.npnp.proofs.run.decide.Goals as goal
 
-pub returns-in_default : goal.returns-in_default
-returns-in_default g c = record {
-  files = c.read_netlist.ensures.files;
-  right = λ tells first second account h. at_none _ _ _ c.in_ok-first.field-0 c.in_default.is (c.in_ok-first.ensures.found tells) first h.first_held;
-  decided = tt;
-  faults = c.read_netlist.ensures.faults;
-  failed = λ e. cc;
-}
+pub returns-in_err-second : goal.returns-in_err-second
+returns-in_err-second g c =
+    let p = err_from_is_err_and c.from_residual-in_err-second.result c.from_residual-in_err-second.ensures.1 in
+    let o = c.in_err-second.field-0.0 in
+    stopped _ _ _ _ _ _ _ o (cc (p.1, p.2)) (λ n. c.read_netlist-2.ensures.files n ∙ c.read_netlist.ensures.files n)
+    (λ tells words asks. right_at_second _ words _ _ _ (netlist_of c.in_ok-first.first) asks (c.in_ok-first.ensures.found tells) o (subst (λ content. EndsAt Second content o) (c.read_netlist.ensures.files _) (c.in_err-second.ensures.ended tells)))
+    c.in_err-second.ensures.reading
+    (λ e. rose_later _ _ _ c.read_netlist.ensures.faults c.read_netlist-2.ensures.faults (c.read_netlist-2.ensures.failed (cc (e, c.in_err-second.was))))
 
-pub returns-in_default-2 : goal.returns-in_default-2
-returns-in_default-2 g c = record {
-  files = λ n. c.read_netlist-2.ensures.files n ∙ c.read_netlist.ensures.files n;
-  right = λ tells first second account h. at_none _ _ _ c.in_ok-second.field-0 c.in_default-2.is (c.in_ok-second.ensures.found tells) second (held_after _ _ _ _ c.read_netlist.ensures.files h.second_held);
-  decided = tt;
-  faults = omega (arith, c.read_netlist.ensures.faults, c.read_netlist-2.ensures.faults);
-  failed = λ e. cc;
-}
+pub returns-in_err-outcome : goal.returns-in_err-outcome
+returns-in_err-outcome g c =
+    let p = err_from_is_err_and c.from_residual-in_err-outcome.result c.from_residual-in_err-outcome.ensures.1 in
+    let s = c.in_err-outcome.field-0.0 in
+    stopped _ _ _ _ _ _ _ (outcome_of s) (cc (p.1, p.2)) (λ n. c.judge.ensures.files n ∙ c.read_netlist-2.ensures.files n ∙ c.read_netlist.ensures.files n)
+    (λ tells words asks. stop_right _ words s)
+    (stop_reading s)
+    (λ e. let is = stop_is s e in rose_later _ _ _ (omega (arith, c.read_netlist.ensures.faults, c.read_netlist-2.ensures.faults)) c.judge.ensures.faults (c.judge.ensures.failed (cc (is, c.in_err-outcome.was))))
 
 pub returns : goal.returns
-returns g c = record {
-  files = λ n. c.settle_by.ensures.files n ∙ c.read_netlist-2.ensures.files n ∙ c.read_netlist.ensures.files n;
-  right = λ tells.
-      let first = at_some _ _ _ c.in_ok-first.field-0 c.in-Some.first c.in-Some.is (c.in_ok-first.ensures.found tells) in
-      let second = held_before _ _ _ _ c.read_netlist.ensures.files (at_some _ _ _ c.in_ok-second.field-0 c.in-Some-2.second c.in-Some-2.is (c.in_ok-second.ensures.found tells)) in
-      decided_by_account _ _ _ _ _ _ _ first second (c.read_netlist-2.ensures.files _ ∙ c.read_netlist.ensures.files _) _ (c.settle_by.ensures.right tells);
-  decided = c.settle_by.ensures.decided;
-  faults = omega (arith, c.read_netlist.ensures.faults, c.read_netlist-2.ensures.faults, c.settle_by.ensures.faults);
-  failed = λ e. rose_later _ _ _ (omega (arith, c.read_netlist.ensures.faults, c.read_netlist-2.ensures.faults)) c.settle_by.ensures.faults (c.settle_by.ensures.failed e);
-}
+returns g c =
+    let first = netlist_of c.in_ok-first.first in
+    let second = netlist_of c.in_ok-second.second in
+    record {
+      files = λ n. c.judge.ensures.files n ∙ c.read_netlist-2.ensures.files n ∙ c.read_netlist.ensures.files n;
+      right = λ tells words asks. right_by_verdict _ words first second _ (asks_both _ _ words _ _ _ first second (c.read_netlist.ensures.files _) asks (c.in_ok-first.ensures.found tells) (c.in_ok-second.ensures.found tells)) _ (subst (λ content. IsVerdict first.net second.net content c.in_ok-outcome.outcome) (c.read_netlist-2.ensures.files _ ∙ c.read_netlist.ensures.files _) (c.in_ok-outcome.ensures.right tells));
+      ended = λ tells words asks. tt;
+      report = λ words asks. inr (record {
+        first = c.in_ok-first.first;
+        second = c.in_ok-second.second;
+        account_name = c.args.check.now.account.now;
+        of_files = λ tells. asks_both _ _ words _ _ _ first second (c.read_netlist.ensures.files _) asks (c.in_ok-first.ensures.found tells) (c.in_ok-second.ensures.found tells);
+        same = c.in_ok-report.ensures;
+      });
+      judged = judged_on c.in_ok-first.first c.in_ok-second.second c.in_ok-outcome.outcome c.in_ok-outcome.ensures.on;
+      reading = tt;
+      failed = λ e. cc;
+    }

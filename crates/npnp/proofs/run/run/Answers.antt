@@ -1,18 +1,42 @@
 -- What is told is what was answered.
-use Rattle.std.proofs.Common.{inl, inr}
-use Rattle.npnp.specs.declared.outcome.Outcome.TheVariants.{Memory}
-use Rattle.npnp.proofs.CheckLemmas.{exactly_accepted, exactly_rejected, exactly_unbuilt}
+use Rattle.std.proofs.Common.{inl, inr, refl, ◌∙◌}
+use Rattle.npnp.specs.Report.{line_of}
+use Rattle.npnp.specs.declared.outcome.Outcome.TheVariants.{AcceptedMatch, NotATable, Wide, Absent, TooLarge, Malformed, Memory}
+use Rattle.npnp.proofs.CheckLemmas.{exactly, report_of_same, decided_accepted, decided_rejected, decided_wide, decided_absent, decided_too_large, decided_malformed}
 use Rattle.npnp.proofs.run.run.Goals as goal
 
 pub returns-clause-accepted : goal.returns-clause-accepted
-returns-clause-accepted g c = λ tells decided table. exactly_accepted _ _ _ _ (c.answer-outcome.ensures.right tells) c.tell.ensures.same decided table
+returns-clause-accepted g c = λ tells decided table. exactly _ _ _ _ (c.answer-ending.ensures.right tells) c.tell.ensures.same decided (AcceptedMatch table) (decided_accepted table)
 
 pub returns-clause-rejected : goal.returns-clause-rejected
-returns-clause-rejected g c = λ tells decided. exactly_rejected _ _ _ _ (c.answer-outcome.ensures.right tells) c.tell.ensures.same decided
+returns-clause-rejected g c = λ tells decided. exactly _ _ _ _ (c.answer-ending.ensures.right tells) c.tell.ensures.same decided NotATable decided_rejected
 
-pub returns-clause-unbuilt : goal.returns-clause-unbuilt
-returns-clause-unbuilt g c = λ tells decided. exactly_unbuilt _ _ _ _ (c.answer-outcome.ensures.right tells) c.tell.ensures.same decided
+pub returns-clause-wide : goal.returns-clause-wide
+returns-clause-wide g c = λ tells decided. exactly _ _ _ _ (c.answer-ending.ensures.right tells) c.tell.ensures.same decided Wide decided_wide
+
+pub returns-clause-absent : goal.returns-clause-absent
+returns-clause-absent g c = λ tells decided which. exactly _ _ _ _ (c.answer-ending.ensures.right tells) c.tell.ensures.same decided (Absent which) (decided_absent which)
+
+pub returns-clause-too_large : goal.returns-clause-too_large
+returns-clause-too_large g c = λ tells decided which. exactly _ _ _ _ (c.answer-ending.ensures.right tells) c.tell.ensures.same decided (TooLarge which) (decided_too_large which)
+
+pub returns-clause-malformed : goal.returns-clause-malformed
+returns-clause-malformed g c = λ tells decided which kind at. exactly _ _ _ _ (c.answer-ending.ensures.right tells) c.tell.ensures.same decided (Malformed which kind at) (decided_malformed which kind at)
+
+pub returns-clause-report : goal.returns-clause-report
+returns-clause-report g c = λ tells told.
+    let same = c.tell.ensures.same told in
+    elim c.answer-ending.ensures.report [
+      | inl memory ↦ absurd (told.room (same ∙ memory))
+      | inr report ↦ (c.answer-ending.result.report.items, report_of_same _ _ _ _ _ _ same report, c.tell.ensures.report tells told)
+    ]
 
 pub returns-clause-part : goal.returns-clause-part
 returns-clause-part g c = λ tells told.
-    elim (c.tell.ensures.part told) [ inl part ↦ (c.answer-outcome.result, c.answer-outcome.ensures.right tells, part) | inr part ↦ (Memory, tt, part) ]
+    elim (c.tell.ensures.part told) [
+      | inl (room, part) ↦ elim c.answer-ending.ensures.report [
+        | inl memory ↦ absurd (room memory)
+        | inr report ↦ (c.answer-ending.result.outcome, c.answer-ending.result.report.items, c.answer-ending.ensures.right tells, report, part)
+      ]
+      | inr part ↦ (Memory, line_of Memory, tt, inl (λ table e. cc, refl), part)
+    ]

@@ -1,0 +1,51 @@
+//! Netlists from a shelf.
+
+ghost use Rattle.std.specs.Prelude.{◌≡◌, IfOk, IfErr};
+ghost use Rattle.shelf_core.specs.State.{Closed};
+ghost use Rattle.aiger_reader.specs.Aiger.{IsAiger};
+ghost use Rattle.npnp.specs.Steps.{ReadsNetlist, IsStopOf};
+
+use crate::files::{File, read_file};
+use crate::outcome::{Outcome, Which};
+use aiger_reader::read;
+use net_core::{Named, NetStop};
+use shelf_core::Shelf;
+use std::alloc::Global;
+
+/// The most bytes that a netlist may have.
+const NETLIST_LIMIT: u64 = 67_108_864;
+
+/// Reads the netlist under a name. The error is how the run ends where none stands there: `which` is the file that
+/// it names. A file of more than 67,108,864 bytes is closed unread.
+pub fn read_netlist<S: Shelf>(
+    alloc: Global,
+    shelf: &mut S,
+    which: Which,
+    name: &str,
+) -> Result<Named, Outcome>
+    requires { (S.state shelf.old).mode ≡ Closed }
+    ensures { ReadsNetlist S.tells which name.now (S.state shelf.old) (S.state shelf.new) result }
+{
+    match read_file(alloc, shelf, name, NETLIST_LIMIT)? {
+        File::Absent => Err(Outcome::Absent(which)),
+        File::TooLong => Err(Outcome::TooLarge(which)),
+        File::Bytes(bytes) => parse_netlist(alloc, which, &bytes),
+    }
+}
+
+/// The netlist that a file's bytes are.
+fn parse_netlist(alloc: Global, which: Which, bytes: &[u8]) -> Result<Named, Outcome>
+    ensures netlist { IfOk result
+        (λ named. IsAiger bytes.now named.graph named.input_names named.output_names) }
+    ensures stop { IfErr result (IsStopOf which bytes.now) }
+{
+    match read(alloc, bytes) {
+        Ok(named) => Ok(named),
+        Err(NetStop::Fault(fault)) => Err(Outcome::Malformed {
+            which,
+            kind: fault.kind,
+            at: fault.at,
+        }),
+        Err(NetStop::Memory) => Err(Outcome::Memory),
+    }
+}

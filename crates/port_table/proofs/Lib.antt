@@ -1,0 +1,4 @@
+pub mod Comparing
+pub mod ReadLemmas
+pub mod TableLemmas
+pub mod MatchLemmas
