@@ -1,25 +1,18 @@
 -- A file is one netlist at most, or has one first fault, and never both.
-use Rattle.std.proofs.Common.{◌≡◌, ℕ, ◌+◌, ◌*◌, ◌≤◌, ◌⊎◌, Bool, true, false, List, [], length, map, get_or, All, None, if◌then◌else◌, inl, inr, refl, sym, ap, subst, ◌∙◌, arith}
+use Rattle.std.proofs.Common.{◌≡◌, ℕ, ◌+◌, ◌⊎◌, Bool, true, false, List, length, None, inl, inr, sym, ap, subst, ◌∙◌, arith}
 use Rattle.std.proofs.lemmas.Bool.Decides.{leb_tells}
-use Rattle.std.proofs.lemmas.List.{get_or_default}
-use Rattle.std.proofs.lemmas.List.Elements.{All-map}
-use Rattle.std.proofs.lemmas.Simd.{map-map}
 use Rattle.circuits.specs.Netlists.{Net}
-use Rattle.circuits.specs.Circuits.{Circuit, IsClosed}
+use Rattle.circuits.specs.Circuits.{Circuit}
 use Rattle.circuits.specs.Levels.{IsAcyclic, IsFirstLooped, IsOrderOf}
 use Rattle.circuits.proofs.OneOrder.{one_order, one_first_looped, acyclic_not_looped}
 use Rattle.net_core.specs.declared.named.NetKind.{NetKind}
 use Rattle.aiger_reader.specs.Headers.{AigerHeader, header_fault, Begins}
-use Rattle.aiger_reader.specs.Bodies.{Output, role_at, wanted, first_of, IsBody, IsBodyFault, IsUndefined, line_offset, lit_from}
-use Rattle.aiger_reader.specs.Deltas.{AreGates, IsDeltaFault, and_from, behind_outputs, binary_circuit}
+use Rattle.aiger_reader.specs.Bodies.{IsBody, IsBodyFault, IsUndefined, line_offset}
+use Rattle.aiger_reader.specs.Deltas.{IsDeltaFault, binary_circuit}
 use Rattle.aiger_reader.specs.Numbers.{IsHeaderFault}
-use Rattle.aiger_reader.specs.Numbered.{circuit_from}
-use Rattle.aiger_reader.specs.Reading.{input_lines_of, gate_lines_of}
 use Rattle.aiger_reader.specs.Symbols.{AreNames, IsSymbolFault}
 use Rattle.aiger_reader.specs.Aiger.{IsOfForm, IsNetlist, IsAiger, IsLinesFault, IsGatesFault, IsUndefinedFault, IsCycleFault, IsNamesFault, IsAigerFault}
 use Rattle.aiger_reader.proofs.HeaderLemmas.{no_clash}
-use Rattle.aiger_reader.proofs.RoleLemmas.{length-roles_of, role_is, output_role}
-use Rattle.aiger_reader.proofs.BinaryNetLemmas.{begins_below, binary_closed}
 use Rattle.aiger_reader.proofs.OneBody.{one_header, one_body, body_or_fault, one_body_fault, compared}
 use Rattle.aiger_reader.proofs.OneDelta.{one_are_gates, gates_or_fault, one_delta_fault}
 use Rattle.aiger_reader.proofs.OneSymbols.{names_same, names_or_fault, fault_same}

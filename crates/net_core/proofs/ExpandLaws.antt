@@ -1,5 +1,5 @@
 -- That what is made so far, continued by what is left, is the whole, and that it only grows.
-use Rattle.std.proofs.Common.{ℕ, suc, ◌+◌, ◌-◌, ◌^◌, ◌<◌, ◌≤◌, ◌≡◌, Bool, true, false, List, [], ◌∷◌, ◌++◌, Option, None, Some, length, get_or, map, set, drop, All, refl, sym, ap, ap₂, subst, ◌∙◌, arith}
+use Rattle.std.proofs.Common.{ℕ, suc, ◌+◌, ◌^◌, ◌<◌, ◌≤◌, ◌≡◌, Bool, true, false, List, [], ◌∷◌, ◌++◌, Option, None, Some, length, get_or, map, drop, refl, sym, ap, ap₂, subst, ◌∙◌, arith}
 use Rattle.std.proofs.Math.Seq.{drop-cons}
 use Rattle.std.proofs.lemmas.List.{get_or_default, get_or-map, length-map, length-set, length_push}
 use Rattle.std.proofs.lemmas.List.FromFn.{length-map-range_with_len, map-range_with_len_more}
@@ -13,9 +13,9 @@ use Rattle.circuits.specs.declared.definition.Def.TheVariants.{And, Cover}
 use Rattle.circuits.specs.Literals.{plain_literal}
 use Rattle.circuits.specs.Netlists.{Net}
 use Rattle.circuits.specs.Circuits.{Circuit, signals_in, signal_at, def_at}
-use Rattle.circuits.specs.Expansion.{Made, Making, made, gate_of, and_with, row_literals, row_made, or_with, or_each, cover_made, stand_in, stands_for, def_made, with_def, with_defs, no_gates, expanded, gates_in}
+use Rattle.circuits.specs.Expansion.{Made, Making, made, gate_of, row_literals, row_made, or_with, or_each, cover_made, stand_in, stands_for, def_made, with_def, with_defs, no_gates, gates_in}
 use Rattle.circuits.specs.Levels.{IsAcyclic, IsLevelOrder, IsOrderOf}
-use Rattle.circuits.proofs.GateCounts.{length-and_each, length-and_all, length-or_with, length-all_made, gates_in_order}
+use Rattle.circuits.proofs.GateCounts.{length-and_each, length-and_all, length-or_with, gates_in_order}
 use Rattle.circuits.proofs.LevelOrders.{IsOrderOf-ordered, IsOrderOf-inputs, IsOrderOf-outputs}
 use Rattle.net_core.specs.Graph.{IsGraph}
 use Rattle.net_core.specs.PlainNets.{IsPlainNet}

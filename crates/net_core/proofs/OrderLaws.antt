@@ -8,27 +8,19 @@ use Rattle.std.specs.List.{IsDistinct, range_with_len}
 use Rattle.std.proofs.lemmas.Bool.{cases_lt, false≢true}
 use Rattle.std.proofs.lemmas.Bool.Decides.{Decides-eqb}
 use Rattle.std.proofs.lemmas.Cmp.{ranked, by_ranked, nat_cmp_total, nat_eq_equiv, then_total, on_total}
-use Rattle.std.proofs.lemmas.List.{get_or_default, get_or_append_left, get_or_push, length-map, get_or-map}
-use Rattle.std.proofs.lemmas.List.Sorted.{sorted_far, ranks_by, IsPermutation-map, length_permutation, All-permutation}
+use Rattle.std.proofs.lemmas.List.{get_or_append_left, get_or_push, length-map, get_or-map}
+use Rattle.std.proofs.lemmas.List.Sorted.{sorted_far, ranks_by, IsPermutation-map, All-permutation}
 use Rattle.std.proofs.lemmas.List.FromFn.{length-range_with_len, get_or-range_with_len}
 use Rattle.std.proofs.lemmas.Map.Keys.{IsDistinct-IsPermutation, ge_from_not_lt}
 use Rattle.std.proofs.lemmas.Map.Made.{AllPairs-from_IsDistinct, IsDistinct-from_AllPairs}
-use Rattle.circuits.specs.declared.netlist.Lit.{Lit}
-use Rattle.circuits.specs.declared.netlist.Gate.{Gate}
-use Rattle.circuits.specs.declared.definition.Def.{Def}
-use Rattle.circuits.specs.declared.definition.Def.TheVariants.{And}
-use Rattle.circuits.specs.Netlists.{Net}
 use Rattle.circuits.specs.Circuits.{Circuit, signal_at}
 use Rattle.circuits.specs.Expansion.{gates_in}
-use Rattle.circuits.specs.Levels.{HasLevel, IsAcyclic, IsFirstLooped, IsLevelOrder, IsOrderOf}
-use Rattle.circuits.proofs.LevelOrders.{IsOrderOf-ordered}
+use Rattle.circuits.specs.Levels.{HasLevel, IsAcyclic, IsFirstLooped, IsLevelOrder}
 use Rattle.circuits.proofs.LevelLaws.{HasLevel-only}
 use Rattle.net_core.specs.declared.levels.Placed.{Placed}
 use Rattle.net_core.specs.declared.levels.Visit.TheVariants.{Level}
 use Rattle.net_core.specs.declared.order_fault.OrderFault.{OrderFault}
 use Rattle.net_core.specs.declared.order_fault.OrderFault.TheVariants.{Cycle, TooManyGates}
-use Rattle.net_core.specs.Graph.{IsGraph}
-use Rattle.net_core.specs.PlainNets.{IsPlainNet}
 use Rattle.net_core.specs.Search.{IsFaultOf}
 use Rattle.net_core.specs.Orders.{AreListed, AreLevels, IsSortedOrder, placed_cmp}
 

@@ -1,6 +1,6 @@
-use Rattle.std.proofs.Common.{◌≡◌, ◌∙◌, ◌<◌, ◌^◌, sym, ap, ap₂, map, length, get_or, arith}
+use Rattle.std.proofs.Common.{◌≡◌, ◌∙◌, ap, ap₂, map, length, arith}
 use Rattle.circuits.specs.Circuits.{signals_in}
-use Rattle.circuits.specs.Expansion.{Making, with_defs, no_gates, stands_for}
+use Rattle.circuits.specs.Expansion.{Making, stands_for}
 use Rattle.circuits.proofs.GateCounts.{length-all_made}
 use Rattle.circuits.proofs.LevelOrders.{IsLevelOrder-in_range}
 use Rattle.net_core.proofs.ExpandLaws.{net_of, making-entries, IsOrderOf-parts, IsGraph-in_order}

@@ -1,6 +1,5 @@
-use Rattle.std.proofs.Common.{◌∙◌, ◌+◌, map, get_or, drop, arith}
+use Rattle.std.proofs.Common.{◌∙◌, map, drop, arith}
 use Rattle.circuits.specs.Expansion.{row_literals, row_made, stand_in}
-use Rattle.net_core.specs.Rows.{row_continued}
 use Rattle.net_core.proofs.ExpandLaws.{row_room, row_step}
 use Rattle.net_core.proofs.expanding.Gates.row.Goals as goal
 

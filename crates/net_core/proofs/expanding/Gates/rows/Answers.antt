@@ -1,4 +1,4 @@
-use Rattle.std.proofs.Common.{◌∙◌, true, map, get_or, drop, ap, arith}
+use Rattle.std.proofs.Common.{true, map}
 use Rattle.circuits.specs.Expansion.{made, cover_made, stand_in}
 use Rattle.net_core.proofs.ExpandLaws.{first_row_room, or_row_room}
 use Rattle.net_core.proofs.expanding.Gates.rows.Goals as goal

@@ -1,5 +1,5 @@
 use Rattle.std.proofs.Common.{◌≡◌, ◌-◌, ◌<◌, ◌∙◌, ap, refl, length, get_or, arith}
-use Rattle.net_core.proofs.SearchLaws.{IsUnderWay-enter, IsUnderWay-close, IsUnderWay-loop, left-entered, left-closed, top-there, top-looked}
+use Rattle.net_core.proofs.SearchLaws.{IsUnderWay-enter, IsUnderWay-close, IsUnderWay-loop, top-there, top-looked}
 use Rattle.net_core.proofs.levels.Search.advance.Goals as goal
 
 pub next_step-requires-clause-there : goal.next_step-requires-clause-there

@@ -1,4 +1,4 @@
-use Rattle.std.proofs.Common.{ℕ, ◌≡◌, ◌+◌, ◌<◌, ◌≤◌, ◌∙◌, max, sym, ap, subst, length, get_or, take, arith}
+use Rattle.std.proofs.Common.{ℕ, ◌≡◌, ◌+◌, ◌<◌, ◌∙◌, max, sym, ap, subst, length, get_or, take, arith}
 use Rattle.circuits.specs.declared.definition.Def.{Def}
 use Rattle.circuits.specs.Circuits.{Circuit, def_at, names_of, named_by}
 use Rattle.circuits.specs.Levels.{HaveLevel}
