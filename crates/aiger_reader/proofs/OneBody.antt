@@ -107,6 +107,19 @@ not_behind bytes h xs ys kind.Undefined at more fewer below why = why
 not_behind bytes h xs ys kind.Delta at more fewer below why = why
 not_behind bytes h xs ys kind.Cycle at more fewer below why = why
 not_behind bytes h xs ys kind.BadSymbol at more fewer below why = why
+not_behind bytes h xs ys kind.Directive at more fewer below why = why
+not_behind bytes h xs ys kind.Latch at more fewer below why = why
+not_behind bytes h xs ys kind.DontCare at more fewer below why = why
+not_behind bytes h xs ys kind.SecondModel at more fewer below why = why
+not_behind bytes h xs ys kind.RowWidth at more fewer below why = why
+not_behind bytes h xs ys kind.RowChar at more fewer below why = why
+not_behind bytes h xs ys kind.MixedCover at more fewer below why = why
+not_behind bytes h xs ys kind.RowOutside at more fewer below why = why
+not_behind bytes h xs ys kind.NoPortLine at more fewer below why = why
+not_behind bytes h xs ys kind.DuplicatePort at more fewer below why = why
+not_behind bytes h xs ys kind.NameRedefined at more fewer below why = why
+not_behind bytes h xs ys kind.NameUndefined at more fewer below why = why
+not_behind bytes h xs ys kind.CoverCycle at more fewer below why = why
 
 pub body_or_fault : (bytes : List ℕ) (h : AigerHeader) (rows : List (List ℕ)) (fault : NetKind) (at : ℕ) → IsBody bytes h rows → IsBodyFault bytes h fault at → ⊥
 body_or_fault bytes h rows fault at body bad =
@@ -135,6 +148,19 @@ four bytes h rows kind.Undefined at why = absurd why
 four bytes h rows kind.Delta at why = absurd why
 four bytes h rows kind.Cycle at why = absurd why
 four bytes h rows kind.BadSymbol at why = absurd why
+four bytes h rows kind.Directive at why = absurd why
+four bytes h rows kind.Latch at why = absurd why
+four bytes h rows kind.DontCare at why = absurd why
+four bytes h rows kind.SecondModel at why = absurd why
+four bytes h rows kind.RowWidth at why = absurd why
+four bytes h rows kind.RowChar at why = absurd why
+four bytes h rows kind.MixedCover at why = absurd why
+four bytes h rows kind.RowOutside at why = absurd why
+four bytes h rows kind.NoPortLine at why = absurd why
+four bytes h rows kind.DuplicatePort at why = absurd why
+four bytes h rows kind.NameRedefined at why = absurd why
+four bytes h rows kind.NameUndefined at why = absurd why
+four bytes h rows kind.CoverCycle at why = absurd why
 
 -- a line of bad literals doesn't define again
 bad_or_again : (h : AigerHeader) (body rows : List (List ℕ)) → IsBadLiteral h body rows → IsRedefined h body rows → ⊥

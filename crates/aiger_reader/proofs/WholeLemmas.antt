@@ -1,9 +1,14 @@
 -- What stands between a file's parts and the whole.
-use Rattle.std.proofs.Common.{◌≡◌, ℕ, ◌+◌, ◌*◌, ◌<◌, ◌≤◌, Bool, true, false, not, List, [], length, map, take, drop, inl, inr, if◌then◌else◌, refl, sym, ap, subst, ◌∙◌, arith, length-drop, length-take, All}
+use Rattle.std.proofs.Common.{◌≡◌, ℕ, ◌+◌, ◌*◌, ◌<◌, ◌≤◌, Bool, true, false, not, List, [], ◌∷◌, length, map, take, drop, inl, inr, if◌then◌else◌, refl, sym, ap, subst, ◌∙◌, arith, length-drop, length-take, All}
+use Rattle.std.specs.List.{sum_by}
 use Rattle.std.proofs.lemmas.List.{drop_min, length-map}
+use Rattle.std.proofs.lemmas.List.Sums.{sum_by-cons}
 use Rattle.text_core.specs.Lines.{lines}
 use Rattle.text_core.specs.Piece.{Piece}
+use Rattle.circuits.specs.declared.netlist.Lit.{Lit}
+use Rattle.circuits.specs.declared.definition.Def.TheVariants.{And}
 use Rattle.circuits.specs.Circuits.{Circuit}
+use Rattle.circuits.specs.Expansion.{def_gates, gates_in}
 use Rattle.circuits.specs.Levels.{IsAcyclic, IsFirstLooped}
 use Rattle.net_core.specs.declared.named.NetFault.{NetFault}
 use Rattle.net_core.specs.declared.named.NetKind.TheVariants as kind
@@ -170,10 +175,27 @@ pub net_sizes : (bytes : List ℕ) (h : AigerHeader) (circuit : Circuit) (rest :
 net_sizes bytes h circuit rest net =
     form_sizes h.binary bytes h net.rows circuit rest refl net.body.whole net.form
 
--- there are no more definitions than the header's limit
-pub few_defs : (bytes : List ℕ) (header : Header) (circuit : Circuit) (rest : List ℕ) → IsNetOf bytes header circuit rest → length circuit.defs ≤ 1000000
-few_defs bytes header circuit rest net =
-    omega (arith, (net_sizes bytes (header_of header net.0) circuit rest net.1).defs, header.few_gates)
+-- an AND gives one gate
+one_gate_each : {X : Type 0} (a b : X → Lit) (xs : List X) → sum_by def_gates (map (λ x. And (a x) (b x)) xs) ≡ length xs
+one_gate_each {X} a b [] = refl
+one_gate_each {X} a b (x ∷ xs) =
+    omega (arith, one_gate_each a b xs, sum_by-cons def_gates (And (a x) (b x)) (map (λ y. And (a y) (b y)) xs))
+
+-- a file's netlist has a gate for each definition
+gates_of_form : (binary : Bool) (bytes : List ℕ) (h : AigerHeader) (rows : List (List ℕ)) (circuit : Circuit) (rest : List ℕ) → IsOfForm binary bytes h rows circuit rest → gates_in circuit ≡ length circuit.defs
+gates_of_form false bytes h rows circuit rest form =
+    let lines = drop (h.inputs + h.outputs) rows in
+    let each : gates_in (text_circuit h rows) ≡ length (text_circuit h rows).defs = one_gate_each _ _ lines ∙ sym (length-map lines _) in
+    subst (λ c. gates_in c ≡ length c.defs) (sym form.same) each
+gates_of_form true bytes h rows circuit rest form =
+    let each : gates_in (binary_circuit h rows form.gates) ≡ length (binary_circuit h rows form.gates).defs = one_gate_each (λ gate. lit_from gate.0) (λ gate. lit_from gate.1) form.gates ∙ sym (length-map form.gates _) in
+    subst (λ c. gates_in c ≡ length c.defs) (sym form.same) each
+
+-- a file's netlist has no more gates than the limit of the header
+pub few_gates : (bytes : List ℕ) (header : Header) (circuit : Circuit) (rest : List ℕ) → IsNetOf bytes header circuit rest → gates_in circuit ≤ 1000000
+few_gates bytes header circuit rest net =
+    let h = header_of header net.0 in
+    omega (arith, (net_sizes bytes h circuit rest net.1).defs, header.few_gates, gates_of_form h.binary bytes h net.1.rows circuit rest net.1.form)
 
 -- the line of a gate on a cycle is there: in the binary form there is none
 loop_line : (binary : Bool) (bytes : List ℕ) (h : AigerHeader) (rows : List (List ℕ)) (circuit : Circuit) (rest : List ℕ) (d : ℕ) → h.binary ≡ binary → IsBody bytes h rows → IsOfForm binary bytes h rows circuit rest → HasSizes h circuit → IsFirstLooped circuit d → 1 + h.inputs + h.outputs + d < length (lines bytes)

@@ -18,6 +18,19 @@ fn circuit(alloc: Global, a: u32, b: u32, outputs: [u32; 2]) -> Result<Option<Gr
     Ok(Graph::new(2, gates, outputs))
 }
 
+/// Whether a text spells a match of two circuits, the first of which has few ports.
+fn spells_match(
+    alloc: Global,
+    first: &Graph,
+    second: &Graph,
+    text: &[u8],
+) -> Result<bool, AllocError> {
+    if first.inputs() > 12 || first.outputs().len() > 1_024 {
+        return Ok(false);
+    }
+    Ok(match_spelled(alloc, first, second, text)?.is_some())
+}
+
 #[test]
 fn finds_the_match_that_is_spelled(rt: HostRuntime) -> Result<(), Fail> {
     // Outputs x AND y and x; then NOT y and NOT (NOT y AND x): x goes to NOT y, y to x, and the outputs change places,
@@ -34,8 +47,7 @@ fn finds_the_match_that_is_spelled(rt: HostRuntime) -> Result<(), Fail> {
         (b"", false),
     ];
     for (text, is) in rows {
-        let found = match_spelled(rt.alloc(), &first, &second, text)?;
-        assert_eq!(rt; found.is_some(), is);
+        assert_eq!(rt; spells_match(rt.alloc(), &first, &second, text)?, is);
     }
     Ok(())
 }

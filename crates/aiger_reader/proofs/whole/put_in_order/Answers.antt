@@ -1,7 +1,7 @@
 -- The line of a gate on a cycle is there, and there are few gates.
 use Rattle.std.proofs.Common.{arith}
 use Rattle.aiger_reader.specs.Numbers.{header_of}
-use Rattle.aiger_reader.proofs.WholeLemmas.{few_defs, loop_there}
+use Rattle.aiger_reader.proofs.WholeLemmas.{few_gates, loop_there}
 use Rattle.aiger_reader.proofs.whole.put_in_order.Goals as goal
 
 pub offset_of_line-requires : goal.offset_of_line-requires
@@ -14,4 +14,4 @@ offset_of_line-requires c =
 pub unreachable-requires : goal.unreachable-requires
 unreachable-requires c =
     let net = c.requires.netlist in
-    omega (arith, few_defs c.args.input.now c.args.header c.args.net.now net.0 net.1, c.order.ensures.too_many (cc))
+    omega (arith, few_gates c.args.input.now c.args.header c.args.net.now net.0 net.1, c.order.ensures.too_many (cc))
