@@ -1,6 +1,6 @@
 #!/usr/bin/env bash
-# Has other tools write circuits as AIGER files, and the program read them: ABC the binary form with and without symbols
-# (Debian's berkeley-abc), Yosys the ASCII form (Debian's yosys). Each file is checked against each other file of its
+# Has other tools write circuits as AIGER and BLIF files, and the program read them: ABC the binary AIGER form with and
+# without symbols, and BLIF (Debian's berkeley-abc), Yosys the ASCII form, and BLIF (Debian's yosys). Each file is checked against each other file of its
 # circuit by the plain identity, so that the program says of both tools' files that they have one function, and its
 # report's lines are counted: one for each port, with the names of the BLIF file where symbols were written. Ends with
 # status 1 where something differs. Not part of the gate.
@@ -51,14 +51,14 @@ identity() { # INPUTS OUTPUTS
 }
 for row in 'c17 5 2' 'adder 12 7' 'mixed 4 3'; do
   read -r circuit inputs outputs <<<"$row"
-  files=()
+  files=("$circuit.blif")
   if command -v berkeley-abc >/dev/null; then
-    berkeley-abc -c "read_blif $circuit.blif; strash; write_aiger -s $circuit-abc-named.aig; write_aiger $circuit-abc.aig" >/dev/null
-    files+=("$circuit-abc-named.aig" "$circuit-abc.aig")
+    berkeley-abc -c "read_blif $circuit.blif; strash; write_aiger -s $circuit-abc-named.aig; write_aiger $circuit-abc.aig; write_blif $circuit-abc-named.blif" >/dev/null
+    files+=("$circuit-abc-named.aig" "$circuit-abc.aig" "$circuit-abc-named.blif")
   fi
   if command -v yosys >/dev/null; then
-    yosys -q -p "read_blif $circuit.blif; techmap; opt_clean; aigmap; write_aiger -ascii -symbols $circuit-yosys-named.aag; write_aiger -ascii $circuit-yosys.aag; write_aiger $circuit-yosys.aig" >/dev/null
-    files+=("$circuit-yosys-named.aag" "$circuit-yosys.aag" "$circuit-yosys.aig")
+    yosys -q -p "read_blif $circuit.blif; techmap; opt_clean; aigmap; write_aiger -ascii -symbols $circuit-yosys-named.aag; write_aiger -ascii $circuit-yosys.aag; write_aiger $circuit-yosys.aig; write_blif $circuit-yosys-named.blif" >/dev/null
+    files+=("$circuit-yosys-named.aag" "$circuit-yosys.aag" "$circuit-yosys.aig" "$circuit-yosys-named.blif")
   fi
   identity "$inputs" "$outputs" >"$circuit.match"
   for first in "${files[@]}"; do

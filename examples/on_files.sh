@@ -5,7 +5,7 @@ set -u
 here=$(cd "$(dirname "${BASH_SOURCE[0]}")" && pwd)
 work=$(mktemp -d)
 trap 'rm -rf "$work"' EXIT
-cp "$here"/a.aag "$here"/b.aag "$here"/a-b.match "$work"
+cp "$here"/*.aag "$here"/*.aig "$here"/*.blif "$here"/*.match "$work"
 cd "$work" || exit 1
 sed 's/i0-1/i0+1/' a-b.match >sign.match
 sed 's/i1+0/i1+1/' a-b.match >twice.match
@@ -39,7 +39,8 @@ wants 2 'rejected' check a.aag other.aag a-b.match
 wants 2 'rejected' check a.aag b.aag a.aag
 wants 5 'absent account' check a.aag b.aag absent.match
 wants 5 'absent first' check absent.aag b.aag a-b.match
-wants 5 'malformed second 1 0' check a.aag a-b.match a-b.match
+wants 5 'malformed second 27 0' check a.aag a-b.match a-b.match
+wants 0 'accepted match' check c17.blif c17_moved.aig c17.match
 wants 5 'wide' check wide.aag a.aag absent.match
 wants 0 'accepted match' check a.aag a.aig a.match
 wants 4 'usage' match a.aag b.aag a-b.match

@@ -1,21 +1,19 @@
 -- The words and the files determine what `check` answers.
-use Rattle.std.proofs.Common.{◌≡◌, ◌≢◌, ℕ, ◌<◌, ◌≤◌, ◌↔◌, ◌⊎◌, ◌==◌, inl, inr, Bool, false, IsTrue, List, [], ◌∷◌, length, Option, None, Some, Result, Err, get_or, refl, sym, ◌∙◌, ap, subst, arith}
+use Rattle.std.proofs.Common.{◌≡◌, ◌≢◌, ℕ, ◌<◌, ◌≤◌, ◌↔◌, ◌⊎◌, ◌==◌, inl, inr, Bool, false, IsTrue, List, [], ◌∷◌, length, Option, None, Some, Result, Ok, Err, IfOk, IfErr, get_or, refl, sym, ◌∙◌, ap, subst, arith}
 use Rattle.std.proofs.lemmas.Bool.{false≢true, cases_lt}
 use Rattle.shelf_core.specs.Fault.{Rose}
 use Rattle.circuits.specs.Netlists.{Net}
-use Rattle.aiger_reader.specs.Aiger.{IsAiger, IsAigerFault}
-use Rattle.aiger_reader.proofs.OneAiger.{one_netlist, netlist_or_fault, one_fault}
-use Rattle.aiger_reader.proofs.FewPorts.{few_ports}
 use Rattle.net_core.specs.declared.matching.Matching.{Matching}
 use Rattle.net_core.specs.declared.named.NetKind.{NetKind}
 use Rattle.port_table.specs.Table.{IsMatchingTable, IsSmall}
 use Rattle.port_table.proofs.MatchLemmas.{one_matching_table}
+use Rattle.npnp.specs.Circuits.{IsCircuit, IsCircuitFault}
 use Rattle.npnp.specs.Words.{AsksCheck, AskNothing}
 use Rattle.npnp.specs.Check.{Netlist, HoldsNetlist, HoldsFault, HoldsTooMuch, EndsAt, EndsEarly, IsAsked, AreWide, AreNarrow, IsRight, IsDecided, IsTold}
 use Rattle.net_core.specs.declared.named.Named.{Named}
-use Rattle.shelf_core.specs.State.{ShelfState}
+use Rattle.shelf_core.specs.State.{ShelfState, Closed}
 use Rattle.npnp.specs.Report.{IsReport}
-use Rattle.npnp.specs.Steps.{IsVerdict, IsVerdictOn, IsOfReading, IsJudged, Decides}
+use Rattle.npnp.specs.Steps.{IsVerdict, IsVerdictOn, IsOfReading, IsStopOf, IsJudged, ReadsNetlist, Decides}
 use Rattle.npnp.specs.Stops.{outcome_of}
 use Rattle.npnp.specs.declared.run.Ending.{Ending}
 use Rattle.npnp.specs.declared.files.Stop.{Stop}
@@ -23,6 +21,7 @@ use Rattle.npnp.specs.declared.files.Stop.TheVariants as stop
 use Rattle.npnp.specs.Files.{Tells}
 use Rattle.npnp.specs.declared.files.File.{File}
 use Rattle.npnp.specs.declared.files.File.TheVariants.{Absent as NoFile, TooLong, Bytes}
+use Rattle.npnp.proofs.CircuitLemmas.{one_circuit, circuit_or_fault, one_circuit_fault, few_ports}
 use Rattle.npnp.specs.declared.outcome.Which.{Which}
 use Rattle.npnp.specs.declared.outcome.Which.TheVariants.{First, Second, Account}
 use Rattle.npnp.specs.declared.outcome.Outcome.{Outcome}
@@ -68,12 +67,12 @@ narrow_by f g wide exact refused =
 netlist_one : (content : Option (List ℕ)) (a b : Netlist) → HoldsNetlist content a → HoldsNetlist content b → a.net ≡ b.net
 netlist_one content a b one other =
     let same : other.bytes ≡ one.bytes = let e = one.there in let e' = other.there in cc in
-    (one_netlist one.bytes a.net b.net a.input_names a.output_names b.input_names b.output_names one.is (subst (λ bytes. IsAiger bytes b.net b.input_names b.output_names) same other.is)).0
+    one_circuit one.bytes a.net b.net a.input_names a.output_names b.input_names b.output_names one.is (subst (λ bytes. IsCircuit bytes b.net b.input_names b.output_names) same other.is)
 
 fault_one : (content : Option (List ℕ)) (kind other_kind : NetKind) (at place : ℕ) → HoldsFault content kind at → HoldsFault content other_kind place → (kind ≡ other_kind) × (at ≡ place)
 fault_one content kind other_kind at place one other =
     let same : other.bytes ≡ one.bytes = let e = one.there in let e' = other.there in cc in
-    one_fault one.bytes kind other_kind at place one.is (subst (λ bytes. IsAigerFault bytes other_kind place) same other.is)
+    one_circuit_fault one.bytes kind other_kind at place one.is (subst (λ bytes. IsCircuitFault bytes other_kind place) same other.is)
 
 -- what ends the check at a file, one of three
 abbrev pub IsEnd : Which → Option (List ℕ) → Outcome → Type 0
@@ -127,7 +126,7 @@ end_or_netlist file content o f end net =
           absurd (omega (arith, much.long, net.short, ap length same))
       | inr (inr (kind, at, e, fault)) ↦
           let same : fault.bytes ≡ net.bytes = let e' = fault.there in cc in
-          netlist_or_fault net.bytes f.net f.input_names f.output_names kind at net.is (subst (λ bytes. IsAigerFault bytes kind at) same fault.is)
+          circuit_or_fault net.bytes f.net f.input_names f.output_names kind at net.is (subst (λ bytes. IsCircuitFault bytes kind at) same fault.is)
     ]
 
 -- two circuits and what the account's name holds have one verdict
@@ -404,3 +403,55 @@ asks_both held content words f g t first second same asks holds other = record {
   first_held = holds;
   second_held = subst (λ content. HoldsNetlist content second) same other;
 }
+
+-- what the bytes of a file that is no netlist end the run with
+stop_ends : (file : Which) (content : Option (List ℕ)) (bytes : List ℕ) → content ≡ Some bytes → length bytes ≤ 67108864 → (o : Outcome) → IsStopOf file bytes o → EndsAt file content o
+stop_ends file content bytes there short (AcceptedMatch table) fact = absurd fact
+stop_ends file content bytes there short NotATable fact = absurd fact
+stop_ends file content bytes there short Wide fact = absurd fact
+stop_ends file content bytes there short Usage fact = absurd fact
+stop_ends file content bytes there short (Absent which) fact = absurd fact
+stop_ends file content bytes there short (TooLarge which) fact = absurd fact
+stop_ends file content bytes there short (Malformed which kind at) fact = (fact.0, record { bytes = bytes; there = there; short = short; is = fact.1 })
+stop_ends file content bytes there short ReadFault fact = absurd fact
+stop_ends file content bytes there short WriteFault fact = absurd fact
+stop_ends file content bytes there short Memory fact = tt
+
+stop_is_of_reading : (file : Which) (bytes : List ℕ) (o : Outcome) → IsStopOf file bytes o → IsOfReading o
+stop_is_of_reading file bytes (AcceptedMatch table) fact = absurd fact
+stop_is_of_reading file bytes NotATable fact = absurd fact
+stop_is_of_reading file bytes Wide fact = absurd fact
+stop_is_of_reading file bytes Usage fact = absurd fact
+stop_is_of_reading file bytes (Absent which) fact = absurd fact
+stop_is_of_reading file bytes (TooLarge which) fact = absurd fact
+stop_is_of_reading file bytes (Malformed which kind at) fact = record { no_table = λ table e. cc; asked = λ e. cc; unwritten = λ e. cc }
+stop_is_of_reading file bytes ReadFault fact = absurd fact
+stop_is_of_reading file bytes WriteFault fact = absurd fact
+stop_is_of_reading file bytes Memory fact = record { no_table = λ table e. cc; asked = λ e. cc; unwritten = λ e. cc }
+
+-- a file of few bytes was read
+reads_same : (tells : Bool) (file : Which) (name : List ℕ) (old new : ShelfState) (bytes : List ℕ) (result : Result Named Outcome) → ((n : List ℕ) → new.held n ≡ old.held n) → new.mode ≡ Closed → old.faults ≤ new.faults → (IsTrue tells → (old.held name ≡ Some bytes) × (length bytes ≤ 67108864)) → IfOk result (λ named. IsCircuit bytes named.graph named.input_names named.output_names) → IfErr result (IsStopOf file bytes) → ReadsNetlist tells file name old new result
+reads_same tells file name old new bytes (Ok named) files closed faults found is stop = record {
+  files = files;
+  closed = closed;
+  found = λ t. record { bytes = bytes; there = (found t).0; short = (found t).1; is = is };
+  few = (few_ports bytes named.graph named.input_names named.output_names is).1;
+  ended = λ t. tt;
+  reading = tt;
+  faults = faults;
+  failed = λ e. cc;
+}
+reads_same tells file name old new bytes (Err o) files closed faults found is stop = record {
+  files = files;
+  closed = tt;
+  found = λ t. tt;
+  few = tt;
+  ended = λ t. stop_ends file (old.held name) bytes (found t).0 (found t).1 o stop;
+  reading = stop_is_of_reading file bytes o stop;
+  faults = faults;
+  failed = λ e. let same : o ≡ ReadFault = cc in absurd (subst (IsStopOf file bytes) same stop);
+}
+
+pub reads_bytes : (tells : Bool) (file : Which) (name : List ℕ) (old new : ShelfState) (bytes read : List ℕ) (result : Result Named Outcome) → read ≡ bytes → ((n : List ℕ) → new.held n ≡ old.held n) → new.mode ≡ Closed → old.faults ≤ new.faults → (IsTrue tells → (old.held name ≡ Some bytes) × (length bytes ≤ 67108864)) → IfOk result (λ named. IsCircuit read named.graph named.input_names named.output_names) → IfErr result (IsStopOf file read) → ReadsNetlist tells file name old new result
+reads_bytes tells file name old new bytes read result same files closed faults found is stop =
+    reads_same tells file name old new read result files closed faults (λ t. subst (λ b. (old.held name ≡ Some b) × (length b ≤ 67108864)) (sym same) (found t)) is stop

@@ -1,2 +1,3 @@
 pub mod CheckLemmas
+pub mod CircuitLemmas
 pub mod Reading

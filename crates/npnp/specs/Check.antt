@@ -1,7 +1,7 @@
 -- What `check` answers, said of the words and of the files that are held.
 use Rattle.std.specs.Prelude.{◌≡◌, ◌≢◌, ℕ, ◌<◌, ◌≤◌, ◌⊎◌, List, length, Option, None, Some}
 use Rattle.circuits.specs.Netlists.{Net}
-use Rattle.aiger_reader.specs.Aiger.{IsAiger, IsAigerFault}
+use Rattle.npnp.specs.Circuits.{IsCircuit, IsCircuitFault}
 use Rattle.net_core.specs.declared.matching.Matching.{Matching}
 use Rattle.net_core.specs.declared.named.NetKind.{NetKind}
 use Rattle.port_table.specs.Table.{IsMatchingTable}
@@ -17,19 +17,19 @@ pub record Netlist : Type 0 where
   pub input_names : List (List ℕ)
   pub output_names : List (List ℕ)
 
--- What a name holds is an AIGER file, of at most 67,108,864 bytes, that is this netlist.
+-- What a name holds is a file of at most 67,108,864 bytes that is this netlist.
 pub record HoldsNetlist (content : Option (List ℕ)) (netlist : Netlist) : Type 0 where
   pub bytes : List ℕ
   pub there : content ≡ Some bytes
   pub short : length bytes ≤ 67108864
-  pub is : IsAiger bytes netlist.net netlist.input_names netlist.output_names
+  pub is : IsCircuit bytes netlist.net netlist.input_names netlist.output_names
 
 -- What a name holds is a file of at most 67,108,864 bytes with this first fault.
 pub record HoldsFault (content : Option (List ℕ)) (kind : NetKind) (at : ℕ) : Type 0 where
   pub bytes : List ℕ
   pub there : content ≡ Some bytes
   pub short : length bytes ≤ 67108864
-  pub is : IsAigerFault bytes kind at
+  pub is : IsCircuitFault bytes kind at
 
 -- What a name holds is a file of more than 67,108,864 bytes.
 pub record HoldsTooMuch (content : Option (List ℕ)) : Type 0 where

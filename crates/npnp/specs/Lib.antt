@@ -1,4 +1,5 @@
 pub mod Check
+pub mod Circuits
 pub mod Files
 pub mod Report
 pub mod Status

@@ -6,8 +6,8 @@ use Rattle.shelf_core.specs.Fault.{Rose}
 use Rattle.shelf_core.specs.State.{ShelfState, SinkState, Closed}
 use Rattle.net_core.specs.declared.matching.Matching.{Matching}
 use Rattle.net_core.specs.declared.named.Named.{Named}
-use Rattle.aiger_reader.specs.Aiger.{IsAigerFault}
 use Rattle.port_table.specs.Table.{IsMatchingTable}
+use Rattle.npnp.specs.Circuits.{IsCircuitFault}
 use Rattle.npnp.specs.Words.{AsksCheck}
 use Rattle.npnp.specs.Check.{HoldsNetlist, EndsAt, AreWide, AreNarrow, IsRight, IsTold}
 use Rattle.npnp.specs.Report.{HasNoTable, IsReport, line_of, netlist_of}
@@ -27,7 +27,7 @@ pub record IsOfReading (outcome : Outcome) : Type 0 where
 
 -- what an outcome says of the bytes of a file that is no netlist
 abbrev pub IsStopOf : Which → List ℕ → Outcome → Type 0
-IsStopOf file bytes (Malformed which kind at) = (which ≡ file) × IsAigerFault bytes kind at
+IsStopOf file bytes (Malformed which kind at) = (which ≡ file) × IsCircuitFault bytes kind at
 IsStopOf file bytes Memory = Unit {0}
 IsStopOf file bytes other = ⊥
 

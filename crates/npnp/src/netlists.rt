@@ -1,13 +1,13 @@
 //! Netlists from a shelf.
 
-ghost use Rattle.std.specs.Prelude.{◌≡◌, IfOk, IfErr};
+ghost use Rattle.std.specs.Prelude.{◌≡◌, ◌↔◌, IsTrue, Err, IfOk, IfErr};
 ghost use Rattle.shelf_core.specs.State.{Closed};
-ghost use Rattle.aiger_reader.specs.Aiger.{IsAiger};
+ghost use Rattle.net_core.specs.declared.named.NetFault.{NetFault};
+ghost use Rattle.npnp.specs.Circuits.{BeginsAsAiger, IsCircuit, IsCircuitFault};
 ghost use Rattle.npnp.specs.Steps.{ReadsNetlist, IsStopOf};
 
 use crate::files::{File, read_file};
 use crate::outcome::{Outcome, Which};
-use aiger_reader::read;
 use net_core::{Named, NetStop};
 use shelf_core::Shelf;
 use std::alloc::Global;
@@ -36,10 +36,10 @@ pub fn read_netlist<S: Shelf>(
 /// The netlist that a file's bytes are.
 fn parse_netlist(alloc: Global, which: Which, bytes: &[u8]) -> Result<Named, Outcome>
     ensures netlist { IfOk result
-        (λ named. IsAiger bytes.now named.graph named.input_names named.output_names) }
+        (λ named. IsCircuit bytes.now named.graph named.input_names named.output_names) }
     ensures stop { IfErr result (IsStopOf which bytes.now) }
 {
-    match read(alloc, bytes) {
+    match read_circuit(alloc, bytes) {
         Ok(named) => Ok(named),
         Err(NetStop::Fault(fault)) => Err(Outcome::Malformed {
             which,
@@ -48,4 +48,24 @@ fn parse_netlist(alloc: Global, which: Which, bytes: &[u8]) -> Result<Named, Out
         }),
         Err(NetStop::Memory) => Err(Outcome::Memory),
     }
+}
+
+/// Reads a file in the format that its first four bytes tell: AIGER where they are `aag ` or `aig `, else BLIF.
+fn read_circuit(alloc: Global, bytes: &[u8]) -> Result<Named, NetStop>
+    ensures netlist { IfOk result
+        (λ named. IsCircuit bytes.now named.graph named.input_names named.output_names) }
+    ensures fault { (fault : NetFault) → result ≡ Err (NetStop.Fault fault)
+        → IsCircuitFault bytes.now fault.kind fault.at }
+{
+    if begins_as_aiger(bytes) {
+        aiger_reader::read(alloc, bytes)
+    } else {
+        blif_reader::read(alloc, bytes)
+    }
+}
+
+fn begins_as_aiger(bytes: &[u8]) -> bool
+    ensures { IsTrue result ↔ BeginsAsAiger bytes.now }
+{
+    bytes.starts_with(b"aag ") || bytes.starts_with(b"aig ")
 }

@@ -111,6 +111,67 @@ fn decides_tables(rt: HostRuntime) -> Result<(), Fail> {
     Ok(())
 }
 
+/// The ISCAS-85 circuit c17: six NAND gates, written as covers of the off-set.
+const C17: &[u8] =
+    b".model c17\n.inputs 1 2 3 6 7\n.outputs 22 23\n.names 1 3 10\n11 0\n.names 3 6 11\n11 0\n.names 2 11 16\n11 0\n.names 11 7 19\n11 0\n.names 10 16 22\n11 0\n.names 16 19 23\n11 0\n.end\n";
+
+/// The same function with its ports in another order and one input inverted, as binary AIGER.
+const C17_MOVED: &[u8] =
+    b"aig 11 5 0 2 6\n23\n21\n\x04\x03\x08\x01\x03\x03\x05\x0b\x03\x02\x03\x02";
+
+#[test]
+fn reads_both_formats(rt: HostRuntime) -> Result<(), Fail> {
+    let nand = b".inputs a b\n.outputs y\n.names a b y\n11 0\n";
+    let mixed =
+        b".names a b y\n11 0\n.names one\n1\n.names zero\n.inputs a \\ # more\nb\n.outputs y one zero\n";
+    let identity = b"npnp 1\nmatch i0+0 i1+1 o0+0\nend\n";
+    let nand_named =
+        b"accepted match\ninput 0 a = input 0 a\ninput 1 b = input 1 b\noutput 0 y = output 0 y\n";
+    let rows: [(&[u8], &[u8], &[u8], u8, &[u8]); 5] = [
+        (
+            C17,
+            C17_MOVED,
+            b"npnp 1\nmatch i0+2 i1+4 i2-1 i3+3 i4+0 o0+1 o1+0\nend\n",
+            0,
+            b"accepted match\ninput 0 1 = input 2 i2\ninput 1 2 = input 4 i4\ninput 2 3 = not input 1 i1\ninput 3 6 = input 3 i3\ninput 4 7 = input 0 i0\noutput 0 22 = output 1 o1\noutput 1 23 = output 0 o0\n",
+        ),
+        (
+            nand,
+            b".inputs a b\n.outputs y\n.names a b y\n0- 1\n-0 1\n",
+            identity,
+            0,
+            nand_named,
+        ),
+        (
+            nand,
+            b".inputs a b\n.outputs y\n.names a b y\n11 1\n",
+            identity,
+            2,
+            b"rejected\n",
+        ),
+        (
+            mixed,
+            mixed,
+            b"npnp 1\nmatch i0+0 i1+1 o0+0 o1+1 o2+2\nend\n",
+            0,
+            b"accepted match\ninput 0 a = input 0 a\ninput 1 b = input 1 b\noutput 0 y = output 0 y\noutput 1 one = output 1 one\noutput 2 zero = output 2 zero\n",
+        ),
+        (
+            b".inputs a\n.outputs y\n.names $false\n.names a y\n1 1\n.cname n\n.end\n",
+            b"aag 1 1 0 1 0\n2\n2\n",
+            b"npnp 1\nmatch i0+0 o0+0\nend\n",
+            0,
+            b"accepted match\ninput 0 a = input 0 i0\noutput 0 y = output 0 o0\n",
+        ),
+    ];
+    for (first, second, account, status, report) in rows {
+        let (ended, printed) = answer(&rt, &["check", "A", "B", "t"], [first, second, account])?;
+        assert_eq!(rt; printed.as_slice(), report);
+        assert_eq!(rt; ended, status);
+    }
+    Ok(())
+}
+
 #[test]
 fn names_what_is_missing(rt: HostRuntime) -> Result<(), Fail> {
     let rows: [(&[&str], u8, &[u8]); 8] = [
@@ -152,8 +213,9 @@ fn refuses_what_is_too_wide(rt: HostRuntime) -> Result<(), Fail> {
 
 #[test]
 fn refuses_malformed_netlists_at_their_place(rt: HostRuntime) -> Result<(), Fail> {
-    let rows: [(&[u8], &[u8]); 19] = [
-        (b"", b"malformed first 1 0\n"),
+    let rows: [(&[u8], &[u8]); 27] = [
+        (b"", b"malformed first 28 0\n"),
+        (b"aag", b"malformed first 27 0\n"),
         (b"aag 4294967295 0 0 0 0\n", b"malformed first 6 0\n"),
         (b"aag 4294967296 0 0 0 0\n", b"malformed first 1 0\n"),
         (b"aag 1025 1025 0 0 0\n", b"malformed first 4 0\n"),
@@ -178,6 +240,22 @@ fn refuses_malformed_netlists_at_their_place(rt: HostRuntime) -> Result<(), Fail
             b"malformed first 12 20\n",
         ),
         (b"aag 1 1 0 1 0\n2\n2\ni1 x\n", b"malformed first 13 18\n"),
+        (b".latch x y\n", b"malformed first 21 0\n"),
+        (b".gate nand2 a=x\n", b"malformed first 20 0\n"),
+        (b".model m\n.model n\n", b"malformed first 23 9\n"),
+        (b".inputs a a\n.outputs a\n", b"malformed first 29 10\n"),
+        (
+            b".inputs a\n.outputs y\n.names a y\n1 1\n0 0\n",
+            b"malformed first 26 36\n",
+        ),
+        (
+            b".inputs a\n.outputs y\n.names a b y\n11 1\n",
+            b"malformed first 31 30\n",
+        ),
+        (
+            b".inputs a\n.outputs y\n.names a y y\n11 1\n",
+            b"malformed first 32 21\n",
+        ),
     ];
     for (first, report) in rows {
         let (ended, printed) = answer(&rt, &["check", "A", "B", "t"], [first, B, TABLE])?;

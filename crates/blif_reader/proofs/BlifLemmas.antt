@@ -1,0 +1,166 @@
+-- What the passes over a file find is what the definitions of its netlist and its faults say.
+use Rattle.std.proofs.Common.{◌≡◌, ◌||◌, ◌&&◌, ℕ, suc, ◌+◌, ◌^◌, ◌<◌, cond, ◌≤◌, Bool, true, false, not, List, [], ◌∷◌, ◌++◌, length, map, take, get_or, All, refl, ap, sym, subst, ◌∙◌, arith}
+use Rattle.std.specs.List.{list_any}
+use Rattle.std.specs.Str.{bytes_eq}
+use Rattle.std.proofs.lemmas.List.Folds.{list_any-append}
+use Rattle.std.proofs.lemmas.Simd.{map-map}
+use Rattle.text_core.specs.Piece.{Piece}
+use Rattle.circuits.specs.declared.netlist.Lit.{Lit}
+use Rattle.circuits.specs.declared.definition.Def.{Def}
+use Rattle.circuits.specs.Circuits.{Circuit, IsClosed}
+use Rattle.circuits.specs.Expansion.{gates_in}
+use Rattle.circuits.specs.Levels.{IsAcyclic, IsFirstLooped, IsOrderOf}
+use Rattle.circuits.specs.Netlists.{Net}
+use Rattle.circuits.proofs.GateCounts.{gates_in_order}
+use Rattle.net_core.specs.declared.named.NetKind.{NetKind}
+use Rattle.net_core.specs.declared.named.NetKind.TheVariants as fault
+use Rattle.blif_reader.specs.declared.directive.Directive.{Directive}
+use Rattle.blif_reader.specs.declared.directive.Directive.TheVariants.{Names}
+use Rattle.blif_reader.specs.declared.covers.Covers.{Covers}
+use Rattle.blif_reader.specs.Directives.{kind_of, is_names}
+use Rattle.blif_reader.specs.declared.survey.Port.{Port}
+use Rattle.blif_reader.specs.JoinedLines.{word_of}
+use Rattle.blif_reader.specs.Firsts.{NoneIs}
+use Rattle.blif_reader.specs.Names.{same_name, port_words, words_of_kind, input_words, defined_on, defined_words, read_words, is_undefined}
+use Rattle.blif_reader.specs.Numbers.{bytes_of, port_names, AreNamed, AreDefined, IsRepeatedPort, IsRepeatedName}
+use Rattle.blif_reader.specs.Faults.{is_faulty, AreFew, AreDeclared, AreDistinct, AreDefinedOnce, AreKnown, IsAtFirst, IsPortFault, IsRedefinedFault, IsUndefinedFault}
+use Rattle.blif_reader.specs.Covers.{signal_names, literal_named, covers_of, blif_circuit, names_lines}
+use Rattle.blif_reader.specs.Blif.{IsCycleFault, IsGatesFault}
+use Rattle.blif_reader.specs.Building.{IsKnownIn, IsUnknownAt, IsUnknownFault, outputs_in, places_by, places_in, IsBuilt}
+use Rattle.blif_reader.proofs.FirstLemmas.{IsFirst-seam}
+use Rattle.blif_reader.proofs.NumberLemmas.{list_any-map, length-map}
+use Rattle.blif_reader.proofs.ClosedLemmas.{closed_circuit, length-names, length-covers_of, output_words-outputs_in}
+use Rattle.std.proofs.lemmas.List.{get_or-map}
+use Rattle.std.proofs.Math.Seq.{take-length, get_or-append_seam}
+
+pub port_names-bytes : (kind : Bool) (ports : List Port) → port_names kind ports ≡ bytes_of (words_of_kind kind ports)
+port_names-bytes kind ports = sym (map-map (λ (w : Piece). w.bytes) (λ (p : Port). p.word) _)
+
+-- the ports are distinct, and these are the names of the inputs
+pub distinct_ports : (lines : List (List Piece)) (inputs outputs : List (List ℕ)) → AreDeclared lines → AreNamed (port_words lines) (length (port_words lines)) inputs outputs → AreDistinct lines × (inputs ≡ bytes_of (input_words lines))
+distinct_ports lines inputs outputs declared named =
+    (record { declared = declared; once = named.once }, named.inputs_are ∙ (ap (port_names false) (take-length (port_words lines)) ∙ port_names-bytes false (port_words lines)))
+
+pub repeated_port : (lines : List (List Piece)) (kind : NetKind) (at : ℕ) → AreDeclared lines → IsRepeatedPort (port_words lines) kind at → IsPortFault lines kind at
+repeated_port lines kind at declared found = record {
+  declared = declared;
+  is = found.is;
+  place = found.place;
+  first = found.first;
+  offset = found.offset;
+}
+
+-- names are defined once, and these are the names of the signals
+pub defined_once : (lines : List (List Piece)) (names : List (List ℕ)) → AreDistinct lines → AreDefined (input_words lines) (defined_words lines) (length (defined_words lines)) names → AreDefinedOnce lines × (names ≡ signal_names lines)
+defined_once lines names distinct defined =
+    (record { distinct = distinct; once = defined.once }, defined.names_are ∙ ap (λ ds. bytes_of (input_words lines ++ ds)) (take-length (defined_words lines)))
+
+pub redefined : (lines : List (List Piece)) (kind : NetKind) (at : ℕ) → AreDistinct lines → IsRepeatedName (input_words lines) (defined_words lines) kind at → IsRedefinedFault lines kind at
+redefined lines kind at distinct found = record { distinct = distinct; is = found.is; why = found.why }
+
+-- a name isn't known exactly where it is neither an input's nor defined
+not_either : (a b : Bool) → not (a || b) ≡ (not a && not b)
+not_either true b = refl
+not_either false b = refl
+
+undefined_by : (lines : List (List Piece)) (earlier : List Piece) (word : Piece) → is_undefined (input_words lines) (defined_words lines) earlier word ≡ not (list_any (bytes_eq word.bytes) (signal_names lines))
+undefined_by lines earlier word =
+    sym (ap not (list_any-map (bytes_eq word.bytes) (λ (w : Piece). w.bytes) (input_words lines ++ defined_words lines) ∙ list_any-append (same_name word) (input_words lines) (defined_words lines)) ∙ not_either (list_any (same_name word) (input_words lines)) (list_any (same_name word) (defined_words lines)))
+
+none_undefined : (lines : List (List Piece)) (words : List Piece) → All (IsKnownIn (signal_names lines)) words → NoneIs (is_undefined (input_words lines) (defined_words lines)) words
+none_undefined lines words known k d below =
+    undefined_by lines (take k words) (get_or words k d) ∙ ap not (known k d below)
+
+pub all_known : (lines : List (List Piece)) → AreDefinedOnce lines → All (IsKnownIn (signal_names lines)) (read_words lines) → AreKnown lines
+all_known lines single known = record { single = single; known = none_undefined lines (read_words lines) known }
+
+first_unknown : (lines : List (List Piece)) (words : List Piece) (at : ℕ) → IsUnknownAt (signal_names lines) words at → IsAtFirst (is_undefined (input_words lines) (defined_words lines)) words at
+first_unknown lines words at u =
+    let found = is_undefined (input_words lines) (defined_words lines) in
+    subst (λ ws. IsAtFirst found ws at) (sym u.whole) (record {
+      place = length u.before;
+      first = IsFirst-seam found u.before u.word u.behind (none_undefined lines u.before u.known) (undefined_by lines u.before u.word ∙ ap not u.unknown);
+      offset = u.offset ∙ ap (λ (w : Piece). w.at) (sym (get_or-append_seam u.before u.word u.behind (record { bytes = []; at = 0 })));
+    })
+
+pub undefined_name : (lines : List (List Piece)) (kind : NetKind) (at : ℕ) → AreDefinedOnce lines → IsUnknownFault (signal_names lines) (read_words lines) kind at → IsUndefinedFault lines kind at
+undefined_name lines kind at single found = record {
+  single = single;
+  is = found.is;
+  why = first_unknown lines (read_words lines) at found.why;
+}
+
+-- the netlist that the second pass makes
+abbrev pub circuit_made : ℕ → List Def → List Lit → Circuit
+circuit_made inputs defs outputs = record { inputs = inputs; defs = defs; outputs = outputs }
+
+pub same_circuit : (lines : List (List Piece)) (inputs : ℕ) (covers : Covers) → inputs ≡ length (input_words lines) → IsBuilt (signal_names lines) lines covers → circuit_made inputs covers.defs covers.outputs ≡ blif_circuit lines
+same_circuit lines inputs covers i built =
+    let outputs = built.outputs ∙ ap (map (literal_named (signal_names lines))) (sym (output_words-outputs_in lines)) in
+    ap (λ n. circuit_made n covers.defs covers.outputs) i
+    ∙ (ap (λ ds. circuit_made (length (input_words lines)) ds covers.outputs) built.defs ∙ ap (circuit_made (length (input_words lines)) (covers_of (signal_names lines) lines)) outputs)
+
+abbrev pub is_sound : (lines : List (List Piece)) → AreFew lines → NoneIs is_faulty lines
+is_sound lines few = few.known.single.distinct.declared.sound
+
+pub closed_made : (lines : List (List Piece)) (inputs : ℕ) (covers : Covers) → AreFew lines → inputs ≡ length (input_words lines) → IsBuilt (signal_names lines) lines covers → IsClosed (circuit_made inputs covers.defs covers.outputs)
+closed_made lines inputs covers few i built =
+    subst IsClosed (sym (same_circuit lines inputs covers i built)) (closed_circuit lines (is_sound lines few) built.known)
+
+pub signals_made : (lines : List (List Piece)) (inputs : ℕ) (covers : Covers) → inputs ≡ length (input_words lines) → IsBuilt (signal_names lines) lines covers → 1 + length (signal_names lines) < 2 ^ 30 → 1 + inputs + length covers.defs < 2 ^ 30
+signals_made lines inputs covers i built small =
+    omega (arith, length-names lines, length-covers_of (signal_names lines) lines, ap length built.defs)
+
+pub outputs_made : (lines : List (List Piece)) (covers : Covers) → AreFew lines → IsBuilt (signal_names lines) lines covers → length covers.outputs < 2 ^ 32
+outputs_made lines covers few built =
+    let long = ap length built.outputs ∙ (length-map (literal_named (signal_names lines)) (outputs_in lines) ∙ ap length (sym (output_words-outputs_in lines))) in
+    omega (arith, long, few.outputs)
+
+pub gates_made : (lines : List (List Piece)) (net : Net) → AreFew lines → All (IsKnownIn (signal_names lines)) (read_words lines) → IsOrderOf (blif_circuit lines) net → length net.gates ≤ 1000000 → gates_in (blif_circuit lines) ≤ 1000000
+gates_made lines net few known ordered small =
+    omega (arith, gates_in_order (blif_circuit lines) net (closed_circuit lines (is_sound lines few) known) ordered)
+
+-- the offset of a `.names` line
+abbrev place_of : List Piece → ℕ
+place_of line = (word_of line 0).at
+
+names_by_test : (line : List Piece) (lines : List (List Piece)) (directive : Directive) → kind_of line ≡ directive → places_in lines ≡ map place_of (names_lines lines) → places_by directive line ++ places_in lines ≡ map place_of (names_lines (line ∷ lines))
+names_by_test line lines Names k h =
+    ap (λ ps. place_of line ∷ ps) h ∙ sym (ap (λ t. map place_of (cond t (line ∷ names_lines lines) (names_lines lines))) (ap is_names k))
+names_by_test line lines other k h =
+    h ∙ sym (ap (λ t. map place_of (cond t (line ∷ names_lines lines) (names_lines lines))) (ap is_names k))
+
+places_in-names : (lines : List (List Piece)) → places_in lines ≡ map place_of (names_lines lines)
+places_in-names [] = refl
+places_in-names (line ∷ lines) = names_by_test line lines (kind_of line) refl (places_in-names lines)
+
+count_places : (line : List Piece) (lines : List (List Piece)) (directive : Directive) → length (places_in lines) ≡ length (defined_words lines) → length (places_by directive line ++ places_in lines) ≡ length (defined_on directive line ++ defined_words lines)
+count_places line lines Names h = ap suc h
+count_places line lines other h = h
+
+length-places_in : (lines : List (List Piece)) → length (places_in lines) ≡ length (defined_words lines)
+length-places_in [] = refl
+length-places_in (line ∷ lines) = count_places line lines (kind_of line) (length-places_in lines)
+
+-- each definition has a place
+pub place_there : (lines : List (List Piece)) (covers : Covers) (d : ℕ) → IsBuilt (signal_names lines) lines covers → IsFirstLooped (blif_circuit lines) d → d < length covers.places
+place_there lines covers d built looped =
+    omega (arith, looped.there, length-covers_of (signal_names lines) lines, length-places_in lines, ap length built.places)
+
+pub cycle_found : (lines : List (List Piece)) (covers : Covers) (d at : ℕ) → AreFew lines → IsBuilt (signal_names lines) lines covers → IsFirstLooped (blif_circuit lines) d → at ≡ get_or covers.places d at → IsCycleFault lines fault.CoverCycle at
+cycle_found lines covers d at few built looped i =
+    let there : d < length (names_lines lines) = omega (arith, place_there lines covers d built looped, ap length built.places, ap length (places_in-names lines), length-map place_of (names_lines lines)) in
+    record {
+      names = few;
+      is = refl;
+      definition = d;
+      why = looped;
+      offset = i ∙ (ap (λ (ps : List ℕ). get_or ps d at) (built.places ∙ places_in-names lines) ∙ get_or-map place_of (names_lines lines) d [] at there);
+    }
+
+pub gates_found : (end : ℕ) (lines : List (List Piece)) → AreFew lines → IsAcyclic (blif_circuit lines) → 1000000 < gates_in (blif_circuit lines) → IsGatesFault end lines fault.TooManyGates end
+gates_found end lines few acyclic many = record { names = few; acyclic = acyclic; is = refl; many = many; offset = refl }
+
+-- the names of the ports of a kind, from the ports that were noted
+pub names_noted : (lines : List (List Piece)) (kind : Bool) (ports : List Port) (names : List (List ℕ)) → names ≡ port_names kind ports → ports ≡ port_words lines → names ≡ bytes_of (words_of_kind kind (port_words lines))
+names_noted lines kind ports names n p = n ∙ (ap (port_names kind) p ∙ port_names-bytes kind (port_words lines))

@@ -1,0 +1,10 @@
+pub mod PlacedLemmas
+pub mod ReadingLemmas
+pub mod FirstLemmas
+pub mod SurveyLemmas
+pub mod OneBlif
+pub mod NumberLemmas
+pub mod FewPorts
+pub mod BuildingLemmas
+pub mod ClosedLemmas
+pub mod BlifLemmas

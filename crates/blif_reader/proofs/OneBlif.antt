@@ -1,0 +1,205 @@
+-- A file is one netlist at most, or has one first fault, and never both.
+use Rattle.std.proofs.Common.{◌≡◌, ℕ, ◌≤◌, ◌⊎◌, Bool, false, List, [], length, take, Some, get_or, inl, inr, sym, ap, ◌∙◌, arith}
+use Rattle.text_core.specs.Piece.{Piece}
+use Rattle.circuits.specs.Netlists.{Net}
+use Rattle.circuits.specs.Levels.{IsAcyclic}
+use Rattle.circuits.proofs.OneOrder.{one_order, one_first_looped, acyclic_not_looped}
+use Rattle.net_core.specs.declared.named.NetKind.{NetKind}
+use Rattle.blif_reader.specs.declared.survey.Port.{Port}
+use Rattle.blif_reader.specs.JoinedLines.{word_of}
+use Rattle.blif_reader.specs.Firsts.{NoneIs}
+use Rattle.blif_reader.specs.Names.{input_words, defined_words, read_words, port_words, repeats_port, is_redefined, is_undefined}
+use Rattle.blif_reader.specs.Faults.{is_faulty, line_fault, AreDeclared, AreDistinct, AreDefinedOnce, AreKnown, AreFew, IsAtFirst, IsLineFault, IsPortLineFault, IsPortFault, IsRedefinedFault, IsUndefinedFault, IsInputsFault, IsOutputsFault}
+use Rattle.blif_reader.specs.Covers.{blif_circuit, names_lines}
+use Rattle.blif_reader.specs.Blif.{blif_lines, IsNetOfLines, IsCycleFault, IsGatesFault, IsFaultOfLines, IsBlif, IsBlifFault}
+use Rattle.blif_reader.proofs.FirstLemmas.{one_first, no_first}
+
+pub one_lines_netlist : (lines : List (List Piece)) (a b : Net) (i o j p : List (List ℕ)) → IsNetOfLines lines a i o → IsNetOfLines lines b j p → (a ≡ b) × (i ≡ j) × (o ≡ p)
+one_lines_netlist lines a b i o j p one other =
+    (one_order (blif_circuit lines) a b one.acyclic one.ordered other.ordered, one.input_names_are ∙ sym other.input_names_are, one.output_names_are ∙ sym other.output_names_are)
+
+pub one_netlist : (bytes : List ℕ) (a b : Net) (i o j p : List (List ℕ)) → IsBlif bytes a i o → IsBlif bytes b j p → (a ≡ b) × (i ≡ j) × (o ≡ p)
+one_netlist bytes a b i o j p one other = one_lines_netlist (blif_lines bytes) a b i o j p one other
+
+-- a fault is one at most
+abbrev IsOne : (NetKind → ℕ → Type 0) → Type 0
+IsOne A = (f g : NetKind) (a b : ℕ) → A f a → A g b → (f ≡ g) × (a ≡ b)
+
+-- faults of a first sort, and of further ones that come only where there is none of the first
+one_of : (A R : NetKind → ℕ → Type 0) (Good : Type 0) → IsOne A → IsOne R → ((f : NetKind) (a : ℕ) → A f a → Good → ⊥) → ((f : NetKind) (a : ℕ) → R f a → Good) → IsOne (λ f a. A f a ⊎ R f a)
+one_of A R Good first rest bad good f g a b (inl x) (inl y) = first f g a b x y
+one_of A R Good first rest bad good f g a b (inl x) (inr y) = absurd (bad f a x (good g b y))
+one_of A R Good first rest bad good f g a b (inr x) (inl y) = absurd (bad g b y (good f a x))
+one_of A R Good first rest bad good f g a b (inr x) (inr y) = rest f g a b x y
+
+nothing : Piece
+nothing = record { bytes = []; at = 0 }
+
+-- each sort of fault is one at most
+one_line : (lines : List (List Piece)) → IsOne (IsLineFault lines)
+one_line lines f g a b one other =
+    let same : one.place ≡ other.place = one_first is_faulty lines [] one.place other.place one.first other.first in
+    let kinds : Some f ≡ Some g = sym one.why ∙ (ap (λ k. line_fault (take k lines) (get_or lines k [])) same ∙ other.why) in
+    (cc kinds, one.offset ∙ (ap (λ k. (word_of (get_or lines k []) 0).at) same ∙ sym other.offset))
+
+one_port_line : (end : ℕ) (lines : List (List Piece)) → IsOne (IsPortLineFault end lines)
+one_port_line end lines f g a b one other = (one.is ∙ sym other.is, one.offset ∙ sym other.offset)
+
+one_at_first : (found : List Piece → Piece → Bool) (words : List Piece) (a b : ℕ) → IsAtFirst found words a → IsAtFirst found words b → a ≡ b
+one_at_first found words a b one other =
+    one.offset ∙ (ap (λ k. (word_of words k).at) (one_first found words nothing one.place other.place one.first other.first) ∙ sym other.offset)
+
+one_port : (lines : List (List Piece)) → IsOne (IsPortFault lines)
+one_port lines f g a b one other =
+    let none : Port = record { is_output = false; word = nothing } in
+    let same : one.place ≡ other.place = one_first repeats_port (port_words lines) none one.place other.place one.first other.first in
+    (one.is ∙ sym other.is, one.offset none ∙ (ap (λ k. (get_or (port_words lines) k none).word.at) same ∙ sym (other.offset none)))
+
+one_redefined : (lines : List (List Piece)) → IsOne (IsRedefinedFault lines)
+one_redefined lines f g a b one other =
+    (one.is ∙ sym other.is, one_at_first (is_redefined (input_words lines)) (defined_words lines) a b one.why other.why)
+
+one_undefined : (lines : List (List Piece)) → IsOne (IsUndefinedFault lines)
+one_undefined lines f g a b one other =
+    (one.is ∙ sym other.is, one_at_first (is_undefined (input_words lines) (defined_words lines)) (read_words lines) a b one.why other.why)
+
+one_inputs : (lines : List (List Piece)) → IsOne (IsInputsFault lines)
+one_inputs lines f g a b one other = (one.is ∙ sym other.is, one.offset ∙ sym other.offset)
+
+one_outputs : (lines : List (List Piece)) → IsOne (IsOutputsFault lines)
+one_outputs lines f g a b one other = (one.is ∙ sym other.is, one.offset ∙ sym other.offset)
+
+one_cycle : (lines : List (List Piece)) → IsOne (IsCycleFault lines)
+one_cycle lines f g a b one other =
+    let same : one.definition ≡ other.definition = one_first_looped (blif_circuit lines) one.definition other.definition one.why other.why in
+    (one.is ∙ sym other.is, one.offset ∙ (ap (λ d. (word_of (get_or (names_lines lines) d []) 0).at) same ∙ sym other.offset))
+
+one_gates : (end : ℕ) (lines : List (List Piece)) → IsOne (IsGatesFault end lines)
+one_gates end lines f g a b one other = (one.is ∙ sym other.is, one.offset ∙ sym other.offset)
+
+-- the faults from some sort on, and what holds where one of them comes
+module _ (end : ℕ) (lines : List (List Piece)) where
+  abbrev FromCycle : NetKind → ℕ → Type 0
+  FromCycle f a = IsCycleFault lines f a ⊎ IsGatesFault end lines f a
+
+  abbrev FromOutputs : NetKind → ℕ → Type 0
+  FromOutputs f a = IsOutputsFault lines f a ⊎ FromCycle f a
+
+  abbrev FromInputs : NetKind → ℕ → Type 0
+  FromInputs f a = IsInputsFault lines f a ⊎ FromOutputs f a
+
+  abbrev FromUndefined : NetKind → ℕ → Type 0
+  FromUndefined f a = IsUndefinedFault lines f a ⊎ FromInputs f a
+
+  abbrev FromRedefined : NetKind → ℕ → Type 0
+  FromRedefined f a = IsRedefinedFault lines f a ⊎ FromUndefined f a
+
+  abbrev FromPorts : NetKind → ℕ → Type 0
+  FromPorts f a = IsPortFault lines f a ⊎ FromRedefined f a
+
+  abbrev FromPortLines : NetKind → ℕ → Type 0
+  FromPortLines f a = IsPortLineFault end lines f a ⊎ FromPorts f a
+
+  few : (f : NetKind) (a : ℕ) → FromCycle f a → AreFew lines
+  few f a (inl fault) = fault.names
+  few f a (inr fault) = fault.names
+
+  few_inputs : (f : NetKind) (a : ℕ) → FromOutputs f a → length (input_words lines) ≤ 1024
+  few_inputs f a (inl fault) = fault.few_inputs
+  few_inputs f a (inr fault) = (few f a fault).inputs
+
+  known : (f : NetKind) (a : ℕ) → FromInputs f a → AreKnown lines
+  known f a (inl fault) = fault.known
+  known f a (inr (inl fault)) = fault.known
+  known f a (inr (inr fault)) = (few f a fault).known
+
+  single : (f : NetKind) (a : ℕ) → FromUndefined f a → AreDefinedOnce lines
+  single f a (inl fault) = fault.single
+  single f a (inr fault) = (known f a fault).single
+
+  distinct : (f : NetKind) (a : ℕ) → FromRedefined f a → AreDistinct lines
+  distinct f a (inl fault) = fault.distinct
+  distinct f a (inr fault) = (single f a fault).distinct
+
+  declared : (f : NetKind) (a : ℕ) → FromPorts f a → AreDeclared lines
+  declared f a (inl fault) = fault.declared
+  declared f a (inr fault) = (distinct f a fault).declared
+
+  sound : (f : NetKind) (a : ℕ) → FromPortLines f a → NoneIs is_faulty lines
+  sound f a (inl fault) = fault.sound
+  sound f a (inr fault) = (declared f a fault).sound
+
+  no_line : (f : NetKind) (a : ℕ) → IsLineFault lines f a → NoneIs is_faulty lines → ⊥
+  no_line f a fault good = no_first is_faulty lines [] fault.place good fault.first
+
+  no_port : (f : NetKind) (a : ℕ) → IsPortFault lines f a → AreDistinct lines → ⊥
+  no_port f a fault good =
+      no_first repeats_port (port_words lines) (record { is_output = false; word = nothing }) fault.place good.once fault.first
+
+  no_redefined : (f : NetKind) (a : ℕ) → IsRedefinedFault lines f a → AreDefinedOnce lines → ⊥
+  no_redefined f a fault good =
+      no_first (is_redefined (input_words lines)) (defined_words lines) nothing fault.why.place good.once fault.why.first
+
+  no_undefined : (f : NetKind) (a : ℕ) → IsUndefinedFault lines f a → AreKnown lines → ⊥
+  no_undefined f a fault good =
+      no_first (is_undefined (input_words lines) (defined_words lines)) (read_words lines) nothing fault.why.place good.known fault.why.first
+
+  no_inputs : (f : NetKind) (a : ℕ) → IsInputsFault lines f a → length (input_words lines) ≤ 1024 → ⊥
+  no_inputs f a fault good = omega (arith, fault.many)
+
+  no_outputs : (f : NetKind) (a : ℕ) → IsOutputsFault lines f a → AreFew lines → ⊥
+  no_outputs f a fault good = omega (arith, fault.many, good.outputs)
+
+  no_cycle : (f : NetKind) (a : ℕ) → IsCycleFault lines f a → IsAcyclic (blif_circuit lines) → ⊥
+  no_cycle f a fault good = acyclic_not_looped (blif_circuit lines) fault.definition good fault.why
+
+  one_from_cycle : IsOne FromCycle
+  one_from_cycle =
+      one_of (IsCycleFault lines) (IsGatesFault end lines) (IsAcyclic (blif_circuit lines)) (one_cycle lines) (one_gates end lines) no_cycle (λ f a fault. fault.acyclic)
+
+  one_from_outputs : IsOne FromOutputs
+  one_from_outputs =
+      one_of (IsOutputsFault lines) FromCycle (AreFew lines) (one_outputs lines) one_from_cycle no_outputs few
+
+  one_from_inputs : IsOne FromInputs
+  one_from_inputs =
+      one_of (IsInputsFault lines) FromOutputs (length (input_words lines) ≤ 1024) (one_inputs lines) one_from_outputs no_inputs few_inputs
+
+  one_from_undefined : IsOne FromUndefined
+  one_from_undefined =
+      one_of (IsUndefinedFault lines) FromInputs (AreKnown lines) (one_undefined lines) one_from_inputs no_undefined known
+
+  one_from_redefined : IsOne FromRedefined
+  one_from_redefined =
+      one_of (IsRedefinedFault lines) FromUndefined (AreDefinedOnce lines) (one_redefined lines) one_from_undefined no_redefined single
+
+  one_from_ports : IsOne FromPorts
+  one_from_ports =
+      one_of (IsPortFault lines) FromRedefined (AreDistinct lines) (one_port lines) one_from_redefined no_port distinct
+
+  one_from_port_lines : IsOne FromPortLines
+  one_from_port_lines =
+      one_of (IsPortLineFault end lines) FromPorts (AreDeclared lines) (one_port_line end lines) one_from_ports (λ f a fault. fault.missing) declared
+
+  pub one_fault_of_lines : IsOne (IsFaultOfLines end lines)
+  one_fault_of_lines =
+      one_of (IsLineFault lines) FromPortLines (NoneIs is_faulty lines) (one_line lines) one_from_port_lines no_line sound
+
+  pub lines_or_fault : (net : Net) (i o : List (List ℕ)) (f : NetKind) (a : ℕ) → IsNetOfLines lines net i o → IsFaultOfLines end lines f a → ⊥
+  lines_or_fault net i o f a is (inl fault) = no_line f a fault is.names.known.single.distinct.declared.sound
+  lines_or_fault net i o f a is (inr (inl fault)) = fault.missing is.names.known.single.distinct.declared
+  lines_or_fault net i o f a is (inr (inr (inl fault))) = no_port f a fault is.names.known.single.distinct
+  lines_or_fault net i o f a is (inr (inr (inr (inl fault)))) = no_redefined f a fault is.names.known.single
+  lines_or_fault net i o f a is (inr (inr (inr (inr (inl fault))))) = no_undefined f a fault is.names.known
+  lines_or_fault net i o f a is (inr (inr (inr (inr (inr (inl fault)))))) = no_inputs f a fault is.names.inputs
+  lines_or_fault net i o f a is (inr (inr (inr (inr (inr (inr (inl fault))))))) = no_outputs f a fault is.names
+  lines_or_fault net i o f a is (inr (inr (inr (inr (inr (inr (inr (inl fault)))))))) = no_cycle f a fault is.acyclic
+  lines_or_fault net i o f a is (inr (inr (inr (inr (inr (inr (inr (inr fault)))))))) = omega (arith, fault.many, is.few_gates)
+
+pub one_fault : (bytes : List ℕ) (fault other : NetKind) (at place : ℕ) → IsBlifFault bytes fault at → IsBlifFault bytes other place → (fault ≡ other) × (at ≡ place)
+one_fault bytes fault other at place one two =
+    one_fault_of_lines (length bytes) (blif_lines bytes) fault other at place one two
+
+pub netlist_or_fault : (bytes : List ℕ) (net : Net) (i o : List (List ℕ)) (fault : NetKind) (at : ℕ) → IsBlif bytes net i o → IsBlifFault bytes fault at → ⊥
+netlist_or_fault bytes net i o fault at is bad =
+    lines_or_fault (length bytes) (blif_lines bytes) net i o fault at is bad

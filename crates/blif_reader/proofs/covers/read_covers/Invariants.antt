@@ -1,0 +1,15 @@
+use Rattle.std.proofs.Common.{length}
+use Rattle.std.specs.List.{filter}
+use Rattle.blif_reader.specs.JoinedLines.{has_words}
+use Rattle.blif_reader.specs.Reading.{lines_left}
+use Rattle.blif_reader.specs.Numbers.{names_of}
+use Rattle.blif_reader.specs.Blif.{blif_lines}
+use Rattle.blif_reader.specs.Building.{IsBuilding}
+use Rattle.blif_reader.proofs.covers.read_covers.Given as goal
+
+abbrev pub invariant-loop-first : goal.invariant-loop-first
+invariant-loop-first l =
+    IsBuilding (names_of l.names) (blif_lines l.input) (filter has_words (lines_left l.lines.goes_on l.lines.rest)) l.covers
+
+abbrev pub decreases-loop-first : goal.decreases-loop-first
+decreases-loop-first l = length (filter has_words (lines_left l.lines.goes_on l.lines.rest))

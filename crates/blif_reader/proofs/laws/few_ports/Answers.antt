@@ -1,0 +1,5 @@
+use Rattle.blif_reader.proofs.FewPorts as lemma
+use Rattle.blif_reader.proofs.laws.few_ports.Goals as goal
+
+pub returns : goal.returns
+returns c = lemma.few_ports

@@ -1,0 +1,9 @@
+use Rattle.blif_reader.specs.Reading.{IsAsLeft, size_left}
+use Rattle.blif_reader.proofs.lines.JoinedLines.next_word.Given as goal
+
+abbrev pub invariant-lines : goal.invariant-lines
+invariant-lines l =
+    IsAsLeft l.initial.self.line l.initial.self.goes_on l.initial.self.rest l.self.line l.self.goes_on l.self.rest
+
+abbrev pub decreases-lines : goal.decreases-lines
+decreases-lines l = size_left l.self.goes_on l.self.rest

@@ -1,0 +1,27 @@
+use Rattle.std.proofs.Common.{◌≡◌, sym, ap, subst, ◌∙◌}
+use Rattle.net_core.specs.declared.named.NetFault.{NetFault}
+use Rattle.net_core.specs.declared.named.NetKind.TheVariants as fault
+use Rattle.blif_reader.specs.Numbers.{names_of, IsRepeatedPort}
+use Rattle.blif_reader.proofs.SurveyLemmas.{fault_told}
+use Rattle.blif_reader.proofs.NumberLemmas.{AddsPort, named_more, repeated, at_place}
+use Rattle.blif_reader.proofs.names.name_ports.Goals as goal
+
+pub returns-in-Ok-false-clause-fault : goal.returns-in-Ok-false-clause-fault
+returns-in-Ok-false-clause-fault c told e =
+    let ports = c.args.ports.now in
+    let port = c.port-item.result in
+    let adds = subst (λ t. AddsPort t port (names_of c.loop-port.named.inputs) (names_of c.loop-port.named.outputs) (names_of c.add_port.new.named.inputs) (names_of c.add_port.new.named.outputs)) c.in-Ok-false.field-0-test (c.in-Ok-false.ensures.inputs, c.in-Ok-false.ensures.outputs) in
+    let here = at_place ports c.loop-port.port-index port c.loop-port-test.true c.port-item.is in
+    let is = repeated ports c.loop-port.port-index port _ _ _ _ c.loop-port-test.true here c.loop-port.invariant adds in
+    let same = fault_told _ told e in
+    let kind : told.kind ≡ fault.DuplicatePort = sym (ap (λ (f : NetFault). f.kind) same) in
+    let at : told.at ≡ port.word.at = sym (ap (λ (f : NetFault). f.at) same) ∙ c.at.ensures.value in
+    subst (λ k. IsRepeatedPort ports k told.at) (sym kind) (subst (IsRepeatedPort ports fault.DuplicatePort) (sym at) is)
+
+pub loop-port-preserved : goal.loop-port-preserved
+loop-port-preserved c =
+    let ports = c.args.ports.now in
+    let port = c.port-item.result in
+    let adds = subst (λ t. AddsPort t port (names_of c.loop-port.named.inputs) (names_of c.loop-port.named.outputs) (names_of c.add_port.new.named.inputs) (names_of c.add_port.new.named.outputs)) c.in-Ok-true.field-0-test (c.in-Ok-true.ensures.inputs, c.in-Ok-true.ensures.outputs) in
+    let here = at_place ports c.loop-port.port-index port c.loop-port-test.true c.port-item.is in
+    named_more ports c.loop-port.port-index port _ _ _ _ c.loop-port-test.true here c.loop-port.invariant adds

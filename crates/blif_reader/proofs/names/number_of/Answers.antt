@@ -1,0 +1,7 @@
+use Rattle.std.specs.Str.{bytes_eq}
+use Rattle.blif_reader.proofs.NumberLemmas.{number_told}
+use Rattle.blif_reader.proofs.names.number_of.Goals as goal
+
+pub returns : goal.returns
+returns c =
+    number_told (bytes_eq c.args.name.now) (λ key. key.now) c.args.names.now.keys c.get_index_of.result c.get_index_of.ensures.index

@@ -1,0 +1,125 @@
+-- What a second pass over a BLIF file has of the netlist, by names that are known, and what the lines that are left add.
+use Rattle.std.specs.Prelude.{◌≡◌, ℕ, ◌-◌, ◌==◌, ◌&&◌, true, false, List, [], ◌∷◌, ◌++◌, length, map, take, All, Option, None, Some}
+use Rattle.std.specs.List.{list_any, flat_map}
+use Rattle.std.specs.Str.{bytes_eq}
+use Rattle.text_core.specs.Piece.{Piece}
+use Rattle.circuits.specs.declared.netlist.Lit.{Lit}
+use Rattle.circuits.specs.declared.definition.Def.{Def}
+use Rattle.circuits.specs.declared.definition.Def.TheVariants.{Cover}
+use Rattle.net_core.specs.declared.named.NetKind.{NetKind}
+use Rattle.net_core.specs.declared.named.NetKind.TheVariants as fault
+use Rattle.blif_reader.specs.declared.directive.Directive.{Directive}
+use Rattle.blif_reader.specs.declared.directive.Directive.TheVariants.{Names, Outputs, Row}
+use Rattle.blif_reader.specs.declared.covers.Table.{Table}
+use Rattle.blif_reader.specs.declared.covers.Covers.{Covers}
+use Rattle.blif_reader.specs.JoinedLines.{word_of}
+use Rattle.blif_reader.specs.Directives.{kind_of}
+use Rattle.blif_reader.specs.Rows.{output_byte}
+use Rattle.blif_reader.specs.Names.{operands, read_on, read_words}
+use Rattle.blif_reader.specs.Covers.{trits_of, signal_named, literal_named, are_on, leading_rows, covers_of}
+
+-- all but the last
+abbrev pub but_last : List Piece → List Piece
+but_last words = take (length words - 1) words
+
+-- a name is known
+abbrev pub IsKnownIn : List (List ℕ) → Piece → Type 0
+IsKnownIn names word = list_any (bytes_eq word.bytes) names ≡ true
+
+-- The first of these words that isn't known, at its offset.
+pub record IsUnknownAt (names : List (List ℕ)) (words : List Piece) (at : ℕ) : Type 0 where
+  pub before : List Piece
+  pub word : Piece
+  pub behind : List Piece
+  pub whole : words ≡ before ++ word ∷ behind
+  pub known : All (IsKnownIn names) before
+  pub unknown : list_any (bytes_eq word.bytes) names ≡ false
+  pub offset : at ≡ word.at
+
+pub record IsUnknownFault (names : List (List ℕ)) (words : List Piece) (kind : NetKind) (at : ℕ) : Type 0 where
+  pub is : kind ≡ fault.NameUndefined
+  pub why : IsUnknownAt names words at
+
+-- what is found of words that are left says the same of all words
+pub record Continues (names : List (List ℕ)) (left all : List Piece) : Type 0 where
+  pub known : All (IsKnownIn names) left → All (IsKnownIn names) all
+  pub unknown : (at : ℕ) → IsUnknownAt names left at → IsUnknownAt names all at
+
+-- the definition of a table that is closed
+abbrev pub closed : Option Table → List Def
+closed None = []
+closed (Some table) = Cover table.names table.rows table.on ∷ []
+
+-- a row more in the open table
+abbrev pub with_row : Option Table → List Piece → Option Table
+with_row None row = None
+with_row (Some table) row = Some (record { names = table.names; rows = table.rows ++ trits_of row ∷ []; on = table.on && (output_byte row == 49) })
+
+-- the table that is open behind a line
+abbrev pub table_behind : List (List ℕ) → Option Table → Directive → List Piece → Option Table
+table_behind names table Row line = with_row table line
+table_behind names table Names line = Some (record { names = map (signal_named names) (operands line); rows = []; on = true })
+table_behind names table other line = None
+
+-- what a line closes
+abbrev pub closed_by : Option Table → Directive → List Def
+closed_by table Row = []
+closed_by table other = closed table
+
+abbrev pub outputs_by : Directive → List Piece → List Piece
+outputs_by Outputs line = read_on Outputs line
+outputs_by other line = []
+
+abbrev pub places_by : Directive → List Piece → List ℕ
+places_by Names line = (word_of line 0).at ∷ []
+places_by other line = []
+
+-- One line was read, and all that it reads is known.
+pub record Builds (names : List (List ℕ)) (directive : Directive) (line : List Piece) (old new : Covers) : Type 0 where
+  pub defs : new.defs ≡ old.defs ++ closed_by old.table directive
+  pub table : new.table ≡ table_behind names old.table directive line
+  pub outputs : new.outputs ≡ old.outputs ++ map (literal_named names) (outputs_by directive line)
+  pub places : new.places ≡ old.places ++ places_by directive line
+  pub known : All (IsKnownIn names) (read_on directive line)
+
+-- the words left are the last of all, behind this one if some were read
+abbrev pub EndsAs : Option Piece → List Piece → List Piece → Type 0
+EndsAs None left all = all ≡ left
+EndsAs (Some last) left all = (before : List Piece) × (all ≡ before ++ last ∷ left)
+
+-- Outputs were read: what is read and the words that are left make the whole.
+pub record ReadsOutputs (names : List (List ℕ)) (old new : List Lit) (all left : List Piece) : Type 0 where
+  pub outputs : new ++ map (literal_named names) left ≡ old ++ map (literal_named names) all
+  pub words : Continues names left all
+
+-- Operands were read, up to this one: all but the last of the words.
+pub record ReadsOperands (names : List (List ℕ)) (signals : List ℕ) (operand : Piece) (left all : List Piece) : Type 0 where
+  pub signals_are : signals ++ map (signal_named names) (but_last (operand ∷ left)) ≡ map (signal_named names) (but_last all)
+  pub words : Continues names (but_last (operand ∷ left)) (but_last all)
+
+-- what the lines that are left add to the definitions, behind the table that is open
+abbrev pub continued : List (List ℕ) → Option Table → List (List Piece) → List Def
+continued names None left = covers_of names left
+continued names (Some table) left =
+    Cover table.names (table.rows ++ map trits_of (leading_rows left)) (table.on && are_on (leading_rows left)) ∷ covers_of names left
+
+-- the words of the outputs, and the offsets of the `.names` lines
+abbrev pub outputs_in : List (List Piece) → List Piece
+outputs_in lines = flat_map (λ line. outputs_by (kind_of line) line) lines
+
+abbrev pub places_in : List (List Piece) → List ℕ
+places_in lines = flat_map (λ line. places_by (kind_of line) line) lines
+
+-- The covers of all lines, with all outputs, and each name that is read is known.
+pub record IsBuilt (names : List (List ℕ)) (lines : List (List Piece)) (covers : Covers) : Type 0 where
+  pub defs : covers.defs ≡ covers_of names lines
+  pub outputs : covers.outputs ≡ map (literal_named names) (outputs_in lines)
+  pub places : covers.places ≡ places_in lines
+  pub known : All (IsKnownIn names) (read_words lines)
+
+-- The first lines were read: what is read and what the lines that are left add make the whole.
+pub record IsBuilding (names : List (List ℕ)) (all left : List (List Piece)) (covers : Covers) : Type 0 where
+  pub defs : covers.defs ++ continued names covers.table left ≡ covers_of names all
+  pub outputs : covers.outputs ++ map (literal_named names) (outputs_in left) ≡ map (literal_named names) (outputs_in all)
+  pub places : covers.places ++ places_in left ≡ places_in all
+  pub words : Continues names (read_words left) (read_words all)

@@ -1,0 +1,63 @@
+-- What a joined line of a BLIF file is, by its first word (Berkeley Logic Interchange Format, 1992). Directives that say
+-- nothing of a circuit's function are passed over; this project's profile lists them.
+use Rattle.std.specs.Prelude.{ℕ, ◌==◌, Bool, true, false, List, [], ◌∷◌, codes, slice_index_or, if◌then◌else◌}
+use Rattle.std.specs.List.{list_any}
+use Rattle.std.specs.Str.{bytes_eq}
+use Rattle.text_core.specs.Piece.{Piece}
+use Rattle.blif_reader.specs.JoinedLines.{word_of}
+use Rattle.blif_reader.specs.declared.directive.Directive.{Directive}
+use Rattle.blif_reader.specs.declared.directive.Directive.TheVariants.{Model, Inputs, Outputs, Names, End, Latch, DontCares, PassedOver, Unknown, Row}
+
+-- delays, areas and drives, which the BLIF document gives, and three words that other writers use
+abbrev pub passed_over : List (List ℕ)
+passed_over =
+    codes ".area" ∷ codes ".delay" ∷ codes ".wire_load_slope" ∷ codes ".wire" ∷ codes ".input_arrival" ∷ codes ".default_input_arrival"
+    ∷ codes ".output_required" ∷ codes ".default_output_required" ∷ codes ".input_drive" ∷ codes ".default_input_drive"
+    ∷ codes ".max_input_load" ∷ codes ".default_max_input_load" ∷ codes ".output_load" ∷ codes ".default_output_load" ∷ codes ".clock"
+    ∷ codes ".attr" ∷ codes ".cname" ∷ codes ".param" ∷ []
+
+-- the first byte is a full stop
+abbrev pub begins_with_stop : List ℕ → Bool
+begins_with_stop word = slice_index_or word 0 0 == 46
+
+abbrev pub directive_of : List ℕ → Directive
+directive_of word =
+    if bytes_eq word (codes ".model") then Model
+    else if bytes_eq word (codes ".inputs") then Inputs
+    else if bytes_eq word (codes ".outputs") then Outputs
+    else if bytes_eq word (codes ".names") then Names
+    else if bytes_eq word (codes ".end") then End
+    else if bytes_eq word (codes ".latch") then Latch
+    else if bytes_eq word (codes ".exdc") then DontCares
+    else if list_any (bytes_eq word) passed_over then PassedOver
+    else if begins_with_stop word then Unknown
+    else Row
+
+-- what a joined line is
+abbrev pub kind_of : List Piece → Directive
+kind_of line = directive_of (word_of line 0).bytes
+
+-- whether it is the one or the other of these
+abbrev pub is_model : Directive → Bool
+is_model Model = true
+is_model other = false
+
+abbrev pub is_inputs : Directive → Bool
+is_inputs Inputs = true
+is_inputs other = false
+
+abbrev pub is_outputs : Directive → Bool
+is_outputs Outputs = true
+is_outputs other = false
+
+abbrev pub is_names : Directive → Bool
+is_names Names = true
+is_names other = false
+
+abbrev pub is_end : Directive → Bool
+is_end End = true
+is_end other = false
+
+abbrev pub is_row : Directive → Bool
+is_row Row = true
+is_row other = false

@@ -1,0 +1,13 @@
+pub mod JoinedLines
+pub mod Directives
+pub mod Firsts
+pub mod Rows
+pub mod Names
+pub mod Faults
+pub mod Reading
+pub mod Surveys
+pub mod Covers
+pub mod Numbers
+pub mod Blif
+pub mod Building
+pub mod Ports

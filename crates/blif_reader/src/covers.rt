@@ -1,0 +1,370 @@
+//! A second pass over the lines: the covers and the outputs, by the numbers of their names.
+
+ghost use Rattle.std.specs.Prelude.{◌≡◌, ◌+◌, ◌-◌, ◌<◌, ◌^◌, ◌==◌, ◌&&◌, ◌∷◌, [], ◌++◌, length, map, All, None, false, slice_index_or, MatchOption, OnOk, IfOk, IfErr};
+ghost use Rattle.std.specs.List.{list_any, position_or_len};
+ghost use Rattle.std.specs.Str.{bytes_eq};
+ghost use Rattle.circuits.specs.declared.netlist.Lit.{Lit};
+ghost use Rattle.net_core.specs.declared.named.NetFault.{NetFault};
+ghost use Rattle.blif_reader.specs.JoinedLines.{word_of};
+ghost use Rattle.blif_reader.specs.Directives.{kind_of};
+ghost use Rattle.blif_reader.specs.Names.{read_on, read_words};
+ghost use Rattle.blif_reader.specs.Reading.{words_left, lines_left};
+ghost use Rattle.blif_reader.specs.Covers.{trit_of, trits_of, signal_named, literal_named};
+ghost use Rattle.blif_reader.specs.Numbers.{names_of};
+ghost use Rattle.blif_reader.specs.Building.{but_last, closed, with_row, IsKnownIn, IsUnknownFault, Builds, IsBuilt};
+ghost use Rattle.blif_reader.specs.Blif.{blif_lines};
+
+use crate::directive::{Directive, directive_of};
+use crate::lines::JoinedLines;
+use crate::names::number_of;
+use circuits::{Def, Lit, Trit};
+use indexmap::IndexSet;
+use items::Items;
+use net_core::{NetFault, NetKind, NetStop};
+use std::alloc::{AllocError, Global};
+use text_core::Span;
+
+/// A `.names` line and the rows behind it, so far.
+#[derive(Debug, Drop)]
+pub(crate) struct Table {
+    /// The signals of its operands.
+    pub(crate) names: Items<u32>,
+    pub(crate) rows: Items<Items<Trit>>,
+    /// Whether the rows list the on-set, which is so where there are none.
+    pub(crate) on: bool,
+}
+
+/// What is read of the covers and the outputs.
+#[derive(Debug, Drop)]
+pub(crate) struct Covers {
+    /// The definitions of the covers that are closed, in the order of the text.
+    pub(crate) defs: Items<Def>,
+    /// The offset of each `.names` line.
+    pub(crate) places: Items<u64>,
+    /// The literals of the outputs.
+    pub(crate) outputs: Items<Lit>,
+    /// The cover to which rows are added.
+    pub(crate) table: Option<Table>,
+}
+
+/// Reads the covers and the outputs of a file, by the numbers of the names that are known. The fault is at the first
+/// word that reads a name which isn't known. Want of memory is answered also where there are too many names to number.
+pub(crate) fn read_covers(
+    alloc: Global,
+    input: &[u8],
+    names: &IndexSet<&[u8]>,
+) -> Result<Covers, NetStop>
+    requires { length (names_of names.now) < 2 ^ 30 }
+    ensures built { IfOk result (λ covers. IsBuilt (names_of names.now) (blif_lines input.now) covers) }
+    ensures fault { (fault : NetFault) → result ≡ Err (NetStop.Fault fault)
+        → IsUnknownFault (names_of names.now) (read_words (blif_lines input.now)) fault.kind fault.at }
+{
+    let mut lines = JoinedLines::new(input);
+    let mut covers = Covers::new(alloc);
+    while let Some(first) = lines.next_line() {
+        match covers.read_line(alloc, first, &mut lines, names) {
+            Ok(()) => {}
+            Err(stop) => return Err(stop),
+        }
+    }
+    match covers.close() {
+        Ok(()) => Ok(covers),
+        Err(stop) => Err(stop),
+    }
+}
+
+impl Covers {
+    fn new(alloc: Global) -> Covers
+        ensures { result ≡ record { defs = []; places = []; outputs = []; table = None } }
+    {
+        Covers {
+            defs: Items::new(alloc),
+            places: Items::new(alloc),
+            outputs: Items::new(alloc),
+            table: None,
+        }
+    }
+
+    // Reads one line, of which `first` is the first word.
+    fn read_line(
+        &mut self,
+        alloc: Global,
+        first: Span<'_>,
+        lines: &mut JoinedLines<'_>,
+        names: &IndexSet<&[u8]>,
+    ) -> Result<(), NetStop>
+        requires { length (names_of names.now) < 2 ^ 30 }
+        ensures builds { let line = first.entry ∷ words_left lines.old.line lines.old.goes_on lines.old.rest
+            in OnOk result (Builds (names_of names.now) (kind_of line) line self.old self.new) }
+        ensures fault { let line = first.entry ∷ words_left lines.old.line lines.old.goes_on lines.old.rest
+            in (fault : NetFault) → result ≡ Err (NetStop.Fault fault)
+            → IsUnknownFault (names_of names.now) (read_on (kind_of line) line) fault.kind fault.at }
+        ensures lines { OnOk result (lines_left lines.new.goes_on lines.new.rest
+            ≡ lines_left lines.old.goes_on lines.old.rest) }
+    {
+        match directive_of(first.bytes()) {
+            Directive::Row => self.read_row(alloc, first, lines),
+            Directive::Names => self.read_names(alloc, first, lines, names),
+            Directive::Outputs => self.read_output_line(first, lines, names),
+            _ => self.close(),
+        }
+    }
+
+    // Reads a `.names` line.
+    fn read_names(
+        &mut self,
+        alloc: Global,
+        first: Span<'_>,
+        lines: &mut JoinedLines<'_>,
+        names: &IndexSet<&[u8]>,
+    ) -> Result<(), NetStop>
+        requires { length (names_of names.now) < 2 ^ 30 }
+        ensures builds { let line = first.entry ∷ words_left lines.old.line lines.old.goes_on lines.old.rest
+            in OnOk result (Builds (names_of names.now) Directive.Names line self.old self.new) }
+        ensures fault { let line = first.entry ∷ words_left lines.old.line lines.old.goes_on lines.old.rest
+            in (fault : NetFault) → result ≡ Err (NetStop.Fault fault)
+            → IsUnknownFault (names_of names.now) (read_on Directive.Names line) fault.kind fault.at }
+        ensures lines { OnOk result (lines_left lines.new.goes_on lines.new.rest
+            ≡ lines_left lines.old.goes_on lines.old.rest) }
+    {
+        let Ok(()) = self.close() else {
+            return Err(NetStop::Memory);
+        };
+        let Ok(()) = self.places.push(first.at()) else {
+            return Err(NetStop::Memory);
+        };
+        match operand_signals(alloc, lines, names) {
+            Ok(names) => {
+                self.table = Some(Table {
+                    names,
+                    rows: Items::new(alloc),
+                    on: true,
+                });
+                Ok(())
+            }
+            Err(stop) => Err(stop),
+        }
+    }
+
+    // Reads an `.outputs` line.
+    fn read_output_line(
+        &mut self,
+        first: Span<'_>,
+        lines: &mut JoinedLines<'_>,
+        names: &IndexSet<&[u8]>,
+    ) -> Result<(), NetStop>
+        requires { length (names_of names.now) < 2 ^ 30 }
+        ensures builds { let line = first.entry ∷ words_left lines.old.line lines.old.goes_on lines.old.rest
+            in OnOk result (Builds (names_of names.now) Directive.Outputs line self.old self.new) }
+        ensures fault { let line = first.entry ∷ words_left lines.old.line lines.old.goes_on lines.old.rest
+            in (fault : NetFault) → result ≡ Err (NetStop.Fault fault)
+            → IsUnknownFault (names_of names.now) (read_on Directive.Outputs line) fault.kind fault.at }
+        ensures lines { OnOk result (lines_left lines.new.goes_on lines.new.rest
+            ≡ lines_left lines.old.goes_on lines.old.rest) }
+    {
+        let Ok(()) = self.close() else {
+            return Err(NetStop::Memory);
+        };
+        read_outputs(&mut self.outputs, lines, names)
+    }
+
+    // Closes the open cover, if there is one.
+    fn close(&mut self) -> Result<(), NetStop>
+        ensures defs { OnOk result (self.new.defs ≡ self.old.defs ++ closed self.old.table) }
+        ensures table { OnOk result (self.new.table ≡ None) }
+        ensures places { self.new.places ≡ self.old.places }
+        ensures outputs { self.new.outputs ≡ self.old.outputs }
+        ensures memory { IfErr result (λ stop. stop ≡ NetStop.Memory) }
+    {
+        let Some(table) = self.table.take() else {
+            return Ok(());
+        };
+        let Table { names, rows, on } = table;
+        let Ok(()) = self.defs.push(Def::Cover { names, rows, on }) else {
+            return Err(NetStop::Memory);
+        };
+        Ok(())
+    }
+
+    // Adds a row to the open cover, if there is one.
+    fn read_row(
+        &mut self,
+        alloc: Global,
+        first: Span<'_>,
+        lines: &mut JoinedLines<'_>,
+    ) -> Result<(), NetStop>
+        ensures builds { let line = first.entry ∷ words_left lines.old.line lines.old.goes_on lines.old.rest
+            in OnOk result (self.new.table ≡ with_row self.old.table line) }
+        ensures defs { self.new.defs ≡ self.old.defs }
+        ensures places { self.new.places ≡ self.old.places }
+        ensures outputs { self.new.outputs ≡ self.old.outputs }
+        ensures lines { lines_left lines.new.goes_on lines.new.rest ≡ lines_left lines.old.goes_on lines.old.rest }
+        ensures memory { IfErr result (λ stop. stop ≡ NetStop.Memory) }
+    {
+        let output = last_word(lines);
+        let Some(table) = self.table.take() else {
+            return Ok(());
+        };
+        let added = match &output {
+            Some(output) => table.with_row(alloc, first.bytes(), output.bytes()),
+            None => table.with_row(alloc, b"".as_slice(), first.bytes()),
+        };
+        match added {
+            Ok(table) => {
+                self.table = Some(table);
+                Ok(())
+            }
+            Err(_) => Err(NetStop::Memory),
+        }
+    }
+}
+
+impl Table {
+    // The table with a row more, by its bytes for the operands and for the output.
+    fn with_row(self, alloc: Global, literals: &[u8], output: &[u8]) -> Result<Table, AllocError>
+        ensures { IfOk result (λ table. table ≡ record {
+          names = self.names;
+          rows = self.rows ++ map trit_of literals.now ∷ [];
+          on = self.on && (slice_index_or output.now 0 0 == 49);
+        }) }
+    {
+        let Table {
+            names,
+            mut rows,
+            on,
+        } = self;
+        let trits = trits_of(alloc, literals)?;
+        rows.push(trits)?;
+        Ok(Table {
+            names,
+            rows,
+            on: on & is_on(output),
+        })
+    }
+}
+
+fn trits_of(alloc: Global, literals: &[u8]) -> Result<Items<Trit>, AllocError>
+    ensures { IfOk result (λ trits. trits ≡ map trit_of literals.now) }
+{
+    Ok(Items::from_vec(collect_trits(alloc, literals)?))
+}
+
+fn collect_trits(alloc: Global, literals: &[u8]) -> Result<Vec<Trit>, AllocError>
+    ensures { IfOk result (λ trits. trits.items ≡ map trit_of literals.now) }
+{
+    literals.iter().map(|byte| trit_of(*byte)).collect(alloc)
+}
+
+// Adds the literals of the words that are left of a line.
+fn read_outputs(
+    outputs: &mut Items<Lit>,
+    lines: &mut JoinedLines<'_>,
+    names: &IndexSet<&[u8]>,
+) -> Result<(), NetStop>
+    requires { length (names_of names.now) < 2 ^ 30 }
+    ensures outputs { OnOk result (outputs.new ≡ outputs.old
+        ++ map (literal_named (names_of names.now)) (words_left lines.old.line lines.old.goes_on lines.old.rest)) }
+    ensures known { OnOk result (All (IsKnownIn (names_of names.now))
+        (words_left lines.old.line lines.old.goes_on lines.old.rest)) }
+    ensures lines { OnOk result (lines_left lines.new.goes_on lines.new.rest
+        ≡ lines_left lines.old.goes_on lines.old.rest) }
+    ensures fault { (fault : NetFault) → result ≡ Err (NetStop.Fault fault) → IsUnknownFault (names_of names.now)
+        (words_left lines.old.line lines.old.goes_on lines.old.rest) fault.kind fault.at }
+{
+    while let Some(word) = lines.next_word() {
+        let signal = match signal_of(names, &word) {
+            Ok(signal) => signal,
+            Err(stop) => return Err(stop),
+        };
+        let Ok(()) = outputs.push(Lit(2 * signal)) else {
+            return Err(NetStop::Memory);
+        };
+    }
+    Ok(())
+}
+
+// The signals of the words that are left of a line but for the last, which is the name that it defines.
+fn operand_signals(
+    alloc: Global,
+    lines: &mut JoinedLines<'_>,
+    names: &IndexSet<&[u8]>,
+) -> Result<Items<u32>, NetStop>
+    requires { length (names_of names.now) < 2 ^ 30 }
+    ensures signals { IfOk result (λ signals. signals ≡ map (signal_named (names_of names.now))
+        (but_last (words_left lines.old.line lines.old.goes_on lines.old.rest))) }
+    ensures known { OnOk result (All (IsKnownIn (names_of names.now))
+        (but_last (words_left lines.old.line lines.old.goes_on lines.old.rest))) }
+    ensures lines { OnOk result (lines_left lines.new.goes_on lines.new.rest
+        ≡ lines_left lines.old.goes_on lines.old.rest) }
+    ensures fault { (fault : NetFault) → result ≡ Err (NetStop.Fault fault) → IsUnknownFault (names_of names.now)
+        (but_last (words_left lines.old.line lines.old.goes_on lines.old.rest)) fault.kind fault.at }
+{
+    let mut signals = Items::new(alloc);
+    let Some(mut operand) = lines.next_word() else {
+        return Ok(signals);
+    };
+    while let Some(word) = lines.next_word() {
+        let signal = match signal_of(names, &operand) {
+            Ok(signal) => signal,
+            Err(stop) => return Err(stop),
+        };
+        let Ok(()) = signals.push(signal) else {
+            return Err(NetStop::Memory);
+        };
+        operand = word;
+    }
+    Ok(signals)
+}
+
+// The signal of a name that is read.
+fn signal_of(names: &IndexSet<&[u8]>, word: &Span<'_>) -> Result<u32, NetStop>
+    requires { length (names_of names.now) < 2 ^ 30 }
+    ensures signal { IfOk result (λ signal. signal ≡ signal_named (names_of names.now) word.now) }
+    ensures small { IfOk result (λ signal. signal < 2 ^ 30 + 1) }
+    ensures known { OnOk result (IsKnownIn (names_of names.now) word.now) }
+    ensures fault { (fault : NetFault) → result ≡ Err (NetStop.Fault fault)
+        → (fault.kind ≡ NetKind.NameUndefined) × (fault.at ≡ word.now.at)
+        × (list_any (bytes_eq word.now.bytes) (names_of names.now) ≡ false) }
+{
+    match number_of(names, word.bytes()) {
+        Some(number) => Ok(number as u32 + 1),
+        None => Err(NetStop::Fault(NetFault {
+            kind: NetKind::NameUndefined,
+            at: word.at(),
+        })),
+    }
+}
+
+// What a byte of a row wants of its operand.
+fn trit_of(byte: u8) -> Trit
+    ensures { result ≡ trit_of byte }
+{
+    match byte {
+        b'0' => Trit::Zero,
+        b'1' => Trit::One,
+        _ => Trit::Dash,
+    }
+}
+
+// Whether a word for the output is of the on-set.
+fn is_on(output: &[u8]) -> bool
+    ensures { result ≡ (slice_index_or output.now 0 0 == 49) }
+{
+    match output {
+        [first, ..] => *first == b'1',
+        [] => false,
+    }
+}
+
+// The last of the words that are left of a line, if there is one.
+fn last_word<'a>(lines: &mut JoinedLines<'a>) -> Option<Span<'a>>
+    ensures word { let words = words_left lines.old.line lines.old.goes_on lines.old.rest
+        in MatchOption result (words ≡ []) (λ word. (0 < length words) × (word ≡ word_of words (length words - 1))) }
+    ensures lines { lines_left lines.new.goes_on lines.new.rest ≡ lines_left lines.old.goes_on lines.old.rest }
+{
+    let mut last = None;
+    while let Some(word) = lines.next_word() {
+        last = Some(word);
+    }
+    last
+}

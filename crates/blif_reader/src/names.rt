@@ -1,0 +1,106 @@
+//! Names, numbered in the order in which they come.
+
+ghost use Rattle.std.specs.Prelude.{◌≡◌, ◌<◌, List, true, false, length, map, MatchOption, IfOk, OnOk};
+ghost use Rattle.std.specs.List.{list_any, position_or_len};
+ghost use Rattle.std.specs.Str.{bytes_eq};
+ghost use Rattle.text_core.specs.Piece.{Piece};
+ghost use Rattle.net_core.specs.declared.named.NetFault.{NetFault};
+ghost use Rattle.blif_reader.specs.Numbers.{names_of, bytes_of, IsAdded, AreNamed, AreDefined, IsRepeatedPort, IsRepeatedName};
+
+use crate::survey::Port;
+use indexmap::IndexSet;
+use net_core::{NetFault, NetKind, NetStop};
+use std::alloc::{AllocError, Global};
+use text_core::Span;
+
+/// The names of the ports of both kinds, each kind in the order of the text.
+#[derive(Drop)]
+pub(crate) struct PortNames<'a> {
+    pub(crate) inputs: IndexSet<&'a [u8]>,
+    pub(crate) outputs: IndexSet<&'a [u8]>,
+}
+
+/// Names the ports. The fault is at the first word that names a port of the same kind again.
+pub(crate) fn name_ports<'a>(alloc: Global, ports: &[Port<'a>]) -> Result<PortNames<'a>, NetStop>
+    ensures named { IfOk result (λ named.
+        AreNamed ports.now (length ports.now) (names_of named.inputs) (names_of named.outputs)) }
+    ensures fault { (fault : NetFault) → result ≡ Err (NetStop.Fault fault)
+        → IsRepeatedPort ports.now fault.kind fault.at }
+{
+    let mut named = PortNames {
+        inputs: IndexSet::new(alloc),
+        outputs: IndexSet::new(alloc),
+    };
+    for port in ports.iter() {
+        match add_port(&mut named, port) {
+            Ok(true) => {}
+            Ok(false) => {
+                return Err(NetStop::Fault(NetFault {
+                    kind: NetKind::DuplicatePort,
+                    at: port.word.at(),
+                }));
+            }
+            Err(_) => return Err(NetStop::Memory),
+        }
+    }
+    Ok(named)
+}
+
+// Adds the name of a port to those of its kind. Says whether it was added.
+fn add_port<'a>(named: &mut PortNames<'a>, port: &Port<'a>) -> Result<bool, AllocError>
+    ensures inputs { port.now.is_output ≡ false → IfOk result
+        (λ added. IsAdded port.now.word.bytes added (names_of named.old.inputs) (names_of named.new.inputs)
+        × (names_of named.new.outputs ≡ names_of named.old.outputs)) }
+    ensures outputs { port.now.is_output ≡ true → IfOk result
+        (λ added. IsAdded port.now.word.bytes added (names_of named.old.outputs) (names_of named.new.outputs)
+        × (names_of named.new.inputs ≡ names_of named.old.inputs)) }
+{
+    if port.is_output {
+        add_name(&mut named.outputs, port.word.bytes())
+    } else {
+        add_name(&mut named.inputs, port.word.bytes())
+    }
+}
+
+/// Numbers the names that are defined behind those of the inputs. The fault is at the first name that is there already.
+pub(crate) fn add_defined<'a>(
+    names: &mut IndexSet<&'a [u8]>,
+    defined: &[Span<'a>],
+) -> Result<(), NetStop>
+    ensures defined { (inputs : List Piece) → names_of names.old ≡ bytes_of inputs
+        → OnOk result (AreDefined inputs defined.now (length defined.now) (names_of names.new)) }
+    ensures fault { (inputs : List Piece) → names_of names.old ≡ bytes_of inputs
+        → (fault : NetFault) → result ≡ Err (NetStop.Fault fault)
+        → IsRepeatedName inputs defined.now fault.kind fault.at }
+{
+    for word in defined.iter() {
+        match add_name(names, word.bytes()) {
+            Ok(true) => {}
+            Ok(false) => {
+                return Err(NetStop::Fault(NetFault {
+                    kind: NetKind::NameRedefined,
+                    at: word.at(),
+                }));
+            }
+            Err(_) => return Err(NetStop::Memory),
+        }
+    }
+    Ok(())
+}
+
+/// Adds a name at the end, where it isn't there already. Says whether it was added.
+fn add_name<'a>(names: &mut IndexSet<&'a [u8]>, name: &'a [u8]) -> Result<bool, AllocError>
+    ensures { IfOk result (λ added. IsAdded name.now added (names_of names.old) (names_of names.new)) }
+{
+    Ok(names.insert(name)?)
+}
+
+/// The number of a name, counted from 0; None where it isn't there.
+pub(crate) fn number_of(names: &IndexSet<&[u8]>, name: &[u8]) -> Option<usize>
+    ensures { MatchOption result (list_any (bytes_eq name.now) (names_of names.now) ≡ false)
+        (λ number. (list_any (bytes_eq name.now) (names_of names.now) ≡ true)
+        × (number ≡ position_or_len (bytes_eq name.now) (names_of names.now))
+        × (number < length (names_of names.now))) }
+{
+    names.get_index_of(name)
+}

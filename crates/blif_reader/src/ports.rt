@@ -1,0 +1,48 @@
+//! Ports by their kind: how many there are, and their names.
+
+ghost use Rattle.std.specs.Prelude.{◌≡◌, ◌≤◌, length, MatchOption, IfOk};
+ghost use Rattle.blif_reader.specs.Numbers.{port_names};
+ghost use Rattle.blif_reader.specs.Names.{words_of_kind};
+ghost use Rattle.blif_reader.specs.Ports.{IsExcess};
+
+use crate::survey::Port;
+use items::Items;
+use net_core::Name;
+use std::alloc::{AllocError, Global};
+
+/// The limit of inputs, and that of outputs.
+const MOST_PORTS: u32 = 1024;
+
+/// The offset of the first port of a kind beyond the limit, if there are more.
+pub(crate) fn find_excess(ports: &[Port<'_>], is_output: bool) -> Option<u64>
+    ensures { MatchOption result (length (words_of_kind is_output ports.now) ≤ 1024)
+        (λ at. IsExcess (words_of_kind is_output ports.now) at) }
+{
+    let mut count = 0;
+    for port in ports.iter() {
+        if port.is_output == is_output {
+            if count == MOST_PORTS {
+                return Some(port.word.at());
+            }
+            count += 1;
+        }
+    }
+    None
+}
+
+/// The names of the ports of a kind, in the order of the text.
+pub(crate) fn names_of_kind(
+    alloc: Global,
+    ports: &[Port<'_>],
+    is_output: bool,
+) -> Result<Items<Name>, AllocError>
+    ensures { IfOk result (λ names. names ≡ port_names is_output ports.now) }
+{
+    let mut names = Items::new(alloc);
+    for port in ports.iter() {
+        if port.is_output == is_output {
+            names.push(Items::from_vec(port.word.bytes().to_vec(alloc)?))?;
+        }
+    }
+    Ok(names)
+}

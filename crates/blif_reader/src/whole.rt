@@ -1,0 +1,215 @@
+//! Whole files.
+
+ghost use Rattle.std.specs.Prelude.{◌≡◌, ◌+◌, ◌<◌, ◌≤◌, ◌^◌, length, IfOk, OnOk};
+ghost use Rattle.circuits.specs.Expansion.{gates_in};
+ghost use Rattle.circuits.specs.Levels.{IsAcyclic, IsOrderOf};
+ghost use Rattle.net_core.specs.declared.named.NetFault.{NetFault};
+ghost use Rattle.blif_reader.specs.Names.{input_words};
+ghost use Rattle.blif_reader.specs.Numbers.{names_of, bytes_of};
+ghost use Rattle.blif_reader.specs.Covers.{blif_circuit, signal_names};
+ghost use Rattle.blif_reader.specs.Faults.{AreDeclared, AreDistinct, AreDefinedOnce, AreKnown, AreFew};
+ghost use Rattle.blif_reader.specs.Surveys.{IsSurveyed};
+ghost use Rattle.blif_reader.specs.Building.{IsBuilt};
+ghost use Rattle.blif_reader.specs.Blif.{blif_lines, IsBlif, IsBlifFault};
+
+use crate::covers::{Covers, read_covers};
+use crate::names::{PortNames, add_defined, name_ports};
+use crate::ports::{find_excess, names_of_kind};
+use crate::survey::{Survey, survey_lines};
+use indexmap::IndexSet;
+use net_core::{Graph, Named, NetFault, NetKind, NetStop, OrderFault, PlainNet, order};
+use std::alloc::Global;
+
+/// More names than these aren't numbered.
+const MOST_NAMES: usize = 1_000_000_000;
+
+// That both kinds of port have a line.
+fn check_port_lines(input: &[u8], survey: &Survey<'_>) -> Result<(), NetStop>
+    requires { IsSurveyed (blif_lines input.now) survey.now }
+    ensures declared { OnOk result (AreDeclared (blif_lines input.now)) }
+    ensures fault { (fault : NetFault) → result ≡ Err (NetStop.Fault fault)
+        → IsBlifFault input.now fault.kind fault.at }
+{
+    if survey.has_inputs & survey.has_outputs {
+        return Ok(());
+    }
+    Err(NetStop::Fault(NetFault {
+        kind: NetKind::NoPortLine,
+        at: input.len() as u64,
+    }))
+}
+
+// The names of the inputs, where no port of a kind is named twice.
+fn name_inputs<'a>(
+    alloc: Global,
+    input: &[u8],
+    survey: &Survey<'a>,
+) -> Result<IndexSet<&'a [u8]>, NetStop>
+    requires surveyed { IsSurveyed (blif_lines input.now) survey.now }
+    requires declared { AreDeclared (blif_lines input.now) }
+    ensures distinct { OnOk result (AreDistinct (blif_lines input.now)) }
+    ensures names { IfOk result (λ names. names_of names ≡ bytes_of (input_words (blif_lines input.now))) }
+    ensures fault { (fault : NetFault) → result ≡ Err (NetStop.Fault fault)
+        → IsBlifFault input.now fault.kind fault.at }
+{
+    match name_ports(alloc, &survey.ports) {
+        Ok(named) => {
+            let PortNames { inputs, outputs: _ } = named;
+            Ok(inputs)
+        }
+        Err(stop) => Err(stop),
+    }
+}
+
+// Numbers the names that are defined behind the inputs, where none is there already.
+fn number_names<'a>(
+    input: &[u8],
+    survey: &Survey<'a>,
+    names: &mut IndexSet<&'a [u8]>,
+) -> Result<(), NetStop>
+    requires surveyed { IsSurveyed (blif_lines input.now) survey.now }
+    requires distinct { AreDistinct (blif_lines input.now) }
+    requires names { names_of names.old ≡ bytes_of (input_words (blif_lines input.now)) }
+    ensures once { OnOk result (AreDefinedOnce (blif_lines input.now)) }
+    ensures names { OnOk result (names_of names.new ≡ signal_names (blif_lines input.now)) }
+    ensures fault { (fault : NetFault) → result ≡ Err (NetStop.Fault fault)
+        → IsBlifFault input.now fault.kind fault.at }
+{
+    add_defined(names, &survey.defined)
+}
+
+// The covers, where each name that is read is known.
+fn known_covers(alloc: Global, input: &[u8], names: &IndexSet<&[u8]>) -> Result<Covers, NetStop>
+    requires once { AreDefinedOnce (blif_lines input.now) }
+    requires names { names_of names.now ≡ signal_names (blif_lines input.now) }
+    requires few { length (names_of names.now) < 2 ^ 30 }
+    ensures built { IfOk result (λ covers. IsBuilt (signal_names (blif_lines input.now)) (blif_lines input.now) covers) }
+    ensures known { OnOk result (AreKnown (blif_lines input.now)) }
+    ensures fault { (fault : NetFault) → result ≡ Err (NetStop.Fault fault)
+        → IsBlifFault input.now fault.kind fault.at }
+{
+    read_covers(alloc, input, names)
+}
+
+// That there are no more ports than the limits.
+fn check_limits(input: &[u8], survey: &Survey<'_>) -> Result<(), NetStop>
+    requires surveyed { IsSurveyed (blif_lines input.now) survey.now }
+    requires known { AreKnown (blif_lines input.now) }
+    ensures few { OnOk result (AreFew (blif_lines input.now)) }
+    ensures fault { (fault : NetFault) → result ≡ Err (NetStop.Fault fault)
+        → IsBlifFault input.now fault.kind fault.at }
+{
+    if let Some(at) = find_excess(&survey.ports, false) {
+        return Err(NetStop::Fault(NetFault {
+            kind: NetKind::TooManyInputs,
+            at,
+        }));
+    }
+    if let Some(at) = find_excess(&survey.ports, true) {
+        return Err(NetStop::Fault(NetFault {
+            kind: NetKind::TooManyOutputs,
+            at,
+        }));
+    }
+    Ok(())
+}
+
+// The netlist in order.
+fn order_covers(alloc: Global, input: &[u8], inputs: u32, covers: Covers) -> Result<Graph, NetStop>
+    requires few { AreFew (blif_lines input.now) }
+    requires built { IsBuilt (signal_names (blif_lines input.now)) (blif_lines input.now) covers }
+    requires inputs { inputs ≡ length (input_words (blif_lines input.now)) }
+    requires signals { 1 + length (signal_names (blif_lines input.now)) < 2 ^ 30 }
+    ensures acyclic { OnOk result (IsAcyclic (blif_circuit (blif_lines input.now))) }
+    ensures few_gates { OnOk result (gates_in (blif_circuit (blif_lines input.now)) ≤ 1000000) }
+    ensures ordered { IfOk result (λ graph. IsOrderOf (blif_circuit (blif_lines input.now)) graph) }
+    ensures fault { (fault : NetFault) → result ≡ Err (NetStop.Fault fault)
+        → IsBlifFault input.now fault.kind fault.at }
+{
+    let Covers {
+        defs,
+        places,
+        outputs,
+        table: _,
+    } = covers;
+    let net = PlainNet::new(inputs, defs, outputs);
+    match order(alloc, &net) {
+        Ok(graph) => Ok(graph),
+        Err(OrderFault::Cycle(definition)) => Err(NetStop::Fault(NetFault {
+            kind: NetKind::CoverCycle,
+            at: places[definition as usize],
+        })),
+        Err(OrderFault::TooManyGates) => Err(NetStop::Fault(NetFault {
+            kind: NetKind::TooManyGates,
+            at: input.len() as u64,
+        })),
+        Err(OrderFault::Memory) => Err(NetStop::Memory),
+    }
+}
+
+// The netlist in order, with the names of its ports.
+fn name_net(
+    alloc: Global,
+    input: &[u8],
+    survey: &Survey<'_>,
+    covers: Covers,
+) -> Result<Named, NetStop>
+    requires surveyed { IsSurveyed (blif_lines input.now) survey.now }
+    requires few { AreFew (blif_lines input.now) }
+    requires built { IsBuilt (signal_names (blif_lines input.now)) (blif_lines input.now) covers }
+    requires signals { 1 + length (signal_names (blif_lines input.now)) < 2 ^ 30 }
+    ensures netlist { IfOk result (λ named. IsBlif input.now named.graph named.input_names named.output_names) }
+    ensures fault { (fault : NetFault) → result ≡ Err (NetStop.Fault fault)
+        → IsBlifFault input.now fault.kind fault.at }
+{
+    let Ok(input_names) = names_of_kind(alloc, &survey.ports, false) else {
+        return Err(NetStop::Memory);
+    };
+    let Ok(output_names) = names_of_kind(alloc, &survey.ports, true) else {
+        return Err(NetStop::Memory);
+    };
+    match order_covers(alloc, input, input_names.len() as u32, covers) {
+        Ok(graph) => Ok(Named {
+            graph,
+            input_names,
+            output_names,
+        }),
+        Err(stop) => Err(stop),
+    }
+}
+
+/// Reads a netlist with the names of its ports from a file in the Berkeley Logic Interchange Format (BLIF, University
+/// of California at Berkeley, 1992), of one model without latches and don't-cares. The graph has the gates of the
+/// covers by level, and those of one level in the order of the file.
+///
+/// # Errors
+///
+/// [`NetStop::Fault`] with the first fault of the file: of its lines; a kind of port without a line; a name that is
+/// given to two ports of a kind, defined twice, or read and not known; more ports than 1,024 of a kind; a cover on a
+/// cycle or above one, at its `.names` line; or more than 1,000,000 gates. [`NetStop::Memory`] for want of memory, and
+/// where there are more than 1,000,000,000 names.
+pub fn read(alloc: Global, input: &[u8]) -> Result<Named, NetStop>
+    ensures netlist { IfOk result (λ named. IsBlif input.now named.graph named.input_names named.output_names) }
+    ensures fault { (fault : NetFault) → result ≡ Err (NetStop.Fault fault)
+        → IsBlifFault input.now fault.kind fault.at }
+{
+    let survey = read_survey(alloc, input)?;
+    check_port_lines(input, &survey)?;
+    let mut names = name_inputs(alloc, input, &survey)?;
+    number_names(input, &survey, &mut names)?;
+    if names.len() > MOST_NAMES {
+        return Err(NetStop::Memory);
+    }
+    let covers = known_covers(alloc, input, &names)?;
+    check_limits(input, &survey)?;
+    name_net(alloc, input, &survey, covers)
+}
+
+// What a first pass knows of the lines, where none has a fault.
+fn read_survey<'a>(alloc: Global, input: &'a [u8]) -> Result<Survey<'a>, NetStop>
+    ensures surveyed { IfOk result (λ survey. IsSurveyed (blif_lines input.now) survey) }
+    ensures fault { (fault : NetFault) → result ≡ Err (NetStop.Fault fault)
+        → IsBlifFault input.now fault.kind fault.at }
+{
+    survey_lines(alloc, input)
+}
