@@ -14,7 +14,7 @@ def put(name, text):
     open(f"{work}/{name}.blif", "w").write(text)
 ports = ".model large\n.inputs a b\n.outputs y\n"
 long = "n" * 55
-names = [f"{long}{k}" for k in range(300_000)]
+names = [f"{long}{k}" for k in range(480_000)]
 chain = "".join(f".names {one} a {other}\n11 1\n" for one, other in zip(["b"] + names, names))
 put("names", ports + chain + f".names {names[-1]} y\n1 1\n.end\n")
 inputs = " ".join(f"i{k}" for k in range(20))
@@ -36,6 +36,6 @@ for file in names rows long_lines goes_on empty_lines; do
   python3 -c "$measure" "$top/npnp" check "$work/$file.blif" "$work/absent" "$work/absent"
   if command -v berkeley-abc >/dev/null; then
     printf '  ABC: '
-    timeout 60 python3 -c "$measure" berkeley-abc -c "read_blif $work/$file.blif; print_stats" || echo 'not in 60 s'
+    timeout 60 python3 -c "$measure" berkeley-abc -c "read_blif $work/$file.blif; print_stats" 2>/dev/null || echo 'not read, or not in 60 s'
   fi
 done
