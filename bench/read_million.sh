@@ -39,18 +39,12 @@ with open(f"{work}/binary.aig", "wb") as file:
     for l, a, b in rows:
         file.write(delta(l - a) + delta(a - b))
 PYTHON
-measure='import resource, subprocess, sys, time
-start = time.time()
-ended = subprocess.run(sys.argv[1:], capture_output=True)
-seconds = time.time() - start
-peak = resource.getrusage(resource.RUSAGE_CHILDREN).ru_maxrss // 1024
-print(f"{seconds:.2f} s, {peak} MiB at most: {ended.stdout.decode(errors=chr(63)).strip().splitlines()[-1]}")'
 "$top/npnp" >/dev/null || true
 for file in in_order.aag reverse.aag cycle.aag binary.aig; do
   printf '%s, %d bytes: ' "$file" "$(stat -c %s "$work/$file")"
-  python3 -c "$measure" "$top/npnp" check "$work/$file" "$work/absent" "$work/absent"
+  python3 "$top/bench/measure.py" "$top/npnp" check "$work/$file" "$work/absent" "$work/absent"
 done
 if command -v berkeley-abc >/dev/null; then
   printf 'ABC, binary.aig: '
-  python3 -c "$measure" berkeley-abc -c "read_aiger $work/binary.aig; print_stats"
+  python3 "$top/bench/measure.py" berkeley-abc -c "read_aiger $work/binary.aig; print_stats"
 fi
