@@ -29,15 +29,15 @@ use Rattle.query_core.specs.Formulas.{true_literal, false_literal, feed_literal,
 use Rattle.query_core.proofs.FormulaLemmas.{signal_count, right_variable_count}
 
 -- the bit of a variable's literal
-not_is : (b : Bool) → not b ≡ beq b false
+pub not_is : (b : Bool) → not b ≡ beq b false
 not_is true = refl
 not_is false = refl
 
-is_itself : (b : Bool) → b ≡ beq b true
+pub is_itself : (b : Bool) → b ≡ beq b true
 is_itself true = refl
 is_itself false = refl
 
-literal_of_bit : (a : List Bool) (v : ℕ) (b : Bool) → literal_bit a (literal_of v b) ≡ beq (bit a v) b
+pub literal_of_bit : (a : List Bool) (v : ℕ) (b : Bool) → literal_bit a (literal_of v b) ≡ beq (bit a v) b
 literal_of_bit a v true = literal_bit-plain a v ∙ is_itself (bit a v)
 literal_of_bit a v false =
     let number : 2 * v + 1 ≡ 2 * (2 * v / 2) + (1 - 2 * v % 2) = omega arith in
@@ -54,17 +54,17 @@ beq_not true false = refl
 beq_not false true = refl
 beq_not false false = refl
 
-fed_bit : (a : List Bool) (n : ℕ) (feed : Feed) → bit a 0 ≡ true → IsWired n feed → literal_bit a (feed_literal feed) ≡ feed_bit (vector_in n a) feed
+pub fed_bit : (a : List Bool) (n : ℕ) (feed : Feed) → bit a 0 ≡ true → IsWired n feed → literal_bit a (feed_literal feed) ≡ feed_bit (vector_in n a) feed
 fed_bit a n (Fixed b) first wired = literal_of_bit a 0 b ∙ (ap (λ t. beq t b) first ∙ beq_true b)
 fed_bit a n (Wire place flip) first wired =
     let same = get_or-map-range_with_len (λ i. bit a (1 + i)) 0 n place place false wired (omega arith) in
     literal_of_bit a (1 + place) (not flip) ∙ (beq_not (bit a (1 + place)) flip ∙ ap (λ y. differ y flip) (sym same))
 
-false_there : (a : List Bool) → bit a 0 ≡ true → literal_bit a false_literal ≡ false
+pub false_there : (a : List Bool) → bit a 0 ≡ true → literal_bit a false_literal ≡ false
 false_there a first = literal_of_bit a 0 false ∙ ap (λ t. beq t false) first
 
 -- the bits of the literals that stand in, as a valuation
-signal_there : (a : List Bool) (literals : List SatLit) (s : ℕ) → bit a 0 ≡ true → bit (map (literal_bit a) literals) s ≡ literal_bit a (stand_in literals s)
+pub signal_there : (a : List Bool) (literals : List SatLit) (s : ℕ) → bit a 0 ≡ true → bit (map (literal_bit a) literals) s ≡ literal_bit a (stand_in literals s)
 signal_there a literals s first =
     ap (slice_index_or (map (literal_bit a) literals) s) (sym (false_there a first)) ∙ get_or_map_default (literal_bit a) literals s false_literal
 
@@ -74,7 +74,7 @@ by_sign true false = refl
 by_sign false true = refl
 by_sign false false = refl
 
-literal_there : (a : List Bool) (literals : List SatLit) (l : Lit) → bit a 0 ≡ true → signal_bit (map (literal_bit a) literals) l ≡ literal_bit a (stands_for literals l)
+pub literal_there : (a : List Bool) (literals : List SatLit) (l : Lit) → bit a 0 ≡ true → signal_bit (map (literal_bit a) literals) l ≡ literal_bit a (stands_for literals l)
 literal_there a literals l first =
     ap (λ y. differ y (inverts l)) (signal_there a literals (signal_of l) first) ∙ (by_sign (inverts l) (literal_bit a (stand_in literals (signal_of l))) ∙ chosen (inverts l))
   where
@@ -91,7 +91,7 @@ and_by false true true x y z = cc
 and_by false true false x y z = refl
 and_by false false b x y z = refl
 
-abbrev AreMet : List Bool → List (List SatLit) → Type 0
+abbrev pub AreMet : List Bool → List (List SatLit) → Type 0
 AreMet a clauses = AllByRecursion (λ clause. is_met a clause ≡ true) clauses
 
 gate_met : (a : List Bool) (v l m : SatLit) → is_met a (opposite v ∷ l ∷ []) ≡ true → is_met a (opposite v ∷ m ∷ []) ≡ true → is_met a (v ∷ opposite l ∷ opposite m ∷ []) ≡ true → literal_bit a v ≡ (literal_bit a l && literal_bit a m)
@@ -160,7 +160,7 @@ second_part : (a : List Bool) (xs ys : List (List SatLit)) → AreMet a (xs ++ y
 second_part a [] ys met = met
 second_part a (x ∷ xs) ys met = second_part a xs ys met.1
 
-ordered_side : (graphs : Graphs) (side : Side) → IsGraph graphs.first → IsGraph graphs.second → IsOrdered (graph_of graphs side)
+pub ordered_side : (graphs : Graphs) (side : Side) → IsGraph graphs.first → IsGraph graphs.second → IsOrdered (graph_of graphs side)
 ordered_side graphs First first second = first.ordered
 ordered_side graphs Second first second = second.ordered
 

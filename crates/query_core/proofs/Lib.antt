@@ -1,3 +1,4 @@
+pub mod AssignmentLemmas
 pub mod FormulaLemmas
 pub mod LawLemmas
 pub mod MatchLemmas

@@ -30,7 +30,7 @@ straight_wired n =
     omega (arith, get_or-range_with_len 0 n k d below, below))
 
 -- two vectors with the same bits are one
-list_by_bits : (xs ys : List Bool) → length xs ≡ length ys → ((k : ℕ) → k < length xs → bit xs k ≡ bit ys k) → xs ≡ ys
+pub list_by_bits : (xs ys : List Bool) → length xs ≡ length ys → ((k : ℕ) → k < length xs → bit xs k ≡ bit ys k) → xs ≡ ys
 list_by_bits xs ys same bits =
     same_lists xs ys same (λ k d below. get_or_default xs k d false below ∙ (bits k below ∙ get_or_default ys k false d (subst (λ n. k < n) same below)))
 

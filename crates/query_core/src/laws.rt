@@ -19,6 +19,15 @@ pub fn assignment_is_a_vector()
         → MeetsQuery graphs query (vector_in (bits_in graphs query) assignment) }
 {}
 
+/// Each vector that is asked for is that of an assignment that meets a query's clauses.
+pub fn vector_has_an_assignment()
+    ensures { (graphs : TwoGraphs) (query : Question) (x : List Bool)
+        → IsGraph graphs.first → IsGraph graphs.second → IsQuery graphs query → length x ≡ bits_in graphs query
+        → MeetsQuery graphs query x
+        → (assignment : List Bool) × Meets assignment (query_clauses graphs query)
+        × (vector_in (bits_in graphs query) assignment ≡ x) }
+{}
+
 /// Signed bijections of the ports are a match exactly where no vector meets the queries of a matching: of each output, for
 /// either of its values.
 pub fn match_by_queries()
