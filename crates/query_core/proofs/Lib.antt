@@ -2,3 +2,4 @@ pub mod AssignmentLemmas
 pub mod FormulaLemmas
 pub mod LawLemmas
 pub mod MatchLemmas
+pub mod RefutedLemmas

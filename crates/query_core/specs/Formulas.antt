@@ -8,6 +8,8 @@ use Rattle.circuits.specs.declared.netlist.Gate.{Gate}
 use Rattle.circuits.specs.Literals.{bit, signal_of, is_negated as inverts}
 use Rattle.circuits.specs.Netlists.{Net}
 use Rattle.cnf_core.specs.declared.literal.SatLit.{SatLit}
+use Rattle.cnf_core.specs.declared.log.LogLine.{LogLine}
+use Rattle.cnf_core.specs.Derivations.{IsRefutation}
 use Rattle.cnf_core.specs.Clauses.{Formula, literal_of, opposite}
 use Rattle.net_core.specs.declared.graphs.Graphs.{Graphs}
 use Rattle.net_core.specs.declared.graphs.Side.{Side}
@@ -129,6 +131,12 @@ formula_of graphs query = record {
   variables = bits_in graphs query + 1 + length (circuit_of graphs query.left).gates + length (circuit_of graphs query.right).gates;
   clauses = query_clauses graphs query;
 }
+
+-- A query that fits two circuits, with a log that refutes its clauses.
+pub record IsRefuted (graphs : Graphs) (query : Query) : Type 0 where
+  pub fits : IsQuery graphs query
+  pub lines : List LogLine
+  pub refuted : IsRefutation (formula_of graphs query) lines
 
 -- A query of two circuits.
 pub record Asking : Type 0 where

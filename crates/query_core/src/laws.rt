@@ -8,7 +8,7 @@ ghost use Rattle.net_core.specs.declared.matching.Matching.{Matching as Table};
 ghost use Rattle.net_core.specs.Graph.{IsGraph};
 ghost use Rattle.query_core.specs.declared.query.Query.{Query as Question};
 ghost use Rattle.query_core.specs.Queries.{IsQuery, IsUnmet, MeetsQuery, bits_in, vector_in};
-ghost use Rattle.query_core.specs.Formulas.{query_clauses};
+ghost use Rattle.query_core.specs.Formulas.{IsRefuted, query_clauses};
 ghost use Rattle.query_core.specs.MatchQueries.{IsMatchQuery};
 
 /// What an assignment that meets a query's clauses has as its input variables is a vector that is asked for.
@@ -40,4 +40,15 @@ pub fn match_by_queries()
         → IsMatch graphs.first graphs.second matching.inputs matching.outputs
         → (k : ℕ) (value : Bool) (query : Question) → k < length graphs.first.outputs
         → IsMatchQuery graphs.first.inputs matching k value query → IsUnmet graphs query }
+{}
+
+/// Signed bijections of the ports are a match where logs refute the queries of a matching: of each output, for either of its
+/// values.
+pub fn refuted_queries_are_a_match()
+    ensures { (graphs : TwoGraphs) (matching : Table) → IsGraph graphs.first → IsGraph graphs.second
+        → HavePorts graphs.first graphs.second matching.inputs matching.outputs
+        → ((k : ℕ) (value : Bool) → k < length graphs.first.outputs
+        → (query : Question) × IsMatchQuery graphs.first.inputs matching k value query
+        × IsRefuted graphs query)
+        → IsMatch graphs.first graphs.second matching.inputs matching.outputs }
 {}
