@@ -48,7 +48,7 @@ pub(crate) struct Covers {
 }
 
 /// Reads the covers and the outputs of a file, by the numbers of the names that are known. The fault is at the first
-/// word that reads a name which isn't known. Want of memory is answered also where there are too many names to number.
+/// word that reads a name which isn't known.
 pub(crate) fn read_covers(
     alloc: Global,
     input: &[u8],
