@@ -39,7 +39,7 @@ type File = (
     &'static [u8],
 );
 
-const EITHER_FORM: [File; 3] = [
+const NETLISTS: [File; 10] = [
     // an AND gate in both forms
     (
         b"aag 3 2 0 1 1\n2\n4\n6\n6 2 4\n",
@@ -66,9 +66,6 @@ const EITHER_FORM: [File; 3] = [
         b"i0,b 1,",
         b"f,",
     ),
-];
-
-const ORDERS_OF_GATES: [File; 4] = [
     // gates out of order, with gaps among the variables
     (
         b"aag 9 1 0 1 2 0 0\n4\n9\n8 18 5\n18 4 1\n",
@@ -104,9 +101,6 @@ const ORDERS_OF_GATES: [File; 4] = [
         b"i0,i1,i2,i3,i4,",
         b"o0,o1,",
     ),
-];
-
-const WORDS_AND_CONSTANTS: [File; 3] = [
     // blanks between the words, a carriage return, leading zeros, and no line feed at the end
     (
         b"aag  \t3 2\t 0 1   1 \r\n 2\r\n\t4\n0006 \n6  2 \t4",
@@ -130,20 +124,16 @@ const WORDS_AND_CONSTANTS: [File; 3] = [
 
 #[test]
 fn reads_netlists(rt: HostRuntime) -> Result<(), Fail> {
-    let files = EITHER_FORM
-        .iter()
-        .chain(ORDERS_OF_GATES.iter())
-        .chain(WORDS_AND_CONSTANTS.iter());
-    for (text, inputs, gates, outputs, input_names, output_names) in files {
+    for (text, inputs, gates, outputs, input_names, output_names) in NETLISTS {
         let named = read(rt.alloc(), text)?;
         let gates = gates_of(rt.alloc(), gates)?;
         let ins = joined(rt.alloc(), &named.input_names)?;
         let outs = joined(rt.alloc(), &named.output_names)?;
-        assert_eq!(rt; named.graph.inputs(), *inputs, "at {text:?}");
+        assert_eq!(rt; named.graph.inputs(), inputs, "at {text:?}");
         assert_eq!(rt; named.graph.gates(), gates.as_slice(), "at {text:?}");
-        assert_eq!(rt; named.graph.outputs(), *outputs, "at {text:?}");
-        assert_eq!(rt; ins.as_slice(), *input_names, "at {text:?}");
-        assert_eq!(rt; outs.as_slice(), *output_names, "at {text:?}");
+        assert_eq!(rt; named.graph.outputs(), outputs, "at {text:?}");
+        assert_eq!(rt; ins.as_slice(), input_names, "at {text:?}");
+        assert_eq!(rt; outs.as_slice(), output_names, "at {text:?}");
     }
     Ok(())
 }
@@ -224,7 +214,7 @@ fn finds_faults_of_the_header(rt: HostRuntime) {
 // A file, its first fault, and where that stands.
 type Fault = (&'static [u8], NetKind, u64);
 
-const FAULTS_OF_LINES: [Fault; 20] = [
+const FAULTS: [Fault; 41] = [
     // lines that aren't what the header announces
     (b"aag 0 0 0 1 0\nx\n", NetKind::BadLine, 14),
     (b"aag 0 0 0 1 0\n\n", NetKind::BadLine, 14),
@@ -250,18 +240,12 @@ const FAULTS_OF_LINES: [Fault; 20] = [
     (b"aag 1 1 0 1 0\n2\n", NetKind::Truncated, 16),
     (b"aag 1 1 0 1 0\n2", NetKind::Truncated, 15),
     (b"aig 1 1 0 2 0\n2\n", NetKind::Truncated, 16),
-];
-
-const FIRST_OF_SEVERAL: [Fault; 5] = [
     // a literal that is bad stands before a variable that is defined twice, and both before one of no line
     (b"aag 2 1 0 0 1\n2\n2 0 9\n", NetKind::BadLiteral, 16),
     (b"aag 3 2 0 1 0\n2\n4\n6\n", NetKind::Undefined, 18),
     (b"aag 1 0 0 1 0\n2\n", NetKind::Undefined, 14),
     (b"aag 3 2 0 1 1\n2\n2\n7\n6 2 4\n", NetKind::Redefined, 16),
     (b"aag 3 1 0 0 1\n2\n6 2 4\n", NetKind::Undefined, 16),
-];
-
-const FAULTS_OF_DELTAS: [Fault; 8] = [
     // deltas that are cut off, too long or out of range
     (b"aig 3 2 0 1 1\n6\n", NetKind::Delta, 16),
     (b"aig 3 2 0 1 1\n6\n\x82", NetKind::Delta, 16),
@@ -275,9 +259,6 @@ const FAULTS_OF_DELTAS: [Fault; 8] = [
         NetKind::Delta,
         14,
     ),
-];
-
-const CYCLES_AND_SYMBOLS: [Fault; 8] = [
     // cycles, at the first definition that is on one or above one
     (
         b"aag 4 2 0 1 2\n2\n4\n8\n8 6 2\n6 8 4\n",
@@ -300,16 +281,8 @@ const CYCLES_AND_SYMBOLS: [Fault; 8] = [
 
 #[test]
 fn finds_the_first_fault(rt: HostRuntime) {
-    let faults = FAULTS_OF_LINES
-        .iter()
-        .chain(FIRST_OF_SEVERAL.iter())
-        .chain(FAULTS_OF_DELTAS.iter())
-        .chain(CYCLES_AND_SYMBOLS.iter());
-    for (text, kind, at) in faults {
-        let stop = NetStop::Fault(NetFault {
-            kind: *kind,
-            at: *at,
-        });
+    for (text, kind, at) in FAULTS {
+        let stop = NetStop::Fault(NetFault { kind, at });
         assert_eq!(rt; read(rt.alloc(), text).err(), Some(stop), "at {text:?}");
     }
 }

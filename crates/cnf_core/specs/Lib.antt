@@ -1,0 +1,4 @@
+pub mod Clauses
+pub mod Derivations
+pub mod Stores
+pub use Rattle.circuits.specs.Literals

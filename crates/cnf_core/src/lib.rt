@@ -1,0 +1,22 @@
+//! Clauses of propositional logic and logs of hinted derivations, as plain data with their definitions.
+#![tactic(auto)]
+
+mod base;
+mod clause;
+mod clause_store;
+mod effect;
+mod fault;
+pub mod laws;
+mod literal;
+mod log;
+
+pub use base::Base;
+pub use clause::Clause3;
+pub use clause_store::ClauseStore;
+pub use effect::Effect;
+pub use fault::LineFault;
+pub use literal::SatLit;
+pub use log::{Log, LogLine};
+
+#[cfg(test)]
+mod tests;

@@ -1,0 +1,15 @@
+//! What is asked of two circuits, and its clauses.
+#![tactic(auto)]
+
+mod base;
+pub mod laws;
+mod literals;
+mod matches;
+mod query;
+
+pub use base::QueryBase;
+pub use matches::of_match;
+pub use query::{Cone, Feed, Query};
+
+#[cfg(test)]
+mod tests;

@@ -1,0 +1,205 @@
+-- Literals that were made true, by the bits of their variables.
+use Rattle.std.proofs.Common.{◌≡◌, ◌≢◌, ℕ, zero, suc, ◌+◌, ◌-◌, ◌*◌, ◌/◌, ◌%◌, ◌<◌, eqb, ◌||◌, not, cond, Bool, true, false, List, [], ◌∷◌, ◌++◌, length, drop, Option, None, Some, is_some, count_by, slice_index_or, slice_set, replicate, Vec, vec_capacity, inl, inr, refl, sym, ◌∙◌, ap, subst, arith}
+use Rattle.std.specs.Bool.{beq}
+use Rattle.std.specs.List.{list_any}
+use Rattle.std.proofs.lemmas.Bool.{cases_eq, false≢true, eq-eqb}
+use Rattle.std.proofs.lemmas.Bool.Decides.{eqb_tells}
+use Rattle.std.proofs.lemmas.List.{get_or-set_same, get_or-set_other, length-set, length-append}
+use Rattle.std.proofs.lemmas.List.Folds.{list_any-append}
+use Rattle.std.proofs.lemmas.List.Sums.{count_by-le-length, sum_by-cons}
+use Rattle.std.proofs.lemmas.List.Elements.{All-append, All-cons, All-nil}
+use Rattle.std.proofs.Math.Seq.{drop-cons}
+use Rattle.std.specs.declared.alloc.Global.{Global}
+use Rattle.cnf_core.specs.declared.literal.SatLit.{SatLit}
+use Rattle.cnf_core.specs.Clauses.{variable_of, is_negated, literal_of, opposite}
+use Rattle.cnf_core.specs.Derivations.{is_same, is_true, is_false}
+use Rattle.refute_check.specs.Values.{AreKnown, IsOfMade, IsMade, bit_at, tells, is_of}
+
+-- a literal is that of its variable with its sign, and its opposite that with the other one
+pub itself : (l : SatLit) → literal_of (variable_of l) (not (is_negated l)) ≡ l
+itself l = ap (λ n. record { 0 = n }) (number l.0)
+  where
+    number : (n : ℕ) → cond (not (eqb (n % 2) 1)) (2 * (n / 2)) (2 * (n / 2) + 1) ≡ n
+    number n =
+        elim (eqb_tells (n % 2) 1) [
+          | inl (odd, e) ↦ ap (λ b. cond (not b) (2 * (n / 2)) (2 * (n / 2) + 1)) odd ∙ omega (arith, e)
+          | inr (even, e) ↦ ap (λ b. cond (not b) (2 * (n / 2)) (2 * (n / 2) + 1)) even ∙ omega (arith, e)
+        ]
+
+pub its_opposite : (l : SatLit) → literal_of (variable_of l) (is_negated l) ≡ opposite l
+its_opposite l = ap (λ n. record { 0 = n }) (number l.0)
+  where
+    number : (n : ℕ) → cond (eqb (n % 2) 1) (2 * (n / 2)) (2 * (n / 2) + 1) ≡ 2 * (n / 2) + (1 - n % 2)
+    number n =
+        elim (eqb_tells (n % 2) 1) [
+          | inl (odd, e) ↦ ap (λ b. cond b (2 * (n / 2)) (2 * (n / 2) + 1)) odd ∙ omega (arith, e)
+          | inr (even, e) ↦ ap (λ b. cond b (2 * (n / 2)) (2 * (n / 2) + 1)) even ∙ omega (arith, e)
+        ]
+
+pub variable_of-literal : (v : ℕ) (b : Bool) → variable_of (literal_of v b) ≡ v
+variable_of-literal v true = omega arith
+variable_of-literal v false = omega arith
+
+pub variable_of-opposite : (l : SatLit) → variable_of (opposite l) ≡ variable_of l
+variable_of-opposite l = omega arith
+
+-- literals of two variables are two
+pub not_same : (l m : SatLit) → variable_of l ≢ variable_of m → is_same l m ≡ false
+not_same l m differ =
+    elim (eqb_tells l.0 m.0) [
+      | inl (found, e) ↦ absurd (differ (ap (λ n. n / 2) e))
+      | inr (found, e) ↦ found
+    ]
+
+same_itself : (l : SatLit) → is_same l l ≡ true
+same_itself l = eq-eqb l.0 l.0 refl
+
+not_opposite : (l : SatLit) → is_same (opposite l) l ≡ false
+not_opposite l = elim (eqb_tells (opposite l).0 l.0) [ inl (found, e) ↦ absurd (omega (arith, e)) | inr (found, e) ↦ found ]
+
+-- where no literal has a variable, neither literal of it is among them
+pub not_made : (made : List SatLit) (v : ℕ) (b : Bool) → list_any (is_of v) made ≡ false → is_true made (literal_of v b) ≡ false
+not_made [] v b none = refl
+not_made (m ∷ made) v b none =
+    elim (eqb_tells (variable_of m) v) [
+      | inl (found, e) ↦ absurd (false≢true (sym none ∙ ap (λ t. t || list_any (is_of v) made) found))
+      | inr (found, e) ↦
+          let rest = not_made made v b (sym (ap (λ t. t || list_any (is_of v) made) found) ∙ none) in
+          ap (λ t. t || is_true made (literal_of v b)) (not_same (literal_of v b) m (λ same. e (sym same ∙ variable_of-literal v b))) ∙ rest
+    ]
+
+-- a variable that has neither bit has none
+pub neither : (held : Option Bool) → tells held true ≡ false → tells held false ≡ false → held ≡ None
+neither None t f = refl
+neither (Some true) t f = absurd (false≢true (sym t))
+neither (Some false) t f = absurd (false≢true (sym f))
+
+-- the bits that are taken away, one after the other
+pub record IsUnsetting (old now : List (Option Bool)) (made : List SatLit) (count : ℕ) : Type 0 where
+  pub same_length : length now ≡ length old
+  pub none : (v : ℕ) → v < length now → list_any (is_of v) (drop count made) ≡ false → bit_at now v ≡ None
+
+pub none_step : (now : List (Option Bool)) (made : List SatLit) (k : ℕ) (d : SatLit) → k < length made → variable_of (slice_index_or made k d) < length now → ((v : ℕ) → v < length now → list_any (is_of v) (drop k made) ≡ false → bit_at now v ≡ None) → (v : ℕ) → v < length now → list_any (is_of v) (drop (suc k) made) ≡ false → bit_at (slice_set now (variable_of (slice_index_or made k d)) None) v ≡ None
+none_step now made k d within known before v below none =
+    let l = slice_index_or made k d in
+    elim (eqb_tells (variable_of l) v) [
+      | inl (found, e) ↦ ap (λ w. bit_at (slice_set now w None) v) e ∙ get_or-set_same now v None None below
+      | inr (found, e) ↦
+          get_or-set_other now (variable_of l) v None None (λ same. e (sym same))
+          ∙ before v below (ap (list_any (is_of v)) (drop-cons made k d within) ∙ (ap (λ t. t || list_any (is_of v) (drop (suc k) made)) found ∙ none))
+    ]
+
+pub all_none : (bits : List (Option Bool)) → ((v : ℕ) → v < length bits → bit_at bits v ≡ None) → bits ≡ replicate (length bits) None
+all_none [] none = refl
+all_none (b ∷ bits) none = ap (λ c. c ∷ bits) (none 0 (omega arith)) ∙ ap (λ bs. None ∷ bs) (all_none bits (λ v below. none (suc v) (omega (arith, below))))
+
+pub none_at : (n v : ℕ) → bit_at (replicate n None) v ≡ None
+none_at zero v = refl
+none_at (suc n) zero = refl
+none_at (suc n) (suc v) = none_at n v
+
+pub none_counted : (n : ℕ) → count_by (is_some {T = Bool}) (replicate n None) ≡ 0
+none_counted zero = refl
+none_counted (suc n) = none_counted n
+
+-- how many bits there are, with one more in front
+count_none : (bits : List (Option Bool)) → count_by (is_some {T = Bool}) (None ∷ bits) ≡ count_by (is_some {T = Bool}) bits
+count_none bits = let e : count_by (is_some {T = Bool}) (None ∷ bits) ≡ 0 + count_by (is_some {T = Bool}) bits = sum_by-cons (λ b. cond (is_some {T = Bool} b) 1 0) None bits in omega (arith, e)
+
+count_some : (b : Bool) (bits : List (Option Bool)) → count_by (is_some {T = Bool}) (Some b ∷ bits) ≡ suc (count_by (is_some {T = Bool}) bits)
+count_some b bits = let e : count_by (is_some {T = Bool}) (Some b ∷ bits) ≡ 1 + count_by (is_some {T = Bool}) bits = sum_by-cons (λ b. cond (is_some {T = Bool} b) 1 0) (Some b) bits in omega (arith, e)
+
+-- one bit more
+pub count_less : (bits : List (Option Bool)) (v : ℕ) → v < length bits → bit_at bits v ≡ None → count_by (is_some {T = Bool}) bits < length bits
+count_less [] v below none = absurd (omega (arith, below))
+count_less (None ∷ bits) zero below none = omega (arith, count_none bits, count_by-le-length (is_some {T = Bool}) bits)
+count_less (Some b ∷ bits) zero below none = cc
+count_less (None ∷ bits) (suc v) below none = omega (arith, count_none bits, count_less bits v (omega (arith, below)) none)
+count_less (Some b ∷ bits) (suc v) below none = omega (arith, count_some b bits, count_less bits v (omega (arith, below)) none)
+
+pub count_more : (bits : List (Option Bool)) (v : ℕ) (b : Bool) → v < length bits → bit_at bits v ≡ None → count_by (is_some {T = Bool}) (slice_set bits v (Some b)) ≡ count_by (is_some {T = Bool}) bits + 1
+count_more [] v b below none = absurd (omega (arith, below))
+count_more (None ∷ bits) zero b below none = omega (arith, count_none bits, count_some b bits)
+count_more (Some c ∷ bits) zero b below none = cc
+count_more (None ∷ bits) (suc v) b below none = omega (arith, count_none bits, count_none (slice_set bits v (Some b)), count_more bits v b (omega (arith, below)) none)
+count_more (Some c ∷ bits) (suc v) b below none = omega (arith, count_some c bits, count_some c (slice_set bits v (Some b)), count_more bits v b (omega (arith, below)) none)
+
+-- the bit of a literal that can be made
+pub no_bit : (bits : List (Option Bool)) (made : List SatLit) (l : SatLit) → ((v : ℕ) (b : Bool) → v < length bits → tells (bit_at bits v) b ≡ is_true made (literal_of v b)) → variable_of l < length bits → is_true made l ≡ false → is_false made l ≡ false → bit_at bits (variable_of l) ≡ None
+no_bit bits made l told known not_true not_false =
+    let v = variable_of l in
+    let plain : tells (bit_at bits v) (not (is_negated l)) ≡ false = told v (not (is_negated l)) known ∙ (ap (is_true made) (itself l) ∙ not_true) in
+    let other : tells (bit_at bits v) (is_negated l) ≡ false = told v (is_negated l) known ∙ (ap (is_true made) (its_opposite l) ∙ not_false) in
+    by_sign (is_negated l) (bit_at bits v) plain other
+  where
+    by_sign : (b : Bool) (held : Option Bool) → tells held (not b) ≡ false → tells held b ≡ false → held ≡ None
+    by_sign true held f t = neither held t f
+    by_sign false held t f = neither held t f
+
+-- what the bits tell once a literal was made true
+pub told_more : (bits : List (Option Bool)) (made : List SatLit) (l : SatLit) → ((v : ℕ) (b : Bool) → v < length bits → tells (bit_at bits v) b ≡ is_true made (literal_of v b)) → variable_of l < length bits → is_true made l ≡ false → is_false made l ≡ false → (v : ℕ) (b : Bool) → v < length bits → tells (bit_at (slice_set bits (variable_of l) (Some (not (is_negated l)))) v) b ≡ is_true (made ++ l ∷ []) (literal_of v b)
+told_more bits made l told known not_true not_false v b below =
+    let w = variable_of l in
+    let split = list_any-append (is_same (literal_of v b)) made (l ∷ []) in
+    elim (cases_eq v w) [
+      | inl e ↦
+          let held : bit_at (slice_set bits w (Some (not (is_negated l)))) v ≡ Some (not (is_negated l)) = ap (bit_at (slice_set bits w (Some (not (is_negated l))))) e ∙ get_or-set_same bits w (Some (not (is_negated l))) None known in
+          ap (λ h. tells h b) held ∙ (by_bit b ∙ (ap (λ u. is_true made (literal_of u b) || (is_same (literal_of u b) l || false)) (sym e) ∙ sym split))
+      | inr e ↦
+          let other : is_same (literal_of v b) l ≡ false = not_same (literal_of v b) l (λ same. e (sym (variable_of-literal v b) ∙ same)) in
+          ap (λ h. tells h b) (get_or-set_other bits w v (Some (not (is_negated l))) None e) ∙ (told v b below ∙ (or_false (is_true made (literal_of v b)) ∙ (ap (λ t. is_true made (literal_of v b) || (t || false)) (sym other) ∙ sym split)))
+    ]
+  where
+    or_false : (t : Bool) → t ≡ (t || (false || false))
+    or_false true = refl
+    or_false false = refl
+
+    same_bit : (c d : Bool) → c ≡ d → beq c d ≡ true
+    same_bit true d e = ap (beq true) (sym e)
+    same_bit false d e = ap (beq false) (sym e)
+
+    other_bit : (c : Bool) → beq (not c) c ≡ false
+    other_bit true = refl
+    other_bit false = refl
+
+    -- of the literal itself, and of its opposite
+    at_itself : beq (not (is_negated l)) (not (is_negated l)) ≡ (is_true made (literal_of (variable_of l) (not (is_negated l))) || (is_same (literal_of (variable_of l) (not (is_negated l))) l || false))
+    at_itself =
+        same_bit (not (is_negated l)) (not (is_negated l)) refl
+        ∙ sym (ap (λ m. is_true made m || (is_same m l || false)) (itself l) ∙ (ap (λ t. t || (is_same l l || false)) not_true ∙ ap (λ t. t || false) (same_itself l)))
+
+    at_opposite : beq (not (is_negated l)) (is_negated l) ≡ (is_true made (literal_of (variable_of l) (is_negated l)) || (is_same (literal_of (variable_of l) (is_negated l)) l || false))
+    at_opposite =
+        other_bit (is_negated l)
+        ∙ sym (ap (λ m. is_true made m || (is_same m l || false)) (its_opposite l) ∙ (ap (λ t. t || (is_same (opposite l) l || false)) not_false ∙ ap (λ t. t || false) (not_opposite l)))
+
+    by_bit : (b : Bool) → beq (not (is_negated l)) b ≡ (is_true made (literal_of (variable_of l) b) || (is_same (literal_of (variable_of l) b) l || false))
+    by_bit b = by_sign (is_negated l) b refl
+      where
+        by_sign : (n b : Bool) → n ≡ is_negated l → beq (not (is_negated l)) b ≡ (is_true made (literal_of (variable_of l) b) || (is_same (literal_of (variable_of l) b) l || false))
+        by_sign true true e = subst (λ c. beq (not (is_negated l)) c ≡ (is_true made (literal_of (variable_of l) c) || (is_same (literal_of (variable_of l) c) l || false))) (sym e) at_opposite
+        by_sign false false e = subst (λ c. beq (not (is_negated l)) c ≡ (is_true made (literal_of (variable_of l) c) || (is_same (literal_of (variable_of l) c) l || false))) (sym e) at_opposite
+        by_sign true false e = subst (λ c. beq (not (is_negated l)) c ≡ (is_true made (literal_of (variable_of l) c) || (is_same (literal_of (variable_of l) c) l || false))) (sym (ap not e)) at_itself
+        by_sign false true e = subst (λ c. beq (not (is_negated l)) c ≡ (is_true made (literal_of (variable_of l) c) || (is_same (literal_of (variable_of l) c) l || false))) (sym (ap not e)) at_itself
+
+-- what the bits are once a literal was made true
+pub made_more : (bits : List (Option Bool)) (made new : Vec SatLit Global) (l : SatLit) → IsMade bits made → variable_of l < length bits → is_true made.items l ≡ false → is_false made.items l ≡ false → new.items ≡ made.items ++ l ∷ [] → vec_capacity new ≡ vec_capacity made → IsMade (slice_set bits (variable_of l) (Some (not (is_negated l)))) new
+made_more bits made new l is known not_true not_false items capacity =
+    let v = variable_of l in
+    let b = not (is_negated l) in
+    let same = length-set bits v (Some b) in
+    let none = no_bit bits made.items l is.told known not_true not_false in
+    let below : ℕ → SatLit → Type 0 = λ n m. variable_of m < n in
+    record {
+      told = λ w c within. told_more bits made.items l is.told known not_true not_false w c (subst (λ n. w < n) same within) ∙ ap (λ ms. is_true ms (literal_of w c)) (sym items);
+      known = subst (AreKnown (length (slice_set bits v (Some b)))) (sym items) (subst (λ n. AreKnown n (made.items ++ l ∷ [])) (sym same) (All-append (below (length bits)) made.items (l ∷ []) is.known (All-cons (below (length bits)) l [] known (All-nil (below (length bits))))));
+      count = omega (arith, count_more bits v b known none, is.count, ap length items, length-append made.items (l ∷ []));
+      room = omega (arith, same, is.room, capacity);
+    }
+
+-- a literal's variable without a bit has none of the literals
+pub of_made : (bits : List (Option Bool)) (made : Vec SatLit Global) → IsMade bits made → IsOfMade bits made.items
+of_made bits made is = record {
+  known = is.known;
+  none = λ v below free. neither (bit_at bits v) (is.told v true below ∙ not_made made.items v true free) (is.told v false below ∙ not_made made.items v false free);
+}

@@ -1,0 +1,12 @@
+//! Checks logs of hinted derivations line by line.
+#![tactic(auto)]
+
+mod propagation;
+mod refuter;
+mod values;
+
+pub use cnf_core::{Base, LineFault, LogLine, SatLit};
+pub use refuter::Refuter;
+
+#[cfg(test)]
+mod tests;

@@ -1,0 +1,127 @@
+//! The literals that are true while a line is checked.
+
+ghost use Rattle.std.specs.Prelude.{◌≡◌, ◌+◌, ◌<◌, ◌≤◌, ◌++◌, ◌∷◌, [], false, None, IfOk, All, length, replicate, vec_len, vec_capacity};
+ghost use Rattle.cnf_core.specs.declared.literal.SatLit.{SatLit as AnyLiteral};
+ghost use Rattle.cnf_core.specs.Clauses.{variable_of, literal_of};
+ghost use Rattle.cnf_core.specs.Derivations.{is_true, is_false, effect_of};
+ghost use Rattle.refute_check.specs.Values.{AreKnown, CanBeMade, IsOfMade, tells, bit_at};
+
+use cnf_core::{Effect, SatLit};
+use std::alloc::{AllocError, Global};
+use std::marker::Model;
+
+/// The literals that were made true, over so many variables. None of them has the variable of another. To make one takes
+/// no memory.
+#[derive(Debug, Drop)]
+pub(crate) struct Values {
+    /// The bit of each variable that has one.
+    bits: Vec<Option<bool>>,
+    /// The literals, in the order in which they were made true.
+    made: Vec<SatLit>,
+}
+
+impl Model for Values {
+    ghost use Rattle.std.specs.Prelude.{length};
+    ghost use Rattle.refute_check.specs.Values.{Made, IsMade};
+
+    ghost Value = { Made };
+
+    ghost view = { λ a. record { variables = length a.bits.items; made = a.made.items } };
+
+    ghost invariant = { λ a. IsMade a.bits.items a.made };
+}
+
+impl Values {
+    /// No literal is true.
+    pub(crate) fn new(alloc: Global, variables: u64) -> Result<Values, AllocError>
+        ensures { IfOk result (λ values. values ≡ record { variables = variables; made = [] }) }
+    {
+        let bits = no_bits(alloc, variables as usize)?;
+        let made = Vec::with_capacity(alloc, variables as usize)?;
+        Ok(Values { bits, made })
+    }
+
+    /// Whether a literal is true.
+    pub(crate) fn is_true(&self, literal: SatLit) -> bool
+        requires { variable_of literal < self.now.variables }
+        ensures { result ≡ is_true self.now.made literal }
+    {
+        has_bit(&self.bits, literal.variable(), !literal.is_negated())
+    }
+
+    /// Whether a literal is false.
+    pub(crate) fn is_false(&self, literal: SatLit) -> bool
+        requires { variable_of literal < self.now.variables }
+        ensures { result ≡ is_false self.now.made literal }
+    {
+        has_bit(&self.bits, literal.variable(), literal.is_negated())
+    }
+
+    /// What a clause does.
+    pub(crate) fn effect(&self, clause: &[SatLit]) -> Effect
+        requires { AreKnown self.now.variables clause.now }
+        ensures effect { result ≡ effect_of self.now.made clause.now }
+        ensures makes { (literal : AnyLiteral) → result ≡ Effect.Makes literal → CanBeMade self.now literal }
+    {
+        let mut left = None;
+        for literal in clause.iter() {
+            if !self.is_false(*literal) {
+                match left {
+                    None => left = Some(*literal),
+                    Some(other) if other == *literal => {}
+                    Some(_) => return Effect::Neither,
+                }
+            }
+        }
+        match left {
+            None => Effect::Conflict,
+            Some(literal) if self.is_true(literal) => Effect::Neither,
+            Some(literal) => Effect::Makes(literal),
+        }
+    }
+
+    /// Makes a literal true that is neither true nor false.
+    pub(crate) fn make(&mut self, literal: SatLit)
+        requires { CanBeMade self.old literal }
+        ensures variables { self.new.variables ≡ self.old.variables }
+        ensures made { self.new.made ≡ self.old.made ++ literal ∷ [] }
+    {
+        self.bits[literal.variable() as usize] = Some(!literal.is_negated());
+        self.made.push_reserved(literal);
+    }
+
+    /// Makes no literal true any more.
+    pub(crate) fn clear(&mut self)
+        ensures { self.new ≡ record { variables = self.old.variables; made = [] } }
+    {
+        unset(&mut self.bits, &self.made);
+        self.made.clear();
+    }
+}
+
+fn no_bits(alloc: Global, count: usize) -> Result<Vec<Option<bool>>, AllocError>
+    ensures { IfOk result (λ bits. bits.items ≡ replicate count None) }
+{
+    vec![in alloc; None; count]
+}
+
+// Whether a variable has this bit.
+fn has_bit(bits: &[Option<bool>], variable: u64, bit: bool) -> bool
+    requires { variable < length bits.now }
+    ensures { result ≡ tells (bit_at bits.now variable) bit }
+{
+    match bits[variable as usize] {
+        Some(held) => held == bit,
+        None => false,
+    }
+}
+
+// Takes the bits of literals away.
+fn unset(bits: &mut [Option<bool>], made: &[SatLit])
+    requires { IsOfMade bits.old made.now }
+    ensures { bits.new ≡ replicate (length bits.old) None }
+{
+    for literal in made.iter() {
+        bits[literal.variable() as usize] = None;
+    }
+}
