@@ -1,6 +1,6 @@
 //! The AND gates of the binary AIGER form, each as two deltas.
 
-ghost use Rattle.std.specs.Prelude.{◌≡◌, ℕ, ◌+◌, ◌-◌, ◌*◌, ◌^◌, ◌<◌, ◌≤◌, List, [], ◌∷◌, length, IfSome, IfNone, IfOk, IfErr, OnSome, vec_len};
+ghost use Rattle.std.specs.Prelude.{◌≡◌, ℕ, ◌+◌, ◌-◌, ◌^◌, ◌<◌, ◌≤◌, List, [], ◌∷◌, length, IfSome, IfNone, IfOk, IfErr, vec_len};
 ghost use Rattle.std.specs.Option.{SomeIff};
 ghost use Rattle.net_core.specs.declared.named.NetFault.{NetFault};
 ghost use Rattle.aiger_reader.specs.Deltas.{BeginsGroups, BeginsDelta, BeginsNoDelta, BeginsFirst, BeginsSecond, BeginsGates, IsBadPair, IsPairFault};

@@ -1,9 +1,9 @@
 //! The first line of a file in either form.
 
-ghost use Rattle.std.specs.Prelude.{◌≡◌, ℕ, ◌^◌, ◌<◌, ◌≤◌, ◌↔◌, Bool, List, length, map, take, IsTrue, Some, None, IfOk, IfErr, IfSome, IfNone, nat_lt};
+ghost use Rattle.std.specs.Prelude.{◌≡◌, ℕ, ◌≤◌, ◌↔◌, Bool, List, length, map, take, IsTrue, Some, None, IfOk, IfErr, IfSome, IfNone, nat_lt};
 ghost use Rattle.std.specs.List.{list_any};
 ghost use Rattle.aiger_reader.specs.Words.{numbers_on, AreSmall};
-ghost use Rattle.aiger_reader.specs.Headers.{AigerHeader, keyword, line_behind, WritesHeader, HasHeader, Begins, header_fault};
+ghost use Rattle.aiger_reader.specs.Headers.{AigerHeader, keyword, line_behind, WritesHeader, Begins, header_fault};
 ghost use Rattle.aiger_reader.specs.Numbers.{header_of, header_from, WritesNumbers, IsCounted, IsHeaderFault};
 
 pub(crate) use crate::limits::Header;

@@ -1,6 +1,6 @@
 //! What the lines of the body read, and the netlist's own numbers for it.
 
-ghost use Rattle.std.specs.Prelude.{◌≡◌, ℕ, ◌+◌, ◌*◌, ◌/◌, ◌^◌, ◌<◌, ◌≤◌, false, List, [], length, map, All, IfOk, IfErr, IfNone, IfSome};
+ghost use Rattle.std.specs.Prelude.{◌≡◌, ℕ, ◌/◌, ◌^◌, ◌<◌, ◌≤◌, false, List, [], length, map, All, IfOk, IfErr, IfNone, IfSome};
 ghost use Rattle.std.specs.List.{prefix_len};
 ghost use Rattle.text_core.specs.Lines.{lines};
 ghost use Rattle.aiger_reader.specs.Numbers.{header_of};

@@ -1,18 +1,17 @@
 //! The symbols behind the body of an AIGER file: lines that name its ports.
 
-ghost use Rattle.std.specs.Prelude.{◌≡◌, ◌≢◌, ℕ, ◌+◌, ◌<◌, ◌^◌, ◌==◌, ◌↔◌, Bool, true, false, IsTrue, List, [], ◌∷◌, ◌++◌, length, All, Option, IfSome, IfNone, IfOk, OnOk, IsErrOf, replicate, slice_index_or, slice_set};
+ghost use Rattle.std.specs.Prelude.{◌≡◌, ◌≢◌, ℕ, ◌+◌, ◌<◌, ◌^◌, Bool, true, false, List, [], ◌∷◌, ◌++◌, length, Option, IfSome, IfNone, IfOk, OnOk, IsErrOf, replicate, slice_index_or};
 ghost use Rattle.std.specs.Fmt.{decimal as digits_of_number};
-ghost use Rattle.circuits.specs.Literals.{EachAt};
-ghost use Rattle.text_core.specs.Bytes.{is_blank};
-ghost use Rattle.text_core.specs.Words.{words, word_length};
+ghost use Rattle.text_core.specs.Words.{word_length};
 ghost use Rattle.net_core.specs.declared.named.NetFault.{NetFault};
 ghost use Rattle.aiger_reader.specs.declared.symbols.SymbolStop.TheVariants.{Memory};
 ghost use Rattle.aiger_reader.specs.Symbols.{is_comment, IsWithoutReturn, Port, NamesPort, BeginsPosition, letter_of, port_at, IsFree, AddsName, IsTable, AreTables, Puts, ArePortNames, name_or, AreSymbols, IsSymbolFault, AreNames};
 
+use crate::words::has_no_word;
 use items::Items;
 use net_core::{Name, NetFault, NetKind, NetStop};
 use std::alloc::{AllocError, Global};
-use text_core::{Cursor, Span, decimal, next_word, put_decimal};
+use text_core::{Cursor, Span, decimal, is_blank, put_decimal};
 
 /// The names of all ports, at their positions.
 #[derive(Debug, Drop)]
@@ -62,13 +61,6 @@ fn opens_comment(line: &[u8]) -> bool
     }
 }
 
-// Whether a line has blanks alone.
-fn has_no_word(mut line: Span<'_>) -> bool
-    ensures { IsTrue result ↔ (words line.entry.bytes ≡ []) }
-{
-    next_word(&mut line).is_none()
-}
-
 // Whether the letter that a line begins with is that of an output, if it is that of a port.
 fn kind_of(letter: u8) -> Option<bool>
     ensures kind { IfSome result (λ is_output. letter ≡ letter_of is_output) }
@@ -79,12 +71,6 @@ fn kind_of(letter: u8) -> Option<bool>
         b'o' => Some(true),
         _ => None,
     }
-}
-
-fn is_blank(byte: u8) -> bool
-    ensures { result ≡ is_blank byte }
-{
-    byte == b' ' || byte == b'\t' || byte == b'\r'
 }
 
 // How many bytes stand before the first blank, or all where there is none.
@@ -189,7 +175,7 @@ fn put_symbol(alloc: Global, symbol: &Symbol<'_>, tables: &mut Tables) -> Result
 }
 
 // Takes up what one line of the symbols gives.
-fn add_symbol(alloc: Global, line: Span<'_>, tables: &mut Tables) -> Result<(), SymbolStop>
+fn add_symbol(alloc: Global, mut line: Span<'_>, tables: &mut Tables) -> Result<(), SymbolStop>
     ensures inputs { length tables.new.inputs.items ≡ length tables.old.inputs.items }
     ensures outputs { length tables.new.outputs.items ≡ length tables.old.outputs.items }
     ensures added { OnOk result ((before : List (Port × List ℕ))
@@ -202,7 +188,7 @@ fn add_symbol(alloc: Global, line: Span<'_>, tables: &mut Tables) -> Result<(), 
         → AddsName (length tables.old.inputs.items) (length tables.old.outputs.items) line.entry.bytes before after → ⊥ }
 {
     let text = line.bytes();
-    if has_no_word(line) {
+    if has_no_word(&mut line) {
         return Ok(());
     }
     let Some(symbol) = symbol_on(text) else {

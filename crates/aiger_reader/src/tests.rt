@@ -17,121 +17,123 @@ fn joined(alloc: Global, names: &Items<Name>) -> Result<Vec<u8>, NetStop> {
     Ok(text)
 }
 
+// The gates with these operands.
+fn gates_of(alloc: Global, pairs: &[(u32, u32)]) -> Result<Vec<Gate>, Fail> {
+    let mut gates = Vec::new(alloc);
+    for (a, b) in pairs {
+        gates.push(Gate {
+            a: Lit(*a),
+            b: Lit(*b),
+        })?;
+    }
+    Ok(gates)
+}
+
+// A file, how many inputs it has, its gates, its outputs, and the names of the inputs and of the outputs.
+type File = (
+    &'static [u8],
+    u32,
+    &'static [(u32, u32)],
+    &'static [Lit],
+    &'static [u8],
+    &'static [u8],
+);
+
+const NETLISTS: [File; 10] = [
+    // an AND gate in both forms
+    (
+        b"aag 3 2 0 1 1\n2\n4\n6\n6 2 4\n",
+        2,
+        &[(2, 4)],
+        &[Lit(6)],
+        b"i0,i1,",
+        b"o0,",
+    ),
+    (
+        b"aig 3 2 0 1 1\n6\n\x02\x02",
+        2,
+        &[(4, 2)],
+        &[Lit(6)],
+        b"i0,i1,",
+        b"o0,",
+    ),
+    // symbols, a comment, and a name with blanks
+    (
+        b"aig 3 2 0 1 1\n6\n\x02\x02i1 b 1\r\n\no0 f\nc\nx\n",
+        2,
+        &[(4, 2)],
+        &[Lit(6)],
+        b"i0,b 1,",
+        b"f,",
+    ),
+    // gates out of order, with gaps among the variables
+    (
+        b"aag 9 1 0 1 2 0 0\n4\n9\n8 18 5\n18 4 1\n",
+        1,
+        &[(2, 1), (4, 3)],
+        &[Lit(7)],
+        b"i0,",
+        b"o0,",
+    ),
+    // gates behind those that read them: the first is of level 2
+    (
+        b"aag 4 2 0 1 2\n2\n4\n8\n8 6 2\n6 2 4\n",
+        2,
+        &[(2, 4), (6, 2)],
+        &[Lit(8)],
+        b"i0,i1,",
+        b"o0,",
+    ),
+    (
+        b"aag 5 2 0 1 3\n2\n4\n10\n10 7 9\n8 3 5\n6 2 4\n",
+        2,
+        &[(3, 5), (2, 4), (9, 7)],
+        &[Lit(10)],
+        b"i0,i1,",
+        b"o0,",
+    ),
+    // six NAND gates of five inputs, each numbered behind its operands
+    (
+        b"aig 11 5 0 2 6\n23\n21\n\x04\x03\x08\x01\x03\x03\x05\x0b\x03\x02\x03\x02",
+        5,
+        &[(8, 5), (6, 5), (13, 10), (13, 2), (17, 15), (19, 17)],
+        &[Lit(23), Lit(21)],
+        b"i0,i1,i2,i3,i4,",
+        b"o0,o1,",
+    ),
+    // blanks between the words, a carriage return, leading zeros, and no line feed at the end
+    (
+        b"aag  \t3 2\t 0 1   1 \r\n 2\r\n\t4\n0006 \n6  2 \t4",
+        2,
+        &[(2, 4)],
+        &[Lit(6)],
+        b"i0,i1,",
+        b"o0,",
+    ),
+    // constants, and a delta of two bytes
+    (
+        b"aag 0 0 0 2 0\n0\n1\n",
+        0,
+        &[],
+        &[Lit(0), Lit(1)],
+        b"",
+        b"o0,o1,",
+    ),
+    (b"aig 1 0 0 0 1\n\x82\x00\x00", 0, &[(0, 0)], &[], b"", b""),
+];
+
 #[test]
-fn reads_either_form(rt: HostRuntime) -> Result<(), Fail> {
-    let gate = |a, b| Gate {
-        a: Lit(a),
-        b: Lit(b),
-    };
-    let table: [(&[u8], u32, &[Gate], &[Lit], &[u8], &[u8]); 10] = [
-        // an AND gate in both forms
-        (
-            b"aag 3 2 0 1 1\n2\n4\n6\n6 2 4\n",
-            2,
-            &[gate(2, 4)],
-            &[Lit(6)],
-            b"i0,i1,",
-            b"o0,",
-        ),
-        (
-            b"aig 3 2 0 1 1\n6\n\x02\x02",
-            2,
-            &[gate(4, 2)],
-            &[Lit(6)],
-            b"i0,i1,",
-            b"o0,",
-        ),
-        // symbols, a comment, and a name with blanks
-        (
-            b"aig 3 2 0 1 1\n6\n\x02\x02i1 b 1\r\n\no0 f\nc\nx\n",
-            2,
-            &[gate(4, 2)],
-            &[Lit(6)],
-            b"i0,b 1,",
-            b"f,",
-        ),
-        // gates out of order, with gaps among the variables
-        (
-            b"aag 9 1 0 1 2 0 0\n4\n9\n8 18 5\n18 4 1\n",
-            1,
-            &[gate(2, 1), gate(4, 3)],
-            &[Lit(7)],
-            b"i0,",
-            b"o0,",
-        ),
-        // gates behind those that read them: the first is of level 2
-        (
-            b"aag 4 2 0 1 2\n2\n4\n8\n8 6 2\n6 2 4\n",
-            2,
-            &[gate(2, 4), gate(6, 2)],
-            &[Lit(8)],
-            b"i0,i1,",
-            b"o0,",
-        ),
-        (
-            b"aag 5 2 0 1 3\n2\n4\n10\n10 7 9\n8 3 5\n6 2 4\n",
-            2,
-            &[gate(3, 5), gate(2, 4), gate(9, 7)],
-            &[Lit(10)],
-            b"i0,i1,",
-            b"o0,",
-        ),
-        // six NAND gates of five inputs, each numbered behind its operands
-        (
-            b"aig 11 5 0 2 6\n23\n21\n\x04\x03\x08\x01\x03\x03\x05\x0b\x03\x02\x03\x02",
-            5,
-            &[
-                gate(8, 5),
-                gate(6, 5),
-                gate(13, 10),
-                gate(13, 2),
-                gate(17, 15),
-                gate(19, 17),
-            ],
-            &[Lit(23), Lit(21)],
-            b"i0,i1,i2,i3,i4,",
-            b"o0,o1,",
-        ),
-        // blanks between the words, a carriage return, leading zeros, and no line feed at the end
-        (
-            b"aag  \t3 2\t 0 1   1 \r\n 2\r\n\t4\n0006 \n6  2 \t4",
-            2,
-            &[gate(2, 4)],
-            &[Lit(6)],
-            b"i0,i1,",
-            b"o0,",
-        ),
-        // constants, and a delta of two bytes
-        (
-            b"aag 0 0 0 2 0\n0\n1\n",
-            0,
-            &[],
-            &[Lit(0), Lit(1)],
-            b"",
-            b"o0,o1,",
-        ),
-        (
-            b"aig 1 0 0 0 1\n\x82\x00\x00",
-            0,
-            &[gate(0, 0)],
-            &[],
-            b"",
-            b"",
-        ),
-    ];
-    for (text, inputs, gates, outputs, input_names, output_names) in table {
+fn reads_netlists(rt: HostRuntime) -> Result<(), Fail> {
+    for (text, inputs, gates, outputs, input_names, output_names) in NETLISTS {
         let named = read(rt.alloc(), text)?;
+        let gates = gates_of(rt.alloc(), gates)?;
+        let ins = joined(rt.alloc(), &named.input_names)?;
+        let outs = joined(rt.alloc(), &named.output_names)?;
         assert_eq!(rt; named.graph.inputs(), inputs, "at {text:?}");
-        assert_eq!(rt; named.graph.gates(), gates, "at {text:?}");
+        assert_eq!(rt; named.graph.gates(), gates.as_slice(), "at {text:?}");
         assert_eq!(rt; named.graph.outputs(), outputs, "at {text:?}");
-        assert_eq!(rt;
-            joined(rt.alloc(), &named.input_names)?.as_slice(),
-            input_names
-        );
-        assert_eq!(rt;
-            joined(rt.alloc(), &named.output_names)?.as_slice(),
-            output_names
-        );
+        assert_eq!(rt; ins.as_slice(), input_names, "at {text:?}");
+        assert_eq!(rt; outs.as_slice(), output_names, "at {text:?}");
     }
     Ok(())
 }
@@ -209,73 +211,77 @@ fn finds_faults_of_the_header(rt: HostRuntime) {
     }
 }
 
+// A file, its first fault, and where that stands.
+type Fault = (&'static [u8], NetKind, u64);
+
+const FAULTS: [Fault; 41] = [
+    // lines that aren't what the header announces
+    (b"aag 0 0 0 1 0\nx\n", NetKind::BadLine, 14),
+    (b"aag 0 0 0 1 0\n\n", NetKind::BadLine, 14),
+    (b"aag 1 1 0 1 0\n2\n2 2\n", NetKind::BadLine, 16),
+    (b"aag 1 1 0 0 0\n+2\n", NetKind::BadLine, 14),
+    (b"aag 1 0 0 0 1\n2 0\n", NetKind::BadLine, 14),
+    (b"aag 1 0 0 0 1\n2 0 0 0\n", NetKind::BadLine, 14),
+    (b"aag 1 0 0 1 0\n4\n", NetKind::BadLiteral, 14),
+    (b"aag 1 1 0 0 0\n0\n", NetKind::BadLiteral, 14),
+    (b"aag 1 1 0 0 0\n3\n", NetKind::BadLiteral, 14),
+    (b"aag 1 0 0 0 1\n3 0 0\n", NetKind::BadLiteral, 14),
+    (b"aag 1 0 0 0 1\n1 0 0\n", NetKind::BadLiteral, 14),
+    (b"aag 1 0 0 0 1\n2 0 4\n", NetKind::BadLiteral, 14),
+    (b"aag 1 1 0 0 0\n4294967298\n", NetKind::BadLiteral, 14),
+    (
+        b"aag 1 1 0 0 0\n18446744073709551618\n",
+        NetKind::BadLiteral,
+        14,
+    ),
+    (b"aag 2 2 0 0 0\n2\n2\n", NetKind::Redefined, 16),
+    (b"aag 2 1 0 0 1\n2\n2 0 0\n", NetKind::Redefined, 16),
+    (b"aag 0 0 0 1 0\n", NetKind::Truncated, 14),
+    (b"aag 1 1 0 1 0\n2\n", NetKind::Truncated, 16),
+    (b"aag 1 1 0 1 0\n2", NetKind::Truncated, 15),
+    (b"aig 1 1 0 2 0\n2\n", NetKind::Truncated, 16),
+    // a literal that is bad stands before a variable that is defined twice, and both before one of no line
+    (b"aag 2 1 0 0 1\n2\n2 0 9\n", NetKind::BadLiteral, 16),
+    (b"aag 3 2 0 1 0\n2\n4\n6\n", NetKind::Undefined, 18),
+    (b"aag 1 0 0 1 0\n2\n", NetKind::Undefined, 14),
+    (b"aag 3 2 0 1 1\n2\n2\n7\n6 2 4\n", NetKind::Redefined, 16),
+    (b"aag 3 1 0 0 1\n2\n6 2 4\n", NetKind::Undefined, 16),
+    // deltas that are cut off, too long or out of range
+    (b"aig 3 2 0 1 1\n6\n", NetKind::Delta, 16),
+    (b"aig 3 2 0 1 1\n6\n\x82", NetKind::Delta, 16),
+    (b"aig 3 2 0 1 1\n6\n\x02", NetKind::Delta, 17),
+    (b"aig 3 2 0 1 1\n6\n\x07\x00", NetKind::Delta, 16),
+    (b"aig 3 2 0 1 1\n6\n\x00\x00", NetKind::Delta, 16),
+    (b"aig 3 2 0 1 1\n6\n\x02\x05", NetKind::Delta, 17),
+    (b"aig 1 0 0 0 1\n\x82\x82\x82\x82\x82", NetKind::Delta, 14),
+    (
+        b"aig 1 0 0 0 1\n\x82\x80\x80\x80\x80\x00\x00",
+        NetKind::Delta,
+        14,
+    ),
+    // cycles, at the first definition that is on one or above one
+    (
+        b"aag 4 2 0 1 2\n2\n4\n8\n8 6 2\n6 8 4\n",
+        NetKind::Cycle,
+        20,
+    ),
+    (b"aag 3 1 0 0 2\n2\n4 2 2\n6 6 2\n", NetKind::Cycle, 22),
+    // symbols
+    (b"aag 1 1 0 1 0\n2\n2\ni1 x\n", NetKind::BadSymbol, 18),
+    (b"aag 1 1 0 0 0\n2\ni0 x\ni0 y\n", NetKind::BadSymbol, 21),
+    (b"aag 1 1 0 0 0\n2\ni0 \n", NetKind::BadSymbol, 16),
+    (b"aag 1 1 0 0 0\n2\ni0\n", NetKind::BadSymbol, 16),
+    (b"aag 1 1 0 0 0\n2\n i0 x\n", NetKind::BadSymbol, 16),
+    (
+        b"aig 3 2 0 1 1\n6\n\x02\x02\no1 x\n",
+        NetKind::BadSymbol,
+        19,
+    ),
+];
+
 #[test]
 fn finds_the_first_fault(rt: HostRuntime) {
-    let table: [(&[u8], NetKind, u64); 41] = [
-        // lines that aren't what the header announces
-        (b"aag 0 0 0 1 0\nx\n", NetKind::BadLine, 14),
-        (b"aag 0 0 0 1 0\n\n", NetKind::BadLine, 14),
-        (b"aag 1 1 0 1 0\n2\n2 2\n", NetKind::BadLine, 16),
-        (b"aag 1 1 0 0 0\n+2\n", NetKind::BadLine, 14),
-        (b"aag 1 0 0 0 1\n2 0\n", NetKind::BadLine, 14),
-        (b"aag 1 0 0 0 1\n2 0 0 0\n", NetKind::BadLine, 14),
-        (b"aag 1 0 0 1 0\n4\n", NetKind::BadLiteral, 14),
-        (b"aag 1 1 0 0 0\n0\n", NetKind::BadLiteral, 14),
-        (b"aag 1 1 0 0 0\n3\n", NetKind::BadLiteral, 14),
-        (b"aag 1 0 0 0 1\n3 0 0\n", NetKind::BadLiteral, 14),
-        (b"aag 1 0 0 0 1\n1 0 0\n", NetKind::BadLiteral, 14),
-        (b"aag 1 0 0 0 1\n2 0 4\n", NetKind::BadLiteral, 14),
-        (b"aag 1 1 0 0 0\n4294967298\n", NetKind::BadLiteral, 14),
-        (
-            b"aag 1 1 0 0 0\n18446744073709551618\n",
-            NetKind::BadLiteral,
-            14,
-        ),
-        (b"aag 2 2 0 0 0\n2\n2\n", NetKind::Redefined, 16),
-        (b"aag 2 1 0 0 1\n2\n2 0 0\n", NetKind::Redefined, 16),
-        (b"aag 0 0 0 1 0\n", NetKind::Truncated, 14),
-        (b"aag 1 1 0 1 0\n2\n", NetKind::Truncated, 16),
-        (b"aag 1 1 0 1 0\n2", NetKind::Truncated, 15),
-        (b"aig 1 1 0 2 0\n2\n", NetKind::Truncated, 16),
-        // a literal that is bad stands before a variable that is defined twice, and both before one of no line
-        (b"aag 2 1 0 0 1\n2\n2 0 9\n", NetKind::BadLiteral, 16),
-        (b"aag 3 2 0 1 0\n2\n4\n6\n", NetKind::Undefined, 18),
-        (b"aag 1 0 0 1 0\n2\n", NetKind::Undefined, 14),
-        (b"aag 3 2 0 1 1\n2\n2\n7\n6 2 4\n", NetKind::Redefined, 16),
-        (b"aag 3 1 0 0 1\n2\n6 2 4\n", NetKind::Undefined, 16),
-        // deltas that are cut off, too long or out of range
-        (b"aig 3 2 0 1 1\n6\n", NetKind::Delta, 16),
-        (b"aig 3 2 0 1 1\n6\n\x82", NetKind::Delta, 16),
-        (b"aig 3 2 0 1 1\n6\n\x02", NetKind::Delta, 17),
-        (b"aig 3 2 0 1 1\n6\n\x07\x00", NetKind::Delta, 16),
-        (b"aig 3 2 0 1 1\n6\n\x00\x00", NetKind::Delta, 16),
-        (b"aig 3 2 0 1 1\n6\n\x02\x05", NetKind::Delta, 17),
-        (b"aig 1 0 0 0 1\n\x82\x82\x82\x82\x82", NetKind::Delta, 14),
-        (
-            b"aig 1 0 0 0 1\n\x82\x80\x80\x80\x80\x00\x00",
-            NetKind::Delta,
-            14,
-        ),
-        // cycles, at the first definition that is on one or above one
-        (
-            b"aag 4 2 0 1 2\n2\n4\n8\n8 6 2\n6 8 4\n",
-            NetKind::Cycle,
-            20,
-        ),
-        (b"aag 3 1 0 0 2\n2\n4 2 2\n6 6 2\n", NetKind::Cycle, 22),
-        // symbols
-        (b"aag 1 1 0 1 0\n2\n2\ni1 x\n", NetKind::BadSymbol, 18),
-        (b"aag 1 1 0 0 0\n2\ni0 x\ni0 y\n", NetKind::BadSymbol, 21),
-        (b"aag 1 1 0 0 0\n2\ni0 \n", NetKind::BadSymbol, 16),
-        (b"aag 1 1 0 0 0\n2\ni0\n", NetKind::BadSymbol, 16),
-        (b"aag 1 1 0 0 0\n2\n i0 x\n", NetKind::BadSymbol, 16),
-        (
-            b"aig 3 2 0 1 1\n6\n\x02\x02\no1 x\n",
-            NetKind::BadSymbol,
-            19,
-        ),
-    ];
-    for (text, kind, at) in table {
+    for (text, kind, at) in FAULTS {
         let stop = NetStop::Fault(NetFault { kind, at });
         assert_eq!(rt; read(rt.alloc(), text).err(), Some(stop), "at {text:?}");
     }

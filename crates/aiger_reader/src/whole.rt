@@ -1,13 +1,11 @@
 //! Whole files of either form.
 
-ghost use Rattle.std.specs.Prelude.{◌≡◌, ℕ, ◌+◌, ◌*◌, ◌<◌, ◌≤◌, true, false, List, [], length, map, IfOk, IfErr};
-ghost use Rattle.circuits.specs.Circuits.{Circuit};
-ghost use Rattle.circuits.specs.Levels.{IsAcyclic, IsFirstLooped, IsOrderOf};
+ghost use Rattle.std.specs.Prelude.{◌≡◌, ℕ, ◌+◌, ◌<◌, false, List, [], length, map, IfOk, IfErr};
+ghost use Rattle.circuits.specs.Levels.{IsAcyclic, IsOrderOf};
 ghost use Rattle.net_core.specs.declared.named.NetFault.{NetFault};
-ghost use Rattle.text_core.specs.Lines.{lines};
 ghost use Rattle.aiger_reader.specs.Numbers.{header_of};
 ghost use Rattle.aiger_reader.specs.Reading.{rows_of};
-ghost use Rattle.aiger_reader.specs.Bodies.{IsKnownRow, first_of, lit_from, text_circuit, line_offset};
+ghost use Rattle.aiger_reader.specs.Bodies.{IsKnownRow, lit_from, text_circuit};
 ghost use Rattle.aiger_reader.specs.Deltas.{and_from};
 ghost use Rattle.aiger_reader.specs.Numbered.{IsSound, circuit_from};
 ghost use Rattle.aiger_reader.specs.Symbols.{AreNames, IsSymbolFault};

@@ -2,7 +2,7 @@
 
 ghost use Rattle.std.specs.Prelude.{◌≡◌, ℕ, ◌^◌, ◌<◌, [], ◌↔◌, IsTrue, Some, IfSome, IfNone};
 ghost use Rattle.text_core.specs.Numbers.{number};
-ghost use Rattle.aiger_reader.specs.Words.{numbers_on};
+ghost use Rattle.text_core.specs.Words.{words};
 
 use text_core::{Span, decimal, next_word};
 
@@ -17,7 +17,7 @@ pub(crate) fn number_of(word: Span<'_>) -> Option<u32>
 
 /// Whether a line has no more words.
 pub(crate) fn has_no_word(line: &mut Span<'_>) -> bool
-    ensures { IsTrue result ↔ (numbers_on line.old.bytes ≡ []) }
+    ensures { IsTrue result ↔ (words line.old.bytes ≡ []) }
 {
     next_word(line).is_none()
 }

@@ -4,6 +4,7 @@ pub mod FirstLemmas
 pub mod SurveyLemmas
 pub mod OneBlif
 pub mod NumberLemmas
+pub mod FewNames
 pub mod FewPorts
 pub mod BuildingLemmas
 pub mod ClosedLemmas

@@ -230,7 +230,7 @@ pub at_place : {X : Type 0} (xs : List X) (k : ℕ) (x : X) → k < length xs �
 at_place xs k x h is d = get_or_default xs k d x h ∙ sym is
 
 -- the words of ports of a kind
-words_of_kind-append : (kind : Bool) (xs ys : List Port) → words_of_kind kind (xs ++ ys) ≡ words_of_kind kind xs ++ words_of_kind kind ys
+pub words_of_kind-append : (kind : Bool) (xs ys : List Port) → words_of_kind kind (xs ++ ys) ≡ words_of_kind kind xs ++ words_of_kind kind ys
 words_of_kind-append kind xs ys =
     let test = λ (p : Port). beq p.is_output kind in
     ap (map (λ (p : Port). p.word)) (filter-append test xs ys) ∙ map-append (λ (p : Port). p.word) (filter test xs) (filter test ys)

@@ -1,6 +1,6 @@
 //! A second pass over the lines: the covers and the outputs, by the numbers of their names.
 
-ghost use Rattle.std.specs.Prelude.{◌≡◌, ◌+◌, ◌-◌, ◌<◌, ◌^◌, ◌==◌, ◌&&◌, ◌∷◌, [], ◌++◌, length, map, All, None, false, slice_index_or, MatchOption, OnOk, IfOk, IfErr};
+ghost use Rattle.std.specs.Prelude.{◌≡◌, ◌≢◌, ◌+◌, ◌-◌, ◌<◌, ◌^◌, ◌==◌, ◌&&◌, ◌∷◌, [], ◌++◌, length, map, All, None, false, slice_index_or, MatchOption, IsOk, OnOk, IfOk, IfErr};
 ghost use Rattle.std.specs.List.{list_any, position_or_len};
 ghost use Rattle.std.specs.Str.{bytes_eq};
 ghost use Rattle.circuits.specs.declared.netlist.Lit.{Lit};
@@ -48,7 +48,7 @@ pub(crate) struct Covers {
 }
 
 /// Reads the covers and the outputs of a file, by the numbers of the names that are known. The fault is at the first
-/// word that reads a name which isn't known. Want of memory is answered also where there are too many names to number.
+/// word that reads a name which isn't known.
 pub(crate) fn read_covers(
     alloc: Global,
     input: &[u8],
@@ -56,6 +56,7 @@ pub(crate) fn read_covers(
 ) -> Result<Covers, NetStop>
     requires { length (names_of names.now) < 2 ^ 30 }
     ensures built { IfOk result (λ covers. IsBuilt (names_of names.now) (blif_lines input.now) covers) }
+    ensures all_closed { IfOk result (λ covers. covers.table ≡ None) }
     ensures fault { (fault : NetFault) → result ≡ Err (NetStop.Fault fault)
         → IsUnknownFault (names_of names.now) (read_words (blif_lines input.now)) fault.kind fault.at }
 {
@@ -175,6 +176,7 @@ impl Covers {
         ensures places { self.new.places ≡ self.old.places }
         ensures outputs { self.new.outputs ≡ self.old.outputs }
         ensures memory { IfErr result (λ stop. stop ≡ NetStop.Memory) }
+        ensures nothing_open { self.old.table ≡ None → IsOk result }
     {
         let Some(table) = self.table.take() else {
             return Ok(());
@@ -200,6 +202,7 @@ impl Covers {
         ensures outputs { self.new.outputs ≡ self.old.outputs }
         ensures lines { lines_left lines.new.goes_on lines.new.rest ≡ lines_left lines.old.goes_on lines.old.rest }
         ensures memory { IfErr result (λ stop. stop ≡ NetStop.Memory) }
+        ensures nothing_open { self.old.table ≡ None → IsOk result }
     {
         let output = last_word(lines);
         let Some(table) = self.table.take() else {
@@ -325,6 +328,7 @@ fn signal_of(names: &IndexSet<&[u8]>, word: &Span<'_>) -> Result<u32, NetStop>
     ensures fault { (fault : NetFault) → result ≡ Err (NetStop.Fault fault)
         → (fault.kind ≡ NetKind.NameUndefined) × (fault.at ≡ word.now.at)
         × (list_any (bytes_eq word.now.bytes) (names_of names.now) ≡ false) }
+    ensures no_memory { result ≢ Err NetStop.Memory }
 {
     match number_of(names, word.bytes()) {
         Some(number) => Ok(number as u32 + 1),

@@ -1,6 +1,6 @@
 //! A first pass over the lines: their faults, the ports, and the names that covers define.
 
-ghost use Rattle.std.specs.Prelude.{◌≡◌, ℕ, ◌∷◌, ◌++◌, List, [], length, map, true, false, None, Some, OnOk, OnErr, IsOk, IfOk, IfErr};
+ghost use Rattle.std.specs.Prelude.{◌≡◌, ◌≢◌, ℕ, ◌∷◌, ◌++◌, List, [], length, map, true, false, None, Some, OnOk, OnErr, IsOk, IfOk, IfErr};
 ghost use Rattle.text_core.specs.Piece.{Piece};
 ghost use Rattle.net_core.specs.declared.named.NetFault.{NetFault};
 ghost use Rattle.blif_reader.specs.JoinedLines.{joined_lines};
@@ -95,6 +95,7 @@ impl<'a> Survey<'a> {
             in OnOk result (Advances Directive.Row line self.old self.new) }
         ensures fault { let line = first.entry ∷ words_left lines.old.line lines.old.goes_on lines.old.rest
             in (kind : NetKind) → result ≡ Err (LineStop.Fault kind) → fault_by_cover self.old.cover line ≡ Some kind }
+        ensures no_memory { result ≢ Err LineStop.Memory }
         ensures lines { lines_left lines.new.goes_on lines.new.rest ≡ lines_left lines.old.goes_on lines.old.rest }
     {
         let Some(cover) = self.cover else {

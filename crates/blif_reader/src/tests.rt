@@ -7,16 +7,24 @@ use net_core::{Gate, Lit, Named, NetStop};
 use std::alloc::Global;
 use std::test::Fail;
 
+/// Reads a text, which no test makes longer than a file may be.
+fn read_text(alloc: Global, text: &[u8]) -> Result<Named, NetStop> {
+    if text.len() > 67_108_864 {
+        return Err(NetStop::Memory);
+    }
+    read(alloc, text)
+}
+
 /// The fault of a file: its number and its offset.
 fn fault_of(alloc: Global, text: &[u8]) -> Option<(u8, u64)> {
-    match read(alloc, text) {
+    match read_text(alloc, text) {
         Err(NetStop::Fault(fault)) => Some((fault.kind.number(), fault.at)),
         _ => None,
     }
 }
 
 fn netlist_of(alloc: Global, text: &[u8]) -> Result<Named, Fail> {
-    Ok(read(alloc, text).ok().ok_or("no netlist")?)
+    Ok(read_text(alloc, text).ok().ok_or("no netlist")?)
 }
 
 fn name_at<'a>(names: &'a [net_core::Name], place: usize) -> &'a [u8] {

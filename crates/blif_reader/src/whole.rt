@@ -20,9 +20,6 @@ use indexmap::IndexSet;
 use net_core::{Graph, Named, NetFault, NetKind, NetStop, OrderFault, PlainNet, order};
 use std::alloc::Global;
 
-/// More names than these aren't numbered.
-const MOST_NAMES: usize = 1_000_000_000;
-
 // That both kinds of port have a line.
 fn check_port_lines(input: &[u8], survey: &Survey<'_>) -> Result<(), NetStop>
     requires { IsSurveyed (blif_lines input.now) survey.now }
@@ -180,15 +177,15 @@ fn name_net(
 
 /// Reads a netlist with the names of its ports from a file in the Berkeley Logic Interchange Format (BLIF, University
 /// of California at Berkeley, 1992), of one model without latches and don't-cares. The graph has the gates of the
-/// covers by level, and those of one level in the order of the file.
+/// covers by level, and those of one level in the order of the file. `input` is a file of at most 67,108,864 bytes.
 ///
 /// # Errors
 ///
 /// [`NetStop::Fault`] with the first fault of the file: of its lines; a kind of port without a line; a name that is
 /// given to two ports of a kind, defined twice, or read and not known; more ports than 1,024 of a kind; a cover on a
-/// cycle or above one, at its `.names` line; or more than 1,000,000 gates. [`NetStop::Memory`] for want of memory, and
-/// where there are more than 1,000,000,000 names.
+/// cycle or above one, at its `.names` line; or more than 1,000,000 gates. [`NetStop::Memory`] for want of memory.
 pub fn read(alloc: Global, input: &[u8]) -> Result<Named, NetStop>
+    requires file { length input.now ≤ 67108864 }
     ensures netlist { IfOk result (λ named. IsBlif input.now named.graph named.input_names named.output_names) }
     ensures fault { (fault : NetFault) → result ≡ Err (NetStop.Fault fault)
         → IsBlifFault input.now fault.kind fault.at }
@@ -197,9 +194,6 @@ pub fn read(alloc: Global, input: &[u8]) -> Result<Named, NetStop>
     check_port_lines(input, &survey)?;
     let mut names = name_inputs(alloc, input, &survey)?;
     number_names(input, &survey, &mut names)?;
-    if names.len() > MOST_NAMES {
-        return Err(NetStop::Memory);
-    }
     let covers = known_covers(alloc, input, &names)?;
     check_limits(input, &survey)?;
     name_net(alloc, input, &survey, covers)

@@ -13,12 +13,18 @@ Tells limit held Absent = held ≡ None
 Tells limit held TooLong = (bytes : List ℕ) × (held ≡ Some bytes) × (limit < length bytes)
 Tells limit held (Bytes bytes) = (held ≡ Some bytes.items) × (length bytes.items ≤ limit)
 
+-- the bytes of a file are at most so many
+abbrev pub IsWithin : ℕ → File → Type 0
+IsWithin limit (Bytes bytes) = length bytes.items ≤ limit
+IsWithin limit other = Unit {0}
+
 -- Reading whole what a name holds, if it has at most `limit` bytes.
 pub record ReadsFile (tells : Bool) (limit : ℕ) (held : Option (List ℕ)) (old new : ShelfState) (result : Result File Stop) : Type 0 where
   -- no file changes, and none is open after an answer
   pub files : (n : List ℕ) → new.held n ≡ old.held n
   pub closed : OnOk result (new.mode ≡ Closed)
   pub found : IsTrue tells → IfOk result (Tells limit held)
+  pub short : IfOk result (IsWithin limit)
   pub faults : old.faults ≤ new.faults
   pub failed : result ≡ Err ReadFault → Rose old.faults new.faults
 
@@ -28,6 +34,7 @@ pub record ReadsPiece (tells : Bool) (old new : ShelfState) (before after : List
   pub mode : new.mode ≡ Reading
   pub some : IfOk result (λ count. 0 < count)
   pub left : IfOk result (λ count. count + new.left ≡ old.left)
+  pub grown : IfOk result (λ count. length after ≡ length before + count)
   pub bytes : IsTrue tells → IfOk result (λ count. after ++ new.unread ≡ before ++ old.unread)
   pub unread : IsTrue tells → IfOk result (λ count. count + length new.unread ≡ length old.unread)
   pub faults : old.faults ≤ new.faults

@@ -102,6 +102,7 @@ fn read_rest<S: Shelf>(
     requires room { 0 < length piece.old }
     ensures bytes { IsTrue S.tells
         → IfOk result (λ bytes. bytes.items ≡ (S.state shelf.old).unread) }
+    ensures size { IfOk result (λ bytes. length bytes.items ≡ size) }
     ensures reading { OnOk result ((S.state shelf.new).mode ≡ Reading) }
     ensures files { (n : List ℕ) → (S.state shelf.new).held n ≡ (S.state shelf.old).held n }
     ensures faults { (S.state shelf.old).faults ≤ (S.state shelf.new).faults }

@@ -1,6 +1,6 @@
 //! Netlists from a shelf.
 
-ghost use Rattle.std.specs.Prelude.{◌≡◌, ◌↔◌, IsTrue, Err, IfOk, IfErr};
+ghost use Rattle.std.specs.Prelude.{◌≡◌, ◌↔◌, ◌≤◌, IsTrue, Err, IfOk, IfErr, length};
 ghost use Rattle.shelf_core.specs.State.{Closed};
 ghost use Rattle.net_core.specs.declared.named.NetFault.{NetFault};
 ghost use Rattle.npnp.specs.Circuits.{BeginsAsAiger, IsCircuit, IsCircuitFault};
@@ -35,6 +35,7 @@ pub fn read_netlist<S: Shelf>(
 
 /// The netlist that a file's bytes are.
 fn parse_netlist(alloc: Global, which: Which, bytes: &[u8]) -> Result<Named, Outcome>
+    requires { length bytes.now ≤ 67108864 }
     ensures netlist { IfOk result
         (λ named. IsCircuit bytes.now named.graph named.input_names named.output_names) }
     ensures stop { IfErr result (IsStopOf which bytes.now) }
@@ -52,6 +53,7 @@ fn parse_netlist(alloc: Global, which: Which, bytes: &[u8]) -> Result<Named, Out
 
 /// Reads a file in the format that its first four bytes tell: AIGER where they are `aag ` or `aig `, else BLIF.
 fn read_circuit(alloc: Global, bytes: &[u8]) -> Result<Named, NetStop>
+    requires { length bytes.now ≤ 67108864 }
     ensures netlist { IfOk result
         (λ named. IsCircuit bytes.now named.graph named.input_names named.output_names) }
     ensures fault { (fault : NetFault) → result ≡ Err (NetStop.Fault fault)

@@ -41,8 +41,8 @@ pub struct Ending {
 }
 
 /// Runs the program on the words of its command line: reads the files that they name, decides, and puts one
-/// report. The words that it knows are `check FIRST SECOND ACCOUNT`: FIRST and SECOND are netlists in the AIGER
-/// format, and ACCOUNT is a port table, which is accepted exactly where it is a match of the two.
+/// report. The words that it knows are `check FIRST SECOND ACCOUNT`: FIRST and SECOND are netlists, each in BLIF or in
+/// the AIGER format, and ACCOUNT is a port table, which is accepted exactly where it is a match of the two.
 ///
 /// The files are opened in this order, each read and closed before the next. A netlist of more than 67,108,864
 /// bytes and an account of more than 65,536 are closed unread. Netlists of more than 12 inputs aren't compared, and

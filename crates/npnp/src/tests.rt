@@ -6,6 +6,7 @@ ghost use Rattle.shelf_core.specs.State.{Closed, Reading, Writing};
 use crate::run::run;
 use shelf_core::{SafeShelf, SafeSink, Shelf, ShelfStop, Sink};
 use std::alloc::{AllocError, Global};
+use std::process::Abort;
 use std::test::Fail;
 
 /// Output 0 is the AND of the two inputs, output 1 the first input.
@@ -29,12 +30,7 @@ fn words_of(alloc: Global, words: &[&str]) -> Result<Vec<String>, AllocError> {
 }
 
 /// Runs with three files, named `A`, `B` and `t`: the status and what was printed.
-fn answer(
-    rt: &HostRuntime,
-    words: &[&str],
-    files: [&[u8]; 3],
-) -> Result<(u8, Vec<u8>), AllocError> {
-    let alloc = rt.alloc();
+fn answer(alloc: Global, words: &[&str], files: [&[u8]; 3]) -> Result<(u8, Vec<u8>), AllocError> {
     let [first, second, account] = files;
     let first = (String::from_str(alloc, "A")?, first.to_vec(alloc)?);
     let second = (String::from_str(alloc, "B")?, second.to_vec(alloc)?);
@@ -50,63 +46,69 @@ fn answer(
     Ok((outcome.status(), sink.written().to_vec(alloc)?))
 }
 
+/// The check of two netlists by an account: how it ends, and what it prints.
+struct Row {
+    files: [&'static [u8]; 3],
+    status: u8,
+    report: &'static [u8],
+}
+
+fn check_rows(rt: &impl Abort, alloc: Global, rows: &[Row]) -> Result<(), Fail> {
+    for row in rows {
+        let (ended, printed) = answer(alloc, &["check", "A", "B", "t"], row.files)?;
+        assert_eq!(rt; printed.as_slice(), row.report);
+        assert_eq!(rt; ended, row.status);
+    }
+    Ok(())
+}
+
+/// Two gates, of which the first line names the other.
+const REVERSED: &[u8] = b"aag 4 2 0 1 2\n2\n4\n8\n8 6 2\n6 2 4\n";
+
+/// One input and one output, with symbols and a comment.
+const NAMED: &[u8] = b"aag 1 1 0 1 0\n2\n2\ni0 in put\no0 q\nc\nx";
+
+const MATCHES: [Row; 4] = [
+    Row {
+        files: [A, B, TABLE],
+        status: 0,
+        report: b"accepted match\ninput 0 i0 = not input 1 i1\ninput 1 i1 = input 0 i0\noutput 0 o0 = not output 1 o1\noutput 1 o1 = output 0 o0\n",
+    },
+    Row {
+        files: [EMPTY, EMPTY, b"npnp 1\nmatch\nend\n"],
+        status: 0,
+        report: b"accepted match\n",
+    },
+    Row {
+        files: [REVERSED, REVERSED, b"npnp 1\nmatch i0+0 i1+1 o0+0\nend\n"],
+        status: 0,
+        report: b"accepted match\ninput 0 i0 = input 0 i0\ninput 1 i1 = input 1 i1\noutput 0 o0 = output 0 o0\n",
+    },
+    Row {
+        files: [NAMED, NAMED, b"npnp 1\nmatch i0+0 o0+0\nend\n"],
+        status: 0,
+        report: b"accepted match\ninput 0 in put = input 0 in put\noutput 0 q = output 0 q\n",
+    },
+];
+
 #[test]
-fn decides_tables(rt: HostRuntime) -> Result<(), Fail> {
-    let accepted =
-        b"accepted match\ninput 0 i0 = not input 1 i1\ninput 1 i1 = input 0 i0\noutput 0 o0 = not output 1 o1\noutput 1 o1 = output 0 o0\n";
-    let reversed = b"aag 4 2 0 1 2\n2\n4\n8\n8 6 2\n6 2 4\n";
-    let named = b"aag 1 1 0 1 0\n2\n2\ni0 in put\no0 q\nc\nx";
-    let rows: [(&[u8], &[u8], &[u8], u8, &[u8]); 9] = [
-        (A, B, TABLE, 0, accepted),
-        (
-            A,
-            B,
-            b"npnp 1\nmatch i0+1 i1+0 o0-1 o1+0\nend\n",
-            2,
-            b"rejected\n",
-        ),
-        (
-            A,
-            B,
-            b"npnp 1\nmatch i0-1 i1+1 o0-1 o1+0\nend\n",
-            2,
-            b"rejected\n",
-        ),
-        (
-            A,
-            B,
-            b"npnp 1\nmatch i0-1 i1+0 o0-1 o1+0\n",
-            2,
-            b"rejected\n",
-        ),
-        (A, B, b"", 2, b"rejected\n"),
-        (
-            EMPTY,
-            EMPTY,
-            b"npnp 1\nmatch\nend\n",
-            0,
-            b"accepted match\n",
-        ),
-        (A, EMPTY, TABLE, 2, b"rejected\n"),
-        (
-            reversed,
-            reversed,
-            b"npnp 1\nmatch i0+0 i1+1 o0+0\nend\n",
-            0,
-            b"accepted match\ninput 0 i0 = input 0 i0\ninput 1 i1 = input 1 i1\noutput 0 o0 = output 0 o0\n",
-        ),
-        (
-            named,
-            named,
-            b"npnp 1\nmatch i0+0 o0+0\nend\n",
-            0,
-            b"accepted match\ninput 0 in put = input 0 in put\noutput 0 q = output 0 q\n",
-        ),
+fn accepts_matches(rt: HostRuntime) -> Result<(), Fail> {
+    check_rows(&rt, rt.alloc(), &MATCHES)
+}
+
+#[test]
+fn rejects_other_accounts(rt: HostRuntime) -> Result<(), Fail> {
+    let rows: [[&[u8]; 3]; 5] = [
+        [A, B, b"npnp 1\nmatch i0+1 i1+0 o0-1 o1+0\nend\n"],
+        [A, B, b"npnp 1\nmatch i0-1 i1+1 o0-1 o1+0\nend\n"],
+        [A, B, b"npnp 1\nmatch i0-1 i1+0 o0-1 o1+0\n"],
+        [A, B, b""],
+        [A, EMPTY, TABLE],
     ];
-    for (first, second, account, status, report) in rows {
-        let (ended, printed) = answer(&rt, &["check", "A", "B", "t"], [first, second, account])?;
-        assert_eq!(rt; printed.as_slice(), report);
-        assert_eq!(rt; ended, status);
+    for files in rows {
+        let (ended, printed) = answer(rt.alloc(), &["check", "A", "B", "t"], files)?;
+        assert_eq!(rt; printed.as_slice(), b"rejected\n".as_slice());
+        assert_eq!(rt; ended, 2);
     }
     Ok(())
 }
@@ -119,57 +121,66 @@ const C17: &[u8] =
 const C17_MOVED: &[u8] =
     b"aig 11 5 0 2 6\n23\n21\n\x04\x03\x08\x01\x03\x03\x05\x0b\x03\x02\x03\x02";
 
-#[test]
-fn reads_both_formats(rt: HostRuntime) -> Result<(), Fail> {
-    let nand = b".inputs a b\n.outputs y\n.names a b y\n11 0\n";
-    let mixed =
-        b".names a b y\n11 0\n.names one\n1\n.names zero\n.inputs a \\ # more\nb\n.outputs y one zero\n";
-    let identity = b"npnp 1\nmatch i0+0 i1+1 o0+0\nend\n";
-    let nand_named =
-        b"accepted match\ninput 0 a = input 0 a\ninput 1 b = input 1 b\noutput 0 y = output 0 y\n";
-    let rows: [(&[u8], &[u8], &[u8], u8, &[u8]); 5] = [
-        (
+/// The NAND of two inputs, and a table that pairs the ports of two such circuits in their order.
+const NAND: &[u8] = b".inputs a b\n.outputs y\n.names a b y\n11 0\n";
+
+const TWO_TO_ONE: &[u8] = b"npnp 1\nmatch i0+0 i1+1 o0+0\nend\n";
+
+/// Covers in front of the ports, a continued line, and both constants.
+const MIXED: &[u8] =
+    b".names a b y\n11 0\n.names one\n1\n.names zero\n.inputs a \\ # more\nb\n.outputs y one zero\n";
+
+const OF_BOTH_FORMATS: [Row; 5] = [
+    Row {
+        files: [
             C17,
             C17_MOVED,
             b"npnp 1\nmatch i0+2 i1+4 i2-1 i3+3 i4+0 o0+1 o1+0\nend\n",
-            0,
-            b"accepted match\ninput 0 1 = input 2 i2\ninput 1 2 = input 4 i4\ninput 2 3 = not input 1 i1\ninput 3 6 = input 3 i3\ninput 4 7 = input 0 i0\noutput 0 22 = output 1 o1\noutput 1 23 = output 0 o0\n",
-        ),
-        (
-            nand,
+        ],
+        status: 0,
+        report: b"accepted match\ninput 0 1 = input 2 i2\ninput 1 2 = input 4 i4\ninput 2 3 = not input 1 i1\ninput 3 6 = input 3 i3\ninput 4 7 = input 0 i0\noutput 0 22 = output 1 o1\noutput 1 23 = output 0 o0\n",
+    },
+    Row {
+        files: [
+            NAND,
             b".inputs a b\n.outputs y\n.names a b y\n0- 1\n-0 1\n",
-            identity,
-            0,
-            nand_named,
-        ),
-        (
-            nand,
+            TWO_TO_ONE,
+        ],
+        status: 0,
+        report: b"accepted match\ninput 0 a = input 0 a\ninput 1 b = input 1 b\noutput 0 y = output 0 y\n",
+    },
+    Row {
+        files: [
+            NAND,
             b".inputs a b\n.outputs y\n.names a b y\n11 1\n",
-            identity,
-            2,
-            b"rejected\n",
-        ),
-        (
-            mixed,
-            mixed,
+            TWO_TO_ONE,
+        ],
+        status: 2,
+        report: b"rejected\n",
+    },
+    Row {
+        files: [
+            MIXED,
+            MIXED,
             b"npnp 1\nmatch i0+0 i1+1 o0+0 o1+1 o2+2\nend\n",
-            0,
-            b"accepted match\ninput 0 a = input 0 a\ninput 1 b = input 1 b\noutput 0 y = output 0 y\noutput 1 one = output 1 one\noutput 2 zero = output 2 zero\n",
-        ),
-        (
+        ],
+        status: 0,
+        report: b"accepted match\ninput 0 a = input 0 a\ninput 1 b = input 1 b\noutput 0 y = output 0 y\noutput 1 one = output 1 one\noutput 2 zero = output 2 zero\n",
+    },
+    Row {
+        files: [
             b".inputs a\n.outputs y\n.names $false\n.names a y\n1 1\n.cname n\n.end\n",
             b"aag 1 1 0 1 0\n2\n2\n",
             b"npnp 1\nmatch i0+0 o0+0\nend\n",
-            0,
-            b"accepted match\ninput 0 a = input 0 i0\noutput 0 y = output 0 o0\n",
-        ),
-    ];
-    for (first, second, account, status, report) in rows {
-        let (ended, printed) = answer(&rt, &["check", "A", "B", "t"], [first, second, account])?;
-        assert_eq!(rt; printed.as_slice(), report);
-        assert_eq!(rt; ended, status);
-    }
-    Ok(())
+        ],
+        status: 0,
+        report: b"accepted match\ninput 0 a = input 0 i0\noutput 0 y = output 0 o0\n",
+    },
+];
+
+#[test]
+fn reads_both_formats(rt: HostRuntime) -> Result<(), Fail> {
+    check_rows(&rt, rt.alloc(), &OF_BOTH_FORMATS)
 }
 
 #[test]
@@ -185,7 +196,7 @@ fn names_what_is_missing(rt: HostRuntime) -> Result<(), Fail> {
         (&["check", "A", "B", "z"], 5, b"absent account\n"),
     ];
     for (words, status, report) in rows {
-        let (ended, printed) = answer(&rt, words, [A, B, TABLE])?;
+        let (ended, printed) = answer(rt.alloc(), words, [A, B, TABLE])?;
         assert_eq!(rt; printed.as_slice(), report);
         assert_eq!(rt; ended, status);
     }
@@ -204,70 +215,90 @@ fn refuses_what_is_too_wide(rt: HostRuntime) -> Result<(), Fail> {
     ];
     for (first, second, account) in rows {
         let name = if account == b"t".as_slice() { "t" } else { "z" };
-        let (ended, printed) = answer(&rt, &["check", "A", "B", name], [first, second, TABLE])?;
+        let (ended, printed) = answer(
+            rt.alloc(),
+            &["check", "A", "B", name],
+            [first, second, TABLE],
+        )?;
         assert_eq!(rt; printed.as_slice(), b"wide\n".as_slice());
         assert_eq!(rt; ended, 5);
     }
     Ok(())
 }
 
-#[test]
-fn refuses_malformed_netlists_at_their_place(rt: HostRuntime) -> Result<(), Fail> {
-    let rows: [(&[u8], &[u8]); 27] = [
-        (b"", b"malformed first 28 0\n"),
-        (b"aag", b"malformed first 27 0\n"),
-        (b"aag 4294967295 0 0 0 0\n", b"malformed first 6 0\n"),
-        (b"aag 4294967296 0 0 0 0\n", b"malformed first 1 0\n"),
-        (b"aag 1025 1025 0 0 0\n", b"malformed first 4 0\n"),
-        (b"aag 1 0 1 0 0\n2 3\n", b"malformed first 2 0\n"),
-        (b"aag 0 0 0 1 0\nx\n", b"malformed first 7 14\n"),
-        (b"aag 1 0 0 1 0\n4\n", b"malformed first 8 14\n"),
-        (b"aag 1 1 0 0 0\n3\n", b"malformed first 8 14\n"),
-        (b"aag 2 2 0 0 0\n2\n2\n", b"malformed first 9 16\n"),
-        (b"aag 1 0 0 1 0\n2\n", b"malformed first 10 14\n"),
-        (b"aag 0 0 0 1 0\n", b"malformed first 14 14\n"),
-        (b"aag 1 1 0 1 0\n2\n", b"malformed first 14 16\n"),
-        (b"aig 0 0 0 0 1\n", b"malformed first 1 0\n"),
-        (
-            b"aig 1 0 0 0 1\n\x82\x82\x82\x82\x82",
-            b"malformed first 11 14\n",
-        ),
-        (b"aig 3 2 0 1 1\n6\n\x82", b"malformed first 11 16\n"),
-        (b"aig 3 2 0 1 1\n6\n\x02", b"malformed first 11 17\n"),
-        (b"aig 3 2 0 1 1\n6\n\x07\x00", b"malformed first 11 16\n"),
-        (
-            b"aag 4 2 0 1 2\n2\n4\n8\n8 6 2\n6 8 4\n",
-            b"malformed first 12 20\n",
-        ),
-        (b"aag 1 1 0 1 0\n2\n2\ni1 x\n", b"malformed first 13 18\n"),
-        (b".latch x y\n", b"malformed first 21 0\n"),
-        (b".gate nand2 a=x\n", b"malformed first 20 0\n"),
-        (b".model m\n.model n\n", b"malformed first 23 9\n"),
-        (b".inputs a a\n.outputs a\n", b"malformed first 29 10\n"),
-        (
-            b".inputs a\n.outputs y\n.names a y\n1 1\n0 0\n",
-            b"malformed first 26 36\n",
-        ),
-        (
-            b".inputs a\n.outputs y\n.names a b y\n11 1\n",
-            b"malformed first 31 30\n",
-        ),
-        (
-            b".inputs a\n.outputs y\n.names a y y\n11 1\n",
-            b"malformed first 32 21\n",
-        ),
-    ];
+const MALFORMED_AIGER: [(&[u8], &[u8]); 18] = [
+    (b"aag 4294967295 0 0 0 0\n", b"malformed first 6 0\n"),
+    (b"aag 4294967296 0 0 0 0\n", b"malformed first 1 0\n"),
+    (b"aag 1025 1025 0 0 0\n", b"malformed first 4 0\n"),
+    (b"aag 1 0 1 0 0\n2 3\n", b"malformed first 2 0\n"),
+    (b"aag 0 0 0 1 0\nx\n", b"malformed first 7 14\n"),
+    (b"aag 1 0 0 1 0\n4\n", b"malformed first 8 14\n"),
+    (b"aag 1 1 0 0 0\n3\n", b"malformed first 8 14\n"),
+    (b"aag 2 2 0 0 0\n2\n2\n", b"malformed first 9 16\n"),
+    (b"aag 1 0 0 1 0\n2\n", b"malformed first 10 14\n"),
+    (b"aag 0 0 0 1 0\n", b"malformed first 14 14\n"),
+    (b"aag 1 1 0 1 0\n2\n", b"malformed first 14 16\n"),
+    (
+        b"aag 4 2 0 1 2\n2\n4\n8\n8 6 2\n6 8 4\n",
+        b"malformed first 12 20\n",
+    ),
+    (b"aag 1 1 0 1 0\n2\n2\ni1 x\n", b"malformed first 13 18\n"),
+    (b"aig 0 0 0 0 1\n", b"malformed first 1 0\n"),
+    (
+        b"aig 1 0 0 0 1\n\x82\x82\x82\x82\x82",
+        b"malformed first 11 14\n",
+    ),
+    (b"aig 3 2 0 1 1\n6\n\x82", b"malformed first 11 16\n"),
+    (b"aig 3 2 0 1 1\n6\n\x02", b"malformed first 11 17\n"),
+    (b"aig 3 2 0 1 1\n6\n\x07\x00", b"malformed first 11 16\n"),
+];
+
+const MALFORMED_BLIF: [(&[u8], &[u8]); 9] = [
+    (b"", b"malformed first 28 0\n"),
+    (b"aag", b"malformed first 27 0\n"),
+    (b".latch x y\n", b"malformed first 21 0\n"),
+    (b".gate nand2 a=x\n", b"malformed first 20 0\n"),
+    (b".model m\n.model n\n", b"malformed first 23 9\n"),
+    (b".inputs a a\n.outputs a\n", b"malformed first 29 10\n"),
+    (
+        b".inputs a\n.outputs y\n.names a y\n1 1\n0 0\n",
+        b"malformed first 26 36\n",
+    ),
+    (
+        b".inputs a\n.outputs y\n.names a b y\n11 1\n",
+        b"malformed first 31 30\n",
+    ),
+    (
+        b".inputs a\n.outputs y\n.names a y y\n11 1\n",
+        b"malformed first 32 21\n",
+    ),
+];
+
+fn check_malformed(rt: &impl Abort, alloc: Global, rows: &[(&[u8], &[u8])]) -> Result<(), Fail> {
     for (first, report) in rows {
-        let (ended, printed) = answer(&rt, &["check", "A", "B", "t"], [first, B, TABLE])?;
-        assert_eq!(rt; printed.as_slice(), report);
+        let (ended, printed) = answer(alloc, &["check", "A", "B", "t"], [*first, B, TABLE])?;
+        assert_eq!(rt; printed.as_slice(), *report);
         assert_eq!(rt; ended, 5);
     }
-    let (_, printed) = answer(
-        &rt,
-        &["check", "A", "B", "t"],
-        [A, b"aag 0 0 0 1 0\nx\n", TABLE],
-    )?;
+    Ok(())
+}
+
+#[test]
+fn refuses_malformed_aiger_at_its_place(rt: HostRuntime) -> Result<(), Fail> {
+    check_malformed(&rt, rt.alloc(), &MALFORMED_AIGER)
+}
+
+#[test]
+fn refuses_malformed_blif_at_its_place(rt: HostRuntime) -> Result<(), Fail> {
+    check_malformed(&rt, rt.alloc(), &MALFORMED_BLIF)
+}
+
+#[test]
+fn names_the_second_netlist_as_malformed(rt: HostRuntime) -> Result<(), Fail> {
+    let files: [&[u8]; 3] = [A, b"aag 0 0 0 1 0\nx\n", TABLE];
+    let (ended, printed) = answer(rt.alloc(), &["check", "A", "B", "t"], files)?;
     assert_eq!(rt; printed.as_slice(), b"malformed second 7 14\n".as_slice());
+    assert_eq!(rt; ended, 5);
     Ok(())
 }
 

@@ -1,6 +1,6 @@
 //! Whole tables of files, with the truth tables of their netlists.
 
-use crate::read;
+use super::read_text;
 use items::Items;
 use net_core::{Graph, Name, NetFault, NetKind, NetStop, lit_value};
 use std::alloc::{AllocError, Global};
@@ -153,7 +153,7 @@ fn reads_covers_of_either_kind(rt: HostRuntime) -> Result<(), Fail> {
         ),
     ];
     for (text, inputs, outputs, gates, table) in files {
-        let named = read(rt.alloc(), text).ok().ok_or("not read")?;
+        let named = read_text(rt.alloc(), text).ok().ok_or("not read")?;
         assert_eq!(rt;
             joined(rt.alloc(), &named.input_names)?.as_slice(),
             inputs,
@@ -256,7 +256,11 @@ fn names_the_first_fault(rt: HostRuntime) {
     ];
     for (text, kind, at) in files {
         let stop = NetStop::Fault(NetFault { kind, at });
-        assert_eq!(rt; read(rt.alloc(), text).err(), Some(stop), "at {text:?}");
+        assert_eq!(rt;
+            read_text(rt.alloc(), text).err(),
+            Some(stop),
+            "at {text:?}"
+        );
     }
 }
 
@@ -274,21 +278,83 @@ fn put_ports(word: &[u8], count: u64, out: &mut Vec<u8>) -> Result<(), AllocErro
 fn counts_ports(rt: HostRuntime) -> Result<(), Fail> {
     // ten names of two bytes, ninety of three, nine hundred of four and twenty-four of five, each with a blank before it
     let names = 10 * 3 + 90 * 4 + 900 * 5 + 24 * 6;
-    let rows = [
-        (1_024, 1_024, None),
-        (1_025, 1_025, Some((NetKind::TooManyInputs, 8 + names))),
+    let last_output = 8 + names + 9 + names;
+    let rows: [(u64, u64, &[u8], Option<(NetKind, u64)>); 6] = [
+        (1_024, 1_024, b"", None),
+        (1_024, 1_024, b".names i1024\n", None),
+        (1_025, 1_025, b"", Some((NetKind::TooManyInputs, 8 + names))),
         (
             1_024,
             1_025,
-            Some((NetKind::NameUndefined, 8 + names + 9 + names)),
+            b"",
+            Some((NetKind::NameUndefined, last_output)),
+        ),
+        // the output beyond the limit is defined behind the ports
+        (
+            1_024,
+            1_025,
+            b".names i1024\n",
+            Some((NetKind::TooManyOutputs, last_output)),
+        ),
+        (
+            1_024,
+            1_026,
+            b".names i1024\n.names i1025\n",
+            Some((NetKind::TooManyOutputs, last_output)),
         ),
     ];
-    for (inputs, outputs, fault) in rows {
+    for (inputs, outputs, covers, fault) in rows {
         let mut text = Vec::new(rt.alloc());
         put_ports(b".inputs", inputs, &mut text)?;
         put_ports(b".outputs", outputs, &mut text)?;
+        text.extend_from_slice(covers)?;
         let stop = fault.map(|(kind, at)| NetStop::Fault(NetFault { kind, at }));
-        assert_eq!(rt; read(rt.alloc(), &text).err(), stop);
+        assert_eq!(rt; read_text(rt.alloc(), &text).err(), stop);
     }
+    Ok(())
+}
+
+// The cover of a signal y by rows that have a literal for each operand, which is a each time.
+fn put_cover(
+    alloc: Global,
+    operands: usize,
+    rows: usize,
+    out: &mut Vec<u8>,
+) -> Result<(), AllocError> {
+    let literals = vec![in alloc; b'1'; operands]?;
+    put_operands(operands, out)?;
+    for _ in 0..rows {
+        out.extend_from_slice(&literals)?;
+        out.extend_from_slice(b" 1\n")?;
+    }
+    Ok(())
+}
+
+fn put_operands(count: usize, out: &mut Vec<u8>) -> Result<(), AllocError> {
+    out.extend_from_slice(b".names")?;
+    for _ in 0..count {
+        out.extend_from_slice(b" a")?;
+    }
+    out.extend_from_slice(b" y\n")
+}
+
+#[test]
+fn counts_gates(rt: HostRuntime) -> Result<(), Fail> {
+    let mut text = Vec::new(rt.alloc());
+    text.extend_from_slice(b".inputs a\n.outputs y\n")?;
+    // each row has a gate less than literals, and each row but one a gate that joins it
+    put_cover(rt.alloc(), 101, 9_901, &mut text)?;
+    let named = read_text(rt.alloc(), &text).ok().ok_or("not read")?;
+    assert_eq!(rt; named.graph.gates().len(), 1_000_000);
+    // one gate more; that no output needs it makes no difference
+    text.extend_from_slice(b".names a a z\n11 1\n")?;
+    let fault = NetFault {
+        kind: NetKind::TooManyGates,
+        at: text.len() as u64,
+    };
+    assert_eq!(rt;
+        read_text(rt.alloc(), &text).err(),
+        Some(NetStop::Fault(fault))
+    );
     Ok(())
 }

@@ -1,5 +1,14 @@
+use Rattle.std.proofs.Common.{length, ap, arith}
 use Rattle.std.proofs.lemmas.Result.{err_from_is_err_and}
+use Rattle.blif_reader.proofs.FewNames.{few_names}
 use Rattle.blif_reader.proofs.whole.read.Goals as goal
+
+pub known_covers-requires-clause-few : goal.known_covers-requires-clause-few
+known_covers-requires-clause-few c =
+    omega (arith, c.requires.file, few_names c.args.input.now, ap length c.in_ok-number_names.ensures.names)
+
+pub name_net-requires-clause-signals : goal.name_net-requires-clause-signals
+name_net-requires-clause-signals c = omega (arith, c.requires.file, few_names c.args.input.now)
 
 pub returns-in_err-check_port_lines-clause-fault : goal.returns-in_err-check_port_lines-clause-fault
 returns-in_err-check_port_lines-clause-fault c = λ fault same.
