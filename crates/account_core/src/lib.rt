@@ -1,0 +1,6 @@
+//! What an account says, as plain data.
+#![tactic(auto)]
+
+mod conclusion;
+
+pub use conclusion::Conclusion;

@@ -1,0 +1,3 @@
+pub mod ColonLemmas
+pub mod StepLemmas
+pub mod WordLemmas

@@ -1,0 +1,4 @@
+pub mod Spelling
+pub mod Forms
+pub mod Texts
+pub mod Reading

@@ -1,0 +1,18 @@
+//! Accounts as text: a line for each record.
+#![tactic(auto)]
+
+mod fault;
+mod forms;
+mod place;
+mod reader;
+mod record;
+mod spelling;
+mod step;
+
+pub use fault::{FileStop, RecordFault};
+pub use reader::Reader;
+pub use record::Record;
+pub use spelling::put_record;
+
+#[cfg(test)]
+mod tests;

@@ -1,0 +1,167 @@
+//! One step of reading an account's text.
+
+ghost use Rattle.std.specs.Prelude.{◌≡◌, ◌≤◌, length, count_by};
+ghost use Rattle.std.specs.List.{position_or_len};
+ghost use Rattle.text_core.specs.Bytes.{is_line_feed};
+ghost use Rattle.account_file.specs.Reading.{is_output, line_at, logs_of, place_behind, placed, step_of, step_at_end, step_at_line};
+ghost use Rattle.account_file.specs.Texts.{Answers, AnswersStep};
+
+use crate::fault::{FileStop, RecordFault};
+use crate::forms::read_line;
+use crate::place::Place;
+use crate::record::Record;
+use account_core::Conclusion;
+use circuits::{Pair, PortKind};
+use std::alloc::Global;
+
+/// What is done with the bytes that are left.
+#[derive(Debug, Drop)]
+pub enum Step {
+    /// Nothing.
+    Wait,
+    /// A record is read: so many bytes are used, and the account stands there.
+    Read {
+        entry: Record,
+        place: Place,
+        used: usize,
+    },
+    /// A line is refused.
+    Refuse(RecordFault),
+}
+
+/// What is done with the bytes that are left, where the account stands there.
+pub(crate) fn step_of(
+    alloc: Global,
+    left: &[u8],
+    finished: bool,
+    place: Place,
+) -> Result<Step, FileStop>
+    ensures { AnswersStep result (step_of left.now finished place) }
+{
+    let end = line_end(left);
+    if end < left.len() {
+        return step_at_line(alloc, place, &left[..end]);
+    }
+    if finished {
+        return Ok(step_at_end(place, left));
+    }
+    Ok(Step::Wait)
+}
+
+// How many bytes stand before the first line feed, or all where there is none.
+fn line_end(bytes: &[u8]) -> usize
+    ensures { result ≡ position_or_len is_line_feed bytes.now }
+{
+    bytes.iter().take_while(|byte| **byte != b'\n').count()
+}
+
+// What is done where the bytes end.
+fn step_at_end(place: Place, left: &[u8]) -> Step
+    ensures { result ≡ step_at_end place left.now }
+{
+    match place {
+        Place::Ended => {
+            if left.is_empty() {
+                Step::Wait
+            } else {
+                Step::Refuse(RecordFault::Trailing)
+            }
+        }
+        _ => Step::Refuse(RecordFault::Truncated),
+    }
+}
+
+// What is done at a whole line.
+fn step_at_line(alloc: Global, place: Place, line: &[u8]) -> Result<Step, FileStop>
+    ensures { AnswersStep result (step_at_line place line.now) }
+{
+    if let Place::Ended = place {
+        return Ok(Step::Refuse(RecordFault::Trailing));
+    }
+    match line_at(alloc, place, line) {
+        Ok((entry, place)) => Ok(Step::Read {
+            entry,
+            place,
+            used: line.len() + 1,
+        }),
+        Err(FileStop::Fault(fault)) => Ok(Step::Refuse(fault)),
+        Err(FileStop::Memory) => Err(FileStop::Memory),
+    }
+}
+
+// The record of a line, and where the account stands behind it.
+fn line_at(alloc: Global, place: Place, line: &[u8]) -> Result<(Record, Place), FileStop>
+    ensures { Answers (λ found. found) result (line_at place line.now) }
+{
+    if let Place::Start = place {
+        return first_line(line);
+    }
+    match read_line(alloc, line) {
+        Ok(entry) => in_place(place, entry),
+        Err(stop) => Err(stop),
+    }
+}
+
+// The first line, which names the format.
+fn first_line(line: &[u8]) -> Result<(Record, Place), FileStop>
+    ensures { Answers (λ found. found) result (line_at Place.Start line.now) }
+{
+    if line == b"npnp 1".as_slice() {
+        Ok((Record::Header, Place::Headed))
+    } else {
+        Err(FileStop::Fault(RecordFault::Header))
+    }
+}
+
+// A record, where it may stand there.
+fn in_place(place: Place, entry: Record) -> Result<(Record, Place), FileStop>
+    ensures { Answers (λ found. found) result (placed entry (place_behind place entry)) }
+{
+    match place_behind(place, &entry) {
+        Some(place) => Ok((entry, place)),
+        None => Err(FileStop::Fault(RecordFault::Order)),
+    }
+}
+
+// Where the account stands behind a record, if the record may stand there.
+fn place_behind(place: Place, entry: &Record) -> Option<Place>
+    ensures { result ≡ place_behind place entry.now }
+{
+    match (place, entry) {
+        (Place::Headed, Record::Conclusion(Conclusion::Match(pairs))) => {
+            Some(Place::Logs(logs_of(pairs)))
+        }
+        (Place::Logs(logs), Record::Line(line)) => {
+            if logs == 0 {
+                return None;
+            }
+            if line.clause.is_empty() {
+                return Some(Place::Logs(logs - 1));
+            }
+            Some(Place::Logs(logs))
+        }
+        (Place::Logs(0), Record::End) => Some(Place::Ended),
+        _ => None,
+    }
+}
+
+// How many logs follow a match.
+fn logs_of(pairs: &[Pair]) -> u64
+    ensures { result ≡ logs_of pairs.now }
+{
+    2 * outputs_in(pairs) as u64
+}
+
+// How many pairs are of outputs.
+fn outputs_in(pairs: &[Pair]) -> usize
+    ensures count { result ≡ count_by is_output pairs.now }
+    ensures within { result ≤ length pairs.now }
+{
+    let mut count = 0;
+    for pair in pairs.iter() {
+        if pair.kind == PortKind::Output {
+            count += 1;
+        }
+    }
+    count
+}
