@@ -1,3 +1,7 @@
 pub mod ColonLemmas
+pub mod CuttingLemmas
+pub mod NumberLemmas
+pub mod RecordLemmas
+pub mod SpellingLemmas
 pub mod StepLemmas
 pub mod WordLemmas

@@ -1,10 +1,11 @@
 -- An account as text: the one line of each record (this project's format).
-use Rattle.std.specs.Prelude.{ℕ, Bool, List, [], ◌∷◌, ◌++◌, codes, map, if◌then◌else◌}
+use Rattle.std.specs.Prelude.{ℕ, ◌<◌, ◌^◌, All, Bool, List, [], ◌∷◌, ◌++◌, codes, map, if◌then◌else◌}
 use Rattle.std.specs.Fmt.{decimal}
 use Rattle.std.specs.List.{flat_map}
 use Rattle.circuits.specs.declared.port.Pair.{Pair}
 use Rattle.circuits.specs.declared.port.PortKind.{PortKind}
 use Rattle.circuits.specs.declared.port.PortKind.TheVariants.{Input, Output}
+use Rattle.cnf_core.specs.declared.log.LogLine.{LogLine}
 use Rattle.account_core.specs.declared.conclusion.Conclusion.TheVariants.{Match}
 use Rattle.account_file.specs.declared.record.Record.{Record}
 use Rattle.account_file.specs.declared.record.Record.TheVariants as record_of
@@ -32,3 +33,18 @@ record_line record_of.Header = codes "npnp 1" ++ 10 ∷ []
 record_line (record_of.Conclusion (Match pairs)) = codes "match" ++ flat_map pair_text pairs ++ 10 ∷ []
 record_line (record_of.Line line) = codes "l" ++ numbers_text (map (λ literal. literal.0) line.clause) ++ codes " :" ++ numbers_text line.hints ++ 10 ∷ []
 record_line record_of.End = codes "end" ++ 10 ∷ []
+
+-- Each port of a table has 32 bits, each number of a log 64.
+pub record HasPorts (pair : Pair) : Type 0 where
+  pub from : pair.from < 2 ^ 32
+  pub to : pair.to < 2 ^ 32
+
+pub record HasNumbers (line : LogLine) : Type 0 where
+  pub literals : All (λ number. number < 2 ^ 64) (map (λ literal. literal.0) line.clause)
+  pub hints : All (λ number. number < 2 ^ 64) line.hints
+
+abbrev pub IsWritable : Record → Type 0
+IsWritable record_of.Header = Unit {0}
+IsWritable (record_of.Conclusion (Match pairs)) = All HasPorts pairs
+IsWritable (record_of.Line line) = HasNumbers line
+IsWritable record_of.End = Unit {0}

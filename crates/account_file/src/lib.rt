@@ -3,6 +3,7 @@
 
 mod fault;
 mod forms;
+mod laws;
 mod place;
 mod reader;
 mod record;
@@ -10,6 +11,7 @@ mod spelling;
 mod step;
 
 pub use fault::{FileStop, RecordFault};
+pub use laws::{any_cutting, one_spelling};
 pub use reader::Reader;
 pub use record::Record;
 pub use spelling::put_record;

@@ -1,0 +1,58 @@
+-- Lines as they are written are those that are read.
+use Rattle.std.proofs.Common.{◌≡◌, ℕ, ◌+◌, ◌≤◌, eqb, true, false, cond, List, [], ◌∷◌, ◌++◌, length, map, All, refl, sym, ap, ◌∙◌, arith, append_assoc, append-nil}
+use Rattle.std.specs.Char.{is_ascii_digit}
+use Rattle.std.specs.List.{flat_map, join_with_byte, prefix_len}
+use Rattle.std.specs.Str.{all_ascii_digits}
+use Rattle.std.proofs.lemmas.Bool.Decides.{nat_tests}
+use Rattle.std.proofs.lemmas.List.Elements.{All-nil, All-cons, All-head, All-tail}
+use Rattle.std.proofs.lemmas.List.Splits.{slice_split_at, slice_split_none, join_with_byte-slice_split}
+use Rattle.std.proofs.lemmas.Str.Parse.{tells_all_ascii_digits}
+use Rattle.account_file.specs.Forms.{is_space, words_of}
+use Rattle.account_file.proofs.NumberLemmas.{both}
+
+-- words behind a first one, a blank in front of each
+abbrev pub spaced : List (List ℕ) → List ℕ
+spaced words = flat_map (λ word. 32 ∷ word) words
+
+abbrev pub IsBlankless : List ℕ → Type 0
+IsBlankless word = All (λ byte. is_space byte ≡ false) word
+
+pub words_spaced : (first : List ℕ) (rest : List (List ℕ)) → IsBlankless first → All IsBlankless rest → words_of (first ++ spaced rest) ≡ first ∷ rest
+words_spaced first [] h hs = ap words_of (append-nil first) ∙ slice_split_none is_space first h
+words_spaced first (next ∷ rest) h hs =
+    slice_split_at is_space first 32 (next ++ spaced rest) h refl
+    ∙ ap (λ l. first ∷ l) (words_spaced next rest (All-head IsBlankless next rest hs) (All-tail IsBlankless next rest hs))
+
+joined : (first : List ℕ) (rest : List (List ℕ)) → join_with_byte 32 (first ∷ rest) ≡ first ++ spaced rest
+joined first [] = sym (append-nil first)
+joined first (next ∷ rest) = ap (λ l. first ++ 32 ∷ l) (joined next rest)
+
+pub spaced_words : (line first : List ℕ) (rest : List (List ℕ)) → words_of line ≡ first ∷ rest → line ≡ first ++ spaced rest
+spaced_words line first rest e = sym (join_with_byte-slice_split 32 line) ∙ ap (join_with_byte 32) e ∙ joined first rest
+
+pub spaced-map : {X : Type 0} (f : X → List ℕ) (xs : List X) → flat_map (λ x. 32 ∷ f x) xs ≡ spaced (map f xs)
+spaced-map f [] = refl
+spaced-map f (x ∷ xs) = ap (λ l. 32 ∷ f x ++ l) (spaced-map f xs)
+
+pub spaced-append : (us vs : List (List ℕ)) → spaced (us ++ vs) ≡ spaced us ++ spaced vs
+spaced-append [] vs = refl
+spaced-append (u ∷ us) vs = ap (λ l. 32 ∷ u ++ l) (spaced-append us vs) ∙ ap (λ l. 32 ∷ l) (sym (append_assoc u (spaced us) (spaced vs)))
+
+no_blank : (byte : ℕ) → 48 ≤ byte → eqb byte 32 ≡ false
+no_blank byte least = grind (arith, nat_tests)
+
+-- digits are no blanks
+pub digits_blankless : (ds : List ℕ) → all_ascii_digits ds ≡ true → IsBlankless ds
+digits_blankless [] e = All-nil (λ byte. is_space byte ≡ false)
+digits_blankless (c ∷ cs) e =
+    let k = tells_all_ascii_digits.parts c cs e in
+    let other : eqb c 32 ≡ false = no_blank c k.0.0 in
+    All-cons (λ byte. is_space byte ≡ false) c cs other (digits_blankless cs k.1)
+
+-- what stands behind the first byte that is no digit
+pub digits_front : (ds : List ℕ) (s : ℕ) (rest : List ℕ) → all_ascii_digits ds ≡ true → is_ascii_digit s ≡ false → prefix_len is_ascii_digit (ds ++ s ∷ rest) ≡ length ds
+digits_front [] s rest d other = ap (λ b. cond b (1 + prefix_len is_ascii_digit rest) 0) other
+digits_front (c ∷ cs) s rest d other =
+    let k = both (is_ascii_digit c) (all_ascii_digits cs) d in
+    let more = digits_front cs s rest k.1 other in
+    ap (λ b. cond b (1 + prefix_len is_ascii_digit (cs ++ s ∷ rest)) 0) k.0 ∙ omega (arith, more)
