@@ -1,6 +1,7 @@
 //! The reader of an account's text.
 
-ghost use Rattle.std.specs.Prelude.{◌≡◌, ◌≢◌, ◌+◌, ◌<◌, ◌^◌, ◌++◌, [], true, false, None, Err, OnOk, OnErr, length};
+ghost use Rattle.std.specs.Prelude.{◌≡◌, ◌≢◌, ◌+◌, ◌<◌, ◌^◌, ◌++◌, [], true, false, None, Some, Ok, Err, OnOk, OnErr, length};
+ghost use Rattle.account_file.specs.declared.record.Record.{Record as Entry};
 ghost use Rattle.account_file.specs.Reading.{next_answer, next_reading};
 ghost use Rattle.account_file.specs.Texts.{Answers};
 
@@ -95,11 +96,12 @@ impl Reader {
     }
 
     /// The next record. It is None where no whole line is held and more may come, and behind the end where nothing is left.
-    /// After a fault it is that fault again; want of memory changes nothing.
+    /// Each record uses bytes. After a fault it is that fault again; want of memory changes nothing.
     pub fn next(&mut self, alloc: Global) -> Result<Option<Record>, FileStop>
         ensures answer { Answers (λ found. found) result (next_answer self.old.fault self.old) }
         ensures reading { result ≢ Err FileStop.Memory → self.new ≡ next_reading self.old.fault self.old }
         ensures refused { result ≡ Err FileStop.Memory → self.new ≡ self.old }
+        ensures shrinks { (entry : Entry) → result ≡ Ok (Some entry) → length self.new.left < length self.old.left }
         ensures finished { self.new.finished ≡ self.old.finished }
         ensures total { self.new.total ≡ self.old.total }
     {
