@@ -1,0 +1,9 @@
+pub mod Conclusions
+pub mod Accounts
+pub mod Proofs
+pub mod Stages
+pub use Rattle.circuits.specs.Bijections
+pub use Rattle.circuits.specs.Matches
+pub use Rattle.cnf_core.specs.Derivations
+pub use Rattle.query_core.specs.Formulas
+pub use Rattle.query_core.specs.MatchQueries

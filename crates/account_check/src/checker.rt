@@ -1,0 +1,167 @@
+//! The checker of an account.
+
+ghost use Rattle.std.specs.Prelude.{◌≡◌, ◌↔◌, IsTrue, IfOk, OnOk, OnErr, Ok, Err, None, Some};
+ghost use Rattle.circuits.specs.Matches.{IsMatch};
+ghost use Rattle.account_check.specs.Accounts.{after, verdict_of, Follows, HasFault, Nothing};
+ghost use Rattle.account_file.specs.declared.record.Record.TheVariants as entry;
+ghost use Rattle.account_check.specs.declared.reject.RecordStop.TheVariants as stop;
+ghost use Rattle.account_check.specs.declared.reject.Reject.{Reject as AnyReject};
+ghost use Rattle.account_check.specs.declared.verdict.Verdict.TheVariants as verdict;
+ghost use Rattle.net_core.specs.declared.matching.Matching.{Matching as Table};
+
+use crate::logs::Logs;
+use crate::pairs::matching;
+use crate::reject::RecordStop;
+use crate::verdict::Verdict;
+use account_core::Conclusion;
+use account_file::Record;
+use cnf_core::LogLine;
+use items::Items;
+use net_core::{Graphs, Matching};
+use std::alloc::{AllocError, Global};
+use std::marker::Model;
+use std::mem;
+
+/// How far an account has come.
+#[derive(Drop)]
+pub(crate) enum Stage<'a> {
+    Empty,
+    Begun,
+    Proving(Logs<'a>),
+    Ended(Matching),
+}
+
+/// Takes an account of two circuits record by record: the header, a match, two logs for each of its outputs, the end.
+#[derive(Drop)]
+pub struct Checker<'a> {
+    graphs: &'a Graphs,
+    stage: Stage<'a>,
+}
+
+impl<'a> Model for Checker<'a> {
+    ghost use Rattle.account_check.specs.Accounts.{Account};
+    ghost use Rattle.account_check.specs.Stages.{progress_of, IsStage};
+
+    ghost Value = { Account };
+
+    ghost view = { λ a. record { graphs = a.graphs.now; progress = progress_of a.stage } };
+
+    ghost invariant = { λ a. IsStage a.graphs.now a.stage };
+}
+
+impl<'a> Checker<'a> {
+    /// No record was taken.
+    pub fn new(alloc: Global, graphs: &'a Graphs) -> Result<Checker<'a>, AllocError>
+        ensures { IfOk result (λ checker. checker ≡ record { graphs = graphs.now; progress = Nothing }) }
+    {
+        let _ = alloc;
+        Ok(Checker {
+            graphs,
+            stage: Stage::Empty,
+        })
+    }
+
+    /// Whether a record follows the others: the header is the first, then comes a match, then the lines of its logs, and
+    /// the end when all logs are closed.
+    pub fn follows(&self, entry: &Record) -> bool
+        ensures { IsTrue result ↔ Follows self.now.progress entry.now }
+    {
+        match &self.stage {
+            Stage::Empty => matches!(entry, Record::Header),
+            Stage::Begun => matches!(entry, Record::Conclusion(_)),
+            Stage::Proving(logs) if logs.are_closed() => matches!(entry, Record::End),
+            Stage::Proving(_) => matches!(entry, Record::Line(_)),
+            Stage::Ended(_) => false,
+        }
+    }
+
+    /// Takes a record that follows the others, exactly where nothing is wrong with it, unless memory is wanting. What is
+    /// refused changes nothing, nor does want of memory.
+    pub fn record(&mut self, alloc: Global, entry: &Record) -> Result<(), RecordStop>
+        requires { Follows self.old.progress entry.now }
+        ensures refused { (reject : AnyReject) → result ≡ Err (stop.Reject reject)
+            → HasFault self.old entry.now (Some reject) }
+        ensures taken { OnOk result (HasFault self.old entry.now None) }
+        ensures graphs { self.new.graphs ≡ self.old.graphs }
+        ensures progress { OnOk result (self.new.progress ≡ after self.old entry.now) }
+        ensures unchanged { OnErr result (self.new ≡ self.old) }
+    {
+        match entry {
+            Record::Header => {
+                self.stage = Stage::Begun;
+                Ok(())
+            }
+            Record::Line(line) => self.line(alloc, line),
+            Record::Conclusion(conclusion) => self.conclude(alloc, conclusion),
+            Record::End => {
+                self.end();
+                Ok(())
+            }
+        }
+    }
+
+    /// What the account proves: nothing before its end, and then that the pairs are a match.
+    pub fn verdict(&self, alloc: Global) -> Result<Option<Verdict>, AllocError>
+        ensures value { IfOk result (λ verdict. verdict ≡ verdict_of self.now.progress) }
+        ensures proved { (matching : Table) → result ≡ Ok (Some (verdict.Match matching))
+            → IsMatch self.now.graphs.first self.now.graphs.second matching.inputs matching.outputs }
+    {
+        match &self.stage {
+            Stage::Ended(matching) => Ok(Some(Verdict::Match(copy(alloc, matching)?))),
+            _ => Ok(None),
+        }
+    }
+
+    // Takes a conclusion, whose logs follow.
+    fn conclude(&mut self, alloc: Global, conclusion: &Conclusion) -> Result<(), RecordStop>
+        ensures refused { (reject : AnyReject) → result ≡ Err (stop.Reject reject)
+            → HasFault self.old (entry.Conclusion conclusion.now) (Some reject) }
+        ensures taken { OnOk result (HasFault self.old (entry.Conclusion conclusion.now) None) }
+        ensures graphs { self.new.graphs ≡ self.old.graphs }
+        ensures progress { OnOk result (self.new.progress ≡ after self.old (entry.Conclusion conclusion.now)) }
+        ensures unchanged { OnErr result (self.new ≡ self.old) }
+    {
+        let Conclusion::Match(pairs) = conclusion;
+        let matching = matching(alloc, self.graphs, pairs)?;
+        self.stage = Stage::Proving(Logs::new(alloc, self.graphs, matching)?);
+        Ok(())
+    }
+
+    // Takes a line of the open log.
+    fn line(&mut self, alloc: Global, line: &LogLine) -> Result<(), RecordStop>
+        requires { Follows self.old.progress (entry.Line line.now) }
+        ensures refused { (reject : AnyReject) → result ≡ Err (stop.Reject reject)
+            → HasFault self.old (entry.Line line.now) (Some reject) }
+        ensures taken { OnOk result (HasFault self.old (entry.Line line.now) None) }
+        ensures graphs { self.new.graphs ≡ self.old.graphs }
+        ensures progress { OnOk result (self.new.progress ≡ after self.old (entry.Line line.now)) }
+        ensures unchanged { OnErr result (self.new ≡ self.old) }
+    {
+        let Stage::Proving(logs) = &mut self.stage else {
+            unreachable!()
+        };
+        logs.line(alloc, line)
+    }
+
+    // Ends an account whose logs are all closed.
+    fn end(&mut self)
+        requires { Follows self.old.progress entry.End }
+        ensures graphs { self.new.graphs ≡ self.old.graphs }
+        ensures progress { self.new.progress ≡ after self.old entry.End }
+    {
+        let Stage::Proving(logs) = mem::replace(&mut self.stage, Stage::Empty) else {
+            unreachable!()
+        };
+        self.stage = Stage::Ended(logs.into_matching());
+    }
+}
+
+// An equal matching.
+fn copy(alloc: Global, matching: &Matching) -> Result<Matching, AllocError>
+    ensures { IfOk result (λ copy. copy ≡ matching.now) }
+{
+    Ok(Matching {
+        inputs: Items::from_slice(alloc, &matching.inputs)?,
+        outputs: Items::from_slice(alloc, &matching.outputs)?,
+    })
+}

@@ -1,0 +1,126 @@
+//! The pairs that an account concludes in.
+
+ghost use Rattle.std.specs.Prelude.{◌≡◌, ◌+◌, ◌≤◌, ◌↔◌, All, IsTrue, IfOk, OnOk, Err, None, Some, length, map};
+ghost use Rattle.circuits.specs.Matches.{HavePorts};
+ghost use Rattle.net_core.specs.Graph.{IsGraph};
+ghost use Rattle.account_check.specs.Conclusions.{entry_of, matching_of, ports_in, AreInOrder, AreOfKind, HasPairFault, HaveAsMany, IsKnown};
+ghost use Rattle.account_check.specs.declared.reject.RecordStop.TheVariants as stop;
+ghost use Rattle.account_check.specs.declared.reject.Reject.{Reject as AnyReject};
+
+use crate::reject::{RecordStop, Reject};
+use circuits::{Pair, PortKind};
+use items::Items;
+use net_core::{Graph, Graphs, Matching};
+use std::alloc::{AllocError, Global};
+
+/// The matching of pairs. They are refused as a conclusion where the circuits have other numbers of ports; else as unknown
+/// where one names a port that doesn't exist; else as a conclusion unless they name each input of the first circuit and
+/// then each output, in order, and no two go to one port.
+pub(crate) fn matching(
+    alloc: Global,
+    graphs: &Graphs,
+    pairs: &[Pair],
+) -> Result<Matching, RecordStop>
+    ensures refused { (reject : AnyReject) → result ≡ Err (stop.Reject reject)
+        → HasPairFault graphs.now pairs.now (Some reject) }
+    ensures taken { OnOk result (HasPairFault graphs.now pairs.now None) }
+    ensures matching { IfOk result (λ matching. matching ≡ matching_of graphs.now.first.inputs pairs.now) }
+    ensures ports { IfOk result (λ matching. HavePorts graphs.now.first graphs.now.second matching.inputs matching.outputs) }
+{
+    if !have_as_many(&graphs.first, &graphs.second) {
+        return Err(RecordStop::Reject(Reject::Conclusion));
+    }
+    if !are_known(graphs, pairs) {
+        return Err(RecordStop::Reject(Reject::UnknownId));
+    }
+    if !are_in_order(&graphs.first, pairs) {
+        return Err(RecordStop::Reject(Reject::Conclusion));
+    }
+    let inputs = graphs.first.inputs();
+    let outputs = graphs.first.outputs().len() as u32;
+    let matching = split(alloc, inputs as usize, pairs)?;
+    if !matching.check_shape(inputs, outputs) {
+        return Err(RecordStop::Reject(Reject::Conclusion));
+    }
+    Ok(matching)
+}
+
+// Whether two circuits have as many inputs, and as many outputs.
+fn have_as_many(first: &Graph, second: &Graph) -> bool
+    ensures { IsTrue result ↔ HaveAsMany first.now second.now }
+{
+    (first.inputs() == second.inputs()) & (first.outputs().len() == second.outputs().len())
+}
+
+// Whether the ports exist that the pairs name.
+fn are_known(graphs: &Graphs, pairs: &[Pair]) -> bool
+    ensures { IsTrue result ↔ All (IsKnown graphs.now) pairs.now }
+{
+    pairs.iter().all(|pair| is_known(graphs, *pair))
+}
+
+fn is_known(graphs: &Graphs, pair: Pair) -> bool
+    ensures { IsTrue result ↔ IsKnown graphs.now pair }
+{
+    let from = pair.from as usize;
+    let to = pair.to as usize;
+    (from < ports_in(&graphs.first, pair.kind)) & (to < ports_in(&graphs.second, pair.kind))
+}
+
+// How many ports of a kind a circuit has.
+fn ports_in(graph: &Graph, kind: PortKind) -> usize
+    ensures { result ≡ ports_in graph.now kind }
+{
+    match kind {
+        PortKind::Input => graph.inputs() as usize,
+        PortKind::Output => graph.outputs().len(),
+    }
+}
+
+// Whether there is a pair for each input of a circuit and then for each output, in order.
+fn are_in_order(graph: &Graph, pairs: &[Pair]) -> bool
+    ensures { IsTrue result ↔ AreInOrder graph.now pairs.now }
+{
+    let inputs = graph.inputs() as usize;
+    if pairs.len() != inputs + graph.outputs().len() {
+        return false;
+    }
+    are_of_kind(PortKind::Input, &pairs[..inputs]) & are_of_kind(PortKind::Output, &pairs[inputs..])
+}
+
+// Whether pair k is of port k of a kind.
+fn are_of_kind(kind: PortKind, pairs: &[Pair]) -> bool
+    ensures { IsTrue result ↔ AreOfKind kind pairs.now }
+{
+    for (k, pair) in pairs.iter().enumerate() {
+        if pair.kind != kind {
+            return false;
+        }
+        if pair.from as usize != k {
+            return false;
+        }
+    }
+    true
+}
+
+// The matching of pairs, of which the first so many are of inputs.
+fn split(alloc: Global, inputs: usize, pairs: &[Pair]) -> Result<Matching, AllocError>
+    requires { inputs ≤ length pairs.now }
+    ensures { IfOk result (λ matching. matching ≡ matching_of inputs pairs.now) }
+{
+    Ok(Matching {
+        inputs: entries(alloc, &pairs[..inputs])?,
+        outputs: entries(alloc, &pairs[inputs..])?,
+    })
+}
+
+// Where each pair's first port goes.
+fn entries(alloc: Global, pairs: &[Pair]) -> Result<Items<(u32, bool)>, AllocError>
+    ensures { IfOk result (λ entries. entries ≡ map entry_of pairs.now) }
+{
+    let mut entries = Items::new(alloc);
+    for pair in pairs.iter() {
+        entries.push((pair.to, pair.flip))?;
+    }
+    Ok(entries)
+}

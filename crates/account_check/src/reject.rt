@@ -1,0 +1,48 @@
+//! Why a record isn't taken.
+
+use cnf_core::LineFault;
+use std::alloc::{AllocError, AllocFailed};
+
+/// What is wrong with a record.
+#[derive(Clone, Copy, Debug, PartialEq, Eq, PartialOrd, Ord, Hash)]
+pub enum Reject {
+    /// It names a port that doesn't exist.
+    UnknownId,
+    /// A vector doesn't show what it is given for.
+    VectorFails,
+    /// A log's line isn't derived.
+    Refutation(LineFault),
+    /// A step isn't what its rule allows.
+    Rule,
+    /// The conclusion isn't one.
+    Conclusion,
+}
+
+/// Why a record isn't taken: it is refused, or memory is wanting.
+#[derive(Clone, Copy, Debug, Drop, PartialEq, Eq)]
+pub enum RecordStop {
+    Reject(Reject),
+    Memory,
+}
+
+impl From<AllocError> for RecordStop {
+    ghost use Rattle.std.specs.Prelude.{◌≡◌};
+    ghost use Rattle.account_check.specs.declared.reject.RecordStop.TheVariants.{Memory};
+
+    ghost from_gives = { λ _ stop. stop ≡ Memory };
+
+    fn from(_error: AllocError) -> RecordStop {
+        RecordStop::Memory
+    }
+}
+
+impl<T: Drop> From<AllocFailed<T>> for RecordStop {
+    ghost use Rattle.std.specs.Prelude.{◌≡◌};
+    ghost use Rattle.account_check.specs.declared.reject.RecordStop.TheVariants.{Memory};
+
+    ghost from_gives = { λ _ stop. stop ≡ Memory };
+
+    fn from(_failed: AllocFailed<T>) -> RecordStop {
+        RecordStop::Memory
+    }
+}
