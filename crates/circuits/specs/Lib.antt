@@ -1,7 +1,8 @@
 pub mod Literals
 pub mod Netlists
 pub mod Bijections
-pub mod Matches
 pub mod Circuits
+pub mod Functions
+pub mod Matches
 pub mod Expansion
 pub mod Levels
