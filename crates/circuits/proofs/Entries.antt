@@ -1,7 +1,7 @@
 -- That each list of entries of at most seven ports has its number.
 use Rattle.std.proofs.Common.{subst, append_assoc, ◌++◌, ◌-◌, ℕ, suc, ◌+◌, ◌*◌, ◌/◌, ◌%◌, ◌^◌, ◌<◌, ◌≤◌, ◌≡◌, Bool, eqb, All, List, [], ◌∷◌, length, refl, sym, ap, ap₂, ◌∙◌, arith, pow-add, one-mul, shl_exact}
 use Rattle.circuits.specs.Bijections.{IsSignedBijection, entries_of}
-use Rattle.circuits.specs.Matches.{IsMatch, IsPartOfMatch, AreNpnpEqual}
+use Rattle.circuits.specs.Matches.{IsMatchOfFunctions, IsPartOfMatch, HaveNpnpEqualFunctions}
 use Rattle.circuits.specs.Netlists.{Net}
 use Rattle.circuits.proofs.Codes.{digit_of, digit_of-below, eqb-digit_of}
 
@@ -49,12 +49,12 @@ count_of_lists n bound few h =
     omega (arith, shl_exact {a = 1} 1 (4 * n) 32 (omega arith) (omega arith), one-mul (2 ^ (4 * n)))
 
 -- no list of entries is left where no numbered one is part of a match
-pub no_part : (first second : Net) (p : List (ℕ × Bool)) (bound : ℕ) → length first.outputs ≤ 7 → 2 ^ (4 * length first.outputs) ≤ bound → ((c : ℕ) → c < bound → IsMatch first second p (entries_of (length first.outputs) c) → ⊥) → IsPartOfMatch first second p → ⊥
+pub no_part : (first second : Net) (p : List (ℕ × Bool)) (bound : ℕ) → length first.outputs ≤ 7 → 2 ^ (4 * length first.outputs) ≤ bound → ((c : ℕ) → c < bound → IsMatchOfFunctions first second p (entries_of (length first.outputs) c) → ⊥) → IsPartOfMatch first second p → ⊥
 no_part first second p bound few enough none part =
     let at = entries_of-onto (length first.outputs) part.0 few part.1.outputs in
-    none at.0 (omega (arith, at.1)) (subst (λ q. IsMatch first second p q) at.2 part.1)
+    none at.0 (omega (arith, at.1)) (subst (λ q. IsMatchOfFunctions first second p q) at.2 part.1)
 
-pub no_match : (first second : Net) (n bound : ℕ) → n ≡ first.inputs → n ≤ 7 → 2 ^ (4 * n) ≤ bound → ((c : ℕ) → c < bound → IsPartOfMatch first second (entries_of n c) → ⊥) → AreNpnpEqual first second → ⊥
+pub no_match : (first second : Net) (n bound : ℕ) → n ≡ first.inputs → n ≤ 7 → 2 ^ (4 * n) ≤ bound → ((c : ℕ) → c < bound → IsPartOfMatch first second (entries_of n c) → ⊥) → HaveNpnpEqualFunctions first second → ⊥
 no_match first second n bound same few enough none equal =
     let at = entries_of-onto n equal.0 few (subst (λ m. IsSignedBijection m equal.0) (sym same) equal.2.inputs) in
     none at.0 (omega (arith, at.1)) (subst (λ p. IsPartOfMatch first second p) at.2 (equal.1, equal.2))

@@ -15,6 +15,7 @@ use Rattle.circuits.specs.Literals.{bit, signal_of, literal_bit, plain_literal}
 use Rattle.circuits.specs.Netlists.{Net, IsOrdered, signals_of, function_of}
 use Rattle.circuits.specs.Circuits.{Circuit, IsClosed, FitsCircuit, signals_in, signal_at, def_at, names_of, def_bit, circuit_outputs}
 use Rattle.circuits.specs.Expansion.{Made, Making, stand_in, stands_for, def_made, with_def, with_defs, no_gates, expanded}
+use Rattle.circuits.specs.Functions.{Computes}
 use Rattle.circuits.specs.Levels.{IsWithin, HasLevel, IsAcyclic, IsLevelOrder, IsOrderOf}
 use Rattle.circuits.proofs.CircuitValuations.{some_valuation}
 use Rattle.circuits.proofs.Expansions.{AreEarlier, IsMade, IsMade-def, IsStoodFor, bits, kept_bit, All-tail, literal_bit-plain, signal_of-plain, stands_for-read, stands_for-bit}
@@ -255,3 +256,11 @@ IsOrderOf-inputs circuit net is = ap (λ (n : Net). n.inputs) is.is
 pub IsOrderOf-outputs : (circuit : Circuit) (net : Net) → IsOrderOf circuit net → length net.outputs ≡ length circuit.outputs
 IsOrderOf-outputs circuit net is =
     ap (λ (n : Net). length n.outputs) is.is ∙ length-map circuit.outputs (stands_for (all_made circuit is.order).literals)
+
+-- so it computes what the netlist means
+pub IsOrderOf-computes : (circuit : Circuit) (net : Net) → IsAcyclic circuit → IsClosed circuit → IsOrderOf circuit net → Computes net circuit
+IsOrderOf-computes circuit net acyclic closed is = record {
+  inputs = IsOrderOf-inputs circuit net is;
+  outputs = IsOrderOf-outputs circuit net is;
+  function = λ x v len fits. sym (same_function circuit net x v acyclic closed is len fits);
+}

@@ -2,10 +2,11 @@ pub mod Valuations
 pub mod Places
 pub mod Codes
 pub mod Entries
-pub mod MatchLaws
 pub mod LevelLaws
 pub mod LevelOrders
 pub mod Expansions
 pub mod CircuitValuations
 pub mod GateCounts
 pub mod OneOrder
+pub mod AsCircuit
+pub mod MatchLaws

@@ -1,13 +1,16 @@
--- The two ways to say a match are one, and each netlist matches itself.
+-- That a match of circuits is one of the functions that they compute, and each circuit matches itself.
 use Rattle.std.proofs.Common.{◌↔◌, ◌≤◌, ◌*◌, ◌%◌, ◌^◌, Result, Ok, Err, IfOk, IsTrue, subst, shl_exact, one-mul, ℕ, ◌<◌, ◌≡◌, Bool, true, false, List, length, get_or, map, refl, sym, ap, ◌∙◌, arith, ext_get_or}
 use Rattle.std.proofs.lemmas.List.FromFn.{length-map-range_with_len, get_or-map-range_with_len}
 use Rattle.std.specs.List.{range_with_len}
 use Rattle.circuits.specs.Literals.{bit, differ, vector_of}
-use Rattle.circuits.specs.Netlists.{Net, IsOrdered, Fits, output_bits, valuation_of}
+use Rattle.circuits.specs.Netlists.{Net, function_of}
+use Rattle.circuits.specs.Circuits.{Circuit, FitsCircuit, circuit_outputs}
+use Rattle.circuits.specs.Functions.{Computes}
+use Rattle.circuits.specs.Levels.{IsAcyclic}
 use Rattle.circuits.specs.Bijections.{IsSignedBijection, Moves, moved, place_of, sign_of}
-use Rattle.circuits.specs.Matches.{OutputsAgree, HavePorts, AgreeOn, AgreeOnAll, IsMatch, IsMatchOfFunctions}
+use Rattle.circuits.specs.Matches.{OutputsAgree, HavePorts, AgreeOn, AgreeOnAll, IsMatch, IsMatchOfFunctions, AreNpnpEqual, HaveNpnpEqualFunctions}
 use Rattle.circuits.proofs.Codes.{code_of, code_of-below, vector_of-code_of}
-use Rattle.circuits.proofs.Valuations.{valuation_of-fits, valuation_of-only}
+use Rattle.circuits.proofs.CircuitValuations.{some_valuation, one_valuation}
 use Rattle.circuits.proofs.Places.{moved-moves, moved-only, length-moved}
 
 pub IsSignedBijection-at : (m n : ℕ) (p : List (ℕ × Bool)) → m ≡ n → IsSignedBijection n p → IsSignedBijection m p
@@ -17,34 +20,51 @@ IsSignedBijection-at m n p same bijection = record {
   distinct = bijection.distinct;
 }
 
-pub functions_from_match : (first second : Net) (p q : List (ℕ × Bool)) → IsOrdered first → IsOrdered second → IsMatch first second p q → IsMatchOfFunctions first second p q
-functions_from_match first second p q one two matches = record {
-  same_inputs = matches.same_inputs;
-  same_outputs = matches.same_outputs;
-  inputs = matches.inputs;
-  outputs = matches.outputs;
-  agree = λ x len.
-      let len' : length (moved p x) ≡ second.inputs = length-moved p x ∙ (len ∙ sym matches.same_inputs) in
-      matches.agree x (moved p x) (valuation_of first x) (valuation_of second (moved p x)) len (moved-moves p x (IsSignedBijection-at (length x) first.inputs p len matches.inputs)) (valuation_of-fits first x one len) (valuation_of-fits second (moved p x) two len');
-}
-
-pub match_from_functions : (first second : Net) (p q : List (ℕ × Bool)) → IsOrdered first → IsOrdered second → IsMatchOfFunctions first second p q → IsMatch first second p q
-match_from_functions first second p q one two matches = record {
-  same_inputs = matches.same_inputs;
-  same_outputs = matches.same_outputs;
-  inputs = matches.inputs;
-  outputs = matches.outputs;
+pub functions_from_match : (first second : Circuit) (f g : Net) (p q : List (ℕ × Bool)) → IsAcyclic first → IsAcyclic second → Computes f first → Computes g second → IsMatch first second p q → IsMatchOfFunctions f g p q
+functions_from_match first second f g p q one two of_first of_second matches = record {
+  same_inputs = of_second.inputs ∙ (matches.same_inputs ∙ sym of_first.inputs);
+  same_outputs = of_second.outputs ∙ (matches.same_outputs ∙ sym of_first.outputs);
+  inputs = IsSignedBijection-at f.inputs first.inputs p of_first.inputs matches.inputs;
+  outputs = IsSignedBijection-at (length f.outputs) (length first.outputs) q of_first.outputs matches.outputs;
   agree = agree;
 }
   where
-    agree : (x y v w : List Bool) → length x ≡ first.inputs → Moves p x y → Fits first x v → Fits second y w → OutputsAgree q (output_bits first v) (output_bits second w)
+    agree : (x : List Bool) → length x ≡ f.inputs → AgreeOn f g p q x
+    agree x len k h =
+        let y = moved p x in
+        let len' : length x ≡ first.inputs = len ∙ of_first.inputs in
+        let len'' : length y ≡ second.inputs = length-moved p x ∙ (len' ∙ sym matches.same_inputs) in
+        let moves = moved-moves p x (IsSignedBijection-at (length x) first.inputs p len' matches.inputs) in
+        let v = some_valuation first x one len' in
+        let w = some_valuation second y two len'' in
+        ap (λ z. bit z k) (of_first.function x v.0 len' v.1)
+        ∙ (matches.agree x y v.0 w.0 len' moves v.1 w.1 k h ∙ ap (λ z. differ (bit z (place_of q k)) (sign_of q k)) (sym (of_second.function y w.0 len'' w.1)))
+
+pub match_from_functions : (first second : Circuit) (f g : Net) (p q : List (ℕ × Bool)) → Computes f first → Computes g second → IsMatchOfFunctions f g p q → IsMatch first second p q
+match_from_functions first second f g p q of_first of_second matches = record {
+  same_inputs = sym of_second.inputs ∙ (matches.same_inputs ∙ of_first.inputs);
+  same_outputs = sym of_second.outputs ∙ (matches.same_outputs ∙ of_first.outputs);
+  inputs = IsSignedBijection-at first.inputs f.inputs p (sym of_first.inputs) matches.inputs;
+  outputs = IsSignedBijection-at (length first.outputs) (length f.outputs) q (sym of_first.outputs) matches.outputs;
+  agree = agree;
+}
+  where
+    agree : (x y v w : List Bool) → length x ≡ first.inputs → Moves p x y → FitsCircuit first x v → FitsCircuit second y w → OutputsAgree q (circuit_outputs first v) (circuit_outputs second w)
     agree x y v w len moves fits fits' k h =
-        let bijection = IsSignedBijection-at (length x) first.inputs p len matches.inputs in
-        let ey = moved-only p x y bijection moves in
-        let len' : length y ≡ second.inputs = moves.same_length ∙ (len ∙ sym matches.same_inputs) in
-        let ev = valuation_of-only first x v one len fits in
-        let ew : w ≡ valuation_of second (moved p x) = valuation_of-only second y w two len' fits' ∙ ap (λ z. valuation_of second z) ey in
-        ap (λ z. bit (output_bits first z) k) ev ∙ (matches.agree x len k h ∙ ap (λ z. differ (bit (output_bits second z) (place_of q k)) (sign_of q k)) (sym ew))
+        let len' : length x ≡ f.inputs = len ∙ sym of_first.inputs in
+        let ey = moved-only p x y (IsSignedBijection-at (length x) f.inputs p len' matches.inputs) moves in
+        let len'' : length y ≡ second.inputs = moves.same_length ∙ (len' ∙ (sym matches.same_inputs ∙ of_second.inputs)) in
+        let second_bits = ap (function_of g) (sym ey) ∙ of_second.function y w len'' fits' in
+        ap (λ z. bit z k) (sym (of_first.function x v len fits)) ∙ (matches.agree x len' k h ∙ ap (λ z. differ (bit z (place_of q k)) (sign_of q k)) second_bits)
+
+-- and so are the bijections of NPNP equality
+pub functions_from_equal : (first second : Circuit) (f g : Net) → IsAcyclic first → IsAcyclic second → Computes f first → Computes g second → AreNpnpEqual first second → HaveNpnpEqualFunctions f g
+functions_from_equal first second f g one two of_first of_second equal =
+    (equal.0, equal.1, functions_from_match first second f g equal.0 equal.1 one two of_first of_second equal.2)
+
+pub equal_from_functions : (first second : Circuit) (f g : Net) → Computes f first → Computes g second → HaveNpnpEqualFunctions f g → AreNpnpEqual first second
+equal_from_functions first second f g of_first of_second equal =
+    (equal.0, equal.1, match_from_functions first second f g equal.0 equal.1 of_first of_second equal.2)
 
 -- each port to itself, plain
 abbrev pub unmoved : ℕ → List (ℕ × Bool)
@@ -82,28 +102,27 @@ moves-unmoved n x y len moves =
     let at = unmoved-at n k (0, false) l in
     ap (λ (entry : ℕ × Bool). bit y entry.0) (sym at) ∙ (moves.bits k (omega (arith, length-unmoved n)) ∙ (ap (λ (entry : ℕ × Bool). differ (bit x k) entry.1) at ∙ differ-false (bit x k))))
 
-pub match-unmoved : (net : Net) → IsOrdered net → IsMatch net net (unmoved net.inputs) (unmoved (length net.outputs))
-match-unmoved net ordered = record {
+pub match-unmoved : (circuit : Circuit) → IsAcyclic circuit → IsMatch circuit circuit (unmoved circuit.inputs) (unmoved (length circuit.outputs))
+match-unmoved circuit acyclic = record {
   same_inputs = refl;
   same_outputs = refl;
-  inputs = unmoved-bijection net.inputs;
-  outputs = unmoved-bijection (length net.outputs);
+  inputs = unmoved-bijection circuit.inputs;
+  outputs = unmoved-bijection (length circuit.outputs);
   agree = λ x y v w len moves fits fits' k h.
-      let ey = moves-unmoved net.inputs x y len moves in
-      let len' : length y ≡ net.inputs = ap length ey ∙ len in
-      let ev = valuation_of-only net x v ordered len fits in
-      let ew = valuation_of-only net y w ordered len' fits' ∙ ap (λ z. valuation_of net z) ey in
-      let l : k < length net.outputs = omega (arith, length-unmoved (length net.outputs)) in
-      ap (λ z. bit (output_bits net z) k) (ev ∙ sym ew) ∙ sym (unmoved-agree (length net.outputs) k (output_bits net w) l);
+      let ey = moves-unmoved circuit.inputs x y len moves in
+      let ev = one_valuation circuit x v w acyclic fits (subst (λ z. FitsCircuit circuit z w) ey fits') in
+      let l : k < length circuit.outputs = omega (arith, length-unmoved (length circuit.outputs)) in
+      ap (λ z. bit (circuit_outputs circuit z) k) ev ∙ sym (unmoved-agree (length circuit.outputs) k (circuit_outputs circuit w) l);
 }
 
-pub match_from_all : (first second : Net) (p q : List (ℕ × Bool)) → IsOrdered first → IsOrdered second → HavePorts first second p q → AgreeOnAll first second p q → IsMatch first second p q
-match_from_all first second p q one two ports agree =
-    match_from_functions first second p q one two (record { same_inputs = ports.same_inputs; same_outputs = ports.same_outputs; inputs = ports.inputs; outputs = ports.outputs; agree = agree })
-
-pub all_from_match : (first second : Net) (p q : List (ℕ × Bool)) → IsOrdered first → IsOrdered second → IsMatch first second p q → AgreeOnAll first second p q
-all_from_match first second p q one two matches =
-    (functions_from_match first second p q one two matches).agree
+pub match_from_all : (first second : Net) (p q : List (ℕ × Bool)) → HavePorts first second p q → AgreeOnAll first second p q → IsMatchOfFunctions first second p q
+match_from_all first second p q ports agree = record {
+  same_inputs = ports.same_inputs;
+  same_outputs = ports.same_outputs;
+  inputs = ports.inputs;
+  outputs = ports.outputs;
+  agree = agree;
+}
 
 -- the vectors with codes below 2 ^ n are all
 pub AgreeOnAll-from_codes : (first second : Net) (p q : List (ℕ × Bool)) (n : ℕ) → n ≡ first.inputs → ((code : ℕ) → code < 2 ^ n → AgreeOn first second p q (vector_of n code)) → AgreeOnAll first second p q

@@ -5,7 +5,8 @@ ghost use Rattle.std.specs.Prelude.{◌≡◌, ◌≢◌, ◌<◌, ◌≤◌, �
 ghost use Rattle.circuits.specs.Literals.{EachAt, signal_of, literal_bit, vector_of};
 ghost use Rattle.circuits.specs.Netlists.{IsOrdered, Fits, gate_bit, with_gates, valuation_of, function_of};
 ghost use Rattle.circuits.specs.Bijections.{IsSignedBijection, moved, entries_of};
-ghost use Rattle.circuits.specs.Matches.{OutputsAgree, HavePorts, AgreeOn, AgreeOnAll, IsMatch, IsPartOfMatch, AreNpnpEqual};
+ghost use Rattle.circuits.specs.Functions.{as_circuit};
+ghost use Rattle.circuits.specs.Matches.{OutputsAgree, HavePorts, AgreeOn, AgreeOnAll, IsMatch, IsMatchOfFunctions, IsPartOfMatch, AreNpnpEqual, HaveNpnpEqualFunctions};
 
 use crate::netlist::{Gate, Lit, Netlist};
 use std::alloc::{AllocError, Global};
@@ -172,7 +173,26 @@ pub fn is_match(
     requires first_ordered { IsOrdered first.now }
     requires second_ordered { IsOrdered second.now }
     requires few_inputs { first.now.inputs ≤ 16 }
-    ensures { IfOk result (λ matches. IsTrue matches ↔ IsMatch first.now second.now p.now q.now) }
+    ensures { IfOk result
+        (λ matches. IsTrue matches
+        ↔ IsMatch (as_circuit first.now) (as_circuit second.now) p.now q.now) }
+{
+    is_match_of_functions(alloc, first, second, p, q)
+}
+
+/// Whether p and q are a match of the functions of two netlists.
+fn is_match_of_functions(
+    alloc: Global,
+    first: &Netlist,
+    second: &Netlist,
+    p: &[(u32, bool)],
+    q: &[(u32, bool)],
+) -> Result<bool, AllocError>
+    requires first_ordered { IsOrdered first.now }
+    requires second_ordered { IsOrdered second.now }
+    requires few_inputs { first.now.inputs ≤ 16 }
+    ensures { IfOk result
+        (λ matches. IsTrue matches ↔ IsMatchOfFunctions first.now second.now p.now q.now) }
 {
     if !have_ports(first, second, p, q) {
         return Ok(false);
@@ -266,7 +286,23 @@ pub fn are_npnp_equal(alloc: Global, first: &Netlist, second: &Netlist) -> Resul
     requires second_ordered { IsOrdered second.now }
     requires few_inputs { first.now.inputs ≤ 7 }
     requires few_outputs { length first.now.outputs ≤ 7 }
-    ensures { IfOk result (λ equal. IsTrue equal ↔ AreNpnpEqual first.now second.now) }
+    ensures { IfOk result
+        (λ equal. IsTrue equal ↔ AreNpnpEqual (as_circuit first.now) (as_circuit second.now)) }
+{
+    have_npnp_equal_functions(alloc, first, second)
+}
+
+/// Whether some signed bijections of the ports are a match of the functions of two netlists.
+fn have_npnp_equal_functions(
+    alloc: Global,
+    first: &Netlist,
+    second: &Netlist,
+) -> Result<bool, AllocError>
+    requires first_ordered { IsOrdered first.now }
+    requires second_ordered { IsOrdered second.now }
+    requires few_inputs { first.now.inputs ≤ 7 }
+    requires few_outputs { length first.now.outputs ≤ 7 }
+    ensures { IfOk result (λ equal. IsTrue equal ↔ HaveNpnpEqualFunctions first.now second.now) }
 {
     let inputs = first.inputs();
     for code in 0..1u32 << (4 * inputs) {
@@ -278,7 +314,7 @@ pub fn are_npnp_equal(alloc: Global, first: &Netlist, second: &Netlist) -> Resul
     Ok(false)
 }
 
-/// Whether some signed bijection of the outputs makes a match with p.
+/// Whether some signed bijection of the outputs makes a match of the functions with p.
 fn is_part_of_match(
     alloc: Global,
     first: &Netlist,
@@ -297,7 +333,7 @@ fn is_part_of_match(
     let outputs = first.outputs().len() as u32;
     for code in 0..1u32 << (4 * outputs) {
         let q = entries(alloc, outputs, code)?;
-        if is_match(alloc, first, second, p, q.as_slice())? {
+        if is_match_of_functions(alloc, first, second, p, q.as_slice())? {
             return Ok(true);
         }
     }

@@ -3,7 +3,7 @@ use Rattle.std.proofs.Common.{◌≡◌, ℕ, ◌<◌, ◌≤◌, ◌↔◌, Boo
 use Rattle.std.proofs.lemmas.Bool.{false≢true}
 use Rattle.circuits.specs.Netlists.{Net}
 use Rattle.circuits.specs.Bijections.{IsSignedBijection}
-use Rattle.circuits.specs.Matches.{IsMatch}
+use Rattle.circuits.specs.Matches.{IsMatchOfFunctions}
 use Rattle.net_core.specs.declared.matching.Matching.{Matching}
 use Rattle.port_table.specs.Table.{table_text, ArePorts, IsMatchingTable, IsSmall}
 use Rattle.port_table.proofs.TableLemmas.{one_table, short_table}
@@ -25,7 +25,7 @@ ports_from_bijection : (n : ℕ) (p : List (ℕ × Bool)) → n ≤ 1024 → IsS
 ports_from_bijection n p few bijection = λ k d h. omega (arith, bijection.in_range k d h)
 
 -- the numbers of a match are small
-pub ports_from_match : (f g : Net) (p q : List (ℕ × Bool)) → IsSmall f → IsMatch f g p q → ArePorts p × ArePorts q
+pub ports_from_match : (f g : Net) (p q : List (ℕ × Bool)) → IsSmall f → IsMatchOfFunctions f g p q → ArePorts p × ArePorts q
 ports_from_match f g p q small m =
     (ports_from_bijection f.inputs p (omega (arith, small.inputs)) m.inputs, ports_from_bijection (length f.outputs) q small.outputs m.outputs)
 
@@ -51,8 +51,8 @@ one_matching_table f g text a b small one other =
     one_spelled text a b pa.0 pa.1 pb.0 pb.1 one.spelled other.spelled
 
 -- a table that is none, though it is spelled
-pub no_match : (f g : Net) (text : List ℕ) (found table : Matching) (matches : Bool) → IsSmall f → ArePorts found.inputs → ArePorts found.outputs → text ≡ table_text found.inputs found.outputs → (IsTrue matches ↔ IsMatch f g found.inputs found.outputs) → matches ≡ false → IsMatchingTable f g text table → ⊥
+pub no_match : (f g : Net) (text : List ℕ) (found table : Matching) (matches : Bool) → IsSmall f → ArePorts found.inputs → ArePorts found.outputs → text ≡ table_text found.inputs found.outputs → (IsTrue matches ↔ IsMatchOfFunctions f g found.inputs found.outputs) → matches ≡ false → IsMatchingTable f g text table → ⊥
 no_match f g text found table matches small fi fo spelled exact refused fact =
     let ports = ports_from_match f g table.inputs table.outputs small fact.matches in
     let same = one_spelled text table found ports.0 ports.1 fi fo fact.spelled spelled in
-    false≢true (sym refused ∙ exact.1 (subst (λ t. IsMatch f g t.inputs t.outputs) same fact.matches))
+    false≢true (sym refused ∙ exact.1 (subst (λ t. IsMatchOfFunctions f g t.inputs t.outputs) same fact.matches))

@@ -3,7 +3,7 @@ use Rattle.std.specs.Prelude.{◌≡◌, ℕ, ◌+◌, ◌<◌, ◌≤◌, ◌^�
 use Rattle.std.specs.Fmt.{decimal}
 use Rattle.std.specs.List.{All}
 use Rattle.circuits.specs.Netlists.{Net}
-use Rattle.circuits.specs.Matches.{IsMatch}
+use Rattle.circuits.specs.Matches.{IsMatchOfFunctions}
 use Rattle.net_core.specs.declared.matching.Matching.{Matching}
 
 -- what sends port number `port`: ` i3+5`, where input 3 goes to input 5 plain, or ` o0-1`, where output 0 goes to output 1 inverted
@@ -26,7 +26,7 @@ ArePorts entries = All (λ entry. entry.0 < 2 ^ 32) entries
 -- The text is the table, and the table is a match of the netlists.
 pub record IsMatchingTable (first second : Net) (text : List ℕ) (table : Matching) : Type 0 where
   pub spelled : text ≡ table_text table.inputs table.outputs
-  pub matches : IsMatch first second table.inputs table.outputs
+  pub matches : IsMatchOfFunctions first second table.inputs table.outputs
 
 -- a netlist of a size that is tried on every vector
 pub record IsSmall (net : Net) : Type 0 where

@@ -4,7 +4,7 @@ ghost use Rattle.std.specs.Prelude.{◌≡◌, ◌≤◌, ◌<◌, ◌^◌, ◌�
 ghost use Rattle.circuits.specs.Literals.{literal_bit, signal_of};
 ghost use Rattle.circuits.specs.Netlists.{signals_of};
 ghost use Rattle.circuits.specs.Bijections.{IsSignedBijection};
-ghost use Rattle.circuits.specs.Matches.{IsMatch, OutputsAgree, HavePorts, AgreeOn, AgreeOnAll};
+ghost use Rattle.circuits.specs.Matches.{IsMatchOfFunctions, OutputsAgree, HavePorts, AgreeOn, AgreeOnAll};
 
 use circuits::plain::write_vector;
 use net_core::{Graph, Lit, Matching, lit_value};
@@ -29,7 +29,7 @@ pub fn is_match(
 ) -> Result<bool, AllocError>
     requires { first.now.inputs ≤ 12 }
     ensures { IfOk result
-        (λ yes. IsTrue yes ↔ IsMatch first.now second.now table.now.inputs table.now.outputs) }
+        (λ yes. IsTrue yes ↔ IsMatchOfFunctions first.now second.now table.now.inputs table.now.outputs) }
 {
     let sides = Comparison {
         first,

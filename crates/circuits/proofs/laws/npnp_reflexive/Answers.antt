@@ -3,4 +3,5 @@ use Rattle.circuits.proofs.MatchLaws.{unmoved, match-unmoved}
 use Rattle.circuits.proofs.laws.npnp_reflexive.Goals as goal
 
 pub returns : goal.returns
-returns c = λ net ordered. (unmoved net.inputs, unmoved (length net.outputs), match-unmoved net ordered)
+returns c = λ circuit acyclic.
+    (unmoved circuit.inputs, unmoved (length circuit.outputs), match-unmoved circuit acyclic)

@@ -1,17 +1,12 @@
-use Rattle.std.proofs.Common.{below_more, sym, ◌∙◌, ◌≡◌, subst, ◌≤◌, arith, rules}
-use Rattle.std.proofs.lemmas.Bool.{false≢true}
-use Rattle.circuits.specs.Bijections.{entries_of}
-use Rattle.circuits.specs.Matches.{IsPartOfMatch}
-use Rattle.circuits.proofs.Entries.{no_match, count_of_lists}
+use Rattle.circuits.specs.Functions.{as_circuit}
+use Rattle.circuits.proofs.AsCircuit.{as_circuit-acyclic, as_circuit-computed}
+use Rattle.circuits.proofs.MatchLaws.{IfOk-like, functions_from_equal, equal_from_functions}
 use Rattle.circuits.proofs.plain.are_npnp_equal.Goals as goal
-
-pub loop-code-preserved : goal.loop-code-preserved
-loop-code-preserved c =
-    let is : entries_of c.inputs-inputs.result c.loop-code.code ≡ c.as_slice.result.now = search rules in
-    below_more _ _ c.loop-code.invariant (λ part. false≢true (sym c.if-branch.false ∙ c.in_ok-is_part_of_match.ensures.1 (subst (λ p. IsPartOfMatch c.args.first.now c.args.second.now p) is part)))
 
 pub returns : goal.returns
 returns c =
-    let n = c.inputs-inputs.result in
-    let few : n ≤ 7 = omega arith in
-    (λ h. absurd (false≢true h), λ equal. absurd (no_match c.args.first.now c.args.second.now n c.loop-code.code c.inputs-inputs.ensures few (count_of_lists n c.loop-code.code few c.loop-code-test.false) c.loop-code.invariant equal))
+    let f = c.args.first.now in
+    let g = c.args.second.now in
+    let one = c.requires.first_ordered in
+    let two = c.requires.second_ordered in
+    IfOk-like c.have_npnp_equal_functions.result (equal_from_functions (as_circuit f) (as_circuit g) f g (as_circuit-computed f one) (as_circuit-computed g two)) (functions_from_equal (as_circuit f) (as_circuit g) f g (as_circuit-acyclic f one) (as_circuit-acyclic g two) (as_circuit-computed f one) (as_circuit-computed g two)) c.have_npnp_equal_functions.ensures

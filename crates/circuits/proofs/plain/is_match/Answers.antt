@@ -1,10 +1,14 @@
-use Rattle.circuits.proofs.MatchLaws.{IfOk-like, match_from_all, all_from_match}
+use Rattle.circuits.specs.Functions.{as_circuit}
+use Rattle.circuits.proofs.AsCircuit.{as_circuit-acyclic, as_circuit-computed}
+use Rattle.circuits.proofs.MatchLaws.{IfOk-like, functions_from_match, match_from_functions}
 use Rattle.circuits.proofs.plain.is_match.Goals as goal
 
 pub returns : goal.returns
 returns c =
-    let first = c.args.first.now in
-    let second = c.args.second.now in
+    let f = c.args.first.now in
+    let g = c.args.second.now in
     let p = c.args.p.now in
     let q = c.args.q.now in
-    IfOk-like c.agree_on_all.result (match_from_all first second p q c.requires.first_ordered c.requires.second_ordered (c.have_ports.ensures.0 c.if-not-have_ports.false)) (all_from_match first second p q c.requires.first_ordered c.requires.second_ordered) c.agree_on_all.ensures
+    let one = c.requires.first_ordered in
+    let two = c.requires.second_ordered in
+    IfOk-like c.is_match_of_functions.result (match_from_functions (as_circuit f) (as_circuit g) f g p q (as_circuit-computed f one) (as_circuit-computed g two)) (functions_from_match (as_circuit f) (as_circuit g) f g p q (as_circuit-acyclic f one) (as_circuit-acyclic g two) (as_circuit-computed f one) (as_circuit-computed g two)) c.is_match_of_functions.ensures

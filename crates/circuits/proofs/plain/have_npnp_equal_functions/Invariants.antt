@@ -1,7 +1,7 @@
 use Rattle.std.proofs.Common.{ℕ, ◌<◌}
 use Rattle.circuits.specs.Bijections.{entries_of}
 use Rattle.circuits.specs.Matches.{IsPartOfMatch}
-use Rattle.circuits.proofs.plain.are_npnp_equal.Given as goal
+use Rattle.circuits.proofs.plain.have_npnp_equal_functions.Given as goal
 
 abbrev pub invariant-loop-code : goal.invariant-loop-code
 invariant-loop-code l =
