@@ -12,6 +12,7 @@ use Rattle.circuits.specs.Expansion.{gates_in}
 use Rattle.circuits.specs.Levels.{IsAcyclic, IsFirstLooped, IsOrderOf}
 use Rattle.circuits.specs.Netlists.{Net}
 use Rattle.circuits.proofs.GateCounts.{gates_in_order}
+use Rattle.circuits.proofs.LevelOrders.{IsOrderOf-inputs, IsOrderOf-outputs, same_function}
 use Rattle.net_core.specs.declared.named.NetKind.{NetKind}
 use Rattle.net_core.specs.declared.named.NetKind.TheVariants as fault
 use Rattle.blif_reader.specs.declared.directive.Directive.{Directive}
@@ -23,9 +24,9 @@ use Rattle.blif_reader.specs.JoinedLines.{word_of}
 use Rattle.blif_reader.specs.Firsts.{NoneIs}
 use Rattle.blif_reader.specs.Names.{same_name, port_words, words_of_kind, input_words, defined_on, defined_words, read_words, is_undefined}
 use Rattle.blif_reader.specs.Numbers.{bytes_of, port_names, AreNamed, AreDefined, IsRepeatedPort, IsRepeatedName}
-use Rattle.blif_reader.specs.Faults.{is_faulty, AreFew, AreDeclared, AreDistinct, AreDefinedOnce, AreKnown, IsAtFirst, IsPortFault, IsRedefinedFault, IsUndefinedFault}
+use Rattle.blif_reader.specs.Faults.{AreFew, AreDeclared, AreDistinct, AreDefinedOnce, AreKnown, IsAtFirst, IsPortFault, IsRedefinedFault, IsUndefinedFault}
 use Rattle.blif_reader.specs.Covers.{signal_names, literal_named, covers_of, blif_circuit, names_lines}
-use Rattle.blif_reader.specs.Blif.{IsCycleFault, IsGatesFault}
+use Rattle.blif_reader.specs.Blif.{blif_lines, IsBlif, IsCycleFault, IsGatesFault, ReadAs}
 use Rattle.blif_reader.specs.Building.{IsKnownIn, IsUnknownAt, IsUnknownFault, outputs_in, places_by, places_in, IsBuilt}
 use Rattle.blif_reader.proofs.FirstLemmas.{IsFirst-seam}
 use Rattle.blif_reader.proofs.NumberLemmas.{list_any-map, length-map}
@@ -90,6 +91,24 @@ undefined_name lines kind at single found = record {
   why = first_unknown lines (read_words lines) at found.why;
 }
 
+-- a name that is not undefined is that of a signal
+known_by_test : (t : Bool) → not t ≡ false → t ≡ true
+known_by_test true h = refl
+known_by_test false h = cc h
+
+signals_known : (lines : List (List Piece)) → AreKnown lines → All (IsKnownIn (signal_names lines)) (read_words lines)
+signals_known lines known k d below =
+    let word = get_or (read_words lines) k d in
+    known_by_test _ (sym (undefined_by lines (take k (read_words lines)) word) ∙ known.known k d below)
+
+-- the netlist that a file is
+pub closed_lines : (lines : List (List Piece)) → AreFew lines → IsClosed (blif_circuit lines)
+closed_lines lines few =
+    closed_circuit lines few.known.single.distinct.declared.sound (signals_known lines few.known)
+
+pub closed_blif : (bytes : List ℕ) (circuit : Circuit) (i o : List (List ℕ)) → IsBlif bytes circuit i o → IsClosed circuit
+closed_blif bytes circuit i o is = subst IsClosed (sym is.same) (closed_lines (blif_lines bytes) is.names)
+
 -- the netlist that the second pass makes
 abbrev pub circuit_made : ℕ → List Def → List Lit → Circuit
 circuit_made inputs defs outputs = record { inputs = inputs; defs = defs; outputs = outputs }
@@ -100,12 +119,9 @@ same_circuit lines inputs covers i built =
     ap (λ n. circuit_made n covers.defs covers.outputs) i
     ∙ (ap (λ ds. circuit_made (length (input_words lines)) ds covers.outputs) built.defs ∙ ap (circuit_made (length (input_words lines)) (covers_of (signal_names lines) lines)) outputs)
 
-abbrev pub is_sound : (lines : List (List Piece)) → AreFew lines → NoneIs is_faulty lines
-is_sound lines few = few.known.single.distinct.declared.sound
-
 pub closed_made : (lines : List (List Piece)) (inputs : ℕ) (covers : Covers) → AreFew lines → inputs ≡ length (input_words lines) → IsBuilt (signal_names lines) lines covers → IsClosed (circuit_made inputs covers.defs covers.outputs)
 closed_made lines inputs covers few i built =
-    subst IsClosed (sym (same_circuit lines inputs covers i built)) (closed_circuit lines (is_sound lines few) built.known)
+    subst IsClosed (sym (same_circuit lines inputs covers i built)) (closed_lines lines few)
 
 pub signals_made : (lines : List (List Piece)) (inputs : ℕ) (covers : Covers) → inputs ≡ length (input_words lines) → IsBuilt (signal_names lines) lines covers → 1 + length (signal_names lines) < 2 ^ 30 → 1 + inputs + length covers.defs < 2 ^ 30
 signals_made lines inputs covers i built small =
@@ -116,9 +132,31 @@ outputs_made lines covers few built =
     let long = ap length built.outputs ∙ (length-map (literal_named (signal_names lines)) (outputs_in lines) ∙ ap length (sym (output_words-outputs_in lines))) in
     omega (arith, long, few.outputs)
 
-pub gates_made : (lines : List (List Piece)) (net : Net) → AreFew lines → All (IsKnownIn (signal_names lines)) (read_words lines) → IsOrderOf (blif_circuit lines) net → length net.gates ≤ 1000000 → gates_in (blif_circuit lines) ≤ 1000000
-gates_made lines net few known ordered small =
-    omega (arith, gates_in_order (blif_circuit lines) net (closed_circuit lines (is_sound lines few) known) ordered)
+pub gates_made : (lines : List (List Piece)) (net : Net)
+    → AreFew lines
+    → IsOrderOf (blif_circuit lines) net
+    → length net.gates ≤ 1000000
+    → gates_in (blif_circuit lines) ≤ 1000000
+gates_made lines net few ordered small =
+    omega (arith, gates_in_order (blif_circuit lines) net (closed_lines lines few) ordered)
+
+-- a netlist in order that was made of a file computes what the file is
+pub read_as : (bytes : List ℕ) (net : Net) (i o : List (List ℕ))
+    → IsBlif bytes (blif_circuit (blif_lines bytes)) i o
+    → IsOrderOf (blif_circuit (blif_lines bytes)) net
+    → ReadAs bytes net i o
+read_as bytes net i o is ordered =
+    let circuit = blif_circuit (blif_lines bytes) in
+    record {
+      circuit = circuit;
+      is = is;
+      computes = record {
+        inputs = IsOrderOf-inputs circuit net ordered;
+        outputs = IsOrderOf-outputs circuit net ordered;
+        function = λ x v long fits. sym (same_function circuit net x v is.acyclic (closed_lines (blif_lines bytes) is.names) ordered long fits);
+      };
+      numbered = ordered;
+    }
 
 -- the offset of a `.names` line
 abbrev place_of : List Piece → ℕ

@@ -1,14 +1,35 @@
--- A file that is a netlist has few ports.
-use Rattle.std.proofs.Common.{◌≡◌, ℕ, ◌≤◌, List, length, arith}
-use Rattle.std.proofs.lemmas.List.{length-map}
-use Rattle.circuits.specs.Netlists.{Net}
-use Rattle.circuits.proofs.LevelOrders.{IsOrderOf-inputs, IsOrderOf-outputs}
-use Rattle.blif_reader.specs.Names.{output_words}
-use Rattle.blif_reader.specs.Covers.{blif_circuit}
-use Rattle.blif_reader.specs.Blif.{IsBlif, blif_lines}
+-- A file that is a netlist has few ports, each with a name.
+use Rattle.std.proofs.Common.{◌≡◌, ℕ, ◌≤◌, List, length, map, ap, sym, ◌∙◌, arith}
+use Rattle.circuits.specs.Circuits.{Circuit}
+use Rattle.text_core.specs.Piece.{Piece}
+use Rattle.blif_reader.specs.Names.{input_words, output_words}
+use Rattle.blif_reader.specs.Covers.{signal_names, literal_named}
+use Rattle.blif_reader.specs.Blif.{AreBlif, IsBlif, blif_lines}
+use Rattle.blif_reader.proofs.NumberLemmas.{length-map}
 
-pub few_ports : (bytes : List ℕ) (net : Net) (input_names output_names : List (List ℕ)) → IsBlif bytes net input_names output_names → (net.inputs ≤ 1024) × (length net.outputs ≤ 1024)
-few_ports bytes net input_names output_names is =
-    let circuit = blif_circuit (blif_lines bytes) in
-    let count : length circuit.outputs ≡ length (output_words (blif_lines bytes)) = length-map (output_words (blif_lines bytes)) _ in
-    (omega (arith, is.names.inputs, IsOrderOf-inputs circuit net is.ordered), omega (arith, is.names.outputs, IsOrderOf-outputs circuit net is.ordered, count))
+-- the bytes of words are as many as the words
+name_count : (words : List Piece) (names : List (List ℕ)) → names ≡ map (λ word. word.bytes) words → length names ≡ length words
+name_count words names h = ap length h ∙ length-map (λ (word : Piece). word.bytes) words
+
+module _ (lines : List (List Piece)) (circuit : Circuit) (i o : List (List ℕ)) (is : AreBlif lines circuit i o) where
+  input_count : circuit.inputs ≡ length (input_words lines)
+  input_count = ap (λ (c : Circuit). c.inputs) is.same
+
+  output_count : length circuit.outputs ≡ length (output_words lines)
+  output_count =
+      ap (λ (c : Circuit). length c.outputs) is.same ∙ length-map (literal_named (signal_names lines)) (output_words lines)
+
+pub few_inputs : (bytes : List ℕ) (circuit : Circuit) (i o : List (List ℕ)) → IsBlif bytes circuit i o → circuit.inputs ≤ 1024
+few_inputs bytes circuit i o is = omega (arith, is.names.inputs, input_count (blif_lines bytes) circuit i o is)
+
+pub few_outputs : (bytes : List ℕ) (circuit : Circuit) (i o : List (List ℕ)) → IsBlif bytes circuit i o → length circuit.outputs ≤ 1024
+few_outputs bytes circuit i o is = omega (arith, is.names.outputs, output_count (blif_lines bytes) circuit i o is)
+
+pub named_ports : (bytes : List ℕ) (circuit : Circuit) (i o : List (List ℕ))
+    → IsBlif bytes circuit i o
+    → (length i ≡ circuit.inputs) × (length o ≡ length circuit.outputs)
+named_ports bytes circuit i o is =
+    let lines = blif_lines bytes in
+    let inputs = name_count (input_words lines) i is.input_names_are in
+    let outputs = name_count (output_words lines) o is.output_names_are in
+    (inputs ∙ sym (input_count lines circuit i o is), outputs ∙ sym (output_count lines circuit i o is))

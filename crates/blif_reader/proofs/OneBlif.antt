@@ -1,9 +1,10 @@
 -- A file is one netlist at most, or has one first fault, and never both.
-use Rattle.std.proofs.Common.{◌≡◌, ℕ, ◌≤◌, ◌⊎◌, Bool, false, List, [], length, take, Some, get_or, inl, inr, sym, ap, ◌∙◌, arith}
+use Rattle.std.proofs.Common.{◌≡◌, ℕ, ◌≤◌, ◌⊎◌, Bool, false, List, [], length, take, Some, get_or, inl, inr, sym, ap, subst, ◌∙◌, arith}
 use Rattle.text_core.specs.Piece.{Piece}
-use Rattle.circuits.specs.Netlists.{Net}
+use Rattle.circuits.specs.Circuits.{Circuit}
+use Rattle.circuits.specs.Expansion.{gates_in}
 use Rattle.circuits.specs.Levels.{IsAcyclic}
-use Rattle.circuits.proofs.OneOrder.{one_order, one_first_looped, acyclic_not_looped}
+use Rattle.circuits.proofs.OneOrder.{one_first_looped, acyclic_not_looped}
 use Rattle.net_core.specs.declared.named.NetKind.{NetKind}
 use Rattle.blif_reader.specs.declared.survey.Port.{Port}
 use Rattle.blif_reader.specs.JoinedLines.{word_of}
@@ -11,15 +12,15 @@ use Rattle.blif_reader.specs.Firsts.{NoneIs}
 use Rattle.blif_reader.specs.Names.{input_words, defined_words, read_words, port_words, repeats_port, is_redefined, is_undefined}
 use Rattle.blif_reader.specs.Faults.{is_faulty, line_fault, AreDeclared, AreDistinct, AreDefinedOnce, AreKnown, AreFew, IsAtFirst, IsLineFault, IsPortLineFault, IsPortFault, IsRedefinedFault, IsUndefinedFault, IsInputsFault, IsOutputsFault}
 use Rattle.blif_reader.specs.Covers.{blif_circuit, names_lines}
-use Rattle.blif_reader.specs.Blif.{blif_lines, IsNetOfLines, IsCycleFault, IsGatesFault, IsFaultOfLines, IsBlif, IsBlifFault}
+use Rattle.blif_reader.specs.Blif.{blif_lines, AreBlif, IsCycleFault, IsGatesFault, IsFaultOfLines, IsBlif, IsBlifFault}
 use Rattle.blif_reader.proofs.FirstLemmas.{one_first, no_first}
 
-pub one_lines_netlist : (lines : List (List Piece)) (a b : Net) (i o j p : List (List ℕ)) → IsNetOfLines lines a i o → IsNetOfLines lines b j p → (a ≡ b) × (i ≡ j) × (o ≡ p)
-one_lines_netlist lines a b i o j p one other =
-    (one_order (blif_circuit lines) a b one.acyclic one.ordered other.ordered, one.input_names_are ∙ sym other.input_names_are, one.output_names_are ∙ sym other.output_names_are)
-
-pub one_netlist : (bytes : List ℕ) (a b : Net) (i o j p : List (List ℕ)) → IsBlif bytes a i o → IsBlif bytes b j p → (a ≡ b) × (i ≡ j) × (o ≡ p)
-one_netlist bytes a b i o j p one other = one_lines_netlist (blif_lines bytes) a b i o j p one other
+pub one_netlist : (bytes : List ℕ) (a b : Circuit) (i o j p : List (List ℕ))
+    → IsBlif bytes a i o
+    → IsBlif bytes b j p
+    → (a ≡ b) × (i ≡ j) × (o ≡ p)
+one_netlist bytes a b i o j p one other =
+    (one.same ∙ sym other.same, one.input_names_are ∙ sym other.input_names_are, one.output_names_are ∙ sym other.output_names_are)
 
 -- a fault is one at most
 abbrev IsOne : (NetKind → ℕ → Type 0) → Type 0
@@ -185,21 +186,21 @@ module _ (end : ℕ) (lines : List (List Piece)) where
   one_fault_of_lines =
       one_of (IsLineFault lines) FromPortLines (NoneIs is_faulty lines) (one_line lines) one_from_port_lines no_line sound
 
-  pub lines_or_fault : (net : Net) (i o : List (List ℕ)) (f : NetKind) (a : ℕ) → IsNetOfLines lines net i o → IsFaultOfLines end lines f a → ⊥
-  lines_or_fault net i o f a is (inl fault) = no_line f a fault is.names.known.single.distinct.declared.sound
-  lines_or_fault net i o f a is (inr (inl fault)) = fault.missing is.names.known.single.distinct.declared
-  lines_or_fault net i o f a is (inr (inr (inl fault))) = no_port f a fault is.names.known.single.distinct
-  lines_or_fault net i o f a is (inr (inr (inr (inl fault)))) = no_redefined f a fault is.names.known.single
-  lines_or_fault net i o f a is (inr (inr (inr (inr (inl fault))))) = no_undefined f a fault is.names.known
-  lines_or_fault net i o f a is (inr (inr (inr (inr (inr (inl fault)))))) = no_inputs f a fault is.names.inputs
-  lines_or_fault net i o f a is (inr (inr (inr (inr (inr (inr (inl fault))))))) = no_outputs f a fault is.names
-  lines_or_fault net i o f a is (inr (inr (inr (inr (inr (inr (inr (inl fault)))))))) = no_cycle f a fault is.acyclic
-  lines_or_fault net i o f a is (inr (inr (inr (inr (inr (inr (inr (inr fault)))))))) = omega (arith, fault.many, is.few_gates)
+  pub lines_or_fault : (circuit : Circuit) (i o : List (List ℕ)) (f : NetKind) (a : ℕ) → AreBlif lines circuit i o → IsFaultOfLines end lines f a → ⊥
+  lines_or_fault circuit i o f a is (inl fault) = no_line f a fault is.names.known.single.distinct.declared.sound
+  lines_or_fault circuit i o f a is (inr (inl fault)) = fault.missing is.names.known.single.distinct.declared
+  lines_or_fault circuit i o f a is (inr (inr (inl fault))) = no_port f a fault is.names.known.single.distinct
+  lines_or_fault circuit i o f a is (inr (inr (inr (inl fault)))) = no_redefined f a fault is.names.known.single
+  lines_or_fault circuit i o f a is (inr (inr (inr (inr (inl fault))))) = no_undefined f a fault is.names.known
+  lines_or_fault circuit i o f a is (inr (inr (inr (inr (inr (inl fault)))))) = no_inputs f a fault is.names.inputs
+  lines_or_fault circuit i o f a is (inr (inr (inr (inr (inr (inr (inl fault))))))) = no_outputs f a fault is.names
+  lines_or_fault circuit i o f a is (inr (inr (inr (inr (inr (inr (inr (inl fault)))))))) = no_cycle f a fault (subst IsAcyclic is.same is.acyclic)
+  lines_or_fault circuit i o f a is (inr (inr (inr (inr (inr (inr (inr (inr fault)))))))) = omega (arith, fault.many, is.few_gates, ap gates_in is.same)
 
 pub one_fault : (bytes : List ℕ) (fault other : NetKind) (at place : ℕ) → IsBlifFault bytes fault at → IsBlifFault bytes other place → (fault ≡ other) × (at ≡ place)
 one_fault bytes fault other at place one two =
     one_fault_of_lines (length bytes) (blif_lines bytes) fault other at place one two
 
-pub netlist_or_fault : (bytes : List ℕ) (net : Net) (i o : List (List ℕ)) (fault : NetKind) (at : ℕ) → IsBlif bytes net i o → IsBlifFault bytes fault at → ⊥
-netlist_or_fault bytes net i o fault at is bad =
-    lines_or_fault (length bytes) (blif_lines bytes) net i o fault at is bad
+pub netlist_or_fault : (bytes : List ℕ) (circuit : Circuit) (i o : List (List ℕ)) (fault : NetKind) (at : ℕ) → IsBlif bytes circuit i o → IsBlifFault bytes fault at → ⊥
+netlist_or_fault bytes circuit i o fault at is bad =
+    lines_or_fault (length bytes) (blif_lines bytes) circuit i o fault at is bad

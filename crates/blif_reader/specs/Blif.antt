@@ -2,7 +2,9 @@
 -- first fault.
 use Rattle.std.specs.Prelude.{◌≡◌, ℕ, ◌<◌, ◌≤◌, ◌⊎◌, List, [], length, map, slice_index_or}
 use Rattle.text_core.specs.Piece.{Piece}
+use Rattle.circuits.specs.Circuits.{Circuit}
 use Rattle.circuits.specs.Expansion.{gates_in}
+use Rattle.circuits.specs.Functions.{Computes}
 use Rattle.circuits.specs.Levels.{IsAcyclic, IsFirstLooped, IsOrderOf}
 use Rattle.circuits.specs.Netlists.{Net}
 use Rattle.net_core.specs.declared.named.NetKind.{NetKind}
@@ -17,11 +19,11 @@ abbrev pub blif_lines : List ℕ → List (List Piece)
 blif_lines bytes = joined_lines (record { bytes = bytes; at = 0 })
 
 -- The joined lines are this netlist, which has no cycle and no more gates than the limit, with these names of its ports.
-pub record IsNetOfLines (lines : List (List Piece)) (net : Net) (input_names output_names : List (List ℕ)) : Type 0 where
+pub record AreBlif (lines : List (List Piece)) (circuit : Circuit) (input_names output_names : List (List ℕ)) : Type 0 where
   pub names : AreFew lines
-  pub acyclic : IsAcyclic (blif_circuit lines)
-  pub few_gates : gates_in (blif_circuit lines) ≤ 1000000
-  pub ordered : IsOrderOf (blif_circuit lines) net
+  pub same : circuit ≡ blif_circuit lines
+  pub acyclic : IsAcyclic circuit
+  pub few_gates : gates_in circuit ≤ 1000000
   pub input_names_are : input_names ≡ map (λ word. word.bytes) (input_words lines)
   pub output_names_are : output_names ≡ map (λ word. word.bytes) (output_words lines)
 
@@ -56,8 +58,16 @@ IsFaultOfLines end lines kind at =
     ⊎ IsGatesFault end lines kind at
 
 -- The file is this netlist with these names, or has this first fault at this offset.
-abbrev pub IsBlif : List ℕ → Net → List (List ℕ) → List (List ℕ) → Type 0
-IsBlif bytes net input_names output_names = IsNetOfLines (blif_lines bytes) net input_names output_names
+abbrev pub IsBlif : List ℕ → Circuit → List (List ℕ) → List (List ℕ) → Type 0
+IsBlif bytes circuit input_names output_names = AreBlif (blif_lines bytes) circuit input_names output_names
 
 abbrev pub IsBlifFault : List ℕ → NetKind → ℕ → Type 0
 IsBlifFault bytes kind at = IsFaultOfLines (length bytes) (blif_lines bytes) kind at
+
+-- A file was read as this graph with these names of its ports: the graph computes the netlist that the file is. Its gates
+-- are taken by level, then by place, since accounts name gates by their numbers.
+pub record ReadAs (bytes : List ℕ) (graph : Net) (input_names output_names : List (List ℕ)) : Type 0 where
+  pub circuit : Circuit
+  pub is : IsBlif bytes circuit input_names output_names
+  pub computes : Computes graph circuit
+  pub numbered : IsOrderOf circuit graph

@@ -10,7 +10,7 @@ ghost use Rattle.blif_reader.specs.Covers.{blif_circuit, signal_names};
 ghost use Rattle.blif_reader.specs.Faults.{AreDeclared, AreDistinct, AreDefinedOnce, AreKnown, AreFew};
 ghost use Rattle.blif_reader.specs.Surveys.{IsSurveyed};
 ghost use Rattle.blif_reader.specs.Building.{IsBuilt};
-ghost use Rattle.blif_reader.specs.Blif.{blif_lines, IsBlif, IsBlifFault};
+ghost use Rattle.blif_reader.specs.Blif.{blif_lines, IsBlifFault, ReadAs};
 
 use crate::covers::{Covers, read_covers};
 use crate::names::{PortNames, add_defined, name_ports};
@@ -155,7 +155,7 @@ fn name_net(
     requires few { AreFew (blif_lines input.now) }
     requires built { IsBuilt (signal_names (blif_lines input.now)) (blif_lines input.now) covers }
     requires signals { 1 + length (signal_names (blif_lines input.now)) < 2 ^ 30 }
-    ensures netlist { IfOk result (λ named. IsBlif input.now named.graph named.input_names named.output_names) }
+    ensures netlist { IfOk result (λ named. ReadAs input.now named.graph named.input_names named.output_names) }
     ensures fault { (fault : NetFault) → result ≡ Err (NetStop.Fault fault)
         → IsBlifFault input.now fault.kind fault.at }
 {
@@ -186,7 +186,7 @@ fn name_net(
 /// cycle or above one, at its `.names` line; or more than 1,000,000 gates. [`NetStop::Memory`] for want of memory.
 pub fn read(alloc: Global, input: &[u8]) -> Result<Named, NetStop>
     requires file { length input.now ≤ 67108864 }
-    ensures netlist { IfOk result (λ named. IsBlif input.now named.graph named.input_names named.output_names) }
+    ensures netlist { IfOk result (λ named. ReadAs input.now named.graph named.input_names named.output_names) }
     ensures fault { (fault : NetFault) → result ≡ Err (NetStop.Fault fault)
         → IsBlifFault input.now fault.kind fault.at }
 {

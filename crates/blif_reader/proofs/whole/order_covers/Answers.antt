@@ -28,7 +28,7 @@ pub returns-in-Ok-clause-few_gates : goal.returns-in-Ok-clause-few_gates
 returns-in-Ok-clause-few_gates c =
     let lines = blif_lines c.args.input.now in
     let same = c.new-net.ensures ∙ same_circuit lines c.args.inputs c.args.covers c.requires.inputs c.requires.built in
-    gates_made lines c.in-Ok.graph c.requires.few c.requires.built.known (subst (λ n. IsOrderOf n c.in-Ok.graph) same c.in-Ok.ensures.graph) c.in-Ok.ensures.few
+    gates_made lines c.in-Ok.graph c.requires.few (subst (λ n. IsOrderOf n c.in-Ok.graph) same c.in-Ok.ensures.graph) c.in-Ok.ensures.few
 
 pub returns-in-Ok-clause-ordered : goal.returns-in-Ok-clause-ordered
 returns-in-Ok-clause-ordered c =
