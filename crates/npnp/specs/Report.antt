@@ -1,7 +1,7 @@
 -- What the program prints.
 use Rattle.std.specs.Prelude.{◌≡◌, ◌≢◌, ℕ, ◌⊎◌, Bool, IsTrue, List, [], ◌∷◌, ◌++◌, codes, Option}
 use Rattle.std.specs.Fmt.{decimal}
-use Rattle.net_core.specs.Kinds.{number_of}
+use Rattle.net_core.specs.Kinds.{kind_number}
 use Rattle.net_core.specs.declared.matching.Matching.{Matching}
 use Rattle.net_core.specs.declared.named.Named.{Named}
 use Rattle.port_report.specs.Reports.{match_text}
@@ -25,7 +25,7 @@ line_of Wide = codes "wide" ++ 10 ∷ []
 line_of Usage = codes "usage" ++ 10 ∷ []
 line_of (Absent file) = codes "absent " ++ file_word file ++ 10 ∷ []
 line_of (TooLarge file) = codes "too large " ++ file_word file ++ 10 ∷ []
-line_of (Malformed file kind at) = codes "malformed " ++ file_word file ++ 32 ∷ decimal (number_of kind) ++ 32 ∷ decimal at ++ 10 ∷ []
+line_of (Malformed file kind at) = codes "malformed " ++ file_word file ++ 32 ∷ decimal (kind_number kind) ++ 32 ∷ decimal at ++ 10 ∷ []
 line_of ReadFault = codes "read fault" ++ 10 ∷ []
 line_of WriteFault = []
 line_of Memory = codes "out of memory" ++ 10 ∷ []
