@@ -1,7 +1,7 @@
 -- The netlist of the binary form is closed, and has no cycle.
 use Rattle.std.proofs.Common.{◌≡◌, ℕ, zero, suc, ◌+◌, ◌-◌, ◌*◌, ◌/◌, ◌<◌, ◌≤◌, true, List, [], ◌∷◌, ◌++◌, length, map, get_or, All, inl, inr, if◌then◌else◌, sym, ap, ap₂, subst, ◌∙◌, arith, append-nil}
 use Rattle.std.proofs.lemmas.Bool.{cases_lt}
-use Rattle.std.proofs.lemmas.List.{length-map, get_or-map, nil_from_length}
+use Rattle.std.proofs.lemmas.List.{length-map, get_or-map, get_or_default, nil_from_length}
 use Rattle.std.proofs.lemmas.List.Elements.{All-nil, All-cons, All-map}
 use Rattle.std.proofs.lemmas.Simd.{map-map}
 use Rattle.circuits.specs.declared.netlist.Lit.{Lit}
@@ -13,12 +13,13 @@ use Rattle.net_core.specs.PlainNets.{IsPlainNet}
 use Rattle.aiger_reader.specs.declared.limits.Header.{Header}
 use Rattle.aiger_reader.specs.declared.body.AndLine.{AndLine}
 use Rattle.aiger_reader.specs.declared.body.Literals.{Literals}
-use Rattle.aiger_reader.specs.Headers.{AigerHeader}
-use Rattle.aiger_reader.specs.Bodies.{first_of, lit_from}
-use Rattle.aiger_reader.specs.Deltas.{BeginsGates, and_from, binary_circuit}
+use Rattle.aiger_reader.specs.Headers.{AigerHeader, Begins}
+use Rattle.aiger_reader.specs.Bodies.{IsBody, first_of, lit_from}
+use Rattle.aiger_reader.specs.Deltas.{BeginsGates, AreGates, and_from, behind_outputs, binary_circuit}
 use Rattle.aiger_reader.specs.Reading.{rows_of, row_of, input_lines_of, gate_lines_of, HasCounts}
 use Rattle.aiger_reader.specs.Numbered.{circuit_from}
 use Rattle.aiger_reader.specs.Assembly.{ArePairsBelow, IsBinaryBody}
+use Rattle.aiger_reader.proofs.LimitLemmas.{accepted_limits}
 
 -- the operands of the gates are below them
 each_more : (f : ℕ × ℕ → ℕ) (variable : ℕ) (gate : ℕ × ℕ) (gates : List (ℕ × ℕ)) → f gate < 2 * variable → ((k : ℕ) (d : ℕ × ℕ) → k < length gates → f (get_or gates k d) < 2 * (variable + 1 + k)) → (k : ℕ) (d : ℕ × ℕ) → k < length (gate ∷ gates) → f (get_or (gate ∷ gates) k d) < 2 * (variable + k)
@@ -62,6 +63,18 @@ binary_plain header outputs gates body =
       signals = omega (arith, body.gates_read, length-map gates and_from, header.few_inputs, header.few_gates);
       outputs = omega (arith, body.outputs_read, length-map outputs lit_from, header.few_outputs);
     }
+
+-- each row begins with a literal in range
+row_in_range : (n : ℕ) (row : List ℕ) → All (λ literal. literal ≤ n) row → first_of row ≤ n
+row_in_range n [] small = omega arith
+row_in_range n (literal ∷ row) small = small 0 0 (omega arith)
+
+-- the netlist of the binary form is closed
+pub rows_closed : (bytes : List ℕ) (h : AigerHeader) (rows : List (List ℕ)) (gates : List (ℕ × ℕ)) (rest : List ℕ) → h.binary ≡ true → Begins bytes h → IsBody bytes h rows → AreGates bytes h gates rest → IsClosed (binary_circuit h rows gates)
+rows_closed bytes h rows gates rest binary begins body are =
+    let most : 2 * h.variables + 1 ≡ 2 * (h.inputs + length gates) + 1 = omega (arith, begins.header.no_gaps binary, (accepted_limits h begins.accepted).latches, are.count) in
+    let small : All (λ literal. literal ≤ 2 * (h.inputs + length gates) + 1) (map first_of rows) = All-map (λ literal. literal ≤ 2 * (h.inputs + length gates) + 1) first_of rows (λ k d below. subst (λ n. first_of (get_or rows k d) ≤ n) most (subst (λ row. first_of row ≤ 2 * h.variables + 1) (get_or_default rows k [] d below) (row_in_range (2 * h.variables + 1) (get_or rows k []) (body.good.good k below).in_range))) in
+    subst (λ outputs. IsClosed (circuit_from h.inputs (map and_from gates) outputs)) (map-map lit_from first_of rows) (binary_closed h.inputs gates (map first_of rows) (begins_below (h.inputs + 1) (behind_outputs bytes h) rest gates are.read) small)
 
 -- the netlist of the outputs' lines
 pub binary_is : (h : AigerHeader) (literals : Literals) (gates : List (ℕ × ℕ)) → h.binary ≡ true → HasCounts literals (input_lines_of h) h.outputs (gate_lines_of h) → circuit_from h.inputs (map and_from gates) (map lit_from literals.outputs.items) ≡ binary_circuit h (rows_of literals) gates

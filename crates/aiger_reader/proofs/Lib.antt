@@ -18,6 +18,8 @@ pub mod LineSteps
 pub mod NameLemmas
 pub mod TextNetLemmas
 pub mod BinaryNetLemmas
+pub mod LimitLemmas
+pub mod NetlistLemmas
 pub mod WholeLemmas
 pub mod OneBody
 pub mod OneDelta

@@ -1,12 +1,10 @@
 -- A file is one netlist at most, or has one first fault, and never both.
-use Rattle.std.proofs.Common.{◌≡◌, ℕ, ◌+◌, ◌⊎◌, Bool, true, false, List, length, None, inl, inr, sym, ap, subst, ◌∙◌, arith}
-use Rattle.std.proofs.lemmas.Bool.Decides.{leb_tells}
-use Rattle.circuits.specs.Netlists.{Net}
+use Rattle.std.proofs.Common.{◌≡◌, ℕ, ◌+◌, ◌⊎◌, Bool, true, false, List, length, inl, inr, sym, ap, subst, ◌∙◌, arith}
 use Rattle.circuits.specs.Circuits.{Circuit}
-use Rattle.circuits.specs.Levels.{IsAcyclic, IsFirstLooped, IsOrderOf}
-use Rattle.circuits.proofs.OneOrder.{one_order, one_first_looped, acyclic_not_looped}
+use Rattle.circuits.specs.Levels.{IsAcyclic, IsFirstLooped}
+use Rattle.circuits.proofs.OneOrder.{one_first_looped, acyclic_not_looped}
 use Rattle.net_core.specs.declared.named.NetKind.{NetKind}
-use Rattle.aiger_reader.specs.Headers.{AigerHeader, header_fault, Begins}
+use Rattle.aiger_reader.specs.Headers.{AigerHeader, Begins}
 use Rattle.aiger_reader.specs.Bodies.{IsBody, IsBodyFault, IsUndefined, line_offset}
 use Rattle.aiger_reader.specs.Deltas.{IsDeltaFault, binary_circuit}
 use Rattle.aiger_reader.specs.Numbers.{IsHeaderFault}
@@ -16,13 +14,6 @@ use Rattle.aiger_reader.proofs.HeaderLemmas.{no_clash}
 use Rattle.aiger_reader.proofs.OneBody.{one_header, one_body, body_or_fault, one_body_fault, compared}
 use Rattle.aiger_reader.proofs.OneDelta.{one_are_gates, gates_or_fault, one_delta_fault}
 use Rattle.aiger_reader.proofs.OneSymbols.{names_same, names_or_fault, fault_same}
-
-no_latches : (h : AigerHeader) → header_fault h ≡ None → h.latches ≡ 0
-no_latches h none =
-    elim (leb_tells 1 h.latches) [
-      | inl (t, some) ↦ absurd (cc (none, t))
-      | inr (f, few) ↦ omega arith
-    ]
 
 -- one header, one netlist and one rest
 same_form : (binary : Bool) (bytes : List ℕ) (h : AigerHeader) (rows : List (List ℕ)) (c d : Circuit) (r s : List ℕ) → IsOfForm binary bytes h rows c r → IsOfForm binary bytes h rows d s → (c ≡ d) × (r ≡ s)
@@ -45,13 +36,12 @@ one_file bytes h g c d r s one other =
     let net = same_net bytes h c d r s one (subst (λ k. IsNetlist bytes k d s) (sym same) other) in
     (same, net.0, net.1)
 
-pub one_netlist : (bytes : List ℕ) (a b : Net) (i o j p : List (List ℕ)) → IsAiger bytes a i o → IsAiger bytes b j p → (a ≡ b) × (i ≡ j) × (o ≡ p)
+pub one_netlist : (bytes : List ℕ) (a b : Circuit) (i o j p : List (List ℕ)) → IsAiger bytes a i o → IsAiger bytes b j p → (a ≡ b) × (i ≡ j) × (o ≡ p)
 one_netlist bytes a b i o j p one other =
-    let same = one_file bytes one.h other.h one.circuit other.circuit one.rest other.rest one.netlist other.netlist in
-    let ordered = subst (λ c. IsOrderOf c b) (sym same.1) other.ordered in
+    let same = one_file bytes one.h other.h a b one.rest other.rest one.netlist other.netlist in
     let named = subst (λ h. AreNames h.inputs h.outputs one.rest j p) (sym same.0) (subst (λ r. AreNames other.h.inputs other.h.outputs r j p) (sym same.2) other.names) in
     let names = names_same one.h.inputs one.h.outputs one.rest i j o p one.names named in
-    (one_order one.circuit a b one.acyclic one.ordered ordered, names.0, names.1)
+    (same.1, names.0, names.1)
 
 -- the lines behind some accepted header are good
 abbrev HasBody : List ℕ → Type 0
@@ -108,14 +98,14 @@ names_at bytes fault at h circuit rest net names =
     let why = subst (λ g. IsSymbolFault g.inputs g.outputs names.base names.rest at) same.0 names.why in
     (subst (λ r. names.base + length r ≡ length bytes) same.2 names.behind, subst (λ r. IsSymbolFault h.inputs h.outputs names.base r at) same.2 why)
 
-pub netlist_or_fault : (bytes : List ℕ) (net : Net) (i o : List (List ℕ)) (fault : NetKind) (at : ℕ) → IsAiger bytes net i o → IsAigerFault bytes fault at → ⊥
-netlist_or_fault bytes net i o fault at is (inl header) = no_header bytes is.h fault header.0 is.netlist.begins
-netlist_or_fault bytes net i o fault at is (inr (inl lines)) = no_lines bytes fault at lines (net_body bytes (is.h, is.circuit, is.rest, is.netlist))
-netlist_or_fault bytes net i o fault at is (inr (inr (inl gates))) = no_gates bytes fault at gates (is.h, is.circuit, is.rest, is.netlist)
-netlist_or_fault bytes net i o fault at is (inr (inr (inr (inl missing)))) = no_undefined bytes fault at missing (is.h, is.circuit, is.rest, is.netlist)
-netlist_or_fault bytes net i o fault at is (inr (inr (inr (inr (inl cycle))))) = no_cycle bytes fault at is.h is.circuit is.rest cycle is.netlist is.acyclic
-netlist_or_fault bytes net i o fault at is (inr (inr (inr (inr (inr names))))) =
-    let here = names_at bytes fault at is.h is.circuit is.rest is.netlist names in
+pub netlist_or_fault : (bytes : List ℕ) (circuit : Circuit) (i o : List (List ℕ)) (fault : NetKind) (at : ℕ) → IsAiger bytes circuit i o → IsAigerFault bytes fault at → ⊥
+netlist_or_fault bytes circuit i o fault at is (inl header) = no_header bytes is.h fault header.0 is.netlist.begins
+netlist_or_fault bytes circuit i o fault at is (inr (inl lines)) = no_lines bytes fault at lines (net_body bytes (is.h, circuit, is.rest, is.netlist))
+netlist_or_fault bytes circuit i o fault at is (inr (inr (inl gates))) = no_gates bytes fault at gates (is.h, circuit, is.rest, is.netlist)
+netlist_or_fault bytes circuit i o fault at is (inr (inr (inr (inl missing)))) = no_undefined bytes fault at missing (is.h, circuit, is.rest, is.netlist)
+netlist_or_fault bytes circuit i o fault at is (inr (inr (inr (inr (inl cycle))))) = no_cycle bytes fault at is.h circuit is.rest cycle is.netlist is.acyclic
+netlist_or_fault bytes circuit i o fault at is (inr (inr (inr (inr (inr names))))) =
+    let here = names_at bytes fault at is.h circuit is.rest is.netlist names in
     names_or_fault is.h.inputs is.h.outputs names.base is.rest i o at is.names here.1
 
 abbrev Same : NetKind → ℕ → NetKind → ℕ → Type 0

@@ -18,7 +18,7 @@ use Rattle.aiger_reader.specs.Numbers.{header_of}
 use Rattle.aiger_reader.specs.Headers.{AigerHeader}
 use Rattle.aiger_reader.specs.Bodies.{roles_of, defined, IsBody, IsKnownRow, IsUndefined, lit_from, text_circuit, line_offset}
 use Rattle.aiger_reader.specs.Deltas.{BeginsGates, IsPairFault, and_from, behind_outputs, binary_circuit}
-use Rattle.aiger_reader.specs.Numbered.{circuit_from}
+use Rattle.aiger_reader.specs.Numbered.{IsSound, circuit_from}
 use Rattle.aiger_reader.specs.Reading.{rows_of, input_lines_of, gate_lines_of, IsAtLine}
 use Rattle.aiger_reader.specs.Aiger.{IsOfForm, IsNetlist, IsGatesFault, IsUndefinedFault, IsNamesFault, IsAigerFault}
 use Rattle.aiger_reader.specs.Symbols.{IsSymbolFault}
@@ -27,6 +27,8 @@ use Rattle.aiger_reader.proofs.RoleLemmas.{length-rows_of, length-roles_of}
 use Rattle.aiger_reader.proofs.NumberingLemmas.{outputs_small}
 use Rattle.aiger_reader.proofs.PairLemmas.{file_fault, file_gates}
 use Rattle.aiger_reader.proofs.BinaryNetLemmas.{begins_below, binary_is, not_looped}
+use Rattle.aiger_reader.proofs.LimitLemmas.{KeepsLimits}
+use Rattle.aiger_reader.proofs.NetlistLemmas.{HasSizes, net_sizes}
 
 -- what is left behind k lines
 pub rest_is : (bytes : List ℕ) (k : ℕ) (p : Piece) → IsAtLine bytes k p → p.bytes ≡ drop (line_offset bytes k) bytes
@@ -134,46 +136,19 @@ binary_body bytes header literals signals rest behind outputs gates pairs binary
       below = subst (ArePairsBelow (header.inputs + 1)) (sym gates_same) (begins_below (header.inputs + 1) rest.bytes behind gates begins);
     }
 
--- A netlist has as many inputs, outputs and definitions as its file's header says.
-pub record HasSizes (h : AigerHeader) (circuit : Circuit) : Type 0 where
-  pub inputs : circuit.inputs ≡ h.inputs
-  pub outputs : length circuit.outputs ≡ h.outputs
-  pub defs : length circuit.defs ≡ h.gates
+-- the header's own limits
+pub header_limits : (header : Header) (properties : List ℕ) → KeepsLimits (header_of header properties)
+header_limits header properties = record {
+  latches = refl;
+  inputs = header.few_inputs;
+  outputs = header.few_outputs;
+  gates = header.few_gates;
+}
 
-text_sizes : (h : AigerHeader) (rows : List (List ℕ)) (circuit : Circuit) → h.binary ≡ false → length rows ≡ length (roles_of h) → circuit ≡ text_circuit h rows → HasSizes h circuit
-text_sizes h rows circuit text whole same =
-    let i : input_lines_of h ≡ h.inputs = ap (λ t. if t then 0 else h.inputs) text in
-    let g : gate_lines_of h ≡ h.gates = ap (λ t. if t then 0 else h.gates) text in
-    let count : length rows ≡ h.inputs + h.outputs + h.gates = omega (arith, whole, length-roles_of h, i, g) in
-    let variables = defined (roles_of h) rows in
-    let sizes : HasSizes h (text_circuit h rows) = record {
-      inputs = refl;
-      outputs = length-map (take h.outputs (drop h.inputs rows)) _ ∙ omega (arith, length-take h.outputs (drop h.inputs rows), length-drop h.inputs rows, count);
-      defs = length-map (drop (h.inputs + h.outputs) rows) _ ∙ omega (arith, length-drop (h.inputs + h.outputs) rows, count);
-    } in
-    subst (HasSizes h) (sym same) sizes
-
-binary_sizes : (h : AigerHeader) (rows : List (List ℕ)) (gates : List (ℕ × ℕ)) (circuit : Circuit) → h.binary ≡ true → length rows ≡ length (roles_of h) → length gates ≡ h.gates → circuit ≡ binary_circuit h rows gates → HasSizes h circuit
-binary_sizes h rows gates circuit binary whole many same =
-    let i : input_lines_of h ≡ 0 = ap (λ t. if t then 0 else h.inputs) binary in
-    let g : gate_lines_of h ≡ 0 = ap (λ t. if t then 0 else h.gates) binary in
-    let count : length rows ≡ h.outputs = omega (arith, whole, length-roles_of h, i, g) in
-    let sizes : HasSizes h (binary_circuit h rows gates) = record {
-      inputs = refl;
-      outputs = length-map rows _ ∙ count;
-      defs = length-map gates _ ∙ many;
-    } in
-    subst (HasSizes h) (sym same) sizes
-
-form_sizes : (binary : Bool) (bytes : List ℕ) (h : AigerHeader) (rows : List (List ℕ)) (circuit : Circuit) (rest : List ℕ) → h.binary ≡ binary → length rows ≡ length (roles_of h) → IsOfForm binary bytes h rows circuit rest → HasSizes h circuit
-form_sizes false bytes h rows circuit rest is whole form =
-    text_sizes h rows circuit is whole form.same
-form_sizes true bytes h rows circuit rest is whole form =
-    binary_sizes h rows form.gates circuit is whole form.read.count form.same
-
-pub net_sizes : (bytes : List ℕ) (h : AigerHeader) (circuit : Circuit) (rest : List ℕ) → IsNetlist bytes h circuit rest → HasSizes h circuit
-net_sizes bytes h circuit rest net =
-    form_sizes h.binary bytes h net.rows circuit rest refl net.body.whole net.form
+-- all announced lines are read
+pub sound_lines : (h : AigerHeader) (literals : Literals) (signals : List ℕ) → IsSound h literals signals → length (rows_of literals) ≡ length (roles_of h)
+sound_lines h literals signals sound =
+    omega (arith, length-rows_of literals, length-roles_of h, sound.counts.inputs_read, sound.counts.outputs_read, sound.counts.gates_read)
 
 -- an AND gives one gate
 one_gate_each : {X : Type 0} (a b : X → Lit) (xs : List X) → sum_by def_gates (map (λ x. And (a x) (b x)) xs) ≡ length xs

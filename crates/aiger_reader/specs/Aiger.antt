@@ -1,6 +1,7 @@
 -- AIGER files without latches and properties (AIGER 1.9): the netlist that a file is, or its first fault.
 use Rattle.std.specs.Prelude.{◌≡◌, ℕ, ◌+◌, ◌<◌, ◌⊎◌, Bool, true, false, List, length, drop}
 use Rattle.circuits.specs.Circuits.{Circuit}
+use Rattle.circuits.specs.Functions.{Computes}
 use Rattle.circuits.specs.Levels.{IsOrderOf, IsFirstLooped, IsAcyclic}
 use Rattle.circuits.specs.Netlists.{Net}
 use Rattle.net_core.specs.declared.named.NetKind.{NetKind}
@@ -35,14 +36,20 @@ pub record IsNetlist (bytes : List ℕ) (h : AigerHeader) (circuit : Circuit) (r
   pub form : IsOfForm h.binary bytes h rows circuit rest
 
 -- The file is this netlist, which has no cycle, with these names of its ports.
-pub record IsAiger (bytes : List ℕ) (net : Net) (input_names output_names : List (List ℕ)) : Type 0 where
+pub record IsAiger (bytes : List ℕ) (circuit : Circuit) (input_names output_names : List (List ℕ)) : Type 0 where
   pub h : AigerHeader
-  pub circuit : Circuit
   pub rest : List ℕ
   pub netlist : IsNetlist bytes h circuit rest
   pub acyclic : IsAcyclic circuit
-  pub ordered : IsOrderOf circuit net
   pub names : AreNames h.inputs h.outputs rest input_names output_names
+
+-- A file was read as this graph with these names of its ports: the graph computes the netlist that the file is. Its gates
+-- are taken by level, then by place, since accounts name gates by their numbers.
+pub record ReadAs (bytes : List ℕ) (graph : Net) (input_names output_names : List (List ℕ)) : Type 0 where
+  pub circuit : Circuit
+  pub is : IsAiger bytes circuit input_names output_names
+  pub computes : Computes graph circuit
+  pub numbered : IsOrderOf circuit graph
 
 -- The first fault that the file has, by the place where it is found: the header, whose faults stand at 0; the lines; the
 -- gates of the binary form; variables that no line defines; cycles, at the line of the first definition without a level;

@@ -12,3 +12,4 @@ pub mod Deltas
 pub mod Symbols
 pub use Rattle.circuits.specs.Circuits
 pub use Rattle.circuits.specs.Levels
+pub use Rattle.circuits.specs.Functions

@@ -1,6 +1,7 @@
 //! Whole files of either form.
 
 ghost use Rattle.std.specs.Prelude.{◌≡◌, ℕ, ◌+◌, ◌<◌, false, List, [], length, map, IfOk, IfErr};
+ghost use Rattle.circuits.specs.Functions.{Computes};
 ghost use Rattle.circuits.specs.Levels.{IsAcyclic, IsOrderOf};
 ghost use Rattle.net_core.specs.declared.named.NetFault.{NetFault};
 ghost use Rattle.aiger_reader.specs.Numbers.{header_of};
@@ -9,7 +10,7 @@ ghost use Rattle.aiger_reader.specs.Bodies.{IsKnownRow, lit_from, text_circuit};
 ghost use Rattle.aiger_reader.specs.Deltas.{and_from};
 ghost use Rattle.aiger_reader.specs.Numbered.{IsSound, circuit_from};
 ghost use Rattle.aiger_reader.specs.Symbols.{AreNames, IsSymbolFault};
-ghost use Rattle.aiger_reader.specs.Aiger.{IsAiger, IsAigerFault};
+ghost use Rattle.aiger_reader.specs.Aiger.{IsAigerFault, ReadAs};
 ghost use Rattle.aiger_reader.specs.Assembly.{IsBegun, AreLinesRead, IsNetOf, IsBinaryBody};
 
 use crate::body::{Body, read_body};
@@ -33,7 +34,7 @@ use text_core::Cursor;
 /// it; of the deltas of the binary form; a variable that no line defines; a gate on a cycle or above one, at the
 /// line of the first such gate; or of the symbols. [`NetStop::Memory`] for want of memory alone.
 pub fn read(alloc: Global, input: &[u8]) -> Result<Named, NetStop>
-    ensures netlist { IfOk result (λ named. IsAiger input.now named.graph named.input_names named.output_names) }
+    ensures netlist { IfOk result (λ named. ReadAs input.now named.graph named.input_names named.output_names) }
     ensures fault { (fault : NetFault) → result ≡ Err (NetStop.Fault fault)
         → IsAigerFault input.now fault.kind fault.at }
 {
@@ -191,6 +192,7 @@ fn put_in_order(
     requires netlist { (rest : List ℕ) × IsNetOf input.now header net.now rest }
     ensures order { IfOk result (λ graph. IsOrderOf net.now graph) }
     ensures acyclic { IfOk result (λ _. IsAcyclic net.now) }
+    ensures computes { IfOk result (λ graph. Computes graph net.now) }
     ensures fault { (fault : NetFault) → result ≡ Err (NetStop.Fault fault)
         → IsAigerFault input.now fault.kind fault.at }
 {

@@ -3,7 +3,8 @@ use Rattle.std.proofs.Common.{arith}
 use Rattle.std.proofs.lemmas.Result.{err_from_is_err_and}
 use Rattle.circuits.proofs.LevelOrders.{IsOrderOf-outputs}
 use Rattle.aiger_reader.specs.Numbers.{header_of}
-use Rattle.aiger_reader.proofs.WholeLemmas.{net_sizes, names_fault}
+use Rattle.aiger_reader.proofs.WholeLemmas.{names_fault}
+use Rattle.aiger_reader.proofs.NetlistLemmas.{net_sizes}
 use Rattle.aiger_reader.proofs.whole.read.Goals as goal
 
 pub returns-in_err-header-clause-fault : goal.returns-in_err-header-clause-fault

@@ -1,0 +1,31 @@
+-- An accepted header has no latches, and keeps the limits.
+use Rattle.std.proofs.Common.{◌≡◌, ℕ, ◌≤◌, ◌||◌, Bool, true, false, nat_lt, None, Some, if◌then◌else◌, refl, arith}
+use Rattle.std.specs.List.{list_any}
+use Rattle.std.proofs.lemmas.Bool.{ltb-false}
+use Rattle.net_core.specs.declared.named.NetKind.{NetKind}
+use Rattle.aiger_reader.specs.Headers.{AigerHeader, header_fault}
+
+-- where none of six tests passes, four of them fail
+none_passes : (a b c d e f : Bool) (p q r s t : NetKind) → (if a then Some p else if b then Some q else if c then Some r else if d then Some s else if e || f then Some t else None) ≡ None → (a ≡ false) × (c ≡ false) × (d ≡ false) × (e ≡ false)
+none_passes true b c d e f p q r s t none = cc
+none_passes false true c d e f p q r s t none = cc
+none_passes false false true d e f p q r s t none = cc
+none_passes false false false true e f p q r s t none = cc
+none_passes false false false false true f p q r s t none = cc
+none_passes false false false false false f p q r s t none = (refl, refl, refl, refl)
+
+pub record KeepsLimits (h : AigerHeader) : Type 0 where
+  pub latches : h.latches ≡ 0
+  pub inputs : h.inputs ≤ 1024
+  pub outputs : h.outputs ≤ 1024
+  pub gates : h.gates ≤ 1000000
+
+pub accepted_limits : (h : AigerHeader) → header_fault h ≡ None → KeepsLimits h
+accepted_limits h none =
+    let fails = none_passes (nat_lt 0 h.latches) (list_any (nat_lt 0) h.properties) (nat_lt 1024 h.inputs) (nat_lt 1024 h.outputs) (nat_lt 1000000 h.gates) (nat_lt 4000000 h.variables) _ _ _ _ _ none in
+    record {
+      latches = omega (arith, ltb-false 0 h.latches fails.0);
+      inputs = ltb-false 1024 h.inputs fails.1;
+      outputs = ltb-false 1024 h.outputs fails.2;
+      gates = ltb-false 1000000 h.gates fails.3;
+    }
