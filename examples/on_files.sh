@@ -47,4 +47,11 @@ wants 4 'usage' match a.aag b.aag a-b.match
 wants 4 'usage'
 wants 6 'read fault' check folder b.aag a-b.match
 wants 6 'read fault' check a.aag b.aag folder
+# what comes through a pipe is read to its end; a device without an end is a fault
+wants 0 'accepted match' check <(cat a.aag) <(cat b.aag) <(cat a-b.match)
+mkfifo named_pipe
+cat c17.blif >named_pipe &
+wants 0 'accepted match' check named_pipe c17_moved.aig c17.match
+wants 5 'malformed first 28 0' check /dev/null b.aag a-b.match
+wants 6 'read fault' check /dev/zero b.aag a-b.match
 exit "$failed"

@@ -5,3 +5,4 @@ pub mod Puts
 pub mod Safe
 pub mod Disk
 pub mod Cut
+pub mod CallCount

@@ -1,26 +1,35 @@
-ghost use Rattle.std.specs.Prelude.{◌≡◌, ◌≤◌, ◌<◌, length, false, IfOk};
+ghost use Rattle.std.specs.Prelude.{◌≡◌, ◌+◌, ◌≤◌, ◌<◌, length, false, IfOk, IfSome, OnErr};
 ghost use Rattle.shelf_core.specs.State.{Closed};
+ghost use Rattle.shelf_core.specs.Disk.{IsOpenToRead};
 
 use crate::outside::{Shelf, ShelfStop};
+use crate::stream::{Stream, read_next};
+use std::alloc::{Alloc, Allocator};
 use std::fs::{File, OpenFile};
 use std::io;
 use std::io::{Error, ErrorKind, Read, Write};
 use std::rt::{Files, Runtime};
 
-/// The machine's files, by their paths. It does not tell what they hold. A directory opens, and fails at its first read.
-/// Each error of the machine is a fault, but that a path to be read leads to nothing.
+/// The most bytes that are taken from a pipe or a device: 1 GiB.
+const STREAM_BOUND: usize = 1 << 30;
+
+/// The machine's files, by their paths. It does not tell what they hold. What is neither a file nor a directory, as a pipe
+/// or a device, is read to its end when it is opened, since its length isn't known before; past 1 GiB that is a fault.
+/// A directory opens, and fails at its first read. Each error of the machine is a fault, but that a path to be read
+/// leads to nothing.
 #[derive(Drop)]
 pub struct DiskShelf<R: Runtime> {
     rt: R,
-    opened: Opened<R::File>,
+    opened: Opened<R::File, R::A>,
     faults: u64,
 }
 
 /// The file that is open, if any.
 #[derive(Drop)]
-enum Opened<F> {
+enum Opened<F, A: Allocator> {
     No,
     Reading { file: F, left: u64 },
+    Held(Stream<A>),
     Writing(F),
 }
 
@@ -47,12 +56,13 @@ impl<R: Runtime> Shelf for DiskShelf<R> {
 
     fn open(&mut self, name: &str) -> Result<Option<u64>, ShelfStop> {
         match open_sized(&self.rt, name) {
-            Ok(Some((file, left))) => {
-                self.opened = Opened::Reading { file, left };
+            Ok(Some((opened, left))) => {
+                self.opened = opened;
                 Ok(Some(left))
             }
             Ok(None) => Ok(None),
-            Err(_) => {
+            Err(ShelfStop::Memory) => Err(ShelfStop::Memory),
+            Err(ShelfStop::Failed) => {
                 self.faults = self.faults.saturating_add(1);
                 Err(ShelfStop::Failed)
             }
@@ -60,14 +70,13 @@ impl<R: Runtime> Shelf for DiskShelf<R> {
     }
 
     fn read(&mut self, buf: &mut [u8]) -> Result<usize, ShelfStop> {
-        let Opened::Reading { file, left } = &mut self.opened else {
-            unreachable!()
+        let answer = match &mut self.opened {
+            Opened::Reading { file, left } => read_some(file, buf, left),
+            Opened::Held(stream) => Ok(stream.read(buf)),
+            _ => unreachable!(),
         };
-        match read_some(file, buf, *left) {
-            Ok(count) => {
-                *left -= count as u64;
-                Ok(count)
-            }
+        match answer {
+            Ok(count) => Ok(count),
             Err(_) => {
                 self.faults = self.faults.saturating_add(1);
                 Err(ShelfStop::Failed)
@@ -107,37 +116,46 @@ impl<R: Runtime> Shelf for DiskShelf<R> {
     }
 }
 
-/// The file of a path, open for reading, with its length; `None` where the path leads to nothing.
-fn open_sized<R: Files>(rt: &R, name: &str) -> io::Result<Option<(R::File, u64)>> {
-    let file = match File::open(rt, name) {
+/// The file of a path, open for reading, with the number of its bytes; `None` where the path leads to nothing.
+fn open_sized<R: Files + Alloc>(
+    rt: &R,
+    name: &str,
+) -> Result<Option<(Opened<R::File, R::A>, u64)>, ShelfStop>
+    ensures { IfOk result (λ found. IfSome found (λ sized. IsOpenToRead sized.0 sized.1)) }
+{
+    let mut file = match File::open(rt, name) {
         Ok(file) => file,
         Err(error) if error.kind() == ErrorKind::NotFound => return Ok(None),
-        Err(error) => return Err(error),
+        Err(_) => return Err(ShelfStop::Failed),
     };
-    let metadata = file.metadata()?;
+    let Ok(metadata) = file.metadata() else {
+        return Err(ShelfStop::Failed);
+    };
+    if !metadata.is_file() && !metadata.is_dir() {
+        let stream = Stream::read_from(rt.alloc(), &mut file, STREAM_BOUND)?;
+        let left = stream.left() as u64;
+        return Ok(Some((Opened::Held(stream), left)));
+    }
     // a directory has no bytes: it is to fail at its first read, also where its length is 0
-    let len = metadata.len().max(u64::from(metadata.is_dir()));
-    Ok(Some((file, len)))
+    let left = metadata.len().max(u64::from(metadata.is_dir()));
+    Ok(Some((Opened::Reading { file, left }, left)))
 }
 
-/// Reads at most `left` bytes, and at least one if there is any and room for it. An interrupted read is tried again, and
-/// a file that ends before is an error.
-fn read_some<F: Read>(file: &mut F, buf: &mut [u8], left: u64) -> io::Result<usize>
+/// Reads at most `left` bytes, and at least one if there is any and room for it. A file that ends before is an error.
+fn read_some<F: Read>(file: &mut F, buf: &mut [u8], left: &mut u64) -> io::Result<usize>
     ensures within { IfOk result (λ count. count ≤ length buf.old) }
-    ensures left { IfOk result (λ count. count ≤ left) }
-    ensures some { IfOk result (λ count. 0 < left → 0 < length buf.old → 0 < count) }
+    ensures left { IfOk result (λ count. count + left.new ≡ left.old) }
+    ensures some { IfOk result (λ count. 0 < left.old → 0 < length buf.old → 0 < count) }
+    ensures refused { OnErr result (left.new ≡ left.old) }
 {
-    let room = left.min(buf.len() as u64) as usize;
+    let room = (*left).min(buf.len() as u64) as usize;
     if room == 0 {
         return Ok(0);
     }
-    for _ in 0..u64::MAX {
-        match file.read(&mut buf[..room]) {
-            Ok(0) => break,
-            Ok(count) => return Ok(count),
-            Err(error) if error.kind() == ErrorKind::Interrupted => {}
-            Err(error) => return Err(error),
-        }
+    let count = read_next(file, &mut buf[..room])?;
+    if count == 0 {
+        return Err(Error::from(ErrorKind::UnexpectedEof));
     }
-    Err(Error::from(ErrorKind::UnexpectedEof))
+    *left -= count as u64;
+    Ok(count)
 }

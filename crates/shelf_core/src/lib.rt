@@ -1,12 +1,14 @@
 //! The world outside a program, as two traits: a shelf of files and a sink for its output.
 #![tactic(auto)]
 
+mod copy;
 mod disk_shelf;
 mod outside;
 mod safe_shelf;
 mod safe_sink;
 mod std_sink;
 mod stored_file;
+mod stream;
 
 pub use disk_shelf::DiskShelf;
 pub use outside::{Shelf, ShelfStop, Sink};

@@ -5,13 +5,16 @@ ghost use Rattle.shelf_core.specs.Puts.{Puts};
 ghost use Rattle.shelf_core.specs.declared.outside.ShelfStop.TheVariants.{Memory};
 
 use std::alloc::{AllocError, AllocFailed};
+use thiserror::Error;
 
 /// Why a call of a shelf or a sink was refused.
-#[derive(Clone, Copy, Debug, PartialEq, Eq)]
+#[derive(Clone, Copy, Debug, PartialEq, Eq, Error)]
 pub enum ShelfStop {
     /// The outside failed. Its count of faults rose over the call, or stood at its last value, 2^64 - 1.
+    #[error("a file or the output failed")]
     Failed,
     /// There was no memory for the call.
+    #[error("out of memory")]
     Memory,
 }
 

@@ -3,6 +3,7 @@ ghost use Rattle.shelf_core.specs.State.{Closed, Reading, Writing};
 ghost use Rattle.shelf_core.specs.Calls.{Opens, Reads, Creates, Appends, Closes};
 ghost use Rattle.shelf_core.specs.Safe.{look_up, IsPlace, file_at, grow_first, safe_shelf, places_needed, bytes_needed, open_bytes};
 
+use crate::copy::copy_some;
 use crate::outside::{Shelf, ShelfStop};
 use crate::stored_file::StoredFile;
 use std::alloc::{AllocError, Global};
@@ -15,6 +16,7 @@ pub struct SafeShelf {
     files: Vec<StoredFile>,
     opened: Opened,
     cut: usize,
+    calls: u64,
     ghost cuts: { 0 < cut },
     ghost place: { places_needed opened ≤ vec_len files },
     ghost read: { bytes_needed opened ≤ length (open_bytes files.items opened) },
@@ -30,6 +32,7 @@ enum Opened {
 
 impl SafeShelf {
     ghost use Rattle.shelf_core.specs.Cut.{cut_of};
+    ghost use Rattle.shelf_core.specs.CallCount.{calls_of};
 
     /// A shelf that holds these files, with no two names the same, and reads at most `cut` bytes a call. None is open.
     /// There may be no memory for it.
@@ -45,12 +48,14 @@ impl SafeShelf {
             look_up (map (λ file. (string_bytes file.0, file.1.items)) files.items) name) }
         ensures faultless { IfOk result (λ shelf. (⟦<SafeShelf as Shelf>⟧.state shelf).faults ≡ 0) }
         ensures cut { IfOk result (λ shelf. cut_of shelf ≡ cut) }
+        ensures uncalled { IfOk result (λ shelf. calls_of shelf ≡ 0) }
     {
         Ok(SafeShelf {
             alloc,
             files: store(alloc, files)?,
             opened: Opened::No,
             cut,
+            calls: 0,
         })
     }
 
@@ -65,6 +70,13 @@ impl SafeShelf {
         }
     }
 
+    /// How many calls of a shelf were made, up to 2^64 - 1, where the count stays.
+    pub fn calls(&self) -> u64
+        ensures { result ≡ calls_of self.now }
+    {
+        self.calls
+    }
+
     /// A shelf in memory has no failures: by what the calls of a shelf say, `ShelfStop::Failed` never comes from it.
     pub fn never_fails(&self)
         ensures { (⟦<SafeShelf as Shelf>⟧.state self.now).faults ≡ 0 }
@@ -73,6 +85,7 @@ impl SafeShelf {
 
 impl Shelf for SafeShelf {
     ghost use Rattle.shelf_core.specs.Cut.{cut_of};
+    ghost use Rattle.shelf_core.specs.CallCount.{calls_of, one_more};
 
     ghost tells = { true };
 
@@ -83,7 +96,9 @@ impl Shelf for SafeShelf {
         ensures opens { Opens true name.now (⟦<SafeShelf as Shelf>⟧.state self.old) (⟦<SafeShelf as Shelf>⟧.state self.new) result }
         ensures answers { IsOk result }
         ensures cut { cut_of self.new ≡ cut_of self.old }
+        ensures calls { calls_of self.new ≡ one_more (calls_of self.old) }
     {
+        self.calls = self.calls.saturating_add(1);
         let Some(place) = place_of(&self.files, name) else {
             return Ok(None);
         };
@@ -97,7 +112,9 @@ impl Shelf for SafeShelf {
         ensures reads { Reads true (⟦<SafeShelf as Shelf>⟧.state self.old) (⟦<SafeShelf as Shelf>⟧.state self.new) buf.old buf.new result }
         ensures amount { result ≡ Ok (min (min (cut_of self.old) (⟦<SafeShelf as Shelf>⟧.state self.old).left) (length buf.old)) }
         ensures cut { cut_of self.new ≡ cut_of self.old }
+        ensures calls { calls_of self.new ≡ one_more (calls_of self.old) }
     {
+        self.calls = self.calls.saturating_add(1);
         let Opened::Reading { place, at } = self.opened else {
             unreachable!()
         };
@@ -113,7 +130,9 @@ impl Shelf for SafeShelf {
         requires { (⟦<SafeShelf as Shelf>⟧.state self.old).mode ≡ Closed }
         ensures creates { Creates true name.now (⟦<SafeShelf as Shelf>⟧.state self.old) (⟦<SafeShelf as Shelf>⟧.state self.new) result }
         ensures cut { cut_of self.new ≡ cut_of self.old }
+        ensures calls { calls_of self.new ≡ one_more (calls_of self.old) }
     {
+        self.calls = self.calls.saturating_add(1);
         renew(self.alloc, &mut self.files, name)?;
         self.opened = Opened::Writing;
         Ok(())
@@ -123,7 +142,9 @@ impl Shelf for SafeShelf {
         requires { (⟦<SafeShelf as Shelf>⟧.state self.old).mode ≡ Writing }
         ensures appends { Appends true piece.now (⟦<SafeShelf as Shelf>⟧.state self.old) (⟦<SafeShelf as Shelf>⟧.state self.new) result }
         ensures cut { cut_of self.new ≡ cut_of self.old }
+        ensures calls { calls_of self.new ≡ one_more (calls_of self.old) }
     {
+        self.calls = self.calls.saturating_add(1);
         grow_first_of(&mut self.files, piece)?;
         Ok(())
     }
@@ -133,7 +154,9 @@ impl Shelf for SafeShelf {
         ensures closes { Closes true (⟦<SafeShelf as Shelf>⟧.state self.old) (⟦<SafeShelf as Shelf>⟧.state self.new) result }
         ensures answers { IsOk result }
         ensures cut { cut_of self.new ≡ cut_of self.old }
+        ensures calls { calls_of self.new ≡ one_more (calls_of self.old) }
     {
+        self.calls = self.calls.saturating_add(1);
         self.opened = Opened::No;
         Ok(())
     }
@@ -168,21 +191,6 @@ fn bytes_at(files: &[StoredFile], place: usize) -> &[u8]
     ensures { result.now ≡ (file_at files.now place).1 }
 {
     files[place].bytes()
-}
-
-/// Copies the bytes of `from` that begin at `at` to the front of `to`, at most `cut`, and answers how many.
-fn copy_some(from: &[u8], at: usize, to: &mut [u8], cut: usize) -> usize
-    requires cuts { 0 < cut }
-    requires start { at ≤ length from.now }
-    ensures amount { result ≡ min (min cut (length from.now - at)) (length to.old) }
-    ensures within { result ≤ length to.old }
-    ensures read { at + result ≤ length from.now }
-    ensures some { at < length from.now → 0 < length to.old → 0 < result }
-    ensures copied { to.new ≡ take result (drop at from.now) ++ drop result to.old }
-{
-    let count = cut.min(from.len() - at).min(to.len());
-    to[..count].copy_from_slice(&from[at..at + count]);
-    count
 }
 
 /// Makes the file of a name anew: it is empty then, and the first. Where there is no memory, all files stay.

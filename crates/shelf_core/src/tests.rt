@@ -1,7 +1,9 @@
 ghost use Rattle.std.specs.Prelude.{◌≢◌, Err};
 
 use super::{DiskShelf, SafeShelf, SafeSink, Shelf, ShelfStop, Sink, StdSink};
+use crate::stream::Stream;
 use std::fs;
+use std::fs::File;
 use std::test::Fail;
 
 /// A file is read in pieces of at most three bytes, an absent one is not found, and what is written reads back.
@@ -44,6 +46,9 @@ fn keeps_files_in_memory(rt: HostRuntime) -> Result<(), Fail> {
     assert_eq!(rt; shelf.file("letter"), Some(b"once".as_slice()));
     assert_eq!(rt; shelf.file("other"), Some(b"no".as_slice()));
     assert_eq!(rt; shelf.file("none"), None);
+    // the letter opened, read four times and closed; the report not found, created and closed; the letter created, two
+    // pieces appended, and closed
+    assert_eq!(rt; shelf.calls(), 13);
     Ok(())
 }
 
@@ -93,6 +98,41 @@ fn reaches_the_disk(rt: HostRuntime) -> Result<(), Fail> {
     };
     assert_eq!(rt; shelf.read(&mut buf), Err(ShelfStop::Failed));
     shelf.close()?;
+    Ok(())
+}
+
+/// What the machine's null device holds is an empty file.
+#[test]
+fn reads_a_device_to_its_end(rt: HostRuntime) -> Result<(), Fail> {
+    let mut shelf = DiskShelf::new(rt);
+    let mut buf = [b'-'; 3];
+    assert_eq!(rt; shelf.open("/dev/null")?, Some(0));
+    assert_eq!(rt; shelf.read(&mut buf)?, 0);
+    shelf.close()?;
+    Ok(())
+}
+
+/// A stream is held whole where it ends within the bound, and else is a failure.
+#[test]
+fn holds_a_stream_within_its_bound(rt: HostRuntime) -> Result<(), Fail> {
+    let alloc = rt.alloc();
+    let mut five = b"seven".as_slice();
+    let mut stream = Stream::read_from(alloc, &mut five, 5)?;
+    assert_eq!(rt; stream.left(), 5);
+    let mut buf = [b'-'; 4];
+    assert_eq!(rt; stream.read(&mut buf), 4);
+    assert_eq!(rt; buf.as_slice(), b"seve".as_slice());
+    assert_eq!(rt; stream.read(&mut buf), 1);
+    assert_eq!(rt; buf.as_slice(), b"neve".as_slice());
+    assert_eq!(rt; stream.read(&mut buf), 0);
+    let mut six = b"eleven".as_slice();
+    let None = Stream::read_from(alloc, &mut six, 5).ok() else {
+        return Err(Fail::from("six bytes are more than five"));
+    };
+    let mut endless = File::open(&rt, "/dev/zero")?;
+    let None = Stream::read_from(alloc, &mut endless, 100_000).ok() else {
+        return Err(Fail::from("the zeros have no end"));
+    };
     Ok(())
 }
 
