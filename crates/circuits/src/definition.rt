@@ -1,7 +1,7 @@
 //! Definitions of signals, as the lines of a netlist give them, in any order.
 
-ghost use Rattle.std.specs.Prelude.{◌≡◌, ◌<◌, ◌↔◌, IsTrue, length, slice_index_or};
-ghost use Rattle.circuits.specs.Circuits.{HasWideRows, named_by};
+ghost use Rattle.std.specs.Prelude.{◌≡◌, ◌<◌, length, slice_index_or};
+ghost use Rattle.circuits.specs.Circuits.{named_by};
 
 use crate::Lit;
 use items::Items;

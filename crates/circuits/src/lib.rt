@@ -9,5 +9,5 @@ pub mod plain;
 mod port;
 
 pub use definition::{Def, Trit};
-pub use netlist::{Gate, Lit, Netlist};
+pub use netlist::{Gate, Lit, Netlist, is_ordered};
 pub use port::{Pair, PortKind};

@@ -2,6 +2,7 @@
 
 ghost use Rattle.std.specs.Prelude.{◌≡◌, ◌↔◌, ◌<◌, ◌+◌, ◌^◌, All, IsTrue, length};
 ghost use Rattle.circuits.specs.Literals.{EachAt, inverse, signal_of, is_negated};
+ghost use Rattle.circuits.specs.Netlists.{IsOrdered};
 
 use std::marker::Model;
 
@@ -64,8 +65,6 @@ impl Model for Netlist {
 }
 
 impl Netlist {
-    ghost use Rattle.circuits.specs.Netlists.{IsOrdered};
-
     /// The netlist with these parts, in order or not.
     pub fn new(inputs: u32, gates: Vec<Gate>, outputs: Vec<Lit>) -> Netlist
         ensures { result ≡ record { inputs = inputs; gates = gates.items; outputs = outputs.items } }
@@ -102,10 +101,18 @@ impl Netlist {
     pub fn is_ordered(&self) -> bool
         ensures { IsTrue result ↔ IsOrdered self.now }
     {
-        let first_gate = 1 + self.inputs as usize;
-        let signals = first_gate + self.gates.len();
-        operands_are_earlier(first_gate, &self.gates) & outputs_are_signals(signals, &self.outputs)
+        is_ordered(self.inputs, &self.gates, &self.outputs)
     }
+}
+
+/// Whether each gate of a netlist reads earlier signals alone, and each output a signal that is there.
+pub fn is_ordered(inputs: u32, gates: &[Gate], outputs: &[Lit]) -> bool
+    ensures { IsTrue result
+        ↔ IsOrdered (record { inputs = inputs; gates = gates.now; outputs = outputs.now }) }
+{
+    let first_gate = 1 + inputs as usize;
+    operands_are_earlier(first_gate, gates)
+        & outputs_are_signals(first_gate + gates.len(), outputs)
 }
 
 /// Whether each gate's operands are below its own signal, where the first gate has the signal given.

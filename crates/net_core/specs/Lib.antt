@@ -10,5 +10,6 @@ pub use Rattle.circuits.specs.Netlists
 pub use Rattle.circuits.specs.Bijections
 pub use Rattle.circuits.specs.Matches
 pub use Rattle.circuits.specs.Circuits
+pub use Rattle.circuits.specs.Functions
 pub use Rattle.circuits.specs.Expansion
 pub use Rattle.circuits.specs.Levels

@@ -1,6 +1,6 @@
 //! Definitions expanded to gates, in the order in which they are taken.
 
-ghost use Rattle.std.specs.Prelude.{ℕ, ◌≡◌, ◌+◌, ◌^◌, ◌<◌, ◌≤◌, true, All, List, ◌∷◌, length, map, vec_len, IfOk};
+ghost use Rattle.std.specs.Prelude.{◌≡◌, ◌+◌, ◌^◌, ◌<◌, ◌≤◌, true, All, List, ◌∷◌, length, map, vec_len, IfOk};
 ghost use Rattle.std.specs.List.{range_with_len};
 ghost use Rattle.circuits.specs.declared.netlist.Lit.{Lit};
 ghost use Rattle.circuits.specs.declared.definition.Trit.{Trit};

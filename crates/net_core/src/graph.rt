@@ -1,12 +1,12 @@
 //! Graphs of AND gates, each of which stands behind its operands.
 
-ghost use Rattle.std.specs.Prelude.{◌≡◌, ◌+◌, ◌^◌, ◌<◌, ◌↔◌, All, IsTrue, IsSome, IfOk, IfSome, false, ◌∷◌, length, take, vec_len};
+ghost use Rattle.std.specs.Prelude.{◌≡◌, ◌+◌, ◌^◌, ◌<◌, ◌↔◌, IsSome, IfOk, IfSome, false, ◌∷◌, length, take, vec_len};
 ghost use Rattle.circuits.specs.Literals.{literal_bit, signal_of};
 ghost use Rattle.circuits.specs.Netlists.{IsOrdered, signals_of, valuation_of, with_gates};
 ghost use Rattle.net_core.specs.Graph.{IsGraph, AreInOrder};
 
 use circuits::plain::{gate_bit, literal_bit};
-use circuits::{Gate, Lit};
+use circuits::{Gate, Lit, is_ordered};
 use std::alloc::{AllocError, Global};
 use std::marker::Model;
 
@@ -43,11 +43,7 @@ impl Graph {
             (λ graph. graph ≡ record { inputs = inputs; gates = gates.items; outputs = outputs.items }) }
         ensures sound { IfSome result IsGraph }
     {
-        let first = inputs as usize + 1;
-        if !are_in_order(first, &gates) {
-            return None;
-        }
-        if !are_signals(first + gates.len(), &outputs) {
+        if !is_ordered(inputs, &gates, &outputs) {
             return None;
         }
         Some(Graph {
@@ -132,29 +128,6 @@ pub fn lit_value(values: &[bool], lit: Lit) -> bool
     ensures { result ≡ literal_bit values.now lit }
 {
     literal_bit(values, lit)
-}
-
-fn are_in_order(first: usize, gates: &[Gate]) -> bool
-    requires { first + length gates.now < 2 ^ 31 }
-    ensures { IsTrue result ↔ AreInOrder first gates.now }
-{
-    for (t, gate) in gates.iter().enumerate() {
-        if gate.a.signal() as usize >= first + t {
-            return false;
-        }
-        if gate.b.signal() as usize >= first + t {
-            return false;
-        }
-    }
-    true
-}
-
-fn are_signals(signals: usize, outputs: &[Lit]) -> bool
-    ensures { IsTrue result ↔ All (λ output. signal_of output < signals) outputs.now }
-{
-    outputs
-        .iter()
-        .all(|output| (output.signal() as usize) < signals)
 }
 
 /// Writes the constant and the inputs, which come first.

@@ -1,10 +1,9 @@
 //! Netlists put in order, by the levels of their definitions.
 
-ghost use Rattle.std.specs.Prelude.{ℕ, ◌≡◌, ◌<◌, ◌≤◌, Bool, List, length, IfOk};
-ghost use Rattle.circuits.specs.Netlists.{function_of};
-ghost use Rattle.circuits.specs.Circuits.{FitsCircuit, circuit_outputs};
+ghost use Rattle.std.specs.Prelude.{ℕ, ◌≡◌, ◌<◌, ◌≤◌, length, IfOk};
 ghost use Rattle.circuits.specs.Expansion.{gates_in};
-ghost use Rattle.circuits.specs.Levels.{IsAcyclic, IsFirstLooped, IsLevelOrder, IsOrderOf};
+ghost use Rattle.circuits.specs.Functions.{Computes};
+ghost use Rattle.circuits.specs.Levels.{IsAcyclic, IsFirstLooped, IsOrderOf};
 ghost use Rattle.net_core.specs.Graph.{IsGraph};
 ghost use Rattle.net_core.specs.Orders.{IsSortedOrder};
 
@@ -30,9 +29,7 @@ const MOST_GATES: usize = 1_000_000;
 pub fn order(alloc: Global, net: &PlainNet) -> Result<Graph, OrderFault>
     ensures graph { IfOk result (λ graph. IsOrderOf net.now graph) }
     ensures sound { IfOk result IsGraph }
-    ensures function { IfOk result
-        (λ graph. (x v : List Bool) → length x ≡ net.now.inputs → FitsCircuit net.now x v
-        → circuit_outputs net.now v ≡ function_of graph x) }
+    ensures computes { IfOk result (λ graph. Computes graph net.now) }
     ensures acyclic { IfOk result (λ _. IsAcyclic net.now) }
     ensures few { IfOk result (λ graph. length graph.gates ≤ 1000000) }
     ensures cycle { (d : ℕ) → result ≡ Err (OrderFault.Cycle d) → IsFirstLooped net.now d }

@@ -3,7 +3,7 @@ ghost use Rattle.std.specs.Option.{SomeIff};
 ghost use Rattle.std.specs.Str.{all_ascii_digits};
 ghost use Rattle.std.specs.Str.Parse.{digits_value};
 ghost use Rattle.std.specs.Char.{IsAsciiDigit, is_ascii_digit, digit_value};
-ghost use Rattle.std.specs.List.{list_all};
+ghost use Rattle.std.specs.List.{list_all, prefix_len};
 ghost use Rattle.std.specs.Fmt.{decimal as digits_of_number};
 ghost use Rattle.text_core.specs.Numbers.{is_numeral, number};
 
@@ -36,9 +36,9 @@ pub fn decimal(word: Span<'_>) -> Result<u64, NumberFault>
     value_of(digits).ok_or(NumberFault::TooLarge)
 }
 
-// One digit or more, and nothing else.
+/// Whether a word is a numeral: one digit or more, and nothing else.
 #[tactic(auto, using(crate::proofs::NumberLemmas::digits_by_all))]
-fn is_numeral(word: &[u8]) -> bool
+pub fn is_numeral(word: &[u8]) -> bool
     ensures { result ≡ is_numeral word.now }
 {
     !word.is_empty() && has_only_digits(word)
@@ -50,8 +50,19 @@ fn has_only_digits(word: &[u8]) -> bool
     word.iter().all(|byte| byte.is_ascii_digit())
 }
 
-// The value of a row of digits, if it fits 64 bits.
-fn value_of(digits: &[u8]) -> Option<u64>
+/// How many digits the bytes begin with.
+pub fn digits_in_front(bytes: &[u8]) -> usize
+    ensures count { result ≡ prefix_len is_ascii_digit bytes.now }
+    ensures within { result ≤ length bytes.now }
+{
+    bytes
+        .iter()
+        .take_while(|byte| byte.is_ascii_digit())
+        .count()
+}
+
+/// The value of a row of digits, if it fits 64 bits. A row of no digits has the value 0.
+pub fn value_of(digits: &[u8]) -> Option<u64>
     requires { all_ascii_digits digits.now ≡ true }
     ensures { SomeIff result (digits_value 10 digits.now < 2 ^ 64) (digits_value 10 digits.now) }
 {

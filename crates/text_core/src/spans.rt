@@ -1,4 +1,4 @@
-ghost use Rattle.std.specs.Prelude.{◌≡◌, ℕ, ◌+◌, ◌<◌, ◌≤◌, ◌^◌, length, ◌↔◌, [], ◌∷◌, IsSome, IfSome, IfNone, OnSome};
+ghost use Rattle.std.specs.Prelude.{◌≡◌, ◌+◌, ◌<◌, ◌≤◌, ◌^◌, length, ◌↔◌, [], ◌∷◌, IsSome, IfSome, IfNone, OnSome};
 ghost use Rattle.std.specs.List.{prefix_len};
 ghost use Rattle.text_core.specs.Bytes.{is_blank};
 ghost use Rattle.text_core.specs.Piece.{front, past};
@@ -169,17 +169,18 @@ pub fn is_blank(byte: u8) -> bool
     byte == b' ' || byte == b'\t' || byte == b'\r'
 }
 
-// How many bytes stand before the first line feed, or all where there is none.
-fn line_length(bytes: &[u8]) -> usize
+/// How many bytes stand before the first line feed, or all where there is none.
+pub fn line_length(bytes: &[u8]) -> usize
     ensures count { result ≡ line_length bytes.now }
     ensures within { result ≤ length bytes.now }
 {
     bytes.iter().take_while(|byte| **byte != b'\n').count()
 }
 
-// How many bytes stand before the first blank, or all where there is none.
-fn word_length(bytes: &[u8]) -> usize
-    ensures { result ≡ word_length bytes.now }
+/// How many bytes stand before the first blank, or all where there is none.
+pub fn word_length(bytes: &[u8]) -> usize
+    ensures count { result ≡ word_length bytes.now }
+    ensures within { result ≤ length bytes.now }
 {
     bytes.iter().take_while(|byte| !is_blank(**byte)).count()
 }

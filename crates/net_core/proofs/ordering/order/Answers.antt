@@ -1,6 +1,6 @@
 use Rattle.std.proofs.Common.{arith}
 use Rattle.circuits.proofs.GateCounts.{gates_in_order}
-use Rattle.circuits.proofs.LevelOrders.{same_function}
+use Rattle.circuits.proofs.LevelOrders.{IsOrderOf-computes}
 use Rattle.net_core.proofs.OrderLaws.{IsAcyclic-levels, IsLevelOrder-sorted}
 use Rattle.net_core.proofs.ordering.order.Goals as goal
 
@@ -16,9 +16,9 @@ pub expand-requires-clause-acyclic : goal.expand-requires-clause-acyclic
 expand-requires-clause-acyclic c =
     IsAcyclic-levels c.args.net.now c.in_ok-placed.placed.items c.in_ok-placed.ensures.levels
 
-pub returns-clause-function : goal.returns-clause-function
-returns-clause-function c = λ x v.
-    same_function c.args.net.now c.in_ok-graph.graph x v (IsAcyclic-levels c.args.net.now c.in_ok-placed.placed.items c.in_ok-placed.ensures.levels) c.in_ok-graph.ensures.plain.closed c.in_ok-graph.ensures.graph
+pub returns-clause-computes : goal.returns-clause-computes
+returns-clause-computes c =
+    IsOrderOf-computes c.args.net.now c.in_ok-graph.graph (IsAcyclic-levels c.args.net.now c.in_ok-placed.placed.items c.in_ok-placed.ensures.levels) c.in_ok-graph.ensures.plain.closed c.in_ok-graph.ensures.graph
 
 pub returns-clause-acyclic : goal.returns-clause-acyclic
 returns-clause-acyclic c =
