@@ -1,11 +1,7 @@
 -- A file's netlist has the sizes that its header says, and is closed.
-use Rattle.std.proofs.Common.{◌≡◌, ℕ, ◌+◌, ◌*◌, ◌<◌, ◌≤◌, Bool, true, false, List, [], length, map, take, drop, if◌then◌else◌, refl, sym, ap, subst, ◌∙◌, arith, length-drop, length-take}
+use Rattle.std.proofs.Common.{◌≡◌, ℕ, ◌+◌, ◌<◌, Bool, true, false, List, length, take, drop, if◌then◌else◌, refl, sym, ap, subst, ◌∙◌, arith, length-drop, length-take}
 use Rattle.std.proofs.lemmas.List.{length-map}
 use Rattle.circuits.specs.Circuits.{Circuit, IsClosed}
-use Rattle.circuits.specs.Functions.{Computes}
-use Rattle.circuits.specs.Levels.{IsAcyclic, IsOrderOf}
-use Rattle.circuits.specs.Netlists.{Net}
-use Rattle.circuits.proofs.LevelOrders.{IsOrderOf-inputs, IsOrderOf-outputs, same_function}
 use Rattle.net_core.specs.PlainNets.{IsPlainNet}
 use Rattle.aiger_reader.specs.Headers.{AigerHeader, Begins}
 use Rattle.aiger_reader.specs.Bodies.{roles_of, IsBody, IsKnownRow, text_circuit}
@@ -74,13 +70,4 @@ text_plain h rows circuit text whole known few same =
       closed = subst IsClosed (sym same) (text_closed h rows text whole known);
       signals = omega (arith, sizes.inputs, sizes.defs, few.inputs, few.gates);
       outputs = omega (arith, sizes.outputs, few.outputs);
-    }
-
--- a graph that takes the gates by level computes the netlist
-pub net_computed : (bytes : List ℕ) (h : AigerHeader) (circuit : Circuit) (rest : List ℕ) (graph : Net) → IsNetlist bytes h circuit rest → IsAcyclic circuit → IsOrderOf circuit graph → Computes graph circuit
-net_computed bytes h circuit rest graph net acyclic order =
-    record {
-      inputs = IsOrderOf-inputs circuit graph order;
-      outputs = IsOrderOf-outputs circuit graph order;
-      function = λ x v wide fits. sym (same_function circuit graph x v acyclic (net_closed bytes h circuit rest net) order wide fits);
     }

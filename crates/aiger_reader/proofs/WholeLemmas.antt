@@ -1,5 +1,5 @@
 -- What stands between a file's parts and the whole.
-use Rattle.std.proofs.Common.{◌≡◌, ℕ, ◌+◌, ◌*◌, ◌<◌, ◌≤◌, Bool, true, false, not, List, [], ◌∷◌, length, map, take, drop, inl, inr, if◌then◌else◌, refl, sym, ap, subst, ◌∙◌, arith, length-drop, length-take, All}
+use Rattle.std.proofs.Common.{◌≡◌, ℕ, ◌+◌, ◌*◌, ◌<◌, ◌≤◌, Bool, true, false, not, List, [], ◌∷◌, length, map, drop, inl, inr, if◌then◌else◌, refl, sym, ap, subst, ◌∙◌, arith, length-drop, All}
 use Rattle.std.specs.List.{sum_by}
 use Rattle.std.proofs.lemmas.List.{drop_min, length-map}
 use Rattle.std.proofs.lemmas.List.Sums.{sum_by-cons}
@@ -16,7 +16,7 @@ use Rattle.aiger_reader.specs.declared.limits.Header.{Header}
 use Rattle.aiger_reader.specs.declared.body.Literals.{Literals}
 use Rattle.aiger_reader.specs.Numbers.{header_of}
 use Rattle.aiger_reader.specs.Headers.{AigerHeader}
-use Rattle.aiger_reader.specs.Bodies.{roles_of, defined, IsBody, IsKnownRow, IsUndefined, lit_from, text_circuit, line_offset}
+use Rattle.aiger_reader.specs.Bodies.{roles_of, IsBody, IsKnownRow, IsUndefined, lit_from, text_circuit, line_offset}
 use Rattle.aiger_reader.specs.Deltas.{BeginsGates, IsPairFault, and_from, behind_outputs, binary_circuit}
 use Rattle.aiger_reader.specs.Numbered.{IsSound, circuit_from}
 use Rattle.aiger_reader.specs.Reading.{rows_of, input_lines_of, gate_lines_of, IsAtLine}

@@ -1,7 +1,8 @@
 -- The line of a gate on a cycle is there, and there are few gates.
 use Rattle.std.proofs.Common.{arith}
+use Rattle.circuits.proofs.LevelOrders.{IsOrderOf-computes}
 use Rattle.aiger_reader.specs.Numbers.{header_of}
-use Rattle.aiger_reader.proofs.NetlistLemmas.{net_computed}
+use Rattle.aiger_reader.proofs.NetlistLemmas.{net_closed}
 use Rattle.aiger_reader.proofs.WholeLemmas.{few_gates, loop_there}
 use Rattle.aiger_reader.proofs.whole.put_in_order.Goals as goal
 
@@ -20,4 +21,4 @@ unreachable-requires c =
 pub returns-in-Ok-clause-computes : goal.returns-in-Ok-clause-computes
 returns-in-Ok-clause-computes c =
     let net = c.requires.netlist in
-    net_computed c.args.input.now (header_of c.args.header net.1.0) c.args.net.now net.0 c.in-Ok.graph net.1.1 c.in-Ok.ensures.acyclic c.in-Ok.ensures.graph
+    IsOrderOf-computes c.args.net.now c.in-Ok.graph c.in-Ok.ensures.acyclic (net_closed c.args.input.now (header_of c.args.header net.1.0) c.args.net.now net.0 net.1.1) c.in-Ok.ensures.graph
