@@ -7,7 +7,7 @@ use Rattle.std.proofs.lemmas.List.Folds.{prefix_len-append}
 use Rattle.text_core.specs.Bytes.{is_line_feed}
 use Rattle.account_file.specs.declared.place.Place.{Place}
 use Rattle.account_file.specs.declared.step.Step.TheVariants.{Wait}
-use Rattle.account_file.specs.Reading.{has_line, step_at_line, step_at_end, step_of}
+use Rattle.account_file.specs.Steps.{has_line, step_at_line, step_at_end, step_of}
 
 take_front : (n : ℕ) (xs ys : List ℕ) → n ≤ length xs → take n (xs ++ ys) ≡ take n xs
 take_front zero xs ys within = refl

@@ -1,6 +1,12 @@
+pub mod AccountLemmas
 pub mod ColonLemmas
 pub mod CuttingLemmas
+pub mod FaultLemmas
+pub mod LawLemmas
+pub mod LineLemmas
 pub mod NumberLemmas
+pub mod OrderLemmas
+pub mod ReadingLemmas
 pub mod RecordLemmas
 pub mod SpellingLemmas
 pub mod StepLemmas

@@ -1,12 +1,14 @@
 -- Records as they are written are those that are read.
-use Rattle.std.proofs.Common.{◌≡◌, ℕ, ◌<◌, ◌^◌, eqb, not, Bool, true, false, cond, List, [], ◌∷◌, ◌++◌, length, map, take, drop, All, codes, Option, Some, None, Result, Ok, Err, refl, sym, ap, ◌∙◌, subst, arith, append_assoc, take-append-drop, take_at, drop_at, length-append, get_or}
+use Rattle.std.proofs.Common.{◌≡◌, ℕ, ◌<◌, ◌^◌, eqb, ltb, Bool, true, false, cond, List, [], ◌∷◌, ◌++◌, length, map, take, drop, All, codes, Option, Some, None, Result, Ok, Err, refl, sym, ap, ◌∙◌, subst, arith, append_assoc, take-append-drop, take_at, drop_at, length-append, get_or}
 use Rattle.std.specs.Char.{is_ascii_digit}
 use Rattle.std.specs.Fmt.{decimal}
 use Rattle.std.specs.List.{list_all, prefix_len}
 use Rattle.std.specs.Str.{all_ascii_digits, bytes_eq}
-use Rattle.std.proofs.lemmas.Bool.{eqb-true}
-use Rattle.std.proofs.lemmas.List.Elements.{All-nil, All-cons, All-head, All-tail, All-append}
+use Rattle.std.proofs.lemmas.Bool.{eqb-true, ltb-true}
+use Rattle.std.proofs.lemmas.List.Elements.{All-nil, All-cons, All-head, All-tail, All-append, All-weaker}
+use Rattle.std.proofs.lemmas.List.Sums.{AllPass-from_list_all}
 use Rattle.std.proofs.lemmas.Slice.Eq.{bytes_eq-Decides}
+use Rattle.text_core.specs.Lines.{IsLine}
 use Rattle.circuits.specs.declared.port.Pair.{Pair}
 use Rattle.circuits.specs.declared.port.PortKind.{PortKind}
 use Rattle.circuits.specs.declared.port.PortKind.TheVariants.{Input, Output}
@@ -16,10 +18,10 @@ use Rattle.account_file.specs.declared.record.Record.{Record}
 use Rattle.account_file.specs.declared.record.Record.TheVariants as record_of
 use Rattle.account_file.specs.declared.fault.RecordFault.{RecordFault}
 use Rattle.account_file.specs.declared.fault.RecordFault.TheVariants.{Word}
-use Rattle.account_file.specs.Forms.{is_space, words_of, kind_of, flip_of, port_of, pair_of, pair_by, pair_behind, with_pair, pairs_of, match_record, numbers_of, before_colon, behind_colon, hints_of, line_of, log_line, log_record, literals_of, alone, header_record, record_by, record_in}
+use Rattle.account_file.specs.Forms.{words_of, kind_of, flip_of, port_of, pair_of, pair_by, pair_behind, with_pair, pairs_of, match_record, numbers_of, before_colon, behind_colon, hints_of, line_of, log_line, log_record, literals_of, alone, header_record, record_by, record_in}
 use Rattle.account_file.specs.Spelling.{kind_letter, sign_of, numbers_text, record_line, HasPorts, IsWritable}
-use Rattle.account_file.proofs.NumberLemmas.{both, decimal_digits, number_read, number_written, numbers_read, numbers_written}
-use Rattle.account_file.proofs.SpellingLemmas.{spaced, spaced_words, IsBlankless, words_spaced, spaced-map, spaced-append, digits_blankless, digits_front}
+use Rattle.account_file.proofs.NumberLemmas.{decimal_digits, number_read, number_written, numbers_read, numbers_written}
+use Rattle.account_file.proofs.SpellingLemmas.{spaced, spaced_words, IsVisible, words_spaced, line_spaced_words, spaced-map, spaced-append, digits_visible, digits_front}
 
 -- the words of a record
 
@@ -59,60 +61,60 @@ line_spaced (record_of.Line line) =
     ∙ ap (λ l. codes "l" ++ l) (ends literals hints)
 line_spaced record_of.End = refl
 
--- no word has a blank
+-- no word has a blank or a control
 
-shown : (word : List ℕ) → list_all (λ byte. not (is_space byte)) word ≡ true → IsBlankless word
-shown [] e = All-nil (λ byte. is_space byte ≡ false)
-shown (byte ∷ word) e =
-    let parts = both (not (is_space byte)) (list_all (λ b. not (is_space b)) word) e in
-    All-cons (λ b. is_space b ≡ false) byte word (other (is_space byte) parts.0) (shown word parts.1)
-  where
-    other : (b : Bool) → not b ≡ true → b ≡ false
-    other true h = cc
-    other false h = refl
+shown : (word : List ℕ) → list_all (λ byte. ltb 32 byte) word ≡ true → IsVisible word
+shown word e = All-weaker (λ byte. ltb 32 byte ≡ true) (λ byte. 32 < byte) (λ byte above. ltb-true 32 byte above) word (AllPass-from_list_all (λ byte. ltb 32 byte) word e)
 
-decimals_blankless : (numbers : List ℕ) → All (λ n. n < 2 ^ 64) numbers → All IsBlankless (map decimal numbers)
-decimals_blankless [] small = All-nil IsBlankless
-decimals_blankless (n ∷ numbers) small =
-    All-cons IsBlankless (decimal n) (map decimal numbers) (digits_blankless (decimal n) (decimal_digits n (All-head (λ m. m < 2 ^ 64) n numbers small)))
-    (decimals_blankless numbers (All-tail (λ m. m < 2 ^ 64) n numbers small))
+decimals_visible : (numbers : List ℕ) → All (λ n. n < 2 ^ 64) numbers → All IsVisible (map decimal numbers)
+decimals_visible [] small = All-nil IsVisible
+decimals_visible (n ∷ numbers) small =
+    All-cons IsVisible (decimal n) (map decimal numbers) (digits_visible (decimal n) (decimal_digits n (All-head (λ m. m < 2 ^ 64) n numbers small)))
+    (decimals_visible numbers (All-tail (λ m. m < 2 ^ 64) n numbers small))
 
-letter_shows : (kind : PortKind) → is_space (kind_letter kind) ≡ false
-letter_shows Input = refl
-letter_shows Output = refl
+letter_shows : (kind : PortKind) → 32 < kind_letter kind
+letter_shows Input = omega arith
+letter_shows Output = omega arith
 
-sign_shows : (flip : Bool) → is_space (sign_of flip) ≡ false
-sign_shows true = refl
-sign_shows false = refl
+sign_shows : (flip : Bool) → 32 < sign_of flip
+sign_shows true = omega arith
+sign_shows false = omega arith
 
-pair_blankless : (pair : Pair) → HasPorts pair → IsBlankless (pair_word pair)
-pair_blankless pair ports =
-    let shows : ℕ → Type 0 = λ byte. is_space byte ≡ false in
-    let from = digits_blankless (decimal pair.from) (decimal_digits pair.from (omega (arith, ports.from))) in
-    let to = digits_blankless (decimal pair.to) (decimal_digits pair.to (omega (arith, ports.to))) in
+pair_visible : (pair : Pair) → HasPorts pair → IsVisible (pair_word pair)
+pair_visible pair ports =
+    let shows : ℕ → Type 0 = λ byte. 32 < byte in
+    let from = digits_visible (decimal pair.from) (decimal_digits pair.from (omega (arith, ports.from))) in
+    let to = digits_visible (decimal pair.to) (decimal_digits pair.to (omega (arith, ports.to))) in
     All-cons shows (kind_letter pair.kind) (decimal pair.from ++ sign_of pair.flip ∷ decimal pair.to) (letter_shows pair.kind)
     (All-append shows (decimal pair.from) (sign_of pair.flip ∷ decimal pair.to) from (All-cons shows (sign_of pair.flip) (decimal pair.to) (sign_shows pair.flip) to))
 
-pairs_blankless : (pairs : List Pair) → All HasPorts pairs → All IsBlankless (map pair_word pairs)
-pairs_blankless [] ports = All-nil IsBlankless
-pairs_blankless (pair ∷ pairs) ports =
-    All-cons IsBlankless (pair_word pair) (map pair_word pairs) (pair_blankless pair (All-head HasPorts pair pairs ports))
-    (pairs_blankless pairs (All-tail HasPorts pair pairs ports))
+pairs_visible : (pairs : List Pair) → All HasPorts pairs → All IsVisible (map pair_word pairs)
+pairs_visible [] ports = All-nil IsVisible
+pairs_visible (pair ∷ pairs) ports =
+    All-cons IsVisible (pair_word pair) (map pair_word pairs) (pair_visible pair (All-head HasPorts pair pairs ports))
+    (pairs_visible pairs (All-tail HasPorts pair pairs ports))
 
-pub first_blankless : (entry : Record) → IsBlankless (first_word entry)
-first_blankless record_of.Header = shown (codes "npnp") refl
-first_blankless (record_of.Conclusion (Match pairs)) = shown (codes "match") refl
-first_blankless (record_of.Line line) = shown (codes "l") refl
-first_blankless record_of.End = shown (codes "end") refl
+pub first_visible : (entry : Record) → IsVisible (first_word entry)
+first_visible record_of.Header = shown (codes "npnp") refl
+first_visible (record_of.Conclusion (Match pairs)) = shown (codes "match") refl
+first_visible (record_of.Line line) = shown (codes "l") refl
+first_visible record_of.End = shown (codes "end") refl
 
-pub others_blankless : (entry : Record) → IsWritable entry → All IsBlankless (other_words entry)
-others_blankless record_of.Header w = All-cons IsBlankless (codes "1") [] (shown (codes "1") refl) (All-nil IsBlankless)
-others_blankless (record_of.Conclusion (Match pairs)) w = pairs_blankless pairs w
-others_blankless (record_of.Line line) w =
-    All-append IsBlankless (literal_words line.clause) (codes ":" ∷ map decimal line.hints)
-    (decimals_blankless (map (λ literal. literal.0) line.clause) w.literals)
-    (All-cons IsBlankless (codes ":") (map decimal line.hints) (shown (codes ":") refl) (decimals_blankless line.hints w.hints))
-others_blankless record_of.End w = All-nil IsBlankless
+pub others_visible : (entry : Record) → IsWritable entry → All IsVisible (other_words entry)
+others_visible record_of.Header w = All-cons IsVisible (codes "1") [] (shown (codes "1") refl) (All-nil IsVisible)
+others_visible (record_of.Conclusion (Match pairs)) w = pairs_visible pairs w
+others_visible (record_of.Line line) w =
+    All-append IsVisible (literal_words line.clause) (codes ":" ∷ map decimal line.hints)
+    (decimals_visible (map (λ literal. literal.0) line.clause) w.literals)
+    (All-cons IsVisible (codes ":") (map decimal line.hints) (shown (codes ":") refl) (decimals_visible line.hints w.hints))
+others_visible record_of.End w = All-nil IsVisible
+
+-- the line of a record, without its line feed, and that it is one line
+abbrev pub line_text : Record → List ℕ
+line_text entry = first_word entry ++ spaced (other_words entry)
+
+pub line_text_is_line : (entry : Record) → IsWritable entry → IsLine (line_text entry)
+line_text_is_line entry w = line_spaced_words (first_word entry) (other_words entry) (first_visible entry) (others_visible entry w)
 
 -- the words are read
 
@@ -187,7 +189,7 @@ record_read (record_of.Line line) w =
     ∙ ap (λ literals. Ok (record_of.Line (record { clause = literals; hints = line.hints }))) (literals_back line.clause)
 record_read record_of.End w = refl
 
-cancel_last : (xs ys : List ℕ) (z : ℕ) → xs ++ z ∷ [] ≡ ys ++ z ∷ [] → xs ≡ ys
+pub cancel_last : (xs ys : List ℕ) (z : ℕ) → xs ++ z ∷ [] ≡ ys ++ z ∷ [] → xs ≡ ys
 cancel_last [] [] z e = refl
 cancel_last [] (y ∷ ys) z e = absurd (omega (arith, ap length e, length-append ys (z ∷ [])))
 cancel_last (x ∷ xs) [] z e = absurd (omega (arith, ap length e, length-append xs (z ∷ [])))
@@ -200,7 +202,7 @@ pub written_is_read : (entry : Record) (line : List ℕ) → IsWritable entry �
 written_is_read entry line w e =
     let same = cancel_last line (first_word entry ++ spaced (other_words entry)) 10 (sym e ∙ line_spaced entry) in
     ap (λ l. record_in (words_of l)) same
-    ∙ ap record_in (words_spaced (first_word entry) (other_words entry) (first_blankless entry) (others_blankless entry w))
+    ∙ ap record_in (words_spaced (first_word entry) (other_words entry) (first_visible entry) (others_visible entry w))
     ∙ record_read entry w
 
 -- what is read is written

@@ -1,12 +1,14 @@
 -- Lines as they are written are those that are read.
-use Rattle.std.proofs.Common.{◌≡◌, ℕ, ◌+◌, ◌≤◌, eqb, true, false, cond, List, [], ◌∷◌, ◌++◌, length, map, All, refl, sym, ap, ◌∙◌, arith, append_assoc, append-nil}
+use Rattle.std.proofs.Common.{◌≡◌, ℕ, ◌+◌, ◌<◌, ◌≤◌, eqb, true, false, cond, List, [], ◌∷◌, ◌++◌, length, map, All, refl, sym, ap, ◌∙◌, arith, append_assoc, append-nil}
 use Rattle.std.specs.Char.{is_ascii_digit}
 use Rattle.std.specs.List.{flat_map, join_with_byte, prefix_len}
 use Rattle.std.specs.Str.{all_ascii_digits}
 use Rattle.std.proofs.lemmas.Bool.Decides.{nat_tests}
-use Rattle.std.proofs.lemmas.List.Elements.{All-nil, All-cons, All-head, All-tail}
+use Rattle.std.proofs.lemmas.List.Elements.{All-nil, All-cons, All-head, All-tail, All-append, All-weaker}
 use Rattle.std.proofs.lemmas.List.Splits.{slice_split_at, slice_split_none, join_with_byte-slice_split}
 use Rattle.std.proofs.lemmas.Str.Parse.{tells_all_ascii_digits}
+use Rattle.text_core.specs.Bytes.{is_line_feed}
+use Rattle.text_core.specs.Lines.{IsLine}
 use Rattle.account_file.specs.Forms.{is_space, words_of}
 use Rattle.account_file.proofs.NumberLemmas.{both}
 
@@ -14,14 +16,38 @@ use Rattle.account_file.proofs.NumberLemmas.{both}
 abbrev pub spaced : List (List ℕ) → List ℕ
 spaced words = flat_map (λ word. 32 ∷ word) words
 
-abbrev pub IsBlankless : List ℕ → Type 0
-IsBlankless word = All (λ byte. is_space byte ≡ false) word
+-- no byte is a blank, a line feed or another control
+abbrev pub IsVisible : List ℕ → Type 0
+IsVisible word = All (λ byte. 32 < byte) word
 
-pub words_spaced : (first : List ℕ) (rest : List (List ℕ)) → IsBlankless first → All IsBlankless rest → words_of (first ++ spaced rest) ≡ first ∷ rest
-words_spaced first [] h hs = ap words_of (append-nil first) ∙ slice_split_none is_space first h
+no_blank : (byte : ℕ) → 32 < byte → eqb byte 32 ≡ false
+no_blank byte above = grind (arith, nat_tests)
+
+blankless : (word : List ℕ) → IsVisible word → All (λ byte. is_space byte ≡ false) word
+blankless word h = All-weaker (λ byte. 32 < byte) (λ byte. is_space byte ≡ false) no_blank word h
+
+pub words_spaced : (first : List ℕ) (rest : List (List ℕ)) → IsVisible first → All IsVisible rest → words_of (first ++ spaced rest) ≡ first ∷ rest
+words_spaced first [] h hs = ap words_of (append-nil first) ∙ slice_split_none is_space first (blankless first h)
 words_spaced first (next ∷ rest) h hs =
-    slice_split_at is_space first 32 (next ++ spaced rest) h refl
-    ∙ ap (λ l. first ∷ l) (words_spaced next rest (All-head IsBlankless next rest hs) (All-tail IsBlankless next rest hs))
+    slice_split_at is_space first 32 (next ++ spaced rest) (blankless first h) refl
+    ∙ ap (λ l. first ∷ l) (words_spaced next rest (All-head IsVisible next rest hs) (All-tail IsVisible next rest hs))
+
+no_line_feed : (byte : ℕ) → 32 < byte → is_line_feed byte ≡ false
+no_line_feed byte above = grind (arith, nat_tests)
+
+-- words with blanks between them have no line feed
+pub line_spaced_words : (first : List ℕ) (rest : List (List ℕ)) → IsVisible first → All IsVisible rest → IsLine (first ++ spaced rest)
+line_spaced_words first rest h hs =
+    All-append (λ byte. is_line_feed byte ≡ false) first (spaced rest)
+    (All-weaker (λ byte. 32 < byte) (λ byte. is_line_feed byte ≡ false) no_line_feed first h) (behind rest hs)
+  where
+    behind : (words : List (List ℕ)) → All IsVisible words → IsLine (spaced words)
+    behind [] all = All-nil (λ byte. is_line_feed byte ≡ false)
+    behind (next ∷ words) all =
+        All-cons (λ byte. is_line_feed byte ≡ false) 32 (next ++ spaced words) refl
+        (All-append (λ byte. is_line_feed byte ≡ false) next (spaced words)
+        (All-weaker (λ byte. 32 < byte) (λ byte. is_line_feed byte ≡ false) no_line_feed next (All-head IsVisible next words all))
+        (behind words (All-tail IsVisible next words all)))
 
 joined : (first : List ℕ) (rest : List (List ℕ)) → join_with_byte 32 (first ∷ rest) ≡ first ++ spaced rest
 joined first [] = sym (append-nil first)
@@ -38,16 +64,13 @@ pub spaced-append : (us vs : List (List ℕ)) → spaced (us ++ vs) ≡ spaced u
 spaced-append [] vs = refl
 spaced-append (u ∷ us) vs = ap (λ l. 32 ∷ u ++ l) (spaced-append us vs) ∙ ap (λ l. 32 ∷ l) (sym (append_assoc u (spaced us) (spaced vs)))
 
-no_blank : (byte : ℕ) → 48 ≤ byte → eqb byte 32 ≡ false
-no_blank byte least = grind (arith, nat_tests)
-
--- digits are no blanks
-pub digits_blankless : (ds : List ℕ) → all_ascii_digits ds ≡ true → IsBlankless ds
-digits_blankless [] e = All-nil (λ byte. is_space byte ≡ false)
-digits_blankless (c ∷ cs) e =
+pub digits_visible : (ds : List ℕ) → all_ascii_digits ds ≡ true → IsVisible ds
+digits_visible [] e = All-nil (λ byte. 32 < byte)
+digits_visible (c ∷ cs) e =
     let k = tells_all_ascii_digits.parts c cs e in
-    let other : eqb c 32 ≡ false = no_blank c k.0.0 in
-    All-cons (λ byte. is_space byte ≡ false) c cs other (digits_blankless cs k.1)
+    let least : 48 ≤ c = k.0.0 in
+    let above : 32 < c = omega (arith, least) in
+    All-cons (λ byte. 32 < byte) c cs above (digits_visible cs k.1)
 
 -- what stands behind the first byte that is no digit
 pub digits_front : (ds : List ℕ) (s : ℕ) (rest : List ℕ) → all_ascii_digits ds ≡ true → is_ascii_digit s ≡ false → prefix_len is_ascii_digit (ds ++ s ∷ rest) ≡ length ds

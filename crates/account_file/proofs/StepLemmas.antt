@@ -1,7 +1,10 @@
 -- A record that is read uses a whole line, which isn't empty.
-use Rattle.std.proofs.Common.{◌≡◌, ℕ, ◌+◌, ◌-◌, ◌≤◌, Option, None, Some, Bool, true, false, cond, List, [], ◌∷◌, length, Result, Ok, Err, refl, sym, ap, ◌∙◌, inl, inr, arith, length-take}
-use Rattle.std.specs.List.{before_first, position_or_len}
+use Rattle.std.proofs.Common.{◌≡◌, ℕ, zero, suc, ◌+◌, ◌-◌, ◌≤◌, eqb, not, Option, None, Some, Bool, true, false, cond, List, [], ◌∷◌, ◌++◌, length, drop, Result, Ok, Err, refl, sym, ap, subst, ◌∙◌, inl, inr, arith, length-append, length-take, zero-add}
+use Rattle.std.specs.List.{before_first, position_or_len, prefix_len}
 use Rattle.std.proofs.lemmas.Bool.{cases_Bool, ltb-true}
+use Rattle.std.proofs.lemmas.List.{drop-append-le}
+use Rattle.std.proofs.lemmas.List.Folds.{prefix_len-append}
+use Rattle.std.proofs.lemmas.List.Sums.{prefix_len-le-length}
 use Rattle.text_core.specs.Bytes.{is_line_feed}
 use Rattle.account_file.specs.declared.record.Record.{Record}
 use Rattle.account_file.specs.declared.fault.RecordFault.{RecordFault}
@@ -9,7 +12,8 @@ use Rattle.account_file.specs.declared.place.Place.{Place}
 use Rattle.account_file.specs.declared.place.Place.TheVariants.{Start, Headed, Logs, Ended}
 use Rattle.account_file.specs.declared.step.Step.{Step}
 use Rattle.account_file.specs.declared.step.Step.TheVariants.{Wait, Read}
-use Rattle.account_file.specs.Reading.{has_line, line_at, step_by, step_at_line, step_at_end, step_of, IsCounted}
+use Rattle.account_file.specs.Reading.{IsCounted, IsReader}
+use Rattle.account_file.specs.Steps.{has_line, line_at, step_by, step_at_line, step_at_end, step_of}
 
 by_used : (used : ℕ) (found : Result (Record × Place) RecordFault) (entry : Record) (place : Place) (n : ℕ) → step_by used found ≡ Read entry place n → used ≡ n
 by_used used (Ok found) entry place n e = cc
@@ -51,3 +55,43 @@ used_within left finished place entry behind n e =
 pub counted_more : (given : Option RecordFault) (line left total used : ℕ) → ((x : RecordFault) → given ≡ Some x → ⊥) → IsCounted given line left total → 2 ≤ used → used ≤ left → IsCounted given (line + 1) (left - used) total
 counted_more None line left total used none counted two within = omega (arith, counted, two, within)
 counted_more (Some fault) line left total used none counted two within = absurd (none fault refl)
+
+-- a line feed that is none of the first bytes is sought behind them
+pub line_end_within : (bytes : List ℕ) (looked : ℕ) → looked ≤ position_or_len is_line_feed bytes → looked ≤ length bytes
+line_end_within bytes looked none = omega (arith, none, prefix_len-le-length (λ byte. not (is_line_feed byte)) bytes)
+
+pub line_end_behind : (bytes : List ℕ) (looked : ℕ) → looked ≤ position_or_len is_line_feed bytes → looked + position_or_len is_line_feed (drop looked bytes) ≡ position_or_len is_line_feed bytes
+line_end_behind bytes zero none = zero-add (position_or_len is_line_feed bytes)
+line_end_behind [] (suc looked) none = absurd (omega (arith, none))
+line_end_behind (byte ∷ bytes) (suc looked) none = by (not (is_line_feed byte)) none (λ rest. line_end_behind bytes looked rest)
+  where
+    by : (b : Bool) → suc looked ≤ cond b (1 + position_or_len is_line_feed bytes) 0
+        → (looked ≤ position_or_len is_line_feed bytes → looked + position_or_len is_line_feed (drop looked bytes) ≡ position_or_len is_line_feed bytes)
+        → suc looked + position_or_len is_line_feed (drop looked bytes) ≡ cond b (1 + position_or_len is_line_feed bytes) 0
+    by true below more = let rest = more (omega (arith, below)) in omega (arith, rest)
+    by false below more = absurd (omega (arith, below))
+
+-- more bytes behind
+later_line_end : (bytes piece : List ℕ) (looked : ℕ) → looked ≤ position_or_len is_line_feed bytes → looked ≤ position_or_len is_line_feed (bytes ++ piece)
+later_line_end bytes piece looked none =
+    let p : ℕ → Bool = λ byte. not (is_line_feed byte) in
+    by (eqb (prefix_len p bytes) (length bytes)) (prefix_len-append p bytes piece)
+  where
+    by : (b : Bool) → position_or_len is_line_feed (bytes ++ piece) ≡ cond b (length bytes + position_or_len is_line_feed piece) (position_or_len is_line_feed bytes)
+        → looked ≤ position_or_len is_line_feed (bytes ++ piece)
+    by true e = let within = line_end_within bytes looked none in omega (arith, e, within)
+    by false e = omega (arith, e, none)
+
+counted_feed : (given : Option RecordFault) (line left total more : ℕ) → IsCounted given line left total → IsCounted given line (left + more) (total + more)
+counted_feed None line left total more counted = omega (arith, counted)
+counted_feed (Some fault) line left total more counted = tt
+
+pub reader_fed : (bytes piece : List ℕ) (start looked line : ℕ) (given : Option RecordFault) (total : ℕ) → IsReader bytes start looked line given total
+    → IsReader (bytes ++ piece) start looked line given (total + length piece)
+reader_fed bytes piece start looked line given total reader =
+    let left : length (bytes ++ piece) - start ≡ length bytes - start + length piece = omega (arith, length-append bytes piece, reader.within) in
+    record {
+      within = omega (arith, reader.within, length-append bytes piece);
+      no_line_feed = subst (λ l. looked ≤ position_or_len is_line_feed l) (sym (drop-append-le start bytes piece reader.within)) (later_line_end (drop start bytes) piece looked reader.no_line_feed);
+      counted = subst (λ n. IsCounted given line n (total + length piece)) (sym left) (counted_feed given line (length bytes - start) total (length piece) reader.counted);
+    }

@@ -1,4 +1,8 @@
 pub mod Spelling
 pub mod Forms
-pub mod Texts
+pub mod Lines
+pub mod Order
+pub mod Accounts
 pub mod Reading
+pub mod Steps
+pub mod Texts

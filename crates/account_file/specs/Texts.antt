@@ -31,3 +31,9 @@ in_front {X} front (Err fault) = Err fault
 abbrev pub texts_behind : Option (Bor (List (Bor (List ℕ)))) → Option (List (List ℕ))
 texts_behind None = None
 texts_behind (Some words) = Some (texts words.now)
+
+-- the answer is what is said, or memory is wanting
+abbrev pub Says : {X : Type 0} → Result X FileStop → (Result X RecordFault → Type 0) → Type 0
+Says {X} (Ok x) IsSaid = IsSaid (Ok x)
+Says {X} (Err (Fault fault)) IsSaid = IsSaid (Err fault)
+Says {X} (Err Memory) IsSaid = Unit {0}

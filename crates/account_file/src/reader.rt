@@ -1,9 +1,12 @@
 //! The reader of an account's text.
 
-ghost use Rattle.std.specs.Prelude.{◌≡◌, ◌≢◌, ◌+◌, ◌<◌, ◌^◌, ◌++◌, [], true, false, None, Some, Ok, Err, OnOk, OnErr, length};
+ghost use Rattle.std.specs.Prelude.{ℕ, ◌≡◌, ◌≢◌, ◌+◌, ◌<◌, ◌≤◌, ◌^◌, ◌++◌, [], List, true, false, None, Some, Ok, Err, OnOk, OnErr, length, drop};
 ghost use Rattle.account_file.specs.declared.record.Record.{Record as Entry};
-ghost use Rattle.account_file.specs.Reading.{next_answer, next_reading};
-ghost use Rattle.account_file.specs.Texts.{Answers};
+ghost use Rattle.account_file.specs.declared.fault.RecordFault.{RecordFault as AnyFault};
+ghost use Rattle.account_file.specs.Accounts.{SaysNext};
+ghost use Rattle.account_file.specs.Reading.{HasRead, given_by};
+ghost use Rattle.account_file.specs.Steps.{next_answer, next_reading};
+ghost use Rattle.account_file.specs.Texts.{Answers, Says};
 
 use crate::fault::{FileStop, RecordFault};
 use crate::place::Place;
@@ -18,6 +21,8 @@ pub struct Reader {
     bytes: Vec<u8>,
     /// How many of these bytes were read.
     start: usize,
+    /// In how many bytes behind them a line feed was sought, and there was none.
+    looked: usize,
     finished: bool,
     line: u64,
     place: Place,
@@ -40,24 +45,19 @@ impl Model for Reader {
       total = a.total;
     } };
 
-    ghost invariant = { λ a. IsReader a.bytes.items a.start a.line a.fault a.total };
+    ghost invariant = { λ a. IsReader a.bytes.items a.start a.looked a.line a.fault a.total };
 }
 
 impl Reader {
     /// Nothing came yet.
     pub fn new(alloc: Global) -> Reader
-        ensures { result ≡ record {
-          left = [];
-          finished = false;
-          line = 0;
-          place = Place.Start;
-          fault = None;
-          total = 0;
-        } }
+        ensures begun { HasRead result [] [] }
+        ensures more { result.finished ≡ false }
     {
         Reader {
             bytes: Vec::new(alloc),
             start: 0,
+            looked: 0,
             finished: false,
             line: 0,
             place: Place::Start,
@@ -70,12 +70,15 @@ impl Reader {
     pub fn feed(&mut self, piece: &[u8]) -> Result<(), AllocError>
         requires more { self.old.finished ≡ false }
         requires fits { self.old.total + length piece.now < 2 ^ 64 }
+        ensures reads { (bytes : List ℕ) (records : List Entry) → HasRead self.old bytes records
+            → OnOk result (HasRead self.new (bytes ++ piece.now) records) }
         ensures ok { OnOk result (self.new ≡ record self.old {
           left = self.old.left ++ piece.now;
           total = self.old.total + length piece.now;
         }) }
         ensures refused { OnErr result (self.new ≡ self.old) }
     {
+        self.drop_read();
         self.bytes.extend_from_slice(piece)?;
         self.total += piece.len() as u64;
         Ok(())
@@ -83,7 +86,9 @@ impl Reader {
 
     /// No more bytes come.
     pub fn finish(&mut self)
-        ensures { self.new ≡ record self.old { finished = true } }
+        ensures reads { (bytes : List ℕ) (records : List Entry) → HasRead self.old bytes records
+            → HasRead self.new bytes records }
+        ensures finished { self.new ≡ record self.old { finished = true } }
     {
         self.finished = true;
     }
@@ -95,9 +100,24 @@ impl Reader {
         self.line
     }
 
-    /// The next record. It is None where no whole line is held and more may come, and behind the end where nothing is left.
-    /// Each record uses bytes. After a fault it is that fault again; want of memory changes nothing.
+    /// What the text says behind the records that were given: the next record, or the first fault. It is None where no
+    /// whole line is left and more may come, and behind the end where nothing is left. After a fault it is that fault
+    /// again; want of memory changes nothing.
     pub fn next(&mut self, alloc: Global) -> Result<Option<Record>, FileStop>
+        ensures answer { (bytes : List ℕ) (records : List Entry) → HasRead self.old bytes records
+            → Says result (SaysNext bytes self.old.finished records) }
+        ensures reads { (bytes : List ℕ) (records : List Entry) → HasRead self.old bytes records
+            → HasRead self.new bytes (records ++ given_by result) }
+        ensures refused { result ≡ Err FileStop.Memory → self.new ≡ self.old }
+        ensures shrinks { (entry : Entry) → result ≡ Ok (Some entry) → length self.new.left < length self.old.left }
+        ensures finished { self.new.finished ≡ self.old.finished }
+        ensures total { self.new.total ≡ self.old.total }
+    {
+        self.step(alloc)
+    }
+
+    // The next record, by one step.
+    fn step(&mut self, alloc: Global) -> Result<Option<Record>, FileStop>
         ensures answer { Answers (λ found. found) result (next_answer self.old.fault self.old) }
         ensures reading { result ≢ Err FileStop.Memory → self.new ≡ next_reading self.old.fault self.old }
         ensures refused { result ≡ Err FileStop.Memory → self.new ≡ self.old }
@@ -109,20 +129,45 @@ impl Reader {
             return Err(FileStop::Fault(fault));
         }
         let left = &self.bytes[self.start..];
-        match step_of(alloc, left, self.finished, self.place) {
-            Ok(Step::Wait) => Ok(None),
-            Ok(Step::Read { entry, place, used }) => {
+        let count = left.len();
+        match step_of(alloc, left, self.looked, self.finished, self.place)? {
+            Step::Wait => {
+                self.looked = count;
+                Ok(None)
+            }
+            Step::Read { entry, place, used } => {
                 self.start += used;
+                self.looked = 0;
                 self.line += 1;
                 self.place = place;
                 Ok(Some(entry))
             }
-            Ok(Step::Refuse(fault)) => {
+            Step::Refuse(fault) => {
                 self.line += 1;
                 self.fault = Some(fault);
                 Err(FileStop::Fault(fault))
             }
-            Err(stop) => Err(stop),
         }
     }
+
+    // Drops the bytes that were read where they are more than half, so that each byte is moved once at most for each one
+    // that was read.
+    fn drop_read(&mut self)
+        ensures { self.new ≡ self.old }
+    {
+        if self.start > self.bytes.len() / 2 {
+            drop_front(&mut self.bytes, self.start);
+            self.start = 0;
+        }
+    }
+}
+
+// Drops the first bytes.
+fn drop_front(bytes: &mut Vec<u8>, count: usize)
+    requires { count ≤ length bytes.old.items }
+    ensures { bytes.new.items ≡ drop count bytes.old.items }
+{
+    let left = bytes.len() - count;
+    bytes.copy_within(count.., 0);
+    bytes.truncate(left);
 }

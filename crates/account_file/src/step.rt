@@ -3,7 +3,8 @@
 ghost use Rattle.std.specs.Prelude.{◌≡◌, ◌≤◌, length, count_by};
 ghost use Rattle.std.specs.List.{position_or_len};
 ghost use Rattle.text_core.specs.Bytes.{is_line_feed};
-ghost use Rattle.account_file.specs.Reading.{is_output, line_at, logs_of, place_behind, placed, step_of, step_at_end, step_at_line};
+ghost use Rattle.account_file.specs.Order.{is_output, logs_asked, place_behind};
+ghost use Rattle.account_file.specs.Steps.{line_at, placed, step_of, step_at_end, step_at_line};
 ghost use Rattle.account_file.specs.Texts.{Answers, AnswersStep};
 
 use crate::fault::{FileStop, RecordFault};
@@ -29,16 +30,18 @@ pub enum Step {
     Refuse(RecordFault),
 }
 
-/// What is done with the bytes that are left, where the account stands there.
+/// What is done with the bytes that are left, where the account stands there. No line feed is among the first `looked`.
 pub(crate) fn step_of(
     alloc: Global,
     left: &[u8],
+    looked: usize,
     finished: bool,
     place: Place,
 ) -> Result<Step, FileStop>
+    requires { looked ≤ position_or_len is_line_feed left.now }
     ensures { AnswersStep result (step_of left.now finished place) }
 {
-    let end = line_end(left);
+    let end = line_end_behind(left, looked);
     if end < left.len() {
         return step_at_line(alloc, place, &left[..end]);
     }
@@ -46,6 +49,18 @@ pub(crate) fn step_of(
         return Ok(step_at_end(place, left));
     }
     Ok(Step::Wait)
+}
+
+// How many bytes stand before the first line feed, where none is among the first `looked`.
+fn line_end_behind(bytes: &[u8], looked: usize) -> usize
+    requires { looked ≤ position_or_len is_line_feed bytes.now }
+    ensures { result ≡ position_or_len is_line_feed bytes.now }
+{
+    let count = bytes.len();
+    if looked >= count {
+        return count;
+    }
+    looked + line_end(&bytes[looked..])
 }
 
 // How many bytes stand before the first line feed, or all where there is none.
@@ -128,8 +143,9 @@ fn place_behind(place: Place, entry: &Record) -> Option<Place>
     ensures { result ≡ place_behind place entry.now }
 {
     match (place, entry) {
-        (Place::Headed, Record::Conclusion(Conclusion::Match(pairs))) => {
-            Some(Place::Logs(logs_of(pairs)))
+        (Place::Start, Record::Header) => Some(Place::Headed),
+        (Place::Headed, Record::Conclusion(conclusion)) => {
+            Some(Place::Logs(logs_asked(conclusion)))
         }
         (Place::Logs(logs), Record::Line(line)) => {
             if logs == 0 {
@@ -145,10 +161,11 @@ fn place_behind(place: Place, entry: &Record) -> Option<Place>
     }
 }
 
-// How many logs follow a match.
-fn logs_of(pairs: &[Pair]) -> u64
-    ensures { result ≡ logs_of pairs.now }
+// How many logs a conclusion asks for.
+fn logs_asked(conclusion: &Conclusion) -> u64
+    ensures { result ≡ logs_asked conclusion.now }
 {
+    let Conclusion::Match(pairs) = conclusion;
     2 * outputs_in(pairs) as u64
 }
 

@@ -1,5 +1,5 @@
 use Rattle.std.proofs.Common.{◌≡◌, ◌≤◌, count_by, take}
-use Rattle.account_file.specs.Reading.{is_output}
+use Rattle.account_file.specs.Order.{is_output}
 use Rattle.account_file.proofs.step.outputs_in.Given as goal
 
 abbrev pub invariant-loop-pair : goal.invariant-loop-pair

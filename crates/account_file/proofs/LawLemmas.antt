@@ -1,0 +1,277 @@
+-- What a text says behind records is said by it alone: one list of records, one answer, one first fault.
+use Rattle.std.proofs.Common.{◌≡◌, ◌≢◌, ℕ, zero, suc, ◌+◌, ◌<◌, Bool, true, false, cond, codes, List, [], ◌∷◌, ◌++◌, length, get_or, take, Option, Some, None, IsSome, Result, Ok, Err, refl, sym, ap, subst, ◌∙◌, arith, inl, inr, length-append, length-take, get_or-take, take-suc, take-take, take_all}
+use Rattle.std.specs.List.{AllZip}
+use Rattle.std.specs.Str.{bytes_eq}
+use Rattle.std.proofs.Math.Seq.{get_or-append_seam}
+use Rattle.std.proofs.lemmas.Bool.{cases_lt, false≢true}
+use Rattle.std.proofs.lemmas.Slice.Eq.{bytes_eq-Decides}
+use Rattle.account_file.specs.declared.record.Record.{Record}
+use Rattle.account_file.specs.declared.record.Record.TheVariants as record_of
+use Rattle.account_file.specs.declared.fault.RecordFault.{RecordFault}
+use Rattle.account_file.specs.declared.fault.RecordFault.TheVariants as fault
+use Rattle.account_file.specs.declared.place.Place.{Place}
+use Rattle.account_file.specs.declared.place.Place.TheVariants.{Start, Headed, Logs, Ended}
+use Rattle.account_file.specs.declared.step.Step.TheVariants.{Read, Refuse}
+use Rattle.account_file.specs.Forms.{words_of, record_in}
+use Rattle.account_file.specs.Lines.{whole_lines, behind_lines}
+use Rattle.account_file.specs.Order.{place_behind, place_after, AreInOrder, MayStand}
+use Rattle.account_file.specs.Accounts.{HasForm, AreRecords, LineFault, EndFault, HasFormFault, IsAccountOf, SaysNext}
+use Rattle.account_file.specs.Steps.{in_place, placed, step_by, step_at_line}
+use Rattle.account_file.proofs.AccountLemmas.{FaultThere, fault_there}
+use Rattle.account_file.proofs.OrderLemmas.{place_behind_last, place_there, take_in_order}
+use Rattle.account_file.proofs.RecordLemmas.{cancel_last, written_is_read}
+
+form_is_read : (line : List ℕ) (entry : Record) → HasForm line entry → record_in (words_of line) ≡ Ok entry
+form_is_read line entry form = written_is_read entry line form.0 form.1
+
+same_record : (line : List ℕ) (first second : Record) → HasForm line first → HasForm line second → first ≡ second
+same_record line first second f s = let e : Ok first ≡ Ok second = sym (form_is_read line first f) ∙ form_is_read line second s in cc
+
+pub same_records : (lines : List (List ℕ)) (first second : List Record) → AllZip HasForm lines first → AllZip HasForm lines second → first ≡ second
+same_records [] [] [] f s = refl
+same_records [] [] (b ∷ bs) f s = absurd s
+same_records [] (a ∷ as') second f s = absurd f
+same_records (line ∷ lines) [] second f s = absurd f
+same_records (line ∷ lines) (a ∷ as') [] f s = absurd s
+same_records (line ∷ lines) (a ∷ as') (b ∷ bs) f s = ap (λ e. e ∷ as') (same_record line a b f.0 s.0) ∙ ap (λ es. b ∷ es) (same_records lines as' bs f.1 s.1)
+
+-- records and their lines, side by side
+pub as_many : (lines : List (List ℕ)) (records : List Record) → AllZip HasForm lines records → length lines ≡ length records
+as_many [] [] z = refl
+as_many [] (e ∷ es) z = absurd z
+as_many (line ∷ lines) [] z = absurd z
+as_many (line ∷ lines) (e ∷ es) z = ap suc (as_many lines es z.1)
+
+form_at : (lines : List (List ℕ)) (records : List Record) (k : ℕ) → AllZip HasForm lines records → k < length lines → HasForm (get_or lines k []) (get_or records k record_of.End)
+form_at [] [] k z below = absurd (omega (arith, below))
+form_at [] (e ∷ es) k z below = absurd z
+form_at (line ∷ lines) [] k z below = absurd z
+form_at (line ∷ lines) (e ∷ es) zero z below = z.0
+form_at (line ∷ lines) (e ∷ es) (suc k) z below = form_at lines es k z.1 (omega (arith, below))
+
+forms_of_front : (lines : List (List ℕ)) (records : List Record) (k : ℕ) → AllZip HasForm lines records → AllZip HasForm (take k lines) (take k records)
+forms_of_front lines records zero z = tt
+forms_of_front [] [] (suc k) z = tt
+forms_of_front [] (e ∷ es) (suc k) z = absurd z
+forms_of_front (line ∷ lines) [] (suc k) z = absurd z
+forms_of_front (line ∷ lines) (e ∷ es) (suc k) z = (z.0, forms_of_front lines es k z.1)
+
+-- what the code does at a line that has a record's form, or a fault
+
+nothing_behind_end : (entry : Record) (behind : Place) → place_behind Ended entry ≡ Some behind → ⊥
+nothing_behind_end record_of.Header behind e = cc
+nothing_behind_end (record_of.Line line) behind e = cc
+nothing_behind_end (record_of.Conclusion conclusion) behind e = cc
+nothing_behind_end record_of.End behind e = cc
+
+header_line : (line : List ℕ) → line ≡ codes "npnp 1" → bytes_eq line (codes "npnp 1") ≡ true
+header_line line same = (bytes_eq-Decides line (codes "npnp 1")).1 same
+
+other_line : (line : List ℕ) → line ≢ codes "npnp 1" → bytes_eq line (codes "npnp 1") ≡ false
+other_line line other = by (bytes_eq line (codes "npnp 1")) refl
+  where
+    by : (b : Bool) → bytes_eq line (codes "npnp 1") ≡ b → b ≡ false
+    by true e = absurd (other ((bytes_eq-Decides line (codes "npnp 1")).0 e))
+    by false e = refl
+
+said_record : (place : Place) (line : List ℕ) (entry : Record) (behind : Place) → HasForm line entry → place_behind place entry ≡ Some behind
+    → step_at_line place line ≡ Read entry behind (length line + 1)
+said_record Start line record_of.Header behind form e =
+    let same = cancel_last line (codes "npnp 1") 10 (sym form.1) in
+    let headed : Headed ≡ behind = cc in
+    ap (λ b. step_by (length line + 1) (cond b (Ok (record_of.Header, Headed)) (Err fault.Header))) (header_line line same)
+    ∙ ap (λ p. Read record_of.Header p (length line + 1)) headed
+said_record Start line (record_of.Line l) behind form e = cc
+said_record Start line (record_of.Conclusion c) behind form e = cc
+said_record Start line record_of.End behind form e = cc
+said_record Headed line entry behind form e =
+    ap (λ r. step_by (length line + 1) (in_place Headed r)) (form_is_read line entry form) ∙ ap (λ p. step_by (length line + 1) (placed entry p)) e
+said_record (Logs logs) line entry behind form e =
+    ap (λ r. step_by (length line + 1) (in_place (Logs logs) r)) (form_is_read line entry form) ∙ ap (λ p. step_by (length line + 1) (placed entry p)) e
+said_record Ended line entry behind form e = absurd (nothing_behind_end entry behind e)
+
+said_fault : (place : Place) (line : List ℕ) (fault : RecordFault) → FaultThere place line fault → step_at_line place line ≡ Refuse fault
+said_fault Start line fault.Header h = ap (λ b. step_by (length line + 1) (cond b (Ok (record_of.Header, Headed)) (Err fault.Header))) (other_line line h.1)
+said_fault Start line fault.Word h = absurd (h.0 refl)
+said_fault Start line fault.Number h = absurd (h.0 refl)
+said_fault Start line fault.Order h = absurd (h.0 refl)
+said_fault Start line fault.Truncated h = absurd h
+said_fault Start line fault.Trailing h = cc
+said_fault Headed line fault.Header h = let e = h.0 in cc
+said_fault Headed line fault.Word h = ap (λ r. step_by (length line + 1) (in_place Headed r)) h.2
+said_fault Headed line fault.Number h = ap (λ r. step_by (length line + 1) (in_place Headed r)) h.2
+said_fault Headed line fault.Order h =
+    ap (λ r. step_by (length line + 1) (in_place Headed r)) (form_is_read line h.2.0 h.2.1) ∙ ap (λ p. step_by (length line + 1) (placed h.2.0 p)) h.2.2
+said_fault Headed line fault.Truncated h = absurd h
+said_fault Headed line fault.Trailing h = cc
+said_fault (Logs logs) line fault.Header h = let e = h.0 in cc
+said_fault (Logs logs) line fault.Word h = ap (λ r. step_by (length line + 1) (in_place (Logs logs) r)) h.2
+said_fault (Logs logs) line fault.Number h = ap (λ r. step_by (length line + 1) (in_place (Logs logs) r)) h.2
+said_fault (Logs logs) line fault.Order h =
+    ap (λ r. step_by (length line + 1) (in_place (Logs logs) r)) (form_is_read line h.2.0 h.2.1) ∙ ap (λ p. step_by (length line + 1) (placed h.2.0 p)) h.2.2
+said_fault (Logs logs) line fault.Truncated h = absurd h
+said_fault (Logs logs) line fault.Trailing h = cc
+said_fault Ended line fault.Header h = let e = h.0 in cc
+said_fault Ended line fault.Word h = absurd (h.1 refl)
+said_fault Ended line fault.Number h = absurd (h.1 refl)
+said_fault Ended line fault.Order h = absurd (h.1 refl)
+said_fault Ended line fault.Truncated h = absurd h
+said_fault Ended line fault.Trailing h = refl
+
+-- the code's step at a line behind records
+line_step : (before : List Record) (place : Place) (line : List ℕ) (entry : Record) → place_after before ≡ Some place → HasForm line entry → MayStand before entry
+    → (behind : Place) × (step_at_line place line ≡ Read entry behind (length line + 1))
+line_step before place line entry at' form may = by (place_behind place entry) refl
+  where
+    by : (p : Option Place) → place_behind place entry ≡ p → (behind : Place) × (step_at_line place line ≡ Read entry behind (length line + 1))
+    by None e = absurd (false≢true (subst IsSome (place_behind_last before entry place at' ∙ e) may))
+    by (Some behind) e = (behind, said_record place line entry behind form e)
+
+fault_step : (before : List Record) (place : Place) (line : List ℕ) (fault : RecordFault) → place_after before ≡ Some place → LineFault before line fault → step_at_line place line ≡ Refuse fault
+fault_step before place line fault at' h = said_fault place line fault (fault_there before place line fault at' h)
+
+-- a line that is the next record has no fault, and one fault at most
+pub no_fault : (before : List Record) (line : List ℕ) (entry : Record) (fault : RecordFault) → AreInOrder before → HasForm line entry → MayStand before entry → LineFault before line fault → ⊥
+no_fault before line entry fault order form may h =
+    let at' = place_there before order in
+    let read = line_step before at'.0 line entry at'.1 form may in
+    let refused = fault_step before at'.0 line fault at'.1 h in
+    let e : Read entry read.0 (length line + 1) ≡ Refuse fault = sym read.1 ∙ refused in
+    cc
+
+same_line_fault : (before : List Record) (line : List ℕ) (first second : RecordFault) → AreInOrder before → LineFault before line first → LineFault before line second → first ≡ second
+same_line_fault before line first second order f s =
+    let at' = place_there before order in
+    let e : Refuse first ≡ Refuse second = sym (fault_step before at'.0 line first at'.1 f) ∙ fault_step before at'.0 line second at'.1 s in
+    cc
+
+same_end_fault : (before : List Record) (rest : List ℕ) (first second : RecordFault) → EndFault before rest first → EndFault before rest second → first ≡ second
+same_end_fault before rest fault.Truncated fault.Truncated f s = refl
+same_end_fault before rest fault.Truncated fault.Trailing f s = absurd (f s.0)
+same_end_fault before rest fault.Trailing fault.Truncated f s = absurd (s f.0)
+same_end_fault before rest fault.Trailing fault.Trailing f s = refl
+same_end_fault before rest fault.Header second f s = absurd f
+same_end_fault before rest fault.Word second f s = absurd f
+same_end_fault before rest fault.Number second f s = absurd f
+same_end_fault before rest fault.Order second f s = absurd f
+same_end_fault before rest fault.Truncated second f s = absurd s
+same_end_fault before rest fault.Trailing second f s = absurd s
+
+-- Behind the lines of some records stands the line of another, which may stand there.
+record IsNext (lines : List (List ℕ)) (before : List Record) (entry : Record) : Type 0 where
+  pub below : length before < length lines
+  pub form : HasForm (get_or lines (length before) []) entry
+  pub may : MayStand before entry
+
+next_record : (lines : List (List ℕ)) (before : List Record) (entry : Record) → AreRecords (take (length before + 1) lines) (before ++ entry ∷ []) → IsNext lines before entry
+next_record lines before entry are =
+    let k = length before in
+    let count : length (take (k + 1) lines) ≡ k + 1 = as_many (take (k + 1) lines) (before ++ entry ∷ []) are.form ∙ length-append before (entry ∷ []) in
+    let there : HasForm (get_or (take (k + 1) lines) k []) (get_or (before ++ entry ∷ []) k record_of.End) = form_at (take (k + 1) lines) (before ++ entry ∷ []) k are.form (omega (arith, count)) in
+    let line : get_or (take (k + 1) lines) k [] ≡ get_or lines k [] = get_or-take (k + 1) lines k [] (omega arith) in
+    record {
+      below = omega (arith, count, length-take (k + 1) lines);
+      form = subst (λ e. HasForm (get_or lines k []) e) (get_or-append_seam before entry [] record_of.End)
+          (subst (λ l. HasForm l (get_or (before ++ entry ∷ []) k record_of.End)) line there);
+      may = are.order;
+    }
+
+-- more records, of which the first are these
+further : (lines : List (List ℕ)) (before more : List Record) → AreRecords (take (length before) lines) before → AreRecords (take (length more) lines) more → length before < length more
+    → (entry : Record) × IsNext lines before entry
+further lines before more few many below =
+    let k = length before in
+    let m = length more in
+    let count : length (take m lines) ≡ length more = as_many (take m lines) more many.form in
+    let front : AllZip HasForm (take k (take m lines)) (take k more) = forms_of_front (take m lines) more k many.form in
+    let same : before ≡ take k more = same_records (take k lines) before (take k more) few.form (subst (λ l. AllZip HasForm l (take k more)) (take-take k m lines (omega (arith, below))) front) in
+    let entry = get_or more k record_of.End in
+    let there : HasForm (get_or (take m lines) k []) entry = form_at (take m lines) more k many.form (omega (arith, count, below)) in
+    let line : get_or (take m lines) k [] ≡ get_or lines k [] = get_or-take m lines k [] below in
+    let order : AreInOrder (take (suc k) more) = take_in_order (suc k) more many.order in (
+      entry,
+      record {
+        below = omega (arith, count, below, length-take m lines);
+        form = subst (λ l. HasForm l entry) line there;
+        may = subst AreInOrder (take-suc more k record_of.End below ∙ ap (λ r. r ++ entry ∷ []) (sym same)) order;
+      },
+    )
+
+module _ (bytes : List ℕ) (before : List Record) where
+  fault_and_next : (entry : Record) (fault : RecordFault) → HasFormFault bytes before fault → IsNext (whole_lines bytes) before entry → ⊥
+  fault_and_next entry fault has next =
+      no_fault before (get_or (whole_lines bytes) (length before) []) entry fault has.records.order next.form next.may (has.at_line next.below)
+
+  same_fault : (first second : RecordFault) → HasFormFault bytes before first → HasFormFault bytes before second → first ≡ second
+  same_fault first second f s = elim (cases_lt (length before) (length (whole_lines bytes))) [
+    | inl below ↦ same_line_fault before (get_or (whole_lines bytes) (length before) []) first second f.records.order (f.at_line below) (s.at_line below)
+    | inr past ↦ same_end_fault before (behind_lines bytes) first second (f.at_end past) (s.at_end past)
+  ]
+
+  account_has_none : (wrong : RecordFault) → IsAccountOf bytes before → HasFormFault bytes before wrong → ⊥
+  account_has_none wrong account has =
+      let count = as_many (whole_lines bytes) before account.records_are.form in
+      by wrong (has.at_end (omega (arith, count)))
+    where
+      by : (f : RecordFault) → EndFault before (behind_lines bytes) f → ⊥
+      by fault.Truncated h = h account.ended
+      by fault.Trailing h = h.1 account.nothing_behind
+      by fault.Header h = h
+      by fault.Word h = h
+      by fault.Number h = h
+      by fault.Order h = h
+
+  next_and_all : (entry : Record) → IsNext (whole_lines bytes) before entry → AreRecords (whole_lines bytes) before → ⊥
+  next_and_all entry next all = let count = as_many (whole_lines bytes) before all.form in absurd (omega (arith, count, next.below))
+
+-- behind records a text says one thing
+pub one_answer : (bytes : List ℕ) (finished : Bool) (before : List Record) (first second : Result (Option Record) RecordFault) → SaysNext bytes finished before first → SaysNext bytes finished before second → first ≡ second
+one_answer bytes finished before (Ok (Some a)) (Ok (Some b)) f s =
+    let first = next_record (whole_lines bytes) before a f in
+    let second = next_record (whole_lines bytes) before b s in
+    ap (λ e. Ok (Some e)) (same_record (get_or (whole_lines bytes) (length before) []) a b first.form second.form)
+one_answer bytes true before (Ok (Some a)) (Ok None) f s = absurd (next_and_all bytes before a (next_record (whole_lines bytes) before a f) s.records_are)
+one_answer bytes false before (Ok (Some a)) (Ok None) f s = absurd (next_and_all bytes before a (next_record (whole_lines bytes) before a f) s)
+one_answer bytes true before (Ok (Some a)) (Err fault) f s = absurd (fault_and_next bytes before a fault s (next_record (whole_lines bytes) before a f))
+one_answer bytes false before (Ok (Some a)) (Err fault) f s = absurd (fault_and_next bytes before a fault s.0 (next_record (whole_lines bytes) before a f))
+one_answer bytes true before (Ok None) (Ok (Some b)) f s = absurd (next_and_all bytes before b (next_record (whole_lines bytes) before b s) f.records_are)
+one_answer bytes false before (Ok None) (Ok (Some b)) f s = absurd (next_and_all bytes before b (next_record (whole_lines bytes) before b s) f)
+one_answer bytes finished before (Ok None) (Ok None) f s = refl
+one_answer bytes true before (Ok None) (Err fault) f s = absurd (account_has_none bytes before fault f s)
+one_answer bytes false before (Ok None) (Err fault) f s = absurd (let count = as_many (whole_lines bytes) before f.form in let below = s.1 in omega (arith, count, below))
+one_answer bytes true before (Err fault) (Ok (Some b)) f s = absurd (fault_and_next bytes before b fault f (next_record (whole_lines bytes) before b s))
+one_answer bytes false before (Err fault) (Ok (Some b)) f s = absurd (fault_and_next bytes before b fault f.0 (next_record (whole_lines bytes) before b s))
+one_answer bytes true before (Err fault) (Ok None) f s = absurd (account_has_none bytes before fault s f)
+one_answer bytes false before (Err fault) (Ok None) f s = absurd (let count = as_many (whole_lines bytes) before s.form in let below = f.1 in omega (arith, count, below))
+one_answer bytes true before (Err a) (Err b) f s = ap Err (same_fault bytes before a b f s)
+one_answer bytes false before (Err a) (Err b) f s = ap Err (same_fault bytes before a b f.0 s.0)
+
+-- a text has one first fault
+pub one_fault : (bytes : List ℕ) (before other : List Record) (first second : RecordFault) → HasFormFault bytes before first → HasFormFault bytes other second → (before ≡ other) × (first ≡ second)
+one_fault bytes before other first second f s = elim (cases_lt (length before) (length other)) [
+  | inl less ↦ let next = further (whole_lines bytes) before other f.records s.records less in absurd (fault_and_next bytes before next.0 first f next.1)
+  | inr least ↦ elim (cases_lt (length other) (length before)) [
+    | inl less ↦ let next = further (whole_lines bytes) other before s.records f.records less in absurd (fault_and_next bytes other next.0 second s next.1)
+    | inr most ↦
+        let count : length other ≡ length before = omega (arith, least, most) in
+        let same : before ≡ other = same_records (take (length before) (whole_lines bytes)) before other f.records.form
+        (subst (λ n. AllZip HasForm (take n (whole_lines bytes)) other) count s.records.form) in
+        (same, same_fault bytes other first second (subst (λ r. HasFormFault bytes r first) same f) s)
+  ]
+]
+
+-- a text that is an account has no fault
+pub account_or_fault : (bytes : List ℕ) (records before : List Record) (fault : RecordFault) → IsAccountOf bytes records → HasFormFault bytes before fault → ⊥
+account_or_fault bytes records before fault account has =
+    let count = as_many (whole_lines bytes) records account.records_are.form in
+    let some = as_many (take (length before) (whole_lines bytes)) before has.records.form in
+    let whole : take (length records) (whole_lines bytes) ≡ whole_lines bytes = ap (λ n. take n (whole_lines bytes)) (sym count) ∙ take_all (length (whole_lines bytes)) (whole_lines bytes) (omega arith) in
+    let are : AreRecords (take (length records) (whole_lines bytes)) records = subst (λ l. AreRecords l records) (sym whole) account.records_are in
+    elim (cases_lt (length before) (length records)) [
+      | inl less ↦ let next = further (whole_lines bytes) before records has.records are less in fault_and_next bytes before next.0 fault has next.1
+      | inr least ↦
+          let same_count : length before ≡ length records = omega (arith, least, some, count, length-take (length before) (whole_lines bytes)) in
+          let same : before ≡ records = same_records (take (length records) (whole_lines bytes)) before records
+          (subst (λ n. AllZip HasForm (take n (whole_lines bytes)) before) same_count has.records.form) are.form in
+          account_has_none bytes records fault account (subst (λ r. HasFormFault bytes r fault) same has)
+    ]

@@ -1,0 +1,313 @@
+-- What a step says of the whole text, and how far the text was read behind it.
+use Rattle.std.proofs.Common.{◌≡◌, ◌≢◌, ℕ, ◌+◌, ◌<◌, ◌≤◌, Bool, true, false, cond, List, [], ◌∷◌, ◌++◌, length, get_or, take, drop, All, Option, Some, None, IsSome, IfSome, is_some, Result, Ok, Err, refl, sym, ap, subst, ◌∙◌, arith, append_assoc, append-nil, length-append, length-take-le}
+use Rattle.std.specs.List.{AllZip, flat_map, before_first, after_first, position_or_len}
+use Rattle.std.proofs.Math.Seq.{take-append-add, take-append_seam, get_or-append_seam}
+use Rattle.std.proofs.lemmas.Bool.{ltb-true, ltb-false}
+use Rattle.std.proofs.lemmas.List.{take-append-le, get_or_append_left}
+use Rattle.std.proofs.lemmas.List.Elements.{All-push}
+use Rattle.std.proofs.lemmas.Grind.{flat_map-append}
+use Rattle.std.proofs.lemmas.Slice.Zip.{all_zipped_more}
+use Rattle.text_core.specs.Bytes.{is_line_feed}
+use Rattle.text_core.specs.Lines.{IsLine}
+use Rattle.account_file.specs.declared.record.Record.{Record}
+use Rattle.account_file.specs.declared.fault.RecordFault.{RecordFault}
+use Rattle.account_file.specs.declared.fault.RecordFault.TheVariants as fault
+use Rattle.account_file.specs.declared.fault.FileStop.{FileStop}
+use Rattle.account_file.specs.declared.fault.FileStop.TheVariants.{Fault, Memory}
+use Rattle.account_file.specs.declared.place.Place.{Place}
+use Rattle.account_file.specs.declared.place.Place.TheVariants.{Start, Headed, Logs, Ended}
+use Rattle.account_file.specs.declared.step.Step.{Step}
+use Rattle.account_file.specs.declared.step.Step.TheVariants.{Wait, Read, Refuse}
+use Rattle.account_file.specs.Lines.{whole_lines, behind_lines}
+use Rattle.account_file.specs.Order.{place_behind, place_after, AreInOrder}
+use Rattle.account_file.specs.Accounts.{HasForm, AreRecords, LineFault, EndFault, HasFormFault, SaysNext}
+use Rattle.account_file.specs.Reading.{Reading, HasRead, given_by}
+use Rattle.account_file.specs.Spelling.{IsWritable, record_line}
+use Rattle.account_file.specs.Steps.{has_line, step_at_line, step_at_end, step_of, answer_by, reading_behind, next_answer, next_reading}
+use Rattle.account_file.specs.Texts.{Answers, Says}
+use Rattle.account_file.proofs.AccountLemmas.{texts_of, length_texts, lines_of_records, behind_records, have_forms, FaultThere, StepSays, step_says, line_fault}
+use Rattle.account_file.proofs.LineLemmas.{lines_first, lines_none, behind_none, cut_first, before_first_is_line, no_line_feed_is_line, lines_stay}
+use Rattle.account_file.proofs.OrderLemmas.{place_behind_last}
+
+-- a text that begins with the lines of records, behind which an account stands so
+module _ (bytes left : List ℕ) (records : List Record) (place : Place) (text : bytes ≡ flat_map record_line records ++ left) (w : All IsWritable records) (at' : place_after records ≡ Some place) where
+  lines_are : whole_lines bytes ≡ texts_of records ++ whole_lines left
+  lines_are = ap whole_lines text ∙ lines_of_records records left w
+
+  rest_is : behind_lines bytes ≡ behind_lines left
+  rest_is = ap behind_lines text ∙ behind_records records left w
+
+  in_order : AreInOrder records
+  in_order = subst IsSome (sym at') refl
+
+  before_are : AreRecords (take (length records) (whole_lines bytes)) records
+  before_are =
+      let front : take (length records) (whole_lines bytes) ≡ texts_of records =
+      ap (take (length records)) lines_are ∙ ap (λ n. take n (texts_of records ++ whole_lines left)) (sym (length_texts records))
+      ∙ take-append_seam (texts_of records) (whole_lines left) in
+      record { form = subst (λ l. AllZip HasForm l records) (sym front) (have_forms records w); order = in_order }
+
+  -- a whole line is left
+  module _ (line more : List ℕ) (cut : left ≡ line ++ 10 ∷ more) (one : IsLine line) where
+    with_line : whole_lines bytes ≡ texts_of records ++ line ∷ whole_lines more
+    with_line = lines_are ∙ ap (λ l. texts_of records ++ l) (ap whole_lines cut ∙ lines_first line more one)
+
+    below : length records < length (whole_lines bytes)
+    below = omega (arith, ap length with_line, length-append (texts_of records) (line ∷ whole_lines more), length_texts records)
+
+    line_is : get_or (whole_lines bytes) (length records) [] ≡ line
+    line_is =
+        ap (λ l. get_or l (length records) []) with_line ∙ ap (λ n. get_or (texts_of records ++ line ∷ whole_lines more) n []) (sym (length_texts records))
+        ∙ get_or-append_seam (texts_of records) line (whole_lines more) []
+
+    front_is : take (length records + 1) (whole_lines bytes) ≡ texts_of records ++ line ∷ []
+    front_is =
+        ap (take (length records + 1)) with_line ∙ ap (λ n. take (n + 1) (texts_of records ++ line ∷ whole_lines more)) (sym (length_texts records))
+        ∙ take-append-add (texts_of records) (line ∷ whole_lines more) 1
+
+    refused : (wrong : RecordFault) → FaultThere place line wrong → HasFormFault bytes records wrong
+    refused wrong said = record {
+      records = before_are;
+      at_line = λ _. subst (λ l. LineFault records l wrong) (sym line_is) (line_fault records place line wrong at' said);
+      at_end = λ past. absurd (omega (arith, past, below));
+    }
+
+    line_says : (finished : Bool) (step : Step) → StepSays place line step → SaysNext bytes finished records (answer_by step)
+    line_says finished Wait said = absurd said
+    line_says finished (Read entry behind used) said = record {
+      form = subst (λ l. AllZip HasForm l (records ++ entry ∷ [])) (sym front_is) (all_zipped_more HasForm (texts_of records) records line entry (have_forms records w) said.0);
+      order = subst IsSome (sym (place_behind_last records entry place at' ∙ said.1)) refl;
+    }
+    line_says true (Refuse wrong) said = refused wrong said
+    line_says false (Refuse wrong) said = (refused wrong said, below)
+
+  -- no line feed is left
+  module _ (none : IsLine left) where
+    no_line : whole_lines bytes ≡ texts_of records
+    no_line = lines_are ∙ ap (λ l. texts_of records ++ l) (lines_none left none) ∙ append-nil (texts_of records)
+
+    all_are : AreRecords (whole_lines bytes) records
+    all_are = record { form = subst (λ l. AllZip HasForm l records) (sym no_line) (have_forms records w); order = in_order }
+
+    left_is : behind_lines bytes ≡ left
+    left_is = rest_is ∙ behind_none left none
+
+    end_fault : (wrong : RecordFault) → EndFault records left wrong → HasFormFault bytes records wrong
+    end_fault wrong h = record {
+      records = before_are;
+      at_line = λ less. absurd (omega (arith, less, ap length no_line, length_texts records));
+      at_end = λ _. subst (λ l. EndFault records l wrong) (sym left_is) h;
+    }
+
+    cut_off : (place ≢ Ended) → HasFormFault bytes records fault.Truncated
+    cut_off open' = end_fault fault.Truncated (λ ended. open' (let same : Some place ≡ Some Ended = sym at' ∙ ended in cc))
+
+end_says : (bytes left : List ℕ) (records : List Record) (place : Place) → bytes ≡ flat_map record_line records ++ left → All IsWritable records → place_after records ≡ Some place
+    → IsLine left → SaysNext bytes true records (answer_by (step_at_end place left))
+end_says bytes left records Start text w at' none = cut_off bytes left records Start text w at' none (λ e. cc)
+end_says bytes left records Headed text w at' none = cut_off bytes left records Headed text w at' none (λ e. cc)
+end_says bytes left records (Logs logs) text w at' none = cut_off bytes left records (Logs logs) text w at' none (λ e. cc)
+end_says bytes [] records Ended text w at' none = record {
+  records_are = all_are bytes [] records Ended text w at' none;
+  ended = at';
+  nothing_behind = left_is bytes [] records Ended text w at' none;
+}
+end_says bytes (byte ∷ left) records Ended text w at' none =
+    end_fault bytes (byte ∷ left) records Ended text w at' none fault.Trailing (at', λ e. cc)
+
+-- by the first line feed that is left
+line_below : (left : List ℕ) → has_line left ≡ true → position_or_len is_line_feed left < length left
+line_below left there = ltb-true (position_or_len is_line_feed left) (length left) there
+
+line_missing : (left : List ℕ) → has_line left ≡ false → IsLine left
+line_missing left missing = no_line_feed_is_line left (ltb-false (position_or_len is_line_feed left) (length left) missing)
+
+pub step_of_says : (bytes left : List ℕ) (records : List Record) (place : Place) (finished : Bool) → bytes ≡ flat_map record_line records ++ left → All IsWritable records
+    → place_after records ≡ Some place → SaysNext bytes finished records (answer_by (step_of left finished place))
+step_of_says bytes left records place finished text w at' = by (has_line left) refl
+  where
+    at_end : (f : Bool) → IsLine left → SaysNext bytes f records (answer_by (cond f (step_at_end place left) Wait))
+    at_end true none = end_says bytes left records place text w at' none
+    at_end false none = all_are bytes left records place text w at' none
+
+    by : (b : Bool) → has_line left ≡ b
+        → SaysNext bytes finished records (answer_by (cond b (step_at_line place (before_first is_line_feed left)) (cond finished (step_at_end place left) Wait)))
+    by true there =
+        let line = before_first is_line_feed left in
+        line_says bytes left records place text w at' line (after_first is_line_feed left) (cut_first left (line_below left there)) (before_first_is_line left)
+        finished (step_at_line place line) (step_says place line)
+    by false missing = at_end finished (line_missing left missing)
+
+-- a reader waits where no line feed is left
+pub waits : (left : List ℕ) (finished : Bool) (place : Place) → step_of left finished place ≡ Wait → length left ≤ position_or_len is_line_feed left
+waits left finished place e = by (has_line left) refl
+  where
+    by : (b : Bool) → has_line left ≡ b → length left ≤ position_or_len is_line_feed left
+    by true there =
+        let line = before_first is_line_feed left in
+        let wait : step_at_line place line ≡ Wait = sym (ap (λ b. cond b (step_at_line place line) (cond finished (step_at_end place left) Wait)) there) ∙ e in
+        absurd (subst (StepSays place line) wait (step_says place line))
+    by false missing = ltb-false (position_or_len is_line_feed left) (length left) missing
+
+-- the fault of a text stays where the text goes on behind its line
+pub fault_stays : (bytes piece : List ℕ) (records : List Record) (wrong : RecordFault) → SaysNext bytes false records (Err wrong) → SaysNext (bytes ++ piece) false records (Err wrong)
+fault_stays bytes piece records wrong said =
+    let k = length records in
+    let more = lines_stay bytes piece in
+    let has = said.0 in
+    let below : k < length (whole_lines bytes) = said.1 in
+    let longer : k < length (whole_lines (bytes ++ piece)) = omega (arith, below, ap length more.1, length-append (whole_lines bytes) more.0) in
+    let front : take k (whole_lines bytes) ≡ take k (whole_lines (bytes ++ piece)) =
+    sym (ap (take k) more.1 ∙ take-append-le k (whole_lines bytes) more.0 (omega (arith, below))) in
+    let line : get_or (whole_lines bytes) k [] ≡ get_or (whole_lines (bytes ++ piece)) k [] =
+    sym (ap (λ l. get_or l k []) more.1 ∙ get_or_append_left (whole_lines bytes) more.0 [] k below) in (
+      record {
+        records = subst (λ l. AreRecords l records) front has.records;
+        at_line = λ _. subst (λ l. LineFault records l wrong) line (has.at_line below);
+        at_end = λ past. absurd (omega (arith, past, longer));
+      },
+      longer,
+    )
+
+fault_at_end : (bytes : List ℕ) (finished : Bool) (records : List Record) (wrong : RecordFault) → SaysNext bytes finished records (Err wrong) → SaysNext bytes true records (Err wrong)
+fault_at_end bytes true records wrong said = said
+fault_at_end bytes false records wrong said = said.0
+
+if_some : {X : Type 0} (P Q : X → Type 0) (o : Option X) → ((x : X) → P x → Q x) → IfSome o P → IfSome o Q
+if_some {X} P Q None more h = tt
+if_some {X} P Q (Some x) more h = more x h
+
+pub read_feed : (reading : Reading) (bytes piece : List ℕ) (records : List Record) → reading.finished ≡ false → HasRead reading bytes records
+    → HasRead (record reading { left = reading.left ++ piece; total = reading.total + length piece }) (bytes ++ piece) records
+read_feed reading bytes piece records more has = record {
+  text = ap (λ l. l ++ piece) has.text ∙ append_assoc (flat_map record_line records) reading.left piece;
+  writable = has.writable;
+  place = has.place;
+  line = has.line;
+  total = omega (arith, has.total, length-append bytes piece);
+  fault = if_some (λ wrong. SaysNext bytes reading.finished records (Err wrong)) (λ wrong. SaysNext (bytes ++ piece) reading.finished records (Err wrong)) reading.fault
+      (λ wrong said. subst (λ f. SaysNext (bytes ++ piece) f records (Err wrong)) (sym more) (fault_stays bytes piece records wrong (subst (λ f. SaysNext bytes f records (Err wrong)) more said)))
+      has.fault;
+}
+
+pub read_finish : (reading : Reading) (bytes : List ℕ) (records : List Record) → HasRead reading bytes records → HasRead (record reading { finished = true }) bytes records
+read_finish reading bytes records has = record {
+  text = has.text;
+  writable = has.writable;
+  place = has.place;
+  line = has.line;
+  total = has.total;
+  fault = if_some (λ wrong. SaysNext bytes reading.finished records (Err wrong)) (λ wrong. SaysNext bytes true records (Err wrong)) reading.fault
+      (λ wrong said. fault_at_end bytes reading.finished records wrong said) has.fault;
+}
+
+-- what the next step says, and leaves
+
+pub next_says : (reading : Reading) (bytes : List ℕ) (records : List Record) → HasRead reading bytes records → SaysNext bytes reading.finished records (next_answer reading.fault reading)
+next_says reading bytes records has = by reading.fault has.fault
+  where
+    by : (given : Option RecordFault) → IfSome given (λ wrong. SaysNext bytes reading.finished records (Err wrong)) → SaysNext bytes reading.finished records (next_answer given reading)
+    by None h = step_of_says bytes reading.left records reading.place reading.finished has.text has.writable has.place
+    by (Some wrong) h = h
+
+-- as the line's number counts a fault
+abbrev faults_given : Option RecordFault → ℕ
+faults_given given = cond (is_some given) 1 0
+
+-- what is left behind a record
+record StepLeaves (place : Place) (left : List ℕ) (entry : Record) (behind : Place) (used : ℕ) : Type 0 where
+  pub writable : IsWritable entry
+  pub text : left ≡ record_line entry ++ drop used left
+  pub place_is : place_behind place entry ≡ Some behind
+
+abbrev Leaves : Place → List ℕ → Step → Type 0
+Leaves place left Wait = Unit {0}
+Leaves place left (Read entry behind used) = StepLeaves place left entry behind used
+Leaves place left (Refuse wrong) = Unit {0}
+
+leaves : (place : Place) (left : List ℕ) (step : Step) → position_or_len is_line_feed left < length left → StepSays place (before_first is_line_feed left) step → Leaves place left step
+leaves place left Wait below said = tt
+leaves place left (Refuse wrong) below said = tt
+leaves place left (Read entry behind used) below said =
+    let line = before_first is_line_feed left in
+    let n = position_or_len is_line_feed left in
+    let long : length line ≡ n = length-take-le n left (omega (arith, below)) in
+    let rest : after_first is_line_feed left ≡ drop used left = ap (λ m. drop m left) (omega (arith, long, said.2)) in
+    record {
+      writable = said.0.0;
+      text = cut_first left below ∙ sym (append_assoc line (10 ∷ []) (after_first is_line_feed left)) ∙ ap (λ l. l ++ after_first is_line_feed left) (sym said.0.1)
+          ∙ ap (λ l. record_line entry ++ l) rest;
+      place_is = said.1;
+    }
+
+step_leaves : (place : Place) (left : List ℕ) (finished : Bool) → Leaves place left (step_of left finished place)
+step_leaves place left finished = by (has_line left) refl
+  where
+    ended : (p : Place) (l : List ℕ) → Leaves p l (step_at_end p l)
+    ended Start l = tt
+    ended Headed l = tt
+    ended (Logs logs) l = tt
+    ended Ended [] = tt
+    ended Ended (byte ∷ l) = tt
+
+    at_end : (f : Bool) → Leaves place left (cond f (step_at_end place left) Wait)
+    at_end true = ended place left
+    at_end false = tt
+
+    by : (b : Bool) → has_line left ≡ b → Leaves place left (cond b (step_at_line place (before_first is_line_feed left)) (cond finished (step_at_end place left) Wait))
+    by true there = leaves place left (step_at_line place (before_first is_line_feed left)) (line_below left there) (step_says place (before_first is_line_feed left))
+    by false missing = at_end finished
+
+without_fault : (given : Option RecordFault) → given ≡ None → faults_given given ≡ 0
+without_fault given none = ap faults_given none
+
+module _ (reading : Reading) (bytes : List ℕ) (records : List Record) (has : HasRead reading bytes records) where
+  reads_nothing : HasRead reading bytes (records ++ [])
+  reads_nothing = subst (λ l. HasRead reading bytes l) (sym (append-nil records)) has
+
+  reads_step : (step : Step) → reading.fault ≡ None → Leaves reading.place reading.left step → SaysNext bytes reading.finished records (answer_by step)
+      → HasRead (reading_behind reading step) bytes (records ++ given_by (answer_by step))
+  reads_step Wait none left' said = reads_nothing
+  reads_step (Read entry behind used) none left' said = record {
+    text = has.text ∙ ap (λ l. flat_map record_line records ++ l) left'.text ∙ sym (append_assoc (flat_map record_line records) (record_line entry) (drop used reading.left))
+        ∙ ap (λ l. l ++ drop used reading.left) (ap (λ l. flat_map record_line records ++ l) (sym (append-nil (record_line entry))) ∙ sym (flat_map-append record_line records (entry ∷ [])));
+    writable = All-push IsWritable records entry has.writable left'.writable;
+    place = place_behind_last records entry reading.place has.place ∙ left'.place_is;
+    line = let given = without_fault reading.fault none in omega (arith, given, has.line, length-append records (entry ∷ []));
+    total = has.total;
+    fault = subst (λ o. IfSome o (λ wrong. SaysNext bytes reading.finished (records ++ entry ∷ []) (Err wrong))) (sym none) tt;
+  }
+  reads_step (Refuse wrong) none left' said = record {
+    text = has.text ∙ ap (λ l. flat_map record_line l ++ reading.left) (sym (append-nil records));
+    writable = subst (All IsWritable) (sym (append-nil records)) has.writable;
+    place = ap place_after (append-nil records) ∙ has.place;
+    line = let given = without_fault reading.fault none in omega (arith, given, has.line, length-append records []);
+    total = has.total;
+    fault = subst (λ l. SaysNext bytes reading.finished l (Err wrong)) (sym (append-nil records)) said;
+  }
+
+  next_reads : HasRead (next_reading reading.fault reading) bytes (records ++ given_by (next_answer reading.fault reading))
+  next_reads = by reading.fault refl
+    where
+      by : (given : Option RecordFault) → reading.fault ≡ given → HasRead (next_reading given reading) bytes (records ++ given_by (next_answer given reading))
+      by None none =
+          reads_step (step_of reading.left reading.finished reading.place) none (step_leaves reading.place reading.left reading.finished)
+          (step_of_says bytes reading.left records reading.place reading.finished has.text has.writable has.place)
+      by (Some wrong) given = reads_nothing
+
+-- where an answer is what the step says, or memory is wanting
+
+pub answer_says : (result : Result (Option Record) FileStop) (meant : Result (Option Record) RecordFault) (P : Result (Option Record) RecordFault → Type 0) → Answers (λ found. found) result meant → P meant → Says result P
+answer_says (Ok found) meant P is h = subst P is h
+answer_says (Err (Fault wrong)) meant P is h = subst P is h
+answer_says (Err Memory) meant P is h = tt
+
+pub answer_reads : (result : Result (Option Record) FileStop) (old new : Reading) (bytes : List ℕ) (records : List Record) → Answers (λ found. found) result (next_answer old.fault old)
+    → (result ≢ Err Memory → new ≡ next_reading old.fault old) → (result ≡ Err Memory → new ≡ old) → HasRead old bytes records → HasRead new bytes (records ++ given_by result)
+answer_reads (Ok found) old new bytes records is moved stayed has =
+    let read = subst (λ a. HasRead (next_reading old.fault old) bytes (records ++ given_by a)) is (next_reads old bytes records has) in
+    subst (λ r. HasRead r bytes (records ++ given_by {E = FileStop} (Ok found))) (sym (moved (λ e. cc))) read
+answer_reads (Err (Fault wrong)) old new bytes records is moved stayed has =
+    let read = subst (λ a. HasRead (next_reading old.fault old) bytes (records ++ given_by a)) is (next_reads old bytes records has) in
+    subst (λ r. HasRead r bytes (records ++ [])) (sym (moved (λ e. cc))) read
+answer_reads (Err Memory) old new bytes records is moved stayed has = subst (λ r. HasRead r bytes (records ++ [])) (sym (stayed refl)) (reads_nothing old bytes records has)

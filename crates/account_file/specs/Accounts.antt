@@ -1,0 +1,74 @@
+-- An account as its whole bytes: the records of its lines, and its first fault of form (this project's format).
+use Rattle.std.specs.Prelude.{◌≡◌, ◌≢◌, ℕ, ◌+◌, ◌<◌, ◌≤◌, Bool, true, false, List, [], ◌∷◌, ◌++◌, codes, length, take, slice_index_or, Option, None, Some, Result, Ok, Err}
+use Rattle.std.specs.List.{AllZip}
+use Rattle.account_file.specs.declared.record.Record.{Record}
+use Rattle.account_file.specs.declared.fault.RecordFault.{RecordFault}
+use Rattle.account_file.specs.declared.fault.RecordFault.TheVariants as fault
+use Rattle.account_file.specs.Forms.{words_of, record_in}
+use Rattle.account_file.specs.Lines.{whole_lines, behind_lines}
+use Rattle.account_file.specs.Order.{AreInOrder, MayStand, HaveEnded}
+use Rattle.account_file.specs.Spelling.{IsWritable, record_line}
+
+-- A line has the form of a record where it is the one spelling of it.
+abbrev pub HasForm : List ℕ → Record → Type 0
+HasForm line entry = IsWritable entry × (record_line entry ≡ line ++ 10 ∷ [])
+
+-- Lines are these records: each has its record's form, and each record may stand where it does.
+pub record AreRecords (lines : List (List ℕ)) (records : List Record) : Type 0 where
+  pub form : AllZip HasForm lines records
+  pub order : AreInOrder records
+
+-- Records stand behind the header, and their account hasn't ended.
+pub record AreUnderWay (records : List Record) : Type 0 where
+  pub begun : records ≢ []
+  pub not_ended : HaveEnded records → ⊥
+
+-- a line has the form of a record that may not stand behind these
+pub record IsOutOfOrder (before : List Record) (line : List ℕ) : Type 0 where
+  pub entry : Record
+  pub form : HasForm line entry
+  pub out_of_order : MayStand before entry → ⊥
+
+-- what is wrong with a whole line behind records
+abbrev pub LineFault : List Record → List ℕ → RecordFault → Type 0
+LineFault before line fault.Header = (before ≡ []) × (line ≢ codes "npnp 1")
+LineFault before line fault.Word = AreUnderWay before × (record_in (words_of line) ≡ Err fault.Word)
+LineFault before line fault.Number = AreUnderWay before × (record_in (words_of line) ≡ Err fault.Number)
+LineFault before line fault.Order = AreUnderWay before × IsOutOfOrder before line
+LineFault before line fault.Truncated = ⊥
+LineFault before line fault.Trailing = HaveEnded before
+
+-- what is wrong where no whole line is left behind records, but this rest
+abbrev pub EndFault : List Record → List ℕ → RecordFault → Type 0
+EndFault before rest fault.Header = ⊥
+EndFault before rest fault.Word = ⊥
+EndFault before rest fault.Number = ⊥
+EndFault before rest fault.Order = ⊥
+EndFault before rest fault.Truncated = HaveEnded before → ⊥
+EndFault before rest fault.Trailing = HaveEnded before × (rest ≢ [])
+
+-- The first fault of form of a text is behind the lines of these records: at the next line, or where the whole lines end.
+pub record HasFormFault (bytes : List ℕ) (before : List Record) (fault : RecordFault) : Type 0 where
+  pub records : AreRecords (take (length before) (whole_lines bytes)) before
+  pub at_line : length before < length (whole_lines bytes)
+      → LineFault before (slice_index_or (whole_lines bytes) (length before) []) fault
+  pub at_end : length (whole_lines bytes) ≤ length before → EndFault before (behind_lines bytes) fault
+
+-- A text has no fault of form: its lines are these records, the last is the end, and nothing stands behind.
+pub record IsAccountOf (bytes : List ℕ) (records : List Record) : Type 0 where
+  pub records_are : AreRecords (whole_lines bytes) records
+  pub ended : HaveEnded records
+  pub nothing_behind : behind_lines bytes ≡ []
+
+-- The next record of a text behind these: the next line has its form, and it may stand there.
+abbrev pub IsNextRecord : List ℕ → List Record → Record → Type 0
+IsNextRecord bytes before entry = AreRecords (take (length before + 1) (whole_lines bytes)) (before ++ entry ∷ [])
+
+-- What a text says behind the lines of these records: the next record, nothing, or the first fault. Where more bytes may
+-- come, what stands behind the last line feed says nothing yet.
+abbrev pub SaysNext : (bytes : List ℕ) (finished : Bool) (before : List Record) → Result (Option Record) RecordFault → Type 0
+SaysNext bytes finished before (Ok (Some entry)) = IsNextRecord bytes before entry
+SaysNext bytes true before (Ok None) = IsAccountOf bytes before
+SaysNext bytes false before (Ok None) = AreRecords (whole_lines bytes) before
+SaysNext bytes true before (Err fault) = HasFormFault bytes before fault
+SaysNext bytes false before (Err fault) = HasFormFault bytes before fault × (length before < length (whole_lines bytes))

@@ -1,0 +1,55 @@
+-- What may stand after what in an account (this project's format): the header, a conclusion, the logs that prove it, the end.
+use Rattle.std.specs.Prelude.{◌≡◌, ℕ, ◌-◌, ◌*◌, ◌==◌, Bool, true, false, List, [], ◌∷◌, ◌++◌, count_by, fold, Option, None, Some, IsSome, option_and_then, if◌then◌else◌}
+use Rattle.circuits.specs.declared.port.Pair.{Pair}
+use Rattle.circuits.specs.declared.port.PortKind.{PortKind}
+use Rattle.circuits.specs.declared.port.PortKind.TheVariants.{Input, Output}
+use Rattle.account_core.specs.declared.conclusion.Conclusion.{Conclusion}
+use Rattle.account_core.specs.declared.conclusion.Conclusion.TheVariants.{Match}
+use Rattle.account_file.specs.declared.record.Record.{Record}
+use Rattle.account_file.specs.declared.record.Record.TheVariants as record_of
+use Rattle.account_file.specs.declared.place.Place.{Place}
+use Rattle.account_file.specs.declared.place.Place.TheVariants.{Start, Headed, Logs, Ended}
+
+abbrev pub is_output_kind : PortKind → Bool
+is_output_kind Input = false
+is_output_kind Output = true
+
+abbrev pub is_output : Pair → Bool
+is_output pair = is_output_kind pair.kind
+
+-- how many logs a conclusion asks for: a match two for each pair of outputs, one for either value of the output
+abbrev pub logs_asked : Conclusion → ℕ
+logs_asked (Match pairs) = 2 * count_by is_output pairs
+
+-- how many logs are left behind a line of a log: the empty clause ends a log
+abbrev pub logs_behind : {X : Type 0} → ℕ → List X → ℕ
+logs_behind {X} logs [] = logs - 1
+logs_behind {X} logs (literal ∷ clause) = logs
+
+-- where an account stands behind a record that may stand there
+abbrev pub place_behind : Place → Record → Option Place
+place_behind Start record_of.Header = Some Headed
+place_behind Headed (record_of.Conclusion conclusion) = Some (Logs (logs_asked conclusion))
+place_behind (Logs logs) (record_of.Line line) = if logs == 0 then None else Some (Logs (logs_behind logs line.clause))
+place_behind (Logs logs) record_of.End = if logs == 0 then Some Ended else None
+place_behind place entry = None
+
+-- the same, where the records before it may stand as they do
+abbrev pub place_after_one : Option Place → Record → Option Place
+place_after_one place entry = option_and_then (λ p. place_behind p entry) place
+
+-- where an account stands behind records, if each may stand where it does
+abbrev pub place_after : List Record → Option Place
+place_after records = fold place_after_one (Some Start) records
+
+-- each record may stand where it does
+abbrev pub AreInOrder : List Record → Type 0
+AreInOrder records = IsSome (place_after records)
+
+-- a record may stand behind others
+abbrev pub MayStand : List Record → Record → Type 0
+MayStand before entry = AreInOrder (before ++ entry ∷ [])
+
+-- the last of the records is the end
+abbrev pub HaveEnded : List Record → Type 0
+HaveEnded records = place_after records ≡ Some Ended
