@@ -1,8 +1,12 @@
 -- Report texts: where each port of a circuit goes, and which line of an account is rejected (this project's own texts).
-use Rattle.std.specs.Prelude.{ℕ, ◌+◌, Bool, List, [], ◌∷◌, ◌++◌, codes, if◌then◌else◌, slice_index_or}
+use Rattle.std.specs.Prelude.{◌≡◌, ℕ, ◌+◌, Bool, List, [], ◌∷◌, ◌++◌, length, take, codes, if◌then◌else◌, slice_index_or}
 use Rattle.std.specs.Fmt.{decimal}
 use Rattle.net_core.specs.declared.named.Named.{Named}
 use Rattle.net_core.specs.declared.matching.Matching.{Matching}
+
+-- what stood there stands in front of what stands there now
+abbrev pub Extends : List ℕ → List ℕ → Type 0
+Extends old new = take (length old) new ≡ old
 
 -- a port by its kind, its number and its name: `input 0 a`
 abbrev pub port_text : List ℕ → ℕ → List ℕ → List ℕ

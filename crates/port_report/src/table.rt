@@ -1,6 +1,6 @@
-ghost use Rattle.std.specs.Prelude.{◌≡◌, ◌<◌, ◌≤◌, [], ◌++◌, length, codes, if◌then◌else◌, All, OnOk};
+ghost use Rattle.std.specs.Prelude.{◌≡◌, ◌<◌, ◌≤◌, [], ◌++◌, length, codes, if◌then◌else◌, All, OnOk, OnErr};
 ghost use Rattle.circuits.specs.Bijections.{IsSignedBijection};
-ghost use Rattle.port_report.specs.Reports.{port_among, entry_line, entry_lines, match_text};
+ghost use Rattle.port_report.specs.Reports.{Extends, port_among, entry_line, entry_lines, match_text};
 
 use net_core::{Matching, Name, Named};
 use std::alloc::AllocError;
@@ -8,7 +8,8 @@ use text_core::put_decimal;
 
 /// Writes at the end of `out` where each port of the first circuit goes: a line for each input in order, then one for
 /// each output, as `input 0 a = not input 1 b`. Names are written byte for byte.
-/// A first part of the lines may stand in `out` where memory is wanting.
+/// Where memory is wanting, a first part of the lines may stand behind what stood in `out`.
+#[tactic(auto, using(crate::proofs::Extending::extends_same, crate::proofs::Extending::extends_twice))]
 pub fn put_match(
     first: &Named,
     second: &Named,
@@ -20,6 +21,7 @@ pub fn put_match(
     requires inputs_placed { IsSignedBijection first.now.graph.inputs matching.now.inputs }
     requires outputs_placed { IsSignedBijection (length first.now.graph.outputs) matching.now.outputs }
     ensures ok { OnOk result (out.new.items ≡ out.old.items ++ match_text first.now second.now matching.now) }
+    ensures kept { OnErr result (Extends out.old.items out.new.items) }
 {
     put_entries(
         b"input",
@@ -38,6 +40,7 @@ pub fn put_match(
 }
 
 // Writes where each port of a kind goes, on a line of its own.
+#[tactic(auto, using(crate::proofs::Extending::extends_same, crate::proofs::Extending::extends_twice))]
 fn put_entries(
     kind: &[u8],
     firsts: &[Name],
@@ -47,7 +50,8 @@ fn put_entries(
 ) -> Result<(), AllocError>
     requires ports { length entries.now ≤ length firsts.now }
     requires places { All (λ entry. entry.0 < length seconds.now) entries.now }
-    ensures { OnOk result (out.new.items ≡ out.old.items ++ entry_lines kind.now firsts.now seconds.now 0 entries.now) }
+    ensures ok { OnOk result (out.new.items ≡ out.old.items ++ entry_lines kind.now firsts.now seconds.now 0 entries.now) }
+    ensures kept { Extends out.old.items out.new.items }
 {
     for (port, entry) in entries.iter().enumerate() {
         put_entry(kind, firsts, seconds, port, *entry, out)?;
@@ -65,7 +69,8 @@ fn put_entry(
 ) -> Result<(), AllocError>
     requires port { port < length firsts.now }
     requires place { entry.0 < length seconds.now }
-    ensures { OnOk result (out.new.items ≡ out.old.items ++ entry_line kind.now firsts.now seconds.now port entry) }
+    ensures ok { OnOk result (out.new.items ≡ out.old.items ++ entry_line kind.now firsts.now seconds.now port entry) }
+    ensures kept { Extends out.old.items out.new.items }
 {
     let (place, inverted) = entry;
     put_port(kind, firsts, port, out)?;
@@ -76,7 +81,8 @@ fn put_entry(
 }
 
 fn put_sign(inverted: bool, out: &mut Vec<u8>) -> Result<(), AllocError>
-    ensures { OnOk result (out.new.items ≡ out.old.items ++ (if inverted then codes "not " else [])) }
+    ensures ok { OnOk result (out.new.items ≡ out.old.items ++ (if inverted then codes "not " else [])) }
+    ensures kept { Extends out.old.items out.new.items }
 {
     if inverted {
         out.extend_from_slice(b"not ")
@@ -88,7 +94,8 @@ fn put_sign(inverted: bool, out: &mut Vec<u8>) -> Result<(), AllocError>
 // Writes a port by its kind, its number and its name.
 fn put_port(kind: &[u8], names: &[Name], port: usize, out: &mut Vec<u8>) -> Result<(), AllocError>
     requires { port < length names.now }
-    ensures { OnOk result (out.new.items ≡ out.old.items ++ port_among kind.now names.now port) }
+    ensures ok { OnOk result (out.new.items ≡ out.old.items ++ port_among kind.now names.now port) }
+    ensures kept { Extends out.old.items out.new.items }
 {
     out.extend_from_slice(kind)?;
     out.extend_from_slice(b" ")?;

@@ -12,14 +12,11 @@ written (Err v) w e f = tt
 pieces : (p q r s o : List ℕ) → (((o ++ p) ++ q) ++ 32 ∷ []) ++ r ++ s ≡ o ++ (p ++ q ++ 32 ∷ r ++ s)
 pieces p q r s o = simp append_assoc
 
-pub returns : goal.returns
-returns c =
-    record {
-      ok =
-          let first = c.in_ok-extend_from_slice.ensures.items in
-          let second = c.in_ok-put_decimal.ensures.ok in
-          let third = c.in_ok-extend_from_slice-2.ensures.items in
-          let fourth = c.in_ok-extend_from_slice-3.ensures.items in
-          let whole = pieces (codes "rejected line ") (decimal c.args.line) c.args.word.now (10 ∷ []) c.args.out.now.items in
-          written c.extend_from_slice-4.result _ c.extend_from_slice-4.ensures.items cc;
-    }
+pub returns-clause-ok : goal.returns-clause-ok
+returns-clause-ok c =
+    let first = c.in_ok-extend_from_slice.ensures.items in
+    let second = c.in_ok-put_decimal.ensures.ok in
+    let third = c.in_ok-extend_from_slice-2.ensures.items in
+    let fourth = c.in_ok-extend_from_slice-3.ensures.items in
+    let whole = pieces (codes "rejected line ") (decimal c.args.line) c.args.word.now (10 ∷ []) c.args.out.now.items in
+    written c.extend_from_slice-4.result _ c.extend_from_slice-4.ensures.items cc
