@@ -1,4 +1,5 @@
--- Netlists whose definitions stand in any order (ANDs: the AIGER format; covers: the Berkeley Logic Interchange Format).
+-- Netlists whose definitions stand in any order (ANDs: the AIGER format; covers: the Berkeley Logic Interchange
+-- Format).
 use Rattle.std.specs.Prelude.{ℕ, ◌+◌, ◌<◌, ◌≡◌, ◌&&◌, Bool, true, false, not, List, [], ◌∷◌, length, map, All, slice_index_or}
 use Rattle.std.specs.List.{list_any}
 use Rattle.circuits.specs.declared.netlist.Lit.{Lit}

@@ -42,7 +42,10 @@ pub record IsFirstLooped (circuit : Circuit) (d : ℕ) : Type 0 where
 
 -- one definition comes before another: its level is lower, or it is the same and it stands first
 abbrev pub ComesBefore : Circuit → ℕ → ℕ → Type 0
-ComesBefore circuit d e = (l m : ℕ) → HasLevel circuit (signal_at circuit d) l → HasLevel circuit (signal_at circuit e) m → (l < m) ⊎ ((l ≡ m) × (d < e))
+ComesBefore circuit d e = (l m : ℕ)
+    → HasLevel circuit (signal_at circuit d) l
+    → HasLevel circuit (signal_at circuit e) m
+    → (l < m) ⊎ ((l ≡ m) × (d < e))
 
 -- The list has every definition once, by level and then by position.
 pub record IsLevelOrder (circuit : Circuit) (order : List ℕ) : Type 0 where

@@ -28,7 +28,8 @@ pub record IsMatchOfFunctions (first second : Net) (p q : List (ℕ × Bool)) : 
   pub same_outputs : length second.outputs ≡ length first.outputs
   pub inputs : IsSignedBijection first.inputs p
   pub outputs : IsSignedBijection (length first.outputs) q
-  pub agree : (x : List Bool) → length x ≡ first.inputs → OutputsAgree q (function_of first x) (function_of second (moved p x))
+  pub agree : (x : List Bool) → length x ≡ first.inputs
+      → OutputsAgree q (function_of first x) (function_of second (moved p x))
 
 -- as many inputs and outputs, and signed bijections of them
 pub record HavePorts (first second : Net) (p q : List (ℕ × Bool)) : Type 0 where

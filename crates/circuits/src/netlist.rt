@@ -30,6 +30,7 @@ impl Lit {
     pub fn inverse(self) -> Lit
         ensures { result ≡ inverse self }
     {
+        // An odd number is not 0 and an even one is not the greatest of 32 bits, so neither step wraps.
         if self.is_negated() {
             Lit(self.0 - 1)
         } else {
@@ -111,8 +112,7 @@ pub fn is_ordered(inputs: u32, gates: &[Gate], outputs: &[Lit]) -> bool
         ↔ IsOrdered (record { inputs = inputs; gates = gates.now; outputs = outputs.now }) }
 {
     let first_gate = 1 + inputs as usize;
-    operands_are_earlier(first_gate, gates)
-        & outputs_are_signals(first_gate + gates.len(), outputs)
+    operands_are_earlier(first_gate, gates) & outputs_are_signals(first_gate + gates.len(), outputs)
 }
 
 /// Whether each gate's operands are below its own signal, where the first gate has the signal given.

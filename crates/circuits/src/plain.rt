@@ -158,7 +158,7 @@ pub fn move_vector(
 
 /// Whether p of the inputs and q of the outputs are a match of two netlists: they are signed bijections, the
 /// netlists have as many inputs and as many outputs, and all outputs agree on every vector. It tries all
-/// vectors.
+/// vectors, so the inputs are at most 16.
 ///
 /// # Errors
 ///
@@ -276,7 +276,8 @@ fn outputs_agree(q: &[(u32, bool)], first: &[bool], second: &[bool]) -> bool
     true
 }
 
-/// Whether some signed bijections of the ports are a match of two netlists. It tries all lists of entries.
+/// Whether some signed bijections of the ports are a match of two netlists. It tries all lists of entries, so
+/// there are at most 7 inputs and 7 outputs.
 ///
 /// # Errors
 ///
@@ -344,6 +345,7 @@ fn is_part_of_match(
 fn entries(alloc: Global, n: u32, code: u32) -> Result<Vec<(u32, bool)>, AllocError>
     ensures { IfOk result (λ entries. entries.items ≡ entries_of n code) }
 {
+    // A digit in base sixteen holds a place below 8 and a sign, so seven of them fit the code's 32 bits.
     let mut entries = Vec::new(alloc);
     let mut rest = code;
     for i in 0..n {

@@ -1,5 +1,5 @@
 //! The list type and the standard traits at it. Comparisons and hashes are those of the slice.
-ghost use Rattle.std.specs.Prelude.{◌≡◌, ◌^◌, ◌-◌, ◌<◌, ◌==◌, ◌↔◌, ◌∷◌, [], ◌++◌, length, take, slice_index_or, slice_set, option_to_list, IsSome, IsOk, IfOk, OnOk, OnErr, IfErr};
+ghost use Rattle.std.specs.Prelude.{◌≡◌, ◌^◌, ◌-◌, ◌<◌, ◌==◌, ◌↔◌, ◌∷◌, [], ◌++◌, length, take, slice_index_or, slice_set, option_to_list, IsSome, IfOk, OnOk, OnErr, IfErr};
 ghost use Rattle.std.specs.List.{AllZip};
 ghost use Rattle.std.specs.Borrow.{sem};
 ghost use Rattle.std.specs.Cmp.Lexicographic.{pointwise, slice_cmp, slice_partial_cmp, lists_per, lists_equiv, lists_po, lists_total, lists_agrees, lists_ties};

@@ -8,7 +8,9 @@ use Rattle.net_core.specs.declared.levels.Placed.{Placed}
 
 -- the first so many definitions are listed, each at its own position and with its level
 abbrev pub AreListed : Circuit → ℕ → List Placed → Type 0
-AreListed circuit count placed = (k : ℕ) (d : Placed) → k < count → ((slice_index_or placed k d).position ≡ k) × HasLevel circuit (signal_at circuit k) (slice_index_or placed k d).level
+AreListed circuit count placed = (k : ℕ) (d : Placed)
+    → k < count
+    → ((slice_index_or placed k d).position ≡ k) × HasLevel circuit (signal_at circuit k) (slice_index_or placed k d).level
 
 pub record AreLevels (circuit : Circuit) (placed : List Placed) : Type 0 where
   pub entries : length placed ≡ length circuit.defs

@@ -34,8 +34,8 @@ pub record IsFound (circuit : Circuit) (steps d level : ℕ) : Type 0 where
   pub has : HasLevel circuit d level
   pub few : level + steps ≤ 2 * length circuit.defs
 
--- The names of a definition on the stack before `next` were looked at: `highest` is the greatest of their levels, and no
--- more steps were taken than it says.
+-- The names of a definition on the stack before `next` were looked at: `highest` is the greatest of their levels, and
+-- no more steps were taken than it says.
 pub record IsLooked (circuit : Circuit) (steps : ℕ) (frame : Frame) : Type 0 where
   pub within : frame.next ≤ length (names_of circuit frame.position)
   pub have : HaveLevel circuit (take frame.next (names_of circuit frame.position)) frame.highest
@@ -45,7 +45,8 @@ pub record IsLooked (circuit : Circuit) (steps : ℕ) (frame : Frame) : Type 0 w
 pub record Knows (circuit : Circuit) (visits : List Visit) (stack : List ℕ) : Type 0 where
   pub entries : length visits ≡ length circuit.defs
   pub room : left visits stack ≤ 2 * length circuit.defs
-  pub levels : (k level : ℕ) → visit_of visits k ≡ Level level → IsFound circuit (left visits stack) (signal_at circuit k) level
+  pub levels : (k level : ℕ) → visit_of visits k ≡ Level level
+      → IsFound circuit (left visits stack) (signal_at circuit k) level
   pub opens : (k : ℕ) → visit_of visits k ≡ Open → Contains stack k
 
 -- the first so many definitions were met
@@ -56,7 +57,8 @@ AreMet count visits = (k : ℕ) → k < count → visit_of visits k ≢ New
 pub record IsPath (circuit : Circuit) (root : ℕ) (stack : List ℕ) : Type 0 where
   pub there : All (λ d. d < length circuit.defs) stack
   pub bottom : (d : ℕ) → 0 < length stack → slice_index_or stack 0 d ≡ root
-  pub steps : (j d : ℕ) → suc j < length stack → Names circuit (signal_at circuit (slice_index_or stack j d)) (signal_at circuit (slice_index_or stack (suc j) d))
+  pub steps : (j d : ℕ) → suc j < length stack
+      → Names circuit (signal_at circuit (slice_index_or stack j d)) (signal_at circuit (slice_index_or stack (suc j) d))
 
 pub record IsUnderWay (circuit : Circuit) (root : ℕ) (visits : List Visit) (stack : List Frame) : Type 0 where
   pub knows : Knows circuit visits (positions stack)
@@ -72,7 +74,8 @@ pub record IsReady (circuit : Circuit) (count : ℕ) (visits : List Visit) (stac
 
 -- each visit says its definition's level
 abbrev pub AreAllFound : Circuit → List Visit → Type 0
-AreAllFound circuit visits = (k : ℕ) → k < length circuit.defs → (level : ℕ) × (visit_of visits k ≡ Level level) × HasLevel circuit (signal_at circuit k) level
+AreAllFound circuit visits = (k : ℕ) → k < length circuit.defs
+    → (level : ℕ) × (visit_of visits k ≡ Level level) × HasLevel circuit (signal_at circuit k) level
 
 -- the signal is that of definition e, which has this visit
 pub record IsAt (circuit : Circuit) (visits : List Visit) (visit : Visit) (s e : ℕ) : Type 0 where
@@ -88,9 +91,16 @@ IsSeen circuit visits stack s (Below level) = IsFound circuit (left visits stack
 
 -- what is to be done at a definition on the stack
 abbrev pub IsStep : Circuit → List Visit → List ℕ → ℕ → Step → Type 0
-IsStep circuit visits stack d (Enter e looked) = (e < length circuit.defs) × (visit_of visits e ≡ New) × Names circuit (signal_at circuit d) (signal_at circuit e) × IsLooked circuit (left visits stack) looked × (looked.position ≡ d)
-IsStep circuit visits stack d Loop = (e : ℕ) × (visit_of visits e ≡ Open) × Names circuit (signal_at circuit d) (signal_at circuit e)
-IsStep circuit visits stack d (Close level) = HasLevel circuit (signal_at circuit d) level × (level + left visits stack ≤ 2 * length circuit.defs + 1)
+IsStep circuit visits stack d (Enter e looked) = (e < length circuit.defs)
+    × (visit_of visits e ≡ New)
+    × Names circuit (signal_at circuit d) (signal_at circuit e)
+    × IsLooked circuit (left visits stack) looked
+    × (looked.position ≡ d)
+IsStep circuit visits stack d Loop = (e : ℕ)
+    × (visit_of visits e ≡ Open)
+    × Names circuit (signal_at circuit d) (signal_at circuit e)
+IsStep circuit visits stack d (Close level) = HasLevel circuit (signal_at circuit d) level
+    × (level + left visits stack ≤ 2 * length circuit.defs + 1)
 
 -- what each fault says
 abbrev pub IsFaultOf : Circuit → OrderFault → Type 0

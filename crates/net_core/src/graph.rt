@@ -12,7 +12,7 @@ use std::marker::Model;
 
 /// A netlist of AND gates in order. Signal 0 is false, input i is signal i + 1, and gate t is signal
 /// inputs + 1 + t. A gate's operands are earlier signals, and each output is a literal of a signal.
-/// There are fewer than 2^31 signals and fewer than 2^32 outputs.
+/// There are fewer than 2^31 signals, so that each literal has 32 bits, and fewer than 2^32 outputs.
 #[derive(Debug, Drop)]
 pub struct Graph {
     inputs: u32,

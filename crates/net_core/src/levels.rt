@@ -1,4 +1,5 @@
-//! The levels of a netlist's definitions, found by a depth-first search with a stack of its own.
+//! The levels of a netlist's definitions, found by a depth-first search. The stack is a list and not the
+//! program's own, since a chain of a million definitions is a netlist like any other.
 
 ghost use Rattle.std.specs.Prelude.{◌≡◌, ◌+◌, ◌-◌, ◌<◌, [], ◌∷◌, ◌++◌, length, take, vec_len, slice_set, IfOk, IfErr};
 ghost use Rattle.circuits.specs.Circuits.{signals_in};
@@ -234,6 +235,7 @@ fn place_all(alloc: Global, net: &PlainNet, visits: &[Visit]) -> Result<Vec<Plac
     let count = net.defs().len();
     let mut placed = Vec::with_capacity(alloc, count)?;
     for position in 0..count {
+        // Each definition was a root or met from one, and is left with a level where no cycle is found.
         let Visit::Level(level) = visits[position] else {
             unreachable!()
         };

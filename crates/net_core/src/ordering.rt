@@ -37,6 +37,8 @@ pub fn order(alloc: Global, net: &PlainNet) -> Result<Graph, OrderFault>
         → IsAcyclic net.now × (1000000 < gates_in net.now) }
 {
     let placed = find_levels(alloc, net)?;
+    // Behind the levels, since a cycle is the fault that comes first; and before any gate is made, so that
+    // what is refused takes no memory for gates.
     if gate_count(net) > MOST_GATES {
         return Err(OrderFault::TooManyGates);
     }

@@ -10,7 +10,8 @@ pub record Piece : Type 0 where
 -- a piece is stored as the pair of its fields
 abbrev pub piece_code : Coded Piece
 piece_code =
-    code_by (List ℕ × ℕ) (coded× (coded_list coded_ℕ) coded_ℕ) (λ p. (p.bytes, p.at)) (λ q. record { bytes = q.0; at = q.1 }) (λ _. refl)
+    let pair = coded× (coded_list coded_ℕ) coded_ℕ in
+    code_by (List ℕ × ℕ) pair (λ p. (p.bytes, p.at)) (λ q. record { bytes = q.0; at = q.1 }) (λ _. refl)
 
 -- the first bytes of a piece, or all of it where it has fewer
 abbrev pub front : ℕ → Piece → Piece

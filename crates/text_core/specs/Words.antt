@@ -1,5 +1,5 @@
--- Words: the maximal runs of bytes that aren't blanks, as the fields of a line in POSIX ("Field", as `awk` splits a line
--- by default).
+-- Words: the maximal runs of bytes that aren't blanks, as the fields of a line in POSIX ("Field", as `awk` splits a
+-- line by default).
 use Rattle.std.specs.Prelude.{◌≡◌, ℕ, ◌<◌, Bool, false, ◌==◌, not, List, length, filter, Option, Some, None, if◌then◌else◌}
 use Rattle.std.specs.List.{All, slice_split, prefix_len, position_or_len}
 use Rattle.text_core.specs.Bytes.{is_blank}
@@ -27,7 +27,9 @@ word_length bytes = position_or_len is_blank bytes
 
 -- the first word of a line, if it has one
 abbrev pub first_word : Piece → Option Piece
-first_word p = let rest = without_blanks p in if length rest.bytes == 0 then None else Some (front (word_length rest.bytes) rest)
+first_word p =
+    let rest = without_blanks p in
+    if length rest.bytes == 0 then None else Some (front (word_length rest.bytes) rest)
 
 -- what is left of a line behind its first word, which is its end where it has no word
 abbrev pub after_word : Piece → Piece

@@ -30,6 +30,7 @@ pub fn decimal(word: Span<'_>) -> Result<u64, NumberFault>
         ↔ ((v : ℕ) × (number word.entry.bytes ≡ Some v) × (2 ^ 64 ≤ v)) }
 {
     let digits = word.bytes();
+    // Before the value: a word with a wrong byte is no number, however long it is.
     if !is_numeral(digits) {
         return Err(NumberFault::NotDigit);
     }

@@ -24,6 +24,7 @@ impl<'a> Model for Span<'a> {
 
     ghost view = { λ a. record { bytes = a.bytes.now; at = a.at } };
 
+    // So that no offset wraps, however far a piece is passed.
     ghost invariant = { λ a. a.at + length a.bytes.now < 2 ^ 64 };
 }
 
@@ -118,6 +119,7 @@ impl<'a> Cursor<'a> {
         }
         let count = line_length(left);
         let line = self.rest.front(count);
+        // The last line may have no line feed; then `pass` stops at the end.
         self.rest.pass(count + 1);
         Some(line)
     }

@@ -1,3 +1,4 @@
+-- The code is the vector read as digits in base two.
 use Rattle.circuits.proofs.Codes.{code_of, code_of-below, vector_of-code_of}
 use Rattle.circuits.proofs.laws.every_vector.Goals as goal
 

@@ -1,3 +1,4 @@
+-- A definition is one level above what it names, both ways.
 use Rattle.circuits.proofs.LevelLaws.{HasLevel-above, HaveLevel-below}
 use Rattle.circuits.proofs.laws.level_of_definition.Goals as goal
 

@@ -1,3 +1,4 @@
+-- The level of several signals, one signal more at a time.
 use Rattle.circuits.proofs.LevelLaws.{HaveLevel-none, HaveLevel-more}
 use Rattle.circuits.proofs.laws.level_of_signals.Goals as goal
 

@@ -1,3 +1,4 @@
+-- There and back through the one valuation that fits each circuit.
 use Rattle.circuits.proofs.MatchLaws.{functions_from_match, match_from_functions}
 use Rattle.circuits.proofs.laws.match_of_functions.Goals as goal
 

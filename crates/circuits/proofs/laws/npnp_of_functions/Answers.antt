@@ -1,3 +1,4 @@
+-- The bijections of the one are those of the other.
 use Rattle.circuits.proofs.MatchLaws.{functions_from_equal, equal_from_functions}
 use Rattle.circuits.proofs.laws.npnp_of_functions.Goals as goal
 

@@ -1,3 +1,4 @@
+-- Each port goes to itself, plain.
 use Rattle.std.proofs.Common.{length}
 use Rattle.circuits.proofs.MatchLaws.{unmoved, match-unmoved}
 use Rattle.circuits.proofs.laws.npnp_reflexive.Goals as goal

@@ -1,3 +1,4 @@
+-- The valuation computed gate by gate fits, and no other.
 use Rattle.circuits.proofs.Valuations.{valuation_of-fits, valuation_of-only}
 use Rattle.circuits.proofs.laws.one_valuation.Goals as goal
 

@@ -1,3 +1,4 @@
+-- The gates so far read earlier signals.
 use Rattle.std.proofs.Common.{ℕ, ◌<◌, ◌+◌, get_or}
 use Rattle.circuits.specs.declared.netlist.Gate.{Gate}
 use Rattle.circuits.specs.Literals.{signal_of}

@@ -1,3 +1,4 @@
+-- The bits so far, continued by the gates that are left, are those of the whole.
 use Rattle.std.proofs.Common.{◌≡◌, ◌+◌, drop, vec_len}
 use Rattle.circuits.specs.Netlists.{with_gates}
 use Rattle.circuits.proofs.plain.add_gates.Given as goal

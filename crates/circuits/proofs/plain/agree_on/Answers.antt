@@ -1,3 +1,4 @@
+-- The vector moved is as long as the second netlist has inputs.
 use Rattle.std.proofs.Common.{◌∙◌, sym, ap, length}
 use Rattle.circuits.proofs.Places.{length-moved}
 use Rattle.circuits.proofs.plain.agree_on.Goals as goal

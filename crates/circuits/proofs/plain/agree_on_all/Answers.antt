@@ -1,3 +1,4 @@
+-- What the tried vectors say of all.
 use Rattle.std.proofs.Common.{below_more, ap, take_at, rules, sym, ◌∙◌, ◌≡◌, length, arith, refl, subst}
 use Rattle.std.proofs.lemmas.Bool.{false≢true}
 use Rattle.circuits.proofs.MatchLaws.{AgreeOnAll-from_codes, count-few}

@@ -1,3 +1,4 @@
+-- The vectors with the codes so far agree.
 use Rattle.std.proofs.Common.{ℕ, ◌<◌, ◌≡◌, vec_len}
 use Rattle.circuits.specs.Literals.{vector_of}
 use Rattle.circuits.specs.Matches.{AgreeOn}

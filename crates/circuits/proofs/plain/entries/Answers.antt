@@ -1,3 +1,4 @@
+-- One entry more.
 use Rattle.circuits.specs.Bijections.{entries_of}
 use Rattle.circuits.proofs.Entries.{entries_of-more}
 use Rattle.circuits.proofs.plain.entries.Goals as goal

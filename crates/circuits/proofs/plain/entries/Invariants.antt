@@ -1,3 +1,4 @@
+-- The entries so far, continued by those of the digits left, are the whole list.
 use Rattle.std.proofs.Common.{◌≡◌, ◌-◌, ◌++◌}
 use Rattle.circuits.specs.Bijections.{entries_of}
 use Rattle.circuits.proofs.plain.entries.Given as goal

@@ -1,3 +1,4 @@
+-- No list is left where none of the numbered ones serves.
 use Rattle.std.proofs.Common.{below_more, sym, ◌∙◌, ◌≡◌, subst, ◌≤◌, arith, rules}
 use Rattle.std.proofs.lemmas.Bool.{false≢true}
 use Rattle.circuits.specs.Bijections.{entries_of}

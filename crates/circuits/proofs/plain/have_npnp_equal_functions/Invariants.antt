@@ -1,3 +1,4 @@
+-- None of the lists with the codes so far is part of a match.
 use Rattle.std.proofs.Common.{ℕ, ◌<◌}
 use Rattle.circuits.specs.Bijections.{entries_of}
 use Rattle.circuits.specs.Matches.{IsPartOfMatch}

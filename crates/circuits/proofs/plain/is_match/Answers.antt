@@ -1,3 +1,4 @@
+-- Both netlists in order compute themselves, so their functions decide.
 use Rattle.circuits.specs.Functions.{as_circuit}
 use Rattle.circuits.proofs.AsCircuit.{as_circuit-acyclic, as_circuit-computed}
 use Rattle.circuits.proofs.MatchLaws.{IfOk-like, functions_from_match, match_from_functions}

@@ -1,3 +1,4 @@
+-- The ports and the agreement are the match.
 use Rattle.circuits.proofs.MatchLaws.{IfOk-like, match_from_all}
 use Rattle.circuits.proofs.plain.is_match_of_functions.Goals as goal
 

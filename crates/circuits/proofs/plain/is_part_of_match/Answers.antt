@@ -1,3 +1,4 @@
+-- No list is left where none of the numbered ones serves.
 use Rattle.std.proofs.Common.{length, rules}
 use Rattle.std.proofs.lemmas.Bool.{false≢true}
 use Rattle.circuits.proofs.Entries.{no_part, count_of_lists}

@@ -1,3 +1,4 @@
+-- The bits so far are those of the literals so far.
 use Rattle.std.proofs.Common.{◌≡◌, map, take}
 use Rattle.circuits.specs.Literals.{literal_bit}
 use Rattle.circuits.proofs.plain.literal_bits.Given as goal

@@ -1,3 +1,4 @@
+-- A vector to which all bits are sent is the vector moved.
 use Rattle.std.proofs.Common.{arith}
 use Rattle.circuits.proofs.Places.{moved-only}
 use Rattle.circuits.proofs.plain.move_vector.Goals as goal

@@ -1,3 +1,4 @@
+-- The bits so far stand where the entries send them.
 use Rattle.std.proofs.Common.{ℕ, ◌<◌, ◌≡◌, length, vec_len}
 use Rattle.circuits.specs.Literals.{bit, differ}
 use Rattle.circuits.specs.Bijections.{place_of, sign_of}

@@ -1,3 +1,4 @@
+-- The outputs so far agree.
 use Rattle.std.proofs.Common.{ℕ, ◌<◌, ◌≡◌}
 use Rattle.circuits.specs.Literals.{bit, differ}
 use Rattle.circuits.specs.Bijections.{place_of, sign_of}

@@ -1,3 +1,4 @@
+-- An entry goes where an earlier one goes, or the entries so far stay apart.
 use Rattle.std.proofs.Common.{sym, ◌∙◌}
 use Rattle.std.proofs.lemmas.Bool.{false≢true}
 use Rattle.circuits.proofs.Places.{not_apart, apart_more}

@@ -1,3 +1,4 @@
+-- The entries so far go to different places.
 use Rattle.std.proofs.Common.{ℕ, Bool, ◌<◌, ◌≢◌, get_or}
 use Rattle.circuits.proofs.plain.places_are_distinct.Given as goal
 

@@ -1,3 +1,4 @@
+-- What is computed gate by gate fits.
 use Rattle.std.proofs.Common.{◌≡◌, rules}
 use Rattle.circuits.specs.Netlists.{valuation_of}
 use Rattle.circuits.proofs.Valuations.{valuation_of-fits}

@@ -1,3 +1,4 @@
+-- One digit more.
 use Rattle.std.proofs.Common.{◌<◌, ◌≢◌, ◌∙◌, ap, length, eqb, ◌%◌, ◌/◌, arith, below_more, get_or-set_other, get_or-set_same}
 use Rattle.circuits.proofs.Codes.{quotient_more, vector_of-from_bits}
 use Rattle.circuits.proofs.plain.write_vector.Goals as goal

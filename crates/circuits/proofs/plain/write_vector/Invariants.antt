@@ -1,3 +1,4 @@
+-- The digits so far are written, and the others are left.
 use Rattle.std.proofs.Common.{ℕ, ◌<◌, ◌≡◌, ◌/◌, ◌%◌, ◌^◌, eqb, false, get_or}
 use Rattle.circuits.proofs.plain.write_vector.Given as goal
 

@@ -1,3 +1,4 @@
+-- What was made in the order by level is the ordered netlist, and small enough.
 use Rattle.std.proofs.Common.{◌≡◌, ◌∙◌, ap, ap₂, map, length, arith}
 use Rattle.circuits.specs.Circuits.{signals_in}
 use Rattle.circuits.specs.Expansion.{Making, stands_for}

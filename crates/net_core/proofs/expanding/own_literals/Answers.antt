@@ -1,3 +1,4 @@
+-- One literal more.
 use Rattle.std.proofs.Common.{◌*◌, refl}
 use Rattle.net_core.proofs.ExpandLaws.{own_literals-more}
 use Rattle.net_core.proofs.expanding.own_literals.Goals as goal

@@ -1,3 +1,4 @@
+-- There is room for each definition, since there is room for all.
 use Rattle.std.proofs.Common.{◌≡◌, ◌+◌, length, get_or, ap, arith}
 use Rattle.std.proofs.lemmas.List.{get_or_default}
 use Rattle.circuits.specs.Circuits.{signals_in}

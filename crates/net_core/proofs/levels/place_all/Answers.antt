@@ -1,3 +1,4 @@
+-- Each visit that is listed is a level.
 use Rattle.std.proofs.Common.{◌≡◌, ◌<◌, ◌∙◌, ap, sym, subst, length, refl, arith}
 use Rattle.circuits.specs.Circuits.{signal_at}
 use Rattle.circuits.specs.Levels.{HasLevel}

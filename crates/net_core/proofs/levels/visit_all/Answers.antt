@@ -1,3 +1,4 @@
+-- At first nothing is known, and at last each definition was met.
 use Rattle.std.proofs.Common.{arith}
 use Rattle.std.proofs.lemmas.Result.{err_from_is_err_and}
 use Rattle.net_core.proofs.SearchLaws.{fault_at_root, level_found}

@@ -1,3 +1,4 @@
+-- The sorted positions are the order by levels, and its expansion computes the netlist.
 use Rattle.std.proofs.Common.{arith}
 use Rattle.circuits.proofs.GateCounts.{gates_in_order}
 use Rattle.circuits.proofs.LevelOrders.{IsOrderOf-computes}

@@ -1,3 +1,4 @@
+-- The first line is cut at the first line feed.
 use Rattle.text_core.proofs.LineLemmas.{lines-next, lines-none}
 use Rattle.text_core.proofs.laws.lines_from_first_line.Goals as goal
 

@@ -1,3 +1,4 @@
+-- Lines are parted at line feeds alone.
 use Rattle.text_core.proofs.LineLemmas.{lines-each, text_of_lines-lines, lines-text_of_lines, lines-last}
 use Rattle.text_core.proofs.laws.lines_of_text.Goals as goal
 

@@ -1,3 +1,4 @@
+-- What is written of a number is digits, and has its value.
 use Rattle.text_core.proofs.NumberLemmas.{number-decimal, IsWord-decimal}
 use Rattle.text_core.proofs.laws.number_from_decimal.Goals as goal
 

@@ -1,3 +1,4 @@
+-- Words are parted at blanks alone.
 use Rattle.text_core.proofs.WordLemmas.{words-each, words-blank, words-word, words-last}
 use Rattle.text_core.proofs.laws.words_of_line.Goals as goal
 

@@ -1,3 +1,4 @@
+-- A numeral whose value is not given is too large.
 use Rattle.std.proofs.Common.{rules}
 use Rattle.text_core.proofs.NumberLemmas.{too_large_exactly}
 use Rattle.text_core.proofs.numbers.decimal.Goals as goal

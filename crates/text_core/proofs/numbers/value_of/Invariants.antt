@@ -1,3 +1,4 @@
+-- The value so far is that of the digits so far.
 use Rattle.std.proofs.Common.{◌≡◌, ◌<◌, ◌^◌, take}
 use Rattle.std.specs.Str.Parse.{digits_value}
 use Rattle.text_core.proofs.numbers.value_of.Given as goal

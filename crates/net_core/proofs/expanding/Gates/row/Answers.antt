@@ -1,3 +1,4 @@
+-- A row's literals so far, and then its value.
 use Rattle.std.proofs.Common.{◌∙◌, map, drop, arith}
 use Rattle.circuits.specs.Expansion.{row_literals, row_made, stand_in}
 use Rattle.net_core.proofs.ExpandLaws.{row_room, row_step}

@@ -1,3 +1,4 @@
+-- The first row, and then one row more at a time.
 use Rattle.std.proofs.Common.{true, map}
 use Rattle.circuits.specs.Expansion.{made, cover_made, stand_in}
 use Rattle.net_core.proofs.ExpandLaws.{first_row_room, or_row_room}

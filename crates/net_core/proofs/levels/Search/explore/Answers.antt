@@ -1,3 +1,4 @@
+-- A search begins at its root, and each step leaves less to do.
 use Rattle.std.proofs.Common.{◌≡◌, sym, ◌∙◌, arith}
 use Rattle.std.proofs.lemmas.List.{get_or_default}
 use Rattle.net_core.specs.declared.levels.Visit.TheVariants.{New}

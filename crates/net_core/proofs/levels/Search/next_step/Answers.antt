@@ -1,3 +1,4 @@
+-- The first name that is not below decides the step; where there is none, the level is found.
 use Rattle.std.proofs.Common.{ℕ, ◌≡◌, ◌+◌, ◌<◌, ◌∙◌, max, sym, ap, subst, length, get_or, take, arith}
 use Rattle.circuits.specs.declared.definition.Def.{Def}
 use Rattle.circuits.specs.Circuits.{Circuit, def_at, names_of, named_by}

@@ -1,3 +1,4 @@
+-- The constant and the inputs have level 0, and a definition has what its visit says.
 use Rattle.std.proofs.Common.{arith}
 use Rattle.net_core.specs.Search.{positions}
 use Rattle.net_core.proofs.SearchLaws.{seen_level}
