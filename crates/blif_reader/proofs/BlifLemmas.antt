@@ -5,6 +5,8 @@ use Rattle.std.specs.Str.{bytes_eq}
 use Rattle.std.proofs.lemmas.List.Folds.{list_any-append}
 use Rattle.std.proofs.lemmas.Simd.{map-map}
 use Rattle.text_core.specs.Piece.{Piece}
+use Rattle.circuits.specs.declared.port.PortKind.{PortKind}
+use Rattle.circuits.specs.declared.port.PortKind.TheVariants.{Input, Output}
 use Rattle.circuits.specs.declared.netlist.Lit.{Lit}
 use Rattle.circuits.specs.declared.definition.Def.{Def}
 use Rattle.circuits.specs.Circuits.{Circuit, IsClosed}
@@ -12,13 +14,13 @@ use Rattle.circuits.specs.Expansion.{gates_in}
 use Rattle.circuits.specs.Levels.{IsAcyclic, IsFirstLooped, IsOrderOf}
 use Rattle.circuits.specs.Netlists.{Net}
 use Rattle.circuits.proofs.GateCounts.{gates_in_order}
-use Rattle.circuits.proofs.LevelOrders.{IsOrderOf-inputs, IsOrderOf-outputs, same_function}
+use Rattle.circuits.proofs.LevelOrders.{IsOrderOf-computes}
 use Rattle.net_core.specs.declared.named.NetKind.{NetKind}
 use Rattle.net_core.specs.declared.named.NetKind.TheVariants as fault
 use Rattle.blif_reader.specs.declared.directive.Directive.{Directive}
 use Rattle.blif_reader.specs.declared.directive.Directive.TheVariants.{Names}
 use Rattle.blif_reader.specs.declared.covers.Covers.{Covers}
-use Rattle.blif_reader.specs.Directives.{kind_of, is_names}
+use Rattle.blif_reader.specs.Directives.{directive_of, is_names}
 use Rattle.blif_reader.specs.declared.survey.Port.{Port}
 use Rattle.blif_reader.specs.JoinedLines.{word_of}
 use Rattle.blif_reader.specs.Firsts.{NoneIs}
@@ -34,13 +36,13 @@ use Rattle.blif_reader.proofs.ClosedLemmas.{closed_circuit, length-names, length
 use Rattle.std.proofs.lemmas.List.{get_or-map}
 use Rattle.std.proofs.Math.Seq.{take-length, get_or-append_seam}
 
-pub port_names-bytes : (kind : Bool) (ports : List Port) → port_names kind ports ≡ bytes_of (words_of_kind kind ports)
+pub port_names-bytes : (kind : PortKind) (ports : List Port) → port_names kind ports ≡ bytes_of (words_of_kind kind ports)
 port_names-bytes kind ports = sym (map-map (λ (w : Piece). w.bytes) (λ (p : Port). p.word) _)
 
 -- the ports are distinct, and these are the names of the inputs
-pub distinct_ports : (lines : List (List Piece)) (inputs outputs : List (List ℕ)) → AreDeclared lines → AreNamed (port_words lines) (length (port_words lines)) inputs outputs → AreDistinct lines × (inputs ≡ bytes_of (input_words lines))
+distinct_ports : (lines : List (List Piece)) (inputs outputs : List (List ℕ)) → AreDeclared lines → AreNamed (port_words lines) (length (port_words lines)) inputs outputs → AreDistinct lines × (inputs ≡ bytes_of (input_words lines))
 distinct_ports lines inputs outputs declared named =
-    (record { declared = declared; once = named.once }, named.inputs_are ∙ (ap (port_names false) (take-length (port_words lines)) ∙ port_names-bytes false (port_words lines)))
+    (record { declared = declared; once = named.once }, named.inputs_are ∙ (ap (port_names Input) (take-length (port_words lines)) ∙ port_names-bytes Input (port_words lines)))
 
 pub repeated_port : (lines : List (List Piece)) (kind : NetKind) (at : ℕ) → AreDeclared lines → IsRepeatedPort (port_words lines) kind at → IsPortFault lines kind at
 repeated_port lines kind at declared found = record {
@@ -51,13 +53,31 @@ repeated_port lines kind at declared found = record {
   offset = found.offset;
 }
 
--- names are defined once, and these are the names of the signals
-pub defined_once : (lines : List (List Piece)) (names : List (List ℕ)) → AreDistinct lines → AreDefined (input_words lines) (defined_words lines) (length (defined_words lines)) names → AreDefinedOnce lines × (names ≡ signal_names lines)
-defined_once lines names distinct defined =
-    (record { distinct = distinct; once = defined.once }, defined.names_are ∙ ap (λ ds. bytes_of (input_words lines ++ ds)) (take-length (defined_words lines)))
+-- the names that are defined were added to those of the inputs: names are defined once, and these are the names of the signals
+pub names_numbered : (lines : List (List Piece)) (ports : List Port) (defined : List Piece) (inputs outputs names : List (List ℕ))
+    → AreDeclared lines
+    → ports ≡ port_words lines
+    → defined ≡ defined_words lines
+    → AreNamed ports (length ports) inputs outputs
+    → ((words : List Piece) → inputs ≡ bytes_of words → AreDefined words defined (length defined) names)
+    → AreDefinedOnce lines × (names ≡ signal_names lines)
+names_numbered lines ports defined inputs outputs names declared p d named added =
+    let distinct = distinct_ports lines inputs outputs declared (subst (λ ps. AreNamed ps (length ps) inputs outputs) p named) in
+    let all = subst (λ ds. AreDefined (input_words lines) ds (length ds) names) d (added (input_words lines) distinct.1) in
+    (record { distinct = distinct.0; once = all.once }, all.names_are ∙ ap (λ ds. bytes_of (input_words lines ++ ds)) (take-length (defined_words lines)))
 
-pub redefined : (lines : List (List Piece)) (kind : NetKind) (at : ℕ) → AreDistinct lines → IsRepeatedName (input_words lines) (defined_words lines) kind at → IsRedefinedFault lines kind at
-redefined lines kind at distinct found = record { distinct = distinct; is = found.is; why = found.why }
+-- one of them is an input's, or was defined before
+pub name_redefined : (lines : List (List Piece)) (ports : List Port) (defined : List Piece) (inputs outputs : List (List ℕ)) (kind : NetKind) (at : ℕ)
+    → AreDeclared lines
+    → ports ≡ port_words lines
+    → defined ≡ defined_words lines
+    → AreNamed ports (length ports) inputs outputs
+    → ((words : List Piece) → inputs ≡ bytes_of words → IsRepeatedName words defined kind at)
+    → IsRedefinedFault lines kind at
+name_redefined lines ports defined inputs outputs kind at declared p d named again =
+    let distinct = distinct_ports lines inputs outputs declared (subst (λ ps. AreNamed ps (length ps) inputs outputs) p named) in
+    let found = subst (λ ds. IsRepeatedName (input_words lines) ds kind at) d (again (input_words lines) distinct.1) in
+    record { distinct = distinct.0; is = found.is; why = found.why }
 
 -- a name isn't known exactly where it is neither an input's nor defined
 not_either : (a b : Bool) → not (a || b) ≡ (not a && not b)
@@ -140,29 +160,11 @@ pub gates_made : (lines : List (List Piece)) (net : Net)
 gates_made lines net few ordered small =
     omega (arith, gates_in_order (blif_circuit lines) net (closed_lines lines few) ordered)
 
--- a netlist in order that was made of a file computes what the file is
-pub read_as : (bytes : List ℕ) (net : Net) (i o : List (List ℕ))
-    → IsBlif bytes (blif_circuit (blif_lines bytes)) i o
-    → IsOrderOf (blif_circuit (blif_lines bytes)) net
-    → ReadAs bytes net i o
-read_as bytes net i o is ordered =
-    let circuit = blif_circuit (blif_lines bytes) in
-    record {
-      circuit = circuit;
-      is = is;
-      computes = record {
-        inputs = IsOrderOf-inputs circuit net ordered;
-        outputs = IsOrderOf-outputs circuit net ordered;
-        function = λ x v long fits. sym (same_function circuit net x v is.acyclic (closed_lines (blif_lines bytes) is.names) ordered long fits);
-      };
-      numbered = ordered;
-    }
-
 -- the offset of a `.names` line
 abbrev place_of : List Piece → ℕ
 place_of line = (word_of line 0).at
 
-names_by_test : (line : List Piece) (lines : List (List Piece)) (directive : Directive) → kind_of line ≡ directive → places_in lines ≡ map place_of (names_lines lines) → places_by directive line ++ places_in lines ≡ map place_of (names_lines (line ∷ lines))
+names_by_test : (line : List Piece) (lines : List (List Piece)) (directive : Directive) → directive_of line ≡ directive → places_in lines ≡ map place_of (names_lines lines) → places_by directive line ++ places_in lines ≡ map place_of (names_lines (line ∷ lines))
 names_by_test line lines Names k h =
     ap (λ ps. place_of line ∷ ps) h ∙ sym (ap (λ t. map place_of (cond t (line ∷ names_lines lines) (names_lines lines))) (ap is_names k))
 names_by_test line lines other k h =
@@ -170,7 +172,7 @@ names_by_test line lines other k h =
 
 places_in-names : (lines : List (List Piece)) → places_in lines ≡ map place_of (names_lines lines)
 places_in-names [] = refl
-places_in-names (line ∷ lines) = names_by_test line lines (kind_of line) refl (places_in-names lines)
+places_in-names (line ∷ lines) = names_by_test line lines (directive_of line) refl (places_in-names lines)
 
 count_places : (line : List Piece) (lines : List (List Piece)) (directive : Directive) → length (places_in lines) ≡ length (defined_words lines) → length (places_by directive line ++ places_in lines) ≡ length (defined_on directive line ++ defined_words lines)
 count_places line lines Names h = ap suc h
@@ -178,7 +180,7 @@ count_places line lines other h = h
 
 length-places_in : (lines : List (List Piece)) → length (places_in lines) ≡ length (defined_words lines)
 length-places_in [] = refl
-length-places_in (line ∷ lines) = count_places line lines (kind_of line) (length-places_in lines)
+length-places_in (line ∷ lines) = count_places line lines (directive_of line) (length-places_in lines)
 
 -- each definition has a place
 pub place_there : (lines : List (List Piece)) (covers : Covers) (d : ℕ) → IsBuilt (signal_names lines) lines covers → IsFirstLooped (blif_circuit lines) d → d < length covers.places
@@ -199,6 +201,27 @@ cycle_found lines covers d at few built looped i =
 pub gates_found : (end : ℕ) (lines : List (List Piece)) → AreFew lines → IsAcyclic (blif_circuit lines) → 1000000 < gates_in (blif_circuit lines) → IsGatesFault end lines fault.TooManyGates end
 gates_found end lines few acyclic many = record { names = few; acyclic = acyclic; is = refl; many = many; offset = refl }
 
--- the names of the ports of a kind, from the ports that were noted
-pub names_noted : (lines : List (List Piece)) (kind : Bool) (ports : List Port) (names : List (List ℕ)) → names ≡ port_names kind ports → ports ≡ port_words lines → names ≡ bytes_of (words_of_kind kind (port_words lines))
-names_noted lines kind ports names n p = n ∙ (ap (port_names kind) p ∙ port_names-bytes kind (port_words lines))
+-- a netlist in order that was made of a file, with the names of its ports, is what the file is read as
+pub read_as : (bytes : List ℕ) (net : Net) (input_names output_names : List (List ℕ))
+    → AreFew (blif_lines bytes)
+    → IsAcyclic (blif_circuit (blif_lines bytes))
+    → gates_in (blif_circuit (blif_lines bytes)) ≤ 1000000
+    → IsOrderOf (blif_circuit (blif_lines bytes)) net
+    → input_names ≡ port_names Input (port_words (blif_lines bytes))
+    → output_names ≡ port_names Output (port_words (blif_lines bytes))
+    → ReadAs bytes net input_names output_names
+read_as bytes net input_names output_names few acyclic few_gates ordered inputs outputs =
+    let lines = blif_lines bytes in
+    record {
+      circuit = blif_circuit lines;
+      is = record {
+        names = few;
+        same = refl;
+        acyclic = acyclic;
+        few_gates = few_gates;
+        input_names_are = inputs ∙ port_names-bytes Input (port_words lines);
+        output_names_are = outputs ∙ port_names-bytes Output (port_words lines);
+      };
+      computes = IsOrderOf-computes (blif_circuit lines) net acyclic (closed_lines lines few) ordered;
+      numbered = ordered;
+    }

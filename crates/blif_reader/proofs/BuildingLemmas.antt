@@ -11,17 +11,17 @@ use Rattle.circuits.specs.declared.definition.Def.TheVariants.{Cover}
 use Rattle.net_core.specs.declared.named.NetKind.{NetKind}
 use Rattle.net_core.specs.declared.named.NetKind.TheVariants as fault
 use Rattle.blif_reader.specs.declared.directive.Directive.{Directive}
-use Rattle.blif_reader.specs.declared.directive.Directive.TheVariants.{Model, Inputs, Outputs, Names, End, Latch, DontCares, PassedOver, Unknown, Row}
-use Rattle.blif_reader.specs.declared.covers.Table.{Table}
+use Rattle.blif_reader.specs.declared.directive.Directive.TheVariants.{Names, Row}
+use Rattle.blif_reader.specs.declared.covers.CoverSoFar.{CoverSoFar}
 use Rattle.blif_reader.specs.declared.covers.Covers.{Covers}
-use Rattle.blif_reader.specs.Directives.{kind_of, is_row, is_names}
+use Rattle.blif_reader.specs.Directives.{directive_of, is_row, is_names}
 use Rattle.blif_reader.specs.Rows.{output_byte}
 use Rattle.blif_reader.specs.Names.{operands, read_on, read_words}
 use Rattle.blif_reader.specs.Covers.{trits_of, literal_named, are_on, leading_rows, cover_of, covers_of}
-use Rattle.blif_reader.specs.Building.{EndsAs, but_last, IsKnownIn, IsUnknownAt, IsUnknownFault, Continues, closed, with_row, table_behind, closed_by, outputs_by, places_by, Builds, continued, outputs_in, places_in, IsBuilt, IsBuilding}
+use Rattle.blif_reader.specs.Building.{EndsAs, but_last, IsKnownIn, IsUnknownAt, IsUnknownFault, Continues, closed, with_row, open_behind, closed_by, outputs_by, places_by, Builds, continued, outputs_in, places_in, IsBuilt, IsBuilding}
 
-abbrev pub table_of : List ℕ → List (List Trit) → Bool → Table
-table_of names rows on = record { names = names; rows = rows; on = on }
+abbrev pub cover_so_far : List ℕ → List (List Trit) → Bool → CoverSoFar
+cover_so_far names rows on = record { names = names; rows = rows; on = on }
 
 pub ends_more : (last : Option Piece) (word : Piece) (left new all : List Piece) → EndsAs last left all → left ≡ word ∷ new → EndsAs (Some word) new all
 ends_more None word left new all e h = ([], e ∙ h)
@@ -89,8 +89,8 @@ operands-but_last first words =
     let e : length (first ∷ words) - 2 ≡ length words - 1 = omega arith in
     ap (λ n. take n words) e
 
-pub new_table : (names wanted : List ℕ) (rows : List (List Trit)) → names ≡ wanted → rows ≡ [] → Some (table_of names rows true) ≡ Some (table_of wanted [] true)
-new_table names wanted rows n r = ap (λ ns. Some (table_of ns rows true)) n ∙ ap (λ rs. Some (table_of wanted rs true)) r
+pub new_cover : (names wanted : List ℕ) (rows : List (List Trit)) → names ≡ wanted → rows ≡ [] → Some (cover_so_far names rows true) ≡ Some (cover_so_far wanted [] true)
+new_cover names wanted rows n r = ap (λ ns. Some (cover_so_far ns rows true)) n ∙ ap (λ rs. Some (cover_so_far wanted rs true)) r
 
 pub no_more : {X : Type 0} (new old : List X) → new ≡ old → new ≡ old ++ []
 no_more new old h = h ∙ sym (append-nil old)
@@ -116,22 +116,22 @@ unknown_before names words rest at u = record {
 }
 
 -- the rows that a text begins with
-pub no_rows : (line : List Piece) (left : List (List Piece)) → is_row (kind_of line) ≡ false → leading_rows (line ∷ left) ≡ []
+pub no_rows : (line : List Piece) (left : List (List Piece)) → is_row (directive_of line) ≡ false → leading_rows (line ∷ left) ≡ []
 no_rows line left h =
-    let n = prefix_len (λ l. is_row (kind_of l)) left in
+    let n = prefix_len (λ l. is_row (directive_of l)) left in
     ap (λ t. take (cond t (1 + n) 0) (line ∷ left)) h
 
-pub one_row : (line : List Piece) (left : List (List Piece)) → is_row (kind_of line) ≡ true → leading_rows (line ∷ left) ≡ line ∷ leading_rows left
+pub one_row : (line : List Piece) (left : List (List Piece)) → is_row (directive_of line) ≡ true → leading_rows (line ∷ left) ≡ line ∷ leading_rows left
 one_row line left h =
-    let n = prefix_len (λ l. is_row (kind_of l)) left in
+    let n = prefix_len (λ l. is_row (directive_of l)) left in
     let one : 1 + n ≡ suc n = omega arith in
     ap (λ t. take (cond t (1 + n) 0) (line ∷ left)) h ∙ ap (λ m. take m (line ∷ left)) one
 
-pub covers_skip : (names : List (List ℕ)) (line : List Piece) (left : List (List Piece)) → is_names (kind_of line) ≡ false → covers_of names (line ∷ left) ≡ covers_of names left
+pub covers_skip : (names : List (List ℕ)) (line : List Piece) (left : List (List Piece)) → is_names (directive_of line) ≡ false → covers_of names (line ∷ left) ≡ covers_of names left
 covers_skip names line left h =
     ap (λ t. cond t (cover_of names line (leading_rows left) ∷ covers_of names left) (covers_of names left)) h
 
-pub covers_take : (names : List (List ℕ)) (line : List Piece) (left : List (List Piece)) → is_names (kind_of line) ≡ true → covers_of names (line ∷ left) ≡ cover_of names line (leading_rows left) ∷ covers_of names left
+pub covers_take : (names : List (List ℕ)) (line : List Piece) (left : List (List Piece)) → is_names (directive_of line) ≡ true → covers_of names (line ∷ left) ≡ cover_of names line (leading_rows left) ∷ covers_of names left
 covers_take names line left h =
     ap (λ t. cond t (cover_of names line (leading_rows left) ∷ covers_of names left) (covers_of names left)) h
 
@@ -143,78 +143,71 @@ and_assoc : (s t u : Bool) → (s && (t && u)) ≡ ((s && t) && u)
 and_assoc true t u = refl
 and_assoc false t u = refl
 
--- a table that no row follows
+-- a cover that no row follows
 ended : (names : List ℕ) (rows : List (List Trit)) (on : Bool) (defs : List Def) (lead : List (List Piece)) → lead ≡ [] → Cover names (rows ++ map trits_of lead) (on && are_on lead) ∷ defs ≡ Cover names rows on ∷ defs
 ended names rows on defs lead h =
     ap (λ (l : List (List Piece)). Cover names (rows ++ map trits_of l) (on && are_on l) ∷ defs) h
     ∙ (ap (λ rs. Cover names rs (on && true) ∷ defs) (append-nil rows) ∙ ap (λ t. Cover names rows t ∷ defs) (and_true on))
 
--- a line that is no row closes the table
-closing : (names : List (List ℕ)) (table : Option Table) (line : List Piece) (left : List (List Piece)) → is_row (kind_of line) ≡ false → continued names table (line ∷ left) ≡ closed table ++ covers_of names (line ∷ left)
+-- a line that is no row closes the cover
+closing : (names : List (List ℕ)) (cover : Option CoverSoFar) (line : List Piece) (left : List (List Piece)) → is_row (directive_of line) ≡ false → continued names cover (line ∷ left) ≡ closed cover ++ covers_of names (line ∷ left)
 closing names None line left h = refl
-closing names (Some table) line left h =
-    ended table.names table.rows table.on (covers_of names (line ∷ left)) (leading_rows (line ∷ left)) (no_rows line left h)
+closing names (Some cover) line left h =
+    ended cover.names cover.rows cover.on (covers_of names (line ∷ left)) (leading_rows (line ∷ left)) (no_rows line left h)
 
--- a row goes on with the table
-row_on : (names : List (List ℕ)) (table : Option Table) (line : List Piece) (left : List (List Piece)) → kind_of line ≡ Row → continued names (with_row table line) left ≡ continued names table (line ∷ left)
+-- a row goes on with the cover
+row_on : (names : List (List ℕ)) (cover : Option CoverSoFar) (line : List Piece) (left : List (List Piece)) → directive_of line ≡ Row → continued names (with_row cover line) left ≡ continued names cover (line ∷ left)
 row_on names None line left k = sym (covers_skip names line left (ap is_names k))
-row_on names (Some table) line left k =
-    let rows = append_assoc table.rows (trits_of line ∷ []) (map trits_of (leading_rows left)) in
-    let on = and_assoc table.on (output_byte line == 49) (are_on (leading_rows left)) in
+row_on names (Some cover) line left k =
+    let rows = append_assoc cover.rows (trits_of line ∷ []) (map trits_of (leading_rows left)) in
+    let on = and_assoc cover.on (output_byte line == 49) (are_on (leading_rows left)) in
     let lead = one_row line left (ap is_row k) in
     let rest = covers_skip names line left (ap is_names k) in
-    ap (λ rs. Cover table.names rs ((table.on && (output_byte line == 49)) && are_on (leading_rows left)) ∷ covers_of names left) rows
-    ∙ (ap (λ t. Cover table.names (table.rows ++ trits_of line ∷ map trits_of (leading_rows left)) t ∷ covers_of names left) (sym on)
-    ∙ (ap (λ (ls : List (List Piece)). Cover table.names (table.rows ++ map trits_of ls) (table.on && are_on ls) ∷ covers_of names left) (sym lead)
-    ∙ ap (λ ds. Cover table.names (table.rows ++ map trits_of (leading_rows (line ∷ left))) (table.on && are_on (leading_rows (line ∷ left))) ∷ ds) (sym rest)))
+    ap (λ rs. Cover cover.names rs ((cover.on && (output_byte line == 49)) && are_on (leading_rows left)) ∷ covers_of names left) rows
+    ∙ (ap (λ t. Cover cover.names (cover.rows ++ trits_of line ∷ map trits_of (leading_rows left)) t ∷ covers_of names left) (sym on)
+    ∙ (ap (λ (ls : List (List Piece)). Cover cover.names (cover.rows ++ map trits_of ls) (cover.on && are_on ls) ∷ covers_of names left) (sym lead)
+    ∙ ap (λ ds. Cover cover.names (cover.rows ++ map trits_of (leading_rows (line ∷ left))) (cover.on && are_on (leading_rows (line ∷ left))) ∷ ds) (sym rest)))
 
-other_on : (names : List (List ℕ)) (table : Option Table) (line : List Piece) (left : List (List Piece)) (directive : Directive) → kind_of line ≡ directive → is_row directive ≡ false → is_names directive ≡ false → closed table ++ covers_of names left ≡ continued names table (line ∷ left)
-other_on names table line left directive k r n =
-    ap (λ ds. closed table ++ ds) (sym (covers_skip names line left (ap is_names k ∙ n))) ∙ sym (closing names table line left (ap is_row k ∙ r))
+other_on : (names : List (List ℕ)) (cover : Option CoverSoFar) (line : List Piece) (left : List (List Piece)) (directive : Directive) → directive_of line ≡ directive → is_row directive ≡ false → is_names directive ≡ false → closed cover ++ covers_of names left ≡ continued names cover (line ∷ left)
+other_on names cover line left directive k r n =
+    ap (λ ds. closed cover ++ ds) (sym (covers_skip names line left (ap is_names k ∙ n))) ∙ sym (closing names cover line left (ap is_row k ∙ r))
 
 -- a line takes the definitions on
-pub line_on : (names : List (List ℕ)) (table : Option Table) (line : List Piece) (left : List (List Piece)) (directive : Directive) → kind_of line ≡ directive → closed_by table directive ++ continued names (table_behind names table directive line) left ≡ continued names table (line ∷ left)
-line_on names table line left Row k = row_on names table line left k
-line_on names table line left Names k =
-    ap (λ ds. closed table ++ ds) (sym (covers_take names line left (ap is_names k))) ∙ sym (closing names table line left (ap is_row k))
-line_on names table line left Model k = other_on names table line left Model k refl refl
-line_on names table line left Inputs k = other_on names table line left Inputs k refl refl
-line_on names table line left Outputs k = other_on names table line left Outputs k refl refl
-line_on names table line left End k = other_on names table line left End k refl refl
-line_on names table line left Latch k = other_on names table line left Latch k refl refl
-line_on names table line left DontCares k = other_on names table line left DontCares k refl refl
-line_on names table line left PassedOver k = other_on names table line left PassedOver k refl refl
-line_on names table line left Unknown k = other_on names table line left Unknown k refl refl
+pub line_on : (names : List (List ℕ)) (cover : Option CoverSoFar) (line : List Piece) (left : List (List Piece)) (directive : Directive) → directive_of line ≡ directive → closed_by cover directive ++ continued names (open_behind names cover directive line) left ≡ continued names cover (line ∷ left)
+line_on names cover line left Row k = row_on names cover line left k
+line_on names cover line left Names k =
+    ap (λ ds. closed cover ++ ds) (sym (covers_take names line left (ap is_names k))) ∙ sym (closing names cover line left (ap is_row k))
+line_on names cover line left other k = other_on names cover line left other k refl refl
 
 -- one line more
-pub building_more : (names : List (List ℕ)) (all left : List (List Piece)) (line : List Piece) (old new : Covers) → IsBuilding names all (line ∷ left) old → Builds names (kind_of line) line old new → IsBuilding names all left new
+pub building_more : (names : List (List ℕ)) (all left : List (List Piece)) (line : List Piece) (old new : Covers) → IsBuilding names all (line ∷ left) old → Builds names (directive_of line) line old new → IsBuilding names all left new
 building_more names all left line old new b a =
-    let directive = kind_of line in
+    let directive = directive_of line in
     let literal = literal_named names in
     record {
-      defs = ap (λ ds. ds ++ continued names new.table left) a.defs ∙ (append_assoc old.defs (closed_by old.table directive) (continued names new.table left) ∙ (ap (λ t. old.defs ++ (closed_by old.table directive ++ continued names t left)) a.table ∙ (ap (λ ds. old.defs ++ ds) (line_on names old.table line left directive refl) ∙ b.defs)));
+      defs = ap (λ ds. ds ++ continued names new.current left) a.defs ∙ (append_assoc old.defs (closed_by old.current directive) (continued names new.current left) ∙ (ap (λ t. old.defs ++ (closed_by old.current directive ++ continued names t left)) a.current ∙ (ap (λ ds. old.defs ++ ds) (line_on names old.current line left directive refl) ∙ b.defs)));
       outputs = ap (λ os. os ++ map literal (outputs_in left)) a.outputs ∙ (append_assoc old.outputs (map literal (outputs_by directive line)) (map literal (outputs_in left)) ∙ (ap (λ os. old.outputs ++ os) (sym (map-append literal (outputs_by directive line) (outputs_in left))) ∙ b.outputs));
       places = ap (λ ps. ps ++ places_in left) a.places ∙ (append_assoc old.places (places_by directive line) (places_in left) ∙ b.places);
       words = Continues-append names (read_on directive line) (read_words left) (read_words all) a.known b.words;
     }
 
 -- a line with the first name that isn't known
-pub fault_in_line : (names : List (List ℕ)) (all left : List (List Piece)) (line : List Piece) (old : Covers) (kind : NetKind) (at : ℕ) → IsBuilding names all (line ∷ left) old → IsUnknownFault names (read_on (kind_of line) line) kind at → IsUnknownFault names (read_words all) kind at
+pub fault_in_line : (names : List (List ℕ)) (all left : List (List Piece)) (line : List Piece) (old : Covers) (kind : NetKind) (at : ℕ) → IsBuilding names all (line ∷ left) old → IsUnknownFault names (read_on (directive_of line) line) kind at → IsUnknownFault names (read_words all) kind at
 fault_in_line names all left line old kind at b f = record {
   is = f.is;
-  why = b.words.unknown at (unknown_before names (read_on (kind_of line) line) (read_words left) at f.why);
+  why = b.words.unknown at (unknown_before names (read_on (directive_of line) line) (read_words left) at f.why);
 }
 
-closed_end : (names : List (List ℕ)) (table : Option Table) → continued names table [] ≡ closed table
+closed_end : (names : List (List ℕ)) (cover : Option CoverSoFar) → continued names cover [] ≡ closed cover
 closed_end names None = refl
-closed_end names (Some table) = ended table.names table.rows table.on [] [] refl
+closed_end names (Some cover) = ended cover.names cover.rows cover.on [] [] refl
 
 -- all lines were read
-pub built : (names : List (List ℕ)) (all left : List (List Piece)) (old new : Covers) → left ≡ [] → IsBuilding names all left old → new.defs ≡ old.defs ++ closed old.table → new.places ≡ old.places → new.outputs ≡ old.outputs → IsBuilt names all new
+pub built : (names : List (List ℕ)) (all left : List (List Piece)) (old new : Covers) → left ≡ [] → IsBuilding names all left old → new.defs ≡ old.defs ++ closed old.current → new.places ≡ old.places → new.outputs ≡ old.outputs → IsBuilt names all new
 built names all left old new e u d p o =
     let b = subst (λ ls. IsBuilding names all ls old) e u in
     record {
-      defs = d ∙ (ap (λ ds. old.defs ++ ds) (sym (closed_end names old.table)) ∙ b.defs);
+      defs = d ∙ (ap (λ ds. old.defs ++ ds) (sym (closed_end names old.current)) ∙ b.defs);
       outputs = o ∙ (sym (append-nil old.outputs) ∙ b.outputs);
       places = p ∙ (sym (append-nil old.places) ∙ b.places);
       known = b.words.known (All-nil (IsKnownIn names));

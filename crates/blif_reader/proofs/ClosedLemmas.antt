@@ -2,13 +2,14 @@
 use Rattle.std.proofs.Common.{◌≡◌, ◌==◌, ℕ, suc, ◌+◌, ◌*◌, ◌/◌, ◌<◌, Bool, true, false, not, cond, List, [], ◌∷◌, ◌++◌, length, map, drop, get_or, All, Option, Some, None, refl, ap, sym, subst, ◌∙◌, arith, append_assoc, eqb-true, length-take, length-drop}
 use Rattle.std.specs.Prelude.{nat_lt, is_some, reverse, filter}
 use Rattle.std.specs.List.{position_or_len}
-use Rattle.std.specs.Bool.{beq}
 use Rattle.std.specs.Str.{bytes_eq}
 use Rattle.std.proofs.lemmas.Bool.Decides.{nat_tests}
 use Rattle.std.proofs.lemmas.Slice.Eq.{bytes_eq-Decides}
 use Rattle.std.proofs.lemmas.List.{length-append}
 use Rattle.std.proofs.lemmas.List.Elements.{All-nil, All-cons, All-head, All-tail}
 use Rattle.text_core.specs.Piece.{Piece}
+use Rattle.circuits.specs.declared.port.PortKind.{PortKind}
+use Rattle.circuits.specs.declared.port.PortKind.TheVariants.{Input, Output}
 use Rattle.circuits.specs.declared.definition.Def.{Def}
 use Rattle.circuits.specs.Literals.{signal_of}
 use Rattle.circuits.specs.Circuits.{IsClosed, named_by, signals_in, HasWideRows}
@@ -17,10 +18,10 @@ use Rattle.net_core.specs.declared.named.NetKind.TheVariants as fault
 use Rattle.blif_reader.specs.declared.directive.Directive.{Directive}
 use Rattle.blif_reader.specs.declared.directive.Directive.TheVariants.{Inputs, Outputs, Names, Row}
 use Rattle.blif_reader.specs.declared.survey.Port.{Port}
-use Rattle.blif_reader.specs.Directives.{kind_of, is_row, is_names, is_end}
+use Rattle.blif_reader.specs.Directives.{directive_of, is_row, is_names, is_end}
 use Rattle.blif_reader.specs.Firsts.{NoneIs}
 use Rattle.blif_reader.specs.Rows.{operand_count, has_widths, row_widths, literal_bytes, opening, row_fault}
-use Rattle.blif_reader.specs.Names.{operands, read_on, read_words, defined_on, defined_words, named_ports, ports_on, port_words, input_words, output_words}
+use Rattle.blif_reader.specs.Names.{is_same_kind, operands, read_on, read_words, defined_on, defined_words, named_ports, ports_on, port_words, input_words, output_words}
 use Rattle.blif_reader.specs.Faults.{has_line, fault_before_end, fault_behind_end, line_fault, is_faulty}
 use Rattle.blif_reader.specs.Covers.{trit_of, trits_of, signal_names, signal_named, literal_named, leading_rows, cover_of, covers_of, blif_circuit}
 use Rattle.blif_reader.specs.Building.{IsKnownIn, outputs_by, outputs_in}
@@ -64,9 +65,9 @@ known_cover : (names : List (List ℕ)) (line : List Piece) (rows : List (List P
 known_cover names line rows known =
     All-map (λ s. s < 1 + length names) (signal_named names) (operands line) (All-weaker (IsKnownIn names) (λ w. signal_named names w < 1 + length names) (operands line) (known_signal names) known)
 
-known_by_test : (t : Bool) (names : List (List ℕ)) (line : List Piece) (left : List (List Piece)) → is_names (kind_of line) ≡ t → All (IsKnownIn names) (read_on (kind_of line) line) → All (NamesBelow (1 + length names)) (covers_of names left) → All (NamesBelow (1 + length names)) (covers_of names (line ∷ left))
+known_by_test : (t : Bool) (names : List (List ℕ)) (line : List Piece) (left : List (List Piece)) → is_names (directive_of line) ≡ t → All (IsKnownIn names) (read_on (directive_of line) line) → All (NamesBelow (1 + length names)) (covers_of names left) → All (NamesBelow (1 + length names)) (covers_of names (line ∷ left))
 known_by_test true names line left e known rest =
-    let here : All (IsKnownIn names) (operands line) = subst (λ d. All (IsKnownIn names) (read_on d line)) (names_kind (kind_of line) e) known in
+    let here : All (IsKnownIn names) (operands line) = subst (λ d. All (IsKnownIn names) (read_on d line)) (names_kind (directive_of line) e) known in
     subst (All (NamesBelow (1 + length names))) (sym (covers_take names line left e)) (All-cons (NamesBelow (1 + length names)) (cover_of names line (leading_rows left)) (covers_of names left) (known_cover names line (leading_rows left) here) rest)
   where
     names_kind : (d : Directive) → is_names d ≡ true → d ≡ Names
@@ -79,17 +80,17 @@ known_by_test false names line left e known rest =
 known_covers : (names : List (List ℕ)) (lines : List (List Piece)) → All (IsKnownIn names) (read_words lines) → All (NamesBelow (1 + length names)) (covers_of names lines)
 known_covers names [] known = All-nil (NamesBelow (1 + length names))
 known_covers names (line ∷ lines) known =
-    known_by_test (is_names (kind_of line)) names line lines refl (All-front (IsKnownIn names) (read_on (kind_of line) line) (read_words lines) known) (known_covers names lines (All-behind (IsKnownIn names) (read_on (kind_of line) line) (read_words lines) known))
+    known_by_test (is_names (directive_of line)) names line lines refl (All-front (IsKnownIn names) (read_on (directive_of line) line) (read_words lines) known) (known_covers names lines (All-behind (IsKnownIn names) (read_on (directive_of line) line) (read_words lines) known))
 
 -- as many definitions as defined names
-count_by_directive : (names : List (List ℕ)) (line : List Piece) (left : List (List Piece)) (directive : Directive) → kind_of line ≡ directive → length (covers_of names left) ≡ length (defined_words left) → length (covers_of names (line ∷ left)) ≡ length (defined_on directive line ++ defined_words left)
+count_by_directive : (names : List (List ℕ)) (line : List Piece) (left : List (List Piece)) (directive : Directive) → directive_of line ≡ directive → length (covers_of names left) ≡ length (defined_words left) → length (covers_of names (line ∷ left)) ≡ length (defined_on directive line ++ defined_words left)
 count_by_directive names line left Names k h = ap length (covers_take names line left (ap is_names k)) ∙ ap suc h
 count_by_directive names line left other k h = ap length (covers_skip names line left (ap is_names k)) ∙ h
 
 pub length-covers_of : (names : List (List ℕ)) (lines : List (List Piece)) → length (covers_of names lines) ≡ length (defined_words lines)
 length-covers_of names [] = refl
 length-covers_of names (line ∷ lines) =
-    count_by_directive names line lines (kind_of line) refl (length-covers_of names lines)
+    count_by_directive names line lines (directive_of line) refl (length-covers_of names lines)
 
 -- a line without a fault
 no_fault : (found : Option NetKind) → is_some found ≡ false → found ≡ None
@@ -106,19 +107,19 @@ by_tests true false other h = cc h
 by_tests false widths other h = cc h
 
 -- a row without a fault has the widths of the cover that is open
-sound_row : (pre : List (List Piece)) (row : List Piece) → kind_of row ≡ Row → line_fault pre row ≡ None → has_widths (operand_count (opening pre)) row ≡ true
+sound_row : (pre : List (List Piece)) (row : List Piece) → directive_of row ≡ Row → line_fault pre row ≡ None → has_widths (operand_count (opening pre)) row ≡ true
 sound_row pre row k h =
     let at_row = ap (λ d. cond (has_line is_end pre) (fault_behind_end d) (fault_before_end pre row d)) (sym k) ∙ h in
-    by_tests (is_names (kind_of (opening pre))) (has_widths (operand_count (opening pre)) row) _ (not_ended (has_line is_end pre) fault.Directive (row_fault pre row) at_row)
+    by_tests (is_names (directive_of (opening pre))) (has_widths (operand_count (opening pre)) row) _ (not_ended (has_line is_end pre) fault.Directive (row_fault pre row) at_row)
 
 row_kind : (d : Directive) → is_row d ≡ true → d ≡ Row
 row_kind Row h = refl
 row_kind other h = cc h
 
-opening-row : (pre : List (List Piece)) (row : List Piece) → is_row (kind_of row) ≡ true → opening (pre ++ row ∷ []) ≡ opening pre
+opening-row : (pre : List (List Piece)) (row : List Piece) → is_row (directive_of row) ≡ true → opening (pre ++ row ∷ []) ≡ opening pre
 opening-row pre row h = ap opening_of (behind pre row) ∙ (row_more (reverse pre) row h).1
 
-opening-line : (pre : List (List Piece)) (line : List Piece) → is_row (kind_of line) ≡ false → opening (pre ++ line ∷ []) ≡ line
+opening-line : (pre : List (List Piece)) (line : List Piece) → is_row (directive_of line) ≡ false → opening (pre ++ line ∷ []) ≡ line
 opening-line pre line h = ap opening_of (behind pre line) ∙ (not_row (reverse pre) line h).1
 
 one_more : (pre : List (List Piece)) (line : List Piece) (rest : List (List Piece)) → NoneIs is_faulty (pre ++ line ∷ rest) → NoneIs is_faulty ((pre ++ line ∷ []) ++ rest)
@@ -128,9 +129,9 @@ abbrev HasWidths : ℕ → List Piece → Type 0
 HasWidths operands row = has_widths operands row ≡ true
 
 -- the rows behind a `.names` line have its widths
-mutual_rows : (t : Bool) (pre : List (List Piece)) (line row : List Piece) (rest : List (List Piece)) → is_row (kind_of row) ≡ t → opening pre ≡ line → NoneIs is_faulty (pre ++ row ∷ rest) → (opening (pre ++ row ∷ []) ≡ line → All (HasWidths (operand_count line)) (leading_rows rest)) → All (HasWidths (operand_count line)) (leading_rows (row ∷ rest))
+mutual_rows : (t : Bool) (pre : List (List Piece)) (line row : List Piece) (rest : List (List Piece)) → is_row (directive_of row) ≡ t → opening pre ≡ line → NoneIs is_faulty (pre ++ row ∷ rest) → (opening (pre ++ row ∷ []) ≡ line → All (HasWidths (operand_count line)) (leading_rows rest)) → All (HasWidths (operand_count line)) (leading_rows (row ∷ rest))
 mutual_rows true pre line row rest e o sound tail =
-    let here = sound_row pre row (row_kind (kind_of row) e) (sound_line pre row rest sound) in
+    let here = sound_row pre row (row_kind (directive_of row) e) (sound_line pre row rest sound) in
     subst (All (HasWidths (operand_count line))) (sym (one_row row rest e)) (All-cons (HasWidths (operand_count line)) row (leading_rows rest) (subst (λ l. has_widths (operand_count l) row ≡ true) o here) (tail (opening-row pre row e ∙ o)))
 mutual_rows false pre line row rest e o sound tail =
     subst (All (HasWidths (operand_count line))) (sym (no_rows row rest e)) (All-nil (HasWidths (operand_count line)))
@@ -138,7 +139,7 @@ mutual_rows false pre line row rest e o sound tail =
 wide_rows : (rest pre : List (List Piece)) (line : List Piece) → opening pre ≡ line → NoneIs is_faulty (pre ++ rest) → All (HasWidths (operand_count line)) (leading_rows rest)
 wide_rows [] pre line o sound = All-nil (HasWidths (operand_count line))
 wide_rows (row ∷ rest) pre line o sound =
-    mutual_rows (is_row (kind_of row)) pre line row rest refl o sound (λ opened. wide_rows rest (pre ++ row ∷ []) line opened (one_more pre row rest sound))
+    mutual_rows (is_row (directive_of row)) pre line row rest refl o sound (λ opened. wide_rows rest (pre ++ row ∷ []) line opened (one_more pre row rest sound))
 
 -- the bytes for the operands are as many as these
 widths_by_test : (t : Bool) (n : ℕ) (row : List Piece) → (n == 0) ≡ t → map (λ word. length word.bytes) row ≡ cond t (1 ∷ []) (n ∷ 1 ∷ []) → length (literal_bytes row) ≡ n
@@ -164,9 +165,9 @@ wide_cover : (names : List (List ℕ)) (line : List Piece) (rows : List (List Pi
 wide_cover names line rows wide =
     All-map (λ row. length row ≡ length (map (signal_named names) (operands line))) trits_of rows (All-weaker (HasWidths (operand_count line)) (λ row. length (trits_of row) ≡ length (map (signal_named names) (operands line))) rows (λ row h. length-map trit_of (literal_bytes row) ∙ (literal_widths (operand_count line) row h ∙ (sym (length-operands line) ∙ sym (length-map (signal_named names) (operands line))))) wide)
 
-wide_by_test : (t : Bool) (names : List (List ℕ)) (pre : List (List Piece)) (line : List Piece) (rest : List (List Piece)) → is_names (kind_of line) ≡ t → NoneIs is_faulty (pre ++ line ∷ rest) → All HasWideRows (covers_of names rest) → All HasWideRows (covers_of names (line ∷ rest))
+wide_by_test : (t : Bool) (names : List (List ℕ)) (pre : List (List Piece)) (line : List Piece) (rest : List (List Piece)) → is_names (directive_of line) ≡ t → NoneIs is_faulty (pre ++ line ∷ rest) → All HasWideRows (covers_of names rest) → All HasWideRows (covers_of names (line ∷ rest))
 wide_by_test true names pre line rest e sound tail =
-    let wide = wide_rows rest (pre ++ line ∷ []) line (opening-line pre line (names_no_row (kind_of line) e)) (one_more pre line rest sound) in
+    let wide = wide_rows rest (pre ++ line ∷ []) line (opening-line pre line (names_no_row (directive_of line) e)) (one_more pre line rest sound) in
     subst (All HasWideRows) (sym (covers_take names line rest e)) (All-cons HasWideRows (cover_of names line (leading_rows rest)) (covers_of names rest) (wide_cover names line (leading_rows rest) wide) tail)
   where
     names_no_row : (d : Directive) → is_names d ≡ true → is_row d ≡ false
@@ -178,7 +179,7 @@ wide_by_test false names pre line rest e sound tail =
 wide_covers : (names : List (List ℕ)) (lines pre : List (List Piece)) → NoneIs is_faulty (pre ++ lines) → All HasWideRows (covers_of names lines)
 wide_covers names [] pre sound = All-nil HasWideRows
 wide_covers names (line ∷ rest) pre sound =
-    wide_by_test (is_names (kind_of line)) names pre line rest refl sound (wide_covers names rest (pre ++ line ∷ []) (one_more pre line rest sound))
+    wide_by_test (is_names (directive_of line)) names pre line rest refl sound (wide_covers names rest (pre ++ line ∷ []) (one_more pre line rest sound))
 
 -- the outputs are among what is read
 outputs_by_directive : (names : List (List ℕ)) (directive : Directive) (line : List Piece) → All (IsKnownIn names) (read_on directive line) → All (IsKnownIn names) (outputs_by directive line)
@@ -193,24 +194,24 @@ All-append P (x ∷ xs) ys one two =
 known_outputs : (names : List (List ℕ)) (lines : List (List Piece)) → All (IsKnownIn names) (read_words lines) → All (IsKnownIn names) (outputs_in lines)
 known_outputs names [] known = All-nil (IsKnownIn names)
 known_outputs names (line ∷ lines) known =
-    All-append (IsKnownIn names) (outputs_by (kind_of line) line) (outputs_in lines) (outputs_by_directive names (kind_of line) line (All-front (IsKnownIn names) (read_on (kind_of line) line) (read_words lines) known)) (known_outputs names lines (All-behind (IsKnownIn names) (read_on (kind_of line) line) (read_words lines) known))
+    All-append (IsKnownIn names) (outputs_by (directive_of line) line) (outputs_in lines) (outputs_by_directive names (directive_of line) line (All-front (IsKnownIn names) (read_on (directive_of line) line) (read_words lines) known)) (known_outputs names lines (All-behind (IsKnownIn names) (read_on (directive_of line) line) (read_words lines) known))
 
 -- the words of output ports are those of the output lines
-filter_same : (kind : Bool) (words : List Piece) (rest : List Port) → map (λ (p : Port). p.word) (filter (λ (p : Port). beq p.is_output true) (named_ports kind words ++ rest)) ≡ cond kind words [] ++ map (λ (p : Port). p.word) (filter (λ (p : Port). beq p.is_output true) rest)
-filter_same true [] rest = refl
-filter_same false [] rest = refl
-filter_same true (word ∷ words) rest = ap (λ ws. word ∷ ws) (filter_same true words rest)
-filter_same false (word ∷ words) rest = filter_same false words rest
+filter_same : (kind : PortKind) (words : List Piece) (rest : List Port) → map (λ (p : Port). p.word) (filter (λ (p : Port). is_same_kind p.kind Output) (named_ports kind words ++ rest)) ≡ cond (is_same_kind kind Output) words [] ++ map (λ (p : Port). p.word) (filter (λ (p : Port). is_same_kind p.kind Output) rest)
+filter_same Output [] rest = refl
+filter_same Input [] rest = refl
+filter_same Output (word ∷ words) rest = ap (λ ws. word ∷ ws) (filter_same Output words rest)
+filter_same Input (word ∷ words) rest = filter_same Input words rest
 
-outputs_on : (directive : Directive) (line : List Piece) (rest : List Port) → map (λ (p : Port). p.word) (filter (λ (p : Port). beq p.is_output true) (ports_on directive line ++ rest)) ≡ outputs_by directive line ++ map (λ (p : Port). p.word) (filter (λ (p : Port). beq p.is_output true) rest)
-outputs_on Inputs line rest = filter_same false (drop 1 line) rest
-outputs_on Outputs line rest = filter_same true (drop 1 line) rest
+outputs_on : (directive : Directive) (line : List Piece) (rest : List Port) → map (λ (p : Port). p.word) (filter (λ (p : Port). is_same_kind p.kind Output) (ports_on directive line ++ rest)) ≡ outputs_by directive line ++ map (λ (p : Port). p.word) (filter (λ (p : Port). is_same_kind p.kind Output) rest)
+outputs_on Inputs line rest = filter_same Input (drop 1 line) rest
+outputs_on Outputs line rest = filter_same Output (drop 1 line) rest
 outputs_on other line rest = refl
 
 pub output_words-outputs_in : (lines : List (List Piece)) → output_words lines ≡ outputs_in lines
 output_words-outputs_in [] = refl
 output_words-outputs_in (line ∷ lines) =
-    outputs_on (kind_of line) line (port_words lines) ∙ ap (λ ws. outputs_by (kind_of line) line ++ ws) (output_words-outputs_in lines)
+    outputs_on (directive_of line) line (port_words lines) ∙ ap (λ ws. outputs_by (directive_of line) line ++ ws) (output_words-outputs_in lines)
 
 -- the signal of an output's literal
 literal_signal : (names : List (List ℕ)) (word : Piece) → signal_of (literal_named names word) ≡ signal_named names word

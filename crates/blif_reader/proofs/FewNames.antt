@@ -2,18 +2,19 @@
 use Rattle.std.proofs.Common.{◌≡◌, ℕ, ◌+◌, ◌-◌, ◌≤◌, Bool, true, false, cond, List, [], ◌∷◌, length, take, drop, refl, ap, ◌∙◌, arith, length-take, length-drop}
 use Rattle.std.specs.Prelude.{reverse}
 use Rattle.std.specs.List.{filter, onto_first, prefix_len, position_or_len, before_first, slice_split}
-use Rattle.std.specs.Bool.{beq}
 use Rattle.std.proofs.lemmas.List.{length-append}
 use Rattle.text_core.specs.Bytes.{is_blank, is_line_feed}
 use Rattle.text_core.specs.Piece.{Piece}
+use Rattle.circuits.specs.declared.port.PortKind.{PortKind}
+use Rattle.circuits.specs.declared.port.PortKind.TheVariants.{Input, Output}
 use Rattle.text_core.specs.Lines.{lines}
 use Rattle.text_core.specs.Words.{is_not_empty}
 use Rattle.blif_reader.specs.declared.directive.Directive.{Directive}
 use Rattle.blif_reader.specs.declared.directive.Directive.TheVariants.{Inputs, Outputs, Names}
 use Rattle.blif_reader.specs.declared.survey.Port.{Port}
 use Rattle.blif_reader.specs.JoinedLines.{placed, lines_at, words_at, is_comment_sign, content, ends_with_backslash, without_backslash, goes_on, line_words, onto_next, joined, has_words}
-use Rattle.blif_reader.specs.Directives.{kind_of}
-use Rattle.blif_reader.specs.Names.{named_ports, ports_on, port_words, words_of_kind, input_words, defined_on, defined_words}
+use Rattle.blif_reader.specs.Directives.{directive_of}
+use Rattle.blif_reader.specs.Names.{is_same_kind, named_ports, ports_on, port_words, words_of_kind, input_words, defined_on, defined_words}
 use Rattle.blif_reader.specs.Covers.{signal_names}
 use Rattle.blif_reader.specs.Blif.{blif_lines}
 use Rattle.blif_reader.proofs.NumberLemmas.{length-map, words_of_kind-append}
@@ -100,29 +101,29 @@ total-words : (bytes : List ℕ) → total (joined (lines_at (record { bytes = b
 total-words bytes = omega (arith, total-joined 0 (lines bytes), total-lines bytes)
 
 -- the words of a line that name inputs or are defined
-few_of_kind : (kind : Bool) (ports : List Port) → length (words_of_kind kind ports) ≤ length ports
+few_of_kind : (kind : PortKind) (ports : List Port) → length (words_of_kind kind ports) ≤ length ports
 few_of_kind kind [] = omega arith
 few_of_kind kind (port ∷ ports) =
     let word = λ (p : Port). p.word in
-    let test = λ (p : Port). beq p.is_output kind in
+    let test = λ (p : Port). is_same_kind p.kind kind in
     omega (arith, length-map word (filter test (port ∷ ports)), length-map word (filter test ports), one_more_at_most (test port) port (filter test ports), few_of_kind kind ports)
 
-few_named_ports : (is_output : Bool) (line : List Piece) → length (named_ports is_output (drop 1 line)) ≤ length line
-few_named_ports is_output line =
-    let port : Piece → Port = λ word. record { is_output = is_output; word = word } in
+few_named_ports : (kind : PortKind) (line : List Piece) → length (named_ports kind (drop 1 line)) ≤ length line
+few_named_ports kind line =
+    let port : Piece → Port = λ word. record { kind = kind; word = word } in
     omega (arith, length-map port (drop 1 line), length-drop 1 line)
 
 -- how many names a line gives to inputs and signals
 abbrev names_on : Directive → List Piece → ℕ
-names_on directive line = length (words_of_kind false (ports_on directive line)) + length (defined_on directive line)
+names_on directive line = length (words_of_kind Input (ports_on directive line)) + length (defined_on directive line)
 
 few_names_on : (directive : Directive) (word : Piece) (words : List Piece) → names_on directive (word ∷ words) ≤ length (word ∷ words)
 few_names_on Inputs word words =
-    let ports = named_ports false (drop 1 (word ∷ words)) in
-    omega (arith, few_of_kind false ports, few_named_ports false (word ∷ words))
+    let ports = named_ports Input (drop 1 (word ∷ words)) in
+    omega (arith, few_of_kind Input ports, few_named_ports Input (word ∷ words))
 few_names_on Outputs word words =
-    let ports = named_ports true (drop 1 (word ∷ words)) in
-    omega (arith, few_of_kind false ports, few_named_ports true (word ∷ words))
+    let ports = named_ports Output (drop 1 (word ∷ words)) in
+    omega (arith, few_of_kind Input ports, few_named_ports Output (word ∷ words))
 few_names_on Names word words = omega arith
 few_names_on other word words = omega arith
 
@@ -130,11 +131,11 @@ few_names_on other word words = omega arith
 abbrev names_in : List (List Piece) → ℕ
 names_in lines = length (input_words lines) + length (defined_words lines)
 
-names_in-cons : (line : List Piece) (lines : List (List Piece)) → names_in (line ∷ lines) ≡ names_on (kind_of line) line + names_in lines
+names_in-cons : (line : List Piece) (lines : List (List Piece)) → names_in (line ∷ lines) ≡ names_on (directive_of line) line + names_in lines
 names_in-cons line lines =
-    let ports = ports_on (kind_of line) line in
-    let defined = defined_on (kind_of line) line in
-    let inputs = ap length (words_of_kind-append false ports (port_words lines)) ∙ length-append (words_of_kind false ports) (input_words lines) in
+    let ports = ports_on (directive_of line) line in
+    let defined = defined_on (directive_of line) line in
+    let inputs = ap length (words_of_kind-append Input ports (port_words lines)) ∙ length-append (words_of_kind Input ports) (input_words lines) in
     omega (arith, inputs, length-append defined (defined_words lines))
 
 names_by_line : (line : List Piece) (lines : List (List Piece)) → names_in (cond (has_words line) (line ∷ lines) lines) ≤ length line + names_in lines
@@ -143,7 +144,7 @@ names_by_line (word ∷ words) lines = by_test (has_words (word ∷ words))
   where
     by_test : (t : Bool) → names_in (cond t ((word ∷ words) ∷ lines) lines) ≤ length (word ∷ words) + names_in lines
     by_test true =
-        omega (arith, names_in-cons (word ∷ words) lines, few_names_on (kind_of (word ∷ words)) word words)
+        omega (arith, names_in-cons (word ∷ words) lines, few_names_on (directive_of (word ∷ words)) word words)
     by_test false = omega arith
 
 few_names_in : (lines : List (List Piece)) → names_in (filter has_words lines) ≤ total lines

@@ -1,10 +1,11 @@
 -- A file that is a netlist has few ports, each with a name.
 use Rattle.std.proofs.Common.{◌≡◌, ℕ, ◌≤◌, List, length, map, ap, sym, ◌∙◌, arith}
 use Rattle.circuits.specs.Circuits.{Circuit}
+use Rattle.circuits.specs.Netlists.{Net}
 use Rattle.text_core.specs.Piece.{Piece}
 use Rattle.blif_reader.specs.Names.{input_words, output_words}
 use Rattle.blif_reader.specs.Covers.{signal_names, literal_named}
-use Rattle.blif_reader.specs.Blif.{AreBlif, IsBlif, blif_lines}
+use Rattle.blif_reader.specs.Blif.{AreBlif, IsBlif, ReadAs, blif_lines}
 use Rattle.blif_reader.proofs.NumberLemmas.{length-map}
 
 -- the bytes of words are as many as the words
@@ -33,3 +34,11 @@ named_ports bytes circuit i o is =
     let inputs = name_count (input_words lines) i is.input_names_are in
     let outputs = name_count (output_words lines) o is.output_names_are in
     (inputs ∙ sym (input_count lines circuit i o is), outputs ∙ sym (output_count lines circuit i o is))
+
+-- so the graph that a file is read as has a name for each port
+pub named_graph : (bytes : List ℕ) (net : Net) (i o : List (List ℕ))
+    → ReadAs bytes net i o
+    → (length i ≡ net.inputs) × (length o ≡ length net.outputs)
+named_graph bytes net i o read =
+    let named = named_ports bytes read.circuit i o read.is in
+    (named.0 ∙ sym read.computes.inputs, named.1 ∙ sym read.computes.outputs)

@@ -1,6 +1,7 @@
 -- A file is one netlist at most, or has one first fault, and never both.
-use Rattle.std.proofs.Common.{◌≡◌, ℕ, ◌≤◌, ◌⊎◌, Bool, false, List, [], length, take, Some, get_or, inl, inr, sym, ap, subst, ◌∙◌, arith}
+use Rattle.std.proofs.Common.{◌≡◌, ℕ, ◌≤◌, ◌⊎◌, Bool, List, [], length, take, Some, get_or, inl, inr, sym, ap, subst, ◌∙◌, arith}
 use Rattle.text_core.specs.Piece.{Piece}
+use Rattle.circuits.specs.declared.port.PortKind.TheVariants.{Input}
 use Rattle.circuits.specs.Circuits.{Circuit}
 use Rattle.circuits.specs.Expansion.{gates_in}
 use Rattle.circuits.specs.Levels.{IsAcyclic}
@@ -52,7 +53,7 @@ one_at_first found words a b one other =
 
 one_port : (lines : List (List Piece)) → IsOne (IsPortFault lines)
 one_port lines f g a b one other =
-    let none : Port = record { is_output = false; word = nothing } in
+    let none : Port = record { kind = Input; word = nothing } in
     let same : one.place ≡ other.place = one_first repeats_port (port_words lines) none one.place other.place one.first other.first in
     (one.is ∙ sym other.is, one.offset none ∙ (ap (λ k. (get_or (port_words lines) k none).word.at) same ∙ sym (other.offset none)))
 
@@ -135,7 +136,7 @@ module _ (end : ℕ) (lines : List (List Piece)) where
 
   no_port : (f : NetKind) (a : ℕ) → IsPortFault lines f a → AreDistinct lines → ⊥
   no_port f a fault good =
-      no_first repeats_port (port_words lines) (record { is_output = false; word = nothing }) fault.place good.once fault.first
+      no_first repeats_port (port_words lines) (record { kind = Input; word = nothing }) fault.place good.once fault.first
 
   no_redefined : (f : NetKind) (a : ℕ) → IsRedefinedFault lines f a → AreDefinedOnce lines → ⊥
   no_redefined f a fault good =

@@ -4,9 +4,14 @@ use Rattle.std.specs.List.{filter}
 use Rattle.text_core.specs.Piece.{Piece}
 use Rattle.text_core.specs.Lines.{first_line, after_line}
 use Rattle.text_core.specs.Words.{first_word, after_word}
+use Rattle.blif_reader.specs.declared.lines.JoinedLines.{JoinedLines}
 use Rattle.blif_reader.specs.JoinedLines.{lines_at, words_at, line_words, goes_on, onto_next, joined, has_words}
 use Rattle.blif_reader.specs.Reading.{words_left, lines_left}
 use Rattle.blif_reader.proofs.PlacedLemmas.{lines_at-first, lines_at-no_first, words_at-first}
+
+-- a line is being read, that goes on or not, and this is behind it
+abbrev reading : Piece → Bool → Piece → JoinedLines
+reading line on rest = record { line = line; goes_on = on; rest = rest }
 
 onto_next-parts : (words : List Piece) (lines : List (List Piece)) → onto_next words lines ≡ (words ++ get_or lines 0 []) ∷ drop 1 lines
 onto_next-parts words [] = ap (λ ws. ws ∷ []) (sym (append-nil words))
@@ -17,7 +22,7 @@ parts true words lines = onto_next-parts words lines
 parts false words lines = ap (λ ws. ws ∷ lines) (sym (append-nil words))
 
 -- the joined lines from a line on
-pub joined-first : (p line : Piece) → first_line p ≡ Some line → joined (lines_at p) ≡ (line_words line ++ cond (goes_on line.bytes) (get_or (joined (lines_at (after_line p))) 0 []) []) ∷ lines_left (goes_on line.bytes) (after_line p)
+pub joined-first : (p line : Piece) → first_line p ≡ Some line → joined (lines_at p) ≡ (line_words line ++ cond (goes_on line.bytes) (get_or (joined (lines_at (after_line p))) 0 []) []) ∷ lines_left (reading line (goes_on line.bytes) (after_line p))
 joined-first p line h =
     ap joined (lines_at-first p line h) ∙ parts (goes_on line.bytes) (line_words line) (joined (lines_at (after_line p)))
 
@@ -25,18 +30,18 @@ pub joined-no_first : (p : Piece) → first_line p ≡ None → joined (lines_at
 joined-no_first p h = ap joined (lines_at-no_first p h)
 
 -- a line that was entered
-pub entered : (p line content : Piece) → first_line p ≡ Some line → words_at content ≡ line_words line → joined (lines_at p) ≡ words_left content (goes_on line.bytes) (after_line p) ∷ lines_left (goes_on line.bytes) (after_line p)
+pub entered : (p line content : Piece) → first_line p ≡ Some line → words_at content ≡ line_words line → joined (lines_at p) ≡ words_left (reading content (goes_on line.bytes) (after_line p)) ∷ lines_left (reading line (goes_on line.bytes) (after_line p))
 entered p line content h words =
-    joined-first p line h ∙ ap (λ ws. (ws ++ cond (goes_on line.bytes) (get_or (joined (lines_at (after_line p))) 0 []) []) ∷ lines_left (goes_on line.bytes) (after_line p)) (sym words)
+    joined-first p line h ∙ ap (λ ws. (ws ++ cond (goes_on line.bytes) (get_or (joined (lines_at (after_line p))) 0 []) []) ∷ lines_left (reading line (goes_on line.bytes) (after_line p))) (sym words)
 
-pub entered_as : (p line content rest : Piece) (on : Bool) → Some line ≡ first_line p → words_at content ≡ line_words line → on ≡ goes_on line.bytes → rest ≡ after_line p → joined (lines_at p) ≡ words_left content on rest ∷ lines_left on rest
+pub entered_as : (p line content rest : Piece) (on : Bool) → Some line ≡ first_line p → words_at content ≡ line_words line → on ≡ goes_on line.bytes → rest ≡ after_line p → joined (lines_at p) ≡ words_left (reading content on rest) ∷ lines_left (reading content on rest)
 entered_as p line content rest on h words o r =
     entered p line content (sym h) words
-    ∙ (ap (λ t. words_left content t (after_line p) ∷ lines_left t (after_line p)) (sym o) ∙ ap (λ q. words_left content on q ∷ lines_left on q) (sym r))
+    ∙ (ap (λ t. words_left (reading content t (after_line p)) ∷ lines_left (reading content t (after_line p))) (sym o) ∙ ap (λ q. words_left (reading content on q) ∷ lines_left (reading content on q)) (sym r))
 
 -- between joined lines those behind are left
-pub between : (on : Bool) (rest : Piece) → on ≡ false → lines_left on rest ≡ joined (lines_at rest)
-between on rest h = ap (λ t. lines_left t rest) h
+pub between : (lines : JoinedLines) → lines.goes_on ≡ false → lines_left lines ≡ joined (lines_at lines.rest)
+between lines h = ap (λ t. lines_left (reading lines.line t lines.rest)) h
 
 filter-line : (word : Piece) (words : List Piece) (lines : List (List Piece)) → filter has_words ((word ∷ words) ∷ lines) ≡ (word ∷ words) ∷ filter has_words lines
 filter-line word words lines = grind arith
@@ -57,8 +62,8 @@ word_taken old new word behind h n =
     ap (λ ws. ws ++ behind) (words_at-first old word (sym h)) ∙ ap (λ p. word ∷ (words_at p ++ behind)) (sym n)
 
 -- a line that has no words and doesn't go on
-pub nothing_left : (line rest : Piece) (on : Bool) → on ≡ false → words_at line ≡ [] → words_left line on rest ≡ []
-nothing_left line rest on o h = ap (λ t. words_left line t rest) o ∙ (append-nil (words_at line) ∙ h)
+pub nothing_left : (line rest : Piece) (on : Bool) → on ≡ false → words_at line ≡ [] → words_left (reading line on rest) ≡ []
+nothing_left line rest on o h = ap (λ t. words_left (reading line t rest)) o ∙ (append-nil (words_at line) ∙ h)
 
-pub same_left : (line other rest : Piece) (on : Bool) → words_at line ≡ words_at other → words_left line on rest ≡ words_left other on rest
+pub same_left : (line other rest : Piece) (on : Bool) → words_at line ≡ words_at other → words_left (reading line on rest) ≡ words_left (reading other on rest)
 same_left line other rest on h = ap (λ ws. ws ++ cond on (get_or (joined (lines_at rest)) 0 []) []) h

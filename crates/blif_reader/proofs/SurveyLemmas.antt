@@ -14,14 +14,14 @@ use Rattle.net_core.specs.declared.named.NetStop.TheVariants as stop
 use Rattle.net_core.specs.declared.named.NetKind.{NetKind}
 use Rattle.net_core.specs.declared.named.NetKind.TheVariants as fault
 use Rattle.blif_reader.specs.declared.directive.Directive.{Directive}
-use Rattle.blif_reader.specs.declared.directive.Directive.TheVariants.{Model, Inputs, Outputs, Names, End, Latch, DontCares, PassedOver, Unknown, Row}
+use Rattle.blif_reader.specs.declared.directive.Directive.TheVariants.{Names, Row}
 use Rattle.blif_reader.specs.declared.rows.OpenCover.{OpenCover}
 use Rattle.blif_reader.specs.declared.survey.Survey.{Survey}
 use Rattle.blif_reader.specs.JoinedLines.{word_of}
-use Rattle.blif_reader.specs.Directives.{kind_of, is_row, is_names, is_model, is_inputs, is_outputs, is_end}
-use Rattle.blif_reader.specs.Rows.{output_byte, operand_count, has_widths, has_good_bytes, rows_before, opening, row_fault}
+use Rattle.blif_reader.specs.Directives.{directive_of, is_row, is_names, is_model, is_inputs, is_outputs, is_end}
+use Rattle.blif_reader.specs.Rows.{output_byte, operand_count, has_widths, has_good_bytes, rows_before, opening, fault_in_cover, row_fault}
 use Rattle.blif_reader.specs.Names.{ports_on, defined_on}
-use Rattle.blif_reader.specs.Faults.{has_line, fault_before_end, fault_behind_end, line_fault, is_faulty, IsLineFault}
+use Rattle.blif_reader.specs.Faults.{has_line, fault_by_directive, fault_before_end, fault_behind_end, line_fault, is_faulty, IsLineFault}
 use Rattle.blif_reader.specs.Surveys.{is_mixed, fault_by_cover, fault_known, fault_of, cover_behind, Advances, HaveOutput, IsOpen, IsSurveyed, IsUnderWay}
 use Rattle.blif_reader.proofs.FirstLemmas.{found-seam, NoneIs-push, IsFirst-seam}
 
@@ -60,36 +60,24 @@ inside : (t : Bool) (other : Option NetKind) → t ≡ true → other ≡ cond (
 inside true other h = refl
 inside false other h = absurd (cc h)
 
--- the fault of a row by its widths, its bytes and the rows before
-abbrev row_kind : Bool → Bool → Bool → Option NetKind
-row_kind widths bytes mixed =
-    cond (not widths) (Some fault.RowWidth) (cond (not bytes) (Some fault.RowChar) (cond mixed (Some fault.MixedCover) None))
-
 row_same : (earlier : List (List Piece)) (line : List Piece) (cover : Option OpenCover) → IsOpen earlier cover → fault_by_cover cover line ≡ row_fault earlier line
 row_same earlier line None none =
-    outside (is_names (kind_of (opening earlier))) (row_kind (has_widths (operand_count (opening earlier)) line) (has_good_bytes line) (list_any (differs_from (output_byte line)) (rows_before earlier))) none
+    outside (is_names (directive_of (opening earlier))) (fault_in_cover (operand_count (opening earlier)) (list_any (differs_from (output_byte line)) (rows_before earlier)) line) none
 row_same earlier line (Some cover) opened =
+    let operands = operand_count (opening earlier) in
     let mixed = differs-mixed cover.output (output_byte line) (rows_before earlier) opened.2 in
-    let kind = row_kind (has_widths (operand_count (opening earlier)) line) (has_good_bytes line) (list_any (differs_from (output_byte line)) (rows_before earlier)) in
-    ap (λ n. row_kind (has_widths n line) (has_good_bytes line) (is_mixed cover.output (output_byte line))) opened.1
-    ∙ (ap (row_kind (has_widths (operand_count (opening earlier)) line) (has_good_bytes line)) (sym mixed) ∙ inside (is_names (kind_of (opening earlier))) kind opened.0)
+    ap (λ n. fault_in_cover n (is_mixed cover.output (output_byte line)) line) opened.1
+    ∙ (ap (λ t. fault_in_cover operands t line) (sym mixed) ∙ inside (is_names (directive_of (opening earlier))) (fault_in_cover operands (list_any (differs_from (output_byte line)) (rows_before earlier)) line) opened.0)
 
 known_same : (earlier : List (List Piece)) (line : List Piece) (survey : Survey) (directive : Directive) → IsSurveyed earlier survey → fault_known survey line directive ≡ fault_before_end earlier line directive
-known_same earlier line survey Model s = ap (λ t. cond t (Some fault.SecondModel) None) s.model
-known_same earlier line survey Inputs s = refl
-known_same earlier line survey Outputs s = refl
-known_same earlier line survey Names s = refl
-known_same earlier line survey End s = refl
-known_same earlier line survey Latch s = refl
-known_same earlier line survey DontCares s = refl
-known_same earlier line survey PassedOver s = refl
-known_same earlier line survey Unknown s = refl
-known_same earlier line survey Row s = row_same earlier line survey.cover s.cover
+known_same earlier line survey directive s =
+    ap (λ t. fault_by_directive t (fault_by_cover survey.cover line) line directive) s.model
+    ∙ ap (λ f. fault_by_directive (has_line is_model earlier) f line directive) (row_same earlier line survey.cover s.cover)
 
-pub fault_same : (earlier : List (List Piece)) (line : List Piece) (survey : Survey) → IsSurveyed earlier survey → fault_of survey line (kind_of line) ≡ line_fault earlier line
+pub fault_same : (earlier : List (List Piece)) (line : List Piece) (survey : Survey) → IsSurveyed earlier survey → fault_of survey line (directive_of line) ≡ line_fault earlier line
 fault_same earlier line survey s =
-    ap (λ t. cond t (fault_behind_end (kind_of line)) (fault_known survey line (kind_of line))) s.end
-    ∙ ap (cond (has_line is_end earlier) (fault_behind_end (kind_of line))) (known_same earlier line survey (kind_of line) s)
+    ap (λ t. cond t (fault_behind_end (directive_of line)) (fault_known survey line (directive_of line))) s.end
+    ∙ ap (cond (has_line is_end earlier) (fault_behind_end (directive_of line))) (known_same earlier line survey (directive_of line) s)
 
 -- the lines before, from the nearest
 pub behind : (earlier : List (List Piece)) (line : List Piece) → reverse (earlier ++ line ∷ []) ≡ line ∷ reverse earlier
@@ -97,35 +85,35 @@ behind earlier line = reverse-append earlier (line ∷ [])
 
 -- the open cover by the lines before, from the nearest
 abbrev pub rows_of : List (List Piece) → List (List Piece)
-rows_of nearest = take_while (λ line. is_row (kind_of line)) nearest
+rows_of nearest = take_while (λ line. is_row (directive_of line)) nearest
 
 abbrev pub opening_of : List (List Piece) → List Piece
 opening_of nearest = get_or nearest (length (rows_of nearest)) []
 
 abbrev OpenBy : List (List Piece) → Option OpenCover → Type 0
-OpenBy nearest None = is_names (kind_of (opening_of nearest)) ≡ false
-OpenBy nearest (Some cover) = (is_names (kind_of (opening_of nearest)) ≡ true) × (cover.operands ≡ operand_count (opening_of nearest)) × HaveOutput cover.output (rows_of nearest)
+OpenBy nearest None = is_names (directive_of (opening_of nearest)) ≡ false
+OpenBy nearest (Some cover) = (is_names (directive_of (opening_of nearest)) ≡ true) × (cover.operands ≡ operand_count (opening_of nearest)) × HaveOutput cover.output (rows_of nearest)
 
 -- a line that is no row
-pub not_row : (nearest : List (List Piece)) (line : List Piece) → is_row (kind_of line) ≡ false → (rows_of (line ∷ nearest) ≡ []) × (opening_of (line ∷ nearest) ≡ line)
+pub not_row : (nearest : List (List Piece)) (line : List Piece) → is_row (directive_of line) ≡ false → (rows_of (line ∷ nearest) ≡ []) × (opening_of (line ∷ nearest) ≡ line)
 not_row nearest line h =
-    let n = prefix_len (λ l. is_row (kind_of l)) nearest in
+    let n = prefix_len (λ l. is_row (directive_of l)) nearest in
     let none : rows_of (line ∷ nearest) ≡ [] = ap (λ t. take (cond t (1 + n) 0) (line ∷ nearest)) h in
     (none, ap (λ (rows : List (List Piece)). get_or (line ∷ nearest) (length rows) []) none)
 
 -- a row
-pub row_more : (nearest : List (List Piece)) (line : List Piece) → is_row (kind_of line) ≡ true → (rows_of (line ∷ nearest) ≡ line ∷ rows_of nearest) × (opening_of (line ∷ nearest) ≡ opening_of nearest)
+pub row_more : (nearest : List (List Piece)) (line : List Piece) → is_row (directive_of line) ≡ true → (rows_of (line ∷ nearest) ≡ line ∷ rows_of nearest) × (opening_of (line ∷ nearest) ≡ opening_of nearest)
 row_more nearest line h =
-    let n = prefix_len (λ l. is_row (kind_of l)) nearest in
+    let n = prefix_len (λ l. is_row (directive_of l)) nearest in
     let one : 1 + n ≡ suc n = omega arith in
     let more : rows_of (line ∷ nearest) ≡ line ∷ rows_of nearest = ap (λ t. take (cond t (1 + n) 0) (line ∷ nearest)) h ∙ ap (λ m. take m (line ∷ nearest)) one in
     (more, ap (λ (rows : List (List Piece)). get_or (line ∷ nearest) (length rows) []) more)
 
-closed : (nearest : List (List Piece)) (line : List Piece) → is_row (kind_of line) ≡ false → is_names (kind_of line) ≡ false → OpenBy (line ∷ nearest) None
-closed nearest line h n = ap (λ l. is_names (kind_of l)) (not_row nearest line h).1 ∙ n
+closed : (nearest : List (List Piece)) (line : List Piece) → is_row (directive_of line) ≡ false → is_names (directive_of line) ≡ false → OpenBy (line ∷ nearest) None
+closed nearest line h n = ap (λ l. is_names (directive_of l)) (not_row nearest line h).1 ∙ n
 
 -- a directive that is no row and opens no cover
-closed_as : (nearest : List (List Piece)) (line : List Piece) (directive : Directive) → kind_of line ≡ directive → is_row directive ≡ false → is_names directive ≡ false → OpenBy (line ∷ nearest) None
+closed_as : (nearest : List (List Piece)) (line : List Piece) (directive : Directive) → directive_of line ≡ directive → is_row directive ≡ false → is_names directive ≡ false → OpenBy (line ∷ nearest) None
 closed_as nearest line directive k h n = closed nearest line (ap is_row k ∙ h) (ap is_names k ∙ n)
 
 -- a row's byte is that of the rows before
@@ -138,38 +126,33 @@ unmixed (Some other) byte rows have h = λ k d below. have.1 k d below ∙ eqb-t
     not_false false h = cc h
 
 -- a row without a fault in a cover has the byte of those before
-no_mixed : (widths bytes mixed : Bool) → row_kind widths bytes mixed ≡ None → mixed ≡ false
+no_mixed : (widths bytes mixed : Bool)
+    → cond (not widths) (Some fault.RowWidth) (cond (not bytes) (Some fault.RowChar) (cond mixed (Some fault.MixedCover) None)) ≡ None
+    → mixed ≡ false
 no_mixed true true true h = cc h
 no_mixed true true false h = refl
 no_mixed true false mixed h = cc h
 no_mixed false bytes mixed h = cc h
 
-opened_more : (nearest : List (List Piece)) (line : List Piece) (cover : Option OpenCover) (directive : Directive) → kind_of line ≡ directive → OpenBy nearest cover → fault_by_cover cover line ≡ None → directive ≡ Row → OpenBy (line ∷ nearest) (cover_behind cover Row line)
-opened_more nearest line None directive k o f r = ap (λ l. is_names (kind_of l)) (row_more nearest line (ap is_row (k ∙ r))).1 ∙ o
+opened_more : (nearest : List (List Piece)) (line : List Piece) (cover : Option OpenCover) (directive : Directive) → directive_of line ≡ directive → OpenBy nearest cover → fault_by_cover cover line ≡ None → directive ≡ Row → OpenBy (line ∷ nearest) (cover_behind cover Row line)
+opened_more nearest line None directive k o f r = ap (λ l. is_names (directive_of l)) (row_more nearest line (ap is_row (k ∙ r))).1 ∙ o
 opened_more nearest line (Some cover) directive k o f r =
     let more = row_more nearest line (ap is_row (k ∙ r)) in
     let same = unmixed cover.output (output_byte line) (rows_of nearest) o.2 (no_mixed (has_widths cover.operands line) (has_good_bytes line) (is_mixed cover.output (output_byte line)) f) in (
-      ap (λ l. is_names (kind_of l)) more.1 ∙ o.0,
+      ap (λ l. is_names (directive_of l)) more.1 ∙ o.0,
       o.1 ∙ ap operand_count (sym more.1),
       subst (HaveOutput (Some (output_byte line))) (sym more.0) ((λ e. cc e), All-cons (λ r. output_byte r ≡ output_byte line) line (rows_of nearest) refl same),
     )
 
-opened_names : (nearest : List (List Piece)) (line : List Piece) → kind_of line ≡ Names → OpenBy (line ∷ nearest) (Some (record { operands = operand_count line; output = None }))
+opened_names : (nearest : List (List Piece)) (line : List Piece) → directive_of line ≡ Names → OpenBy (line ∷ nearest) (Some (record { operands = operand_count line; output = None }))
 opened_names nearest line k =
     let new = not_row nearest line (ap is_row k) in
-    (ap (λ l. is_names (kind_of l)) new.1 ∙ ap is_names k, ap operand_count (sym new.1), new.0)
+    (ap (λ l. is_names (directive_of l)) new.1 ∙ ap is_names k, ap operand_count (sym new.1), new.0)
 
-cover_more : (nearest : List (List Piece)) (line : List Piece) (cover : Option OpenCover) (directive : Directive) → kind_of line ≡ directive → OpenBy nearest cover → (directive ≡ Row → fault_by_cover cover line ≡ None) → OpenBy (line ∷ nearest) (cover_behind cover directive line)
-cover_more nearest line cover Model k o f = closed_as nearest line Model k refl refl
-cover_more nearest line cover Inputs k o f = closed_as nearest line Inputs k refl refl
-cover_more nearest line cover Outputs k o f = closed_as nearest line Outputs k refl refl
+cover_more : (nearest : List (List Piece)) (line : List Piece) (cover : Option OpenCover) (directive : Directive) → directive_of line ≡ directive → OpenBy nearest cover → (directive ≡ Row → fault_by_cover cover line ≡ None) → OpenBy (line ∷ nearest) (cover_behind cover directive line)
 cover_more nearest line cover Names k o f = opened_names nearest line k
-cover_more nearest line cover End k o f = closed_as nearest line End k refl refl
-cover_more nearest line cover Latch k o f = closed_as nearest line Latch k refl refl
-cover_more nearest line cover DontCares k o f = closed_as nearest line DontCares k refl refl
-cover_more nearest line cover PassedOver k o f = closed_as nearest line PassedOver k refl refl
-cover_more nearest line cover Unknown k o f = closed_as nearest line Unknown k refl refl
 cover_more nearest line cover Row k o f = opened_more nearest line cover Row k o (f refl) refl
+cover_more nearest line cover other k o f = closed_as nearest line other k refl refl
 
 -- what stands behind a test for `.end`
 pub not_ended : (ended : Bool) (kind : NetKind) (other : Option NetKind) → cond ended (Some kind) other ≡ None → other ≡ None
@@ -191,18 +174,18 @@ is_open earlier (Some cover) h = h
 flat_map-push : {X A : Type 0} (f : X → List A) (xs : List X) (x : X) → flat_map f (xs ++ x ∷ []) ≡ flat_map f xs ++ f x
 flat_map-push f xs x = flat_map-append f xs (x ∷ []) ∙ ap (λ ys. flat_map f xs ++ ys) (append-nil (f x))
 
-has_line-push : (is_it : Directive → Bool) (earlier : List (List Piece)) (line : List Piece) → has_line is_it (earlier ++ line ∷ []) ≡ (has_line is_it earlier || is_it (kind_of line))
+has_line-push : (is_it : Directive → Bool) (earlier : List (List Piece)) (line : List Piece) → has_line is_it (earlier ++ line ∷ []) ≡ (has_line is_it earlier || is_it (directive_of line))
 has_line-push is_it earlier line =
-    list_any-append (λ l. is_it (kind_of l)) earlier (line ∷ []) ∙ ap (λ t. has_line is_it earlier || t) (or_false (is_it (kind_of line)))
+    list_any-append (λ l. is_it (directive_of l)) earlier (line ∷ []) ∙ ap (λ t. has_line is_it earlier || t) (or_false (is_it (directive_of line)))
 
 -- one line more is known
-pub surveyed_more : (earlier : List (List Piece)) (line : List Piece) (old new : Survey) → IsSurveyed earlier old → Advances (kind_of line) line old new → IsSurveyed (earlier ++ line ∷ []) new
+pub surveyed_more : (earlier : List (List Piece)) (line : List Piece) (old new : Survey) → IsSurveyed earlier old → Advances (directive_of line) line old new → IsSurveyed (earlier ++ line ∷ []) new
 surveyed_more earlier line old new s a =
-    let directive = kind_of line in
+    let directive = directive_of line in
     record {
       sound = NoneIs-push is_faulty earlier line s.sound (ap is_some (sym (fault_same earlier line old s) ∙ a.no_fault));
-      ports = a.ports ∙ (ap (λ ps. ps ++ ports_on directive line) s.ports ∙ sym (flat_map-push (λ l. ports_on (kind_of l) l) earlier line));
-      defined = a.defined ∙ (ap (λ ps. ps ++ defined_on directive line) s.defined ∙ sym (flat_map-push (λ l. defined_on (kind_of l) l) earlier line));
+      ports = a.ports ∙ (ap (λ ps. ps ++ ports_on directive line) s.ports ∙ sym (flat_map-push (λ l. ports_on (directive_of l) l) earlier line));
+      defined = a.defined ∙ (ap (λ ps. ps ++ defined_on directive line) s.defined ∙ sym (flat_map-push (λ l. defined_on (directive_of l) l) earlier line));
       model = a.model ∙ (ap (λ t. t || is_model directive) s.model ∙ sym (has_line-push is_model earlier line));
       inputs = a.inputs ∙ (ap (λ t. t || is_inputs directive) s.inputs ∙ sym (has_line-push is_inputs earlier line));
       outputs = a.outputs ∙ (ap (λ t. t || is_outputs directive) s.outputs ∙ sym (has_line-push is_outputs earlier line));
@@ -211,7 +194,7 @@ surveyed_more earlier line old new s a =
     }
 
 -- the lines go on by one
-pub under_way_more : (all left : List (List Piece)) (line : List Piece) (old new : Survey) → IsUnderWay all old (line ∷ left) → Advances (kind_of line) line old new → IsUnderWay all new left
+pub under_way_more : (all left : List (List Piece)) (line : List Piece) (old new : Survey) → IsUnderWay all old (line ∷ left) → Advances (directive_of line) line old new → IsUnderWay all new left
 under_way_more all left line old new u a = record {
   earlier = u.earlier ++ line ∷ [];
   whole = u.whole ∙ sym (append_assoc u.earlier (line ∷ []) left);
@@ -219,7 +202,7 @@ under_way_more all left line old new u a = record {
 }
 
 -- the next line is the first with a fault
-pub first_fault : (all left : List (List Piece)) (first : Piece) (words : List Piece) (survey : Survey) (kind : NetKind) → IsUnderWay all survey ((first ∷ words) ∷ left) → fault_of survey (first ∷ words) (kind_of (first ∷ words)) ≡ Some kind → IsLineFault all kind first.at
+pub first_fault : (all left : List (List Piece)) (first : Piece) (words : List Piece) (survey : Survey) (kind : NetKind) → IsUnderWay all survey ((first ∷ words) ∷ left) → fault_of survey (first ∷ words) (directive_of (first ∷ words)) ≡ Some kind → IsLineFault all kind first.at
 first_fault all left first words survey kind u f =
     let line = first ∷ words in
     let fault = sym (fault_same u.earlier line survey u.surveyed) ∙ f in

@@ -10,10 +10,10 @@ use Rattle.net_core.specs.declared.named.NetKind.{NetKind}
 use Rattle.net_core.specs.declared.named.NetKind.TheVariants as fault
 use Rattle.blif_reader.specs.declared.directive.Directive.{Directive}
 use Rattle.blif_reader.specs.declared.directive.Directive.TheVariants.{Names, Outputs, Row}
-use Rattle.blif_reader.specs.declared.covers.Table.{Table}
+use Rattle.blif_reader.specs.declared.covers.CoverSoFar.{CoverSoFar}
 use Rattle.blif_reader.specs.declared.covers.Covers.{Covers}
 use Rattle.blif_reader.specs.JoinedLines.{word_of}
-use Rattle.blif_reader.specs.Directives.{kind_of}
+use Rattle.blif_reader.specs.Directives.{directive_of}
 use Rattle.blif_reader.specs.Rows.{output_byte}
 use Rattle.blif_reader.specs.Names.{operands, read_on, read_words}
 use Rattle.blif_reader.specs.Covers.{trits_of, signal_named, literal_named, are_on, leading_rows, covers_of}
@@ -45,26 +45,26 @@ pub record Continues (names : List (List ℕ)) (left all : List Piece) : Type 0 
   pub known : All (IsKnownIn names) left → All (IsKnownIn names) all
   pub unknown : (at : ℕ) → IsUnknownAt names left at → IsUnknownAt names all at
 
--- the definition of a table that is closed
-abbrev pub closed : Option Table → List Def
+-- the definition of a cover that is closed
+abbrev pub closed : Option CoverSoFar → List Def
 closed None = []
-closed (Some table) = Cover table.names table.rows table.on ∷ []
+closed (Some cover) = Cover cover.names cover.rows cover.on ∷ []
 
--- a row more in the open table
-abbrev pub with_row : Option Table → List Piece → Option Table
+-- a row more in the open cover
+abbrev pub with_row : Option CoverSoFar → List Piece → Option CoverSoFar
 with_row None row = None
-with_row (Some table) row = Some (record { names = table.names; rows = table.rows ++ trits_of row ∷ []; on = table.on && (output_byte row == 49) })
+with_row (Some cover) row = Some (record { names = cover.names; rows = cover.rows ++ trits_of row ∷ []; on = cover.on && (output_byte row == 49) })
 
--- the table that is open behind a line
-abbrev pub table_behind : List (List ℕ) → Option Table → Directive → List Piece → Option Table
-table_behind names table Row line = with_row table line
-table_behind names table Names line = Some (record { names = map (signal_named names) (operands line); rows = []; on = true })
-table_behind names table other line = None
+-- the cover that is open behind a line
+abbrev pub open_behind : List (List ℕ) → Option CoverSoFar → Directive → List Piece → Option CoverSoFar
+open_behind names cover Row line = with_row cover line
+open_behind names cover Names line = Some (record { names = map (signal_named names) (operands line); rows = []; on = true })
+open_behind names cover other line = None
 
 -- what a line closes
-abbrev pub closed_by : Option Table → Directive → List Def
-closed_by table Row = []
-closed_by table other = closed table
+abbrev pub closed_by : Option CoverSoFar → Directive → List Def
+closed_by cover Row = []
+closed_by cover other = closed cover
 
 abbrev pub outputs_by : Directive → List Piece → List Piece
 outputs_by Outputs line = read_on Outputs line
@@ -76,8 +76,8 @@ places_by other line = []
 
 -- One line was read, and all that it reads is known.
 pub record Builds (names : List (List ℕ)) (directive : Directive) (line : List Piece) (old new : Covers) : Type 0 where
-  pub defs : new.defs ≡ old.defs ++ closed_by old.table directive
-  pub table : new.table ≡ table_behind names old.table directive line
+  pub defs : new.defs ≡ old.defs ++ closed_by old.current directive
+  pub current : new.current ≡ open_behind names old.current directive line
   pub outputs : new.outputs ≡ old.outputs ++ map (literal_named names) (outputs_by directive line)
   pub places : new.places ≡ old.places ++ places_by directive line
   pub known : All (IsKnownIn names) (read_on directive line)
@@ -97,18 +97,18 @@ pub record ReadsOperands (names : List (List ℕ)) (signals : List ℕ) (operand
   pub signals_are : signals ++ map (signal_named names) (but_last (operand ∷ left)) ≡ map (signal_named names) (but_last all)
   pub words : Continues names (but_last (operand ∷ left)) (but_last all)
 
--- what the lines that are left add to the definitions, behind the table that is open
-abbrev pub continued : List (List ℕ) → Option Table → List (List Piece) → List Def
+-- what the lines that are left add to the definitions, behind the cover that is open
+abbrev pub continued : List (List ℕ) → Option CoverSoFar → List (List Piece) → List Def
 continued names None left = covers_of names left
-continued names (Some table) left =
-    Cover table.names (table.rows ++ map trits_of (leading_rows left)) (table.on && are_on (leading_rows left)) ∷ covers_of names left
+continued names (Some cover) left =
+    Cover cover.names (cover.rows ++ map trits_of (leading_rows left)) (cover.on && are_on (leading_rows left)) ∷ covers_of names left
 
 -- the words of the outputs, and the offsets of the `.names` lines
 abbrev pub outputs_in : List (List Piece) → List Piece
-outputs_in lines = flat_map (λ line. outputs_by (kind_of line) line) lines
+outputs_in lines = flat_map (λ line. outputs_by (directive_of line) line) lines
 
 abbrev pub places_in : List (List Piece) → List ℕ
-places_in lines = flat_map (λ line. places_by (kind_of line) line) lines
+places_in lines = flat_map (λ line. places_by (directive_of line) line) lines
 
 -- The covers of all lines, with all outputs, and each name that is read is known.
 pub record IsBuilt (names : List (List ℕ)) (lines : List (List Piece)) (covers : Covers) : Type 0 where
@@ -119,7 +119,7 @@ pub record IsBuilt (names : List (List ℕ)) (lines : List (List Piece)) (covers
 
 -- The first lines were read: what is read and what the lines that are left add make the whole.
 pub record IsBuilding (names : List (List ℕ)) (all left : List (List Piece)) (covers : Covers) : Type 0 where
-  pub defs : covers.defs ++ continued names covers.table left ≡ covers_of names all
+  pub defs : covers.defs ++ continued names covers.current left ≡ covers_of names all
   pub outputs : covers.outputs ++ map (literal_named names) (outputs_in left) ≡ map (literal_named names) (outputs_in all)
   pub places : covers.places ++ places_in left ≡ places_in all
   pub words : Continues names (read_words left) (read_words all)

@@ -10,7 +10,7 @@ use Rattle.circuits.specs.declared.netlist.Lit.{Lit}
 use Rattle.circuits.specs.declared.definition.Def.{Def}
 use Rattle.circuits.specs.declared.definition.Def.TheVariants.{Cover}
 use Rattle.circuits.specs.Circuits.{Circuit}
-use Rattle.blif_reader.specs.Directives.{kind_of, is_row, is_names}
+use Rattle.blif_reader.specs.Directives.{directive_of, is_row, is_names}
 use Rattle.blif_reader.specs.Rows.{literal_bytes, output_byte}
 use Rattle.blif_reader.specs.Names.{input_words, output_words, defined_words, operands}
 
@@ -42,12 +42,12 @@ cover_of names line rows = Cover (map (signal_named names) (operands line)) (map
 
 -- the rows that a text begins with
 abbrev pub leading_rows : List (List Piece) → List (List Piece)
-leading_rows lines = take_while (λ line. is_row (kind_of line)) lines
+leading_rows lines = take_while (λ line. is_row (directive_of line)) lines
 
 -- the definitions of a text, in its order
 abbrev pub covers_of : List (List ℕ) → List (List Piece) → List Def
 covers_of names [] = []
-covers_of names (line ∷ lines) = if is_names (kind_of line) then cover_of names line (leading_rows lines) ∷ covers_of names lines else covers_of names lines
+covers_of names (line ∷ lines) = if is_names (directive_of line) then cover_of names line (leading_rows lines) ∷ covers_of names lines else covers_of names lines
 
 abbrev pub blif_circuit : List (List Piece) → Circuit
 blif_circuit lines =
@@ -60,4 +60,4 @@ blif_circuit lines =
 
 -- the `.names` lines
 abbrev pub names_lines : List (List Piece) → List (List Piece)
-names_lines lines = filter (λ line. is_names (kind_of line)) lines
+names_lines lines = filter (λ line. is_names (directive_of line)) lines

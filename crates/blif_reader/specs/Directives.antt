@@ -20,8 +20,8 @@ passed_over =
 abbrev pub begins_with_stop : List ℕ → Bool
 begins_with_stop word = slice_index_or word 0 0 == 46
 
-abbrev pub directive_of : List ℕ → Directive
-directive_of word =
+abbrev pub from_word : List ℕ → Directive
+from_word word =
     if bytes_eq word (codes ".model") then Model
     else if bytes_eq word (codes ".inputs") then Inputs
     else if bytes_eq word (codes ".outputs") then Outputs
@@ -34,8 +34,8 @@ directive_of word =
     else Row
 
 -- what a joined line is
-abbrev pub kind_of : List Piece → Directive
-kind_of line = directive_of (word_of line 0).bytes
+abbrev pub directive_of : List Piece → Directive
+directive_of line = from_word (word_of line 0).bytes
 
 -- whether it is the one or the other of these
 abbrev pub is_model : Directive → Bool

@@ -9,27 +9,31 @@ use Rattle.blif_reader.specs.declared.directive.Directive.{Directive}
 use Rattle.blif_reader.specs.declared.directive.Directive.TheVariants.{Model, Inputs, Outputs, Names, End, Latch, DontCares, PassedOver, Unknown, Row}
 use Rattle.blif_reader.specs.declared.survey.Port.{Port}
 use Rattle.blif_reader.specs.JoinedLines.{word_of}
-use Rattle.blif_reader.specs.Directives.{kind_of, is_model, is_inputs, is_outputs, is_end}
+use Rattle.blif_reader.specs.Directives.{directive_of, is_model, is_inputs, is_outputs, is_end}
 use Rattle.blif_reader.specs.Firsts.{IsFirst, NoneIs}
 use Rattle.blif_reader.specs.Rows.{row_fault}
 use Rattle.blif_reader.specs.Names.{input_words, output_words, defined_words, read_words, port_words, repeats_port, is_redefined, is_undefined}
 
 -- whether one of the lines is of a kind
 abbrev pub has_line : (Directive → Bool) → List (List Piece) → Bool
-has_line is_it lines = list_any (λ line. is_it (kind_of line)) lines
+has_line is_it lines = list_any (λ line. is_it (directive_of line)) lines
 
--- what is wrong with a line before `.end`, by what it is
+-- what is wrong with a line before `.end`, by what it is, whether a model was before, and what is wrong with it as a row
+abbrev pub fault_by_directive : Bool → Option NetKind → List Piece → Directive → Option NetKind
+fault_by_directive has_model in_row line Model = if has_model then Some fault.SecondModel else None
+fault_by_directive has_model in_row line Inputs = None
+fault_by_directive has_model in_row line Outputs = None
+fault_by_directive has_model in_row line Names = if length line == 1 then Some fault.Directive else None
+fault_by_directive has_model in_row line End = None
+fault_by_directive has_model in_row line Latch = Some fault.Latch
+fault_by_directive has_model in_row line DontCares = Some fault.DontCare
+fault_by_directive has_model in_row line PassedOver = None
+fault_by_directive has_model in_row line Unknown = Some fault.Directive
+fault_by_directive has_model in_row line Row = in_row
+
 abbrev pub fault_before_end : List (List Piece) → List Piece → Directive → Option NetKind
-fault_before_end earlier line Model = if has_line is_model earlier then Some fault.SecondModel else None
-fault_before_end earlier line Inputs = None
-fault_before_end earlier line Outputs = None
-fault_before_end earlier line Names = if length line == 1 then Some fault.Directive else None
-fault_before_end earlier line End = None
-fault_before_end earlier line Latch = Some fault.Latch
-fault_before_end earlier line DontCares = Some fault.DontCare
-fault_before_end earlier line PassedOver = None
-fault_before_end earlier line Unknown = Some fault.Directive
-fault_before_end earlier line Row = row_fault earlier line
+fault_before_end earlier line directive =
+    fault_by_directive (has_line is_model earlier) (row_fault earlier line) line directive
 
 -- nothing may stand behind `.end`; a model there is a second one, also where the first has no `.model` line
 abbrev pub fault_behind_end : Directive → Option NetKind
@@ -38,7 +42,7 @@ fault_behind_end directive = if is_model directive then Some fault.SecondModel e
 -- what is wrong with a line that stands behind these
 abbrev pub line_fault : List (List Piece) → List Piece → Option NetKind
 line_fault earlier line =
-    if has_line is_end earlier then fault_behind_end (kind_of line) else fault_before_end earlier line (kind_of line)
+    if has_line is_end earlier then fault_behind_end (directive_of line) else fault_before_end earlier line (directive_of line)
 
 abbrev pub is_faulty : List (List Piece) → List Piece → Bool
 is_faulty earlier line = is_some (line_fault earlier line)

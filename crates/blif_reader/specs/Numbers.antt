@@ -1,6 +1,5 @@
 -- Names that are numbered in the order in which they come.
-use Rattle.std.specs.Prelude.{◌≡◌, ℕ, ◌<◌, Bool, true, false, not, List, [], ◌∷◌, ◌++◌, map, filter, take, slice_index_or, if◌then◌else◌}
-use Rattle.std.specs.Bool.{beq}
+use Rattle.std.specs.Prelude.{◌≡◌, ℕ, ◌<◌, Bool, false, not, List, [], ◌∷◌, ◌++◌, map, filter, take, slice_index_or, if◌then◌else◌}
 use Rattle.std.specs.List.{list_any}
 use Rattle.std.specs.Str.{bytes_eq}
 use Rattle.std.specs.declared.hash.FoldHasher.{FoldHasher}
@@ -8,11 +7,13 @@ use Rattle.std.specs.declared.hash.BuildHasherDefault.{BuildHasherDefault}
 use Rattle.std.specs.Borrow.{Bor}
 use Rattle.indexmap.specs.IndexSet.{IndexSet}
 use Rattle.text_core.specs.Piece.{Piece}
+use Rattle.circuits.specs.declared.port.PortKind.{PortKind}
+use Rattle.circuits.specs.declared.port.PortKind.TheVariants.{Input, Output}
 use Rattle.net_core.specs.declared.named.NetKind.{NetKind}
 use Rattle.net_core.specs.declared.named.NetKind.TheVariants as fault
 use Rattle.blif_reader.specs.declared.survey.Port.{Port}
 use Rattle.blif_reader.specs.Firsts.{IsFirst}
-use Rattle.blif_reader.specs.Names.{repeats_port, is_redefined}
+use Rattle.blif_reader.specs.Names.{is_same_kind, repeats_port, is_redefined}
 use Rattle.blif_reader.specs.Faults.{IsAtFirst}
 
 -- the names, in the order of their numbers
@@ -29,8 +30,8 @@ abbrev pub bytes_of : List Piece → List (List ℕ)
 bytes_of words = map (λ word. word.bytes) words
 
 -- the names of the ports of a kind
-abbrev pub port_names : Bool → List Port → List (List ℕ)
-port_names is_output ports = map (λ port. port.word.bytes) (filter (λ port. beq port.is_output is_output) ports)
+abbrev pub port_names : PortKind → List Port → List (List ℕ)
+port_names kind ports = map (λ port. port.word.bytes) (filter (λ port. is_same_kind port.kind kind) ports)
 
 -- the test finds none of the first elements
 abbrev pub NoneBefore : {X : Type 0} → (List X → X → Bool) → List X → ℕ → Type 0
@@ -39,8 +40,8 @@ NoneBefore {X} found xs count = (k : ℕ) (d : X) → k < count → found (take 
 -- The first ports are named, each kind once.
 pub record AreNamed (ports : List Port) (count : ℕ) (inputs outputs : List (List ℕ)) : Type 0 where
   pub once : NoneBefore repeats_port ports count
-  pub inputs_are : inputs ≡ port_names false (take count ports)
-  pub outputs_are : outputs ≡ port_names true (take count ports)
+  pub inputs_are : inputs ≡ port_names Input (take count ports)
+  pub outputs_are : outputs ≡ port_names Output (take count ports)
 
 -- The first of the defined names are numbered behind the inputs, each once.
 pub record AreDefined (inputs defined : List Piece) (count : ℕ) (names : List (List ℕ)) : Type 0 where

@@ -7,7 +7,7 @@ use Rattle.text_core.specs.Piece.{Piece}
 use Rattle.net_core.specs.declared.named.NetKind.{NetKind}
 use Rattle.net_core.specs.declared.named.NetKind.TheVariants as fault
 use Rattle.blif_reader.specs.JoinedLines.{word_of}
-use Rattle.blif_reader.specs.Directives.{kind_of, is_row, is_names}
+use Rattle.blif_reader.specs.Directives.{directive_of, is_row, is_names}
 
 -- `0` or `1`
 abbrev pub is_bit_byte : ℕ → Bool
@@ -43,16 +43,22 @@ has_good_bytes row = list_all is_literal_byte (literal_bytes row) && is_bit_byte
 
 -- of the lines before a row: the rows directly before it, the nearest first, and the line before those
 abbrev pub rows_before : List (List Piece) → List (List Piece)
-rows_before earlier = take_while (λ line. is_row (kind_of line)) (reverse earlier)
+rows_before earlier = take_while (λ line. is_row (directive_of line)) (reverse earlier)
 
 abbrev pub opening : List (List Piece) → List Piece
 opening earlier = slice_index_or (reverse earlier) (length (rows_before earlier)) []
 
--- what is wrong with a row that stands behind these lines: the first of these
+-- what is wrong with a row of a cover of so many operands, by whether the rows before have the other byte for the output:
+-- the first of these
+abbrev pub fault_in_cover : ℕ → Bool → List Piece → Option NetKind
+fault_in_cover operands mixed row =
+    if not (has_widths operands row) then Some fault.RowWidth
+    else if not (has_good_bytes row) then Some fault.RowChar
+    else if mixed then Some fault.MixedCover
+    else None
+
+-- what is wrong with a row that stands behind these lines
 abbrev pub row_fault : List (List Piece) → List Piece → Option NetKind
 row_fault earlier row =
-    if not (is_names (kind_of (opening earlier))) then Some fault.RowOutside
-    else if not (has_widths (operand_count (opening earlier)) row) then Some fault.RowWidth
-    else if not (has_good_bytes row) then Some fault.RowChar
-    else if list_any (λ other. not (output_byte other == output_byte row)) (rows_before earlier) then Some fault.MixedCover
-    else None
+    if not (is_names (directive_of (opening earlier))) then Some fault.RowOutside
+    else fault_in_cover (operand_count (opening earlier)) (list_any (λ other. not (output_byte other == output_byte row)) (rows_before earlier)) row

@@ -1,18 +1,18 @@
 -- What a first pass over a BLIF file knows of the lines that it has read.
-use Rattle.std.specs.Prelude.{◌≡◌, ◌≢◌, ℕ, ◌==◌, ◌||◌, Bool, true, false, not, List, [], ◌∷◌, ◌++◌, length, All, Option, None, Some, if◌then◌else◌}
+use Rattle.std.specs.Prelude.{◌≡◌, ◌≢◌, ℕ, ◌==◌, ◌||◌, Bool, true, false, not, List, [], ◌∷◌, ◌++◌, All, Option, None, Some, if◌then◌else◌}
 use Rattle.text_core.specs.Piece.{Piece}
 use Rattle.net_core.specs.declared.named.NetKind.{NetKind}
 use Rattle.net_core.specs.declared.named.NetKind.TheVariants as fault
 use Rattle.blif_reader.specs.declared.directive.Directive.{Directive}
-use Rattle.blif_reader.specs.declared.directive.Directive.TheVariants.{Model, Inputs, Outputs, Names, End, Latch, DontCares, PassedOver, Unknown, Row}
+use Rattle.blif_reader.specs.declared.directive.Directive.TheVariants.{Names, Row}
 use Rattle.blif_reader.specs.declared.rows.OpenCover.{OpenCover}
 use Rattle.blif_reader.specs.declared.rows.RowWords.{RowWords}
 use Rattle.blif_reader.specs.declared.survey.Survey.{Survey}
-use Rattle.blif_reader.specs.Directives.{kind_of, is_model, is_inputs, is_outputs, is_names, is_end}
+use Rattle.blif_reader.specs.Directives.{directive_of, is_model, is_inputs, is_outputs, is_names, is_end}
 use Rattle.blif_reader.specs.Firsts.{NoneIs}
-use Rattle.blif_reader.specs.Rows.{operand_count, has_widths, has_good_bytes, output_byte, rows_before, opening}
+use Rattle.blif_reader.specs.Rows.{operand_count, output_byte, fault_in_cover, rows_before, opening}
 use Rattle.blif_reader.specs.Names.{ports_on, port_words, defined_on, defined_words}
-use Rattle.blif_reader.specs.Faults.{has_line, is_faulty, fault_behind_end}
+use Rattle.blif_reader.specs.Faults.{has_line, is_faulty, fault_by_directive, fault_behind_end}
 
 -- the words of a row that has one or two
 abbrev pub one_or_two : Option Piece → Piece → List Piece
@@ -27,31 +27,14 @@ abbrev pub is_mixed : Option ℕ → ℕ → Bool
 is_mixed None byte = false
 is_mixed (Some other) byte = not (other == byte)
 
--- what is wrong with a row in an open cover
-abbrev pub fault_in_cover : OpenCover → List Piece → Option NetKind
-fault_in_cover cover row =
-    if not (has_widths cover.operands row) then Some fault.RowWidth
-    else if not (has_good_bytes row) then Some fault.RowChar
-    else if is_mixed cover.output (output_byte row) then Some fault.MixedCover
-    else None
-
 -- what is wrong with a row, by the cover that is open
 abbrev pub fault_by_cover : Option OpenCover → List Piece → Option NetKind
 fault_by_cover None row = Some fault.RowOutside
-fault_by_cover (Some cover) row = fault_in_cover cover row
+fault_by_cover (Some cover) row = fault_in_cover cover.operands (is_mixed cover.output (output_byte row)) row
 
 -- what is wrong with a line, by what is known before it
 abbrev pub fault_known : Survey → List Piece → Directive → Option NetKind
-fault_known survey line Model = if survey.has_model then Some fault.SecondModel else None
-fault_known survey line Inputs = None
-fault_known survey line Outputs = None
-fault_known survey line Names = if length line == 1 then Some fault.Directive else None
-fault_known survey line End = None
-fault_known survey line Latch = Some fault.Latch
-fault_known survey line DontCares = Some fault.DontCare
-fault_known survey line PassedOver = None
-fault_known survey line Unknown = Some fault.Directive
-fault_known survey line Row = fault_by_cover survey.cover line
+fault_known survey line directive = fault_by_directive survey.has_model (fault_by_cover survey.cover line) line directive
 
 abbrev pub fault_of : Survey → List Piece → Directive → Option NetKind
 fault_of survey line directive = if survey.ended then fault_behind_end directive else fault_known survey line directive
@@ -81,8 +64,8 @@ HaveOutput (Some byte) rows = (rows ≢ []) × All (λ row. output_byte row ≡ 
 
 -- the cover that is open behind these lines, if there is one
 abbrev pub IsOpen : List (List Piece) → Option OpenCover → Type 0
-IsOpen earlier None = is_names (kind_of (opening earlier)) ≡ false
-IsOpen earlier (Some cover) = (is_names (kind_of (opening earlier)) ≡ true) × (cover.operands ≡ operand_count (opening earlier)) × HaveOutput cover.output (rows_before earlier)
+IsOpen earlier None = is_names (directive_of (opening earlier)) ≡ false
+IsOpen earlier (Some cover) = (is_names (directive_of (opening earlier)) ≡ true) × (cover.operands ≡ operand_count (opening earlier)) × HaveOutput cover.output (rows_before earlier)
 
 -- What is known of the lines read, none of which has a fault.
 pub record IsSurveyed (earlier : List (List Piece)) (survey : Survey) : Type 0 where

@@ -6,17 +6,18 @@ ghost use Rattle.std.specs.Str.{bytes_eq};
 ghost use Rattle.circuits.specs.declared.netlist.Lit.{Lit};
 ghost use Rattle.net_core.specs.declared.named.NetFault.{NetFault};
 ghost use Rattle.blif_reader.specs.JoinedLines.{word_of};
-ghost use Rattle.blif_reader.specs.Directives.{kind_of};
-ghost use Rattle.blif_reader.specs.Names.{read_on, read_words};
-ghost use Rattle.blif_reader.specs.Reading.{words_left, lines_left};
-ghost use Rattle.blif_reader.specs.Covers.{trit_of, trits_of, signal_named, literal_named};
+ghost use Rattle.blif_reader.specs.Directives.{directive_of};
+ghost use Rattle.blif_reader.specs.Names.{read_on};
+ghost use Rattle.blif_reader.specs.Faults.{AreDefinedOnce, AreKnown, IsUndefinedFault};
+ghost use Rattle.blif_reader.specs.Reading.{words_left, lines_left, line_from};
+ghost use Rattle.blif_reader.specs.Covers.{trit_of, trits_of, signal_names, signal_named, literal_named};
 ghost use Rattle.blif_reader.specs.Numbers.{names_of};
 ghost use Rattle.blif_reader.specs.Building.{but_last, closed, with_row, IsKnownIn, IsUnknownFault, Builds, IsBuilt};
 ghost use Rattle.blif_reader.specs.Blif.{blif_lines};
 
-use crate::directive::{Directive, directive_of};
+use crate::directive::Directive;
 use crate::lines::JoinedLines;
-use crate::names::number_of;
+use crate::names::find_name;
 use circuits::{Def, Lit, Trit};
 use indexmap::IndexSet;
 use items::Items;
@@ -26,7 +27,7 @@ use text_core::Span;
 
 /// A `.names` line and the rows behind it, so far.
 #[derive(Debug, Drop)]
-pub(crate) struct Table {
+pub(crate) struct CoverSoFar {
     /// The signals of its operands.
     pub(crate) names: Items<u32>,
     pub(crate) rows: Items<Items<Trit>>,
@@ -44,7 +45,7 @@ pub(crate) struct Covers {
     /// The literals of the outputs.
     pub(crate) outputs: Items<Lit>,
     /// The cover to which rows are added.
-    pub(crate) table: Option<Table>,
+    pub(crate) current: Option<CoverSoFar>,
 }
 
 /// Reads the covers and the outputs of a file, by the numbers of the names that are known. The fault is at the first
@@ -54,35 +55,32 @@ pub(crate) fn read_covers(
     input: &[u8],
     names: &IndexSet<&[u8]>,
 ) -> Result<Covers, NetStop>
-    requires { length (names_of names.now) < 2 ^ 30 }
-    ensures built { IfOk result (λ covers. IsBuilt (names_of names.now) (blif_lines input.now) covers) }
-    ensures all_closed { IfOk result (λ covers. covers.table ≡ None) }
+    requires once { AreDefinedOnce (blif_lines input.now) }
+    requires names { names_of names.now ≡ signal_names (blif_lines input.now) }
+    requires few { length (names_of names.now) < 2 ^ 30 }
+    ensures built { IfOk result (λ covers. IsBuilt (signal_names (blif_lines input.now)) (blif_lines input.now) covers) }
+    ensures known { OnOk result (AreKnown (blif_lines input.now)) }
     ensures fault { (fault : NetFault) → result ≡ Err (NetStop.Fault fault)
-        → IsUnknownFault (names_of names.now) (read_words (blif_lines input.now)) fault.kind fault.at }
+        → IsUndefinedFault (blif_lines input.now) fault.kind fault.at }
 {
     let mut lines = JoinedLines::new(input);
     let mut covers = Covers::new(alloc);
     while let Some(first) = lines.next_line() {
-        match covers.read_line(alloc, first, &mut lines, names) {
-            Ok(()) => {}
-            Err(stop) => return Err(stop),
-        }
+        covers.read_line(alloc, first, &mut lines, names)?;
     }
-    match covers.close() {
-        Ok(()) => Ok(covers),
-        Err(stop) => Err(stop),
-    }
+    covers.close()?;
+    Ok(covers)
 }
 
 impl Covers {
     fn new(alloc: Global) -> Covers
-        ensures { result ≡ record { defs = []; places = []; outputs = []; table = None } }
+        ensures { result ≡ record { defs = []; places = []; outputs = []; current = None } }
     {
         Covers {
             defs: Items::new(alloc),
             places: Items::new(alloc),
             outputs: Items::new(alloc),
-            table: None,
+            current: None,
         }
     }
 
@@ -95,19 +93,17 @@ impl Covers {
         names: &IndexSet<&[u8]>,
     ) -> Result<(), NetStop>
         requires { length (names_of names.now) < 2 ^ 30 }
-        ensures builds { let line = first.entry ∷ words_left lines.old.line lines.old.goes_on lines.old.rest
-            in OnOk result (Builds (names_of names.now) (kind_of line) line self.old self.new) }
-        ensures fault { let line = first.entry ∷ words_left lines.old.line lines.old.goes_on lines.old.rest
-            in (fault : NetFault) → result ≡ Err (NetStop.Fault fault)
-            → IsUnknownFault (names_of names.now) (read_on (kind_of line) line) fault.kind fault.at }
-        ensures lines { OnOk result (lines_left lines.new.goes_on lines.new.rest
-            ≡ lines_left lines.old.goes_on lines.old.rest) }
+        ensures builds { OnOk result (Builds (names_of names.now)
+            (directive_of (line_from first.entry lines.old)) (line_from first.entry lines.old) self.old self.new) }
+        ensures fault { (fault : NetFault) → result ≡ Err (NetStop.Fault fault) → IsUnknownFault (names_of names.now)
+            (read_on (directive_of (line_from first.entry lines.old)) (line_from first.entry lines.old)) fault.kind fault.at }
+        ensures lines { OnOk result (lines_left lines.new ≡ lines_left lines.old) }
     {
-        match directive_of(first.bytes()) {
-            Directive::Row => self.read_row(alloc, first, lines),
+        match Directive::from_word(first.bytes()) {
+            Directive::Row => Ok(self.read_row(alloc, first, lines)?),
             Directive::Names => self.read_names(alloc, first, lines, names),
             Directive::Outputs => self.read_output_line(first, lines, names),
-            _ => self.close(),
+            _ => Ok(self.close()?),
         }
     }
 
@@ -120,31 +116,20 @@ impl Covers {
         names: &IndexSet<&[u8]>,
     ) -> Result<(), NetStop>
         requires { length (names_of names.now) < 2 ^ 30 }
-        ensures builds { let line = first.entry ∷ words_left lines.old.line lines.old.goes_on lines.old.rest
-            in OnOk result (Builds (names_of names.now) Directive.Names line self.old self.new) }
-        ensures fault { let line = first.entry ∷ words_left lines.old.line lines.old.goes_on lines.old.rest
-            in (fault : NetFault) → result ≡ Err (NetStop.Fault fault)
-            → IsUnknownFault (names_of names.now) (read_on Directive.Names line) fault.kind fault.at }
-        ensures lines { OnOk result (lines_left lines.new.goes_on lines.new.rest
-            ≡ lines_left lines.old.goes_on lines.old.rest) }
+        ensures builds { OnOk result
+            (Builds (names_of names.now) Directive.Names (line_from first.entry lines.old) self.old self.new) }
+        ensures fault { (fault : NetFault) → result ≡ Err (NetStop.Fault fault) → IsUnknownFault (names_of names.now)
+            (read_on Directive.Names (line_from first.entry lines.old)) fault.kind fault.at }
+        ensures lines { OnOk result (lines_left lines.new ≡ lines_left lines.old) }
     {
-        let Ok(()) = self.close() else {
-            return Err(NetStop::Memory);
-        };
-        let Ok(()) = self.places.push(first.at()) else {
-            return Err(NetStop::Memory);
-        };
-        match operand_signals(alloc, lines, names) {
-            Ok(names) => {
-                self.table = Some(Table {
-                    names,
-                    rows: Items::new(alloc),
-                    on: true,
-                });
-                Ok(())
-            }
-            Err(stop) => Err(stop),
-        }
+        self.close()?;
+        self.places.push(first.at())?;
+        self.current = Some(CoverSoFar {
+            names: operand_signals(alloc, lines, names)?,
+            rows: Items::new(alloc),
+            on: true,
+        });
+        Ok(())
     }
 
     // Reads an `.outputs` line.
@@ -155,36 +140,29 @@ impl Covers {
         names: &IndexSet<&[u8]>,
     ) -> Result<(), NetStop>
         requires { length (names_of names.now) < 2 ^ 30 }
-        ensures builds { let line = first.entry ∷ words_left lines.old.line lines.old.goes_on lines.old.rest
-            in OnOk result (Builds (names_of names.now) Directive.Outputs line self.old self.new) }
-        ensures fault { let line = first.entry ∷ words_left lines.old.line lines.old.goes_on lines.old.rest
-            in (fault : NetFault) → result ≡ Err (NetStop.Fault fault)
-            → IsUnknownFault (names_of names.now) (read_on Directive.Outputs line) fault.kind fault.at }
-        ensures lines { OnOk result (lines_left lines.new.goes_on lines.new.rest
-            ≡ lines_left lines.old.goes_on lines.old.rest) }
+        ensures builds { OnOk result
+            (Builds (names_of names.now) Directive.Outputs (line_from first.entry lines.old) self.old self.new) }
+        ensures fault { (fault : NetFault) → result ≡ Err (NetStop.Fault fault) → IsUnknownFault (names_of names.now)
+            (read_on Directive.Outputs (line_from first.entry lines.old)) fault.kind fault.at }
+        ensures lines { OnOk result (lines_left lines.new ≡ lines_left lines.old) }
     {
-        let Ok(()) = self.close() else {
-            return Err(NetStop::Memory);
-        };
+        self.close()?;
         read_outputs(&mut self.outputs, lines, names)
     }
 
     // Closes the open cover, if there is one.
-    fn close(&mut self) -> Result<(), NetStop>
-        ensures defs { OnOk result (self.new.defs ≡ self.old.defs ++ closed self.old.table) }
-        ensures table { OnOk result (self.new.table ≡ None) }
+    fn close(&mut self) -> Result<(), AllocError>
+        ensures defs { OnOk result (self.new.defs ≡ self.old.defs ++ closed self.old.current) }
+        ensures current { OnOk result (self.new.current ≡ None) }
         ensures places { self.new.places ≡ self.old.places }
         ensures outputs { self.new.outputs ≡ self.old.outputs }
-        ensures memory { IfErr result (λ stop. stop ≡ NetStop.Memory) }
-        ensures nothing_open { self.old.table ≡ None → IsOk result }
+        ensures nothing_open { self.old.current ≡ None → IsOk result }
     {
-        let Some(table) = self.table.take() else {
+        let Some(cover) = self.current.take() else {
             return Ok(());
         };
-        let Table { names, rows, on } = table;
-        let Ok(()) = self.defs.push(Def::Cover { names, rows, on }) else {
-            return Err(NetStop::Memory);
-        };
+        let CoverSoFar { names, rows, on } = cover;
+        self.defs.push(Def::Cover { names, rows, on })?;
         Ok(())
     }
 
@@ -194,51 +172,49 @@ impl Covers {
         alloc: Global,
         first: Span<'_>,
         lines: &mut JoinedLines<'_>,
-    ) -> Result<(), NetStop>
-        ensures builds { let line = first.entry ∷ words_left lines.old.line lines.old.goes_on lines.old.rest
-            in OnOk result (self.new.table ≡ with_row self.old.table line) }
+    ) -> Result<(), AllocError>
+        ensures builds { OnOk result (self.new.current ≡ with_row self.old.current (line_from first.entry lines.old)) }
         ensures defs { self.new.defs ≡ self.old.defs }
         ensures places { self.new.places ≡ self.old.places }
         ensures outputs { self.new.outputs ≡ self.old.outputs }
-        ensures lines { lines_left lines.new.goes_on lines.new.rest ≡ lines_left lines.old.goes_on lines.old.rest }
-        ensures memory { IfErr result (λ stop. stop ≡ NetStop.Memory) }
-        ensures nothing_open { self.old.table ≡ None → IsOk result }
+        ensures lines { lines_left lines.new ≡ lines_left lines.old }
+        ensures nothing_open { self.old.current ≡ None → IsOk result }
     {
         let output = last_word(lines);
-        let Some(table) = self.table.take() else {
+        let Some(cover) = self.current.take() else {
             return Ok(());
         };
         let added = match &output {
-            Some(output) => table.with_row(alloc, first.bytes(), output.bytes()),
-            None => table.with_row(alloc, b"".as_slice(), first.bytes()),
+            Some(output) => cover.with_row(alloc, first.bytes(), output.bytes()),
+            None => cover.with_row(alloc, b"".as_slice(), first.bytes()),
         };
-        match added {
-            Ok(table) => {
-                self.table = Some(table);
-                Ok(())
-            }
-            Err(_) => Err(NetStop::Memory),
-        }
+        self.current = Some(added?);
+        Ok(())
     }
 }
 
-impl Table {
-    // The table with a row more, by its bytes for the operands and for the output.
-    fn with_row(self, alloc: Global, literals: &[u8], output: &[u8]) -> Result<Table, AllocError>
-        ensures { IfOk result (λ table. table ≡ record {
+impl CoverSoFar {
+    // The cover with a row more, by its bytes for the operands and for the output.
+    fn with_row(
+        self,
+        alloc: Global,
+        literals: &[u8],
+        output: &[u8],
+    ) -> Result<CoverSoFar, AllocError>
+        ensures { IfOk result (λ cover. cover ≡ record {
           names = self.names;
           rows = self.rows ++ map trit_of literals.now ∷ [];
           on = self.on && (slice_index_or output.now 0 0 == 49);
         }) }
     {
-        let Table {
+        let CoverSoFar {
             names,
             mut rows,
             on,
         } = self;
         let trits = trits_of(alloc, literals)?;
         rows.push(trits)?;
-        Ok(Table {
+        Ok(CoverSoFar {
             names,
             rows,
             on: on & is_on(output),
@@ -266,22 +242,16 @@ fn read_outputs(
 ) -> Result<(), NetStop>
     requires { length (names_of names.now) < 2 ^ 30 }
     ensures outputs { OnOk result (outputs.new ≡ outputs.old
-        ++ map (literal_named (names_of names.now)) (words_left lines.old.line lines.old.goes_on lines.old.rest)) }
+        ++ map (literal_named (names_of names.now)) (words_left lines.old)) }
     ensures known { OnOk result (All (IsKnownIn (names_of names.now))
-        (words_left lines.old.line lines.old.goes_on lines.old.rest)) }
-    ensures lines { OnOk result (lines_left lines.new.goes_on lines.new.rest
-        ≡ lines_left lines.old.goes_on lines.old.rest) }
+        (words_left lines.old)) }
+    ensures lines { OnOk result (lines_left lines.new ≡ lines_left lines.old) }
     ensures fault { (fault : NetFault) → result ≡ Err (NetStop.Fault fault) → IsUnknownFault (names_of names.now)
-        (words_left lines.old.line lines.old.goes_on lines.old.rest) fault.kind fault.at }
+        (words_left lines.old) fault.kind fault.at }
 {
     while let Some(word) = lines.next_word() {
-        let signal = match signal_of(names, &word) {
-            Ok(signal) => signal,
-            Err(stop) => return Err(stop),
-        };
-        let Ok(()) = outputs.push(Lit(2 * signal)) else {
-            return Err(NetStop::Memory);
-        };
+        let signal = signal_of(names, &word)?;
+        outputs.push(Lit(2 * signal))?;
     }
     Ok(())
 }
@@ -294,26 +264,20 @@ fn operand_signals(
 ) -> Result<Items<u32>, NetStop>
     requires { length (names_of names.now) < 2 ^ 30 }
     ensures signals { IfOk result (λ signals. signals ≡ map (signal_named (names_of names.now))
-        (but_last (words_left lines.old.line lines.old.goes_on lines.old.rest))) }
+        (but_last (words_left lines.old))) }
     ensures known { OnOk result (All (IsKnownIn (names_of names.now))
-        (but_last (words_left lines.old.line lines.old.goes_on lines.old.rest))) }
-    ensures lines { OnOk result (lines_left lines.new.goes_on lines.new.rest
-        ≡ lines_left lines.old.goes_on lines.old.rest) }
+        (but_last (words_left lines.old))) }
+    ensures lines { OnOk result (lines_left lines.new ≡ lines_left lines.old) }
     ensures fault { (fault : NetFault) → result ≡ Err (NetStop.Fault fault) → IsUnknownFault (names_of names.now)
-        (but_last (words_left lines.old.line lines.old.goes_on lines.old.rest)) fault.kind fault.at }
+        (but_last (words_left lines.old)) fault.kind fault.at }
 {
     let mut signals = Items::new(alloc);
     let Some(mut operand) = lines.next_word() else {
         return Ok(signals);
     };
     while let Some(word) = lines.next_word() {
-        let signal = match signal_of(names, &operand) {
-            Ok(signal) => signal,
-            Err(stop) => return Err(stop),
-        };
-        let Ok(()) = signals.push(signal) else {
-            return Err(NetStop::Memory);
-        };
+        let signal = signal_of(names, &operand)?;
+        signals.push(signal)?;
         operand = word;
     }
     Ok(signals)
@@ -330,8 +294,8 @@ fn signal_of(names: &IndexSet<&[u8]>, word: &Span<'_>) -> Result<u32, NetStop>
         × (list_any (bytes_eq word.now.bytes) (names_of names.now) ≡ false) }
     ensures no_memory { result ≢ Err NetStop.Memory }
 {
-    match number_of(names, word.bytes()) {
-        Some(number) => Ok(number as u32 + 1),
+    match find_name(names, word.bytes()) {
+        Some(place) => Ok(place as u32 + 1),
         None => Err(NetStop::Fault(NetFault {
             kind: NetKind::NameUndefined,
             at: word.at(),
@@ -362,9 +326,10 @@ fn is_on(output: &[u8]) -> bool
 
 // The last of the words that are left of a line, if there is one.
 fn last_word<'a>(lines: &mut JoinedLines<'a>) -> Option<Span<'a>>
-    ensures word { let words = words_left lines.old.line lines.old.goes_on lines.old.rest
-        in MatchOption result (words ≡ []) (λ word. (0 < length words) × (word ≡ word_of words (length words - 1))) }
-    ensures lines { lines_left lines.new.goes_on lines.new.rest ≡ lines_left lines.old.goes_on lines.old.rest }
+    ensures word { MatchOption result (words_left lines.old ≡ [])
+        (λ word. (0 < length (words_left lines.old))
+        × (word ≡ word_of (words_left lines.old) (length (words_left lines.old) - 1))) }
+    ensures lines { lines_left lines.new ≡ lines_left lines.old }
 {
     let mut last = None;
     while let Some(word) = lines.next_word() {

@@ -3,7 +3,7 @@
 ghost use Rattle.std.specs.Prelude.{◌≡◌};
 ghost use Rattle.std.specs.List.{list_any};
 ghost use Rattle.std.specs.Str.{bytes_eq};
-ghost use Rattle.blif_reader.specs.Directives.{directive_of, passed_over};
+ghost use Rattle.blif_reader.specs.Directives.{from_word, passed_over};
 
 /// What a joined line of a BLIF file is.
 #[derive(Clone, Copy, Debug, PartialEq, Eq)]
@@ -30,37 +30,39 @@ pub enum Directive {
     Row,
 }
 
-/// What a line is, by its first word.
-pub fn directive_of(word: &[u8]) -> Directive
-    ensures { result ≡ directive_of word.now }
-{
-    if word == b".model".as_slice() {
-        return Directive::Model;
-    }
-    if word == b".inputs".as_slice() {
-        return Directive::Inputs;
-    }
-    if word == b".outputs".as_slice() {
-        return Directive::Outputs;
-    }
-    if word == b".names".as_slice() {
-        return Directive::Names;
-    }
-    if word == b".end".as_slice() {
-        return Directive::End;
-    }
-    if word == b".latch".as_slice() {
-        return Directive::Latch;
-    }
-    if word == b".exdc".as_slice() {
-        return Directive::DontCares;
-    }
-    if is_passed_over(word) {
-        return Directive::PassedOver;
-    }
-    match word {
-        [b'.', ..] => Directive::Unknown,
-        _ => Directive::Row,
+impl Directive {
+    /// What a line is, by its first word.
+    pub(crate) fn from_word(word: &[u8]) -> Directive
+        ensures { result ≡ from_word word.now }
+    {
+        if word == b".model".as_slice() {
+            return Directive::Model;
+        }
+        if word == b".inputs".as_slice() {
+            return Directive::Inputs;
+        }
+        if word == b".outputs".as_slice() {
+            return Directive::Outputs;
+        }
+        if word == b".names".as_slice() {
+            return Directive::Names;
+        }
+        if word == b".end".as_slice() {
+            return Directive::End;
+        }
+        if word == b".latch".as_slice() {
+            return Directive::Latch;
+        }
+        if word == b".exdc".as_slice() {
+            return Directive::DontCares;
+        }
+        if is_passed_over(word) {
+            return Directive::PassedOver;
+        }
+        match word {
+            [b'.', ..] => Directive::Unknown,
+            _ => Directive::Row,
+        }
     }
 }
 

@@ -22,8 +22,8 @@ pub(crate) struct JoinedLines<'a> {
 impl<'a> JoinedLines<'a> {
     /// At the front of a file.
     pub(crate) fn new(input: &'a [u8]) -> JoinedLines<'a>
-        ensures words { words_left result.line result.goes_on result.rest ≡ [] }
-        ensures lines { lines_left result.goes_on result.rest
+        ensures words { words_left result ≡ [] }
+        ensures lines { lines_left result
             ≡ joined (lines_at (record { bytes = input.now; at = 0 })) }
     {
         let mut rest = Cursor::new(input);
@@ -38,9 +38,9 @@ impl<'a> JoinedLines<'a> {
     /// The next word of the joined line that is being read, or None where none is left.
     pub(crate) fn next_word(&mut self) -> Option<Span<'a>>
         ensures word { TakesWord result
-            (words_left self.old.line self.old.goes_on self.old.rest)
-            (words_left self.new.line self.new.goes_on self.new.rest) }
-        ensures lines { lines_left self.new.goes_on self.new.rest ≡ lines_left self.old.goes_on self.old.rest }
+            (words_left self.old)
+            (words_left self.new) }
+        ensures lines { lines_left self.new ≡ lines_left self.old }
         ensures ended { IfNone result (self.new.goes_on ≡ false) }
         ensures shorter { length self.new.rest.bytes ≤ length self.old.rest.bytes }
     {
@@ -58,9 +58,9 @@ impl<'a> JoinedLines<'a> {
     /// The first word of the next joined line that has one, or None where there is no such line.
     /// What is left of the line before is passed over.
     pub(crate) fn next_line(&mut self) -> Option<Span<'a>>
-        ensures { TakesLine result (lines_left self.old.goes_on self.old.rest)
-            (words_left self.new.line self.new.goes_on self.new.rest)
-            (lines_left self.new.goes_on self.new.rest) }
+        ensures { TakesLine result (lines_left self.old)
+            (words_left self.new)
+            (lines_left self.new) }
     {
         self.pass_line();
         while let Some(line) = self.rest.next_line() {
@@ -74,7 +74,7 @@ impl<'a> JoinedLines<'a> {
 
     // Passes over the lines on which the one that is being read goes on.
     fn pass_line(&mut self)
-        ensures lines { lines_left self.new.goes_on self.new.rest ≡ lines_left self.old.goes_on self.old.rest }
+        ensures lines { lines_left self.new ≡ lines_left self.old }
         ensures ended { self.new.goes_on ≡ false }
     {
         while self.goes_on {
@@ -85,10 +85,10 @@ impl<'a> JoinedLines<'a> {
     // Goes on on the next line, if there is one.
     fn go_on(&mut self)
         requires { self.old.goes_on ≡ true }
-        ensures words { words_at self.old.line ≡ [] → words_left self.new.line self.new.goes_on self.new.rest
-            ≡ words_left self.old.line self.old.goes_on self.old.rest }
-        ensures lines { lines_left self.new.goes_on self.new.rest ≡ lines_left self.old.goes_on self.old.rest }
-        ensures fewer { size_left self.new.goes_on self.new.rest < size_left self.old.goes_on self.old.rest }
+        ensures words { words_at self.old.line ≡ [] → words_left self.new
+            ≡ words_left self.old }
+        ensures lines { lines_left self.new ≡ lines_left self.old }
+        ensures fewer { size_left self.new < size_left self.old }
         ensures shorter { length self.new.rest.bytes ≤ length self.old.rest.bytes }
     {
         match self.rest.next_line() {

@@ -8,6 +8,7 @@ ghost use Rattle.net_core.specs.declared.named.NetFault.{NetFault};
 ghost use Rattle.blif_reader.specs.Numbers.{names_of, bytes_of, IsAdded, AreNamed, AreDefined, IsRepeatedPort, IsRepeatedName};
 
 use crate::survey::Port;
+use circuits::PortKind;
 use indexmap::IndexSet;
 use net_core::{NetFault, NetKind, NetStop};
 use std::alloc::{AllocError, Global};
@@ -32,15 +33,11 @@ pub(crate) fn name_ports<'a>(alloc: Global, ports: &[Port<'a>]) -> Result<PortNa
         outputs: IndexSet::new(alloc),
     };
     for port in ports.iter() {
-        match add_port(&mut named, port) {
-            Ok(true) => {}
-            Ok(false) => {
-                return Err(NetStop::Fault(NetFault {
-                    kind: NetKind::DuplicatePort,
-                    at: port.word.at(),
-                }));
-            }
-            Err(_) => return Err(NetStop::Memory),
+        if !add_port(&mut named, port)? {
+            return Err(NetStop::Fault(NetFault {
+                kind: NetKind::DuplicatePort,
+                at: port.word.at(),
+            }));
         }
     }
     Ok(named)
@@ -48,17 +45,16 @@ pub(crate) fn name_ports<'a>(alloc: Global, ports: &[Port<'a>]) -> Result<PortNa
 
 // Adds the name of a port to those of its kind. Says whether it was added.
 fn add_port<'a>(named: &mut PortNames<'a>, port: &Port<'a>) -> Result<bool, AllocError>
-    ensures inputs { port.now.is_output ≡ false → IfOk result
+    ensures inputs { port.now.kind ≡ PortKind.Input → IfOk result
         (λ added. IsAdded port.now.word.bytes added (names_of named.old.inputs) (names_of named.new.inputs)
         × (names_of named.new.outputs ≡ names_of named.old.outputs)) }
-    ensures outputs { port.now.is_output ≡ true → IfOk result
+    ensures outputs { port.now.kind ≡ PortKind.Output → IfOk result
         (λ added. IsAdded port.now.word.bytes added (names_of named.old.outputs) (names_of named.new.outputs)
         × (names_of named.new.inputs ≡ names_of named.old.inputs)) }
 {
-    if port.is_output {
-        add_name(&mut named.outputs, port.word.bytes())
-    } else {
-        add_name(&mut named.inputs, port.word.bytes())
+    match port.kind {
+        PortKind::Input => add_name(&mut named.inputs, port.word.bytes()),
+        PortKind::Output => add_name(&mut named.outputs, port.word.bytes()),
     }
 }
 
@@ -74,15 +70,11 @@ pub(crate) fn add_defined<'a>(
         → IsRepeatedName inputs defined.now fault.kind fault.at }
 {
     for word in defined.iter() {
-        match add_name(names, word.bytes()) {
-            Ok(true) => {}
-            Ok(false) => {
-                return Err(NetStop::Fault(NetFault {
-                    kind: NetKind::NameRedefined,
-                    at: word.at(),
-                }));
-            }
-            Err(_) => return Err(NetStop::Memory),
+        if !add_name(names, word.bytes())? {
+            return Err(NetStop::Fault(NetFault {
+                kind: NetKind::NameRedefined,
+                at: word.at(),
+            }));
         }
     }
     Ok(())
@@ -95,12 +87,12 @@ fn add_name<'a>(names: &mut IndexSet<&'a [u8]>, name: &'a [u8]) -> Result<bool, 
     Ok(names.insert(name)?)
 }
 
-/// The number of a name, counted from 0; None where it isn't there.
-pub(crate) fn number_of(names: &IndexSet<&[u8]>, name: &[u8]) -> Option<usize>
+/// The place of a name, counted from 0; None where it isn't there.
+pub(crate) fn find_name(names: &IndexSet<&[u8]>, name: &[u8]) -> Option<usize>
     ensures { MatchOption result (list_any (bytes_eq name.now) (names_of names.now) ≡ false)
-        (λ number. (list_any (bytes_eq name.now) (names_of names.now) ≡ true)
-        × (number ≡ position_or_len (bytes_eq name.now) (names_of names.now))
-        × (number < length (names_of names.now))) }
+        (λ place. (list_any (bytes_eq name.now) (names_of names.now) ≡ true)
+        × (place ≡ position_or_len (bytes_eq name.now) (names_of names.now))
+        × (place < length (names_of names.now))) }
 {
     names.get_index_of(name)
 }

@@ -6,6 +6,7 @@ ghost use Rattle.blif_reader.specs.Names.{words_of_kind};
 ghost use Rattle.blif_reader.specs.Ports.{IsExcess};
 
 use crate::survey::Port;
+use circuits::PortKind;
 use items::Items;
 use net_core::Name;
 use std::alloc::{AllocError, Global};
@@ -14,13 +15,13 @@ use std::alloc::{AllocError, Global};
 const MOST_PORTS: u32 = 1024;
 
 /// The offset of the first port of a kind beyond the limit, if there are more.
-pub(crate) fn find_excess(ports: &[Port<'_>], is_output: bool) -> Option<u64>
-    ensures { MatchOption result (length (words_of_kind is_output ports.now) ≤ 1024)
-        (λ at. IsExcess (words_of_kind is_output ports.now) at) }
+pub(crate) fn find_excess(ports: &[Port<'_>], kind: PortKind) -> Option<u64>
+    ensures { MatchOption result (length (words_of_kind kind ports.now) ≤ 1024)
+        (λ at. IsExcess (words_of_kind kind ports.now) at) }
 {
     let mut count = 0;
     for port in ports.iter() {
-        if port.is_output == is_output {
+        if port.kind == kind {
             if count == MOST_PORTS {
                 return Some(port.word.at());
             }
@@ -34,13 +35,13 @@ pub(crate) fn find_excess(ports: &[Port<'_>], is_output: bool) -> Option<u64>
 pub(crate) fn names_of_kind(
     alloc: Global,
     ports: &[Port<'_>],
-    is_output: bool,
+    kind: PortKind,
 ) -> Result<Items<Name>, AllocError>
-    ensures { IfOk result (λ names. names ≡ port_names is_output ports.now) }
+    ensures { IfOk result (λ names. names ≡ port_names kind ports.now) }
 {
     let mut names = Items::new(alloc);
     for port in ports.iter() {
-        if port.is_output == is_output {
+        if port.kind == kind {
             names.push(Items::from_vec(port.word.bytes().to_vec(alloc)?))?;
         }
     }

@@ -5,7 +5,7 @@ ghost use Rattle.std.specs.List.{list_all};
 ghost use Rattle.text_core.specs.Piece.{Piece};
 ghost use Rattle.blif_reader.specs.Rows.{is_bit_byte, is_literal_byte, literal_bytes, output_byte, has_widths, has_good_bytes};
 ghost use Rattle.blif_reader.specs.Reading.{words_left, lines_left};
-ghost use Rattle.blif_reader.specs.Surveys.{words_in_row, is_mixed, fault_in_cover};
+ghost use Rattle.blif_reader.specs.Surveys.{words_in_row, is_mixed, fault_by_cover};
 
 use crate::lines::JoinedLines;
 use net_core::NetKind;
@@ -32,9 +32,9 @@ pub(crate) struct RowWords<'a> {
 /// The words of a row, of which `first` is the first. None where there are more than two.
 pub(crate) fn words_of_row<'a>(first: Span<'a>, lines: &mut JoinedLines<'a>) -> Option<RowWords<'a>>
     ensures row { MatchOption result
-        (2 < 1 + length (words_left lines.old.line lines.old.goes_on lines.old.rest))
-        (λ row. first.entry ∷ words_left lines.old.line lines.old.goes_on lines.old.rest ≡ words_in_row row) }
-    ensures lines { lines_left lines.new.goes_on lines.new.rest ≡ lines_left lines.old.goes_on lines.old.rest }
+        (2 < 1 + length (words_left lines.old))
+        (λ row. first.entry ∷ words_left lines.old ≡ words_in_row row) }
+    ensures lines { lines_left lines.new ≡ lines_left lines.old }
 {
     let Some(output) = lines.next_word() else {
         return Some(RowWords {
@@ -54,9 +54,9 @@ pub(crate) fn words_of_row<'a>(first: Span<'a>, lines: &mut JoinedLines<'a>) -> 
 impl OpenCover {
     /// The byte for the output, where nothing is wrong with a row of the cover.
     pub(crate) fn check_row(self, row: &RowWords<'_>) -> Result<u8, NetKind>
-        ensures good { IfOk result (λ byte. (fault_in_cover self (words_in_row row.now) ≡ None)
+        ensures good { IfOk result (λ byte. (fault_by_cover (Some self) (words_in_row row.now) ≡ None)
             × (byte ≡ output_byte (words_in_row row.now))) }
-        ensures fault { IfErr result (λ kind. fault_in_cover self (words_in_row row.now) ≡ Some kind) }
+        ensures fault { IfErr result (λ kind. fault_by_cover (Some self) (words_in_row row.now) ≡ Some kind) }
     {
         let Some(output) = self.output_of(row) else {
             return Err(NetKind::RowWidth);

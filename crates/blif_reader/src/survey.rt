@@ -3,16 +3,17 @@
 ghost use Rattle.std.specs.Prelude.{◌≡◌, ◌≢◌, ℕ, ◌∷◌, ◌++◌, List, [], length, map, true, false, None, Some, OnOk, OnErr, IsOk, IfOk, IfErr};
 ghost use Rattle.text_core.specs.Piece.{Piece};
 ghost use Rattle.net_core.specs.declared.named.NetFault.{NetFault};
-ghost use Rattle.blif_reader.specs.JoinedLines.{joined_lines};
-ghost use Rattle.blif_reader.specs.Directives.{directive_of, kind_of};
+ghost use Rattle.blif_reader.specs.Blif.{blif_lines};
+ghost use Rattle.blif_reader.specs.Directives.{directive_of};
 ghost use Rattle.blif_reader.specs.Faults.{fault_behind_end, IsLineFault};
 ghost use Rattle.blif_reader.specs.Names.{named_ports};
-ghost use Rattle.blif_reader.specs.Reading.{words_left, lines_left};
+ghost use Rattle.blif_reader.specs.Reading.{words_left, lines_left, line_from};
 ghost use Rattle.blif_reader.specs.Surveys.{fault_of, fault_by_cover, Advances, IsSurveyed};
 
-use crate::directive::{Directive, directive_of};
+use crate::directive::Directive;
 use crate::lines::JoinedLines;
 use crate::rows::{OpenCover, words_of_row};
+use circuits::PortKind;
 use net_core::{NetFault, NetKind, NetStop};
 use std::alloc::{AllocError, AllocFailed, Global};
 use text_core::Span;
@@ -20,7 +21,7 @@ use text_core::Span;
 /// A word that names a port.
 #[derive(Debug, Drop)]
 pub(crate) struct Port<'a> {
-    pub(crate) is_output: bool,
+    pub(crate) kind: PortKind,
     pub(crate) word: Span<'a>,
 }
 
@@ -63,14 +64,13 @@ impl<'a> Survey<'a> {
         first: Span<'a>,
         lines: &mut JoinedLines<'a>,
     ) -> Result<(), LineStop>
-        ensures advances { let line = first.entry ∷ words_left lines.old.line lines.old.goes_on lines.old.rest
-            in OnOk result (Advances (kind_of line) line self.old self.new) }
-        ensures fault { let line = first.entry ∷ words_left lines.old.line lines.old.goes_on lines.old.rest
-            in (kind : NetKind) → result ≡ Err (LineStop.Fault kind) → fault_of self.old line (kind_of line) ≡ Some kind }
-        ensures lines { OnOk result (lines_left lines.new.goes_on lines.new.rest
-            ≡ lines_left lines.old.goes_on lines.old.rest) }
+        ensures advances { OnOk result
+            (Advances (directive_of (line_from first.entry lines.old)) (line_from first.entry lines.old) self.old self.new) }
+        ensures fault { (kind : NetKind) → result ≡ Err (LineStop.Fault kind)
+            → fault_of self.old (line_from first.entry lines.old) (directive_of (line_from first.entry lines.old)) ≡ Some kind }
+        ensures lines { OnOk result (lines_left lines.new ≡ lines_left lines.old) }
     {
-        let directive = directive_of(first.bytes());
+        let directive = Directive::from_word(first.bytes());
         if self.ended {
             return Err(LineStop::Fault(kind_behind_end(directive)));
         }
@@ -80,8 +80,14 @@ impl<'a> Survey<'a> {
             Directive::Inputs => self.read_inputs(first, lines),
             Directive::Outputs => self.read_outputs(first, lines),
             Directive::Model => self.read_model(),
-            Directive::End => self.read_end(),
-            Directive::PassedOver => self.pass_over(),
+            Directive::End => {
+                self.read_end();
+                Ok(())
+            }
+            Directive::PassedOver => {
+                self.pass_over();
+                Ok(())
+            }
             Directive::Latch => Err(LineStop::Fault(NetKind::Latch)),
             Directive::DontCares => Err(LineStop::Fault(NetKind::DontCare)),
             Directive::Unknown => Err(LineStop::Fault(NetKind::Directive)),
@@ -91,12 +97,11 @@ impl<'a> Survey<'a> {
     // Reads a row.
     fn read_row(&mut self, first: Span<'a>, lines: &mut JoinedLines<'a>) -> Result<(), LineStop>
         requires { self.old.ended ≡ false }
-        ensures advances { let line = first.entry ∷ words_left lines.old.line lines.old.goes_on lines.old.rest
-            in OnOk result (Advances Directive.Row line self.old self.new) }
-        ensures fault { let line = first.entry ∷ words_left lines.old.line lines.old.goes_on lines.old.rest
-            in (kind : NetKind) → result ≡ Err (LineStop.Fault kind) → fault_by_cover self.old.cover line ≡ Some kind }
+        ensures advances { OnOk result (Advances Directive.Row (line_from first.entry lines.old) self.old self.new) }
+        ensures fault { (kind : NetKind) → result ≡ Err (LineStop.Fault kind)
+            → fault_by_cover self.old.cover (line_from first.entry lines.old) ≡ Some kind }
         ensures no_memory { result ≢ Err LineStop.Memory }
-        ensures lines { lines_left lines.new.goes_on lines.new.rest ≡ lines_left lines.old.goes_on lines.old.rest }
+        ensures lines { lines_left lines.new ≡ lines_left lines.old }
     {
         let Some(cover) = self.cover else {
             return Err(LineStop::Fault(NetKind::RowOutside));
@@ -104,16 +109,12 @@ impl<'a> Survey<'a> {
         let Some(row) = words_of_row(first, lines) else {
             return Err(LineStop::Fault(NetKind::RowWidth));
         };
-        match cover.check_row(&row) {
-            Ok(output) => {
-                self.cover = Some(OpenCover {
-                    operands: cover.operands,
-                    output: Some(output),
-                });
-                Ok(())
-            }
-            Err(kind) => Err(LineStop::Fault(kind)),
-        }
+        let output = cover.check_row(&row).map_err(LineStop::Fault)?;
+        self.cover = Some(OpenCover {
+            operands: cover.operands,
+            output: Some(output),
+        });
+        Ok(())
     }
 
     // Reads a `.names` line.
@@ -124,22 +125,16 @@ impl<'a> Survey<'a> {
         lines: &mut JoinedLines<'a>,
     ) -> Result<(), LineStop>
         requires { self.old.ended ≡ false }
-        ensures advances { let line = first.entry ∷ words_left lines.old.line lines.old.goes_on lines.old.rest
-            in OnOk result (Advances Directive.Names line self.old self.new) }
-        ensures fault { let line = first.entry ∷ words_left lines.old.line lines.old.goes_on lines.old.rest
-            in (kind : NetKind) → result ≡ Err (LineStop.Fault kind) → fault_of self.old line Directive.Names ≡ Some kind }
-        ensures lines { OnOk result (lines_left lines.new.goes_on lines.new.rest
-            ≡ lines_left lines.old.goes_on lines.old.rest) }
+        ensures advances { OnOk result (Advances Directive.Names (line_from first.entry lines.old) self.old self.new) }
+        ensures fault { (kind : NetKind) → result ≡ Err (LineStop.Fault kind)
+            → fault_of self.old (line_from first.entry lines.old) Directive.Names ≡ Some kind }
+        ensures lines { OnOk result (lines_left lines.new ≡ lines_left lines.old) }
     {
-        let Ok(mut words) = take_words(alloc, lines) else {
-            return Err(LineStop::Memory);
-        };
+        let mut words = take_words(alloc, lines)?;
         let Some(name) = words.pop() else {
             return Err(LineStop::Fault(NetKind::Directive));
         };
-        let Ok(()) = self.defined.push(name) else {
-            return Err(LineStop::Memory);
-        };
+        self.defined.push(name)?;
         self.cover = Some(OpenCover {
             operands: words.len(),
             output: None,
@@ -150,29 +145,25 @@ impl<'a> Survey<'a> {
     // Reads an `.inputs` line.
     fn read_inputs(&mut self, first: Span<'a>, lines: &mut JoinedLines<'a>) -> Result<(), LineStop>
         requires { self.old.ended ≡ false }
-        ensures advances { let line = first.entry ∷ words_left lines.old.line lines.old.goes_on lines.old.rest
-            in OnOk result (Advances Directive.Inputs line self.old self.new) }
+        ensures advances { OnOk result (Advances Directive.Inputs (line_from first.entry lines.old) self.old self.new) }
         ensures no_fault { IfErr result (λ stop. stop ≡ LineStop.Memory) }
-        ensures lines { OnOk result (lines_left lines.new.goes_on lines.new.rest
-            ≡ lines_left lines.old.goes_on lines.old.rest) }
+        ensures lines { OnOk result (lines_left lines.new ≡ lines_left lines.old) }
     {
         self.has_inputs = true;
         self.cover = None;
-        take_ports(false, lines, &mut self.ports)
+        Ok(take_ports(PortKind::Input, lines, &mut self.ports)?)
     }
 
     // Reads an `.outputs` line.
     fn read_outputs(&mut self, first: Span<'a>, lines: &mut JoinedLines<'a>) -> Result<(), LineStop>
         requires { self.old.ended ≡ false }
-        ensures advances { let line = first.entry ∷ words_left lines.old.line lines.old.goes_on lines.old.rest
-            in OnOk result (Advances Directive.Outputs line self.old self.new) }
+        ensures advances { OnOk result (Advances Directive.Outputs (line_from first.entry lines.old) self.old self.new) }
         ensures no_fault { IfErr result (λ stop. stop ≡ LineStop.Memory) }
-        ensures lines { OnOk result (lines_left lines.new.goes_on lines.new.rest
-            ≡ lines_left lines.old.goes_on lines.old.rest) }
+        ensures lines { OnOk result (lines_left lines.new ≡ lines_left lines.old) }
     {
         self.has_outputs = true;
         self.cover = None;
-        take_ports(true, lines, &mut self.ports)
+        Ok(take_ports(PortKind::Output, lines, &mut self.ports)?)
     }
 
     // Reads a `.model` line, of which there may be one.
@@ -190,31 +181,28 @@ impl<'a> Survey<'a> {
         Ok(())
     }
 
-    fn read_end(&mut self) -> Result<(), LineStop>
+    // Reads an `.end` line, behind which no other may stand.
+    fn read_end(&mut self)
         requires { self.old.ended ≡ false }
-        ensures advances { (line : List Piece) → OnOk result (Advances Directive.End line self.old self.new) }
-        ensures no_fault { IsOk result }
+        ensures { (line : List Piece) → Advances Directive.End line self.old self.new }
     {
         self.ended = true;
         self.cover = None;
-        Ok(())
     }
 
-    fn pass_over(&mut self) -> Result<(), LineStop>
+    // Passes over a line that says nothing of the function; but it closes the cover.
+    fn pass_over(&mut self)
         requires { self.old.ended ≡ false }
-        ensures advances { (line : List Piece) → OnOk result (Advances Directive.PassedOver line self.old self.new) }
-        ensures no_fault { IsOk result }
+        ensures { (line : List Piece) → Advances Directive.PassedOver line self.old self.new }
     {
         self.cover = None;
-        Ok(())
     }
 }
 
 // The words that are left of a line.
 fn take_words<'a>(alloc: Global, lines: &mut JoinedLines<'a>) -> Result<Vec<Span<'a>>, AllocError>
-    ensures words { IfOk result (λ words. words.items ≡ words_left lines.old.line lines.old.goes_on lines.old.rest) }
-    ensures lines { OnOk result (lines_left lines.new.goes_on lines.new.rest
-        ≡ lines_left lines.old.goes_on lines.old.rest) }
+    ensures words { IfOk result (λ words. words.items ≡ words_left lines.old) }
+    ensures lines { OnOk result (lines_left lines.new ≡ lines_left lines.old) }
 {
     let mut words = Vec::new(alloc);
     while let Some(word) = lines.next_word() {
@@ -225,29 +213,54 @@ fn take_words<'a>(alloc: Global, lines: &mut JoinedLines<'a>) -> Result<Vec<Span
 
 // Notes the words that are left of a line as ports.
 fn take_ports<'a>(
-    is_output: bool,
+    kind: PortKind,
     lines: &mut JoinedLines<'a>,
     ports: &mut Vec<Port<'a>>,
-) -> Result<(), LineStop>
+) -> Result<(), AllocError>
     ensures ports { OnOk result (ports.new.items ≡ ports.old.items
-        ++ named_ports is_output (words_left lines.old.line lines.old.goes_on lines.old.rest)) }
-    ensures lines { OnOk result (lines_left lines.new.goes_on lines.new.rest
-        ≡ lines_left lines.old.goes_on lines.old.rest) }
-    ensures no_fault { IfErr result (λ stop. stop ≡ LineStop.Memory) }
+        ++ named_ports kind (words_left lines.old)) }
+    ensures lines { OnOk result (lines_left lines.new ≡ lines_left lines.old) }
 {
     while let Some(word) = lines.next_word() {
-        let Ok(()) = ports.push(Port { is_output, word }) else {
-            return Err(LineStop::Memory);
-        };
+        ports.push(Port { kind, word })?;
     }
     Ok(())
 }
 
+/// Why a line was not read. Its fault has no offset: that of the line's first word is known where the line is begun.
+#[derive(Clone, Copy, Debug, PartialEq, Eq)]
+pub(crate) enum LineStop {
+    Fault(NetKind),
+    Memory,
+}
+
+impl From<AllocError> for LineStop {
+    ghost use Rattle.std.specs.Prelude.{◌≡◌};
+    ghost use Rattle.blif_reader.specs.declared.survey.LineStop.TheVariants.{Memory};
+
+    ghost from_gives = { λ _ stop. stop ≡ Memory };
+
+    fn from(_error: AllocError) -> LineStop {
+        LineStop::Memory
+    }
+}
+
+impl<T: Drop> From<AllocFailed<T>> for LineStop {
+    ghost use Rattle.std.specs.Prelude.{◌≡◌};
+    ghost use Rattle.blif_reader.specs.declared.survey.LineStop.TheVariants.{Memory};
+
+    ghost from_gives = { λ _ stop. stop ≡ Memory };
+
+    fn from(_error: AllocFailed<T>) -> LineStop {
+        LineStop::Memory
+    }
+}
+
 /// Reads all lines of a file. The fault is that of the first line that has one, at its first word.
 pub(crate) fn survey_lines<'a>(alloc: Global, input: &'a [u8]) -> Result<Survey<'a>, NetStop>
-    ensures surveyed { IfOk result (λ survey. IsSurveyed (joined_lines (record { bytes = input.now; at = 0 })) survey) }
+    ensures surveyed { IfOk result (λ survey. IsSurveyed (blif_lines input.now) survey) }
     ensures fault { (fault : NetFault) → result ≡ Err (NetStop.Fault fault)
-        → IsLineFault (joined_lines (record { bytes = input.now; at = 0 })) fault.kind fault.at }
+        → IsLineFault (blif_lines input.now) fault.kind fault.at }
 {
     let mut lines = JoinedLines::new(input);
     let mut survey = Survey::new(alloc);
@@ -260,13 +273,6 @@ pub(crate) fn survey_lines<'a>(alloc: Global, input: &'a [u8]) -> Result<Survey<
         }
     }
     Ok(survey)
-}
-
-/// Why a line was not read.
-#[derive(Clone, Copy, Debug, PartialEq, Eq)]
-pub(crate) enum LineStop {
-    Fault(NetKind),
-    Memory,
 }
 
 // What is wrong with a line behind `.end`.

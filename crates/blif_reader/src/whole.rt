@@ -5,9 +5,9 @@ ghost use Rattle.circuits.specs.Expansion.{gates_in};
 ghost use Rattle.circuits.specs.Levels.{IsAcyclic, IsOrderOf};
 ghost use Rattle.net_core.specs.declared.named.NetFault.{NetFault};
 ghost use Rattle.blif_reader.specs.Names.{input_words};
-ghost use Rattle.blif_reader.specs.Numbers.{names_of, bytes_of};
+ghost use Rattle.blif_reader.specs.Numbers.{names_of};
 ghost use Rattle.blif_reader.specs.Covers.{blif_circuit, signal_names};
-ghost use Rattle.blif_reader.specs.Faults.{AreDeclared, AreDistinct, AreDefinedOnce, AreKnown, AreFew};
+ghost use Rattle.blif_reader.specs.Faults.{AreDeclared, AreDefinedOnce, AreKnown, AreFew};
 ghost use Rattle.blif_reader.specs.Surveys.{IsSurveyed};
 ghost use Rattle.blif_reader.specs.Building.{IsBuilt};
 ghost use Rattle.blif_reader.specs.Blif.{blif_lines, IsBlifFault, ReadAs};
@@ -16,6 +16,7 @@ use crate::covers::{Covers, read_covers};
 use crate::names::{PortNames, add_defined, name_ports};
 use crate::ports::{find_excess, names_of_kind};
 use crate::survey::{Survey, survey_lines};
+use circuits::PortKind;
 use indexmap::IndexSet;
 use net_core::{Graph, Named, NetFault, NetKind, NetStop, OrderFault, PlainNet, order};
 use std::alloc::Global;
@@ -36,56 +37,26 @@ fn check_port_lines(input: &[u8], survey: &Survey<'_>) -> Result<(), NetStop>
     }))
 }
 
-// The names of the inputs, where no port of a kind is named twice.
-fn name_inputs<'a>(
+// The names of the signals: those of the inputs, then those that covers define. No port of a kind is named twice, and no
+// name is an input's and defined, or defined twice.
+fn number_names<'a>(
     alloc: Global,
     input: &[u8],
     survey: &Survey<'a>,
 ) -> Result<IndexSet<&'a [u8]>, NetStop>
     requires surveyed { IsSurveyed (blif_lines input.now) survey.now }
     requires declared { AreDeclared (blif_lines input.now) }
-    ensures distinct { OnOk result (AreDistinct (blif_lines input.now)) }
-    ensures names { IfOk result (λ names. names_of names ≡ bytes_of (input_words (blif_lines input.now))) }
-    ensures fault { (fault : NetFault) → result ≡ Err (NetStop.Fault fault)
-        → IsBlifFault input.now fault.kind fault.at }
-{
-    match name_ports(alloc, &survey.ports) {
-        Ok(named) => {
-            let PortNames { inputs, outputs: _ } = named;
-            Ok(inputs)
-        }
-        Err(stop) => Err(stop),
-    }
-}
-
-// Numbers the names that are defined behind the inputs, where none is there already.
-fn number_names<'a>(
-    input: &[u8],
-    survey: &Survey<'a>,
-    names: &mut IndexSet<&'a [u8]>,
-) -> Result<(), NetStop>
-    requires surveyed { IsSurveyed (blif_lines input.now) survey.now }
-    requires distinct { AreDistinct (blif_lines input.now) }
-    requires names { names_of names.old ≡ bytes_of (input_words (blif_lines input.now)) }
     ensures once { OnOk result (AreDefinedOnce (blif_lines input.now)) }
-    ensures names { OnOk result (names_of names.new ≡ signal_names (blif_lines input.now)) }
+    ensures names { IfOk result (λ names. names_of names ≡ signal_names (blif_lines input.now)) }
     ensures fault { (fault : NetFault) → result ≡ Err (NetStop.Fault fault)
         → IsBlifFault input.now fault.kind fault.at }
 {
-    add_defined(names, &survey.defined)
-}
-
-// The covers, where each name that is read is known.
-fn known_covers(alloc: Global, input: &[u8], names: &IndexSet<&[u8]>) -> Result<Covers, NetStop>
-    requires once { AreDefinedOnce (blif_lines input.now) }
-    requires names { names_of names.now ≡ signal_names (blif_lines input.now) }
-    requires few { length (names_of names.now) < 2 ^ 30 }
-    ensures built { IfOk result (λ covers. IsBuilt (signal_names (blif_lines input.now)) (blif_lines input.now) covers) }
-    ensures known { OnOk result (AreKnown (blif_lines input.now)) }
-    ensures fault { (fault : NetFault) → result ≡ Err (NetStop.Fault fault)
-        → IsBlifFault input.now fault.kind fault.at }
-{
-    read_covers(alloc, input, names)
+    let PortNames {
+        inputs: mut names,
+        outputs: _,
+    } = name_ports(alloc, &survey.ports)?;
+    add_defined(&mut names, &survey.defined)?;
+    Ok(names)
 }
 
 // That there are no more ports than the limits.
@@ -96,13 +67,13 @@ fn check_limits(input: &[u8], survey: &Survey<'_>) -> Result<(), NetStop>
     ensures fault { (fault : NetFault) → result ≡ Err (NetStop.Fault fault)
         → IsBlifFault input.now fault.kind fault.at }
 {
-    if let Some(at) = find_excess(&survey.ports, false) {
+    if let Some(at) = find_excess(&survey.ports, PortKind::Input) {
         return Err(NetStop::Fault(NetFault {
             kind: NetKind::TooManyInputs,
             at,
         }));
     }
-    if let Some(at) = find_excess(&survey.ports, true) {
+    if let Some(at) = find_excess(&survey.ports, PortKind::Output) {
         return Err(NetStop::Fault(NetFault {
             kind: NetKind::TooManyOutputs,
             at,
@@ -127,7 +98,7 @@ fn order_covers(alloc: Global, input: &[u8], inputs: u32, covers: Covers) -> Res
         defs,
         places,
         outputs,
-        table: _,
+        current: _,
     } = covers;
     let net = PlainNet::new(inputs, defs, outputs);
     match order(alloc, &net) {
@@ -159,20 +130,14 @@ fn name_net(
     ensures fault { (fault : NetFault) → result ≡ Err (NetStop.Fault fault)
         → IsBlifFault input.now fault.kind fault.at }
 {
-    let Ok(input_names) = names_of_kind(alloc, &survey.ports, false) else {
-        return Err(NetStop::Memory);
-    };
-    let Ok(output_names) = names_of_kind(alloc, &survey.ports, true) else {
-        return Err(NetStop::Memory);
-    };
-    match order_covers(alloc, input, input_names.len() as u32, covers) {
-        Ok(graph) => Ok(Named {
-            graph,
-            input_names,
-            output_names,
-        }),
-        Err(stop) => Err(stop),
-    }
+    let input_names = names_of_kind(alloc, &survey.ports, PortKind::Input)?;
+    let output_names = names_of_kind(alloc, &survey.ports, PortKind::Output)?;
+    let graph = order_covers(alloc, input, input_names.len() as u32, covers)?;
+    Ok(Named {
+        graph,
+        input_names,
+        output_names,
+    })
 }
 
 /// Reads a netlist with the names of its ports from a file in the Berkeley Logic Interchange Format (BLIF, University
@@ -190,20 +155,10 @@ pub fn read(alloc: Global, input: &[u8]) -> Result<Named, NetStop>
     ensures fault { (fault : NetFault) → result ≡ Err (NetStop.Fault fault)
         → IsBlifFault input.now fault.kind fault.at }
 {
-    let survey = read_survey(alloc, input)?;
+    let survey = survey_lines(alloc, input)?;
     check_port_lines(input, &survey)?;
-    let mut names = name_inputs(alloc, input, &survey)?;
-    number_names(input, &survey, &mut names)?;
-    let covers = known_covers(alloc, input, &names)?;
+    let names = number_names(alloc, input, &survey)?;
+    let covers = read_covers(alloc, input, &names)?;
     check_limits(input, &survey)?;
     name_net(alloc, input, &survey, covers)
-}
-
-// What a first pass knows of the lines, where none has a fault.
-fn read_survey<'a>(alloc: Global, input: &'a [u8]) -> Result<Survey<'a>, NetStop>
-    ensures surveyed { IfOk result (λ survey. IsSurveyed (blif_lines input.now) survey) }
-    ensures fault { (fault : NetFault) → result ≡ Err (NetStop.Fault fault)
-        → IsBlifFault input.now fault.kind fault.at }
-{
-    survey_lines(alloc, input)
 }

@@ -6,8 +6,8 @@ use Rattle.blif_reader.proofs.covers.last_word.Given as goal
 -- the last word is that of the words left, or the one that was read last where none is left
 abbrev pub invariant-loop-word : goal.invariant-loop-word
 invariant-loop-word l =
-    EndsAs l.last (words_left l.lines.line l.lines.goes_on l.lines.rest) (words_left l.initial.lines.line l.initial.lines.goes_on l.initial.lines.rest)
-    × (lines_left l.lines.goes_on l.lines.rest ≡ lines_left l.initial.lines.goes_on l.initial.lines.rest)
+    EndsAs l.last (words_left l.lines) (words_left l.initial.lines)
+    × (lines_left l.lines ≡ lines_left l.initial.lines)
 
 abbrev pub decreases-loop-word : goal.decreases-loop-word
-decreases-loop-word l = length (words_left l.lines.line l.lines.goes_on l.lines.rest)
+decreases-loop-word l = length (words_left l.lines)

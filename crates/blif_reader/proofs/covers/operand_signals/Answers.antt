@@ -1,24 +1,24 @@
 use Rattle.std.proofs.Common.{◌∷◌, [], ap, ◌∙◌}
-use Rattle.net_core.specs.declared.named.NetStop.TheVariants as stop
+use Rattle.std.proofs.lemmas.Result.{err_from_is_err_and}
 use Rattle.blif_reader.specs.Covers.{signal_named}
 use Rattle.blif_reader.specs.Building.{but_last}
 use Rattle.blif_reader.specs.Numbers.{names_of}
-use Rattle.blif_reader.proofs.SurveyLemmas.{told_again}
 use Rattle.blif_reader.proofs.BuildingLemmas.{Continues-more, but_last-cons, read_more, unknown_fault}
 use Rattle.blif_reader.proofs.covers.operand_signals.Goals as goal
 
-pub returns-in-Err-clause-fault : goal.returns-in-Err-clause-fault
-returns-in-Err-clause-fault c fault e =
+pub returns-in_err-signal-clause-fault : goal.returns-in_err-signal-clause-fault
+returns-in_err-signal-clause-fault c fault e =
     let left = ap (λ ws. but_last (c.loop-word.operand ∷ ws)) c.in-Some-next_word.ensures.word ∙ but_last-cons c.loop-word.operand c.in-Some-next_word.word _ in
-    unknown_fault (names_of c.args.names.now) c.loop-word.operand _ _ _ fault.kind fault.at c.loop-word.invariant.0.words left (c.in-Err.ensures.fault fault (told_again c.in-Err.stop (stop.Fault fault) e))
+    let p = err_from_is_err_and c.from_residual.result c.from_residual.ensures.1 in
+    unknown_fault (names_of c.args.names.now) c.loop-word.operand _ _ _ fault.kind fault.at c.loop-word.invariant.0.words left (c.signal_of.ensures.fault fault (cc (p.1, p.2, c.in_err-signal.was)))
 
 pub loop-word-preserved : goal.loop-word-preserved
 loop-word-preserved c =
     let names = names_of c.args.names.now in
     let left = ap (λ ws. but_last (c.loop-word.operand ∷ ws)) c.in-Some-next_word.ensures.word ∙ but_last-cons c.loop-word.operand c.in-Some-next_word.word _ in (
       record {
-        signals_are = read_more (signal_named names) c.push.new.self c.loop-word.signals [] c.loop-word.operand _ _ _ c.in-Ok.signal c.in-Ok-push.ensures.ok c.loop-word.invariant.0.signals_are left c.in-Ok.ensures.signal;
-        words = Continues-more names c.loop-word.operand _ _ _ left c.in-Ok.ensures.known c.loop-word.invariant.0.words;
+        signals_are = read_more (signal_named names) c.push.new.self c.loop-word.signals [] c.loop-word.operand _ _ _ c.in_ok-signal.signal c.in_ok-push.ensures.ok c.loop-word.invariant.0.signals_are left c.in_ok-signal.ensures.signal;
+        words = Continues-more names c.loop-word.operand _ _ _ left c.in_ok-signal.ensures.known c.loop-word.invariant.0.words;
       },
       c.in-Some-next_word.ensures.lines ∙ c.loop-word.invariant.1,
     )

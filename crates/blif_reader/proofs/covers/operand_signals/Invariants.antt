@@ -6,8 +6,8 @@ use Rattle.blif_reader.proofs.covers.operand_signals.Given as goal
 
 abbrev pub invariant-loop-word : goal.invariant-loop-word
 invariant-loop-word l =
-    ReadsOperands (names_of l.names) l.signals l.operand (words_left l.lines.line l.lines.goes_on l.lines.rest) (words_left l.fn.lines.line l.fn.lines.goes_on l.fn.lines.rest)
-    × (lines_left l.lines.goes_on l.lines.rest ≡ lines_left l.fn.lines.goes_on l.fn.lines.rest)
+    ReadsOperands (names_of l.names) l.signals l.operand (words_left l.lines) (words_left l.fn.lines)
+    × (lines_left l.lines ≡ lines_left l.fn.lines)
 
 abbrev pub decreases-loop-word : goal.decreases-loop-word
-decreases-loop-word l = length (words_left l.lines.line l.lines.goes_on l.lines.rest)
+decreases-loop-word l = length (words_left l.lines)

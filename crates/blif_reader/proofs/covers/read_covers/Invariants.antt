@@ -9,7 +9,7 @@ use Rattle.blif_reader.proofs.covers.read_covers.Given as goal
 
 abbrev pub invariant-loop-first : goal.invariant-loop-first
 invariant-loop-first l =
-    IsBuilding (names_of l.names) (blif_lines l.input) (filter has_words (lines_left l.lines.goes_on l.lines.rest)) l.covers
+    IsBuilding (names_of l.names) (blif_lines l.input) (filter has_words (lines_left l.lines)) l.covers
 
 abbrev pub decreases-loop-first : goal.decreases-loop-first
-decreases-loop-first l = length (filter has_words (lines_left l.lines.goes_on l.lines.rest))
+decreases-loop-first l = length (filter has_words (lines_left l.lines))

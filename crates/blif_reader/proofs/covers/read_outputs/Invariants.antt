@@ -6,8 +6,8 @@ use Rattle.blif_reader.proofs.covers.read_outputs.Given as goal
 
 abbrev pub invariant-loop-word : goal.invariant-loop-word
 invariant-loop-word l =
-    ReadsOutputs (names_of l.names) l.initial.outputs l.outputs (words_left l.initial.lines.line l.initial.lines.goes_on l.initial.lines.rest) (words_left l.lines.line l.lines.goes_on l.lines.rest)
-    × (lines_left l.lines.goes_on l.lines.rest ≡ lines_left l.initial.lines.goes_on l.initial.lines.rest)
+    ReadsOutputs (names_of l.names) l.initial.outputs l.outputs (words_left l.initial.lines) (words_left l.lines)
+    × (lines_left l.lines ≡ lines_left l.initial.lines)
 
 abbrev pub decreases-loop-word : goal.decreases-loop-word
-decreases-loop-word l = length (words_left l.lines.line l.lines.goes_on l.lines.rest)
+decreases-loop-word l = length (words_left l.lines)

@@ -6,12 +6,12 @@ use Rattle.blif_reader.proofs.SurveyLemmas.{fault_told}
 use Rattle.blif_reader.proofs.NumberLemmas.{defined_more, defined_again, at_place}
 use Rattle.blif_reader.proofs.names.add_defined.Goals as goal
 
-pub returns-in-Ok-false-clause-fault : goal.returns-in-Ok-false-clause-fault
-returns-in-Ok-false-clause-fault c inputs names told e =
+pub returns-then-not-branch-clause-fault : goal.returns-then-not-branch-clause-fault
+returns-then-not-branch-clause-fault c inputs names told e =
     let defined = c.args.defined.now in
     let word = c.word-item.result in
     let here = at_place defined c.loop-word.word-index word c.loop-word-test.true c.word-item.is in
-    let is = defined_again inputs defined c.loop-word.word-index word _ _ c.in-Ok-false.field-0 c.loop-word-test.true here (c.loop-word.invariant inputs names) c.in-Ok-false.field-0-test (subst (λ n. IsAdded n c.in-Ok-false.field-0 (names_of c.loop-word.names) (names_of c.add_name.new.names)) c.bytes.ensures.value c.in-Ok-false.ensures) in
+    let is = defined_again inputs defined c.loop-word.word-index word _ _ c.in_ok-add_name.field-0 c.loop-word-test.true here (c.loop-word.invariant inputs names) c.if-not-branch.true (subst (λ n. IsAdded n c.in_ok-add_name.field-0 (names_of c.loop-word.names) (names_of c.add_name.new.names)) c.bytes.ensures.value c.in_ok-add_name.ensures) in
     let same = fault_told _ told e in
     let kind : told.kind ≡ fault.NameRedefined = sym (ap (λ (f : NetFault). f.kind) same) in
     let at : told.at ≡ word.at = sym (ap (λ (f : NetFault). f.at) same) ∙ c.at.ensures.value in
@@ -22,4 +22,4 @@ loop-word-preserved c inputs names =
     let defined = c.args.defined.now in
     let word = c.word-item.result in
     let here = at_place defined c.loop-word.word-index word c.loop-word-test.true c.word-item.is in
-    defined_more inputs defined c.loop-word.word-index word _ _ c.in-Ok-true.field-0 c.loop-word-test.true here (c.loop-word.invariant inputs names) c.in-Ok-true.field-0-test (subst (λ n. IsAdded n c.in-Ok-true.field-0 (names_of c.loop-word.names) (names_of c.add_name.new.names)) c.bytes.ensures.value c.in-Ok-true.ensures)
+    defined_more inputs defined c.loop-word.word-index word _ _ c.in_ok-add_name.field-0 c.loop-word-test.true here (c.loop-word.invariant inputs names) c.if-not-branch.false (subst (λ n. IsAdded n c.in_ok-add_name.field-0 (names_of c.loop-word.names) (names_of c.add_name.new.names)) c.bytes.ensures.value c.in_ok-add_name.ensures)

@@ -6,11 +6,11 @@ use Rattle.blif_reader.proofs.SurveyLemmas.{fault_told}
 use Rattle.blif_reader.proofs.NumberLemmas.{AddsPort, named_more, repeated, at_place}
 use Rattle.blif_reader.proofs.names.name_ports.Goals as goal
 
-pub returns-in-Ok-false-clause-fault : goal.returns-in-Ok-false-clause-fault
-returns-in-Ok-false-clause-fault c told e =
+pub returns-then-not-branch-clause-fault : goal.returns-then-not-branch-clause-fault
+returns-then-not-branch-clause-fault c told e =
     let ports = c.args.ports.now in
     let port = c.port-item.result in
-    let adds = subst (λ t. AddsPort t port (names_of c.loop-port.named.inputs) (names_of c.loop-port.named.outputs) (names_of c.add_port.new.named.inputs) (names_of c.add_port.new.named.outputs)) c.in-Ok-false.field-0-test (c.in-Ok-false.ensures.inputs, c.in-Ok-false.ensures.outputs) in
+    let adds = subst (λ t. AddsPort t port (names_of c.loop-port.named.inputs) (names_of c.loop-port.named.outputs) (names_of c.add_port.new.named.inputs) (names_of c.add_port.new.named.outputs)) c.if-not-branch.true (c.in_ok-add_port.ensures.inputs, c.in_ok-add_port.ensures.outputs) in
     let here = at_place ports c.loop-port.port-index port c.loop-port-test.true c.port-item.is in
     let is = repeated ports c.loop-port.port-index port _ _ _ _ c.loop-port-test.true here c.loop-port.invariant adds in
     let same = fault_told _ told e in
@@ -22,6 +22,6 @@ pub loop-port-preserved : goal.loop-port-preserved
 loop-port-preserved c =
     let ports = c.args.ports.now in
     let port = c.port-item.result in
-    let adds = subst (λ t. AddsPort t port (names_of c.loop-port.named.inputs) (names_of c.loop-port.named.outputs) (names_of c.add_port.new.named.inputs) (names_of c.add_port.new.named.outputs)) c.in-Ok-true.field-0-test (c.in-Ok-true.ensures.inputs, c.in-Ok-true.ensures.outputs) in
+    let adds = subst (λ t. AddsPort t port (names_of c.loop-port.named.inputs) (names_of c.loop-port.named.outputs) (names_of c.add_port.new.named.inputs) (names_of c.add_port.new.named.outputs)) c.if-not-branch.false (c.in_ok-add_port.ensures.inputs, c.in_ok-add_port.ensures.outputs) in
     let here = at_place ports c.loop-port.port-index port c.loop-port-test.true c.port-item.is in
     named_more ports c.loop-port.port-index port _ _ _ _ c.loop-port-test.true here c.loop-port.invariant adds

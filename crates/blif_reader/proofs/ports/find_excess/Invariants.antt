@@ -5,4 +5,4 @@ use Rattle.blif_reader.proofs.ports.find_excess.Given as goal
 -- so many of the ports before are of the kind
 abbrev pub invariant-loop-port : goal.invariant-loop-port
 invariant-loop-port l =
-    (l.count ≡ length (words_of_kind l.is_output (take l.port-index l.ports))) × (l.count ≤ 1024)
+    (l.count ≡ length (words_of_kind l.kind (take l.port-index l.ports))) × (l.count ≤ 1024)

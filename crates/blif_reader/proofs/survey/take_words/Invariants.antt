@@ -5,8 +5,8 @@ use Rattle.blif_reader.proofs.survey.take_words.Given as goal
 -- what is taken and the words that are left make the whole
 abbrev pub invariant-loop-word : goal.invariant-loop-word
 invariant-loop-word l =
-    (l.words.items ++ words_left l.lines.line l.lines.goes_on l.lines.rest ≡ words_left l.initial.lines.line l.initial.lines.goes_on l.initial.lines.rest)
-    × (lines_left l.lines.goes_on l.lines.rest ≡ lines_left l.initial.lines.goes_on l.initial.lines.rest)
+    (l.words.items ++ words_left l.lines ≡ words_left l.initial.lines)
+    × (lines_left l.lines ≡ lines_left l.initial.lines)
 
 abbrev pub decreases-loop-word : goal.decreases-loop-word
-decreases-loop-word l = length (words_left l.lines.line l.lines.goes_on l.lines.rest)
+decreases-loop-word l = length (words_left l.lines)

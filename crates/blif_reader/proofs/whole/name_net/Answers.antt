@@ -1,24 +1,27 @@
-use Rattle.std.proofs.Common.{◌∙◌, true, false, refl}
-use Rattle.net_core.specs.declared.named.NetStop.TheVariants as stop
-use Rattle.blif_reader.specs.Covers.{blif_circuit}
-use Rattle.blif_reader.specs.Blif.{blif_lines, IsBlif}
-use Rattle.blif_reader.proofs.SurveyLemmas.{told_again}
-use Rattle.blif_reader.proofs.BlifLemmas.{names_noted, read_as}
+use Rattle.std.proofs.Common.{ap, ◌∙◌}
+use Rattle.std.proofs.lemmas.Result.{err_from_is_err_and}
+use Rattle.circuits.specs.declared.port.PortKind.TheVariants.{Input, Output}
+use Rattle.blif_reader.specs.Numbers.{port_names}
+use Rattle.blif_reader.proofs.BlifLemmas.{read_as}
+use Rattle.blif_reader.proofs.FewPorts.{named_graph}
 use Rattle.blif_reader.proofs.whole.name_net.Goals as goal
 
-pub returns-in-Ok-order_covers-clause-netlist : goal.returns-in-Ok-order_covers-clause-netlist
-returns-in-Ok-order_covers-clause-netlist c =
-    let lines = blif_lines c.args.input.now in
-    let ordered = c.in-Ok-order_covers.ensures in
-    let is : IsBlif c.args.input.now (blif_circuit lines) c.in-Ok.input_names c.in-Ok-names_of_kind.output_names = record {
-      names = c.requires.few;
-      same = refl;
-      acyclic = ordered.acyclic;
-      few_gates = ordered.few_gates;
-      input_names_are = names_noted lines false _ _ c.in-Ok.ensures (c.deref.ensures.value ∙ c.requires.surveyed.ports);
-      output_names_are = names_noted lines true _ _ c.in-Ok-names_of_kind.ensures (c.deref-2.ensures.value ∙ c.requires.surveyed.ports);
-    } in
-    read_as c.args.input.now c.in-Ok-order_covers.graph _ _ is ordered.ordered
+pub returns-in_err-graph-clause-fault : goal.returns-in_err-graph-clause-fault
+returns-in_err-graph-clause-fault c fault e =
+    let p = err_from_is_err_and c.from_residual-in_err-graph.result c.from_residual-in_err-graph.ensures.1 in
+    c.order_covers.ensures.fault fault (cc (p.1, p.2, c.in_err-graph.was))
 
-pub returns-in-Err-clause-fault : goal.returns-in-Err-clause-fault
-returns-in-Err-clause-fault c fault e = c.in-Err.ensures.fault fault (told_again c.in-Err.stop (stop.Fault fault) e)
+pub invariant_of-result : goal.invariant_of-result
+invariant_of-result c =
+    let made = c.in_ok-graph.ensures in
+    let inputs = c.in_ok-input_names.ensures ∙ ap (port_names Input) (c.deref.ensures.value ∙ c.requires.surveyed.ports) in
+    let outputs = c.in_ok-output_names.ensures ∙ ap (port_names Output) (c.deref-2.ensures.value ∙ c.requires.surveyed.ports) in
+    let named = named_graph _ _ _ _ (read_as c.args.input.now c.in_ok-graph.graph _ _ c.requires.few made.acyclic made.few_gates made.ordered inputs outputs) in
+    record { inputs_named = named.0; outputs_named = named.1 }
+
+pub returns-clause-netlist : goal.returns-clause-netlist
+returns-clause-netlist c =
+    let made = c.in_ok-graph.ensures in
+    let inputs = c.in_ok-input_names.ensures ∙ ap (port_names Input) (c.deref.ensures.value ∙ c.requires.surveyed.ports) in
+    let outputs = c.in_ok-output_names.ensures ∙ ap (port_names Output) (c.deref-2.ensures.value ∙ c.requires.surveyed.ports) in
+    read_as c.args.input.now c.in_ok-graph.graph _ _ c.requires.few made.acyclic made.few_gates made.ordered inputs outputs

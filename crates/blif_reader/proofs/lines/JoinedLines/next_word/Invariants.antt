@@ -3,7 +3,7 @@ use Rattle.blif_reader.proofs.lines.JoinedLines.next_word.Given as goal
 
 abbrev pub invariant-lines : goal.invariant-lines
 invariant-lines l =
-    IsAsLeft l.initial.self.line l.initial.self.goes_on l.initial.self.rest l.self.line l.self.goes_on l.self.rest
+    IsAsLeft l.initial.self l.self
 
 abbrev pub decreases-lines : goal.decreases-lines
-decreases-lines l = size_left l.self.goes_on l.self.rest
+decreases-lines l = size_left l.self

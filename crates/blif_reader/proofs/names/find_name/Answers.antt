@@ -1,6 +1,6 @@
 use Rattle.std.specs.Str.{bytes_eq}
 use Rattle.blif_reader.proofs.NumberLemmas.{number_told}
-use Rattle.blif_reader.proofs.names.number_of.Goals as goal
+use Rattle.blif_reader.proofs.names.find_name.Goals as goal
 
 pub returns : goal.returns
 returns c =
