@@ -3,7 +3,7 @@ use Rattle.std.proofs.Common.{◌≡◌, ℕ, zero, suc, ◌<◌, ◌≤◌, ◌
 use Rattle.std.specs.Fmt.{decimal}
 use Rattle.std.specs.Str.{all_ascii_digits}
 use Rattle.std.specs.Str.Parse.{digits_value}
-use Rattle.std.proofs.lemmas.Bool.{cases_Bool, ltb-true, lt-ltb}
+use Rattle.std.proofs.lemmas.Bool.{and_parts, cases_Bool, ltb-true, lt-ltb}
 use Rattle.std.proofs.lemmas.Bool.Decides.{nat_tests}
 use Rattle.std.proofs.lemmas.Fmt.{decimal_nonempty, first_decimal, digits_decimal, digits_value-decimal, decimal-digits_value}
 use Rattle.std.proofs.lemmas.List.Elements.{All-nil, All-cons, All-head, All-tail}
@@ -15,10 +15,6 @@ use Rattle.account_file.specs.Forms.{is_plain, number_below, with_number, number
 
 numerals : IsNumeralModel (λ ds. all_ascii_digits ds ≡ true) (digits_value 10)
 numerals = numerals_by_value (λ ds. all_ascii_digits ds ≡ true) tells_all_ascii_digits
-
-pub both : (a b : Bool) → (a && b) ≡ true → (a ≡ true) × (b ≡ true)
-both true b e = (refl, e)
-both false b e = cc
 
 pub decimal_digits : (n : ℕ) → n < 2 ^ 64 → all_ascii_digits (decimal n) ≡ true
 decimal_digits n small = digits_decimal numerals n small
@@ -60,9 +56,9 @@ pub number_written : (bound : ℕ) (word : List ℕ) (n : ℕ) → bound ≤ 2 ^
 number_written bound word n small e =
     elim (cases_Bool (is_plain word && ltb (digits_value 10 word) bound)) [
       | inl passes ↦
-          let tests = both (is_plain word) (ltb (digits_value 10 word) bound) passes in
-          let plain = both (is_numeral word) (eqb (length word) 1 || not (eqb (get_or word 0 0) 48)) tests.0 in
-          let numeral = both (is_not_empty word) (all_ascii_digits word) plain.0 in
+          let tests = and_parts (is_plain word) (ltb (digits_value 10 word) bound) passes in
+          let plain = and_parts (is_numeral word) (eqb (length word) 1 || not (eqb (get_or word 0 0) 48)) tests.0 in
+          let numeral = and_parts (is_not_empty word) (all_ascii_digits word) plain.0 in
           let below = ltb-true (digits_value 10 word) bound tests.1 in
           let filled : 0 < length word = let e = numeral.0 in grind (arith, nat_tests, e) in
           let leads : get_or word 0 0 ≡ 48 → length word ≡ 1 = λ zero_first. let e = plain.1 in grind (arith, nat_tests, e, zero_first) in

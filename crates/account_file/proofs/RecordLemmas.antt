@@ -18,7 +18,7 @@ use Rattle.account_file.specs.declared.record.Record.{Record}
 use Rattle.account_file.specs.declared.record.Record.TheVariants as record_of
 use Rattle.account_file.specs.declared.fault.RecordFault.{RecordFault}
 use Rattle.account_file.specs.declared.fault.RecordFault.TheVariants.{Word}
-use Rattle.account_file.specs.Forms.{words_of, kind_of, flip_of, port_of, pair_of, pair_by, pair_behind, with_pair, pairs_of, match_record, numbers_of, before_colon, behind_colon, hints_of, line_of, log_line, log_record, literals_of, alone, header_record, record_by, record_in}
+use Rattle.account_file.specs.Forms.{words_of, kind_of_letter, flip_of_sign, port_of, pair_of, pair_by, pair_behind, with_pair, pairs_of, match_record, numbers_of, before_colon, behind_colon, hints_of, line_of, log_line, log_record, literals_of, alone, header_record, record_by, record_in}
 use Rattle.account_file.specs.Spelling.{kind_letter, sign_of, numbers_text, record_line, HasPorts, IsWritable}
 use Rattle.account_file.proofs.NumberLemmas.{decimal_digits, number_read, number_written, numbers_read, numbers_written}
 use Rattle.account_file.proofs.SpellingLemmas.{spaced, spaced_words, IsVisible, words_spaced, line_spaced_words, spaced-map, spaced-append, digits_visible, digits_front}
@@ -118,11 +118,11 @@ line_text_is_line entry w = line_spaced_words (first_word entry) (other_words en
 
 -- the words are read
 
-kind_read : (kind : PortKind) → kind_of (kind_letter kind) ≡ Some kind
+kind_read : (kind : PortKind) → kind_of_letter (kind_letter kind) ≡ Some kind
 kind_read Input = refl
 kind_read Output = refl
 
-flip_read : (flip : Bool) → flip_of (sign_of flip) ≡ Some flip
+flip_read : (flip : Bool) → flip_of_sign (sign_of flip) ≡ Some flip
 flip_read true = refl
 flip_read false = refl
 
@@ -135,14 +135,14 @@ pair_read pair ports =
     let from = decimal pair.from in
     let behind : List ℕ = sign_of pair.flip ∷ decimal pair.to in
     let digits = digits_front from (sign_of pair.flip) (decimal pair.to) (decimal_digits pair.from (omega (arith, ports.from))) (sign_ends pair.flip) in
-    let cut : ℕ → Option Pair = λ n. pair_behind (kind_of (kind_letter pair.kind)) (take n (from ++ behind)) (drop n (from ++ behind)) in
+    let cut : ℕ → Option Pair = λ n. pair_behind (kind_of_letter (kind_letter pair.kind)) (take n (from ++ behind)) (drop n (from ++ behind)) in
     let first = number_read (2 ^ 32) pair.from ports.from (omega arith) in
     let second = number_read (2 ^ 32) pair.to ports.to (omega arith) in
     ap cut digits
-    ∙ ap (λ l. pair_behind (kind_of (kind_letter pair.kind)) l (drop (length from) (from ++ behind))) (take_at from behind (length from) refl)
-    ∙ ap (λ l. pair_behind (kind_of (kind_letter pair.kind)) from l) (drop_at from behind (length from) refl)
-    ∙ ap (λ k. pair_by k (port_of from) (flip_of (sign_of pair.flip)) (port_of (decimal pair.to))) (kind_read pair.kind)
-    ∙ ap (λ n. pair_by (Some pair.kind) n (flip_of (sign_of pair.flip)) (port_of (decimal pair.to))) first
+    ∙ ap (λ l. pair_behind (kind_of_letter (kind_letter pair.kind)) l (drop (length from) (from ++ behind))) (take_at from behind (length from) refl)
+    ∙ ap (λ l. pair_behind (kind_of_letter (kind_letter pair.kind)) from l) (drop_at from behind (length from) refl)
+    ∙ ap (λ k. pair_by k (port_of from) (flip_of_sign (sign_of pair.flip)) (port_of (decimal pair.to))) (kind_read pair.kind)
+    ∙ ap (λ n. pair_by (Some pair.kind) n (flip_of_sign (sign_of pair.flip)) (port_of (decimal pair.to))) first
     ∙ ap (λ f. pair_by (Some pair.kind) (Some pair.from) f (port_of (decimal pair.to))) (flip_read pair.flip)
     ∙ ap (λ n. pair_by (Some pair.kind) (Some pair.from) (Some pair.flip) n) second
 
@@ -207,7 +207,7 @@ written_is_read entry line w e =
 
 -- what is read is written
 
-kind_written : (letter : ℕ) (kind : PortKind) → kind_of letter ≡ Some kind → letter ≡ kind_letter kind
+kind_written : (letter : ℕ) (kind : PortKind) → kind_of_letter letter ≡ Some kind → letter ≡ kind_letter kind
 kind_written letter kind e = by (eqb letter 105) (eqb letter 111) refl refl e
   where
     by : (i o : Bool) → eqb letter 105 ≡ i → eqb letter 111 ≡ o → cond i (Some Input) (cond o (Some Output) None) ≡ Some kind → letter ≡ kind_letter kind
@@ -215,7 +215,7 @@ kind_written letter kind e = by (eqb letter 105) (eqb letter 111) refl refl e
     by false true is other e = let k : Output ≡ kind = cc in eqb-true letter 111 other ∙ ap kind_letter k
     by false false is other e = cc
 
-flip_written : (sign : ℕ) (flip : Bool) → flip_of sign ≡ Some flip → sign ≡ sign_of flip
+flip_written : (sign : ℕ) (flip : Bool) → flip_of_sign sign ≡ Some flip → sign ≡ sign_of flip
 flip_written sign flip e = by (eqb sign 43) (eqb sign 45) refl refl e
   where
     by : (plain turned : Bool) → eqb sign 43 ≡ plain → eqb sign 45 ≡ turned → cond plain (Some false) (cond turned (Some true) None) ≡ Some flip → sign ≡ sign_of flip
@@ -229,7 +229,7 @@ record IsPairWord (word : List ℕ) (pair : Pair) : Type 0 where
   pub ports : HasPorts pair
 
 by_fields : (letter : ℕ) (front : List ℕ) (sign : ℕ) (back : List ℕ) (k : Option PortKind) (m : Option ℕ) (f : Option Bool) (n : Option ℕ) (pair : Pair)
-    → kind_of letter ≡ k → port_of front ≡ m → flip_of sign ≡ f → port_of back ≡ n → pair_by k m f n ≡ Some pair → IsPairWord (letter ∷ front ++ sign ∷ back) pair
+    → kind_of_letter letter ≡ k → port_of front ≡ m → flip_of_sign sign ≡ f → port_of back ≡ n → pair_by k m f n ≡ Some pair → IsPairWord (letter ∷ front ++ sign ∷ back) pair
 by_fields letter front sign back (Some kind) (Some from) (Some flip) (Some to) pair ek em ef en e =
     let is : record { kind = kind; from = from; to = to; flip = flip } ≡ pair = cc in
     let first = number_written (2 ^ 32) front from (omega arith) em in
@@ -244,9 +244,9 @@ by_fields letter front sign back (Some kind) None f n pair ek em ef en e = cc
 by_fields letter front sign back (Some kind) (Some from) None n pair ek em ef en e = cc
 by_fields letter front sign back (Some kind) (Some from) (Some flip) None pair ek em ef en e = cc
 
-by_parts : (letter : ℕ) (front behind : List ℕ) (pair : Pair) → pair_behind (kind_of letter) front behind ≡ Some pair → IsPairWord (letter ∷ front ++ behind) pair
+by_parts : (letter : ℕ) (front behind : List ℕ) (pair : Pair) → pair_behind (kind_of_letter letter) front behind ≡ Some pair → IsPairWord (letter ∷ front ++ behind) pair
 by_parts letter front [] pair e = cc
-by_parts letter front (sign ∷ back) pair e = by_fields letter front sign back (kind_of letter) (port_of front) (flip_of sign) (port_of back) pair refl refl refl refl e
+by_parts letter front (sign ∷ back) pair e = by_fields letter front sign back (kind_of_letter letter) (port_of front) (flip_of_sign sign) (port_of back) pair refl refl refl refl e
 
 pair_written : (word : List ℕ) (pair : Pair) → pair_of word ≡ Some pair → IsPairWord word pair
 pair_written [] pair e = cc

@@ -3,6 +3,7 @@ use Rattle.std.proofs.Common.{◌≡◌, ℕ, ◌+◌, ◌<◌, ◌≤◌, eqb, 
 use Rattle.std.specs.Char.{is_ascii_digit}
 use Rattle.std.specs.List.{flat_map, join_with_byte, prefix_len}
 use Rattle.std.specs.Str.{all_ascii_digits}
+use Rattle.std.proofs.lemmas.Bool.{and_parts}
 use Rattle.std.proofs.lemmas.Bool.Decides.{nat_tests}
 use Rattle.std.proofs.lemmas.List.Elements.{All-nil, All-cons, All-head, All-tail, All-append, All-weaker}
 use Rattle.std.proofs.lemmas.List.Splits.{slice_split_at, slice_split_none, join_with_byte-slice_split}
@@ -10,7 +11,6 @@ use Rattle.std.proofs.lemmas.Str.Parse.{tells_all_ascii_digits}
 use Rattle.text_core.specs.Bytes.{is_line_feed}
 use Rattle.text_core.specs.Lines.{IsLine}
 use Rattle.account_file.specs.Forms.{is_space, words_of}
-use Rattle.account_file.proofs.NumberLemmas.{both}
 
 -- words behind a first one, a blank in front of each
 abbrev pub spaced : List (List ℕ) → List ℕ
@@ -76,6 +76,6 @@ digits_visible (c ∷ cs) e =
 pub digits_front : (ds : List ℕ) (s : ℕ) (rest : List ℕ) → all_ascii_digits ds ≡ true → is_ascii_digit s ≡ false → prefix_len is_ascii_digit (ds ++ s ∷ rest) ≡ length ds
 digits_front [] s rest d other = ap (λ b. cond b (1 + prefix_len is_ascii_digit rest) 0) other
 digits_front (c ∷ cs) s rest d other =
-    let k = both (is_ascii_digit c) (all_ascii_digits cs) d in
+    let k = and_parts (is_ascii_digit c) (all_ascii_digits cs) d in
     let more = digits_front cs s rest k.1 other in
     ap (λ b. cond b (1 + prefix_len is_ascii_digit (cs ++ s ∷ rest)) 0) k.0 ∙ omega (arith, more)

@@ -77,11 +77,11 @@ abbrev pub log_record : List (List ℕ) → Result Record RecordFault
 log_record words = line_of (numbers_of (before_colon words)) (hints_of (behind_colon words))
 
 -- a pair of ports: a letter, a number, a sign, a number; both numbers of 32 bits
-abbrev pub kind_of : ℕ → Option PortKind
-kind_of letter = if letter == 105 then Some Input else if letter == 111 then Some Output else None
+abbrev pub kind_of_letter : ℕ → Option PortKind
+kind_of_letter letter = if letter == 105 then Some Input else if letter == 111 then Some Output else None
 
-abbrev pub flip_of : ℕ → Option Bool
-flip_of sign = if sign == 43 then Some false else if sign == 45 then Some true else None
+abbrev pub flip_of_sign : ℕ → Option Bool
+flip_of_sign sign = if sign == 43 then Some false else if sign == 45 then Some true else None
 
 abbrev pub port_of : List ℕ → Option ℕ
 port_of word = number_below (2 ^ 32) word
@@ -93,11 +93,11 @@ pair_by kind from flip to = None
 -- by the digits in front, and by what stands behind them: the sign, and the second number
 abbrev pub pair_behind : Option PortKind → List ℕ → List ℕ → Option Pair
 pair_behind kind from [] = None
-pair_behind kind from (sign ∷ to) = pair_by kind (port_of from) (flip_of sign) (port_of to)
+pair_behind kind from (sign ∷ to) = pair_by kind (port_of from) (flip_of_sign sign) (port_of to)
 
 abbrev pub pair_of : List ℕ → Option Pair
 pair_of [] = None
-pair_of (letter ∷ rest) = pair_behind (kind_of letter) (take (prefix_len is_ascii_digit rest) rest) (drop (prefix_len is_ascii_digit rest) rest)
+pair_of (letter ∷ rest) = pair_behind (kind_of_letter letter) (take (prefix_len is_ascii_digit rest) rest) (drop (prefix_len is_ascii_digit rest) rest)
 
 abbrev pub with_pair : Option Pair → Result (List Pair) RecordFault → Result (List Pair) RecordFault
 with_pair None rest = Err fault.Word

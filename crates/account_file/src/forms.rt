@@ -1,10 +1,8 @@
 //! The records that lines write.
 
 ghost use Rattle.std.specs.Prelude.{◌≡◌, [], ◌∷◌, ◌<◌, ◌≤◌, ◌^◌, ℕ, IfSome, IfNone, length, map, true, IfOk, take, drop};
-ghost use Rattle.std.specs.List.{list_all, position_or_len, prefix_len};
-ghost use Rattle.std.specs.Char.{is_ascii_digit};
-ghost use Rattle.text_core.specs.Numbers.{is_numeral};
-ghost use Rattle.account_file.specs.Forms.{is_space, words_of, number_below, numbers_of, bad_number, kind_of, flip_of, pair_of, pair_behind, pairs_of, port_of, log_record, record_in, is_plain, literals_of, before_colon, behind_colon, header_record, match_record, alone};
+ghost use Rattle.std.specs.List.{position_or_len};
+ghost use Rattle.account_file.specs.Forms.{is_space, words_of, number_below, numbers_of, bad_number, kind_of_letter, flip_of_sign, pair_of, pair_behind, pairs_of, port_of, log_record, record_in, is_plain, literals_of, before_colon, behind_colon, header_record, match_record, alone};
 ghost use Rattle.account_file.specs.Texts.{texts, texts_behind, Answers};
 
 use crate::fault::{FileStop, RecordFault};
@@ -14,7 +12,7 @@ use circuits::{Pair, PortKind};
 use cnf_core::{LogLine, SatLit};
 use items::Items;
 use std::alloc::{AllocError, Global};
-use text_core::{Cursor, decimal};
+use text_core::{digits_in_front, is_numeral, value_of};
 
 // The words of a line: what stands between single blanks.
 fn words_of<'a>(alloc: Global, line: &'a [u8]) -> Result<Vec<&'a [u8]>, AllocError>
@@ -57,22 +55,8 @@ fn is_plain(word: &[u8]) -> bool
     is_numeral(word) && (word.len() == 1 || word[0] != b'0')
 }
 
-// Whether a word is digits alone, and not empty.
-#[tactic(auto, using(text_core::proofs::NumberLemmas::digits_by_all))]
-fn is_numeral(word: &[u8]) -> bool
-    ensures { result ≡ is_numeral word.now }
-{
-    !word.is_empty() && has_only_digits(word)
-}
-
-fn has_only_digits(word: &[u8]) -> bool
-    ensures { result ≡ list_all is_ascii_digit word.now }
-{
-    word.iter().all(|byte| byte.is_ascii_digit())
-}
-
 // The number of 64 bits that a word writes without leading zeros.
-fn number_of(word: &[u8]) -> Option<u64>
+fn plain_number(word: &[u8]) -> Option<u64>
     ensures { result ≡ number_below (2 ^ 64) word.now }
 {
     if !is_plain(word) {
@@ -81,21 +65,11 @@ fn number_of(word: &[u8]) -> Option<u64>
     value_of(word)
 }
 
-// The value of digits, if it fits 64 bits.
-fn value_of(digits: &[u8]) -> Option<u64>
-    requires { is_plain digits.now ≡ true }
-    ensures { result ≡ number_below (2 ^ 64) digits.now }
-{
-    let mut cursor = Cursor::new(digits);
-    let word = cursor.take(digits.len())?;
-    decimal(word).ok()
-}
-
 // A port's number.
 fn port_of(word: &[u8]) -> Option<u32>
     ensures { result ≡ port_of word.now }
 {
-    let number = number_of(word)?;
+    let number = plain_number(word)?;
     if number < 1 << 32 {
         Some(number as u32)
     } else {
@@ -120,12 +94,7 @@ fn numbers_of(alloc: Global, words: &[&[u8]]) -> Result<Vec<u64>, FileStop>
 {
     let mut numbers = Vec::new(alloc);
     for word in words.iter() {
-        let Some(number) = number_of(word) else {
-            return Err(FileStop::Fault(bad_number(word)));
-        };
-        let Ok(()) = numbers.push(number) else {
-            return Err(FileStop::Memory);
-        };
+        numbers.push(plain_number(word).ok_or(bad_number(word))?)?;
     }
     Ok(numbers)
 }
@@ -158,28 +127,16 @@ fn log_record(alloc: Global, words: &[&[u8]]) -> Result<Record, FileStop>
     ensures { Answers (λ entry. entry) result (log_record (texts words.now)) }
 {
     let (before, behind) = split_at_colon(words);
-    let numbers = match numbers_of(alloc, before) {
-        Ok(numbers) => numbers,
-        Err(stop) => return Err(stop),
-    };
-    let Some(behind) = behind else {
-        return Err(FileStop::Fault(RecordFault::Word));
-    };
-    let hints = match numbers_of(alloc, behind) {
-        Ok(hints) => hints,
-        Err(stop) => return Err(stop),
-    };
-    let Ok(clause) = literals_of(alloc, &numbers) else {
-        return Err(FileStop::Memory);
-    };
+    let numbers = numbers_of(alloc, before)?;
+    let hints = numbers_of(alloc, behind.ok_or(RecordFault::Word)?)?;
     Ok(Record::Line(LogLine {
-        clause,
+        clause: literals_of(alloc, &numbers)?,
         hints: Items::from_vec(hints),
     }))
 }
 
-fn kind_of(letter: u8) -> Option<PortKind>
-    ensures { result ≡ kind_of letter }
+fn kind_of_letter(letter: u8) -> Option<PortKind>
+    ensures { result ≡ kind_of_letter letter }
 {
     match letter {
         b'i' => Some(PortKind::Input),
@@ -188,25 +145,14 @@ fn kind_of(letter: u8) -> Option<PortKind>
     }
 }
 
-fn flip_of(sign: u8) -> Option<bool>
-    ensures { result ≡ flip_of sign }
+fn flip_of_sign(sign: u8) -> Option<bool>
+    ensures { result ≡ flip_of_sign sign }
 {
     match sign {
         b'+' => Some(false),
         b'-' => Some(true),
         _ => None,
     }
-}
-
-// How many digits bytes begin with.
-fn digits_in_front(bytes: &[u8]) -> usize
-    ensures count { result ≡ prefix_len is_ascii_digit bytes.now }
-    ensures within { result ≤ length bytes.now }
-{
-    bytes
-        .iter()
-        .take_while(|byte| byte.is_ascii_digit())
-        .count()
 }
 
 // The pair that a word writes: `i3-5`.
@@ -217,7 +163,7 @@ fn pair_of(word: &[u8]) -> Option<Pair>
         return None;
     };
     let count = digits_in_front(rest);
-    pair_behind(kind_of(*letter), &rest[..count], &rest[count..])
+    pair_behind(kind_of_letter(*letter), &rest[..count], &rest[count..])
 }
 
 // The pair of a kind and a first number, by what stands behind the number.
@@ -227,7 +173,7 @@ fn pair_behind(kind: Option<PortKind>, from: &[u8], behind: &[u8]) -> Option<Pai
     let [sign, to @ ..] = behind else {
         return None;
     };
-    match (kind, port_of(from), flip_of(*sign), port_of(to)) {
+    match (kind, port_of(from), flip_of_sign(*sign), port_of(to)) {
         (Some(kind), Some(from), Some(flip), Some(to)) => Some(Pair {
             kind,
             from,
@@ -244,12 +190,7 @@ fn pairs_of(alloc: Global, words: &[&[u8]]) -> Result<Vec<Pair>, FileStop>
 {
     let mut pairs = Vec::new(alloc);
     for word in words.iter() {
-        let Some(pair) = pair_of(word) else {
-            return Err(FileStop::Fault(RecordFault::Word));
-        };
-        let Ok(()) = pairs.push(pair) else {
-            return Err(FileStop::Memory);
-        };
+        pairs.push(pair_of(word).ok_or(RecordFault::Word)?)?;
     }
     Ok(pairs)
 }
@@ -258,34 +199,32 @@ fn pairs_of(alloc: Global, words: &[&[u8]]) -> Result<Vec<Pair>, FileStop>
 fn match_record(alloc: Global, words: &[&[u8]]) -> Result<Record, FileStop>
     ensures { Answers (λ entry. entry) result (match_record (pairs_of (texts words.now))) }
 {
-    match pairs_of(alloc, words) {
-        Ok(pairs) => Ok(Record::Conclusion(Conclusion::Match(Items::from_vec(pairs)))),
-        Err(stop) => Err(stop),
-    }
+    let pairs = pairs_of(alloc, words)?;
+    Ok(Record::Conclusion(Conclusion::Match(Items::from_vec(pairs))))
 }
 
 // The header, by the words behind its first.
-fn header_record(words: &[&[u8]]) -> Result<Record, FileStop>
-    ensures { Answers (λ entry. entry) result (header_record (texts words.now)) }
+fn header_record(words: &[&[u8]]) -> Result<Record, RecordFault>
+    ensures { result ≡ header_record (texts words.now) }
 {
     match words {
         [version] if *version == b"1".as_slice() => Ok(Record::Header),
-        _ => Err(FileStop::Fault(RecordFault::Word)),
+        _ => Err(RecordFault::Word),
     }
 }
 
 // The end, where no word stands behind its first.
-fn end_record(words: &[&[u8]]) -> Result<Record, FileStop>
-    ensures { Answers (λ entry. entry) result (alone Record.End (texts words.now)) }
+fn end_record(words: &[&[u8]]) -> Result<Record, RecordFault>
+    ensures { result ≡ alone Record.End (texts words.now) }
 {
     if words.is_empty() {
         Ok(Record::End)
     } else {
-        Err(FileStop::Fault(RecordFault::Word))
+        Err(RecordFault::Word)
     }
 }
 
-/// The record that words write.
+// The record that words write.
 fn record_in(alloc: Global, words: &[&[u8]]) -> Result<Record, FileStop>
     ensures { Answers (λ entry. entry) result (record_in (texts words.now)) }
 {
@@ -299,10 +238,10 @@ fn record_in(alloc: Global, words: &[&[u8]]) -> Result<Record, FileStop>
         return match_record(alloc, rest);
     }
     if *first == b"end".as_slice() {
-        return end_record(rest);
+        return Ok(end_record(rest)?);
     }
     if *first == b"npnp".as_slice() {
-        return header_record(rest);
+        return Ok(header_record(rest)?);
     }
     Err(FileStop::Fault(RecordFault::Word))
 }
@@ -311,8 +250,6 @@ fn record_in(alloc: Global, words: &[&[u8]]) -> Result<Record, FileStop>
 pub(crate) fn read_line(alloc: Global, line: &[u8]) -> Result<Record, FileStop>
     ensures { Answers (λ entry. entry) result (record_in (words_of line.now)) }
 {
-    let Ok(words) = words_of(alloc, line) else {
-        return Err(FileStop::Memory);
-    };
+    let words = words_of(alloc, line)?;
     record_in(alloc, &words)
 }

@@ -1,6 +1,6 @@
 //! The lines that records are written as.
 
-ghost use Rattle.std.specs.Prelude.{◌≡◌, [], ◌∷◌, ◌++◌, codes, OnOk, map};
+ghost use Rattle.std.specs.Prelude.{◌≡◌, [], ◌∷◌, ◌++◌, codes, OnOk, OnErr, map};
 ghost use Rattle.std.specs.Fmt.{decimal as digits_of_number};
 ghost use Rattle.std.specs.List.{flat_map};
 ghost use Rattle.account_file.specs.Spelling.{kind_letter, numbers_text, pair_text, record_line, sign_of};
@@ -15,14 +15,24 @@ use text_core::put_decimal;
 /// Writes the one line of a record at the end of `out`: `npnp 1` for the header, `match` and the pairs of ports for a
 /// conclusion, `l`, the literals, `:` and the hints for a line of a log, and `end`. A pair is `i3+5` where input 3 goes to
 /// input 5, and `o0-1` where output 0 goes to output 1 inverted. Numbers have no leading zeros, one blank stands between
-/// two words, and the line ends with a line feed. A first part of it may stand in `out` where memory is wanting.
+/// two words, and the line ends with a line feed. Want of memory leaves `out` as it was.
 pub fn put_record(entry: &Record, out: &mut Vec<u8>) -> Result<(), AllocError>
+    ensures line { OnOk result (out.new.items ≡ out.old.items ++ record_line entry.now) }
+    ensures refused { OnErr result (out.new.items ≡ out.old.items) }
+{
+    let mut line = Vec::new(*out.allocator());
+    put_line_of(entry, &mut line)?;
+    out.extend_from_slice(&line)
+}
+
+// Writes the line of a record; a first part of it may stand in `out` where memory is wanting.
+fn put_line_of(entry: &Record, out: &mut Vec<u8>) -> Result<(), AllocError>
     ensures { OnOk result (out.new.items ≡ out.old.items ++ record_line entry.now) }
 {
     match entry {
         Record::Header => out.extend_from_slice(b"npnp 1\n"),
         Record::Conclusion(Conclusion::Match(pairs)) => put_match(pairs, out),
-        Record::Line(line) => put_line(line, out),
+        Record::Line(line) => put_log_line(line, out),
         Record::End => out.extend_from_slice(b"end\n"),
     }
 }
@@ -75,7 +85,7 @@ fn put_sign(flip: bool, out: &mut Vec<u8>) -> Result<(), AllocError>
 }
 
 // Writes a line of a log.
-fn put_line(line: &LogLine, out: &mut Vec<u8>) -> Result<(), AllocError>
+fn put_log_line(line: &LogLine, out: &mut Vec<u8>) -> Result<(), AllocError>
     ensures { OnOk result (out.new.items ≡ out.old.items ++ record_line (Record.Line line.now)) }
 {
     out.extend_from_slice(b"l")?;

@@ -14,6 +14,7 @@ use crate::record::Record;
 use account_core::Conclusion;
 use circuits::{Pair, PortKind};
 use std::alloc::Global;
+use text_core::line_length;
 
 /// What is done with the bytes that are left.
 #[derive(Debug, Drop)]
@@ -60,14 +61,7 @@ fn line_end_behind(bytes: &[u8], looked: usize) -> usize
     if looked >= count {
         return count;
     }
-    looked + line_end(&bytes[looked..])
-}
-
-// How many bytes stand before the first line feed, or all where there is none.
-fn line_end(bytes: &[u8]) -> usize
-    ensures { result ≡ position_or_len is_line_feed bytes.now }
-{
-    bytes.iter().take_while(|byte| **byte != b'\n').count()
+    looked + line_length(&bytes[looked..])
 }
 
 // What is done where the bytes end.
@@ -109,33 +103,29 @@ fn line_at(alloc: Global, place: Place, line: &[u8]) -> Result<(Record, Place), 
     ensures { Answers (λ found. found) result (line_at place line.now) }
 {
     if let Place::Start = place {
-        return first_line(line);
+        return Ok(first_line(line)?);
     }
-    match read_line(alloc, line) {
-        Ok(entry) => in_place(place, entry),
-        Err(stop) => Err(stop),
-    }
+    let entry = read_line(alloc, line)?;
+    Ok(in_place(place, entry)?)
 }
 
 // The first line, which names the format.
-fn first_line(line: &[u8]) -> Result<(Record, Place), FileStop>
-    ensures { Answers (λ found. found) result (line_at Place.Start line.now) }
+fn first_line(line: &[u8]) -> Result<(Record, Place), RecordFault>
+    ensures { result ≡ line_at Place.Start line.now }
 {
     if line == b"npnp 1".as_slice() {
         Ok((Record::Header, Place::Headed))
     } else {
-        Err(FileStop::Fault(RecordFault::Header))
+        Err(RecordFault::Header)
     }
 }
 
 // A record, where it may stand there.
-fn in_place(place: Place, entry: Record) -> Result<(Record, Place), FileStop>
-    ensures { Answers (λ found. found) result (placed entry (place_behind place entry)) }
+fn in_place(place: Place, entry: Record) -> Result<(Record, Place), RecordFault>
+    ensures { result ≡ placed entry (place_behind place entry) }
 {
-    match place_behind(place, &entry) {
-        Some(place) => Ok((entry, place)),
-        None => Err(FileStop::Fault(RecordFault::Order)),
-    }
+    let place = place_behind(place, &entry).ok_or(RecordFault::Order)?;
+    Ok((entry, place))
 }
 
 // Where the account stands behind a record, if the record may stand there.
