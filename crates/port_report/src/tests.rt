@@ -3,36 +3,19 @@
 ghost use Rattle.std.specs.Prelude.{◌<◌};
 
 use crate::{put_match, put_rejected};
-use items::Items;
-use net_core::{Graph, Lit, Matching, Name, Named};
-use std::alloc::{AllocError, Global};
+use net_core::{Matching, Named};
+use samples::{SampleFault, graph, matching, named};
+use std::alloc::Global;
 use std::test::Fail;
 
-fn names(alloc: Global, texts: &[&[u8]]) -> Result<Items<Name>, AllocError> {
-    let mut names = Items::new(alloc);
-    for text in texts {
-        names.push(Items::from_vec(text.to_vec(alloc)?))?;
+/// A circuit without gates, whose ports have these names, at most nine of each kind.
+fn circuit(alloc: Global, inputs: &[&[u8]], outputs: &[&[u8]]) -> Result<Named, SampleFault> {
+    if inputs.len() > 9 {
+        return Err(SampleFault::TooLarge);
     }
-    Ok(names)
-}
-
-/// A circuit without gates, whose ports have these names.
-fn circuit(alloc: Global, inputs: &[&[u8]], outputs: &[&[u8]]) -> Result<Option<Named>, Fail> {
-    let input_names = names(alloc, inputs)?;
-    let output_names = names(alloc, outputs)?;
-    if input_names.len() > 9 || output_names.len() > 9 {
-        return Ok(None);
-    }
-    let zeros = vec![in alloc; Lit(0); output_names.len()]?;
-    let graph = Graph::new(input_names.len() as u32, Vec::new(alloc), zeros).ok_or("no graph")?;
-    if graph.outputs().len() != output_names.len() {
-        return Ok(None);
-    }
-    Ok(Some(Named {
-        graph,
-        input_names,
-        output_names,
-    }))
+    let zeros = vec![in alloc; 0; outputs.len()]?;
+    let wires = graph(alloc, inputs.len() as u32, &[], &zeros)?;
+    named(alloc, wires, inputs, outputs)
 }
 
 /// The port table as it is written behind the byte `>`, or None where it isn't one of these circuits.
@@ -57,18 +40,15 @@ fn written(
 #[test]
 fn writes_port_tables(rt: HostRuntime) -> Result<(), Fail> {
     let alloc = rt.alloc();
-    let first = circuit(alloc, &[b"a b", b"\xff"], &[b""])?.ok_or("no circuit")?;
-    let second = circuit(alloc, &[b"i0", b"= not "], &[b"y"])?.ok_or("no circuit")?;
-    let matching = Matching {
-        inputs: Items::from_vec(vec![in alloc; (1, true), (0, false)]?),
-        outputs: Items::from_vec(vec![in alloc; (0, true)]?),
-    };
-    let text = written(alloc, &first, &second, &matching)?.ok_or("no table")?;
+    let first = circuit(alloc, &[b"a b", b"\xff"], &[b""])?;
+    let second = circuit(alloc, &[b"i0", b"= not "], &[b"y"])?;
+    let table = matching(alloc, &[(1, true), (0, false)], &[(0, true)])?;
+    let text = written(alloc, &first, &second, &table)?.ok_or("no table")?;
     assert_eq!(rt;
         text.as_slice(),
         b">input 0 a b = not input 1 = not \ninput 1 \xff = input 0 i0\noutput 0  = not output 0 y\n".as_slice()
     );
-    let text = written(alloc, &second, &first, &matching)?.ok_or("no table")?;
+    let text = written(alloc, &second, &first, &table)?.ok_or("no table")?;
     assert_eq!(rt;
         text.as_slice(),
         b">input 0 i0 = not input 1 \xff\ninput 1 = not  = input 0 a b\noutput 0 y = not output 0 \n".as_slice()
@@ -79,12 +59,9 @@ fn writes_port_tables(rt: HostRuntime) -> Result<(), Fail> {
 #[test]
 fn writes_nothing_of_no_ports(rt: HostRuntime) -> Result<(), Fail> {
     let alloc = rt.alloc();
-    let empty = circuit(alloc, &[], &[])?.ok_or("no circuit")?;
-    let matching = Matching {
-        inputs: Items::new(alloc),
-        outputs: Items::new(alloc),
-    };
-    let text = written(alloc, &empty, &empty, &matching)?.ok_or("no table")?;
+    let empty = circuit(alloc, &[], &[])?;
+    let table = matching(alloc, &[], &[])?;
+    let text = written(alloc, &empty, &empty, &table)?.ok_or("no table")?;
     assert_eq!(rt; text.as_slice(), b">".as_slice());
     Ok(())
 }

@@ -12,15 +12,20 @@ ghost use Rattle.text_core.specs.Numbers.{number};
 /// What is taken from the front of a piece, and what is left behind that, stand in the text where the
 /// piece does.
 pub fn pieces_of_text()
-    ensures front { (text : List ℕ) (count : ℕ) (p : Piece) → StandsIn text p → StandsIn text (front count p) }
-    ensures past { (text : List ℕ) (count : ℕ) (p : Piece) → StandsIn text p → StandsIn text (past count p) }
+    ensures front { (text : List ℕ) (count : ℕ) (p : Piece)
+        → StandsIn text p
+        → StandsIn text (front count p) }
+    ensures past { (text : List ℕ) (count : ℕ) (p : Piece)
+        → StandsIn text p
+        → StandsIn text (past count p) }
 {}
 
 /// A text with nothing left has no lines, and the lines of any other are its first one and those of
 /// what stands behind it.
 pub fn lines_from_first_line()
     ensures none { (p : Piece) → first_line p ≡ None → lines p.bytes ≡ [] }
-    ensures next { (p line : Piece) → first_line p ≡ Some line
+    ensures next { (p line : Piece)
+        → first_line p ≡ Some line
         → lines p.bytes ≡ line.bytes ∷ lines (after_line p).bytes }
 {}
 
@@ -29,24 +34,33 @@ pub fn lines_from_first_line()
 pub fn lines_of_text()
     ensures each { (text : List ℕ) → All IsLine (lines text) }
     ensures joined { (text : List ℕ) → text_of_lines (lines (text ++ 10 ∷ [])) ≡ text ++ 10 ∷ [] }
-    ensures parted { (parts : List (List ℕ)) (rest : List ℕ) → All IsLine parts
+    ensures parted { (parts : List (List ℕ)) (rest : List ℕ)
+        → All IsLine parts
         → lines (text_of_lines parts ++ rest) ≡ parts ++ lines rest }
-    ensures last { (line : List ℕ) → IsLine line → 0 < length line → lines line ≡ line ∷ [] }
+    ensures last { (line : List ℕ)
+        → IsLine line
+        → 0 < length line
+        → lines line ≡ line ∷ [] }
 {}
 
 /// A line with no word left has no words, and the words of any other are its first one and those of
 /// what stands behind it.
 pub fn words_from_first_word()
     ensures none { (p : Piece) → first_word p ≡ None → words p.bytes ≡ [] }
-    ensures next { (p word : Piece) → first_word p ≡ Some word
+    ensures next { (p word : Piece)
+        → first_word p ≡ Some word
         → words p.bytes ≡ word.bytes ∷ words (after_word p).bytes }
 {}
 
 /// Blanks part the words of a line, any number of them, and stand before and behind them too.
 pub fn words_of_line()
     ensures each { (line : List ℕ) → All IsWord (words line) }
-    ensures blank { (byte : ℕ) (line : List ℕ) → is_blank byte ≡ true → words (byte ∷ line) ≡ words line }
-    ensures parted { (word line : List ℕ) (byte : ℕ) → IsWord word → is_blank byte ≡ true
+    ensures blank { (byte : ℕ) (line : List ℕ)
+        → is_blank byte ≡ true
+        → words (byte ∷ line) ≡ words line }
+    ensures parted { (word line : List ℕ) (byte : ℕ)
+        → IsWord word
+        → is_blank byte ≡ true
         → words (word ++ byte ∷ line) ≡ word ∷ words line }
     ensures last { (word : List ℕ) → IsWord word → words word ≡ word ∷ [] }
 {}
