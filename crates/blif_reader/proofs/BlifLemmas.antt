@@ -1,4 +1,4 @@
--- What the passes over a file find is what the definitions of its netlist and its faults say.
+-- For `whole`: what the passes over a file find is what the definitions of its netlist and its faults say.
 use Rattle.std.proofs.Common.{◌≡◌, ◌||◌, ◌&&◌, ℕ, suc, ◌+◌, ◌^◌, ◌<◌, cond, ◌≤◌, Bool, true, false, not, List, [], ◌∷◌, ◌++◌, length, map, take, get_or, All, refl, ap, sym, subst, ◌∙◌, arith}
 use Rattle.std.specs.List.{list_any}
 use Rattle.std.specs.Str.{bytes_eq}

@@ -1,4 +1,4 @@
--- The netlist of a file whose names are known is closed.
+-- For the law that a file's netlist is closed: its names are known, and its rows as wide as their covers.
 use Rattle.std.proofs.Common.{◌≡◌, ◌==◌, ℕ, suc, ◌+◌, ◌*◌, ◌/◌, ◌<◌, Bool, true, false, not, cond, List, [], ◌∷◌, ◌++◌, length, map, drop, get_or, All, Option, Some, None, refl, ap, sym, subst, ◌∙◌, arith, append_assoc, eqb-true, length-take, length-drop}
 use Rattle.std.specs.Prelude.{nat_lt, is_some, reverse, filter}
 use Rattle.std.specs.List.{position_or_len}

@@ -1,4 +1,5 @@
--- A file has no more names than bytes: each name is a word, and a word has a byte of its own.
+-- For the bound on signals that `read` needs: a file has no more names than bytes, since each name is a word, and a
+-- word has a byte of its own.
 use Rattle.std.proofs.Common.{◌≡◌, ℕ, ◌+◌, ◌-◌, ◌≤◌, Bool, true, false, cond, List, [], ◌∷◌, length, take, drop, refl, ap, ◌∙◌, arith, length-take, length-drop}
 use Rattle.std.specs.Prelude.{reverse}
 use Rattle.std.specs.List.{filter, onto_first, prefix_len, position_or_len, before_first, slice_split}

@@ -1,4 +1,4 @@
--- A file that is a netlist has few ports, each with a name.
+-- For the law that a file's netlist has few ports, each with a name.
 use Rattle.std.proofs.Common.{◌≡◌, ℕ, ◌≤◌, List, length, map, ap, sym, ◌∙◌, arith}
 use Rattle.circuits.specs.Circuits.{Circuit}
 use Rattle.circuits.specs.Netlists.{Net}

@@ -1,4 +1,4 @@
--- Names and their numbers.
+-- For `names` and `ports`: what one name more does to the numbers, and to the names of each kind of port.
 use Rattle.std.proofs.Common.{◌≡◌, ℕ, suc, ◌+◌, ◌<◌, Bool, true, false, not, ◌||◌, ◌&&◌, cond, List, [], ◌∷◌, ◌++◌, length, map, get_or, take, drop, Option, Some, None, refl, ap, sym, subst, ◌∙◌, inl, inr, arith, append_assoc}
 use Rattle.std.specs.Prelude.{nat_lt, filter, MatchOption}
 use Rattle.std.specs.List.{list_any, position_or_len, position}

@@ -1,4 +1,4 @@
--- A file is one netlist at most, or has one first fault, and never both.
+-- For the laws that a file is one netlist at most, or has one first fault at most, and never both.
 use Rattle.std.proofs.Common.{◌≡◌, ℕ, ◌≤◌, ◌⊎◌, Bool, List, [], length, take, Some, get_or, inl, inr, sym, ap, subst, ◌∙◌, arith}
 use Rattle.text_core.specs.Piece.{Piece}
 use Rattle.circuits.specs.declared.port.PortKind.TheVariants.{Input}

@@ -1,4 +1,4 @@
--- What the definitions of placed lines and words say of what stands at their front.
+-- For `lines`: what the definitions of placed lines and words say of what stands at their front.
 use Rattle.std.proofs.Common.{◌≡◌, ◌==◌, ℕ, suc, ◌+◌, ◌<◌, ◌≤◌, Bool, true, false, cond, not, min, List, [], ◌∷◌, Some, None, length, take, drop, refl, ap, sym, ◌∙◌, inl, inr, arith, length-take, length-drop}
 use Rattle.std.specs.List.{filter, onto_first, prefix_len, slice_split}
 use Rattle.std.proofs.lemmas.List.Splits.{slice_split-cons_yes}

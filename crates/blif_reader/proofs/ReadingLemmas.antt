@@ -1,4 +1,4 @@
--- What is left to read, step by step.
+-- For `lines`: what is left to read after a word, or a line, was taken.
 use Rattle.std.proofs.Common.{◌≡◌, Bool, true, false, cond, List, [], ◌∷◌, ◌++◌, Some, None, drop, get_or, refl, ap, sym, ◌∙◌, arith, append-nil}
 use Rattle.std.specs.List.{filter}
 use Rattle.text_core.specs.Piece.{Piece}

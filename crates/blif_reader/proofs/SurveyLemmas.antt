@@ -1,4 +1,4 @@
--- What is known of lines goes on to one line more.
+-- For `survey`: what is known of lines goes on to one line more.
 use Rattle.std.proofs.Common.{◌≡◌, ◌==◌, ℕ, suc, ◌+◌, Bool, true, false, not, ◌||◌, cond, List, [], ◌∷◌, ◌++◌, length, take, get_or, All, Option, Some, None, Err, refl, ap, sym, subst, ◌∙◌, arith, append_assoc, eqb-true}
 use Rattle.std.specs.Prelude.{Result, reverse, is_some, take_while}
 use Rattle.std.specs.List.{list_any, flat_map, prefix_len}
@@ -19,15 +19,11 @@ use Rattle.blif_reader.specs.declared.rows.OpenCover.{OpenCover}
 use Rattle.blif_reader.specs.declared.survey.Survey.{Survey}
 use Rattle.blif_reader.specs.JoinedLines.{word_of}
 use Rattle.blif_reader.specs.Directives.{directive_of, is_row, is_names, is_model, is_inputs, is_outputs, is_end}
-use Rattle.blif_reader.specs.Rows.{output_byte, operand_count, has_widths, has_good_bytes, rows_before, opening, fault_in_cover, row_fault}
+use Rattle.blif_reader.specs.Rows.{output_byte, operand_count, has_widths, has_good_bytes, rows_before, opening, differs_from, fault_in_cover, row_fault}
 use Rattle.blif_reader.specs.Names.{ports_on, defined_on}
 use Rattle.blif_reader.specs.Faults.{has_line, fault_by_directive, fault_before_end, fault_behind_end, line_fault, is_faulty, IsLineFault}
 use Rattle.blif_reader.specs.Surveys.{is_mixed, fault_by_cover, fault_known, fault_of, cover_behind, Advances, HaveOutput, IsOpen, IsSurveyed, IsUnderWay}
 use Rattle.blif_reader.proofs.FirstLemmas.{found-seam, NoneIs-push, IsFirst-seam}
-
--- a byte differs from some row's where it differs from that of all
-abbrev differs_from : ℕ → List Piece → Bool
-differs_from byte row = not (output_byte row == byte)
 
 or_same : (b : Bool) → (b || b) ≡ b
 or_same true = refl

@@ -1,5 +1,5 @@
--- BLIF files without latches and don't-cares (Berkeley Logic Interchange Format, 1992): the netlist that a file is, or its
--- first fault.
+-- BLIF files without latches and don't-cares (Berkeley Logic Interchange Format, 1992): the netlist that a file is, or
+-- its first fault.
 use Rattle.std.specs.Prelude.{◌≡◌, ℕ, ◌<◌, ◌≤◌, ◌⊎◌, List, [], length, map, slice_index_or}
 use Rattle.text_core.specs.Piece.{Piece}
 use Rattle.circuits.specs.Circuits.{Circuit}
@@ -18,8 +18,10 @@ use Rattle.blif_reader.specs.Covers.{blif_circuit, names_lines}
 abbrev pub blif_lines : List ℕ → List (List Piece)
 blif_lines bytes = joined_lines (record { bytes = bytes; at = 0 })
 
--- The joined lines are this netlist, which has no cycle and no more gates than the limit, with these names of its ports.
-pub record AreBlif (lines : List (List Piece)) (circuit : Circuit) (input_names output_names : List (List ℕ)) : Type 0 where
+-- The joined lines are this netlist, which has no cycle and no more gates than the limit, with these names of its
+-- ports.
+pub record AreBlif (lines : List (List Piece)) (circuit : Circuit)
+    (input_names output_names : List (List ℕ)) : Type 0 where
   pub names : AreFew lines
   pub same : circuit ≡ blif_circuit lines
   pub acyclic : IsAcyclic circuit
@@ -43,8 +45,8 @@ pub record IsGatesFault (end : ℕ) (lines : List (List Piece)) (kind : NetKind)
   pub many : 1000000 < gates_in (blif_circuit lines)
   pub offset : at ≡ end
 
--- The first fault of joined lines: of a line; a kind of port without a line; names of ports, of what is defined and of what
--- is read; the numbers of ports; cycles; and the number of gates.
+-- The first fault of joined lines: of a line; a kind of port without a line; names of ports, of what is defined and of
+-- what is read; the numbers of ports; cycles; and the number of gates.
 abbrev pub IsFaultOfLines : ℕ → List (List Piece) → NetKind → ℕ → Type 0
 IsFaultOfLines end lines kind at =
     IsLineFault lines kind at
@@ -64,8 +66,8 @@ IsBlif bytes circuit input_names output_names = AreBlif (blif_lines bytes) circu
 abbrev pub IsBlifFault : List ℕ → NetKind → ℕ → Type 0
 IsBlifFault bytes kind at = IsFaultOfLines (length bytes) (blif_lines bytes) kind at
 
--- A file was read as this graph with these names of its ports: the graph computes the netlist that the file is. Its gates
--- are taken by level, then by place, since accounts name gates by their numbers.
+-- A file was read as this graph with these names of its ports: the graph computes the netlist that the file is. Its
+-- gates are taken by level, then by place, since accounts name gates by their numbers.
 pub record ReadAs (bytes : List ℕ) (graph : Net) (input_names output_names : List (List ℕ)) : Type 0 where
   pub circuit : Circuit
   pub is : IsBlif bytes circuit input_names output_names

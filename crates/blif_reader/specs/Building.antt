@@ -1,4 +1,5 @@
--- What a second pass over a BLIF file has of the netlist, by names that are known, and what the lines that are left add.
+-- What a second pass over a BLIF file has of the netlist, by names that are known, and what the lines that are left
+-- add.
 use Rattle.std.specs.Prelude.{◌≡◌, ℕ, ◌-◌, ◌==◌, ◌&&◌, true, false, List, [], ◌∷◌, ◌++◌, length, map, take, All, Option, None, Some}
 use Rattle.std.specs.List.{list_any, flat_map}
 use Rattle.std.specs.Str.{bytes_eq}
@@ -53,12 +54,17 @@ closed (Some cover) = Cover cover.names cover.rows cover.on ∷ []
 -- a row more in the open cover
 abbrev pub with_row : Option CoverSoFar → List Piece → Option CoverSoFar
 with_row None row = None
-with_row (Some cover) row = Some (record { names = cover.names; rows = cover.rows ++ trits_of row ∷ []; on = cover.on && (output_byte row == 49) })
+with_row (Some cover) row = Some (record {
+  names = cover.names;
+  rows = cover.rows ++ trits_of row ∷ [];
+  on = cover.on && (output_byte row == 49);
+})
 
 -- the cover that is open behind a line
 abbrev pub open_behind : List (List ℕ) → Option CoverSoFar → Directive → List Piece → Option CoverSoFar
 open_behind names cover Row line = with_row cover line
-open_behind names cover Names line = Some (record { names = map (signal_named names) (operands line); rows = []; on = true })
+open_behind names cover Names line =
+    Some (record { names = map (signal_named names) (operands line); rows = []; on = true })
 open_behind names cover other line = None
 
 -- what a line closes
@@ -93,15 +99,18 @@ pub record ReadsOutputs (names : List (List ℕ)) (old new : List Lit) (all left
   pub words : Continues names left all
 
 -- Operands were read, up to this one: all but the last of the words.
-pub record ReadsOperands (names : List (List ℕ)) (signals : List ℕ) (operand : Piece) (left all : List Piece) : Type 0 where
-  pub signals_are : signals ++ map (signal_named names) (but_last (operand ∷ left)) ≡ map (signal_named names) (but_last all)
+pub record ReadsOperands (names : List (List ℕ)) (signals : List ℕ) (operand : Piece)
+    (left all : List Piece) : Type 0 where
+  pub signals_are : signals ++ map (signal_named names) (but_last (operand ∷ left))
+      ≡ map (signal_named names) (but_last all)
   pub words : Continues names (but_last (operand ∷ left)) (but_last all)
 
 -- what the lines that are left add to the definitions, behind the cover that is open
 abbrev pub continued : List (List ℕ) → Option CoverSoFar → List (List Piece) → List Def
 continued names None left = covers_of names left
 continued names (Some cover) left =
-    Cover cover.names (cover.rows ++ map trits_of (leading_rows left)) (cover.on && are_on (leading_rows left)) ∷ covers_of names left
+    let rows = leading_rows left in
+    Cover cover.names (cover.rows ++ map trits_of rows) (cover.on && are_on rows) ∷ covers_of names left
 
 -- the words of the outputs, and the offsets of the `.names` lines
 abbrev pub outputs_in : List (List Piece) → List Piece
@@ -120,6 +129,7 @@ pub record IsBuilt (names : List (List ℕ)) (lines : List (List Piece)) (covers
 -- The first lines were read: what is read and what the lines that are left add make the whole.
 pub record IsBuilding (names : List (List ℕ)) (all left : List (List Piece)) (covers : Covers) : Type 0 where
   pub defs : covers.defs ++ continued names covers.current left ≡ covers_of names all
-  pub outputs : covers.outputs ++ map (literal_named names) (outputs_in left) ≡ map (literal_named names) (outputs_in all)
+  pub outputs : covers.outputs ++ map (literal_named names) (outputs_in left)
+      ≡ map (literal_named names) (outputs_in all)
   pub places : covers.places ++ places_in left ≡ places_in all
   pub words : Continues names (read_words left) (read_words all)

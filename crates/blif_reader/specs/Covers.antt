@@ -47,7 +47,9 @@ leading_rows lines = take_while (λ line. is_row (directive_of line)) lines
 -- the definitions of a text, in its order
 abbrev pub covers_of : List (List ℕ) → List (List Piece) → List Def
 covers_of names [] = []
-covers_of names (line ∷ lines) = if is_names (directive_of line) then cover_of names line (leading_rows lines) ∷ covers_of names lines else covers_of names lines
+covers_of names (line ∷ lines) =
+    if is_names (directive_of line) then cover_of names line (leading_rows lines) ∷ covers_of names lines
+    else covers_of names lines
 
 abbrev pub blif_circuit : List (List Piece) → Circuit
 blif_circuit lines =

@@ -1,5 +1,5 @@
--- What a joined line of a BLIF file is, by its first word (Berkeley Logic Interchange Format, 1992). Directives that say
--- nothing of a circuit's function are passed over; this project's profile lists them.
+-- What a joined line of a BLIF file is, by its first word (Berkeley Logic Interchange Format, 1992). Directives that
+-- say nothing of a circuit's function are passed over; this project's profile lists them.
 use Rattle.std.specs.Prelude.{ℕ, ◌==◌, Bool, true, false, List, [], ◌∷◌, codes, slice_index_or, if◌then◌else◌}
 use Rattle.std.specs.List.{list_any}
 use Rattle.std.specs.Str.{bytes_eq}
@@ -11,10 +11,13 @@ use Rattle.blif_reader.specs.declared.directive.Directive.TheVariants.{Model, In
 -- delays, areas and drives, which the BLIF document gives, and three words that other writers use
 abbrev pub passed_over : List (List ℕ)
 passed_over =
-    codes ".area" ∷ codes ".delay" ∷ codes ".wire_load_slope" ∷ codes ".wire" ∷ codes ".input_arrival" ∷ codes ".default_input_arrival"
-    ∷ codes ".output_required" ∷ codes ".default_output_required" ∷ codes ".input_drive" ∷ codes ".default_input_drive"
-    ∷ codes ".max_input_load" ∷ codes ".default_max_input_load" ∷ codes ".output_load" ∷ codes ".default_output_load" ∷ codes ".clock"
-    ∷ codes ".attr" ∷ codes ".cname" ∷ codes ".param" ∷ []
+    codes ".area" ∷ codes ".delay" ∷ codes ".wire_load_slope" ∷ codes ".wire"
+    ∷ codes ".input_arrival" ∷ codes ".default_input_arrival"
+    ∷ codes ".output_required" ∷ codes ".default_output_required"
+    ∷ codes ".input_drive" ∷ codes ".default_input_drive"
+    ∷ codes ".max_input_load" ∷ codes ".default_max_input_load"
+    ∷ codes ".output_load" ∷ codes ".default_output_load"
+    ∷ codes ".clock" ∷ codes ".attr" ∷ codes ".cname" ∷ codes ".param" ∷ []
 
 -- the first byte is a full stop
 abbrev pub begins_with_stop : List ℕ → Bool

@@ -18,7 +18,8 @@ use Rattle.blif_reader.specs.Names.{input_words, output_words, defined_words, re
 abbrev pub has_line : (Directive → Bool) → List (List Piece) → Bool
 has_line is_it lines = list_any (λ line. is_it (directive_of line)) lines
 
--- what is wrong with a line before `.end`, by what it is, whether a model was before, and what is wrong with it as a row
+-- what is wrong with a line before `.end`, by what it is, whether a model was before, and what is wrong with it as a
+-- row
 abbrev pub fault_by_directive : Bool → Option NetKind → List Piece → Directive → Option NetKind
 fault_by_directive has_model in_row line Model = if has_model then Some fault.SecondModel else None
 fault_by_directive has_model in_row line Inputs = None
@@ -42,7 +43,8 @@ fault_behind_end directive = if is_model directive then Some fault.SecondModel e
 -- what is wrong with a line that stands behind these
 abbrev pub line_fault : List (List Piece) → List Piece → Option NetKind
 line_fault earlier line =
-    if has_line is_end earlier then fault_behind_end (directive_of line) else fault_before_end earlier line (directive_of line)
+    if has_line is_end earlier then fault_behind_end (directive_of line)
+    else fault_before_end earlier line (directive_of line)
 
 abbrev pub is_faulty : List (List Piece) → List Piece → Bool
 is_faulty earlier line = is_some (line_fault earlier line)

@@ -55,7 +55,9 @@ onto_next words (next ∷ more) = (words ++ next) ∷ more
 -- the words of each joined line
 abbrev pub joined : List Piece → List (List Piece)
 joined [] = []
-joined (line ∷ lines) = if goes_on line.bytes then onto_next (line_words line) (joined lines) else line_words line ∷ joined lines
+joined (line ∷ lines) =
+    if goes_on line.bytes then onto_next (line_words line) (joined lines)
+    else line_words line ∷ joined lines
 
 -- there is a word
 abbrev pub has_words : List Piece → Bool

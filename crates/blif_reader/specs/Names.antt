@@ -68,7 +68,8 @@ read_words lines = flat_map (λ line. read_on (directive_of line) line) lines
 
 -- a port's name is that of an earlier port of its kind
 abbrev pub repeats_port : List Port → Port → Bool
-repeats_port earlier port = list_any (λ other. is_same_kind other.kind port.kind && same_name port.word other.word) earlier
+repeats_port earlier port =
+    list_any (λ other. is_same_kind other.kind port.kind && same_name port.word other.word) earlier
 
 -- a name that is defined is that of an input, or was defined before
 abbrev pub is_redefined : List Piece → List Piece → Piece → Bool
@@ -76,4 +77,5 @@ is_redefined inputs earlier word = list_any (same_name word) inputs || list_any 
 
 -- a name that is read is that of no input, and isn't defined
 abbrev pub is_undefined : List Piece → List Piece → List Piece → Piece → Bool
-is_undefined inputs defined earlier word = not (list_any (same_name word) inputs) && not (list_any (same_name word) defined)
+is_undefined inputs defined earlier word =
+    not (list_any (same_name word) inputs) && not (list_any (same_name word) defined)

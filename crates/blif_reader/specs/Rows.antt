@@ -48,8 +48,8 @@ rows_before earlier = take_while (λ line. is_row (directive_of line)) (reverse 
 abbrev pub opening : List (List Piece) → List Piece
 opening earlier = slice_index_or (reverse earlier) (length (rows_before earlier)) []
 
--- what is wrong with a row of a cover of so many operands, by whether the rows before have the other byte for the output:
--- the first of these
+-- what is wrong with a row of a cover of so many operands, by whether the rows before have the other byte for the
+-- output: the first of these
 abbrev pub fault_in_cover : ℕ → Bool → List Piece → Option NetKind
 fault_in_cover operands mixed row =
     if not (has_widths operands row) then Some fault.RowWidth
@@ -57,8 +57,13 @@ fault_in_cover operands mixed row =
     else if mixed then Some fault.MixedCover
     else None
 
+-- a row has another byte for the output
+abbrev pub differs_from : ℕ → List Piece → Bool
+differs_from byte row = not (output_byte row == byte)
+
 -- what is wrong with a row that stands behind these lines
 abbrev pub row_fault : List (List Piece) → List Piece → Option NetKind
 row_fault earlier row =
+    let mixed = list_any (differs_from (output_byte row)) (rows_before earlier) in
     if not (is_names (directive_of (opening earlier))) then Some fault.RowOutside
-    else fault_in_cover (operand_count (opening earlier)) (list_any (λ other. not (output_byte other == output_byte row)) (rows_before earlier)) row
+    else fault_in_cover (operand_count (opening earlier)) mixed row

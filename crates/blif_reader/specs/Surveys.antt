@@ -34,7 +34,8 @@ fault_by_cover (Some cover) row = fault_in_cover cover.operands (is_mixed cover.
 
 -- what is wrong with a line, by what is known before it
 abbrev pub fault_known : Survey → List Piece → Directive → Option NetKind
-fault_known survey line directive = fault_by_directive survey.has_model (fault_by_cover survey.cover line) line directive
+fault_known survey line directive =
+    fault_by_directive survey.has_model (fault_by_cover survey.cover line) line directive
 
 abbrev pub fault_of : Survey → List Piece → Directive → Option NetKind
 fault_of survey line directive = if survey.ended then fault_behind_end directive else fault_known survey line directive
@@ -65,7 +66,10 @@ HaveOutput (Some byte) rows = (rows ≢ []) × All (λ row. output_byte row ≡ 
 -- the cover that is open behind these lines, if there is one
 abbrev pub IsOpen : List (List Piece) → Option OpenCover → Type 0
 IsOpen earlier None = is_names (directive_of (opening earlier)) ≡ false
-IsOpen earlier (Some cover) = (is_names (directive_of (opening earlier)) ≡ true) × (cover.operands ≡ operand_count (opening earlier)) × HaveOutput cover.output (rows_before earlier)
+IsOpen earlier (Some cover) =
+    (is_names (directive_of (opening earlier)) ≡ true)
+    × (cover.operands ≡ operand_count (opening earlier))
+    × HaveOutput cover.output (rows_before earlier)
 
 -- What is known of the lines read, none of which has a fault.
 pub record IsSurveyed (earlier : List (List Piece)) (survey : Survey) : Type 0 where

@@ -40,7 +40,7 @@ pub(crate) struct CoverSoFar {
 pub(crate) struct Covers {
     /// The definitions of the covers that are closed, in the order of the text.
     pub(crate) defs: Items<Def>,
-    /// The offset of each `.names` line.
+    /// The offset of each `.names` line, for a cycle, which is seen only when the definitions are put in order.
     pub(crate) places: Items<u64>,
     /// The literals of the outputs.
     pub(crate) outputs: Items<Lit>,
@@ -58,7 +58,8 @@ pub(crate) fn read_covers(
     requires once { AreDefinedOnce (blif_lines input.now) }
     requires names { names_of names.now ≡ signal_names (blif_lines input.now) }
     requires few { length (names_of names.now) < 2 ^ 30 }
-    ensures built { IfOk result (λ covers. IsBuilt (signal_names (blif_lines input.now)) (blif_lines input.now) covers) }
+    ensures built { IfOk result
+        (λ covers. IsBuilt (signal_names (blif_lines input.now)) (blif_lines input.now) covers) }
     ensures known { OnOk result (AreKnown (blif_lines input.now)) }
     ensures fault { (fault : NetFault) → result ≡ Err (NetStop.Fault fault)
         → IsUndefinedFault (blif_lines input.now) fault.kind fault.at }
@@ -96,7 +97,8 @@ impl Covers {
         ensures builds { OnOk result (Builds (names_of names.now)
             (directive_of (line_from first.entry lines.old)) (line_from first.entry lines.old) self.old self.new) }
         ensures fault { (fault : NetFault) → result ≡ Err (NetStop.Fault fault) → IsUnknownFault (names_of names.now)
-            (read_on (directive_of (line_from first.entry lines.old)) (line_from first.entry lines.old)) fault.kind fault.at }
+            (read_on (directive_of (line_from first.entry lines.old)) (line_from first.entry lines.old))
+            fault.kind fault.at }
         ensures lines { OnOk result (lines_left lines.new ≡ lines_left lines.old) }
     {
         match Directive::from_word(first.bytes()) {
@@ -217,6 +219,7 @@ impl CoverSoFar {
         Ok(CoverSoFar {
             names,
             rows,
+            // The first pass saw that all rows of a cover are of one set.
             on: on & is_on(output),
         })
     }
@@ -272,6 +275,7 @@ fn operand_signals(
         (but_last (words_left lines.old)) fault.kind fault.at }
 {
     let mut signals = Items::new(alloc);
+    // A word is an operand only if another stands behind it, so it is looked up one word later.
     let Some(mut operand) = lines.next_word() else {
         return Ok(signals);
     };
@@ -283,7 +287,7 @@ fn operand_signals(
     Ok(signals)
 }
 
-// The signal of a name that is read.
+// The signal of a name that is read. There are so few names that a literal, which is twice a signal, has 32 bits.
 fn signal_of(names: &IndexSet<&[u8]>, word: &Span<'_>) -> Result<u32, NetStop>
     requires { length (names_of names.now) < 2 ^ 30 }
     ensures signal { IfOk result (λ signal. signal ≡ signal_named (names_of names.now) word.now) }

@@ -1,5 +1,5 @@
-//! Laws of the definitions: what a file is, and its first fault, are determined. Each function does nothing; its contract
-//! is the law.
+//! Laws of the definitions: what a file is, and its first fault, are determined. Each function does nothing; its
+//! contract is the law.
 
 ghost use Rattle.std.specs.Prelude.{◌≡◌, ℕ, ◌≤◌, List, length};
 ghost use Rattle.circuits.specs.Circuits.{Circuit, IsClosed};
@@ -31,7 +31,8 @@ pub fn one_blif_fault()
         → (fault ≡ other) × (at ≡ place) }
 {}
 
-/// The netlist that a file is reads only signals that are there, in rows that are as wide as their covers, and has no cycle.
+/// The netlist that a file is reads only signals that are there, in rows that are as wide as their covers, and has no
+/// cycle.
 pub fn closed_blif()
     ensures closed { (bytes : List ℕ) (circuit : Circuit) (i o : List (List ℕ))
         → IsBlif bytes circuit i o

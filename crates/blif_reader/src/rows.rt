@@ -29,7 +29,8 @@ pub(crate) struct RowWords<'a> {
     pub(crate) output: Span<'a>,
 }
 
-/// The words of a row, of which `first` is the first. None where there are more than two.
+/// The words of a row, of which `first` is the first. None where there are more than two, which no cover wants; so a
+/// long line takes no memory.
 pub(crate) fn words_of_row<'a>(first: Span<'a>, lines: &mut JoinedLines<'a>) -> Option<RowWords<'a>>
     ensures row { MatchOption result
         (2 < 1 + length (words_left lines.old))

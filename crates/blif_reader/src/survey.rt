@@ -64,10 +64,11 @@ impl<'a> Survey<'a> {
         first: Span<'a>,
         lines: &mut JoinedLines<'a>,
     ) -> Result<(), LineStop>
-        ensures advances { OnOk result
-            (Advances (directive_of (line_from first.entry lines.old)) (line_from first.entry lines.old) self.old self.new) }
+        ensures advances { OnOk result (Advances (directive_of (line_from first.entry lines.old))
+            (line_from first.entry lines.old) self.old self.new) }
         ensures fault { (kind : NetKind) → result ≡ Err (LineStop.Fault kind)
-            → fault_of self.old (line_from first.entry lines.old) (directive_of (line_from first.entry lines.old)) ≡ Some kind }
+            → fault_of self.old (line_from first.entry lines.old) (directive_of (line_from first.entry lines.old))
+            ≡ Some kind }
         ensures lines { OnOk result (lines_left lines.new ≡ lines_left lines.old) }
     {
         let directive = Directive::from_word(first.bytes());
@@ -103,6 +104,7 @@ impl<'a> Survey<'a> {
         ensures no_memory { result ≢ Err LineStop.Memory }
         ensures lines { lines_left lines.new ≡ lines_left lines.old }
     {
+        // Only the cover tells how wide a row should be, so that a row is in one is asked first.
         let Some(cover) = self.cover else {
             return Err(LineStop::Fault(NetKind::RowOutside));
         };
@@ -157,7 +159,8 @@ impl<'a> Survey<'a> {
     // Reads an `.outputs` line.
     fn read_outputs(&mut self, first: Span<'a>, lines: &mut JoinedLines<'a>) -> Result<(), LineStop>
         requires { self.old.ended ≡ false }
-        ensures advances { OnOk result (Advances Directive.Outputs (line_from first.entry lines.old) self.old self.new) }
+        ensures advances { OnOk result
+            (Advances Directive.Outputs (line_from first.entry lines.old) self.old self.new) }
         ensures no_fault { IfErr result (λ stop. stop ≡ LineStop.Memory) }
         ensures lines { OnOk result (lines_left lines.new ≡ lines_left lines.old) }
     {

@@ -89,46 +89,35 @@ fn reads_a_backslash_at_the_end(rt: HostRuntime) -> Result<(), Fail> {
     Ok(())
 }
 
-#[test]
-fn finds_faults_of_lines(rt: HostRuntime) {
-    let table: [(&[u8], u8, u64); 14] = [
-        (b".inputs a\n .gate and\n", 20, 11),
-        (b".names # y\n", 20, 0),
-        (b".inputs\n.end\n1 1\n", 20, 13),
-        (b".latch a b\n", 21, 0),
-        (b"# nothing\n.exdc\n", 22, 10),
-        (b".model a\n.model b\n", 23, 9),
-        (b".end\n.model\n", 23, 5),
-        (b".names a y\n1 1 1\n", 24, 11),
-        (b".names a y\n11 1\n", 24, 11),
-        (b".names y\n1 1\n", 24, 9),
-        (b".names a y\n2 1\n", 25, 11),
-        (b".inputs a\n.outputs y\n.names a y\n1 1\n0 0\n", 26, 36),
-        (b".names a y\n1 1\n.clock c\n1 1\n", 27, 24),
-        (b"x\n", 27, 0),
-    ];
-    for (text, number, at) in table {
-        assert_eq!(rt;
-            fault_of(rt.alloc(), text),
-            Some((number, at)),
-            "at {text:?}"
-        );
-    }
-}
+/// A file, the number of its first fault, and where that stands.
+const NUMBERED: [(&[u8], u8, u64); 22] = [
+    (b".inputs a\n .gate and\n", 20, 11),
+    (b".names # y\n", 20, 0),
+    (b".inputs\n.end\n1 1\n", 20, 13),
+    (b".latch a b\n", 21, 0),
+    (b"# nothing\n.exdc\n", 22, 10),
+    (b".model a\n.model b\n", 23, 9),
+    (b".end\n.model\n", 23, 5),
+    (b".names a y\n1 1 1\n", 24, 11),
+    (b".names a y\n11 1\n", 24, 11),
+    (b".names y\n1 1\n", 24, 9),
+    (b".names a y\n2 1\n", 25, 11),
+    (b".inputs a\n.outputs y\n.names a y\n1 1\n0 0\n", 26, 36),
+    (b".names a y\n1 1\n.clock c\n1 1\n", 27, 24),
+    (b"x\n", 27, 0),
+    (b"", 28, 0),
+    (b".inputs a a\n", 28, 12),
+    (b".outputs y\n.inputs a b\n.inputs c a\n", 29, 33),
+    (b".outputs y y\n.inputs a\n", 29, 11),
+    (b".names a\n.names b\n.outputs\n.inputs a\n", 30, 7),
+    (b".inputs\n.outputs\n.names y\n.names y\n", 30, 33),
+    (b".inputs a\n.outputs y\n.names a b y\n11 1\n", 31, 30),
+    (b".inputs a\n.outputs y\n.names a y y\n11 1\n", 32, 21),
+];
 
 #[test]
-fn finds_faults_of_names(rt: HostRuntime) {
-    let table: [(&[u8], u8, u64); 8] = [
-        (b"", 28, 0),
-        (b".inputs a a\n", 28, 12),
-        (b".outputs y\n.inputs a b\n.inputs c a\n", 29, 33),
-        (b".outputs y y\n.inputs a\n", 29, 11),
-        (b".names a\n.names b\n.outputs\n.inputs a\n", 30, 7),
-        (b".inputs\n.outputs\n.names y\n.names y\n", 30, 33),
-        (b".inputs a\n.outputs y\n.names a b y\n11 1\n", 31, 30),
-        (b".inputs a\n.outputs y\n.names a y y\n11 1\n", 32, 21),
-    ];
-    for (text, number, at) in table {
+fn finds_faults_by_their_numbers(rt: HostRuntime) {
+    for (text, number, at) in NUMBERED {
         assert_eq!(rt;
             fault_of(rt.alloc(), text),
             Some((number, at)),

@@ -37,8 +37,9 @@ fn check_port_lines(input: &[u8], survey: &Survey<'_>) -> Result<(), NetStop>
     }))
 }
 
-// The names of the signals: those of the inputs, then those that covers define. No port of a kind is named twice, and no
-// name is an input's and defined, or defined twice.
+// The names of the signals: those of the inputs, then those that covers define. No port of a kind is named twice, and
+// no name is an input's and defined, or defined twice. Inputs have the first numbers wherever their lines stand, so all
+// ports are named before the first cover's name is.
 fn number_names<'a>(
     alloc: Global,
     input: &[u8],
@@ -155,10 +156,14 @@ pub fn read(alloc: Global, input: &[u8]) -> Result<Named, NetStop>
     ensures fault { (fault : NetFault) → result ≡ Err (NetStop.Fault fault)
         → IsBlifFault input.now fault.kind fault.at }
 {
+    // A line's fault comes before any of names, wherever the line stands, so all lines are read before a name is
+    // looked at.
     let survey = survey_lines(alloc, input)?;
     check_port_lines(input, &survey)?;
     let names = number_names(alloc, input, &survey)?;
+    // Names have numbers only now, so the covers are read in a second pass: a cover may name what a later one defines.
     let covers = read_covers(alloc, input, &names)?;
+    // The limits come behind the names, so a file that is malformed is told so however many ports it has.
     check_limits(input, &survey)?;
     name_net(alloc, input, &survey, covers)
 }

@@ -7,6 +7,195 @@ use std::alloc::{AllocError, Global};
 use std::test::Fail;
 use text_core::put_decimal;
 
+/// A file, the names of its inputs and of its outputs, how many gates its graph has, and its truth table.
+type FileRow = (
+    &'static [u8],
+    &'static [u8],
+    &'static [u8],
+    usize,
+    &'static [u8],
+);
+
+const FILES: [FileRow; 16] = [
+    // NAND by the off-set and by the on-set
+    (
+        b".model nand\n.inputs a b\n.outputs y\n.names a b y\n11 0\n.end\n",
+        b"a,b,",
+        b"y,",
+        1,
+        b"1110",
+    ),
+    (
+        b".inputs a b\n.outputs y\n.names a b y\n0- 1\n-0 1\n",
+        b"a,b,",
+        b"y,",
+        1,
+        b"1110",
+    ),
+    // exclusive or, and its complement by the same rows
+    (
+        b".inputs a b\n.outputs y\n.names a b y\n10 1\n01 1\n",
+        b"a,b,",
+        b"y,",
+        3,
+        b"0110",
+    ),
+    (
+        b".inputs a b\n.outputs y\n.names a b y\n10 0\n01 0\n",
+        b"a,b,",
+        b"y,",
+        3,
+        b"1001",
+    ),
+    // a row without literals fits every vector; without rows a cover is false
+    (
+        b".inputs a b\n.outputs y\n.names a b y\n-- 1\n",
+        b"a,b,",
+        b"y,",
+        0,
+        b"1111",
+    ),
+    (
+        b".inputs a b\n.outputs y\n.names a b y\n-- 0\n",
+        b"a,b,",
+        b"y,",
+        0,
+        b"0000",
+    ),
+    (b".inputs\n.outputs y\n.names y\n", b"", b"y,", 0, b"0"),
+    (b".inputs\n.outputs y\n.names y\n1\n", b"", b"y,", 0, b"1"),
+    (b".inputs\n.outputs y\n.names y\n0\n", b"", b"y,", 0, b"0"),
+    // an operand twice, and a cover that stands before what it names and before the ports
+    (
+        b".names a a y\n10 1\n.inputs a\n.outputs y\n",
+        b"a,",
+        b"y,",
+        1,
+        b"00",
+    ),
+    (
+        b".names t y\n0 1\n.names a t\n0 1\n.inputs a\n.outputs y\n",
+        b"a,",
+        b"y,",
+        0,
+        b"01",
+    ),
+    // lines that go on, comments, blanks, ports on several lines, an output that is an input
+    (
+        b".names a b y\n11 0\n.names one\n1\n.names zero\n.inputs a \\ # more\nb\n.outputs y one zero\n",
+        b"a,b,",
+        b"y,one,zero,",
+        1,
+        b"110110110010",
+    ),
+    (
+        b"# head\n\n .inputs a # x \\\r\n.inputs b\r\n.outputs b \\\n# nothing\n.outputs a\n",
+        b"a,b,",
+        b"b,a,",
+        0,
+        b"00011011",
+    ),
+    (b".inputs a\n.outputs a\\", b"a,", b"a,", 0, b"01"),
+    // what is passed over, and words behind `.end`
+    (
+        b".inputs a\n.outputs y\n.names $false\n.names a y\n1 1\n.cname n\n.area 3\n.end x\n# rest\n",
+        b"a,",
+        b"y,",
+        0,
+        b"01",
+    ),
+    // exactly two of four
+    (
+        b".inputs a b c d\n.outputs y\n.names a b c d y\n1100 1\n1010 1\n1001 1\n0110 1\n0101 1\n0011 1\n",
+        b"a,b,c,d,",
+        b"y,",
+        23,
+        b"0001011001101000",
+    ),
+];
+
+/// A file, its first fault, and where that stands.
+type FaultRow = (&'static [u8], NetKind, u64);
+
+const FAULTS: [FaultRow; 34] = [
+    (b"", NetKind::NoPortLine, 0),
+    (b".inputs a\n", NetKind::NoPortLine, 10),
+    (b".outputs", NetKind::NoPortLine, 8),
+    // lines
+    (b".gate nand2 a=x\n", NetKind::Directive, 0),
+    (b".names\n", NetKind::Directive, 0),
+    (b".end\n x\n", NetKind::Directive, 6),
+    (b".end\n.area 3\n", NetKind::Directive, 5),
+    (b".latch x y\n", NetKind::Latch, 0),
+    (b".exdc\n", NetKind::DontCare, 0),
+    (b".model m\n.model n\n", NetKind::SecondModel, 9),
+    (b".end\n.model m\n", NetKind::SecondModel, 5),
+    // rows
+    (b"1 1\n", NetKind::RowOutside, 0),
+    (b".names a y\n.area 3\n1 1\n", NetKind::RowOutside, 19),
+    (b".names a y\n1\n", NetKind::RowWidth, 11),
+    (b".names a y\n11 1\n", NetKind::RowWidth, 11),
+    (b".names a y\n1 11\n", NetKind::RowWidth, 11),
+    (b".names a y\n1 1 1\n", NetKind::RowWidth, 11),
+    (b".names y\n1 1\n", NetKind::RowWidth, 9),
+    (b".names a y\n2 1\n", NetKind::RowChar, 11),
+    (b".names a y\n1 -\n", NetKind::RowChar, 11),
+    (b".names a y\n \\\n- 1\n0 0\n", NetKind::MixedCover, 18),
+    (
+        b".inputs a\n.outputs y\n.names a y\n1 1\n0 0\n",
+        NetKind::MixedCover,
+        36,
+    ),
+    // a line is refused before a name, wherever it stands
+    (b".inputs a a\n.outputs a\n1 1\n", NetKind::RowOutside, 23),
+    // names
+    (b".inputs a a\n.outputs a\n", NetKind::DuplicatePort, 10),
+    (b".inputs a\n.outputs b b\n", NetKind::DuplicatePort, 21),
+    (
+        b".inputs a\n.outputs a\n.names a\n",
+        NetKind::NameRedefined,
+        28,
+    ),
+    (
+        b".names a y\n.names a y\n.inputs a\n.outputs y\n",
+        NetKind::NameRedefined,
+        20,
+    ),
+    (
+        b".names a\n.inputs a\n.outputs a\n",
+        NetKind::NameRedefined,
+        7,
+    ),
+    (
+        b".inputs a\n.outputs y\n.names a b y\n11 1\n",
+        NetKind::NameUndefined,
+        30,
+    ),
+    (b".inputs a\n.outputs y\n", NetKind::NameUndefined, 19),
+    // what is defined twice is named before what isn't defined
+    (
+        b".inputs a\n.outputs z\n.names a y\n.names y\n",
+        NetKind::NameRedefined,
+        39,
+    ),
+    // cycles, at the first definition on one or above one
+    (
+        b".inputs a\n.outputs y\n.names a y y\n11 1\n",
+        NetKind::CoverCycle,
+        21,
+    ),
+    (
+        b".inputs a\n.outputs y\n.names a t\n.names y z\n.names z y\n",
+        NetKind::CoverCycle,
+        32,
+    ),
+    (
+        b".inputs a\n.outputs y\n.names a y y\n1- 1\n",
+        NetKind::CoverCycle,
+        21,
+    ),
+];
+
 // The names one after another, each with a comma behind it.
 fn joined(alloc: Global, names: &Items<Name>) -> Result<Vec<u8>, AllocError> {
     let mut text = Vec::new(alloc);
@@ -55,104 +244,7 @@ fn truth_table(alloc: Global, graph: &Graph) -> Result<Vec<u8>, AllocError> {
 
 #[test]
 fn reads_covers_of_either_kind(rt: HostRuntime) -> Result<(), Fail> {
-    let files: [(&[u8], &[u8], &[u8], usize, &[u8]); 16] = [
-        // NAND by the off-set and by the on-set
-        (
-            b".model nand\n.inputs a b\n.outputs y\n.names a b y\n11 0\n.end\n",
-            b"a,b,",
-            b"y,",
-            1,
-            b"1110",
-        ),
-        (
-            b".inputs a b\n.outputs y\n.names a b y\n0- 1\n-0 1\n",
-            b"a,b,",
-            b"y,",
-            1,
-            b"1110",
-        ),
-        // exclusive or, and its complement by the same rows
-        (
-            b".inputs a b\n.outputs y\n.names a b y\n10 1\n01 1\n",
-            b"a,b,",
-            b"y,",
-            3,
-            b"0110",
-        ),
-        (
-            b".inputs a b\n.outputs y\n.names a b y\n10 0\n01 0\n",
-            b"a,b,",
-            b"y,",
-            3,
-            b"1001",
-        ),
-        // a row without literals fits every vector; without rows a cover is false
-        (
-            b".inputs a b\n.outputs y\n.names a b y\n-- 1\n",
-            b"a,b,",
-            b"y,",
-            0,
-            b"1111",
-        ),
-        (
-            b".inputs a b\n.outputs y\n.names a b y\n-- 0\n",
-            b"a,b,",
-            b"y,",
-            0,
-            b"0000",
-        ),
-        (b".inputs\n.outputs y\n.names y\n", b"", b"y,", 0, b"0"),
-        (b".inputs\n.outputs y\n.names y\n1\n", b"", b"y,", 0, b"1"),
-        (b".inputs\n.outputs y\n.names y\n0\n", b"", b"y,", 0, b"0"),
-        // an operand twice, and a cover that stands before what it names and before the ports
-        (
-            b".names a a y\n10 1\n.inputs a\n.outputs y\n",
-            b"a,",
-            b"y,",
-            1,
-            b"00",
-        ),
-        (
-            b".names t y\n0 1\n.names a t\n0 1\n.inputs a\n.outputs y\n",
-            b"a,",
-            b"y,",
-            0,
-            b"01",
-        ),
-        // lines that go on, comments, blanks, ports on several lines, an output that is an input
-        (
-            b".names a b y\n11 0\n.names one\n1\n.names zero\n.inputs a \\ # more\nb\n.outputs y one zero\n",
-            b"a,b,",
-            b"y,one,zero,",
-            1,
-            b"110110110010",
-        ),
-        (
-            b"# head\n\n .inputs a # x \\\r\n.inputs b\r\n.outputs b \\\n# nothing\n.outputs a\n",
-            b"a,b,",
-            b"b,a,",
-            0,
-            b"00011011",
-        ),
-        (b".inputs a\n.outputs a\\", b"a,", b"a,", 0, b"01"),
-        // what is passed over, and words behind `.end`
-        (
-            b".inputs a\n.outputs y\n.names $false\n.names a y\n1 1\n.cname n\n.area 3\n.end x\n# rest\n",
-            b"a,",
-            b"y,",
-            0,
-            b"01",
-        ),
-        // exactly two of four
-        (
-            b".inputs a b c d\n.outputs y\n.names a b c d y\n1100 1\n1010 1\n1001 1\n0110 1\n0101 1\n0011 1\n",
-            b"a,b,c,d,",
-            b"y,",
-            23,
-            b"0001011001101000",
-        ),
-    ];
-    for (text, inputs, outputs, gates, table) in files {
+    for (text, inputs, outputs, gates, table) in FILES {
         let named = read_text(rt.alloc(), text).ok().ok_or("not read")?;
         assert_eq!(rt;
             joined(rt.alloc(), &named.input_names)?.as_slice(),
@@ -176,85 +268,7 @@ fn reads_covers_of_either_kind(rt: HostRuntime) -> Result<(), Fail> {
 
 #[test]
 fn names_the_first_fault(rt: HostRuntime) {
-    let files: [(&[u8], NetKind, u64); 34] = [
-        (b"", NetKind::NoPortLine, 0),
-        (b".inputs a\n", NetKind::NoPortLine, 10),
-        (b".outputs", NetKind::NoPortLine, 8),
-        // lines
-        (b".gate nand2 a=x\n", NetKind::Directive, 0),
-        (b".names\n", NetKind::Directive, 0),
-        (b".end\n x\n", NetKind::Directive, 6),
-        (b".end\n.area 3\n", NetKind::Directive, 5),
-        (b".latch x y\n", NetKind::Latch, 0),
-        (b".exdc\n", NetKind::DontCare, 0),
-        (b".model m\n.model n\n", NetKind::SecondModel, 9),
-        (b".end\n.model m\n", NetKind::SecondModel, 5),
-        // rows
-        (b"1 1\n", NetKind::RowOutside, 0),
-        (b".names a y\n.area 3\n1 1\n", NetKind::RowOutside, 19),
-        (b".names a y\n1\n", NetKind::RowWidth, 11),
-        (b".names a y\n11 1\n", NetKind::RowWidth, 11),
-        (b".names a y\n1 11\n", NetKind::RowWidth, 11),
-        (b".names a y\n1 1 1\n", NetKind::RowWidth, 11),
-        (b".names y\n1 1\n", NetKind::RowWidth, 9),
-        (b".names a y\n2 1\n", NetKind::RowChar, 11),
-        (b".names a y\n1 -\n", NetKind::RowChar, 11),
-        (b".names a y\n \\\n- 1\n0 0\n", NetKind::MixedCover, 18),
-        (
-            b".inputs a\n.outputs y\n.names a y\n1 1\n0 0\n",
-            NetKind::MixedCover,
-            36,
-        ),
-        // a line is refused before a name, wherever it stands
-        (b".inputs a a\n.outputs a\n1 1\n", NetKind::RowOutside, 23),
-        // names
-        (b".inputs a a\n.outputs a\n", NetKind::DuplicatePort, 10),
-        (b".inputs a\n.outputs b b\n", NetKind::DuplicatePort, 21),
-        (
-            b".inputs a\n.outputs a\n.names a\n",
-            NetKind::NameRedefined,
-            28,
-        ),
-        (
-            b".names a y\n.names a y\n.inputs a\n.outputs y\n",
-            NetKind::NameRedefined,
-            20,
-        ),
-        (
-            b".names a\n.inputs a\n.outputs a\n",
-            NetKind::NameRedefined,
-            7,
-        ),
-        (
-            b".inputs a\n.outputs y\n.names a b y\n11 1\n",
-            NetKind::NameUndefined,
-            30,
-        ),
-        (b".inputs a\n.outputs y\n", NetKind::NameUndefined, 19),
-        // what is defined twice is named before what isn't defined
-        (
-            b".inputs a\n.outputs z\n.names a y\n.names y\n",
-            NetKind::NameRedefined,
-            39,
-        ),
-        // cycles, at the first definition on one or above one
-        (
-            b".inputs a\n.outputs y\n.names a y y\n11 1\n",
-            NetKind::CoverCycle,
-            21,
-        ),
-        (
-            b".inputs a\n.outputs y\n.names a t\n.names y z\n.names z y\n",
-            NetKind::CoverCycle,
-            32,
-        ),
-        (
-            b".inputs a\n.outputs y\n.names a y y\n1- 1\n",
-            NetKind::CoverCycle,
-            21,
-        ),
-    ];
-    for (text, kind, at) in files {
+    for (text, kind, at) in FAULTS {
         let stop = NetStop::Fault(NetFault { kind, at });
         assert_eq!(rt;
             read_text(rt.alloc(), text).err(),
