@@ -13,12 +13,14 @@ use Rattle.account_file.specs.declared.place.Place.{Place}
 use Rattle.account_file.specs.declared.place.Place.TheVariants.{Start, Headed, Logs, Ended}
 use Rattle.account_file.specs.declared.step.Step.{Step}
 use Rattle.account_file.specs.declared.step.Step.TheVariants.{Wait, Read, Refuse}
-use Rattle.account_file.specs.Forms.{words_of, record_in}
+use Rattle.account_file.specs.Forms.{record_in}
+use Rattle.account_file.specs.Words.{words_of}
 use Rattle.account_file.specs.Lines.{whole_lines, behind_lines}
 use Rattle.account_file.specs.Order.{place_behind, place_after}
 use Rattle.account_file.specs.Accounts.{HasForm, AreUnderWay, LineFault}
 use Rattle.account_file.specs.Spelling.{IsWritable, record_line}
 use Rattle.account_file.specs.Steps.{in_place, placed, step_by, step_at_line}
+use Rattle.account_file.proofs.BadWordLemmas.{bad_number_found, bad_number_read, bad_word_found, bad_word_read}
 use Rattle.account_file.proofs.FaultLemmas.{bad_words}
 use Rattle.account_file.proofs.LineLemmas.{lines_first, behind_first}
 use Rattle.account_file.proofs.OrderLemmas.{place_behind_last, at_start}
@@ -100,8 +102,8 @@ step_says Ended line = refl
 -- the fault of a line by where the account stands, and by the records before it
 pub fault_there : (before : List Record) (place : Place) (line : List ℕ) (fault : RecordFault) → place_after before ≡ Some place → LineFault before line fault → FaultThere place line fault
 fault_there before place line fault.Header at' h = (let e : Some Start ≡ Some place = sym (ap place_after h.0) ∙ at' in cc, h.1)
-fault_there before place line fault.Word at' h = (λ e. h.0.begun (at_start before (at' ∙ ap Some e)), λ e. h.0.not_ended (at' ∙ ap Some e), h.1)
-fault_there before place line fault.Number at' h = (λ e. h.0.begun (at_start before (at' ∙ ap Some e)), λ e. h.0.not_ended (at' ∙ ap Some e), h.1)
+fault_there before place line fault.Word at' h = (λ e. h.0.begun (at_start before (at' ∙ ap Some e)), λ e. h.0.not_ended (at' ∙ ap Some e), bad_word_read line h.1)
+fault_there before place line fault.Number at' h = (λ e. h.0.begun (at_start before (at' ∙ ap Some e)), λ e. h.0.not_ended (at' ∙ ap Some e), bad_number_read line h.1)
 fault_there before place line fault.Order at' h =
     (λ e. h.0.begun (at_start before (at' ∙ ap Some e)), λ e. h.0.not_ended (at' ∙ ap Some e), (h.1.entry, h.1.form, none (place_behind place h.1.entry) refl))
   where
@@ -119,8 +121,8 @@ under_way before place at' later open' = record {
 
 pub line_fault : (before : List Record) (place : Place) (line : List ℕ) (fault : RecordFault) → place_after before ≡ Some place → FaultThere place line fault → LineFault before line fault
 line_fault before place line fault.Header at' h = (at_start before (at' ∙ ap Some h.0), h.1)
-line_fault before place line fault.Word at' h = (under_way before place at' h.0 h.1, h.2)
-line_fault before place line fault.Number at' h = (under_way before place at' h.0 h.1, h.2)
+line_fault before place line fault.Word at' h = (under_way before place at' h.0 h.1, bad_word_found line h.2)
+line_fault before place line fault.Number at' h = (under_way before place at' h.0 h.1, bad_number_found line h.2)
 line_fault before place line fault.Order at' h = (
   under_way before place at' h.0 h.1,
   record {

@@ -12,7 +12,8 @@ use Rattle.account_file.specs.declared.fault.RecordFault.TheVariants as fault
 use Rattle.account_file.specs.declared.place.Place.{Place}
 use Rattle.account_file.specs.declared.place.Place.TheVariants.{Start, Headed, Logs, Ended}
 use Rattle.account_file.specs.declared.step.Step.TheVariants.{Read, Refuse}
-use Rattle.account_file.specs.Forms.{words_of, record_in}
+use Rattle.account_file.specs.Forms.{record_in}
+use Rattle.account_file.specs.Words.{words_of}
 use Rattle.account_file.specs.Lines.{whole_lines, behind_lines}
 use Rattle.account_file.specs.Order.{place_behind, place_after, AreInOrder, MayStand}
 use Rattle.account_file.specs.Accounts.{HasForm, AreRecords, LineFault, EndFault, HasFormFault, IsAccountOf, SaysNext}

@@ -1,4 +1,5 @@
 pub mod AccountLemmas
+pub mod BadWordLemmas
 pub mod ColonLemmas
 pub mod CuttingLemmas
 pub mod FaultLemmas

@@ -19,7 +19,7 @@ numerals = numerals_by_value (λ ds. all_ascii_digits ds ≡ true) tells_all_asc
 pub decimal_digits : (n : ℕ) → n < 2 ^ 64 → all_ascii_digits (decimal n) ≡ true
 decimal_digits n small = digits_decimal numerals n small
 
-zero_decimal : decimal 0 ≡ 48 ∷ []
+pub zero_decimal : decimal 0 ≡ 48 ∷ []
 zero_decimal = decimal-digits_value numerals (48 ∷ []) refl (omega arith) (λ _. refl) (omega arith)
 
 decimal_leads : (n : ℕ) → n < 2 ^ 64 → (eqb (length (decimal n)) 1 || not (eqb (get_or (decimal n) 0 0) 48)) ≡ true

@@ -18,7 +18,8 @@ use Rattle.account_file.specs.declared.record.Record.{Record}
 use Rattle.account_file.specs.declared.record.Record.TheVariants as record_of
 use Rattle.account_file.specs.declared.fault.RecordFault.{RecordFault}
 use Rattle.account_file.specs.declared.fault.RecordFault.TheVariants.{Word}
-use Rattle.account_file.specs.Forms.{words_of, kind_of_letter, flip_of_sign, port_of, pair_of, pair_by, pair_behind, with_pair, pairs_of, match_record, numbers_of, before_colon, behind_colon, hints_of, line_of, log_line, log_record, literals_of, alone, header_record, record_by, record_in}
+use Rattle.account_file.specs.Forms.{kind_of_letter, flip_of_sign, port_of, pair_of, pair_by, pair_behind, with_pair, pairs_of, match_record, numbers_of, before_colon, behind_colon, hints_of, line_of, log_line, log_record, literals_of, alone, header_record, record_by, record_in}
+use Rattle.account_file.specs.Words.{words_of}
 use Rattle.account_file.specs.Spelling.{kind_letter, sign_of, numbers_text, record_line, HasPorts, IsWritable}
 use Rattle.account_file.proofs.NumberLemmas.{decimal_digits, number_read, number_written, numbers_read, numbers_written}
 use Rattle.account_file.proofs.SpellingLemmas.{spaced, spaced_words, IsVisible, words_spaced, line_spaced_words, spaced-map, spaced-append, digits_visible, digits_front}
@@ -153,7 +154,7 @@ pairs_read (pair ∷ pairs) ports =
     ∙ ap (λ ps. with_pair (Some pair) ps) (pairs_read pairs (All-tail HasPorts pair pairs ports))
 
 -- a number is no colon
-no_colon : (n : ℕ) → n < 2 ^ 64 → bytes_eq (decimal n) (codes ":") ≡ false
+pub no_colon : (n : ℕ) → n < 2 ^ 64 → bytes_eq (decimal n) (codes ":") ≡ false
 no_colon n small = other (bytes_eq (decimal n) (codes ":")) refl
   where
     other : (b : Bool) → bytes_eq (decimal n) (codes ":") ≡ b → b ≡ false
@@ -279,7 +280,7 @@ pairs_written (word ∷ words) pairs e = front_pair word words (pair_of word) (p
 same_bytes : (xs ys : List ℕ) → bytes_eq xs ys ≡ true → xs ≡ ys
 same_bytes xs ys e = (bytes_eq-Decides xs ys).0 e
 
-colon_written : (words hints : List (List ℕ)) → behind_colon words ≡ Some hints → words ≡ before_colon words ++ codes ":" ∷ hints
+pub colon_written : (words hints : List (List ℕ)) → behind_colon words ≡ Some hints → words ≡ before_colon words ++ codes ":" ∷ hints
 colon_written [] hints e = cc
 colon_written (word ∷ words) hints e = by (bytes_eq word (codes ":")) (λ there. colon_written words hints there) refl e
   where
@@ -292,7 +293,7 @@ numbers_back [] = refl
 numbers_back (n ∷ numbers) = ap (λ ns. n ∷ ns) (numbers_back numbers)
 
 -- words are those of a record that can be written
-record IsRecordWords (first : List ℕ) (rest : List (List ℕ)) (entry : Record) : Type 0 where
+pub record IsRecordWords (first : List ℕ) (rest : List (List ℕ)) (entry : Record) : Type 0 where
   pub first_is : first ≡ first_word entry
   pub rest_is : rest ≡ other_words entry
   pub writable : IsWritable entry
@@ -341,7 +342,7 @@ headed (word ∷ words) entry e = by (bytes_eq word (codes "1")) words refl e
     by true (next ∷ rest) is e = cc
     by false rest is e = cc
 
-record_written : (first : List ℕ) (words : List (List ℕ)) (entry : Record) → record_by first words ≡ Ok entry → IsRecordWords first words entry
+pub record_written : (first : List ℕ) (words : List (List ℕ)) (entry : Record) → record_by first words ≡ Ok entry → IsRecordWords first words entry
 record_written first words entry e = by (bytes_eq first (codes "l")) (bytes_eq first (codes "match")) (bytes_eq first (codes "end")) (bytes_eq first (codes "npnp")) refl refl refl refl e
   where
     named : (name : List ℕ) → bytes_eq first name ≡ true → IsRecordWords name words entry → IsRecordWords first words entry

@@ -10,7 +10,7 @@ use Rattle.std.proofs.lemmas.List.Splits.{slice_split_at, slice_split_none, join
 use Rattle.std.proofs.lemmas.Str.Parse.{tells_all_ascii_digits}
 use Rattle.text_core.specs.Bytes.{is_line_feed}
 use Rattle.text_core.specs.Lines.{IsLine}
-use Rattle.account_file.specs.Forms.{is_space, words_of}
+use Rattle.account_file.specs.Words.{is_space, words_of}
 
 -- words behind a first one, a blank in front of each
 abbrev pub spaced : List (List ℕ) → List ℕ

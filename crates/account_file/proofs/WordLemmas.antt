@@ -3,7 +3,7 @@ use Rattle.std.proofs.Common.{◌≡◌, ℕ, ◌+◌, ◌<◌, ◌≤◌, List,
 use Rattle.std.specs.List.{position_or_len}
 use Rattle.std.proofs.lemmas.List.Splits.{slice_split_first, slice_split_none}
 use Rattle.std.proofs.lemmas.List.Sums.{fails_before_first}
-use Rattle.account_file.specs.Forms.{is_space, words_of}
+use Rattle.account_file.specs.Words.{is_space, words_of}
 
 pub words_cut : (line : List ℕ) → position_or_len is_space line < length line → words_of line ≡ take (position_or_len is_space line) line ∷ words_of (drop (position_or_len is_space line + 1) line)
 words_cut line below = slice_split_first is_space line 0 below

@@ -1,10 +1,12 @@
 -- An account as its whole bytes: the records of its lines, and its first fault of form (this project's format).
-use Rattle.std.specs.Prelude.{◌≡◌, ◌≢◌, ℕ, ◌+◌, ◌<◌, ◌≤◌, Bool, true, false, List, [], ◌∷◌, ◌++◌, codes, length, take, slice_index_or, Option, None, Some, Result, Ok, Err}
+use Rattle.std.specs.Prelude.{◌≡◌, ◌≢◌, ℕ, ◌+◌, ◌<◌, ◌≤◌, ◌^◌, Bool, true, false, List, [], ◌∷◌, ◌++◌, codes, length, take, slice_index_or, Option, None, Some, Result, Ok, Err}
+use Rattle.std.specs.Fmt.{decimal}
 use Rattle.std.specs.List.{AllZip}
+use Rattle.text_core.specs.Numbers.{is_numeral}
 use Rattle.account_file.specs.declared.record.Record.{Record}
 use Rattle.account_file.specs.declared.fault.RecordFault.{RecordFault}
 use Rattle.account_file.specs.declared.fault.RecordFault.TheVariants as fault
-use Rattle.account_file.specs.Forms.{words_of, record_in}
+use Rattle.account_file.specs.Words.{words_of}
 use Rattle.account_file.specs.Lines.{whole_lines, behind_lines}
 use Rattle.account_file.specs.Order.{AreInOrder, MayStand, HaveEnded}
 use Rattle.account_file.specs.Spelling.{IsWritable, record_line}
@@ -23,6 +25,29 @@ pub record AreUnderWay (records : List Record) : Type 0 where
   pub begun : records ≢ []
   pub not_ended : HaveEnded records → ⊥
 
+-- Words begin the line of some record.
+pub record BeginsLine (words : List (List ℕ)) : Type 0 where
+  pub line : List ℕ
+  pub entry : Record
+  pub form : HasForm line entry
+  pub behind : List (List ℕ)
+  pub words_are : words_of line ≡ words ++ behind
+
+-- The first word of a line with which its words begin no record's line is digits, where any number may stand.
+pub record HasBadNumber (line : List ℕ) : Type 0 where
+  pub before : List (List ℕ)
+  pub word : List ℕ
+  pub behind : List (List ℕ)
+  pub words_are : words_of line ≡ before ++ word ∷ behind
+  pub digits : is_numeral word ≡ true
+  pub begins_none : BeginsLine (before ++ word ∷ []) → ⊥
+  pub number_fits : (n : ℕ) → n < 2 ^ 32 → BeginsLine (before ++ decimal n ∷ [])
+
+-- A line has no record's form, and not for a bad number.
+pub record HasBadWord (line : List ℕ) : Type 0 where
+  pub no_record : (entry : Record) → HasForm line entry → ⊥
+  pub no_number : HasBadNumber line → ⊥
+
 -- a line has the form of a record that may not stand behind these
 pub record IsOutOfOrder (before : List Record) (line : List ℕ) : Type 0 where
   pub entry : Record
@@ -32,8 +57,8 @@ pub record IsOutOfOrder (before : List Record) (line : List ℕ) : Type 0 where
 -- what is wrong with a whole line behind records
 abbrev pub LineFault : List Record → List ℕ → RecordFault → Type 0
 LineFault before line fault.Header = (before ≡ []) × (line ≢ codes "npnp 1")
-LineFault before line fault.Word = AreUnderWay before × (record_in (words_of line) ≡ Err fault.Word)
-LineFault before line fault.Number = AreUnderWay before × (record_in (words_of line) ≡ Err fault.Number)
+LineFault before line fault.Word = AreUnderWay before × HasBadWord line
+LineFault before line fault.Number = AreUnderWay before × HasBadNumber line
 LineFault before line fault.Order = AreUnderWay before × IsOutOfOrder before line
 LineFault before line fault.Truncated = ⊥
 LineFault before line fault.Trailing = HaveEnded before

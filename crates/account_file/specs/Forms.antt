@@ -1,8 +1,8 @@
--- The forms of an account's lines, and what is wrong with a line that has none (this project's format). A line is read as its
--- words: what stands between single blanks, so that a blank too many makes an empty word.
+-- The steps of the reader's code at the words of a line, which contracts of private functions cite; what they come to is said
+-- in `Accounts`.
 use Rattle.std.specs.Prelude.{ℕ, ◌^◌, ◌==◌, ◌&&◌, ◌||◌, not, Bool, true, false, List, [], ◌∷◌, codes, length, map, drop, take, Option, None, Some, Result, Ok, Err, nat_lt, slice_index_or, if◌then◌else◌}
 use Rattle.std.specs.Char.{is_ascii_digit}
-use Rattle.std.specs.List.{slice_split, prefix_len}
+use Rattle.std.specs.List.{prefix_len}
 use Rattle.std.specs.Str.{bytes_eq}
 use Rattle.std.specs.Str.Parse.{digits_value}
 use Rattle.text_core.specs.Numbers.{is_numeral}
@@ -16,12 +16,6 @@ use Rattle.account_file.specs.declared.record.Record.{Record}
 use Rattle.account_file.specs.declared.record.Record.TheVariants as record_of
 use Rattle.account_file.specs.declared.fault.RecordFault.{RecordFault}
 use Rattle.account_file.specs.declared.fault.RecordFault.TheVariants as fault
-
-abbrev pub is_space : ℕ → Bool
-is_space byte = byte == 32
-
-abbrev pub words_of : List ℕ → List (List ℕ)
-words_of line = slice_split is_space line
 
 -- digits without a leading zero
 abbrev pub is_plain : List ℕ → Bool

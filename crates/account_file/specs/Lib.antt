@@ -1,4 +1,5 @@
 pub mod Spelling
+pub mod Words
 pub mod Forms
 pub mod Lines
 pub mod Order

@@ -11,7 +11,8 @@ use Rattle.account_file.specs.declared.place.Place.{Place}
 use Rattle.account_file.specs.declared.place.Place.TheVariants.{Start, Headed, Ended}
 use Rattle.account_file.specs.declared.step.Step.{Step}
 use Rattle.account_file.specs.declared.step.Step.TheVariants.{Wait, Read, Refuse}
-use Rattle.account_file.specs.Forms.{words_of, record_in}
+use Rattle.account_file.specs.Forms.{record_in}
+use Rattle.account_file.specs.Words.{words_of}
 use Rattle.account_file.specs.Order.{place_behind}
 use Rattle.account_file.specs.Reading.{Reading}
 

@@ -2,7 +2,8 @@
 
 ghost use Rattle.std.specs.Prelude.{◌≡◌, [], ◌∷◌, ◌<◌, ◌≤◌, ◌^◌, ℕ, IfSome, IfNone, length, map, true, IfOk, take, drop};
 ghost use Rattle.std.specs.List.{position_or_len};
-ghost use Rattle.account_file.specs.Forms.{is_space, words_of, number_below, numbers_of, bad_number, kind_of_letter, flip_of_sign, pair_of, pair_behind, pairs_of, port_of, log_record, record_in, is_plain, literals_of, before_colon, behind_colon, header_record, match_record, alone};
+ghost use Rattle.account_file.specs.Forms.{number_below, numbers_of, bad_number, kind_of_letter, flip_of_sign, pair_of, pair_behind, pairs_of, port_of, log_record, record_in, is_plain, literals_of, before_colon, behind_colon, header_record, match_record, alone};
+ghost use Rattle.account_file.specs.Words.{is_space, words_of};
 ghost use Rattle.account_file.specs.Texts.{texts, texts_behind, Answers};
 
 use crate::fault::{FileStop, RecordFault};

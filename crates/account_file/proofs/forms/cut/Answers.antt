@@ -1,7 +1,7 @@
 use Rattle.std.proofs.Common.{◌≡◌, ◌+◌, ◌-◌, ◌∷◌, length, take, drop, sym, ap, subst, ◌∙◌, arith}
 use Rattle.std.proofs.lemmas.List.{length-drop}
 use Rattle.std.proofs.Math.Seq.{take-length}
-use Rattle.account_file.specs.Forms.{words_of}
+use Rattle.account_file.specs.Words.{words_of}
 use Rattle.account_file.proofs.WordLemmas.{words_cut, words_whole}
 use Rattle.account_file.proofs.forms.cut.Goals as goal
 

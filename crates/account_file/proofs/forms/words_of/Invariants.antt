@@ -1,5 +1,5 @@
 use Rattle.std.proofs.Common.{◌≡◌, ◌++◌, length}
-use Rattle.account_file.specs.Forms.{words_of}
+use Rattle.account_file.specs.Words.{words_of}
 use Rattle.account_file.specs.Texts.{texts}
 use Rattle.account_file.proofs.forms.words_of.Given as goal
 

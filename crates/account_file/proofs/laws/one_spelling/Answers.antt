@@ -1,5 +1,5 @@
 use Rattle.std.proofs.Common.{refl}
-use Rattle.account_file.specs.Forms.{words_of}
+use Rattle.account_file.specs.Words.{words_of}
 use Rattle.account_file.proofs.RecordLemmas.{written_is_read, read_is_written}
 use Rattle.account_file.proofs.laws.one_spelling.Goals as goal
 

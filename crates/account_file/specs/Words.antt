@@ -1,0 +1,10 @@
+-- The words of an account's line.
+use Rattle.std.specs.Prelude.{ℕ, ◌==◌, Bool, List}
+use Rattle.std.specs.List.{slice_split}
+
+abbrev pub is_space : ℕ → Bool
+is_space byte = byte == 32
+
+-- what stands between single spaces, so that one too many makes an empty word
+abbrev pub words_of : List ℕ → List (List ℕ)
+words_of line = slice_split is_space line
