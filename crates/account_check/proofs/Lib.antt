@@ -1,1 +1,3 @@
-mod LogLemmas
+pub mod LogLemmas
+pub mod PairLemmas
+pub mod FaultLemmas

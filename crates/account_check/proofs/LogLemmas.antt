@@ -1,84 +1,32 @@
--- The logs of a match: one query each, and what a line that is taken leaves.
-use Rattle.std.proofs.Common.{◌≡◌, ℕ, suc, ◌+◌, ◌*◌, ◌/◌, ◌%◌, ◌==◌, ◌<◌, ◌||◌, Bool, true, false, List, [], ◌∷◌, ◌++◌, length, take, Option, None, Some, Result, Ok, Err, slice_index_or, ne_eqb, inl, inr, refl, sym, ap, subst, ◌∙◌, arith}
+-- The logs of a match: what a line that is taken leaves, and what closed logs show.
+use Rattle.std.proofs.Common.{◌≡◌, ℕ, ◌+◌, ◌*◌, ◌/◌, ◌%◌, ◌==◌, ◌<◌, ◌||◌, Bool, true, false, List, [], ◌∷◌, ◌++◌, length, take, Option, None, Some, Result, Ok, Err, slice_index_or, inl, inr, refl, sym, ap, subst, ◌∙◌, arith}
 use Rattle.std.specs.List.{list_any}
 use Rattle.std.proofs.lemmas.Bool.{cases_lt}
-use Rattle.std.proofs.lemmas.List.{same_lists, map-append, length-append, get_or_append_left, get_or-append-add, take-append-le}
+use Rattle.std.proofs.lemmas.List.{map-append, length-append, get_or_append_left, get_or-append-add, take-append-le}
 use Rattle.std.proofs.lemmas.List.Folds.{list_any-append}
 use Rattle.std.proofs.Math.Seq.{take-length}
-use Rattle.circuits.specs.Bijections.{IsSignedBijection}
-use Rattle.circuits.specs.Matches.{HavePorts, IsMatch}
-use Rattle.circuits.proofs.Places.{IsSignedBijection-onto}
+use Rattle.circuits.specs.Matches.{HavePorts, IsMatchOfFunctions}
 use Rattle.cnf_core.specs.declared.literal.SatLit.{SatLit}
 use Rattle.cnf_core.specs.declared.log.LogLine.{LogLine}
-use Rattle.cnf_core.specs.declared.fault.LineFault.{LineFault}
 use Rattle.cnf_core.specs.Clauses.{Formula}
 use Rattle.cnf_core.specs.Derivations.{is_empty, line_fault, clauses_of, AreDerived}
 use Rattle.net_core.specs.declared.graphs.Graphs.{Graphs}
 use Rattle.net_core.specs.declared.matching.Matching.{Matching}
 use Rattle.net_core.specs.Graph.{IsGraph}
-use Rattle.query_core.specs.declared.query.Cone.{Cone}
 use Rattle.query_core.specs.declared.query.Query.{Query}
 use Rattle.query_core.specs.Formulas.{formula_of, IsRefuted}
-use Rattle.query_core.specs.MatchQueries.{IsMatchQuery}
+use Rattle.query_core.specs.MatchQueries.{match_query}
 use Rattle.query_core.proofs.RefutedLemmas.{match_of_refuted}
-use Rattle.refute_check.specs.Refutations.{Refuting, answer_of}
+use Rattle.std.specs.Result.{IsErrAnd}
+use Rattle.cnf_core.specs.declared.fault.LineFault.{LineFault}
+use Rattle.query_core.specs.Queries.{IsQuery}
+use Rattle.refute_check.specs.Refutations.{answer_of}
 use Rattle.account_check.specs.declared.reject.Reject.{Reject}
+use Rattle.account_check.specs.declared.reject.Reject.TheVariants as reject_of
 use Rattle.account_check.specs.declared.reject.RecordStop.{RecordStop}
 use Rattle.account_check.specs.declared.reject.RecordStop.TheVariants as stop
-use Rattle.account_check.specs.Accounts.{Proof, logs_of, IsLogQuery, HasLineFault, refutation_of}
-use Rattle.account_check.specs.Proofs.{IsOpen, AreRefuted, refused_line}
-
-same_cone : (a b : Cone) → a.side ≡ b.side → a.output ≡ b.output → a.feed ≡ b.feed → a ≡ b
-same_cone a b side output feed =
-    ap (λ s. record { side = s; output = a.output; feed = a.feed }) side
-    ∙ (ap (λ k. record { side = b.side; output = k; feed = a.feed }) output
-    ∙ ap (λ f. record { side = b.side; output = b.output; feed = f }) feed)
-
-same_parts : (a b : Query) → a.left ≡ b.left → a.left_value ≡ b.left_value → a.right ≡ b.right → a.right_value ≡ b.right_value → a ≡ b
-same_parts a b left left_value right right_value =
-    ap (λ l. record { left = l; left_value = a.left_value; right = a.right; right_value = a.right_value }) left
-    ∙ (ap (λ v. record { left = b.left; left_value = v; right = a.right; right_value = a.right_value }) left_value
-    ∙ (ap (λ r. record { left = b.left; left_value = b.left_value; right = r; right_value = a.right_value }) right
-    ∙ ap (λ v. record { left = b.left; left_value = b.left_value; right = b.right; right_value = v }) right_value))
-
--- a match has one query for an output and a value
-pub same_query : (n : ℕ) (matching : Matching) (k : ℕ) (value : Bool) (a b : Query) → IsSignedBijection n matching.inputs → IsMatchQuery n matching k value a → IsMatchQuery n matching k value b → a ≡ b
-same_query n matching k value a b bijection one other =
-    same_parts a b (same_cone a.left b.left (one.left_side ∙ sym other.left_side) (one.left_output ∙ sym other.left_output) (one.left_feed ∙ sym other.left_feed)) (one.left_value ∙ sym other.left_value) (same_cone a.right b.right (one.right_side ∙ sym other.right_side) (one.right_output ∙ sym other.right_output) feeds) (one.right_value ∙ sym other.right_value)
-  where
-    feeds : a.right.feed ≡ b.right.feed
-    feeds =
-        same_lists a.right.feed b.right.feed (one.right_inputs ∙ sym other.right_inputs) (λ place d below.
-        let at = IsSignedBijection-onto n matching.inputs bijection place (omega (arith, below, one.right_inputs)) in
-        let within : at.0 < n = omega (arith, at.1, bijection.entries) in
-        ap (λ j. slice_index_or a.right.feed j d) (sym at.2) ∙ (one.right_feed at.0 d within ∙ (sym (other.right_feed at.0 d within) ∙ ap (λ j. slice_index_or b.right.feed j d) at.2)))
-
--- an open log's formula is that of each query that it is to refute
-pub same_fault : (graphs : Graphs) (matching : Matching) (c : ℕ) (log : Refuting) (line : LogLine) (query : Query) → IsSignedBijection graphs.first.inputs matching.inputs → IsOpen graphs matching c log → IsLogQuery graphs matching c query → line_fault log.formula log.taken line ≡ line_fault (formula_of graphs query) log.taken line
-same_fault graphs matching c log line query bijection so_far asks =
-    ap (λ f. line_fault f log.taken line) (so_far.formula_is ∙ ap (formula_of graphs) (same_query graphs.first.inputs matching (c / 2) (c % 2 == 0) so_far.query query bijection so_far.asks asks))
-
--- what a fault tells
-fault_of : (fault : Option LineFault) (found : LineFault) → Err found ≡ answer_of fault → fault ≡ Some found
-fault_of None found e = cc
-fault_of (Some other) found e = cc
-
--- the fault of a refusal
-same_reject : (fault : LineFault) (refusal : RecordStop) (reject : Reject) → refusal ≡ refused_line fault → ◌≡◌ {A = Result (Unit {0}) RecordStop} (Err refusal) (Err (stop.Reject reject)) → Some reject ≡ refutation_of (Some fault)
-same_reject fault refusal reject is same =
-    clash fault reject (subst (λ r. ◌≡◌ {A = Result (Unit {0}) RecordStop} (Err r) (Err (stop.Reject reject))) is same)
-  where
-    clash : (fault : LineFault) (reject : Reject) → ◌≡◌ {A = Result (Unit {0}) RecordStop} (Err (refused_line fault)) (Err (stop.Reject reject)) → Some reject ≡ refutation_of (Some fault)
-    clash fault reject e = cc
-
-pub refused_by : (graphs : Graphs) (proof : Proof) (log : Refuting) (line : LogLine) (fault : LineFault) (refusal : RecordStop) (reject : Reject) → IsSignedBijection graphs.first.inputs proof.matching.inputs → IsOpen graphs proof.matching proof.closed log → log.taken ≡ proof.taken → Err fault ≡ answer_of (line_fault log.formula log.taken line) → refusal ≡ refused_line fault → ◌≡◌ {A = Result (Unit {0}) RecordStop} (Err refusal) (Err (stop.Reject reject)) → HasLineFault graphs proof line (Some reject)
-refused_by graphs proof log line fault refusal reject bijection so_far taken told is same query asks =
-    same_reject fault refusal reject is same ∙ (ap refutation_of (sym (fault_of (line_fault log.formula log.taken line) fault told)) ∙ (ap refutation_of (same_fault graphs proof.matching proof.closed log line query bijection so_far asks) ∙ ap (λ t. refutation_of (line_fault (formula_of graphs query) t line)) taken))
-
--- nothing is wrong with a line that is taken
-pub nothing_wrong : (graphs : Graphs) (proof : Proof) (log : Refuting) (line : LogLine) → IsSignedBijection graphs.first.inputs proof.matching.inputs → IsOpen graphs proof.matching proof.closed log → log.taken ≡ proof.taken → line_fault log.formula log.taken line ≡ None → HasLineFault graphs proof line None
-nothing_wrong graphs proof log line bijection so_far taken none query asks =
-    ap refutation_of (sym none) ∙ (ap refutation_of (same_fault graphs proof.matching proof.closed log line query bijection so_far asks) ∙ ap (λ t. refutation_of (line_fault (formula_of graphs query) t line)) taken)
+use Rattle.account_check.specs.Accounts.{Proof, line_reject, log_count, log_query, refutation_of}
+use Rattle.account_check.specs.Proofs.{AreRefuted, IsLogSoFar, IsOpen, LogSoFar}
 
 -- one more line that is derived
 derived_more : (formula : Formula) (lines : List LogLine) (line : LogLine) → AreDerived formula lines → line_fault formula (clauses_of lines) line ≡ None → AreDerived formula (lines ++ line ∷ [])
@@ -96,86 +44,50 @@ derived_more formula lines line derived none k d below =
           subst (λ l. line_fault formula (clauses_of (take k (lines ++ line ∷ []))) l ≡ None) (sym here) (subst (λ ls. line_fault formula (clauses_of ls) line ≡ None) (sym prior) none)
     ]
 
--- the lines of an open log with one more
-lines_more : (log : Refuting) (lines : List LogLine) (line : LogLine) → log.taken ≡ clauses_of lines → log.taken ++ line.clause ∷ [] ≡ clauses_of (lines ++ line ∷ [])
-lines_more log lines line are =
-    ap (λ cs. cs ++ line.clause ∷ []) are ∙ sym (map-append (λ (l : LogLine). l.clause) lines (line ∷ []))
-
-closes : (log : Refuting) (line : LogLine) (b : Bool) → list_any is_empty log.taken ≡ false → is_empty line.clause ≡ b → list_any is_empty (log.taken ++ line.clause ∷ []) ≡ b
-closes log line b so_far is =
-    list_any-append is_empty log.taken (line.clause ∷ []) ∙ (ap (λ x. x || list_any is_empty (line.clause ∷ [])) so_far ∙ last (is_empty line.clause) b is)
-  where
-    last : (x b : Bool) → x ≡ b → (x || false) ≡ b
-    last true b e = e
-    last false b e = e
-
-derived_in : (graphs : Graphs) (matching : Matching) (c : ℕ) (log : Refuting) (line : LogLine) → (so_far : IsOpen graphs matching c log) → line_fault log.formula log.taken line ≡ None → AreDerived (formula_of graphs so_far.query) (so_far.lines ++ line ∷ [])
-derived_in graphs matching c log line so_far none =
-    derived_more (formula_of graphs so_far.query) so_far.lines line so_far.derived (ap (λ f. line_fault f (clauses_of so_far.lines) line) (sym so_far.formula_is) ∙ (ap (λ t. line_fault log.formula t line) (sym so_far.lines_are) ∙ none))
-
--- a log stays open behind a line that isn't empty
-pub open_more : (graphs : Graphs) (matching : Matching) (c : ℕ) (log next : Refuting) (line : LogLine) → IsOpen graphs matching c log → line_fault log.formula log.taken line ≡ None → is_empty line.clause ≡ false → next.formula ≡ log.formula → next.taken ≡ log.taken ++ line.clause ∷ [] → IsOpen graphs matching c next
-open_more graphs matching c log next line so_far none not_empty formula taken = record {
-  below = so_far.below;
-  query = so_far.query;
-  asks = so_far.asks;
+-- a log with one line more
+pub log_more : (graphs : Graphs) (query : Query) (taken : List (List SatLit)) (line : LogLine) → IsLogSoFar graphs query taken → line_fault (formula_of graphs query) taken line ≡ None → IsLogSoFar graphs query (taken ++ line.clause ∷ [])
+log_more graphs query taken line so_far none = record {
   fits = so_far.fits;
-  formula_is = formula ∙ so_far.formula_is;
   lines = so_far.lines ++ line ∷ [];
-  lines_are = taken ∙ lines_more log so_far.lines line so_far.lines_are;
-  derived = derived_in graphs matching c log line so_far none;
-  not_closed = ap (list_any is_empty) taken ∙ closes log line false so_far.not_closed not_empty;
+  lines_are = ap (λ cs. cs ++ line.clause ∷ []) so_far.lines_are ∙ sym (map-append (λ (l : LogLine). l.clause) so_far.lines (line ∷ []));
+  derived = derived_more (formula_of graphs query) so_far.lines line so_far.derived (subst (λ t. line_fault (formula_of graphs query) t line ≡ None) so_far.lines_are none);
 }
 
--- room changes nothing of a log
-pub open_same : (graphs : Graphs) (matching : Matching) (c : ℕ) (log next : Refuting) → IsOpen graphs matching c log → next.formula ≡ log.formula → next.taken ≡ log.taken → IsOpen graphs matching c next
-open_same graphs matching c log next so_far formula taken = record {
-  below = so_far.below;
-  query = so_far.query;
-  asks = so_far.asks;
+-- a log whose empty line was taken
+pub refuted_by : (graphs : Graphs) (query : Query) (taken : List (List SatLit)) → IsLogSoFar graphs query taken → list_any is_empty taken ≡ true → IsRefuted graphs query
+refuted_by graphs query taken so_far closed = record {
   fits = so_far.fits;
-  formula_is = formula ∙ so_far.formula_is;
   lines = so_far.lines;
-  lines_are = taken ∙ so_far.lines_are;
-  derived = so_far.derived;
-  not_closed = ap (list_any is_empty) taken ∙ so_far.not_closed;
+  refuted = record { derived = so_far.derived; closed = subst (λ t. list_any is_empty t ≡ true) so_far.lines_are closed };
 }
 
--- behind the empty line one more log refutes its query
-pub refuted_more : (graphs : Graphs) (matching : Matching) (c : ℕ) (log : Refuting) (line : LogLine) → AreRefuted graphs matching c → IsOpen graphs matching c log → line_fault log.formula log.taken line ≡ None → is_empty line.clause ≡ true → AreRefuted graphs matching (c + 1)
-refuted_more graphs matching c log line refuted so_far none empty j below =
+-- whether the empty line is among the lines with one more
+pub empty_more : (taken : List (List SatLit)) (clause : List SatLit) → list_any is_empty taken ≡ false → list_any is_empty (taken ++ clause ∷ []) ≡ is_empty clause
+empty_more taken clause so_far =
+    list_any-append is_empty taken (clause ∷ []) ∙ (ap (λ x. x || list_any is_empty (clause ∷ [])) so_far ∙ last (is_empty clause))
+  where
+    last : (x : Bool) → (x || false) ≡ x
+    last true = refl
+    last false = refl
+
+-- one more log refutes its query
+pub refuted_more : (graphs : Graphs) (matching : Matching) (c : ℕ) → AreRefuted graphs matching c → IsRefuted graphs (log_query graphs matching c) → AreRefuted graphs matching (c + 1)
+refuted_more graphs matching c refuted one j below =
     elim (cases_lt j c) [
       | inl before ↦ refuted j before
       | inr behind ↦
           let last : c ≡ j = omega arith in
-          subst (λ k. (query : Query) × IsLogQuery graphs matching k query × IsRefuted graphs query) last (
-            so_far.query,
-            so_far.asks,
-            record {
-              fits = so_far.fits;
-              lines = so_far.lines ++ line ∷ [];
-              refuted = record {
-                derived = derived_in graphs matching c log line so_far none;
-                closed = ap (list_any is_empty) (sym (lines_more log so_far.lines line so_far.lines_are)) ∙ closes log line true so_far.not_closed empty;
-              };
-            },
-          )
+          subst (λ k. IsRefuted graphs (log_query graphs matching k)) last one
     ]
 
--- the number of a log
-log_number : ℕ → Bool → ℕ
-log_number k true = 2 * k
-log_number k false = 2 * k + 1
-
 -- all logs make a match
-pub proved : (graphs : Graphs) (matching : Matching) → IsGraph graphs.first → IsGraph graphs.second → HavePorts graphs.first graphs.second matching.inputs matching.outputs → AreRefuted graphs matching (logs_of matching) → IsMatch graphs.first graphs.second matching.inputs matching.outputs
+pub proved : (graphs : Graphs) (matching : Matching) → IsGraph graphs.first → IsGraph graphs.second → HavePorts graphs.first graphs.second matching.inputs matching.outputs → AreRefuted graphs matching (log_count matching) → IsMatchOfFunctions graphs.first graphs.second matching.inputs matching.outputs
 proved graphs matching first second ports refuted =
     match_of_refuted graphs matching first second ports each
   where
-    at : (k c : ℕ) (value : Bool) → c < logs_of matching → c / 2 ≡ k → (c % 2 == 0) ≡ value → (query : Query) × IsMatchQuery graphs.first.inputs matching k value query × IsRefuted graphs query
+    at : (k c : ℕ) (value : Bool) → c < log_count matching → c / 2 ≡ k → (c % 2 == 0) ≡ value → IsRefuted graphs (match_query graphs.first.inputs matching k value)
     at k c value below output is =
-        let found = refuted c below in
-        (found.0, subst (λ v. IsMatchQuery graphs.first.inputs matching k v found.0) is (subst (λ j. IsMatchQuery graphs.first.inputs matching j (c % 2 == 0) found.0) output found.1), found.2)
+        subst (λ v. IsRefuted graphs (match_query graphs.first.inputs matching k v)) is (subst (λ j. IsRefuted graphs (match_query graphs.first.inputs matching j (c % 2 == 0))) output (refuted c below))
 
     even : (k : ℕ) → (2 * k % 2 == 0) ≡ true
     even k = let e : 2 * k % 2 ≡ 0 = omega arith in ap (λ r. r == 0) e
@@ -183,15 +95,44 @@ proved graphs matching first second ports refuted =
     odd : (k : ℕ) → ((2 * k + 1) % 2 == 0) ≡ false
     odd k = let e : (2 * k + 1) % 2 ≡ 1 = omega arith in ap (λ r. r == 0) e
 
-    each : (k : ℕ) (value : Bool) → k < length graphs.first.outputs → (query : Query) × IsMatchQuery graphs.first.inputs matching k value query × IsRefuted graphs query
+    each : (k : ℕ) (value : Bool) → k < length graphs.first.outputs → IsRefuted graphs (match_query graphs.first.inputs matching k value)
     each k true below = at k (2 * k) true (omega (arith, below, ports.outputs.entries)) (omega arith) (even k)
     each k false below = at k (2 * k + 1) false (omega (arith, below, ports.outputs.entries)) (omega arith) (odd k)
-
-pub length_zero : (xs : List SatLit) → (length xs == 0) ≡ is_empty xs
-length_zero [] = refl
-length_zero (x ∷ xs) = ne_eqb (suc (length xs)) 0 (λ e. absurd (omega (arith, e)))
 
 -- nothing is wrong where a line is taken
 pub no_fault : (fault : Option LineFault) (done : Unit {0}) → Ok done ≡ answer_of fault → fault ≡ None
 no_fault None done e = refl
 no_fault (Some fault) done e = cc
+
+-- a log before its first line
+pub log_begun : (graphs : Graphs) (query : Query) → IsQuery graphs query → IsLogSoFar graphs query []
+log_begun graphs query fits = record {
+  fits = fits;
+  lines = [];
+  lines_are = refl;
+  derived = λ k d below. absurd (omega (arith, below));
+}
+
+-- what is wrong with a line of the open log, as its number tells
+pub same_reject : (graphs : Graphs) (proof : Proof) (log : LogSoFar) (line : LogLine) → IsOpen graphs proof.matching proof.closed log → log.taken ≡ proof.taken → refutation_of (line_fault (formula_of log.graphs log.query) log.taken line) ≡ line_reject graphs proof line
+same_reject graphs proof log line open_log taken =
+    ap (λ g. refutation_of (line_fault (formula_of g log.query) log.taken line)) open_log.graphs_are
+    ∙ (ap (λ q. refutation_of (line_fault (formula_of graphs q) log.taken line)) open_log.asks ∙ ap (λ t. refutation_of (line_fault (formula_of graphs (log_query graphs proof.matching proof.closed)) t line)) taken)
+
+-- the error that `?` hands on
+pub handed_on : {X : Type 0} (answer : Result X RecordStop) (error : RecordStop) (reject : Reject) → answer ≡ Err (stop.Reject reject) → IsErrAnd answer (λ handed. handed ≡ error) → error ≡ stop.Reject reject
+handed_on {X} answer error reject is same =
+    sym (subst (λ r. IsErrAnd r (λ handed. handed ≡ error)) is same)
+
+pub failed : {X : Type 0} (a b : RecordStop) → a ≡ b → ◌≡◌ {A = Result X RecordStop} (Err a) (Err b)
+failed {X} a b e = ap (λ (stop : RecordStop). Err stop) e
+
+-- the fault that `?` hands on
+pub handed_fault : {X : Type 0} (answer : Result X RecordStop) (found : LineFault) (fault : Option LineFault) (reject : Reject) → answer ≡ Err (stop.Reject reject) → IsErrAnd answer (λ handed. handed ≡ stop.Reject (reject_of.Refutation found)) → Err found ≡ answer_of fault → Some reject ≡ refutation_of fault
+handed_fault {X} answer found fault reject is same told =
+    let rejected : stop.Reject (reject_of.Refutation found) ≡ stop.Reject reject = handed_on answer (stop.Reject (reject_of.Refutation found)) reject is same in
+    by fault rejected told
+  where
+    by : (fault : Option LineFault) → stop.Reject (reject_of.Refutation found) ≡ stop.Reject reject → Err found ≡ answer_of fault → Some reject ≡ refutation_of fault
+    by None rejected told = cc
+    by (Some other) rejected told = cc

@@ -1,5 +1,5 @@
--- How far an account has come, and what each record does.
-use Rattle.std.specs.Prelude.{◌≡◌, ℕ, ◌+◌, ◌*◌, ◌/◌, ◌%◌, ◌<◌, ◌==◌, List, [], ◌∷◌, ◌++◌, length, Option, None, Some, if◌then◌else◌}
+-- What the records of an account come to, and what is wrong with one.
+use Rattle.std.specs.Prelude.{◌≡◌, ℕ, ◌+◌, ◌*◌, ◌/◌, ◌%◌, ◌==◌, List, [], ◌∷◌, ◌++◌, fold, length, Option, None, Some, unwrap_or, if◌then◌else◌}
 use Rattle.cnf_core.specs.declared.literal.SatLit.{SatLit}
 use Rattle.cnf_core.specs.declared.log.LogLine.{LogLine}
 use Rattle.cnf_core.specs.declared.fault.LineFault.{LineFault}
@@ -8,10 +8,13 @@ use Rattle.net_core.specs.declared.graphs.Graphs.{Graphs}
 use Rattle.net_core.specs.declared.matching.Matching.{Matching}
 use Rattle.query_core.specs.declared.query.Query.{Query}
 use Rattle.query_core.specs.Formulas.{formula_of}
-use Rattle.query_core.specs.MatchQueries.{IsMatchQuery}
+use Rattle.query_core.specs.MatchQueries.{match_query}
 use Rattle.account_core.specs.declared.conclusion.Conclusion.TheVariants as conclusion
+use Rattle.account_file.specs.declared.place.Place.{Place}
+use Rattle.account_file.specs.declared.place.Place.TheVariants as place
 use Rattle.account_file.specs.declared.record.Record.{Record}
 use Rattle.account_file.specs.declared.record.Record.TheVariants as entry
+use Rattle.account_file.specs.Order.{place_behind}
 use Rattle.account_check.specs.declared.reject.Reject.{Reject}
 use Rattle.account_check.specs.declared.reject.Reject.TheVariants as reject
 use Rattle.account_check.specs.declared.verdict.Verdict.{Verdict}
@@ -24,94 +27,80 @@ pub record Proof : Type 0 where
   pub closed : ℕ
   pub taken : List (List SatLit)
 
--- How far an account has come: no record, the header, a match whose logs follow, the end.
-pub data Progress : Type 0 where
-  Nothing : Progress
-  Begun : Progress
-  Proving : Proof → Progress
-  Ended : Matching → Progress
-
--- Two circuits, and how far their account has come.
-pub record Account : Type 0 where
-  pub graphs : Graphs
-  pub progress : Progress
-
 -- how many logs a match has: one for each output and either value
-abbrev pub logs_of : Matching → ℕ
-logs_of matching = 2 * length matching.outputs
+abbrev pub log_count : Matching → ℕ
+log_count matching = 2 * length matching.outputs
 
 -- a match before its first line
 abbrev pub unproved : Matching → Proof
 unproved matching = record { matching = matching; closed = 0; taken = [] }
 
--- A query that log number c is to refute: of output c / 2 and the value true where c is even.
-abbrev pub IsLogQuery : Graphs → Matching → ℕ → Query → Type 0
-IsLogQuery graphs matching c query = IsMatchQuery graphs.first.inputs matching (c / 2) (c % 2 == 0) query
+-- before a conclusion there is no match
+abbrev pub nothing : Proof
+nothing = unproved (record { inputs = []; outputs = [] })
+
+-- What an account of two circuits has come to: what may stand next, and the match that it concludes in.
+pub record Account : Type 0 where
+  pub graphs : Graphs
+  pub place : Place
+  pub proof : Proof
+
+-- an account before its first record
+abbrev pub empty_account : Graphs → Account
+empty_account graphs = record { graphs = graphs; place = place.Start; proof = nothing }
+
+-- what log number c of a match is to refute: that output c / 2 and its partner can differ, where the output has the value true
+-- for an even c, and false for an odd one
+abbrev pub log_query : Graphs → Matching → ℕ → Query
+log_query graphs matching c = match_query graphs.first.inputs matching (c / 2) (c % 2 == 0)
 
 -- a line's fault as a refusal
 abbrev pub refutation_of : Option LineFault → Option Reject
 refutation_of None = None
 refutation_of (Some fault) = Some (reject.Refutation fault)
 
--- what is wrong with a line, by the query of its log
-abbrev pub HasLineFault : Graphs → Proof → LogLine → Option Reject → Type 0
-HasLineFault graphs proof line fault =
-    (query : Query) → IsLogQuery graphs proof.matching proof.closed query → fault ≡ refutation_of (line_fault (formula_of graphs query) proof.taken line)
+-- what is wrong with a line of the open log
+abbrev pub line_reject : Graphs → Proof → LogLine → Option Reject
+line_reject graphs proof line =
+    refutation_of (line_fault (formula_of graphs (log_query graphs proof.matching proof.closed)) proof.taken line)
 
--- where a line leads that is taken: the empty one closes its log
+-- what is wrong with a record that may stand there
+abbrev pub HasFault : Account → Record → Option Reject → Type 0
+HasFault account entry.Header fault = fault ≡ None
+HasFault account (entry.Line line) fault = fault ≡ line_reject account.graphs account.proof line
+HasFault account (entry.Conclusion (conclusion.Match pairs)) fault = HasPairFault account.graphs pairs fault
+HasFault account entry.End fault = fault ≡ None
+
+-- where a line leads: the empty one closes its log
 abbrev pub with_line : Proof → LogLine → Proof
 with_line proof line =
     if is_empty line.clause then record { matching = proof.matching; closed = proof.closed + 1; taken = [] }
     else record { matching = proof.matching; closed = proof.closed; taken = proof.taken ++ line.clause ∷ [] }
 
--- The records in order: the header, a match, its logs, the end.
-abbrev pub Follows : Progress → Record → Type 0
-Follows Nothing entry.Header = Unit {0}
-Follows Nothing (entry.Line line) = ⊥
-Follows Nothing (entry.Conclusion conclusion) = ⊥
-Follows Nothing entry.End = ⊥
-Follows Begun entry.Header = ⊥
-Follows Begun (entry.Line line) = ⊥
-Follows Begun (entry.Conclusion conclusion) = Unit {0}
-Follows Begun entry.End = ⊥
-Follows (Proving proof) entry.Header = ⊥
-Follows (Proving proof) (entry.Line line) = proof.closed < logs_of proof.matching
-Follows (Proving proof) (entry.Conclusion conclusion) = ⊥
-Follows (Proving proof) entry.End = proof.closed ≡ logs_of proof.matching
-Follows (Ended matching) entry.Header = ⊥
-Follows (Ended matching) (entry.Line line) = ⊥
-Follows (Ended matching) (entry.Conclusion conclusion) = ⊥
-Follows (Ended matching) entry.End = ⊥
+-- where a record leads
+abbrev pub with_record : Graphs → Proof → Record → Proof
+with_record graphs proof entry.Header = proof
+with_record graphs proof (entry.Line line) = with_line proof line
+with_record graphs proof (entry.Conclusion (conclusion.Match pairs)) = unproved (matching_of graphs.first.inputs pairs)
+with_record graphs proof entry.End = proof
 
--- what is wrong with a record that follows
-abbrev pub HasFault : Account → Record → Option Reject → Type 0
-HasFault account entry.Header fault = fault ≡ None
-HasFault account (entry.Line line) fault = (proof : Proof) → account.progress ≡ Proving proof → HasLineFault account.graphs proof line fault
-HasFault account (entry.Conclusion (conclusion.Match pairs)) fault = HasPairFault account.graphs pairs fault
-HasFault account entry.End fault = fault ≡ None
+abbrev pub after : Account → Record → Account
+after account entry = record {
+  graphs = account.graphs;
+  place = unwrap_or (place_behind account.place entry) account.place;
+  proof = with_record account.graphs account.proof entry;
+}
 
-abbrev pub line_taken : Progress → LogLine → Progress
-line_taken Nothing line = Nothing
-line_taken Begun line = Begun
-line_taken (Proving proof) line = Proving (with_line proof line)
-line_taken (Ended matching) line = Ended matching
-
-abbrev pub ended : Progress → Progress
-ended Nothing = Nothing
-ended Begun = Begun
-ended (Proving proof) = Ended proof.matching
-ended (Ended matching) = Ended matching
-
--- where a record leads that is taken
-abbrev pub after : Account → Record → Progress
-after account entry.Header = Begun
-after account (entry.Line line) = line_taken account.progress line
-after account (entry.Conclusion (conclusion.Match pairs)) = Proving (unproved (matching_of account.graphs.first.inputs pairs))
-after account entry.End = ended account.progress
+-- what an account has come to behind its first records
+abbrev pub account_after : Graphs → List Record → Account
+account_after graphs records = fold after (empty_account graphs) records
 
 -- the verdict of an account: none before its end
-abbrev pub verdict_of : Progress → Option Verdict
-verdict_of Nothing = None
-verdict_of Begun = None
-verdict_of (Proving proof) = None
-verdict_of (Ended matching) = Some (verdict.Match matching)
+abbrev pub verdict_at : Place → Matching → Option Verdict
+verdict_at place.Start matching = None
+verdict_at place.Headed matching = None
+verdict_at (place.Logs left) matching = None
+verdict_at place.Ended matching = Some (verdict.Match matching)
+
+abbrev pub verdict_of : Account → Option Verdict
+verdict_of account = verdict_at account.place account.proof.matching

@@ -2,6 +2,7 @@ pub mod Conclusions
 pub mod Accounts
 pub mod Proofs
 pub mod Stages
+pub use Rattle.account_file.specs.Order
 pub use Rattle.circuits.specs.Bijections
 pub use Rattle.circuits.specs.Matches
 pub use Rattle.cnf_core.specs.Derivations

@@ -10,12 +10,20 @@ use Rattle.net_core.specs.declared.matching.Matching.{Matching}
 use Rattle.query_core.specs.declared.query.Query.{Query}
 use Rattle.query_core.specs.Queries.{IsQuery}
 use Rattle.query_core.specs.Formulas.{formula_of, IsRefuted}
-use Rattle.refute_check.specs.Refutations.{Refuting}
-use Rattle.cnf_core.specs.declared.fault.LineFault.{LineFault}
-use Rattle.account_check.specs.declared.reject.RecordStop.{RecordStop}
-use Rattle.account_check.specs.declared.reject.RecordStop.TheVariants as stop
-use Rattle.account_check.specs.declared.reject.Reject.TheVariants as reject
-use Rattle.account_check.specs.Accounts.{Proof, logs_of, IsLogQuery}
+use Rattle.account_check.specs.Accounts.{Proof, log_count, log_query}
+
+-- A log of a query of two circuits, as far as its lines were taken.
+pub record LogSoFar : Type 0 where
+  pub graphs : Graphs
+  pub query : Query
+  pub taken : List (List SatLit)
+
+-- The query fits, and the lines that were taken are derived from its clauses.
+pub record IsLogSoFar (graphs : Graphs) (query : Query) (taken : List (List SatLit)) : Type 0 where
+  pub fits : IsQuery graphs query
+  pub lines : List LogLine
+  pub lines_are : taken ≡ clauses_of lines
+  pub derived : AreDerived (formula_of graphs query) lines
 
 -- A match of two circuits and its logs.
 pub record MatchLogs : Type 0 where
@@ -23,38 +31,29 @@ pub record MatchLogs : Type 0 where
   pub proof : Proof
 
 -- the lines of the open log, if one is open
-abbrev pub lines_in : Option Refuting → List (List SatLit)
+abbrev pub lines_in : Option LogSoFar → List (List SatLit)
 lines_in None = []
 lines_in (Some log) = log.taken
 
--- What was taken of the open log, number c: lines that are derived, of which none is empty.
-pub record IsOpen (graphs : Graphs) (matching : Matching) (c : ℕ) (log : Refuting) : Type 0 where
-  pub below : c < logs_of matching
-  pub query : Query
-  pub asks : IsLogQuery graphs matching c query
-  pub fits : IsQuery graphs query
-  pub formula_is : log.formula ≡ formula_of graphs query
-  pub lines : List LogLine
-  pub lines_are : log.taken ≡ clauses_of lines
-  pub derived : AreDerived (formula_of graphs query) lines
+-- A log is number c of a match, and not closed.
+pub record IsOpen (graphs : Graphs) (matching : Matching) (c : ℕ) (log : LogSoFar) : Type 0 where
+  pub below : c < log_count matching
+  pub graphs_are : log.graphs ≡ graphs
+  pub asks : log.query ≡ log_query graphs matching c
   pub not_closed : list_any is_empty log.taken ≡ false
 
 -- where log number c stands, or that there is no such log
-abbrev pub IsLog : Graphs → Matching → ℕ → Option Refuting → Type 0
-IsLog graphs matching c None = c ≡ logs_of matching
+abbrev pub IsLog : Graphs → Matching → ℕ → Option LogSoFar → Type 0
+IsLog graphs matching c None = c ≡ log_count matching
 IsLog graphs matching c (Some log) = IsOpen graphs matching c log
 
 -- each of the first so many logs refutes its query
 abbrev pub AreRefuted : Graphs → Matching → ℕ → Type 0
-AreRefuted graphs matching closed = (c : ℕ) → c < closed → (query : Query) × IsLogQuery graphs matching c query × IsRefuted graphs query
+AreRefuted graphs matching closed = (c : ℕ) → c < closed → IsRefuted graphs (log_query graphs matching c)
 
 -- What is kept of a match whose logs are checked.
-pub record IsProof (graphs : Graphs) (matching : Matching) (closed : ℕ) (log : Option Refuting) : Type 0 where
+pub record IsProof (graphs : Graphs) (matching : Matching) (closed : ℕ) (log : Option LogSoFar) : Type 0 where
   pub ports : HavePorts graphs.first graphs.second matching.inputs matching.outputs
   pub few : length matching.outputs < 2 ^ 32
   pub refuted : AreRefuted graphs matching closed
   pub log_is : IsLog graphs matching closed log
-
--- a line's fault as a refusal
-abbrev pub refused_line : LineFault → RecordStop
-refused_line fault = stop.Reject (reject.Refutation fault)

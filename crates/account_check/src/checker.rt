@@ -1,8 +1,9 @@
 //! The checker of an account.
 
-ghost use Rattle.std.specs.Prelude.{◌≡◌, ◌↔◌, IsTrue, IfOk, OnOk, OnErr, Ok, Err, None, Some};
-ghost use Rattle.circuits.specs.Matches.{IsMatch};
-ghost use Rattle.account_check.specs.Accounts.{after, verdict_of, Follows, HasFault, Nothing};
+ghost use Rattle.std.specs.Prelude.{◌≡◌, ◌≢◌, ◌↔◌, IsOk, IsSome, IfOk, OnOk, OnErr, Ok, Err, None, Some};
+ghost use Rattle.circuits.specs.Matches.{IsMatchOfFunctions};
+ghost use Rattle.account_file.specs.Order.{place_behind};
+ghost use Rattle.account_check.specs.Accounts.{after, empty_account, verdict_of, HasFault};
 ghost use Rattle.account_file.specs.declared.record.Record.TheVariants as entry;
 ghost use Rattle.account_check.specs.declared.reject.RecordStop.TheVariants as stop;
 ghost use Rattle.account_check.specs.declared.reject.Reject.{Reject as AnyReject};
@@ -28,7 +29,7 @@ pub(crate) enum Stage<'a> {
     Empty,
     Begun,
     Proving(Logs<'a>),
-    Ended(Matching),
+    Ended(Logs<'a>),
 }
 
 /// Takes an account of two circuits record by record: the header, a match, two logs for each of its outputs, the end.
@@ -40,11 +41,11 @@ pub struct Checker<'a> {
 
 impl<'a> Model for Checker<'a> {
     ghost use Rattle.account_check.specs.Accounts.{Account};
-    ghost use Rattle.account_check.specs.Stages.{progress_of, IsStage};
+    ghost use Rattle.account_check.specs.Stages.{place_of, proof_of, IsStage};
 
     ghost Value = { Account };
 
-    ghost view = { λ a. record { graphs = a.graphs.now; progress = progress_of a.stage } };
+    ghost view = { λ a. record { graphs = a.graphs.now; place = place_of a.stage; proof = proof_of a.stage } };
 
     ghost invariant = { λ a. IsStage a.graphs.now a.stage };
 }
@@ -52,7 +53,7 @@ impl<'a> Model for Checker<'a> {
 impl<'a> Checker<'a> {
     /// No record was taken.
     pub fn new(alloc: Global, graphs: &'a Graphs) -> Result<Checker<'a>, AllocError>
-        ensures { IfOk result (λ checker. checker ≡ record { graphs = graphs.now; progress = Nothing }) }
+        ensures { IfOk result (λ checker. checker ≡ empty_account graphs.now) }
     {
         let _ = alloc;
         Ok(Checker {
@@ -61,29 +62,38 @@ impl<'a> Checker<'a> {
         })
     }
 
-    /// Whether a record follows the others: the header is the first, then comes a match, then the lines of its logs, and
-    /// the end when all logs are closed.
-    pub fn follows(&self, entry: &Record) -> bool
-        ensures { IsTrue result ↔ Follows self.now.progress entry.now }
+    /// Takes a record that may stand behind the others, exactly where nothing is wrong with it, unless memory is wanting.
+    /// What is refused changes nothing, nor does want of memory.
+    pub fn record(&mut self, alloc: Global, entry: &Record) -> Result<(), RecordStop>
+        requires { IsSome (place_behind self.old.place entry.now) }
+        ensures refused { (reject : AnyReject) → result ≢ Err stop.Memory
+            → ((result ≡ Err (stop.Reject reject)) ↔ HasFault self.old entry.now (Some reject)) }
+        ensures taken { result ≢ Err stop.Memory → (IsOk result ↔ HasFault self.old entry.now None) }
+        ensures after { OnOk result (self.new ≡ after self.old entry.now) }
+        ensures unchanged { OnErr result (self.new ≡ self.old) }
+    {
+        self.take(alloc, entry)
+    }
+
+    /// What the account proves: nothing before its end, and then that the pairs are a match.
+    pub fn verdict(&self, alloc: Global) -> Result<Option<Verdict>, AllocError>
+        ensures value { IfOk result (λ verdict. verdict ≡ verdict_of self.now) }
+        ensures proved { (matching : Table) → verdict_of self.now ≡ Some (verdict.Match matching)
+            → IsMatchOfFunctions self.now.graphs.first self.now.graphs.second matching.inputs matching.outputs }
     {
         match &self.stage {
-            Stage::Empty => matches!(entry, Record::Header),
-            Stage::Begun => matches!(entry, Record::Conclusion(_)),
-            Stage::Proving(logs) if logs.are_closed() => matches!(entry, Record::End),
-            Stage::Proving(_) => matches!(entry, Record::Line(_)),
-            Stage::Ended(_) => false,
+            Stage::Ended(logs) => Ok(Some(Verdict::Match(copy(alloc, logs.matching())?))),
+            _ => Ok(None),
         }
     }
 
-    /// Takes a record that follows the others, exactly where nothing is wrong with it, unless memory is wanting. What is
-    /// refused changes nothing, nor does want of memory.
-    pub fn record(&mut self, alloc: Global, entry: &Record) -> Result<(), RecordStop>
-        requires { Follows self.old.progress entry.now }
+    // Takes a record, or refuses it.
+    fn take(&mut self, alloc: Global, entry: &Record) -> Result<(), RecordStop>
+        requires { IsSome (place_behind self.old.place entry.now) }
         ensures refused { (reject : AnyReject) → result ≡ Err (stop.Reject reject)
             → HasFault self.old entry.now (Some reject) }
         ensures taken { OnOk result (HasFault self.old entry.now None) }
-        ensures graphs { self.new.graphs ≡ self.old.graphs }
-        ensures progress { OnOk result (self.new.progress ≡ after self.old entry.now) }
+        ensures after { OnOk result (self.new ≡ after self.old entry.now) }
         ensures unchanged { OnErr result (self.new ≡ self.old) }
     {
         match entry {
@@ -100,25 +110,13 @@ impl<'a> Checker<'a> {
         }
     }
 
-    /// What the account proves: nothing before its end, and then that the pairs are a match.
-    pub fn verdict(&self, alloc: Global) -> Result<Option<Verdict>, AllocError>
-        ensures value { IfOk result (λ verdict. verdict ≡ verdict_of self.now.progress) }
-        ensures proved { (matching : Table) → result ≡ Ok (Some (verdict.Match matching))
-            → IsMatch self.now.graphs.first self.now.graphs.second matching.inputs matching.outputs }
-    {
-        match &self.stage {
-            Stage::Ended(matching) => Ok(Some(Verdict::Match(copy(alloc, matching)?))),
-            _ => Ok(None),
-        }
-    }
-
     // Takes a conclusion, whose logs follow.
     fn conclude(&mut self, alloc: Global, conclusion: &Conclusion) -> Result<(), RecordStop>
+        requires { IsSome (place_behind self.old.place (entry.Conclusion conclusion.now)) }
         ensures refused { (reject : AnyReject) → result ≡ Err (stop.Reject reject)
             → HasFault self.old (entry.Conclusion conclusion.now) (Some reject) }
         ensures taken { OnOk result (HasFault self.old (entry.Conclusion conclusion.now) None) }
-        ensures graphs { self.new.graphs ≡ self.old.graphs }
-        ensures progress { OnOk result (self.new.progress ≡ after self.old (entry.Conclusion conclusion.now)) }
+        ensures after { OnOk result (self.new ≡ after self.old (entry.Conclusion conclusion.now)) }
         ensures unchanged { OnErr result (self.new ≡ self.old) }
     {
         let Conclusion::Match(pairs) = conclusion;
@@ -129,12 +127,11 @@ impl<'a> Checker<'a> {
 
     // Takes a line of the open log.
     fn line(&mut self, alloc: Global, line: &LogLine) -> Result<(), RecordStop>
-        requires { Follows self.old.progress (entry.Line line.now) }
+        requires { IsSome (place_behind self.old.place (entry.Line line.now)) }
         ensures refused { (reject : AnyReject) → result ≡ Err (stop.Reject reject)
             → HasFault self.old (entry.Line line.now) (Some reject) }
         ensures taken { OnOk result (HasFault self.old (entry.Line line.now) None) }
-        ensures graphs { self.new.graphs ≡ self.old.graphs }
-        ensures progress { OnOk result (self.new.progress ≡ after self.old (entry.Line line.now)) }
+        ensures after { OnOk result (self.new ≡ after self.old (entry.Line line.now)) }
         ensures unchanged { OnErr result (self.new ≡ self.old) }
     {
         let Stage::Proving(logs) = &mut self.stage else {
@@ -145,14 +142,13 @@ impl<'a> Checker<'a> {
 
     // Ends an account whose logs are all closed.
     fn end(&mut self)
-        requires { Follows self.old.progress entry.End }
-        ensures graphs { self.new.graphs ≡ self.old.graphs }
-        ensures progress { self.new.progress ≡ after self.old entry.End }
+        requires { IsSome (place_behind self.old.place entry.End) }
+        ensures { self.new ≡ after self.old entry.End }
     {
         let Stage::Proving(logs) = mem::replace(&mut self.stage, Stage::Empty) else {
             unreachable!()
         };
-        self.stage = Stage::Ended(logs.into_matching());
+        self.stage = Stage::Ended(logs);
     }
 }
 

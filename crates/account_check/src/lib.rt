@@ -4,6 +4,7 @@
 
 mod checker;
 mod logs;
+mod open_log;
 mod pairs;
 mod reject;
 mod verdict;

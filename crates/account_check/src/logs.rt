@@ -1,17 +1,18 @@
 //! The logs that prove a match.
 
 ghost use Rattle.std.specs.Prelude.{◌≡◌, [], true, false, ◌<◌, ◌≤◌, ◌^◌, IfOk, OnOk, OnErr, Err, None, Some, length};
-ghost use Rattle.circuits.specs.Matches.{HavePorts, IsMatch};
-ghost use Rattle.account_check.specs.Accounts.{logs_of, unproved, with_line, HasLineFault};
-ghost use Rattle.account_check.specs.Proofs.{IsLog, lines_in, refused_line};
+ghost use Rattle.circuits.specs.Matches.{HavePorts, IsMatchOfFunctions};
+ghost use Rattle.query_core.specs.MatchQueries.{IsOfMatching};
+ghost use Rattle.account_check.specs.Accounts.{line_reject, log_count, unproved, with_line};
+ghost use Rattle.account_check.specs.Proofs.{IsLog, lines_in};
 ghost use Rattle.account_check.specs.declared.reject.RecordStop.TheVariants as stop;
 ghost use Rattle.account_check.specs.declared.reject.Reject.{Reject as AnyReject};
 
-use crate::reject::{RecordStop, Reject};
-use cnf_core::{LineFault, LogLine};
+use crate::open_log::OpenLog;
+use crate::reject::RecordStop;
+use cnf_core::LogLine;
 use net_core::{Graphs, Matching};
-use query_core::{QueryBase, of_match};
-use refute_check::Refuter;
+use query_core::of_match;
 use std::alloc::{AllocError, Global};
 use std::marker::Model;
 
@@ -24,7 +25,7 @@ pub(crate) struct Logs<'a> {
     /// How many logs are closed.
     closed: u64,
     /// The open log, if one is left.
-    log: Option<Refuter<QueryBase<'a>>>,
+    log: Option<OpenLog<'a>>,
 }
 
 impl<'a> Model for Logs<'a> {
@@ -51,7 +52,7 @@ impl<'a> Logs<'a> {
         ensures { IfOk result (λ logs. logs ≡ record { graphs = graphs.now; proof = unproved matching }) }
     {
         let _outputs = graphs.first.outputs();
-        let log = open(alloc, graphs, &matching, 0)?;
+        let log = first_log(alloc, graphs, &matching)?;
         Ok(Logs {
             graphs,
             matching,
@@ -60,21 +61,13 @@ impl<'a> Logs<'a> {
         })
     }
 
-    /// Whether all logs are closed.
-    pub(crate) fn are_closed(&self) -> bool
-        ensures closed { result ≡ true → self.now.proof.closed ≡ logs_of self.now.proof.matching }
-        ensures left { result ≡ false → self.now.proof.closed < logs_of self.now.proof.matching }
-    {
-        self.log.is_none()
-    }
-
     /// Takes a line of the open log exactly where it is derived; the empty line closes the log. What is refused changes
     /// nothing, nor does want of memory.
     pub(crate) fn line(&mut self, alloc: Global, line: &LogLine) -> Result<(), RecordStop>
-        requires { self.old.proof.closed < logs_of self.old.proof.matching }
+        requires { self.old.proof.closed < log_count self.old.proof.matching }
         ensures refused { (reject : AnyReject) → result ≡ Err (stop.Reject reject)
-            → HasLineFault self.old.graphs self.old.proof line.now (Some reject) }
-        ensures taken { OnOk result (HasLineFault self.old.graphs self.old.proof line.now None) }
+            → Some reject ≡ line_reject self.old.graphs self.old.proof line.now }
+        ensures taken { OnOk result (None ≡ line_reject self.old.graphs self.old.proof line.now) }
         ensures graphs { self.new.graphs ≡ self.old.graphs }
         ensures proof { OnOk result (self.new.proof ≡ with_line self.old.proof line.now) }
         ensures unchanged { OnErr result (self.new ≡ self.old) }
@@ -82,65 +75,58 @@ impl<'a> Logs<'a> {
         let Some(log) = &mut self.log else {
             unreachable!()
         };
-        log.reserve(line.clause.len())?;
-        if !line.clause.is_empty() {
-            if let Err(fault) = log.line(line) {
-                return Err(refutation(fault));
-            }
+        if !log.line(line)? {
             return Ok(());
         }
-        let next = open(alloc, self.graphs, &self.matching, self.closed + 1)?;
-        if let Err(fault) = log.line(line) {
-            return Err(refutation(fault));
-        }
-        self.log = next;
+        let Some(log) = self.log.take() else {
+            unreachable!()
+        };
         self.closed += 1;
+        self.log = next_log(alloc, log, &self.matching, self.closed);
         Ok(())
     }
 
-    /// The match, whose logs are all closed.
-    pub(crate) fn into_matching(self) -> Matching
-        requires { self.proof.closed ≡ logs_of self.proof.matching }
-        ensures value { result ≡ self.entry.proof.matching }
-        ensures proved { IsMatch self.entry.graphs.first self.entry.graphs.second result.inputs result.outputs }
+    /// The match.
+    pub(crate) fn matching(&self) -> &Matching
+        ensures value { result.now ≡ self.now.proof.matching }
+        ensures proved { self.now.proof.closed ≡ log_count self.now.proof.matching
+            → IsMatchOfFunctions self.now.graphs.first self.now.graphs.second result.now.inputs result.now.outputs }
     {
-        let Logs {
-            graphs,
-            matching,
-            closed: _,
-            log: _,
-        } = self;
-        let _first = graphs.first.inputs();
-        let _second = graphs.second.inputs();
-        matching
+        let _first = self.graphs.first.inputs();
+        let _second = self.graphs.second.inputs();
+        &self.matching
     }
 }
 
-// Log number c before its first line, or None where there is no such log.
-fn open<'a>(
+// The first log before its first line, or None where there is no output.
+fn first_log<'a>(
     alloc: Global,
     graphs: &'a Graphs,
     matching: &Matching,
-    c: u64,
-) -> Result<Option<Refuter<QueryBase<'a>>>, AllocError>
-    requires ports { HavePorts graphs.now.first graphs.now.second matching.now.inputs matching.now.outputs }
-    requires few { length matching.now.outputs < 2 ^ 32 }
-    requires number { c ≤ logs_of matching.now }
-    ensures log { IfOk result (IsLog graphs.now matching.now c) }
+) -> Result<Option<OpenLog<'a>>, AllocError>
+    requires { HavePorts graphs.now.first graphs.now.second matching.now.inputs matching.now.outputs }
+    ensures log { IfOk result (IsLog graphs.now matching.now 0) }
     ensures lines { IfOk result (λ log. lines_in log ≡ []) }
+{
+    if matching.outputs.is_empty() {
+        return Ok(None);
+    }
+    let query = of_match(alloc, graphs, matching, 0, true)?;
+    Ok(Some(OpenLog::new(alloc, graphs, &query)?))
+}
+
+// Log number c, before its first line, by what the one before it used; None where there is no such log.
+fn next_log<'a>(alloc: Global, log: OpenLog<'a>, matching: &Matching, c: u64) -> Option<OpenLog<'a>>
+    requires ports { HavePorts log.graphs.first log.graphs.second matching.now.inputs matching.now.outputs }
+    requires few { length matching.now.outputs < 2 ^ 32 }
+    requires asked { IsOfMatching log.graphs.first.inputs matching.now log.query }
+    requires number { c ≤ log_count matching.now }
+    ensures log { IsLog log.entry.graphs matching.now c result }
+    ensures lines { lines_in result ≡ [] }
 {
     let output = c / 2;
     if output >= matching.outputs.len() as u64 {
-        return Ok(None);
+        return None;
     }
-    let query = of_match(alloc, graphs, matching, output as u32, c % 2 == 0)?;
-    let base = QueryBase::new(alloc, graphs, &query)?;
-    Ok(Some(Refuter::new(alloc, base)?))
-}
-
-// A line's fault as a refusal.
-fn refutation(fault: LineFault) -> RecordStop
-    ensures { result ≡ refused_line fault }
-{
-    RecordStop::Reject(Reject::Refutation(fault))
+    Some(log.turned(alloc, matching, output as u32, c % 2 == 0))
 }

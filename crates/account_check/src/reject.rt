@@ -36,6 +36,18 @@ impl From<AllocError> for RecordStop {
     }
 }
 
+impl From<LineFault> for RecordStop {
+    ghost use Rattle.std.specs.Prelude.{◌≡◌};
+    ghost use Rattle.account_check.specs.declared.reject.RecordStop.TheVariants as stop;
+    ghost use Rattle.account_check.specs.declared.reject.Reject.TheVariants as reject;
+
+    ghost from_gives = { λ fault refusal. refusal ≡ stop.Reject (reject.Refutation fault) };
+
+    fn from(fault: LineFault) -> RecordStop {
+        RecordStop::Reject(Reject::Refutation(fault))
+    }
+}
+
 impl<T: Drop> From<AllocFailed<T>> for RecordStop {
     ghost use Rattle.std.specs.Prelude.{◌≡◌};
     ghost use Rattle.account_check.specs.declared.reject.RecordStop.TheVariants.{Memory};

@@ -1,6 +1,6 @@
 //! Clauses in one arena.
 
-ghost use Rattle.std.specs.Prelude.{◌≡◌, ◌+◌, ◌-◌, ◌<◌, ◌≤◌, ◌++◌, ◌∷◌, [], Some, None, IfOk, OnOk, OnErr, length, take, drop, vec_len, vec_capacity};
+ghost use Rattle.std.specs.Prelude.{ℕ, ◌≡◌, ◌↔◌, IsTrue, ◌+◌, ◌-◌, ◌<◌, ◌≤◌, ◌++◌, ◌∷◌, [], Some, None, IfOk, OnOk, OnErr, length, take, drop, vec_len, vec_capacity};
 ghost use Rattle.cnf_core.specs.Clauses.{clause_at};
 ghost use Rattle.cnf_core.specs.Stores.{HasRoom, pieces, start_at, AreEnds};
 
@@ -68,12 +68,16 @@ impl ClauseStore {
         Ok(id)
     }
 
-    /// Makes room for a clause of at least so many literals. A refusal changes nothing.
+    /// Makes room for a clause of at least so many literals. A larger room stays, and a refusal changes nothing.
     pub fn reserve(&mut self, literals: usize) -> Result<(), AllocError>
         ensures clauses { self.new.clauses ≡ self.old.clauses }
         ensures room { OnOk result (HasRoom self.new.room literals) }
+        ensures larger { (most : ℕ) → HasRoom self.old.room most → HasRoom self.new.room most }
         ensures refused { OnErr result (self.new ≡ self.old) }
     {
+        if has_room(self.room, literals) {
+            return Ok(());
+        }
         self.literals.reserve(literals)?;
         self.ends.reserve(1)?;
         self.room = Some(literals);
@@ -88,6 +92,16 @@ impl ClauseStore {
         append_reserved(&mut self.literals, clause);
         self.ends.push_reserved(self.literals.len());
         self.room = None;
+    }
+}
+
+// Whether there is room for a clause of so many literals.
+fn has_room(room: Option<usize>, literals: usize) -> bool
+    ensures { IsTrue result ↔ HasRoom room literals }
+{
+    match room {
+        Some(most) => literals <= most,
+        None => false,
     }
 }
 

@@ -1,5 +1,6 @@
 -- The queries of a match: their feeds, and what they ask for.
-use Rattle.std.proofs.Common.{◌≡◌, ℕ, ◌<◌, ◌⊎◌, not, Bool, true, false, List, All, length, map, inl, inr, refl, sym, ap, subst, ◌∙◌, arith}
+use Rattle.std.proofs.Common.{◌≡◌, ◌≢◌, ℕ, zero, suc, ◌+◌, ◌≤◌, ◌<◌, ◌⊎◌, not, Bool, true, false, cond, eqb, List, [], ◌∷◌, All, AllPairs, length, map, slice_index_or, inl, inr, refl, sym, ap, subst, ◌∙◌, arith, eq-eqb, ne_eqb}
+use Rattle.std.proofs.lemmas.Bool.{cond-true, cond-false}
 use Rattle.std.specs.List.{range_with_len}
 use Rattle.std.proofs.lemmas.List.{same_lists, get_or_default, get_or-map, length-map}
 use Rattle.std.proofs.lemmas.List.Elements.{All-map}
@@ -7,18 +8,15 @@ use Rattle.std.proofs.lemmas.List.FromFn.{length-range_with_len, length-map-rang
 use Rattle.circuits.specs.Literals.{bit, differ}
 use Rattle.circuits.specs.Netlists.{function_of}
 use Rattle.circuits.specs.Bijections.{IsSignedBijection, Moves, moved, place_of, sign_of}
-use Rattle.circuits.specs.Matches.{HavePorts, IsMatch}
-use Rattle.circuits.proofs.Places.{moved-only}
-use Rattle.circuits.proofs.MatchLaws.{match_from_functions, functions_from_match}
+use Rattle.circuits.specs.Matches.{HavePorts, IsMatchOfFunctions}
+use Rattle.circuits.proofs.Places.{moved-only, IsSignedBijection-onto}
 use Rattle.net_core.specs.declared.graphs.Graphs.{Graphs}
 use Rattle.net_core.specs.declared.matching.Matching.{Matching}
 use Rattle.net_core.specs.Graph.{IsGraph}
-use Rattle.net_core.specs.Sides.{graph_of}
 use Rattle.query_core.specs.declared.query.Feed.{Feed}
 use Rattle.query_core.specs.declared.query.Feed.TheVariants.{Wire}
-use Rattle.query_core.specs.declared.query.Query.{Query}
-use Rattle.query_core.specs.Queries.{feed_bit, fed, cone_bit, bits_in, IsWired, IsUnmet}
-use Rattle.query_core.specs.MatchQueries.{straight, IsMatchQuery}
+use Rattle.query_core.specs.Queries.{feed_bit, cone_bit, IsQuery, IsWired, IsUnmet}
+use Rattle.query_core.specs.MatchQueries.{match_query, moved_feed, straight, wire_to, IsMovedFeed}
 
 pub straight_count : (n : ℕ) → length (straight n) ≡ n
 straight_count n = length-map-range_with_len (λ i. Wire i false) 0 n
@@ -47,32 +45,68 @@ straight_bits x n same =
     differ_false true = refl
     differ_false false = refl
 
--- the feeds of a match give the vector moved
-moved_bits : (n : ℕ) (matching : Matching) (k : ℕ) (value : Bool) (query : Query) (x : List Bool) → IsMatchQuery n matching k value query → IsSignedBijection n matching.inputs → length x ≡ n → map (feed_bit x) query.right.feed ≡ moved matching.inputs x
-moved_bits n matching k value query x is shape same =
-    let p = matching.inputs in
-    let y = map (feed_bit x) query.right.feed in
-    let moves : Moves p x y = record {
-      same_length = length-map query.right.feed (feed_bit x) ∙ (is.right_inputs ∙ sym same);
+-- what the place of entry j gets
+wire_to-place : (i : ℕ) (p : List (ℕ × Bool)) (j : ℕ) → AllPairs (λ (one other : ℕ × Bool). one.0 ≢ other.0) p → j < length p → wire_to i p (place_of p j) ≡ Wire (i + j) (sign_of p j)
+wire_to-place i [] j distinct below = absurd (omega arith)
+wire_to-place i (entry ∷ p) zero distinct below =
+    let here : i ≡ i + zero = omega arith in
+    cond-true (eqb entry.0 entry.0) (Wire i entry.1) (wire_to (i + 1) p entry.0) (eq-eqb entry.0 entry.0 refl) ∙ ap (λ n. Wire n entry.1) here
+wire_to-place i (entry ∷ p) (suc j) distinct below =
+    let apart = ne_eqb entry.0 (place_of p j) (distinct 0 (suc j) (0, false) (omega arith) below) in
+    let next : i + 1 + j ≡ i + suc j = omega arith in
+    cond-false (eqb entry.0 (place_of p j)) (Wire i entry.1) (wire_to (i + 1) p (place_of p j)) apart ∙ (wire_to-place (i + 1) p j (λ a b d l m. distinct (suc a) (suc b) d (omega arith) (omega arith)) (omega arith) ∙ ap (λ n. Wire n (sign_of p j)) next)
+
+-- each wire is from one of the inputs
+wire_to-wired : (n i : ℕ) (p : List (ℕ × Bool)) (place : ℕ) → i + length p ≤ n → IsWired n (wire_to i p place)
+wire_to-wired n i [] place few = tt
+wire_to-wired n i (entry ∷ p) place few =
+    either (eqb entry.0 place) (Wire i entry.1) (wire_to (i + 1) p place) (omega arith) (wire_to-wired n (i + 1) p place (omega arith))
+  where
+    either : (b : Bool) (x y : Feed) → IsWired n x → IsWired n y → IsWired n (cond b x y)
+    either true x y first second = first
+    either false x y first second = second
+
+moved_count : (p : List (ℕ × Bool)) → length (moved_feed p) ≡ length p
+moved_count p = length-map-range_with_len (wire_to 0 p) 0 (length p)
+
+pub moved_is : (p : List (ℕ × Bool)) → IsSignedBijection (length p) p → IsMovedFeed p (moved_feed p)
+moved_is p bijection = record {
+  inputs = moved_count p;
+  wires = λ i d below.
+      let place : place_of p i < length p = bijection.in_range i (0, false) below in
+      get_or-map-range_with_len (wire_to 0 p) 0 (length p) (place_of p i) (place_of p i) d place (omega arith)
+      ∙ (wire_to-place 0 p i bijection.distinct below ∙ ap (λ n. Wire n (sign_of p i)) (omega arith));
+  wired = All-map (IsWired (length p)) (wire_to 0 p) (range_with_len 0 (length p)) (λ k d within. wire_to-wired (length p) 0 p (slice_index_or (range_with_len 0 (length p)) k d) (omega arith));
+}
+
+pub moved_alone : (p : List (ℕ × Bool)) (feed : List Feed) → IsSignedBijection (length p) p → IsMovedFeed p feed → feed ≡ moved_feed p
+moved_alone p feed bijection is =
+    same_lists feed (moved_feed p) (is.inputs ∙ sym (moved_count p)) (λ place d below.
+    let at = IsSignedBijection-onto (length p) p bijection place (omega (arith, below, is.inputs)) in
+    ap (λ j. slice_index_or feed j d) (sym at.2) ∙ (is.wires at.0 d at.1 ∙ (sym ((moved_is p bijection).wires at.0 d at.1) ∙ ap (λ j. slice_index_or (moved_feed p) j d) at.2)))
+
+-- moved feeds give the vector moved
+moved_bits : (p : List (ℕ × Bool)) (x : List Bool) → IsSignedBijection (length x) p → map (feed_bit x) (moved_feed p) ≡ moved p x
+moved_bits p x shape =
+    let own = subst (λ n. IsSignedBijection n p) (sym shape.entries) shape in
+    let is = moved_is p own in
+    let moves : Moves p x (map (feed_bit x) (moved_feed p)) = record {
+      same_length = length-map (moved_feed p) (feed_bit x) ∙ (is.inputs ∙ shape.entries);
       bits = λ i below.
-          let here : i < n = omega (arith, below, shape.entries) in
           let none : Feed = Wire 0 false in
-          let there : place_of p i < length query.right.feed = omega (arith, shape.in_range i (0, false) below, is.right_inputs) in
-          get_or-map (feed_bit x) query.right.feed (place_of p i) none false there ∙ ap (feed_bit x) (is.right_feed i none here);
+          let there : place_of p i < length (moved_feed p) = omega (arith, own.in_range i (0, false) below, is.inputs) in
+          get_or-map (feed_bit x) (moved_feed p) (place_of p i) none false there ∙ ap (feed_bit x) (is.wires i none below);
     } in
-    moved-only p x y (subst (λ m. IsSignedBijection m p) (sym same) shape) moves
+    moved-only p x (map (feed_bit x) (moved_feed p)) shape moves
 
 -- the outputs that a match's query speaks of
-left_bit : (graphs : Graphs) (matching : Matching) (k : ℕ) (value : Bool) (query : Query) (x : List Bool) → IsMatchQuery graphs.first.inputs matching k value query → length x ≡ graphs.first.inputs → cone_bit graphs x query.left ≡ bit (function_of graphs.first x) k
-left_bit graphs matching k value query x is same =
-    ap (λ side. bit (function_of (graph_of graphs side) (fed x query.left)) query.left.output) is.left_side
-    ∙ (ap (λ feed. bit (function_of graphs.first (map (feed_bit x) feed)) query.left.output) is.left_feed
-    ∙ (ap (λ y. bit (function_of graphs.first y) query.left.output) (straight_bits x graphs.first.inputs same) ∙ ap (bit (function_of graphs.first x)) is.left_output))
+left_bit : (graphs : Graphs) (matching : Matching) (k : ℕ) (value : Bool) (x : List Bool) → length x ≡ graphs.first.inputs → cone_bit graphs x (match_query graphs.first.inputs matching k value).left ≡ bit (function_of graphs.first x) k
+left_bit graphs matching k value x same =
+    ap (λ y. bit (function_of graphs.first y) k) (straight_bits x graphs.first.inputs same)
 
-right_bit : (graphs : Graphs) (matching : Matching) (k : ℕ) (value : Bool) (query : Query) (x : List Bool) → IsMatchQuery graphs.first.inputs matching k value query → IsSignedBijection graphs.first.inputs matching.inputs → length x ≡ graphs.first.inputs → cone_bit graphs x query.right ≡ bit (function_of graphs.second (moved matching.inputs x)) (place_of matching.outputs k)
-right_bit graphs matching k value query x is shape same =
-    ap (λ side. bit (function_of (graph_of graphs side) (fed x query.right)) query.right.output) is.right_side
-    ∙ (ap (λ y. bit (function_of graphs.second y) query.right.output) (moved_bits graphs.first.inputs matching k value query x is shape same) ∙ ap (bit (function_of graphs.second (moved matching.inputs x))) is.right_output)
+right_bit : (graphs : Graphs) (matching : Matching) (k : ℕ) (value : Bool) (x : List Bool) → IsSignedBijection (length x) matching.inputs → cone_bit graphs x (match_query graphs.first.inputs matching k value).right ≡ bit (function_of graphs.second (moved matching.inputs x)) (place_of matching.outputs k)
+right_bit graphs matching k value x shape =
+    ap (λ y. bit (function_of graphs.second y) (place_of matching.outputs k)) (moved_bits matching.inputs x shape)
 
 -- two bits agree by a sign, or the second has the value that is asked for
 agree_or_ask : (b c s : Bool) → (b ≡ differ c s) ⊎ (c ≡ differ (not b) s)
@@ -95,46 +129,53 @@ not_both false true false agree ask = cc
 not_both false false true agree ask = cc
 not_both false false false agree ask = cc
 
-bits_of : (graphs : Graphs) (n : ℕ) (matching : Matching) (k : ℕ) (value : Bool) (query : Query) → IsMatchQuery n matching k value query → bits_in graphs query ≡ graphs.first.inputs
-bits_of graphs n matching k value query is = ap (λ side. (graph_of graphs side).inputs) is.left_side
-
 -- no query of any output is met: the tables are a match
-pub match_of_unmet : (graphs : Graphs) (matching : Matching) → IsGraph graphs.first → IsGraph graphs.second → HavePorts graphs.first graphs.second matching.inputs matching.outputs → ((k : ℕ) (value : Bool) → k < length graphs.first.outputs → (query : Query) × IsMatchQuery graphs.first.inputs matching k value query × IsUnmet graphs query) → IsMatch graphs.first graphs.second matching.inputs matching.outputs
-match_of_unmet graphs matching first second ports unmet =
-    let p = matching.inputs in
-    let q = matching.outputs in
-    match_from_functions graphs.first graphs.second p q first.ordered second.ordered (record {
-      same_inputs = ports.same_inputs;
-      same_outputs = ports.same_outputs;
-      inputs = ports.inputs;
-      outputs = ports.outputs;
-      agree = λ x same k below.
-          let here : k < length graphs.first.outputs = omega (arith, below, ports.outputs.entries) in
-          let b = bit (function_of graphs.first x) k in
-          let c = bit (function_of graphs.second (moved p x)) (place_of q k) in
-          elim (agree_or_ask b c (sign_of q k)) [
-            | inl agree ↦ agree
-            | inr ask ↦
-                let found = unmet k b here in
-                let query = found.0 in
-                let is = found.1 in
-                absurd (found.2 x (same ∙ sym (bits_of graphs graphs.first.inputs matching k b query is)) (record {
-                  left = left_bit graphs matching k b query x is same ∙ sym is.left_value;
-                  right = right_bit graphs matching k b query x is ports.inputs same ∙ (ask ∙ sym is.right_value);
-                }))
-          ];
-    })
+pub match_of_unmet : (graphs : Graphs) (matching : Matching) → IsGraph graphs.first → IsGraph graphs.second → HavePorts graphs.first graphs.second matching.inputs matching.outputs → ((k : ℕ) (value : Bool) → k < length graphs.first.outputs → IsUnmet graphs (match_query graphs.first.inputs matching k value)) → IsMatchOfFunctions graphs.first graphs.second matching.inputs matching.outputs
+match_of_unmet graphs matching first second ports unmet = record {
+  same_inputs = ports.same_inputs;
+  same_outputs = ports.same_outputs;
+  inputs = ports.inputs;
+  outputs = ports.outputs;
+  agree = λ x same k below.
+      let p = matching.inputs in
+      let q = matching.outputs in
+      let here : k < length graphs.first.outputs = omega (arith, below, ports.outputs.entries) in
+      let b = bit (function_of graphs.first x) k in
+      let c = bit (function_of graphs.second (moved p x)) (place_of q k) in
+      let shape = subst (λ n. IsSignedBijection n p) (sym same) ports.inputs in
+      elim (agree_or_ask b c (sign_of q k)) [
+        | inl agree ↦ agree
+        | inr ask ↦ absurd (unmet k b here x same (record { left = left_bit graphs matching k b x same; right = right_bit graphs matching k b x shape ∙ ask }))
+      ];
+}
 
 -- the tables are a match: no query of any output is met
-pub unmet_of_match : (graphs : Graphs) (matching : Matching) → IsGraph graphs.first → IsGraph graphs.second → IsMatch graphs.first graphs.second matching.inputs matching.outputs → (k : ℕ) (value : Bool) (query : Query) → k < length graphs.first.outputs → IsMatchQuery graphs.first.inputs matching k value query → IsUnmet graphs query
-unmet_of_match graphs matching first second is_match k value query below is x same meets =
+pub unmet_of_match : (graphs : Graphs) (matching : Matching) → IsGraph graphs.first → IsGraph graphs.second → IsMatchOfFunctions graphs.first graphs.second matching.inputs matching.outputs → (k : ℕ) (value : Bool) → k < length graphs.first.outputs → IsUnmet graphs (match_query graphs.first.inputs matching k value)
+unmet_of_match graphs matching first second functions k value below x same meets =
     let p = matching.inputs in
     let q = matching.outputs in
-    let n = same ∙ bits_of graphs graphs.first.inputs matching k value query is in
-    let functions = functions_from_match graphs.first graphs.second p q first.ordered second.ordered is_match in
+    let shape = subst (λ n. IsSignedBijection n p) (sym same) functions.inputs in
     let b = bit (function_of graphs.first x) k in
     let c = bit (function_of graphs.second (moved p x)) (place_of q k) in
-    let agree = functions.agree x n k (omega (arith, below, functions.outputs.entries)) in
-    let value_is : b ≡ value = sym (left_bit graphs matching k value query x is n) ∙ (meets.left ∙ is.left_value) in
-    let ask : c ≡ differ (not b) (sign_of q k) = sym (right_bit graphs matching k value query x is functions.inputs n) ∙ (meets.right ∙ (is.right_value ∙ ap (λ v. differ (not v) (sign_of q k)) (sym value_is))) in
+    let agree = functions.agree x same k (omega (arith, below, functions.outputs.entries)) in
+    let value_is : b ≡ value = sym (left_bit graphs matching k value x same) ∙ meets.left in
+    let ask : c ≡ differ (not b) (sign_of q k) = sym (right_bit graphs matching k value x shape) ∙ (meets.right ∙ ap (λ v. differ (not v) (sign_of q k)) (sym value_is)) in
     not_both b c (sign_of q k) agree ask
+
+-- the query of a match fits the two circuits
+pub match_query_fits : (graphs : Graphs) (matching : Matching) (k : ℕ) (value : Bool) → HavePorts graphs.first graphs.second matching.inputs matching.outputs → k < length graphs.first.outputs → IsQuery graphs (match_query graphs.first.inputs matching k value)
+match_query_fits graphs matching k value ports below =
+    let n = graphs.first.inputs in
+    let p = matching.inputs in
+    let entries = ports.inputs.entries in
+    let moved = moved_is p (subst (λ m. IsSignedBijection m p) (sym entries) ports.inputs) in
+    let place = ports.outputs.in_range k (0, false) (omega (arith, below, ports.outputs.entries)) in
+    record {
+      left = record { inputs = refl; output = below; feed = straight_count n; wires = straight_wired n };
+      right = record {
+        inputs = ports.same_inputs;
+        output = omega (arith, place, ports.same_outputs);
+        feed = moved.inputs ∙ entries;
+        wires = subst (λ m. All (IsWired m) (moved_feed p)) entries moved.wired;
+      };
+    }

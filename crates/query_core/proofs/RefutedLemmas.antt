@@ -1,6 +1,6 @@
 -- A query whose clauses a log refutes is met by no vector.
-use Rattle.std.proofs.Common.{◌≡◌, ℕ, ◌<◌, Bool, List, length}
-use Rattle.circuits.specs.Matches.{HavePorts, IsMatch}
+use Rattle.std.proofs.Common.{ℕ, ◌<◌, Bool, length}
+use Rattle.circuits.specs.Matches.{HavePorts, IsMatchOfFunctions}
 use Rattle.cnf_core.proofs.DerivationLaws.{refuted_unmet}
 use Rattle.net_core.specs.declared.graphs.Graphs.{Graphs}
 use Rattle.net_core.specs.declared.matching.Matching.{Matching}
@@ -8,7 +8,7 @@ use Rattle.net_core.specs.Graph.{IsGraph}
 use Rattle.query_core.specs.declared.query.Query.{Query}
 use Rattle.query_core.specs.Queries.{IsUnmet}
 use Rattle.query_core.specs.Formulas.{IsRefuted, formula_of}
-use Rattle.query_core.specs.MatchQueries.{IsMatchQuery}
+use Rattle.query_core.specs.MatchQueries.{match_query}
 use Rattle.query_core.proofs.AssignmentLemmas.{assignment_there}
 use Rattle.query_core.proofs.MatchLemmas.{match_of_unmet}
 
@@ -17,8 +17,6 @@ unmet graphs query first second refuted x same meets =
     let there = assignment_there graphs query x first second refuted.fits same meets in
     refuted_unmet (formula_of graphs query) refuted.lines there.0 refuted.refuted there.1
 
-pub match_of_refuted : (graphs : Graphs) (matching : Matching) → IsGraph graphs.first → IsGraph graphs.second → HavePorts graphs.first graphs.second matching.inputs matching.outputs → ((k : ℕ) (value : Bool) → k < length graphs.first.outputs → (query : Query) × IsMatchQuery graphs.first.inputs matching k value query × IsRefuted graphs query) → IsMatch graphs.first graphs.second matching.inputs matching.outputs
+pub match_of_refuted : (graphs : Graphs) (matching : Matching) → IsGraph graphs.first → IsGraph graphs.second → HavePorts graphs.first graphs.second matching.inputs matching.outputs → ((k : ℕ) (value : Bool) → k < length graphs.first.outputs → IsRefuted graphs (match_query graphs.first.inputs matching k value)) → IsMatchOfFunctions graphs.first graphs.second matching.inputs matching.outputs
 match_of_refuted graphs matching first second ports each =
-    match_of_unmet graphs matching first second ports (λ k value below.
-    let found = each k value below in
-    (found.0, found.1, unmet graphs found.0 first second found.2))
+    match_of_unmet graphs matching first second ports (λ k value below. unmet graphs (match_query graphs.first.inputs matching k value) first second (each k value below))

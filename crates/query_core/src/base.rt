@@ -3,13 +3,15 @@
 ghost use Rattle.std.specs.Prelude.{◌≡◌, ◌+◌, ◌*◌, ◌<◌, ◌≤◌, ◌∷◌, [], IfOk, length};
 ghost use Rattle.circuits.specs.Literals.{signal_of};
 ghost use Rattle.cnf_core.specs.Clauses.{clause_at, literals_of};
+ghost use Rattle.circuits.specs.Matches.{HavePorts};
 ghost use Rattle.query_core.specs.Queries.{IsQuery};
+ghost use Rattle.query_core.specs.MatchQueries.{match_query, IsOfMatching};
 ghost use Rattle.query_core.specs.Formulas.{and_clauses, clauses_by, half_clauses, output_literal, stand_in, stands_for, IsHalf};
 
 use crate::literals::{left_literals, right_literals};
 use crate::query::Query;
 use cnf_core::{Base, Clause3, SatLit};
-use net_core::{Graph, Graphs, Lit};
+use net_core::{Graph, Graphs, Lit, Matching};
 use std::alloc::{AllocError, Global};
 use std::marker::Model;
 
@@ -53,6 +55,24 @@ impl<'a> QueryBase<'a> {
             left,
             right,
         })
+    }
+
+    /// Asks about another output and value of the same matching. Only the last two clauses become others, and it takes no
+    /// memory.
+    pub fn turn_to(&mut self, matching: &Matching, output: u32, value: bool)
+        requires ports { HavePorts self.old.graphs.first self.old.graphs.second
+            matching.now.inputs matching.now.outputs }
+        requires output { output < length self.old.graphs.first.outputs }
+        requires asked { IsOfMatching self.old.graphs.first.inputs matching.now self.old.query }
+        ensures { self.new ≡ record self.old {
+          query = match_query self.old.graphs.first.inputs matching.now output value;
+        } }
+    {
+        let (place, sign) = matching.outputs[output as usize];
+        self.query.left.output = output;
+        self.query.left_value = value;
+        self.query.right.output = place;
+        self.query.right_value = !value != sign;
     }
 }
 

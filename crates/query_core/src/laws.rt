@@ -1,7 +1,7 @@
 //! What a query's clauses say together. Each function does nothing; its contract is the law.
 
 ghost use Rattle.std.specs.Prelude.{ℕ, ◌≡◌, ◌<◌, Bool, List, length};
-ghost use Rattle.circuits.specs.Matches.{HavePorts, IsMatch};
+ghost use Rattle.circuits.specs.Matches.{HavePorts, IsMatchOfFunctions};
 ghost use Rattle.cnf_core.specs.Clauses.{Meets};
 ghost use Rattle.net_core.specs.declared.graphs.Graphs.{Graphs as TwoGraphs};
 ghost use Rattle.net_core.specs.declared.matching.Matching.{Matching as Table};
@@ -9,7 +9,9 @@ ghost use Rattle.net_core.specs.Graph.{IsGraph};
 ghost use Rattle.query_core.specs.declared.query.Query.{Query as Question};
 ghost use Rattle.query_core.specs.Queries.{IsQuery, IsUnmet, MeetsQuery, bits_in, vector_in};
 ghost use Rattle.query_core.specs.Formulas.{IsRefuted, query_clauses};
-ghost use Rattle.query_core.specs.MatchQueries.{IsMatchQuery};
+ghost use Rattle.query_core.specs.MatchQueries.{match_query, moved_feed, IsMovedFeed};
+ghost use Rattle.query_core.specs.declared.query.Feed.{Feed as Entry};
+ghost use Rattle.circuits.specs.Bijections.{IsSignedBijection};
 
 /// What an assignment that meets a query's clauses has as its input variables is a vector that is asked for.
 pub fn assignment_is_a_vector()
@@ -28,18 +30,27 @@ pub fn vector_has_an_assignment()
         × (vector_in (bits_in graphs query) assignment ≡ x) }
 {}
 
+/// The place that each input of a signed bijection goes to gets the input's bit, inverted where the sign says so; no other
+/// feed is like this.
+pub fn wires_of_a_bijection()
+    ensures wires { (entries : List (ℕ × Bool)) → IsSignedBijection (length entries) entries
+        → IsMovedFeed entries (moved_feed entries) }
+    ensures only { (entries : List (ℕ × Bool)) (feed : List Entry) → IsSignedBijection (length entries) entries
+        → IsMovedFeed entries feed → feed ≡ moved_feed entries }
+{}
+
 /// Signed bijections of the ports are a match exactly where no vector meets the queries of a matching: of each output, for
 /// either of its values.
 pub fn match_by_queries()
     ensures matches { (graphs : TwoGraphs) (matching : Table) → IsGraph graphs.first → IsGraph graphs.second
         → HavePorts graphs.first graphs.second matching.inputs matching.outputs
         → ((k : ℕ) (value : Bool) → k < length graphs.first.outputs
-        → (query : Question) × IsMatchQuery graphs.first.inputs matching k value query × IsUnmet graphs query)
-        → IsMatch graphs.first graphs.second matching.inputs matching.outputs }
+        → IsUnmet graphs (match_query graphs.first.inputs matching k value))
+        → IsMatchOfFunctions graphs.first graphs.second matching.inputs matching.outputs }
     ensures unmet { (graphs : TwoGraphs) (matching : Table) → IsGraph graphs.first → IsGraph graphs.second
-        → IsMatch graphs.first graphs.second matching.inputs matching.outputs
-        → (k : ℕ) (value : Bool) (query : Question) → k < length graphs.first.outputs
-        → IsMatchQuery graphs.first.inputs matching k value query → IsUnmet graphs query }
+        → IsMatchOfFunctions graphs.first graphs.second matching.inputs matching.outputs
+        → (k : ℕ) (value : Bool) → k < length graphs.first.outputs
+        → IsUnmet graphs (match_query graphs.first.inputs matching k value) }
 {}
 
 /// Signed bijections of the ports are a match where logs refute the queries of a matching: of each output, for either of its
@@ -48,7 +59,6 @@ pub fn refuted_queries_are_a_match()
     ensures { (graphs : TwoGraphs) (matching : Table) → IsGraph graphs.first → IsGraph graphs.second
         → HavePorts graphs.first graphs.second matching.inputs matching.outputs
         → ((k : ℕ) (value : Bool) → k < length graphs.first.outputs
-        → (query : Question) × IsMatchQuery graphs.first.inputs matching k value query
-        × IsRefuted graphs query)
-        → IsMatch graphs.first graphs.second matching.inputs matching.outputs }
+        → IsRefuted graphs (match_query graphs.first.inputs matching k value))
+        → IsMatchOfFunctions graphs.first graphs.second matching.inputs matching.outputs }
 {}

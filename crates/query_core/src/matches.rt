@@ -4,7 +4,7 @@ ghost use Rattle.std.specs.Prelude.{◌≡◌, ◌<◌, ◌^◌, All, IfOk, leng
 ghost use Rattle.circuits.specs.Bijections.{IsSignedBijection};
 ghost use Rattle.circuits.specs.Matches.{HavePorts};
 ghost use Rattle.query_core.specs.Queries.{IsQuery, IsWired};
-ghost use Rattle.query_core.specs.MatchQueries.{straight, IsMatchQuery, IsMovedFeed};
+ghost use Rattle.query_core.specs.MatchQueries.{match_query, moved_feed, straight};
 
 use crate::query::{Cone, Feed, Query};
 use items::Items;
@@ -22,7 +22,7 @@ pub fn of_match(
 ) -> Result<Query, AllocError>
     requires ports { HavePorts graphs.now.first graphs.now.second matching.now.inputs matching.now.outputs }
     requires output { output < length graphs.now.first.outputs }
-    ensures query { IfOk result (IsMatchQuery graphs.now.first.inputs matching.now output value) }
+    ensures query { IfOk result (λ query. query ≡ match_query graphs.now.first.inputs matching.now output value) }
     ensures fits { IfOk result (IsQuery graphs.now) }
 {
     let inputs = graphs.first.inputs();
@@ -60,7 +60,7 @@ fn straight(alloc: Global, inputs: u32) -> Result<Items<Feed>, AllocError>
 fn moved(alloc: Global, entries: &[(u32, bool)]) -> Result<Items<Feed>, AllocError>
     requires few { length entries.now < 2 ^ 32 }
     requires shape { IsSignedBijection (length entries.now) entries.now }
-    ensures { IfOk result (IsMovedFeed entries.now) }
+    ensures { IfOk result (λ feed. feed ≡ moved_feed entries.now) }
 {
     let mut feed = vec![in alloc; Feed::Fixed(false); entries.len()]?;
     put_wires(entries, &mut feed);
@@ -72,7 +72,7 @@ fn put_wires(entries: &[(u32, bool)], feed: &mut [Feed])
     requires shape { IsSignedBijection (length entries.now) entries.now }
     requires room { length feed.old ≡ length entries.now }
     requires wired { All (IsWired (length entries.now)) feed.old }
-    ensures { IsMovedFeed entries.now feed.new }
+    ensures { feed.new ≡ moved_feed entries.now }
 {
     for (i, (place, flip)) in entries.iter().enumerate() {
         feed[*place as usize] = Feed::Wire {

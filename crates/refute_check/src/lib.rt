@@ -7,6 +7,7 @@ mod values;
 
 pub use cnf_core::{Base, LineFault, LogLine, SatLit};
 pub use refuter::Refuter;
+pub use values::Values;
 
 #[cfg(test)]
 mod tests;

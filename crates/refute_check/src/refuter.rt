@@ -1,10 +1,10 @@
 //! The check of a log.
 
-ghost use Rattle.std.specs.Prelude.{◌≡◌, ◌++◌, ◌∷◌, [], None, IfOk, OnOk, OnErr, length};
+ghost use Rattle.std.specs.Prelude.{ℕ, ◌≡◌, ◌++◌, ◌∷◌, [], None, IfOk, OnOk, OnErr, length};
 ghost use Rattle.std.specs.List.{list_any};
 ghost use Rattle.cnf_core.specs.Derivations.{is_empty, line_fault};
 ghost use Rattle.cnf_core.specs.Stores.{HasRoom};
-ghost use Rattle.refute_check.specs.Refutations.{answer_of};
+ghost use Rattle.refute_check.specs.Refutations.{answer_of, ends_empty};
 
 use crate::propagation::derive;
 use crate::values::Values;
@@ -14,7 +14,7 @@ use std::marker::Model;
 
 /// Takes the lines of a log one by one, each where it is derived from a formula and from the lines taken before it.
 #[derive(Drop)]
-pub struct Refuter<B: Base + Drop> {
+pub struct Refuter<B: Base> {
     base: B,
     taken: ClauseStore,
     values: Values,
@@ -22,12 +22,14 @@ pub struct Refuter<B: Base + Drop> {
     closed: bool,
 }
 
-impl<B: Base + Drop> Model for Refuter<B> {
-    ghost use Rattle.refute_check.specs.Refutations.{Refuting, IsRefuter};
+impl<B: Base> Model for Refuter<B> {
+    ghost use Rattle.refute_check.specs.Refutations.{Refuting, refuting_code, IsRefuter};
 
-    ghost Value = { Refuting };
+    ghost Value = { Refuting B };
 
-    ghost view = { λ a. record { formula = B.formula a.base; taken = a.taken.clauses; room = a.taken.room } };
+    ghost coded = { refuting_code B.code };
+
+    ghost view = { λ a. record { base = a.base; taken = a.taken.clauses; room = a.taken.room } };
 
     ghost invariant = { λ a. IsRefuter (B.formula a.base) a.taken a.values a.closed };
 }
@@ -35,7 +37,7 @@ impl<B: Base + Drop> Model for Refuter<B> {
 impl<B: Base + Drop> Refuter<B> {
     /// No line was taken, and there is no room for one.
     pub fn new(alloc: Global, base: B) -> Result<Refuter<B>, AllocError>
-        ensures { IfOk result (λ refuter. refuter ≡ record { formula = B.formula base; taken = []; room = None }) }
+        ensures { IfOk result (λ refuter. refuter ≡ record { base = base; taken = []; room = None }) }
     {
         let values = Values::new(alloc, base.variables())?;
         Ok(Refuter {
@@ -45,12 +47,42 @@ impl<B: Base + Drop> Refuter<B> {
             closed: false,
         })
     }
+}
 
-    /// Makes room for a line of at least so many literals. The lines stay, and a refusal leaves the room as it was.
+impl<B: Base> Refuter<B> {
+    /// No line was taken, and there is no room for one; the values are those of a refuter over as many variables.
+    pub fn with_values(alloc: Global, base: B, values: Values) -> Refuter<B>
+        requires { values ≡ record { variables = (B.formula base).variables; made = [] } }
+        ensures { result ≡ record { base = base; taken = []; room = None } }
+    {
+        Refuter {
+            base,
+            taken: ClauseStore::new(alloc),
+            values,
+            closed: false,
+        }
+    }
+
+    /// The base, and the values, with which another log over as many variables is checked without memory.
+    pub fn into_parts(self) -> (B, Values)
+        ensures base { result.0 ≡ self.base }
+        ensures values { result.1 ≡ record { variables = (B.formula self.base).variables; made = [] } }
+    {
+        let Refuter {
+            base,
+            taken: _,
+            values,
+            closed: _,
+        } = self;
+        (base, values)
+    }
+
+    /// Makes room for a line of at least so many literals. The lines stay, a larger room stays, and a refusal changes nothing.
     pub fn reserve(&mut self, literals: usize) -> Result<(), AllocError>
-        ensures formula { self.new.formula ≡ self.old.formula }
+        ensures base { self.new.base ≡ self.old.base }
         ensures taken { self.new.taken ≡ self.old.taken }
         ensures room { OnOk result (HasRoom self.new.room literals) }
+        ensures larger { (most : ℕ) → HasRoom self.old.room most → HasRoom self.new.room most }
         ensures refused { OnErr result (self.new ≡ self.old) }
     {
         self.taken.reserve(literals)
@@ -60,9 +92,9 @@ impl<B: Base + Drop> Refuter<B> {
     /// that is taken uses up the room; one that is refused changes nothing. Neither takes memory.
     pub fn line(&mut self, line: &LogLine) -> Result<(), LineFault>
         requires { HasRoom self.old.room (length line.now.clause) }
-        ensures answer { result ≡ answer_of (line_fault self.old.formula self.old.taken line.now) }
+        ensures answer { result ≡ answer_of (line_fault (B.formula self.old.base) self.old.taken line.now) }
         ensures taken { OnOk result (self.new ≡ record {
-          formula = self.old.formula;
+          base = self.old.base;
           taken = self.old.taken ++ line.now.clause ∷ [];
           room = None;
         }) }
@@ -79,9 +111,10 @@ impl<B: Base + Drop> Refuter<B> {
         Ok(())
     }
 
-    /// Whether the last line taken is empty: the formula is refuted.
+    /// Whether the last line taken is empty: the formula is refuted. No other line is.
     pub fn closed(&self) -> bool
-        ensures { result ≡ list_any is_empty self.now.taken }
+        ensures last { result ≡ ends_empty self.now.taken }
+        ensures any { result ≡ list_any is_empty self.now.taken }
     {
         self.closed
     }

@@ -13,7 +13,7 @@ use std::marker::Model;
 /// The literals that were made true, over so many variables. None of them has the variable of another. To make one takes
 /// no memory.
 #[derive(Debug, Drop)]
-pub(crate) struct Values {
+pub struct Values {
     /// The bit of each variable that has one.
     bits: Vec<Option<bool>>,
     /// The literals, in the order in which they were made true.

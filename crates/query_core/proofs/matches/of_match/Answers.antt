@@ -1,8 +1,9 @@
 -- The query of a match fits the two circuits.
 use Rattle.std.proofs.Common.{◌≡◌, ℕ, Bool, All, length, refl, sym, ap, subst, ◌∙◌, arith}
 use Rattle.query_core.specs.Queries.{IsWired}
-use Rattle.query_core.specs.MatchQueries.{straight as evenly}
-use Rattle.query_core.proofs.MatchLemmas.{straight_count, straight_wired}
+use Rattle.circuits.specs.Bijections.{IsSignedBijection}
+use Rattle.query_core.specs.MatchQueries.{straight as evenly, IsMovedFeed}
+use Rattle.query_core.proofs.MatchLemmas.{moved_is, straight_count, straight_wired}
 use Rattle.query_core.proofs.matches.of_match.Goals as goal
 
 pub returns-clause-fits : goal.returns-clause-fits
@@ -11,8 +12,9 @@ returns-clause-fits c =
     let first = c.args.graphs.now.first in
     let n = c.inputs-inputs.ensures.value in
     let straight = c.in_ok-straight.ensures in
-    let moved = c.in_ok-moved.ensures in
     let entries : length c.deref.result.now ≡ first.inputs = ap length c.deref.ensures.value ∙ ports.inputs.entries in
+    let shape = subst (λ m. IsSignedBijection m c.deref.result.now) (sym entries) (subst (IsSignedBijection first.inputs) (sym c.deref.ensures.value) ports.inputs) in
+    let moved = subst (IsMovedFeed c.deref.result.now) (sym c.in_ok-moved.ensures) (moved_is c.deref.result.now shape) in
     let place = ports.outputs.in_range c.args.output c.index.result.now (omega (arith, c.requires.output, ports.outputs.entries)) in
     record {
       left = record {

@@ -1,15 +1,23 @@
--- A line's refusal, as the open match's logs tell it.
-use Rattle.std.proofs.Common.{◌≡◌, Some, sym, ap, subst, ◌∙◌}
-use Rattle.account_check.specs.Accounts.{Account, Proof, Proving, HasLineFault}
-use Rattle.account_check.specs.Stages.{IsStage, progress_of}
+-- What is wrong with a line, as the open match's logs tell it.
+use Rattle.std.proofs.Common.{◌≡◌, None, OnOk, sym, ap, subst, ◌∙◌}
+use Rattle.account_check.specs.Accounts.{Account, line_reject}
+use Rattle.account_check.specs.Stages.{IsStage, proof_of}
 use Rattle.account_check.proofs.checker.Checker.line.Goals as goal
 
-same_proof : (a b : Proof) → Proving a ≡ Proving b → a ≡ b
-same_proof a b e = cc
-
 pub returns-clause-refused : goal.returns-clause-refused
-returns-clause-refused c reject is proof proving =
+returns-clause-refused c reject is =
     let logs = c.in-Proving.logs in
-    let graphs : logs.graphs ≡ c.args.self.now.graphs = subst (IsStage c.self.inside.graphs.now) c.in-Proving.is c.self.invariant ∙ ap (λ (v : Account). v.graphs) c.self.view_is in
-    let same = same_proof logs.proof proof (sym (ap progress_of c.in-Proving.is) ∙ (ap (λ (v : Account). v.progress) c.self.view_is ∙ proving)) in
-    subst (λ p. HasLineFault c.args.self.now.graphs p c.args.line.now (Some reject)) same (subst (λ g. HasLineFault g logs.proof c.args.line.now (Some reject)) graphs (c.line.ensures.refused reject is))
+    let account = c.args.self.now in
+    let line = c.args.line.now in
+    let graphs : logs.graphs ≡ account.graphs = subst (IsStage c.self.inside.graphs.now) c.in-Proving.is c.self.invariant ∙ ap (λ (v : Account). v.graphs) c.self.view_is in
+    let proof : logs.proof ≡ account.proof = sym (ap proof_of c.in-Proving.is) ∙ ap (λ (v : Account). v.proof) c.self.view_is in
+    c.line.ensures.refused reject is ∙ (ap (λ g. line_reject g logs.proof line) graphs ∙ ap (λ p. line_reject account.graphs p line) proof)
+
+pub returns-clause-taken : goal.returns-clause-taken
+returns-clause-taken c =
+    let logs = c.in-Proving.logs in
+    let account = c.args.self.now in
+    let line = c.args.line.now in
+    let graphs : logs.graphs ≡ account.graphs = subst (IsStage c.self.inside.graphs.now) c.in-Proving.is c.self.invariant ∙ ap (λ (v : Account). v.graphs) c.self.view_is in
+    let proof : logs.proof ≡ account.proof = sym (ap proof_of c.in-Proving.is) ∙ ap (λ (v : Account). v.proof) c.self.view_is in
+    subst (λ f. OnOk c.line.result (None ≡ f)) (ap (λ g. line_reject g logs.proof line) graphs ∙ ap (λ p. line_reject account.graphs p line) proof) c.line.ensures.taken

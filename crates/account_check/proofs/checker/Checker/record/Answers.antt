@@ -1,8 +1,11 @@
--- A record's refusal, as that of a line.
-use Rattle.std.proofs.Common.{Some, sym, subst}
-use Rattle.account_check.specs.Accounts.{HasFault}
+-- Since a record has one fault at most, it is told exactly.
+use Rattle.account_check.proofs.FaultLemmas.{refused_exactly, taken_exactly, taken_told}
 use Rattle.account_check.proofs.checker.Checker.record.Goals as goal
 
-pub returns-in-Line-clause-refused : goal.returns-in-Line-clause-refused
-returns-in-Line-clause-refused c reject is =
-    subst (λ record_now. HasFault c.args.self.now record_now (Some reject)) (sym c.in-Line.is) (c.line.ensures.refused reject is)
+pub returns-clause-refused : goal.returns-clause-refused
+returns-clause-refused c reject memory =
+    (c.take.ensures.refused reject, refused_exactly c.args.self.now c.args.entry.now c.take.result reject c.take.ensures.refused c.take.ensures.taken memory)
+
+pub returns-clause-taken : goal.returns-clause-taken
+returns-clause-taken c memory =
+    (taken_told c.args.self.now c.args.entry.now c.take.result c.take.ensures.taken, taken_exactly c.args.self.now c.args.entry.now c.take.result c.take.ensures.refused memory)

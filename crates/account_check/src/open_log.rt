@@ -1,0 +1,101 @@
+//! A log that is checked line by line.
+
+ghost use Rattle.std.specs.Prelude.{◌≡◌, ◌<◌, ◌++◌, ◌∷◌, [], true, IfOk, OnOk, OnErr, Ok, Err, None, Some, length};
+ghost use Rattle.circuits.specs.Matches.{HavePorts};
+ghost use Rattle.cnf_core.specs.Derivations.{is_empty, line_fault};
+ghost use Rattle.query_core.specs.Formulas.{formula_of, IsRefuted};
+ghost use Rattle.query_core.specs.MatchQueries.{match_query, IsOfMatching};
+ghost use Rattle.query_core.specs.Queries.{IsQuery};
+ghost use Rattle.account_check.specs.Accounts.{refutation_of};
+ghost use Rattle.account_check.specs.declared.reject.RecordStop.TheVariants as stop;
+ghost use Rattle.account_check.specs.declared.reject.Reject.{Reject as AnyReject};
+
+use crate::reject::RecordStop;
+use cnf_core::LogLine;
+use net_core::{Graphs, Matching};
+use query_core::{Query, QueryBase};
+use refute_check::Refuter;
+use std::alloc::{AllocError, Global};
+use std::marker::Model;
+
+/// A log of a query, whose lines are taken one by one. It refutes the query once its empty line is taken.
+#[derive(Drop)]
+pub(crate) struct OpenLog<'a> {
+    refuter: Refuter<QueryBase<'a>>,
+}
+
+impl<'a> Model for OpenLog<'a> {
+    ghost use Rattle.account_check.specs.Proofs.{LogSoFar, IsLogSoFar};
+
+    ghost Value = { LogSoFar };
+
+    ghost view = { λ a. record {
+      graphs = a.refuter.base.graphs;
+      query = a.refuter.base.query;
+      taken = a.refuter.taken;
+    } };
+
+    ghost invariant = { λ a. IsLogSoFar a.refuter.base.graphs a.refuter.base.query a.refuter.taken };
+}
+
+impl<'a> OpenLog<'a> {
+    /// No line was taken.
+    pub(crate) fn new(
+        alloc: Global,
+        graphs: &'a Graphs,
+        query: &Query,
+    ) -> Result<OpenLog<'a>, AllocError>
+        requires { IsQuery graphs.now query.now }
+        ensures { IfOk result (λ log. log ≡ record { graphs = graphs.now; query = query.now; taken = [] }) }
+    {
+        let base = QueryBase::new(alloc, graphs, query)?;
+        Ok(OpenLog {
+            refuter: Refuter::new(alloc, base)?,
+        })
+    }
+
+    /// A log of another output and value of the same matching, of which no line was taken. What the last log used serves
+    /// it, so that it takes no memory.
+    pub(crate) fn turned(
+        self,
+        alloc: Global,
+        matching: &Matching,
+        output: u32,
+        value: bool,
+    ) -> OpenLog<'a>
+        requires ports { HavePorts self.graphs.first self.graphs.second matching.now.inputs matching.now.outputs }
+        requires output { output < length self.graphs.first.outputs }
+        requires asked { IsOfMatching self.graphs.first.inputs matching.now self.query }
+        ensures { result ≡ record {
+          graphs = self.entry.graphs;
+          query = match_query self.entry.graphs.first.inputs matching.now output value;
+          taken = [];
+        } }
+    {
+        let OpenLog { refuter } = self;
+        let (mut base, values) = refuter.into_parts();
+        base.turn_to(matching, output, value);
+        OpenLog {
+            refuter: Refuter::with_values(alloc, base, values),
+        }
+    }
+
+    /// Takes a line exactly where it is derived, and tells whether it is the empty one: then the query is refuted. What is
+    /// refused changes nothing, nor does want of memory.
+    pub(crate) fn line(&mut self, line: &LogLine) -> Result<bool, RecordStop>
+        ensures refused { (reject : AnyReject) → result ≡ Err (stop.Reject reject)
+            → Some reject ≡ refutation_of
+            (line_fault (formula_of self.old.graphs self.old.query) self.old.taken line.now) }
+        ensures derived { OnOk result
+            (line_fault (formula_of self.old.graphs self.old.query) self.old.taken line.now ≡ None) }
+        ensures closed { IfOk result (λ closed. closed ≡ is_empty line.now.clause) }
+        ensures refuted { result ≡ Ok true → IsRefuted self.old.graphs self.old.query }
+        ensures taken { OnOk result
+            (self.new ≡ record self.old { taken = self.old.taken ++ line.now.clause ∷ [] }) }
+        ensures unchanged { OnErr result (self.new ≡ self.old) }
+    {
+        self.refuter.reserve(line.clause.len())?;
+        self.refuter.line(line)?;
+        Ok(self.refuter.closed())
+    }
+}
