@@ -9,6 +9,7 @@ mod fault;
 pub mod laws;
 mod literal;
 mod log;
+mod stop;
 
 pub use base::Base;
 pub use clause::Clause3;
@@ -17,6 +18,7 @@ pub use effect::Effect;
 pub use fault::LineFault;
 pub use literal::SatLit;
 pub use log::{Log, LogLine};
+pub use stop::Stop;
 
 #[cfg(test)]
 mod tests;
