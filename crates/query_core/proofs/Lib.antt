@@ -3,3 +3,4 @@ pub mod FormulaLemmas
 pub mod LawLemmas
 pub mod MatchLemmas
 pub mod RefutedLemmas
+pub mod LedgerLemmas

@@ -3,11 +3,13 @@
 
 mod base;
 pub mod laws;
+mod ledger;
 mod literals;
 mod matches;
 mod query;
 
 pub use base::QueryBase;
+pub use ledger::{Asked, Ledger};
 pub use matches::of_match;
 pub use query::{Cone, Feed, Query};
 

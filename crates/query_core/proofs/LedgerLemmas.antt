@@ -1,0 +1,85 @@
+-- Lines counted over the entries of a ledger.
+use Rattle.std.proofs.Common.{◌≡◌, ℕ, ◌+◌, ◌-◌, ◌<◌, ◌≤◌, eqb, cond, Bool, true, false, List, [], ◌∷◌, ◌++◌, length, take, All, sum_by, slice_index_or, slice_set, inl, inr, refl, sym, ◌∙◌, ap, subst, arith}
+use Rattle.std.proofs.lemmas.Bool.{cases_eq}
+use Rattle.std.proofs.lemmas.Bool.Decides.{eqb_tells}
+use Rattle.std.proofs.lemmas.List.{get_or_default, length-append, take_all}
+use Rattle.std.proofs.lemmas.List.Sums.{sum_by-set, sum_by_push, sum_by_more}
+use Rattle.std.proofs.lemmas.List.Elements.{All-set, All-push, All-take}
+use Rattle.cnf_core.specs.declared.log.LogLine.{LogLine}
+use Rattle.query_core.specs.declared.query.Query.{Query}
+use Rattle.query_core.specs.declared.ledger.Asked.{Asked}
+use Rattle.query_core.specs.Ledgers.{IsLedger, Ledgered, charged_front, charged_in, entry_of, last_asked, learned_in, nothing_asked, one_if, opened, with_line}
+
+-- what is written over the last entry
+pub written : (asked : List Asked) (at : ℕ) (line copy : LogLine) (lent entry : Asked) → at ≡ length asked - 1 → 0 < length asked → lent ≡ slice_index_or asked at lent → entry ≡ record lent { lines = lent.lines ++ copy ∷ [] } → copy ≡ line → slice_set asked at entry ≡ with_line line asked
+written asked at line copy lent entry last there lent_is entry_is copy_is =
+    let within : at < length asked = omega (arith, last, there) in
+    let more : LogLine → Asked → Asked = λ l (e : Asked). record e { lines = e.lines ++ l ∷ [] } in
+    let is_last : lent ≡ last_asked asked = lent_is ∙ (get_or_default asked at lent nothing_asked within ∙ ap (λ k. slice_index_or asked k nothing_asked) last) in
+    ap (slice_set asked at) (entry_is ∙ (ap (λ l. more l lent) copy_is ∙ ap (more line) is_last)) ∙ ap (λ k. slice_set asked k (more line (last_asked asked))) last
+
+one_more : (asked : List Asked) (line : LogLine) → 0 < length asked → All (λ e. e.lemmas ≤ length e.lines) asked → sum_by charged_in (with_line line asked) ≡ sum_by charged_in asked + 1
+one_more asked line there lemmas =
+    let at = length asked - 1 in
+    let within : at < length asked = omega (arith, there) in
+    let e = last_asked asked in
+    let grown = sum_by-set charged_in asked at (record e { lines = e.lines ++ line ∷ [] }) nothing_asked within in
+    omega (arith, grown, lemmas at nothing_asked within, length-append e.lines (line ∷ []))
+
+lemmas_kept : (asked : List Asked) (line : LogLine) → 0 < length asked → All (λ e. e.lemmas ≤ length e.lines) asked → All (λ e. e.lemmas ≤ length e.lines) (with_line line asked)
+lemmas_kept asked line there lemmas =
+    let at = length asked - 1 in
+    let e = last_asked asked in
+    let grown : e.lemmas ≤ length (e.lines ++ line ∷ []) = omega (arith, lemmas at nothing_asked (omega (arith, there)), length-append e.lines (line ∷ [])) in
+    All-set (λ (x : Asked). x.lemmas ≤ length x.lines) asked at (record e { lines = e.lines ++ line ∷ [] }) grown lemmas
+
+pub learned_is : (ledger : Ledgered) (learned : ℕ) → IsLedger ledger learned → learned_in ledger ≡ learned
+learned_is ledger learned is = omega (arith, is.counted)
+
+-- one line more is charged, or refused
+pub kept_charged : (ledger : Ledgered) (learned : ℕ) (line : LogLine) → IsLedger ledger learned → ledger.spent ≡ false → 0 < length ledger.asked → learned < ledger.budget → IsLedger (record ledger { asked = with_line line ledger.asked }) (learned + 1)
+kept_charged ledger learned line is not_spent there room = record {
+  counted = omega (arith, is.counted, one_more ledger.asked line there is.lemmas);
+  within = omega (arith, room);
+  lemmas = lemmas_kept ledger.asked line there is.lemmas;
+}
+
+pub kept_spent : (ledger : Ledgered) (learned : ℕ) (line : LogLine) → IsLedger ledger learned → ledger.spent ≡ false → 0 < length ledger.asked → IsLedger (record ledger { asked = with_line line ledger.asked; spent = true }) learned
+kept_spent ledger learned line is not_spent there = record {
+  counted = omega (arith, is.counted, ap one_if not_spent, one_more ledger.asked line there is.lemmas);
+  within = is.within;
+  lemmas = lemmas_kept ledger.asked line there is.lemmas;
+}
+
+-- an entry without learned lines doesn't count
+front_counts : (asked : List Asked) → sum_by charged_in (charged_front asked) ≡ sum_by charged_in asked
+front_counts asked =
+    let e = last_asked asked in
+    elim (eqb_tells (length e.lines) e.lemmas) [
+      | inl (found, same) ↦ ap (λ t. sum_by charged_in (cond t (take (length asked - 1) asked) asked)) found ∙ without same
+      | inr (found, differ) ↦ ap (λ t. sum_by charged_in (cond t (take (length asked - 1) asked) asked)) found
+    ]
+  where
+    without : length (last_asked asked).lines ≡ (last_asked asked).lemmas → sum_by charged_in (take (length asked - 1) asked) ≡ sum_by charged_in asked
+    without same =
+        elim (cases_eq (length asked) 0) [
+          | inl none ↦ ap (sum_by charged_in) (take_all (length asked - 1) asked (omega (arith, none)))
+          | inr some ↦
+              let more = sum_by_more charged_in asked (length asked - 1) nothing_asked (omega (arith, some)) in
+              let all : take (length asked - 1 + 1) asked ≡ asked = take_all (length asked - 1 + 1) asked (omega arith) in
+              omega (arith, more, ap (sum_by charged_in) all, same)
+        ]
+
+front_lemmas : (asked : List Asked) → All (λ e. e.lemmas ≤ length e.lines) asked → All (λ e. e.lemmas ≤ length e.lines) (charged_front asked)
+front_lemmas asked lemmas = by_test (eqb (length (last_asked asked).lines) (last_asked asked).lemmas)
+  where
+    by_test : (t : Bool) → All (λ (e : Asked). e.lemmas ≤ length e.lines) (cond t (take (length asked - 1) asked) asked)
+    by_test true = All-take (λ (e : Asked). e.lemmas ≤ length e.lines) (length asked - 1) asked lemmas
+    by_test false = lemmas
+
+pub kept_opened : (ledger : Ledgered) (learned : ℕ) (query : Query) (lemmas : List LogLine) → IsLedger ledger learned → IsLedger (record ledger { asked = opened query lemmas ledger.asked }) learned
+kept_opened ledger learned query lemmas is = record {
+  counted = omega (arith, is.counted, front_counts ledger.asked, sum_by_push charged_in (charged_front ledger.asked) (entry_of query lemmas));
+  within = is.within;
+  lemmas = All-push (λ (e : Asked). e.lemmas ≤ length e.lines) (charged_front ledger.asked) (entry_of query lemmas) (front_lemmas ledger.asked is.lemmas) (omega arith);
+}

@@ -1,0 +1,71 @@
+-- What was asked in a run, and the budget of learned lines.
+use Rattle.std.specs.Prelude.{◌≡◌, ℕ, ◌+◌, ◌-◌, ◌≤◌, ◌==◌, Bool, true, false, List, [], ◌∷◌, ◌++◌, length, take, All, sum_by, slice_index_or, slice_set, if◌then◌else◌}
+use Rattle.cnf_core.specs.declared.log.LogLine.{LogLine}
+use Rattle.cnf_core.specs.declared.stop.Stop.{Stop}
+use Rattle.cnf_core.specs.declared.stop.Stop.TheVariants.{Spent, Memory}
+use Rattle.net_core.specs.declared.graphs.Side.TheVariants.{First}
+use Rattle.query_core.specs.declared.query.Cone.{Cone}
+use Rattle.query_core.specs.declared.query.Query.{Query}
+use Rattle.query_core.specs.declared.ledger.Asked.{Asked}
+
+-- The budget, what was asked in order, and whether the last line was refused.
+pub record Ledgered : Type 0 where
+  pub budget : ℕ
+  pub asked : List Asked
+  pub spent : Bool
+
+-- the entry of a query whose lines are its lemmas
+abbrev pub entry_of : Query → List LogLine → Asked
+entry_of query lemmas = record { query = query; lemmas = length lemmas; lines = lemmas }
+
+abbrev pub nothing_asked : Asked
+nothing_asked =
+    let cone : Cone = record { side = First; output = 0; feed = [] } in entry_of (record { left = cone; left_value = true; right = cone; right_value = true }) []
+
+-- the last entry
+abbrev pub last_asked : List Asked → Asked
+last_asked asked = slice_index_or asked (length asked - 1) nothing_asked
+
+-- the last entry has these lines in place of its own
+abbrev pub with_lines : List LogLine → List Asked → List Asked
+with_lines lines asked = slice_set asked (length asked - 1) (record (last_asked asked) { lines = lines })
+
+-- the last entry has one line more
+abbrev pub with_line : LogLine → List Asked → List Asked
+with_line line asked = with_lines ((last_asked asked).lines ++ line ∷ []) asked
+
+-- how many lines were learned for an entry
+abbrev pub charged_in : Asked → ℕ
+charged_in entry = length entry.lines - entry.lemmas
+
+abbrev pub one_if : Bool → ℕ
+one_if spent = if spent then 1 else 0
+
+-- how many lines were learned, without a refused one
+abbrev pub learned_in : Ledgered → ℕ
+learned_in ledger = sum_by charged_in ledger.asked - one_if ledger.spent
+
+-- the entries without a last one for which nothing was learned
+abbrev pub charged_front : List Asked → List Asked
+charged_front asked = if length (last_asked asked).lines == (last_asked asked).lemmas then take (length asked - 1) asked else asked
+
+-- a query is added with its lemmas
+abbrev pub opened : Query → List LogLine → List Asked → List Asked
+opened query lemmas asked = charged_front asked ++ entry_of query lemmas ∷ []
+
+-- The budget is spent, and the line is kept as the refused one.
+pub record IsSpent (old : Ledgered) (line : LogLine) (new : Ledgered) (learned : ℕ) : Type 0 where
+  pub learned_is : learned ≡ old.budget
+  pub budget : learned_in old ≡ old.budget
+  pub refused : new ≡ record old { asked = with_line line old.asked; spent = true }
+
+-- a line isn't charged: the budget is spent, or memory is wanting, and then nothing changes
+abbrev pub IsRefused : Ledgered → LogLine → Ledgered → Stop → Type 0
+IsRefused old line new (Spent learned) = IsSpent old line new learned
+IsRefused old line new Memory = new ≡ old
+
+-- What each ledger keeps: how many lines were learned, which is within the budget.
+pub record IsLedger (ledger : Ledgered) (learned : ℕ) : Type 0 where
+  pub counted : learned + one_if ledger.spent ≡ sum_by charged_in ledger.asked
+  pub within : learned ≤ ledger.budget
+  pub lemmas : All (λ entry. entry.lemmas ≤ length entry.lines) ledger.asked

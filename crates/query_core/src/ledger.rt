@@ -1,0 +1,167 @@
+//! What was asked in a run, and the budget of learned lines.
+
+ghost use Rattle.std.specs.Prelude.{◌≡◌, ◌+◌, ◌-◌, ◌<◌, ◌≤◌, [], ◌∷◌, ◌++◌, false, IfOk, IfErr, OnOk, OnErr, All, length, vec_len, vec_capacity};
+ghost use Rattle.query_core.specs.Ledgers.{IsRefused, charged_front, entry_of, learned_in, opened, with_line};
+
+use crate::query::Query;
+use cnf_core::{LogLine, Stop};
+use items::Items;
+use std::alloc::{AllocError, Global};
+use std::marker::Model;
+
+/// A query that was asked, with the lines that were derived for it: first lemmas, which cost nothing, then learned lines.
+#[derive(Debug, Drop, PartialEq, Eq)]
+pub struct Asked {
+    pub query: Query,
+    /// How many of the lines are lemmas.
+    pub lemmas: u64,
+    pub lines: Items<LogLine>,
+}
+
+/// Everything that was asked in a run, in order, with every line that was learned. A learned line costs one unit of the
+/// budget. The line that is met with the budget spent is kept as the last one, and isn't counted.
+#[derive(Debug, Drop)]
+pub struct Ledger {
+    budget: u64,
+    asked: Vec<Asked>,
+    learned: u64,
+    spent: bool,
+}
+
+impl Model for Ledger {
+    ghost use Rattle.query_core.specs.Ledgers.{Ledgered, IsLedger};
+
+    ghost Value = { Ledgered };
+
+    ghost view = { λ a. record { budget = a.budget; asked = a.asked.items; spent = a.spent } };
+
+    ghost invariant = { λ a. IsLedger (record { budget = a.budget; asked = a.asked.items; spent = a.spent }) a.learned };
+}
+
+impl Ledger {
+    /// Nothing was asked.
+    pub fn new(alloc: Global, budget: u64) -> Ledger
+        ensures { result ≡ record { budget = budget; asked = []; spent = false } }
+    {
+        Ledger {
+            budget,
+            asked: Vec::new(alloc),
+            learned: 0,
+            spent: false,
+        }
+    }
+
+    /// Adds a query, whose lines are so far its lemmas. It takes the place of a last query for which nothing was learned.
+    /// A refusal changes nothing.
+    pub fn open(
+        &mut self,
+        alloc: Global,
+        query: &Query,
+        lemmas: &[LogLine],
+    ) -> Result<(), AllocError>
+        requires { self.old.spent ≡ false }
+        ensures opened { OnOk result (self.new
+            ≡ record self.old { asked = opened query.now lemmas.now self.old.asked }) }
+        ensures refused { OnErr result (self.new ≡ self.old) }
+    {
+        let entry = opening(alloc, query, lemmas)?;
+        self.asked.reserve(1)?;
+        drop_uncharged(&mut self.asked);
+        self.asked.push_reserved(entry);
+        Ok(())
+    }
+
+    /// Adds a learned line to the last query, for one unit of the budget. Where the budget is spent, the line is kept as
+    /// the refused one. Want of memory changes nothing.
+    pub fn charge(&mut self, line: &LogLine) -> Result<(), Stop>
+        requires asked { 0 < length self.old.asked }
+        requires not_spent { self.old.spent ≡ false }
+        ensures within { OnOk result (learned_in self.old < self.old.budget) }
+        ensures charged { OnOk result (self.new
+            ≡ record self.old { asked = with_line line.now self.old.asked }) }
+        ensures refused { IfErr result (IsRefused self.old line.now self.new) }
+    {
+        let copy = copied(line)?;
+        let last = self.asked.len() - 1;
+        push_line(&mut self.asked[last], copy)?;
+        if self.learned == self.budget {
+            self.spent = true;
+            return Err(Stop::Spent(self.learned));
+        }
+        self.learned += 1;
+        Ok(())
+    }
+
+    /// How many lines were learned, without a refused one.
+    pub fn learned(&self) -> u64
+        ensures value { result ≡ learned_in self.now }
+        ensures within { result ≤ self.now.budget }
+    {
+        self.learned
+    }
+
+    /// How many lines may be learned.
+    pub fn budget(&self) -> u64
+        ensures { result ≡ self.now.budget }
+    {
+        self.budget
+    }
+
+    /// Whether the last line was refused.
+    pub fn spent(&self) -> bool
+        ensures { result ≡ self.now.spent }
+    {
+        self.spent
+    }
+
+    /// What was asked, in order.
+    pub fn asked(&self) -> &[Asked]
+        ensures value { result.now ≡ self.now.asked }
+        ensures lemmas { All (λ entry. entry.lemmas ≤ length entry.lines) self.now.asked }
+    {
+        self.asked.as_slice()
+    }
+}
+
+// The entry of a query, whose lines are its lemmas.
+fn opening(alloc: Global, query: &Query, lemmas: &[LogLine]) -> Result<Asked, AllocError>
+    ensures { IfOk result (λ entry. entry ≡ entry_of query.now lemmas.now) }
+{
+    let query = query.copy()?;
+    let lines = lemmas.to_vec(alloc)?;
+    Ok(Asked {
+        query,
+        lemmas: lines.len() as u64,
+        lines: Items::from_vec(lines),
+    })
+}
+
+// Takes a last entry off for which nothing was learned.
+fn drop_uncharged(asked: &mut Vec<Asked>)
+    ensures entries { asked.new.items ≡ charged_front asked.old.items }
+    ensures room { vec_len asked.new + (vec_capacity asked.old - vec_len asked.old) ≤ vec_capacity asked.new }
+{
+    let Some(last) = asked.last() else {
+        return;
+    };
+    if last.lines.len() as u64 == last.lemmas {
+        let _ = asked.pop();
+    }
+}
+
+// Adds a line to an entry. A refusal changes nothing.
+fn push_line(entry: &mut Asked, line: LogLine) -> Result<(), Stop>
+    ensures pushed { OnOk result (entry.new ≡ record entry.old { lines = entry.old.lines ++ line ∷ [] }) }
+    ensures refused { OnErr result (entry.new ≡ entry.old) }
+    ensures stop { IfErr result (λ stop. stop ≡ Stop.Memory) }
+{
+    entry.lines.push(line)?;
+    Ok(())
+}
+
+// An equal line.
+fn copied(line: &LogLine) -> Result<LogLine, AllocError>
+    ensures { IfOk result (λ copy. copy ≡ line.now) }
+{
+    line.clone()
+}

@@ -1,0 +1,228 @@
+//! The trail.
+
+ghost use Rattle.std.specs.Prelude.{◌≡◌, ◌≢◌, ◌+◌, ◌<◌, ◌≤◌, ◌++◌, ◌∷◌, [], None, Some, IfOk, IfSome, IfNone, All, length, take, drop, filter, min, replicate, nat_le, ◌==◌, slice_set, vec_len, vec_capacity};
+ghost use Rattle.cnf_core.specs.Clauses.{variable_of};
+ghost use Rattle.trail_core.specs.Trails.{IsTrail, IsPlace, IsFree, IsCutAt, entry_at, literals, value_in};
+ghost use Rattle.trail_core.specs.Places.{IsUnset};
+
+use crate::assigned::Assigned;
+use cnf_core::SatLit;
+use std::alloc::{AllocError, Global};
+use std::marker::Model;
+
+/// The literals that were assigned, in order, with their levels and reasons (the implication graph of Marques-Silva and
+/// Sakallah, GRASP, 1999, kept as a list by Eén and Sörensson, MiniSat, 2003). The level is the number of decisions. The
+/// first `walked` literals are those whose consequences were looked for. No variable is assigned twice. Only
+/// `with_variables` takes memory.
+#[derive(Debug, Drop)]
+pub struct Trail {
+    entries: Vec<Assigned>,
+    /// Where the literal of each variable stands, if it has one.
+    places: Vec<Option<usize>>,
+    level: u64,
+    walked: usize,
+}
+
+impl Model for Trail {
+    ghost use Rattle.std.specs.Prelude.{length};
+    ghost use Rattle.trail_core.specs.Trails.{Trailing};
+    ghost use Rattle.trail_core.specs.Places.{IsKept};
+
+    ghost Value = { Trailing };
+
+    ghost view = { λ a. record { variables = length a.places.items; entries = a.entries.items; level = a.level; walked = a.walked } };
+
+    ghost invariant = { λ a. IsKept a.entries a.places.items a.level a.walked };
+}
+
+impl Trail {
+    /// The empty trail over so many variables.
+    pub fn with_variables(alloc: Global, count: u64) -> Result<Trail, AllocError>
+        ensures { IfOk result (λ trail. trail ≡ record { variables = count; entries = []; level = 0; walked = 0 }) }
+    {
+        let places = no_places(alloc, count as usize)?;
+        let entries = Vec::with_capacity(alloc, count as usize)?;
+        Ok(Trail {
+            entries,
+            places,
+            level: 0,
+            walked: 0,
+        })
+    }
+
+    /// Assigns a literal as a decision: it begins a level.
+    pub fn decide(&mut self, lit: SatLit)
+        requires { IsFree self.old lit }
+        ensures { let level = self.old.level + 1 in self.new ≡ record self.old {
+          entries = self.old.entries ++ record { literal = lit; level = level; reason = None } ∷ [];
+          level = level;
+        } }
+    {
+        let level = self.level + 1;
+        let entry = Assigned {
+            literal: lit,
+            level,
+            reason: None,
+        };
+        put(&mut self.entries, &mut self.places, entry);
+        self.level = level;
+    }
+
+    /// Assigns a literal at the present level, by the clause that leaves nothing else.
+    pub fn assign(&mut self, lit: SatLit, reason: u64)
+        requires { IsFree self.old lit }
+        ensures { self.new ≡ record self.old {
+          entries = self.old.entries ++ record { literal = lit; level = self.old.level; reason = Some reason } ∷ [];
+        } }
+    {
+        let entry = Assigned {
+            literal: lit,
+            level: self.level,
+            reason: Some(reason),
+        };
+        put(&mut self.entries, &mut self.places, entry);
+    }
+
+    /// How many literals were walked.
+    pub fn walked(&self) -> u64
+        ensures value { result ≡ self.now.walked }
+        ensures trail { IsTrail self.now }
+    {
+        self.walked as u64
+    }
+
+    /// Counts one literal more as walked.
+    pub fn step(&mut self)
+        requires { self.old.walked < length self.old.entries }
+        ensures { self.new ≡ record self.old { walked = self.old.walked + 1 } }
+    {
+        self.walked += 1;
+    }
+
+    /// Takes off what has a greater level, which becomes the present one.
+    pub fn back_to(&mut self, level: u64)
+        requires { level ≤ self.old.level }
+        ensures variables { self.new.variables ≡ self.old.variables }
+        ensures entries { self.new.entries ≡ filter (λ entry. nat_le entry.level level) self.old.entries }
+        ensures front { self.new.entries ≡ take (length self.new.entries) self.old.entries }
+        ensures level { self.new.level ≡ level }
+        ensures walked { self.new.walked ≡ min self.old.walked (length self.new.entries) }
+    {
+        let kept = kept_at(&self.entries, level);
+        unset(&mut self.places, &self.entries[kept..]);
+        self.entries.truncate(kept);
+        self.level = level;
+        self.walked = self.walked.min(kept);
+    }
+
+    /// Whether a literal is true or false, or None exactly where its variable is unassigned.
+    pub fn value(&self, lit: SatLit) -> Option<bool>
+        ensures { result ≡ value_in (literals self.now.entries) lit }
+    {
+        let place = self.place(lit.variable())?;
+        Some(self.entries[place as usize].literal == lit)
+    }
+
+    /// Where the literal of a variable stands, or None exactly where the variable is unassigned.
+    pub fn place(&self, variable: u64) -> Option<u64>
+        ensures assigned { IfSome result (IsPlace self.now.entries variable) }
+        ensures unassigned { IfNone result (All (λ entry. variable_of entry.literal ≢ variable) self.now.entries) }
+    {
+        if variable >= self.places.len() as u64 {
+            return None;
+        }
+        match self.places[variable as usize] {
+            Some(place) => Some(place as u64),
+            None => None,
+        }
+    }
+
+    /// The present level: the number of decisions.
+    pub fn level(&self) -> u64
+        ensures value { result ≡ self.now.level }
+        ensures trail { IsTrail self.now }
+    {
+        self.level
+    }
+
+    /// How many literals are assigned.
+    pub fn len(&self) -> u64
+        ensures value { result ≡ length self.now.entries }
+        ensures trail { IsTrail self.now }
+    {
+        self.entries.len() as u64
+    }
+
+    /// Whether no literal is assigned.
+    pub fn is_empty(&self) -> bool
+        ensures { result ≡ (length self.now.entries == 0) }
+    {
+        self.entries.is_empty()
+    }
+
+    /// The literal at a place.
+    pub fn lit_at(&self, place: u64) -> SatLit
+        requires { place < length self.now.entries }
+        ensures { result ≡ (entry_at self.now.entries place).literal }
+    {
+        self.entries[place as usize].literal
+    }
+
+    /// The level of the literal at a place.
+    pub fn level_at(&self, place: u64) -> u64
+        requires { place < length self.now.entries }
+        ensures { result ≡ (entry_at self.now.entries place).level }
+    {
+        self.entries[place as usize].level
+    }
+
+    /// The reason of the literal at a place, or None exactly where it is a decision.
+    pub fn reason_at(&self, place: u64) -> Option<u64>
+        requires { place < length self.now.entries }
+        ensures { result ≡ (entry_at self.now.entries place).reason }
+    {
+        self.entries[place as usize].reason
+    }
+}
+
+fn no_places(alloc: Global, count: usize) -> Result<Vec<Option<usize>>, AllocError>
+    ensures { IfOk result (λ places. places.items ≡ replicate count None) }
+{
+    vec![in alloc; None; count]
+}
+
+// Adds a literal, for which there is room, at the end.
+fn put(entries: &mut Vec<Assigned>, places: &mut [Option<usize>], entry: Assigned)
+    requires known { variable_of entry.literal < length places.old }
+    requires room { vec_len entries.old < vec_capacity entries.old }
+    ensures entries { entries.new.items ≡ entries.old.items ++ entry ∷ [] }
+    ensures capacity { vec_capacity entries.new ≡ vec_capacity entries.old }
+    ensures places { places.new ≡ slice_set places.old (variable_of entry.literal) (Some (vec_len entries.old)) }
+{
+    places[entry.literal.variable() as usize] = Some(entries.len());
+    entries.push_reserved(entry);
+}
+
+// How many literals stand before the last ones, whose level is greater.
+fn kept_at(entries: &[Assigned], level: u64) -> usize
+    ensures { IsCutAt level entries.now result }
+{
+    let mut kept = entries.len();
+    while kept > 0 {
+        if entries[kept - 1].level <= level {
+            return kept;
+        }
+        kept -= 1;
+    }
+    0
+}
+
+// Takes the places of literals away.
+fn unset(places: &mut [Option<usize>], dropped: &[Assigned])
+    requires { All (λ entry. variable_of entry.literal < length places.old) dropped.now }
+    ensures { IsUnset places.old places.new dropped.now (length dropped.now) }
+{
+    for entry in dropped.iter() {
+        places[entry.literal.variable() as usize] = None;
+    }
+}
