@@ -1,10 +1,7 @@
 -- The names that the lines of the symbols give, a line at a time.
 use Rattle.std.proofs.Common.{◌≡◌, ℕ, List, [], ◌∷◌, ◌++◌, sym, refl, ◌∙◌, subst}
-use Rattle.aiger_reader.specs.Symbols.{Port, GiveNames, AddsName}
+use Rattle.aiger_reader.specs.Symbols.{Port, Entry, GiveNames, AddsName}
 use Rattle.aiger_reader.proofs.SymbolLemmas.{gives_same}
-
-abbrev Entry : Type 0
-Entry = Port × List ℕ
 
 -- one line more
 pub give_more : (inputs outputs : ℕ) (done : List (List ℕ)) (line : List ℕ) (before entries after : List Entry) → GiveNames inputs outputs done before entries → AddsName inputs outputs line entries after → GiveNames inputs outputs (done ++ line ∷ []) before after

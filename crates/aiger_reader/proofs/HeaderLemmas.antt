@@ -1,9 +1,10 @@
 -- What the numbers on the first line say of each header.
-use Rattle.std.proofs.Common.{◌≡◌, ℕ, suc, ◌+◌, ◌-◌, ◌^◌, ◌<◌, ◌≤◌, ◌==◌, Bool, true, false, IsTrue, List, [], ◌∷◌, ◌++◌, length, map, take, drop, get_or, set, Option, Some, Result, Ok, Err, IfOk, nat_lt, refl, sym, ap, subst, ◌∙◌, arith, length-append, length-take, length-drop}
+use Rattle.std.proofs.Common.{◌≡◌, ℕ, suc, ◌+◌, ◌-◌, ◌^◌, ◌<◌, ◌≤◌, ◌==◌, Bool, true, false, IsTrue, List, [], ◌∷◌, ◌++◌, length, map, take, drop, get_or, set, Option, Some, None, IfSome, IfNone, Result, Ok, Err, IfOk, nat_lt, refl, sym, ap, subst, ◌∙◌, arith, length-append, length-take, length-drop}
 use Rattle.std.specs.List.{list_any}
 use Rattle.std.proofs.lemmas.List.{length-map, nil_from_length, take_more_set}
 use Rattle.std.proofs.lemmas.List.Elements.{All-nil, All-cons, All-head, All-tail, All-append}
 use Rattle.text_core.specs.Lines.{lines}
+use Rattle.text_core.specs.Piece.{Piece}
 use Rattle.aiger_reader.specs.declared.header.Numbers.{Numbers}
 use Rattle.aiger_reader.specs.Words.{numbers_on, AreSmall}
 use Rattle.aiger_reader.specs.Headers.{AigerHeader, header_numbers, keyword, line_behind, WritesHeader, HasHeader}
@@ -43,6 +44,14 @@ no_line bytes left behind none h writes =
     let empty : line_behind bytes ≡ [] = ap (λ (ls : List (List ℕ)). get_or ls 0 []) (ap lines (sym behind) ∙ none) in
     let same : [] ≡ map Some (header_numbers h) = ap numbers_on (sym empty) ∙ writes.written in
     cc
+
+pub first_behind : (bytes left : List ℕ) (after : List (List ℕ)) (line : Option Piece) → left ≡ drop 4 bytes → IfSome line (λ l. lines left ≡ l.bytes ∷ after) → IfSome line (λ l. line_behind bytes ≡ l.bytes)
+first_behind bytes left after (Some line) behind next = line_behind-first bytes left line.bytes after behind next
+first_behind bytes left after None behind next = tt
+
+pub none_behind : (bytes left : List ℕ) (line : Option Piece) → left ≡ drop 4 bytes → IfNone line (lines left ≡ []) → IfNone line ((h : AigerHeader) → WritesHeader (line_behind bytes) h → ⊥)
+none_behind bytes left (Some line) behind none = tt
+none_behind bytes left None behind none = no_line bytes left behind none
 
 -- fewer than five numbers are no header
 pub too_few : (line row : List ℕ) (count : ℕ) (h : AigerHeader) → numbers_on line ≡ map Some (take count row) → count < 5 → WritesHeader line h → ⊥

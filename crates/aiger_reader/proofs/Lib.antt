@@ -1,3 +1,4 @@
+pub mod ResultLemmas
 pub mod HeaderLemmas
 pub mod LiteralLemmas
 pub mod PlaceLemmas
@@ -12,7 +13,7 @@ pub mod DeltaLemmas
 pub mod PairLemmas
 pub mod PositionLemmas
 pub mod SymbolLemmas
-pub mod PortTableLemmas
+pub mod SlotLemmas
 pub mod GiveLemmas
 pub mod LineSteps
 pub mod NameLemmas

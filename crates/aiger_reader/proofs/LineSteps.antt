@@ -6,28 +6,28 @@ use Rattle.std.proofs.lemmas.List.Elements.{All-nil, All-push, All-head, All-tai
 use Rattle.std.proofs.lemmas.List.Sums.{take_while-cons}
 use Rattle.text_core.specs.Lines.{lines, text_of_lines, line_length, first_line, after_line}
 use Rattle.text_core.specs.Piece.{Piece, front}
-use Rattle.aiger_reader.specs.Symbols.{Port, is_comment, symbol_lines, AddsName, GiveNames, AreTables, AreSymbols, IsSymbolFault}
+use Rattle.aiger_reader.specs.Symbols.{Port, Entry, is_comment, symbol_lines, AddsName, GiveNames, ArePortSlots, AreSymbols, IsSymbolFault}
 use Rattle.aiger_reader.proofs.GiveLemmas.{give_more, give_split, give_same}
 
--- What is known after some lines: they gave these names, which the tables have, and this is left of the text.
-pub record IsUnderWay (inputs outputs : ℕ) (text left : Piece) (input_table output_table : List (Option (List ℕ))) : Type 0 where
+-- What is known after some lines: they gave these names, which the ports have, and this is left of the text.
+pub record IsUnderWay (inputs outputs : ℕ) (text left : Piece) (input_slots output_slots : List (Option (List ℕ))) : Type 0 where
   pub done : List (List ℕ)
   pub entries : List (Port × List ℕ)
   pub split : lines text.bytes ≡ done ++ lines left.bytes
   pub symbols : All (λ line. is_comment line ≡ false) done
   pub given : GiveNames inputs outputs done [] entries
-  pub tables : AreTables entries input_table output_table
+  pub ports : ArePortSlots entries input_slots output_slots
   pub offset : (left.bytes ≡ []) ⊎ (left.at ≡ text.at + length (text_of_lines done))
 
 -- no line is read yet
-pub at_front : (inputs outputs : ℕ) (text : Piece) (input_table output_table : List (Option (List ℕ))) → AreTables [] input_table output_table → IsUnderWay inputs outputs text text input_table output_table
-at_front inputs outputs text input_table output_table tables = record {
+pub at_front : (inputs outputs : ℕ) (text : Piece) (input_slots output_slots : List (Option (List ℕ))) → ArePortSlots [] input_slots output_slots → IsUnderWay inputs outputs text text input_slots output_slots
+at_front inputs outputs text input_slots output_slots ports = record {
   done = [];
   entries = [];
   split = refl;
   symbols = All-nil (λ line. is_comment line ≡ false);
   given = refl;
-  tables = tables;
+  ports = ports;
   offset = inr (omega arith);
 }
 
@@ -62,8 +62,8 @@ length_of_lines (first ∷ done) line =
     omega (arith, length_of_lines done line, length-append (first ++ 10 ∷ []) (text_of_lines (done ++ line ∷ [])), length-append (first ++ 10 ∷ []) (text_of_lines done))
 
 -- one line more
-pub one_more : (inputs outputs : ℕ) (text left line after : Piece) (input_table output_table new_inputs new_outputs : List (Option (List ℕ))) (new_entries : List (Port × List ℕ)) → (way : IsUnderWay inputs outputs text left input_table output_table) → first_line left ≡ Some line → after ≡ after_line left → lines left.bytes ≡ line.bytes ∷ lines after.bytes → is_comment line.bytes ≡ false → AddsName inputs outputs line.bytes way.entries new_entries → AreTables new_entries new_inputs new_outputs → IsUnderWay inputs outputs text after new_inputs new_outputs
-one_more inputs outputs text left line after input_table output_table new_inputs new_outputs new_entries way first next split symbol adds tables =
+pub one_more : (inputs outputs : ℕ) (text left line after : Piece) (input_slots output_slots new_inputs new_outputs : List (Option (List ℕ))) (new_entries : List (Port × List ℕ)) → (way : IsUnderWay inputs outputs text left input_slots output_slots) → first_line left ≡ Some line → after ≡ after_line left → lines left.bytes ≡ line.bytes ∷ lines after.bytes → is_comment line.bytes ≡ false → AddsName inputs outputs line.bytes way.entries new_entries → ArePortSlots new_entries new_inputs new_outputs → IsUnderWay inputs outputs text after new_inputs new_outputs
+one_more inputs outputs text left line after input_slots output_slots new_inputs new_outputs new_entries way first next split symbol adds ports =
     let offset : (after.bytes ≡ []) ⊎ (after.at ≡ left.at + (length line.bytes + 1)) = let P : Piece → Type 0 = λ p. (p.bytes ≡ []) ⊎ (p.at ≡ left.at + (length line.bytes + 1)) in subst P (sym next) (offset_behind left line first) in
     record {
       done = way.done ++ line.bytes ∷ [];
@@ -71,7 +71,7 @@ one_more inputs outputs text left line after input_table output_table new_inputs
       split = way.split ∙ (ap (λ xs. way.done ++ xs) split ∙ sym (append_assoc way.done (line.bytes ∷ []) (lines after.bytes)));
       symbols = All-push (λ l. is_comment l ≡ false) way.done line.bytes way.symbols symbol;
       given = give_more inputs outputs way.done line.bytes [] way.entries new_entries way.given adds;
-      tables = tables;
+      ports = ports;
       offset = elim way.offset [
         | inl none ↦ absurd (let e : line.bytes ∷ lines after.bytes ≡ [] = sym split ∙ ap lines none in cc)
         | inr at ↦ elim offset [
@@ -93,23 +93,23 @@ symbols_front (line ∷ done) rest symbols =
     ∙ ap (λ xs. line ∷ xs) (symbols_front done rest (All-tail (λ l. is_comment l ≡ false) line done symbols)))
 
 -- no line is left, or the comment begins
-symbols_of : (inputs outputs : ℕ) (text left : Piece) (input_table output_table : List (Option (List ℕ))) → (way : IsUnderWay inputs outputs text left input_table output_table) → take_while is_symbol (lines left.bytes) ≡ [] → AreSymbols inputs outputs text.bytes way.entries
-symbols_of inputs outputs text left input_table output_table way none =
+symbols_of : (inputs outputs : ℕ) (text left : Piece) (input_slots output_slots : List (Option (List ℕ))) → (way : IsUnderWay inputs outputs text left input_slots output_slots) → take_while is_symbol (lines left.bytes) ≡ [] → AreSymbols inputs outputs text.bytes way.entries
+symbols_of inputs outputs text left input_slots output_slots way none =
     let all : symbol_lines text.bytes ≡ way.done = ap (take_while is_symbol) way.split ∙ (symbols_front way.done (lines left.bytes) way.symbols ∙ (ap (λ xs. way.done ++ xs) none ∙ append-nil way.done)) in
     let P : List (List ℕ) → Type 0 = λ xs. GiveNames inputs outputs xs [] way.entries in
     subst P (sym all) way.given
 
-pub at_end : (inputs outputs : ℕ) (text left : Piece) (input_table output_table : List (Option (List ℕ))) → (way : IsUnderWay inputs outputs text left input_table output_table) → lines left.bytes ≡ [] → AreSymbols inputs outputs text.bytes way.entries
-at_end inputs outputs text left input_table output_table way none =
-    symbols_of inputs outputs text left input_table output_table way (ap (take_while is_symbol) none)
+pub at_end : (inputs outputs : ℕ) (text left : Piece) (input_slots output_slots : List (Option (List ℕ))) → (way : IsUnderWay inputs outputs text left input_slots output_slots) → lines left.bytes ≡ [] → AreSymbols inputs outputs text.bytes way.entries
+at_end inputs outputs text left input_slots output_slots way none =
+    symbols_of inputs outputs text left input_slots output_slots way (ap (take_while is_symbol) none)
 
-pub at_comment : (inputs outputs : ℕ) (text left : Piece) (line : List ℕ) (more : List (List ℕ)) (input_table output_table : List (Option (List ℕ))) → (way : IsUnderWay inputs outputs text left input_table output_table) → lines left.bytes ≡ line ∷ more → is_comment line ≡ true → AreSymbols inputs outputs text.bytes way.entries
-at_comment inputs outputs text left line more input_table output_table way split comment =
-    symbols_of inputs outputs text left input_table output_table way (ap (take_while is_symbol) split ∙ (take_while-cons is_symbol line more ∙ ap (λ b. cond (not b) (line ∷ take_while is_symbol more) []) comment))
+pub at_comment : (inputs outputs : ℕ) (text left : Piece) (line : List ℕ) (more : List (List ℕ)) (input_slots output_slots : List (Option (List ℕ))) → (way : IsUnderWay inputs outputs text left input_slots output_slots) → lines left.bytes ≡ line ∷ more → is_comment line ≡ true → AreSymbols inputs outputs text.bytes way.entries
+at_comment inputs outputs text left line more input_slots output_slots way split comment =
+    symbols_of inputs outputs text left input_slots output_slots way (ap (take_while is_symbol) split ∙ (take_while-cons is_symbol line more ∙ ap (λ b. cond (not b) (line ∷ take_while is_symbol more) []) comment))
 
 -- a line that adds no name
-pub at_fault : (inputs outputs at : ℕ) (text left line : Piece) (more : List (List ℕ)) (input_table output_table : List (Option (List ℕ))) → (way : IsUnderWay inputs outputs text left input_table output_table) → first_line left ≡ Some line → lines left.bytes ≡ line.bytes ∷ more → is_comment line.bytes ≡ false → at ≡ line.at → ((after : List (Port × List ℕ)) → AddsName inputs outputs line.bytes way.entries after → ⊥) → IsSymbolFault inputs outputs text.at text.bytes at
-at_fault inputs outputs at text left line more input_table output_table way first split symbol place bad =
+pub at_fault : (inputs outputs at : ℕ) (text left line : Piece) (more : List (List ℕ)) (input_slots output_slots : List (Option (List ℕ))) → (way : IsUnderWay inputs outputs text left input_slots output_slots) → first_line left ≡ Some line → lines left.bytes ≡ line.bytes ∷ more → is_comment line.bytes ≡ false → at ≡ line.at → ((after : List (Port × List ℕ)) → AddsName inputs outputs line.bytes way.entries after → ⊥) → IsSymbolFault inputs outputs text.at text.bytes at
+at_fault inputs outputs at text left line more input_slots output_slots way first split symbol place bad =
     let done = way.done in
     let last = take_while is_symbol more in
     let symbols : symbol_lines text.bytes ≡ done ++ line.bytes ∷ last = ap (take_while is_symbol) (way.split ∙ ap (λ xs. done ++ xs) split) ∙ (symbols_front done (line.bytes ∷ more) way.symbols ∙ ap (λ xs. done ++ xs) (take_while-cons is_symbol line.bytes more ∙ ap (λ b. cond (not b) (line.bytes ∷ last) []) symbol)) in

@@ -97,29 +97,7 @@ not_behind bytes h xs ys kind.BadLiteral at more fewer below why =
     let same = one_row (get_or (body_lines bytes) (length ys) []) (role_at h (length ys)) (next_row xs ys) why.0.row (more.written (length ys) below) why.0.written in
     why.0.bad (subst (IsGoodRow h (role_at h (length ys))) same (more.good (length ys) below))
 not_behind bytes h xs ys kind.Redefined at more fewer below why = not_redefined bytes h xs ys more fewer below why.0
-not_behind bytes h xs ys kind.Header at more fewer below why = why
-not_behind bytes h xs ys kind.Sequential at more fewer below why = why
-not_behind bytes h xs ys kind.Property at more fewer below why = why
-not_behind bytes h xs ys kind.TooManyInputs at more fewer below why = why
-not_behind bytes h xs ys kind.TooManyOutputs at more fewer below why = why
-not_behind bytes h xs ys kind.TooManyGates at more fewer below why = why
-not_behind bytes h xs ys kind.Undefined at more fewer below why = why
-not_behind bytes h xs ys kind.Delta at more fewer below why = why
-not_behind bytes h xs ys kind.Cycle at more fewer below why = why
-not_behind bytes h xs ys kind.BadSymbol at more fewer below why = why
-not_behind bytes h xs ys kind.Directive at more fewer below why = why
-not_behind bytes h xs ys kind.Latch at more fewer below why = why
-not_behind bytes h xs ys kind.DontCare at more fewer below why = why
-not_behind bytes h xs ys kind.SecondModel at more fewer below why = why
-not_behind bytes h xs ys kind.RowWidth at more fewer below why = why
-not_behind bytes h xs ys kind.RowChar at more fewer below why = why
-not_behind bytes h xs ys kind.MixedCover at more fewer below why = why
-not_behind bytes h xs ys kind.RowOutside at more fewer below why = why
-not_behind bytes h xs ys kind.NoPortLine at more fewer below why = why
-not_behind bytes h xs ys kind.DuplicatePort at more fewer below why = why
-not_behind bytes h xs ys kind.NameRedefined at more fewer below why = why
-not_behind bytes h xs ys kind.NameUndefined at more fewer below why = why
-not_behind bytes h xs ys kind.CoverCycle at more fewer below why = why
+not_behind bytes h xs ys other at more fewer below why = absurd why
 
 pub body_or_fault : (bytes : List ℕ) (h : AigerHeader) (rows : List (List ℕ)) (fault : NetKind) (at : ℕ) → IsBody bytes h rows → IsBodyFault bytes h fault at → ⊥
 body_or_fault bytes h rows fault at body bad =
@@ -138,29 +116,7 @@ four bytes h rows kind.Truncated at why = inl (refl, why.0, why.1)
 four bytes h rows kind.BadLine at why = inr (inl (refl, why.0, why.1))
 four bytes h rows kind.BadLiteral at why = inr (inr (inl (refl, why.0, why.1)))
 four bytes h rows kind.Redefined at why = inr (inr (inr (refl, why.0, why.1)))
-four bytes h rows kind.Header at why = absurd why
-four bytes h rows kind.Sequential at why = absurd why
-four bytes h rows kind.Property at why = absurd why
-four bytes h rows kind.TooManyInputs at why = absurd why
-four bytes h rows kind.TooManyOutputs at why = absurd why
-four bytes h rows kind.TooManyGates at why = absurd why
-four bytes h rows kind.Undefined at why = absurd why
-four bytes h rows kind.Delta at why = absurd why
-four bytes h rows kind.Cycle at why = absurd why
-four bytes h rows kind.BadSymbol at why = absurd why
-four bytes h rows kind.Directive at why = absurd why
-four bytes h rows kind.Latch at why = absurd why
-four bytes h rows kind.DontCare at why = absurd why
-four bytes h rows kind.SecondModel at why = absurd why
-four bytes h rows kind.RowWidth at why = absurd why
-four bytes h rows kind.RowChar at why = absurd why
-four bytes h rows kind.MixedCover at why = absurd why
-four bytes h rows kind.RowOutside at why = absurd why
-four bytes h rows kind.NoPortLine at why = absurd why
-four bytes h rows kind.DuplicatePort at why = absurd why
-four bytes h rows kind.NameRedefined at why = absurd why
-four bytes h rows kind.NameUndefined at why = absurd why
-four bytes h rows kind.CoverCycle at why = absurd why
+four bytes h rows other at why = absurd why
 
 -- a line of bad literals doesn't define again
 bad_or_again : (h : AigerHeader) (body rows : List (List ℕ)) → IsBadLiteral h body rows → IsRedefined h body rows → ⊥

@@ -1,39 +1,32 @@
 -- The names of the ports are determined: a text gives one row of names or has one fault, and not both.
-use Rattle.std.proofs.Common.{◌≡◌, ◌≢◌, ℕ, zero, suc, ◌+◌, ◌<◌, ◌≤◌, ◌⊎◌, Bool, true, false, List, [], ◌∷◌, ◌++◌, length, take, get_or, All, inl, inr, refl, sym, ap, ap₂, ◌∙◌, subst, arith}
+use Rattle.std.proofs.Common.{◌≡◌, ◌≢◌, ℕ, zero, suc, ◌+◌, ◌<◌, ◌≤◌, ◌⊎◌, List, [], ◌∷◌, ◌++◌, length, take, get_or, All, inl, inr, refl, sym, ap, ap₂, ◌∙◌, subst, arith}
 use Rattle.std.proofs.lemmas.List.{ext_get_or, take_all}
 use Rattle.std.proofs.lemmas.List.Elements.{All-nil, All-cons}
+use Rattle.std.proofs.lemmas.Bool.Decides.{eqb_tells}
 use Rattle.text_core.specs.Lines.{lines, text_of_lines}
-use Rattle.aiger_reader.specs.Symbols.{Port, GiveNames, AreSymbols, IsSymbolFault, IsNameOf, ArePortNames, AreNames, port_at, symbol_lines}
+use Rattle.circuits.specs.declared.port.PortKind.{PortKind}
+use Rattle.circuits.specs.declared.port.PortKind.TheVariants.{Input, Output}
+use Rattle.aiger_reader.specs.Symbols.{Port, Entry, GiveNames, AreSymbols, IsSymbolFault, IsNameOf, ArePortNames, AreNames, port_at, symbol_lines}
 use Rattle.aiger_reader.proofs.GiveLemmas.{give_same}
-
-abbrev Entry : Type 0
-Entry = Port × List ℕ
 
 -- the symbols of a text give one row of names
 pub symbols_same : (inputs outputs : ℕ) (text : List ℕ) (xs ys : List Entry) → AreSymbols inputs outputs text xs → AreSymbols inputs outputs text ys → xs ≡ ys
 symbols_same inputs outputs text xs ys =
     give_same inputs outputs (symbol_lines text) [] xs ys
 
-kind_or_not : (a b : Bool) → (a ≡ b) ⊎ (a ≢ b)
-kind_or_not true true = inl refl
-kind_or_not true false = inr (λ e. cc)
-kind_or_not false true = inr (λ e. cc)
-kind_or_not false false = inl refl
-
-place_or_not : (a b : ℕ) → (a ≡ b) ⊎ (a ≢ b)
-place_or_not zero zero = inl refl
-place_or_not zero (suc b) = inr (λ e. omega arith)
-place_or_not (suc a) zero = inr (λ e. omega arith)
-place_or_not (suc a) (suc b) =
-    elim (place_or_not a b) [ inl e ↦ inl (ap (λ n. suc n) e) | inr apart ↦ inr (λ e. apart (omega arith)) ]
+kind_or_not : (a b : PortKind) → (a ≡ b) ⊎ (a ≢ b)
+kind_or_not Input Input = inl refl
+kind_or_not Input Output = inr (λ e. cc)
+kind_or_not Output Input = inr (λ e. cc)
+kind_or_not Output Output = inl refl
 
 port_or_not : (p q : Port) → (p ≡ q) ⊎ (p ≢ q)
-port_or_not p q = elim (kind_or_not p.is_output q.is_output) [
-  | inl e ↦ elim (place_or_not p.position q.position) [
-    | inl f ↦ inl (ap₂ port_at e f)
-    | inr apart ↦ inr (λ same. apart (ap (λ (r : Port). r.position) same))
+port_or_not p q = elim (kind_or_not p.kind q.kind) [
+  | inl e ↦ elim (eqb_tells p.position q.position) [
+    | inl (t, f) ↦ inl (ap₂ port_at e f)
+    | inr (t, apart) ↦ inr (λ same. apart (ap (λ (r : Port). r.position) same))
   ]
-  | inr apart ↦ inr (λ same. apart (ap (λ (r : Port). r.is_output) same))
+  | inr apart ↦ inr (λ same. apart (ap (λ (r : Port). r.kind) same))
 ]
 
 -- an entry names the port, or none does
@@ -58,7 +51,7 @@ name_same entries port a b one other =
     ]
 
 -- the ports of a kind have one row of names
-pub port_names_same : (entries : List Entry) (kind : Bool) (count : ℕ) (xs ys : List (List ℕ)) → ArePortNames entries kind count xs → ArePortNames entries kind count ys → xs ≡ ys
+pub port_names_same : (entries : List Entry) (kind : PortKind) (count : ℕ) (xs ys : List (List ℕ)) → ArePortNames entries kind count xs → ArePortNames entries kind count ys → xs ≡ ys
 port_names_same entries kind count xs ys one other =
     let same : length xs ≡ length ys = one.count_is ∙ sym other.count_is in
     ext_get_or [] xs ys same (λ k below. name_same entries (port_at kind k) (get_or xs k []) (get_or ys k []) (one.each k [] below) (other.each k [] (omega (arith, same, below))))
@@ -67,9 +60,9 @@ port_names_same entries kind count xs ys one other =
 pub names_same : (inputs outputs : ℕ) (text : List ℕ) (i j o p : List (List ℕ)) → AreNames inputs outputs text i o → AreNames inputs outputs text j p → (i ≡ j) × (o ≡ p)
 names_same inputs outputs text i j o p one other =
     let same = symbols_same inputs outputs text other.entries one.entries other.symbols one.symbols in
-    let P : List Entry → Type 0 = λ xs. ArePortNames xs false inputs j in
-    let Q : List Entry → Type 0 = λ xs. ArePortNames xs true outputs p in
-    (port_names_same one.entries false inputs i j one.input_names_are (subst P same other.input_names_are), port_names_same one.entries true outputs o p one.output_names_are (subst Q same other.output_names_are))
+    let P : List Entry → Type 0 = λ xs. ArePortNames xs Input inputs j in
+    let Q : List Entry → Type 0 = λ xs. ArePortNames xs Output outputs p in
+    (port_names_same one.entries Input inputs i j one.input_names_are (subst P same other.input_names_are), port_names_same one.entries Output outputs o p one.output_names_are (subst Q same other.output_names_are))
 
 -- lines that give names give names as far as any of them
 give_front : (inputs outputs n m : ℕ) (all : List (List ℕ)) (before after : List Entry) → n ≤ m → GiveNames inputs outputs (take m all) before after → (some : List Entry) × GiveNames inputs outputs (take n all) before some

@@ -1,22 +1,24 @@
 -- A line of the symbols gives one name at most, and to one port.
-use Rattle.std.proofs.Common.{◌≡◌, ℕ, Bool, true, false, List, [], ◌∷◌, drop, filter, inl, inr, refl, sym, ap, ap₂, ◌∙◌, subst, arith}
+use Rattle.std.proofs.Common.{◌≡◌, ℕ, false, List, [], ◌∷◌, drop, filter, inl, inr, refl, sym, ap, ap₂, ◌∙◌, subst, arith}
 use Rattle.std.specs.List.{onto_first, slice_split}
 use Rattle.std.proofs.lemmas.List.{same_from_push}
 use Rattle.std.proofs.lemmas.List.Splits.{slice_split-cons_no}
 use Rattle.text_core.specs.Bytes.{is_blank}
+use Rattle.circuits.specs.declared.port.PortKind.{PortKind}
+use Rattle.circuits.specs.declared.port.PortKind.TheVariants.{Input, Output}
 use Rattle.text_core.specs.Words.{is_not_empty, words}
 use Rattle.aiger_reader.specs.Symbols.{IsWithoutReturn, Port, NamesPort, BeginsPosition, GivesName, letter_of, port_at}
 use Rattle.aiger_reader.proofs.PositionLemmas.{position_same}
 
-letter_same : (a b : Bool) → letter_of a ≡ letter_of b → a ≡ b
-letter_same true true h = refl
-letter_same true false h = absurd (omega arith)
-letter_same false true h = absurd (omega arith)
-letter_same false false h = refl
+letter_same : (a b : PortKind) → letter_of a ≡ letter_of b → a ≡ b
+letter_same Input Input h = refl
+letter_same Input Output h = absurd (omega arith)
+letter_same Output Input h = absurd (omega arith)
+letter_same Output Output h = refl
 
-letter_not_blank : (a : Bool) → is_blank (letter_of a) ≡ false
-letter_not_blank true = refl
-letter_not_blank false = refl
+letter_not_blank : (a : PortKind) → is_blank (letter_of a) ≡ false
+letter_not_blank Input = refl
+letter_not_blank Output = refl
 
 pub return_same : (text a b : List ℕ) → IsWithoutReturn text a → IsWithoutReturn text b → a ≡ b
 return_same text a b one other =
@@ -40,8 +42,8 @@ behind_letter line rest name port named same =
 
 pub named_same : (line a b : List ℕ) (p q : Port) → NamesPort line p a → NamesPort line q b → (p ≡ q) × (a ≡ b)
 named_same line a b p q one other =
-    let letters : letter_of p.is_output ≡ letter_of q.is_output = cc (one.form, other.form) in
-    let kind = letter_same p.is_output q.is_output letters in
+    let letters : letter_of p.kind ≡ letter_of q.kind = cc (one.form, other.form) in
+    let kind = letter_same p.kind q.kind letters in
     let behind = position_same (drop 1 line) one.tail other.tail p.position q.position (behind_letter line (drop 1 line) a p one refl) (behind_letter line (drop 1 line) b q other refl) in
     let P : List ℕ → Type 0 = λ tail. IsWithoutReturn tail b in
     (ap₂ port_at kind behind.0, return_same one.tail a b one.name_is (subst P (sym behind.1) other.name_is))
@@ -64,8 +66,8 @@ filled_front x (part ∷ parts) h = let e = filter_filled x part parts in cc
 pub named_has_word : (line name : List ℕ) (port : Port) → NamesPort line port name → words line ≡ [] → ⊥
 named_has_word line name port named none =
     let rest = named.rest in
-    let x = letter_of port.is_output in
-    filled_front x (slice_split is_blank rest) (sym (ap (filter is_not_empty) (slice_split-cons_no is_blank x rest (letter_not_blank port.is_output))) ∙ (sym (ap words named.form) ∙ none))
+    let x = letter_of port.kind in
+    filled_front x (slice_split is_blank rest) (sym (ap (filter is_not_empty) (slice_split-cons_no is_blank x rest (letter_not_blank port.kind))) ∙ (sym (ap words named.form) ∙ none))
 
 pub gives_same : (line : List ℕ) (xs ys : List (Port × List ℕ)) → GivesName line xs → GivesName line ys → xs ≡ ys
 gives_same line [] [] one other = refl

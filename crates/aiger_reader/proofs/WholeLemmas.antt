@@ -16,11 +16,11 @@ use Rattle.aiger_reader.specs.declared.limits.Header.{Header}
 use Rattle.aiger_reader.specs.declared.body.Literals.{Literals}
 use Rattle.aiger_reader.specs.Numbers.{header_of}
 use Rattle.aiger_reader.specs.Headers.{AigerHeader}
-use Rattle.aiger_reader.specs.Bodies.{roles_of, IsBody, IsKnownRow, IsUndefined, lit_from, text_circuit, line_offset}
+use Rattle.aiger_reader.specs.Bodies.{roles_of, IsBody, IsBodyFault, IsKnownRow, IsUndefined, lit_from, text_circuit, line_offset}
 use Rattle.aiger_reader.specs.Deltas.{BeginsGates, IsPairFault, and_from, behind_outputs, binary_circuit}
 use Rattle.aiger_reader.specs.Numbered.{IsSound, circuit_from}
 use Rattle.aiger_reader.specs.Reading.{rows_of, input_lines_of, gate_lines_of, IsAtLine}
-use Rattle.aiger_reader.specs.Aiger.{IsOfForm, IsNetlist, IsGatesFault, IsUndefinedFault, IsNamesFault, IsAigerFault}
+use Rattle.aiger_reader.specs.Aiger.{IsOfForm, IsNetlist, IsLinesFault, IsGatesFault, IsUndefinedFault, IsNamesFault, IsAigerFault}
 use Rattle.aiger_reader.specs.Symbols.{IsSymbolFault}
 use Rattle.aiger_reader.specs.Assembly.{IsBegun, AreLinesRead, IsNetOf, ArePairsBelow, IsBinaryBody}
 use Rattle.aiger_reader.proofs.RoleLemmas.{length-rows_of, length-roles_of}
@@ -38,6 +38,16 @@ rest_is bytes k p at =
 pub end_is : (bytes : List ℕ) (k : ℕ) (p : Piece) → IsAtLine bytes k p → p.at + length p.bytes ≡ length bytes
 end_is bytes k p at =
     omega (arith, at.offset, ap length at.rest, length-drop p.at bytes)
+
+-- a fault of the lines is the file's
+pub lines_fault : (bytes : List ℕ) (header : Header) (fault : NetFault) → IsBegun bytes header → ((properties : List ℕ) → IsBodyFault bytes (header_of header properties) fault.kind fault.at) → IsAigerFault bytes fault.kind fault.at
+lines_fault bytes header fault begun why =
+    let found : IsLinesFault bytes fault.kind fault.at = record {
+      h = header_of header begun.0;
+      begins = begun.1;
+      why = why begun.0;
+    } in
+    inr (inl found)
 
 -- the first line that reads what no line defines is the file's fault
 pub undefined_fault : (bytes : List ℕ) (header : Header) (literals : Literals) (signals : List ℕ) (rest : Piece) (at : ℕ) (fault : NetFault) → header.binary ≡ false → IsBegun bytes header → AreLinesRead bytes header literals signals rest → ((properties : List ℕ) → IsUndefined bytes (header_of header properties) (rows_of literals) at) → fault ≡ record { kind = kind.Undefined; at = at } → IsAigerFault bytes fault.kind fault.at

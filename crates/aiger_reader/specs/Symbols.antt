@@ -2,6 +2,8 @@
 use Rattle.std.specs.Prelude.{◌≡◌, ◌≢◌, ℕ, ◌+◌, ◌<◌, ◌⊎◌, ◌==◌, Bool, true, false, not, List, [], ◌∷◌, ◌++◌, length, take, All, Option, None, Some, slice_index_or, slice_set, take_while, if◌then◌else◌}
 use Rattle.std.specs.Fmt.{decimal}
 use Rattle.circuits.specs.Literals.{EachAt}
+use Rattle.circuits.specs.declared.port.PortKind.{PortKind}
+use Rattle.circuits.specs.declared.port.PortKind.TheVariants.{Input, Output}
 use Rattle.text_core.specs.Bytes.{is_blank}
 use Rattle.text_core.specs.Lines.{lines, text_of_lines}
 use Rattle.text_core.specs.Words.{words}
@@ -21,12 +23,17 @@ pub record IsWithoutReturn (text name : List ℕ) : Type 0 where
 
 -- A port by its kind and its position.
 pub record Port : Type 0 where
-  pub is_output : Bool
+  pub kind : PortKind
   pub position : ℕ
 
--- the letter that a port's line begins with: `o` or `i`
-abbrev pub letter_of : Bool → ℕ
-letter_of is_output = if is_output then 111 else 105
+-- a port, and the name that a line gives it
+abbrev pub Entry : Type 0
+Entry = Port × List ℕ
+
+-- the letter that a port's line begins with: `i` or `o`
+abbrev pub letter_of : PortKind → ℕ
+letter_of Input = 105
+letter_of Output = 111
 
 -- The bytes begin with a position in digits and one blank, and this stands behind them.
 pub record BeginsPosition (bytes : List ℕ) (position : ℕ) (tail : List ℕ) : Type 0 where
@@ -40,95 +47,111 @@ pub record BeginsPosition (bytes : List ℕ) (position : ℕ) (tail : List ℕ) 
 pub record NamesPort (line : List ℕ) (port : Port) (name : List ℕ) : Type 0 where
   pub rest : List ℕ
   pub tail : List ℕ
-  pub form : line ≡ letter_of port.is_output ∷ rest
+  pub form : line ≡ letter_of port.kind ∷ rest
   pub place : BeginsPosition rest port.position tail
   pub name_is : IsWithoutReturn tail name
   pub named : name ≢ []
 
-abbrev pub port_at : Bool → ℕ → Port
-port_at is_output position = record { is_output = is_output; position = position }
+abbrev pub port_at : PortKind → ℕ → Port
+port_at kind position = record { kind = kind; position = position }
+
+-- how many ports of a kind there are
+abbrev pub count_of : PortKind → ℕ → ℕ → ℕ
+count_of Input inputs outputs = inputs
+count_of Output inputs outputs = outputs
 
 -- the port is there
 abbrev pub IsThere : ℕ → ℕ → Port → Type 0
-IsThere inputs outputs port = port.position < (if port.is_output then outputs else inputs)
+IsThere inputs outputs port = port.position < count_of port.kind inputs outputs
 
 -- the port is there and has no name yet
-abbrev pub IsFree : List (Port × List ℕ) → ℕ → ℕ → Port → Type 0
+abbrev pub IsFree : List Entry → ℕ → ℕ → Port → Type 0
 IsFree before inputs outputs port = IsThere inputs outputs port × All (λ old. old.0 ≢ port) before
 
 -- what one line of the symbols gives: nothing where it has no words, else a name
-abbrev pub GivesName : List ℕ → List (Port × List ℕ) → Type 0
+abbrev pub GivesName : List ℕ → List Entry → Type 0
 GivesName line [] = words line ≡ []
 GivesName line (entry ∷ []) = NamesPort line entry.0 entry.1
 GivesName line (entry ∷ other ∷ entries) = ⊥
 
 -- the first lines give these names, to ports that are there and have none yet
-abbrev pub GiveNames : ℕ → ℕ → List (List ℕ) → List (Port × List ℕ) → List (Port × List ℕ) → Type 0
+abbrev pub GiveNames : ℕ → ℕ → List (List ℕ) → List Entry → List Entry → Type 0
 GiveNames inputs outputs [] before entries = entries ≡ before
-GiveNames inputs outputs (line ∷ lines) before entries = (new : List (Port × List ℕ)) × GivesName line new × All (λ entry. IsThere inputs outputs entry.0) new × All (λ entry. All (λ old. old.0 ≢ entry.0) before) new × GiveNames inputs outputs lines (before ++ new) entries
+GiveNames inputs outputs (line ∷ lines) before entries =
+    (new : List Entry)
+    × GivesName line new
+    × All (λ entry. IsThere inputs outputs entry.0) new
+    × All (λ entry. All (λ old. old.0 ≢ entry.0) before) new
+    × GiveNames inputs outputs lines (before ++ new) entries
 
 -- one line goes on from the names before it to those after it
-abbrev pub AddsName : ℕ → ℕ → List ℕ → List (Port × List ℕ) → List (Port × List ℕ) → Type 0
+abbrev pub AddsName : ℕ → ℕ → List ℕ → List Entry → List Entry → Type 0
 AddsName inputs outputs line before after = GiveNames inputs outputs (line ∷ []) before after
 
 -- The port has a name, and this is the one.
-pub record IsNamed (entries : List (Port × List ℕ)) (port : Port) (name : List ℕ) : Type 0 where
+pub record IsNamed (entries : List Entry) (port : Port) (name : List ℕ) : Type 0 where
   pub place : ℕ
   pub there : place < length entries
-  pub named : (d : Port × List ℕ) → (slice_index_or entries place d).0 ≡ port
-  pub only : (k : ℕ) → k < length entries → (d : Port × List ℕ) → (slice_index_or entries k d).0 ≡ port → name ≡ (slice_index_or entries k d).1
+  pub named : (d : Entry) → (slice_index_or entries place d).0 ≡ port
+  pub only : (k : ℕ) → k < length entries
+      → (d : Entry) → (slice_index_or entries k d).0 ≡ port
+      → name ≡ (slice_index_or entries k d).1
 
 -- the name that the entries give a port, if they give one
-abbrev pub IsGiven : List (Port × List ℕ) → Port → Option (List ℕ) → Type 0
+abbrev pub IsGiven : List Entry → Port → Option (List ℕ) → Type 0
 IsGiven entries port None = All (λ entry. entry.0 ≢ port) entries
 IsGiven entries port (Some name) = IsNamed entries port name
 
--- the table has these at the positions of the ports of a kind
-abbrev pub IsTable : List (Port × List ℕ) → Bool → List (Option (List ℕ)) → Type 0
-IsTable entries is_output table = EachAt (λ position given. IsGiven entries (port_at is_output position) given) table
+-- the slots have what is given to the ports of a kind, at their positions
+abbrev pub AreSlots : List Entry → PortKind → List (Option (List ℕ)) → Type 0
+AreSlots entries kind slots = EachAt (λ position given. IsGiven entries (port_at kind position) given) slots
 
--- The tables of the inputs and of the outputs have these names.
-pub record AreTables (entries : List (Port × List ℕ)) (inputs outputs : List (Option (List ℕ))) : Type 0 where
-  pub input_table : IsTable entries false inputs
-  pub output_table : IsTable entries true outputs
+-- The ports of the inputs and of the outputs have these names.
+pub record ArePortSlots (entries : List Entry) (inputs outputs : List (Option (List ℕ))) : Type 0 where
+  pub input_slots : AreSlots entries Input inputs
+  pub output_slots : AreSlots entries Output outputs
 
--- The name stands at its position in the new table, where the old one had none; all else is as it was.
-pub record Puts (old : List (Option (List ℕ))) (position : ℕ) (name : List ℕ) (new : List (Option (List ℕ))) : Type 0 where
+-- The name stands at its position in the new slots, where the old one had none; all else is as it was.
+pub record Puts (old : List (Option (List ℕ))) (position : ℕ) (name : List ℕ) (new : List (Option (List ℕ)))
+    : Type 0 where
   pub there : position < length old
   pub free : (d : Option (List ℕ)) → slice_index_or old position d ≡ None
   pub put : new ≡ slice_set old position (Some name)
 
--- the name of a port for which the table has this
+-- the name of a port for which the slots has this
 abbrev pub name_or : Port → Option (List ℕ) → List ℕ
-name_or port None = letter_of port.is_output ∷ decimal port.position
+name_or port None = letter_of port.kind ∷ decimal port.position
 name_or port (Some name) = name
 
 -- The symbols of a text give these names.
-abbrev pub AreSymbols : ℕ → ℕ → List ℕ → List (Port × List ℕ) → Type 0
+abbrev pub AreSymbols : ℕ → ℕ → List ℕ → List Entry → Type 0
 AreSymbols inputs outputs text entries = GiveNames inputs outputs (symbol_lines text) [] entries
 
 -- The first line of the symbols that gives no name rightly, at its first byte; `base` is the text's own offset.
 pub record IsSymbolFault (inputs outputs base : ℕ) (text : List ℕ) (at : ℕ) : Type 0 where
   pub place : ℕ
-  pub entries : List (Port × List ℕ)
+  pub entries : List Entry
   pub there : place < length (symbol_lines text)
   pub good : GiveNames inputs outputs (take place (symbol_lines text)) [] entries
-  pub bad : (all : List (Port × List ℕ)) → GiveNames inputs outputs (take (place + 1) (symbol_lines text)) [] all → ⊥
+  pub bad : (all : List Entry) → GiveNames inputs outputs (take (place + 1) (symbol_lines text)) [] all → ⊥
   pub offset : at ≡ base + length (text_of_lines (take place (lines text)))
 
 -- The name of a port: the one that a symbol gives it, else its letter and its position.
-pub record IsNameOf (entries : List (Port × List ℕ)) (port : Port) (name : List ℕ) : Type 0 where
-  pub given : (k : ℕ) → k < length entries → (d : Port × List ℕ) → (slice_index_or entries k d).0 ≡ port → name ≡ (slice_index_or entries k d).1
-  pub unnamed : All (λ entry. entry.0 ≢ port) entries → name ≡ letter_of port.is_output ∷ decimal port.position
+pub record IsNameOf (entries : List Entry) (port : Port) (name : List ℕ) : Type 0 where
+  pub given : (k : ℕ) → k < length entries
+      → (d : Entry) → (slice_index_or entries k d).0 ≡ port
+      → name ≡ (slice_index_or entries k d).1
+  pub unnamed : All (λ entry. entry.0 ≢ port) entries → name ≡ letter_of port.kind ∷ decimal port.position
 
 -- the names of all ports of a kind, at their positions
-pub record ArePortNames (entries : List (Port × List ℕ)) (is_output : Bool) (count : ℕ) (names : List (List ℕ)) : Type 0 where
+pub record ArePortNames (entries : List Entry) (kind : PortKind) (count : ℕ) (names : List (List ℕ))
+    : Type 0 where
   pub count_is : length names ≡ count
-  pub each : EachAt (λ position name. IsNameOf entries (port_at is_output position) name) names
+  pub each : EachAt (λ position name. IsNameOf entries (port_at kind position) name) names
 
 -- The ports have these names by the symbols of a text.
 pub record AreNames (inputs outputs : ℕ) (text : List ℕ) (input_names output_names : List (List ℕ)) : Type 0 where
-  pub entries : List (Port × List ℕ)
+  pub entries : List Entry
   pub symbols : AreSymbols inputs outputs text entries
-  pub input_names_are : ArePortNames entries false inputs input_names
-  pub output_names_are : ArePortNames entries true outputs output_names
+  pub input_names_are : ArePortNames entries Input inputs input_names
+  pub output_names_are : ArePortNames entries Output outputs output_names

@@ -64,10 +64,7 @@ impl<'a> Body<'a> {
         ensures stop { IfErr result (IsStop input.now (header_of header [])) }
     {
         let greatest = 2 * header.variables + 1;
-        match read_line(&mut self.rest, row, greatest, defining) {
-            Ok(at) => Ok(at),
-            Err(fault) => Err(NetStop::Fault(fault)),
-        }
+        read_line(&mut self.rest, row, greatest, defining).map_err(NetStop::Fault)
     }
 
     // Fills the row with the literals on the next line, which defines a variable, and notes that.
@@ -111,7 +108,8 @@ impl<'a> Body<'a> {
     {
         let mut row = [0; 1];
         self.next_definition(input, header, &mut row)?;
-        push(&mut self.literals.inputs, row[0])
+        self.literals.inputs.push(row[0])?;
+        Ok(())
     }
 
     // Reads the line of an output.
@@ -127,7 +125,8 @@ impl<'a> Body<'a> {
     {
         let mut row = [0; 1];
         self.next_row(input, header, &mut row, false)?;
-        push(&mut self.literals.outputs, row[0])
+        self.literals.outputs.push(row[0])?;
+        Ok(())
     }
 
     // Reads the line of a gate.
@@ -145,8 +144,8 @@ impl<'a> Body<'a> {
         let mut row = [0; 3];
         self.next_definition(input, header, &mut row)?;
         let [lhs, a, b] = row;
-        let line = AndLine { lhs, a, b };
-        push(&mut self.literals.gates, line)
+        self.literals.gates.push(AndLine { lhs, a, b })?;
+        Ok(())
     }
 
     // Reads the lines of the inputs.
@@ -256,9 +255,7 @@ fn start<'a>(alloc: Global, input: &'a [u8], header: Header) -> Result<Body<'a>,
     ensures counts { IfOk result (λ body. HasCounts body.literals 0 0 0) }
     ensures memory { IfErr result (λ stop. stop ≡ NetStop.Memory) }
 {
-    let Ok(signals) = zeros(alloc, header.variables as usize + 1) else {
-        return Err(NetStop::Memory);
-    };
+    let signals = zeros(alloc, header.variables as usize + 1)?;
     let mut rest = Cursor::new(input);
     let _ = rest.next_line();
     let literals = Literals {
@@ -276,7 +273,7 @@ fn start<'a>(alloc: Global, input: &'a [u8], header: Header) -> Result<Body<'a>,
 
 // So many zeros.
 fn zeros(alloc: Global, count: usize) -> Result<Vec<u32>, AllocError>
-    ensures { IfOk result (λ table. table.items ≡ replicate count 0) }
+    ensures { IfOk result (λ list. list.items ≡ replicate count 0) }
 {
     Ok(vec![in alloc; 0; count]?)
 }
@@ -309,15 +306,4 @@ fn define(signals: &mut Vec<u32>, variable: u32, place: u32) -> bool
     }
     signals[variable] = place;
     true
-}
-
-// Adds an item to a list.
-fn push<T: Drop>(list: &mut Vec<T>, item: T) -> Result<(), NetStop>
-    ensures pushed { OnOk result (list.new.items ≡ list.old.items ++ item ∷ []) }
-    ensures err { IfErr result (λ stop. stop ≡ NetStop.Memory) }
-{
-    match list.push(item) {
-        Ok(()) => Ok(()),
-        Err(_) => Err(NetStop::Memory),
-    }
 }

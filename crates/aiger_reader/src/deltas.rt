@@ -104,6 +104,16 @@ fn next_pair(cursor: &mut Cursor<'_>, literal: u32) -> Result<(u32, u32), u64>
     Ok((first, second))
 }
 
+// The fault of a bad delta.
+fn bad_delta(at: u64) -> NetStop
+    ensures { result ≡ NetStop.Fault (record { kind = NetKind.Delta; at = at }) }
+{
+    NetStop::Fault(NetFault {
+        kind: NetKind::Delta,
+        at,
+    })
+}
+
 /// The operands of so many gates, as literals, and moves past them. The variables of the inputs come first, then
 /// those of the gates, and each gate's operands are below its own literal, the second at most the first.
 ///
@@ -127,18 +137,8 @@ pub(crate) fn read_gates(
 {
     let mut gates = Vec::new(alloc);
     for t in 0..count {
-        let pair = match next_pair(cursor, 2 * (inputs + 1 + t)) {
-            Ok(pair) => pair,
-            Err(at) => {
-                return Err(NetStop::Fault(NetFault {
-                    kind: NetKind::Delta,
-                    at,
-                }));
-            }
-        };
-        let Ok(()) = gates.push(pair) else {
-            return Err(NetStop::Memory);
-        };
+        let pair = next_pair(cursor, 2 * (inputs + 1 + t)).map_err(bad_delta)?;
+        gates.push(pair)?;
     }
     Ok(gates)
 }

@@ -8,7 +8,7 @@ ghost use Rattle.aiger_reader.specs.Numbers.{header_of, header_from, WritesNumbe
 
 pub(crate) use crate::limits::Header;
 use crate::limits::{MOST_GATES, MOST_INPUTS, MOST_OUTPUTS, MOST_VARIABLES};
-use crate::words::{has_no_word, number_of};
+use crate::words::{has_no_word, small_number};
 use net_core::NetKind;
 use text_core::{Cursor, Span, next_word};
 
@@ -118,13 +118,22 @@ fn form_of(input: &[u8]) -> Option<bool>
     None
 }
 
+// The first line behind the keyword.
+fn line_behind_keyword(input: &[u8]) -> Option<Span<'_>>
+    requires { 4 ≤ length input.now }
+    ensures line { IfSome result (λ line. line_behind input.now ≡ line.bytes) }
+    ensures none { IfNone result ((h : AigerHeader) → WritesHeader (line_behind input.now) h → ⊥) }
+{
+    Cursor::new(&input[4..]).next_line()
+}
+
 // The numbers on the first line behind the keyword, where these are five to nine of 32 bits.
 fn read_numbers(input: &[u8]) -> Option<Numbers>
     requires { 4 ≤ length input.now }
     ensures numbers { IfSome result (WritesNumbers (line_behind input.now)) }
     ensures none { IfNone result ((h : AigerHeader) → WritesHeader (line_behind input.now) h → ⊥) }
 {
-    let mut line = Cursor::new(&input[4..]).next_line()?;
+    let mut line = line_behind_keyword(input)?;
     let mut row = [0; 9];
     let count = fill(&mut line, &mut row)?;
     if count < 5 {
@@ -162,7 +171,7 @@ fn fill(line: &mut Span<'_>, row: &mut [u32]) -> Option<usize>
         let Some(word) = next_word(line) else {
             return Some(count);
         };
-        *number = number_of(word)?;
+        *number = small_number(word)?;
     }
     if !has_no_word(line) {
         return None;

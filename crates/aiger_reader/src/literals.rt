@@ -104,8 +104,6 @@ pub(crate) fn read_line(
             at,
         });
     };
-    if let Err(kind) = read_literals(&mut line, row, greatest, defining) {
-        return Err(NetFault { kind, at });
-    }
+    read_literals(&mut line, row, greatest, defining).map_err(|kind| NetFault { kind, at })?;
     Ok(at)
 }

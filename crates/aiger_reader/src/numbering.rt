@@ -178,12 +178,8 @@ pub(crate) fn number_circuit(
         ≡ text_circuit (header_of header properties) (rows_of body.now.literals)) }
     ensures memory { IfErr result (λ stop. stop ≡ NetStop.Memory) }
 {
-    let Ok(defs) = number_gates(alloc, &body.signals, &body.literals.gates) else {
-        return Err(NetStop::Memory);
-    };
-    let Ok(outputs) = number_outputs(alloc, &body.signals, &body.literals.outputs) else {
-        return Err(NetStop::Memory);
-    };
+    let defs = number_gates(alloc, &body.signals, &body.literals.gates)?;
+    let outputs = number_outputs(alloc, &body.signals, &body.literals.outputs)?;
     Ok(Numbered {
         inputs: header.inputs,
         defs,

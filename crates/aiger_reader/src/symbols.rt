@@ -1,17 +1,19 @@
 //! The symbols behind the body of an AIGER file: lines that name its ports.
 
-ghost use Rattle.std.specs.Prelude.{◌≡◌, ◌≢◌, ℕ, ◌+◌, ◌<◌, ◌^◌, Bool, true, false, List, [], ◌∷◌, ◌++◌, length, Option, IfSome, IfNone, IfOk, OnOk, IsErrOf, replicate, slice_index_or};
+ghost use Rattle.std.specs.Prelude.{◌≡◌, ◌≢◌, ℕ, ◌+◌, ◌<◌, ◌^◌, List, [], ◌∷◌, ◌++◌, length, Option, IfSome, IfNone, IfOk, OnOk, IsErrOf, replicate, slice_index_or};
 ghost use Rattle.std.specs.Fmt.{decimal as digits_of_number};
-ghost use Rattle.text_core.specs.Words.{word_length};
+ghost use Rattle.circuits.specs.declared.port.PortKind.{PortKind};
+ghost use Rattle.circuits.specs.declared.port.PortKind.TheVariants.{Input, Output};
 ghost use Rattle.net_core.specs.declared.named.NetFault.{NetFault};
 ghost use Rattle.aiger_reader.specs.declared.symbols.SymbolStop.TheVariants.{Memory};
-ghost use Rattle.aiger_reader.specs.Symbols.{is_comment, IsWithoutReturn, Port, NamesPort, BeginsPosition, letter_of, port_at, IsFree, AddsName, IsTable, AreTables, Puts, ArePortNames, name_or, AreSymbols, IsSymbolFault, AreNames};
+ghost use Rattle.aiger_reader.specs.Symbols.{is_comment, IsWithoutReturn, Port, Entry, NamesPort, BeginsPosition, letter_of, port_at, IsFree, AddsName, AreSlots, ArePortSlots, Puts, ArePortNames, name_or, AreSymbols, IsSymbolFault, AreNames};
 
 use crate::words::has_no_word;
+use circuits::PortKind;
 use items::Items;
 use net_core::{Name, NetFault, NetKind, NetStop};
 use std::alloc::{AllocError, Global};
-use text_core::{Cursor, Span, decimal, is_blank, put_decimal};
+use text_core::{Cursor, Span, decimal, put_decimal, word_length};
 
 /// The names of all ports, at their positions.
 #[derive(Debug, Drop)]
@@ -20,9 +22,9 @@ pub(crate) struct Symbols {
     pub(crate) outputs: Items<Name>,
 }
 
-// The names that are given so far, each at its port's position.
+// A slot for each port, at its position, with the name that is given to it so far.
 #[derive(Debug, Drop)]
-struct Tables {
+struct PortSlots {
     inputs: Vec<Option<Name>>,
     outputs: Vec<Option<Name>>,
 }
@@ -30,7 +32,7 @@ struct Tables {
 // A name that a line gives to a port.
 #[derive(Clone, Copy, Debug)]
 struct Symbol<'a> {
-    is_output: bool,
+    kind: PortKind,
     position: u64,
     name: &'a [u8],
 }
@@ -61,23 +63,16 @@ fn opens_comment(line: &[u8]) -> bool
     }
 }
 
-// Whether the letter that a line begins with is that of an output, if it is that of a port.
-fn kind_of(letter: u8) -> Option<bool>
-    ensures kind { IfSome result (λ is_output. letter ≡ letter_of is_output) }
-    ensures none { IfNone result ((is_output : Bool) → letter ≢ letter_of is_output) }
+// The kind of the ports whose lines begin with this letter.
+fn kind_by_letter(letter: u8) -> Option<PortKind>
+    ensures kind { IfSome result (λ kind. letter ≡ letter_of kind) }
+    ensures none { IfNone result ((kind : PortKind) → letter ≢ letter_of kind) }
 {
     match letter {
-        b'i' => Some(false),
-        b'o' => Some(true),
+        b'i' => Some(PortKind::Input),
+        b'o' => Some(PortKind::Output),
         _ => None,
     }
-}
-
-// How many bytes stand before the first blank, or all where there is none.
-fn word_length(bytes: &[u8]) -> usize
-    ensures { result ≡ word_length bytes.now }
-{
-    bytes.iter().take_while(|byte| !is_blank(**byte)).count()
 }
 
 // The position that the bytes begin with, and what stands behind the blank that follows it.
@@ -110,82 +105,81 @@ fn without_return(tail: &[u8]) -> &[u8]
 // The name that a line gives, and its port.
 // `None` where it gives none, or the port's position is greater than any of 64 bits.
 fn symbol_on(line: &[u8]) -> Option<Symbol<'_>>
-    ensures named { IfSome result (λ s. NamesPort line.now (port_at s.is_output s.position) s.name.now) }
+    ensures named { IfSome result (λ s. NamesPort line.now (port_at s.kind s.position) s.name.now) }
     ensures none { IfNone result ((port : Port) (name : List ℕ) → port.position < 2 ^ 64
         → NamesPort line.now port name → ⊥) }
 {
     let [letter, rest @ ..] = line else {
         return None;
     };
-    let is_output = kind_of(*letter)?;
+    let kind = kind_by_letter(*letter)?;
     let (position, tail) = position_at_front(rest)?;
     let name = without_return(tail);
     if name.is_empty() {
         return None;
     }
     Some(Symbol {
-        is_output,
+        kind,
         position,
         name,
     })
 }
 
-// Puts a name into its place of a table, where that is there and has none.
+// Puts a name into a slot, where that is there and has none.
 fn put_name(
     alloc: Global,
-    table: &mut Vec<Option<Name>>,
+    slots: &mut Vec<Option<Name>>,
     position: u64,
     name: &[u8],
 ) -> Result<(), SymbolStop>
-    ensures put { OnOk result (Puts table.old.items position name.now table.new.items) }
-    ensures size { length table.new.items ≡ length table.old.items }
-    ensures bad { IsErrOf result SymbolStop.Bad → (d : Option (List ℕ)) → position < length table.old.items
-        → slice_index_or table.old.items position d ≡ None → ⊥ }
+    ensures put { OnOk result (Puts slots.old.items position name.now slots.new.items) }
+    ensures size { length slots.new.items ≡ length slots.old.items }
+    ensures bad { IsErrOf result SymbolStop.Bad → (d : Option (List ℕ)) → position < length slots.old.items
+        → slice_index_or slots.old.items position d ≡ None → ⊥ }
 {
-    if position >= table.len() as u64 {
+    if position >= slots.len() as u64 {
         return Err(SymbolStop::Bad);
     }
     let place = position as usize;
-    if table[place].is_some() {
+    if slots[place].is_some() {
         return Err(SymbolStop::Bad);
     }
-    table[place] = Some(Items::from_slice(alloc, name)?);
+    slots[place] = Some(Items::from_slice(alloc, name)?);
     Ok(())
 }
 
 // Gives the port of a symbol its name, where the port is there and has none.
-fn put_symbol(alloc: Global, symbol: &Symbol<'_>, tables: &mut Tables) -> Result<(), SymbolStop>
-    ensures inputs { length tables.new.inputs.items ≡ length tables.old.inputs.items }
-    ensures outputs { length tables.new.outputs.items ≡ length tables.old.outputs.items }
-    ensures put { OnOk result ((before : List (Port × List ℕ))
-        → AreTables before tables.old.inputs.items tables.old.outputs.items
-        → let port = port_at symbol.now.is_output symbol.now.position in
-        IsFree before (length tables.old.inputs.items) (length tables.old.outputs.items) port
-        × AreTables (before ++ (port, symbol.now.name.now) ∷ []) tables.new.inputs.items tables.new.outputs.items) }
-    ensures bad { IsErrOf result SymbolStop.Bad → (before : List (Port × List ℕ))
-        → AreTables before tables.old.inputs.items tables.old.outputs.items
-        → IsFree before (length tables.old.inputs.items) (length tables.old.outputs.items)
-        (port_at symbol.now.is_output symbol.now.position) → ⊥ }
+fn put_symbol(alloc: Global, symbol: &Symbol<'_>, ports: &mut PortSlots) -> Result<(), SymbolStop>
+    ensures inputs { length ports.new.inputs.items ≡ length ports.old.inputs.items }
+    ensures outputs { length ports.new.outputs.items ≡ length ports.old.outputs.items }
+    ensures put { OnOk result ((before : List Entry)
+        → ArePortSlots before ports.old.inputs.items ports.old.outputs.items
+        → let port = port_at symbol.now.kind symbol.now.position in
+        IsFree before (length ports.old.inputs.items) (length ports.old.outputs.items) port
+        × ArePortSlots (before ++ (port, symbol.now.name.now) ∷ []) ports.new.inputs.items ports.new.outputs.items) }
+    ensures bad { IsErrOf result SymbolStop.Bad → (before : List Entry)
+        → ArePortSlots before ports.old.inputs.items ports.old.outputs.items
+        → IsFree before (length ports.old.inputs.items) (length ports.old.outputs.items)
+        (port_at symbol.now.kind symbol.now.position) → ⊥ }
 {
-    if symbol.is_output {
-        put_name(alloc, &mut tables.outputs, symbol.position, symbol.name)
-    } else {
-        put_name(alloc, &mut tables.inputs, symbol.position, symbol.name)
+    match symbol.kind {
+        PortKind::Input => put_name(alloc, &mut ports.inputs, symbol.position, symbol.name),
+        PortKind::Output => put_name(alloc, &mut ports.outputs, symbol.position, symbol.name),
     }
 }
 
 // Takes up what one line of the symbols gives.
-fn add_symbol(alloc: Global, mut line: Span<'_>, tables: &mut Tables) -> Result<(), SymbolStop>
-    ensures inputs { length tables.new.inputs.items ≡ length tables.old.inputs.items }
-    ensures outputs { length tables.new.outputs.items ≡ length tables.old.outputs.items }
-    ensures added { OnOk result ((before : List (Port × List ℕ))
-        → AreTables before tables.old.inputs.items tables.old.outputs.items
-        → (after : List (Port × List ℕ))
-        × AddsName (length tables.old.inputs.items) (length tables.old.outputs.items) line.entry.bytes before after
-        × AreTables after tables.new.inputs.items tables.new.outputs.items) }
-    ensures bad { IsErrOf result SymbolStop.Bad → (before after : List (Port × List ℕ))
-        → AreTables before tables.old.inputs.items tables.old.outputs.items
-        → AddsName (length tables.old.inputs.items) (length tables.old.outputs.items) line.entry.bytes before after → ⊥ }
+fn add_symbol(alloc: Global, mut line: Span<'_>, ports: &mut PortSlots) -> Result<(), SymbolStop>
+    ensures inputs { length ports.new.inputs.items ≡ length ports.old.inputs.items }
+    ensures outputs { length ports.new.outputs.items ≡ length ports.old.outputs.items }
+    ensures added { OnOk result ((before : List Entry)
+        → ArePortSlots before ports.old.inputs.items ports.old.outputs.items
+        → (after : List Entry)
+        × AddsName (length ports.old.inputs.items) (length ports.old.outputs.items) line.entry.bytes before after
+        × ArePortSlots after ports.new.inputs.items ports.new.outputs.items) }
+    ensures bad { IsErrOf result SymbolStop.Bad → (before after : List Entry)
+        → ArePortSlots before ports.old.inputs.items ports.old.outputs.items
+        → AddsName (length ports.old.inputs.items) (length ports.old.outputs.items) line.entry.bytes before after → ⊥ }
 {
     let text = line.bytes();
     if has_no_word(&mut line) {
@@ -194,20 +188,20 @@ fn add_symbol(alloc: Global, mut line: Span<'_>, tables: &mut Tables) -> Result<
     let Some(symbol) = symbol_on(text) else {
         return Err(SymbolStop::Bad);
     };
-    put_symbol(alloc, &symbol, tables)
+    put_symbol(alloc, &symbol, ports)
 }
 
 // Takes up the lines of the symbols one after another, until the comment or the end.
-fn read_lines(alloc: Global, cursor: &mut Cursor<'_>, tables: &mut Tables) -> Result<(), NetStop>
-    requires { AreTables [] tables.old.inputs.items tables.old.outputs.items }
-    ensures inputs { length tables.new.inputs.items ≡ length tables.old.inputs.items }
-    ensures outputs { length tables.new.outputs.items ≡ length tables.old.outputs.items }
-    ensures symbols { OnOk result ((entries : List (Port × List ℕ))
-        × AreSymbols (length tables.old.inputs.items) (length tables.old.outputs.items) cursor.old.bytes entries
-        × AreTables entries tables.new.inputs.items tables.new.outputs.items) }
+fn read_lines(alloc: Global, cursor: &mut Cursor<'_>, ports: &mut PortSlots) -> Result<(), NetStop>
+    requires { ArePortSlots [] ports.old.inputs.items ports.old.outputs.items }
+    ensures inputs { length ports.new.inputs.items ≡ length ports.old.inputs.items }
+    ensures outputs { length ports.new.outputs.items ≡ length ports.old.outputs.items }
+    ensures symbols { OnOk result ((entries : List Entry)
+        × AreSymbols (length ports.old.inputs.items) (length ports.old.outputs.items) cursor.old.bytes entries
+        × ArePortSlots entries ports.new.inputs.items ports.new.outputs.items) }
     ensures kind { (fault : NetFault) → result ≡ Err (NetStop.Fault fault) → fault.kind ≡ NetKind.BadSymbol }
     ensures fault { (fault : NetFault) → result ≡ Err (NetStop.Fault fault)
-        → IsSymbolFault (length tables.old.inputs.items) (length tables.old.outputs.items)
+        → IsSymbolFault (length ports.old.inputs.items) (length ports.old.outputs.items)
         cursor.old.at cursor.old.bytes fault.at }
 {
     while let Some(line) = cursor.next_line() {
@@ -215,7 +209,7 @@ fn read_lines(alloc: Global, cursor: &mut Cursor<'_>, tables: &mut Tables) -> Re
             return Ok(());
         }
         let at = line.at();
-        match add_symbol(alloc, line, tables) {
+        match add_symbol(alloc, line, ports) {
             Ok(()) => {}
             Err(SymbolStop::Bad) => {
                 return Err(NetStop::Fault(NetFault {
@@ -229,82 +223,92 @@ fn read_lines(alloc: Global, cursor: &mut Cursor<'_>, tables: &mut Tables) -> Re
     Ok(())
 }
 
-// A table with no name in it.
-fn empty_table(alloc: Global, count: u32) -> Result<Vec<Option<Name>>, AllocError>
-    ensures { IfOk result (λ table. table.items ≡ replicate count None) }
+// Slots with no name in them.
+fn empty_slots(alloc: Global, count: u32) -> Result<Vec<Option<Name>>, AllocError>
+    ensures { IfOk result (λ slots. slots.items ≡ replicate count None) }
 {
-    let mut table = Vec::new(alloc);
+    let mut slots = Vec::new(alloc);
     for _ in 0..count {
-        table.push(None)?;
+        slots.push(None)?;
     }
-    Ok(table)
+    Ok(slots)
 }
 
-// Tables with no name in them.
-fn empty_tables(alloc: Global, inputs: u32, outputs: u32) -> Result<Tables, AllocError>
-    ensures inputs { IfOk result (λ tables. length tables.inputs.items ≡ inputs) }
-    ensures outputs { IfOk result (λ tables. length tables.outputs.items ≡ outputs) }
-    ensures empty { IfOk result (λ tables. AreTables [] tables.inputs.items tables.outputs.items) }
+// PortSlots with no name in them.
+fn empty_ports(alloc: Global, inputs: u32, outputs: u32) -> Result<PortSlots, AllocError>
+    ensures inputs { IfOk result (λ ports. length ports.inputs.items ≡ inputs) }
+    ensures outputs { IfOk result (λ ports. length ports.outputs.items ≡ outputs) }
+    ensures empty { IfOk result (λ ports. ArePortSlots [] ports.inputs.items ports.outputs.items) }
 {
-    Ok(Tables {
-        inputs: empty_table(alloc, inputs)?,
-        outputs: empty_table(alloc, outputs)?,
+    Ok(PortSlots {
+        inputs: empty_slots(alloc, inputs)?,
+        outputs: empty_slots(alloc, outputs)?,
     })
 }
 
+// The letter that the lines of such ports begin with.
+fn letter_of(kind: PortKind) -> u8
+    ensures { result ≡ letter_of kind }
+{
+    match kind {
+        PortKind::Input => b'i',
+        PortKind::Output => b'o',
+    }
+}
+
 // The name of a port that has none: its letter and its position.
-fn default_name(alloc: Global, is_output: bool, position: usize) -> Result<Name, AllocError>
-    ensures { IfOk result (λ name. name ≡ letter_of is_output ∷ digits_of_number position) }
+fn default_name(alloc: Global, kind: PortKind, position: usize) -> Result<Name, AllocError>
+    ensures { IfOk result (λ name. name ≡ letter_of kind ∷ digits_of_number position) }
 {
     let mut name = Vec::new(alloc);
-    name.push(if is_output { b'o' } else { b'i' })?;
+    name.push(letter_of(kind))?;
     put_decimal(position as u64, &mut name)?;
     Ok(Items::from_vec(name))
 }
 
-// The name of a port for which the table has this.
+// The name of a port whose slot has this.
 fn name_of(
     alloc: Global,
-    is_output: bool,
+    kind: PortKind,
     position: usize,
     given: &Option<Name>,
 ) -> Result<Name, AllocError>
-    ensures { IfOk result (λ name. name ≡ name_or (port_at is_output position) given.now) }
+    ensures { IfOk result (λ name. name ≡ name_or (port_at kind position) given.now) }
 {
     match given {
         Some(name) => Items::from_slice(alloc, name.as_slice()),
-        None => default_name(alloc, is_output, position),
+        None => default_name(alloc, kind, position),
     }
 }
 
 // The names of all ports of a kind.
 fn names_of(
     alloc: Global,
-    is_output: bool,
-    table: &[Option<Name>],
+    kind: PortKind,
+    slots: &[Option<Name>],
 ) -> Result<Items<Name>, AllocError>
-    ensures { IfOk result (λ names. (entries : List (Port × List ℕ)) → IsTable entries is_output table.now
-        → ArePortNames entries is_output (length table.now) names) }
+    ensures { IfOk result (λ names. (entries : List Entry) → AreSlots entries kind slots.now
+        → ArePortNames entries kind (length slots.now) names) }
 {
     let mut names = Items::new(alloc);
-    for (position, given) in table.iter().enumerate() {
-        names.push(name_of(alloc, is_output, position, given)?)?;
+    for (position, given) in slots.iter().enumerate() {
+        names.push(name_of(alloc, kind, position, given)?)?;
     }
     Ok(names)
 }
 
 // The names of all ports.
-fn all_names(alloc: Global, tables: &Tables) -> Result<Symbols, AllocError>
-    ensures inputs { IfOk result (λ symbols. (entries : List (Port × List ℕ))
-        → AreTables entries tables.now.inputs.items tables.now.outputs.items
-        → ArePortNames entries false (length tables.now.inputs.items) symbols.inputs) }
-    ensures outputs { IfOk result (λ symbols. (entries : List (Port × List ℕ))
-        → AreTables entries tables.now.inputs.items tables.now.outputs.items
-        → ArePortNames entries true (length tables.now.outputs.items) symbols.outputs) }
+fn all_names(alloc: Global, ports: &PortSlots) -> Result<Symbols, AllocError>
+    ensures inputs { IfOk result (λ symbols. (entries : List Entry)
+        → ArePortSlots entries ports.now.inputs.items ports.now.outputs.items
+        → ArePortNames entries Input (length ports.now.inputs.items) symbols.inputs) }
+    ensures outputs { IfOk result (λ symbols. (entries : List Entry)
+        → ArePortSlots entries ports.now.inputs.items ports.now.outputs.items
+        → ArePortNames entries Output (length ports.now.outputs.items) symbols.outputs) }
 {
     Ok(Symbols {
-        inputs: names_of(alloc, false, &tables.inputs)?,
-        outputs: names_of(alloc, true, &tables.outputs)?,
+        inputs: names_of(alloc, PortKind::Input, &ports.inputs)?,
+        outputs: names_of(alloc, PortKind::Output, &ports.outputs)?,
     })
 }
 
@@ -331,14 +335,8 @@ pub(crate) fn read_symbols(
     ensures fault { (fault : NetFault) → result ≡ Err (NetStop.Fault fault)
         → IsSymbolFault inputs outputs cursor.old.at cursor.old.bytes fault.at }
 {
-    let Ok(mut tables) = empty_tables(alloc, inputs, outputs) else {
-        return Err(NetStop::Memory);
-    };
-    if let Err(stop) = read_lines(alloc, cursor, &mut tables) {
-        return Err(stop);
-    }
-    let Ok(symbols) = all_names(alloc, &tables) else {
-        return Err(NetStop::Memory);
-    };
+    let mut ports = empty_ports(alloc, inputs, outputs)?;
+    read_lines(alloc, cursor, &mut ports)?;
+    let symbols = all_names(alloc, &ports)?;
     Ok(symbols)
 }

@@ -39,7 +39,7 @@ pub fn read(alloc: Global, input: &[u8]) -> Result<Named, NetStop>
         → IsAigerFault input.now fault.kind fault.at }
 {
     let header = read_front(input)?;
-    let mut body = read_all_lines(alloc, input, header)?;
+    let mut body = read_body(alloc, input, header)?;
     let net = read_net(alloc, input, header, &mut body)?;
     let graph = put_in_order(alloc, input, header, &net)?;
     name_ports(alloc, header, &mut body.rest, graph)
@@ -51,21 +51,7 @@ fn read_front(input: &[u8]) -> Result<Header, NetStop>
     ensures fault { (fault : NetFault) → result ≡ Err (NetStop.Fault fault)
         → IsAigerFault input.now fault.kind fault.at }
 {
-    match read_header(input) {
-        Ok(header) => Ok(header),
-        Err(kind) => Err(NetStop::Fault(NetFault { kind, at: 0 })),
-    }
-}
-
-// The lines behind the header.
-fn read_all_lines<'a>(alloc: Global, input: &'a [u8], header: Header) -> Result<Body<'a>, NetStop>
-    requires begun { IsBegun input.now header }
-    ensures lines { IfOk result (λ body.
-        AreLinesRead input.now header body.literals body.signals.items body.rest) }
-    ensures fault { (fault : NetFault) → result ≡ Err (NetStop.Fault fault)
-        → IsAigerFault input.now fault.kind fault.at }
-{
-    read_body(alloc, input, header)
+    read_header(input).map_err(|kind| NetStop::Fault(NetFault { kind, at: 0 }))
 }
 
 // The netlist of the file, and moves behind the gates of the binary form.
@@ -143,12 +129,8 @@ fn binary_net(
         ≡ circuit_from header.inputs (map and_from gates.now) (map lit_from outputs.now)) }
     ensures memory { IfErr result (λ stop. stop ≡ NetStop.Memory) }
 {
-    let Ok(defs) = defs_of(alloc, gates) else {
-        return Err(NetStop::Memory);
-    };
-    let Ok(outputs) = lits_of(alloc, outputs) else {
-        return Err(NetStop::Memory);
-    };
+    let defs = defs_of(alloc, gates)?;
+    let outputs = lits_of(alloc, outputs)?;
     Ok(PlainNet::new(
         header.inputs,
         Items::from_vec(defs),

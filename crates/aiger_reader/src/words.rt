@@ -7,7 +7,7 @@ ghost use Rattle.text_core.specs.Words.{words};
 use text_core::{Span, decimal, next_word};
 
 /// The number that a word writes, if it is one of 32 bits.
-pub(crate) fn number_of(word: Span<'_>) -> Option<u32>
+pub(crate) fn small_number(word: Span<'_>) -> Option<u32>
     ensures number { IfSome result (λ n. number word.entry.bytes ≡ Some n) }
     ensures none { IfNone result ((n : ℕ) → n < 2 ^ 32 → number word.entry.bytes ≡ Some n → ⊥) }
 {

@@ -13,8 +13,8 @@ pub returns-clause-reading : goal.returns-clause-reading
 returns-clause-reading c =
     let bytes = c.args.input.now in
     let h = header_of c.args.header [] in
-    let table = c.in-Ok.signals.items in
+    let signals = c.in_ok-signals.signals.items in
     let literals : Literals = record { inputs = c.new.result; outputs = c.new-2.result; gates = c.new-3.result } in
     let none : rows_of literals ≡ [] = nil_from_length (rows_of literals) (omega (arith, length-rows_of literals, ap length c.new.ensures.items, ap length c.new-2.ensures.items, ap length c.new-3.ensures.items)) in
-    let first = reading_first bytes h c.new-rest.result table c.new-rest.ensures c.in-Ok.ensures in
-    subst (λ p. IsReading bytes h (rows_of literals) p table 0) (sym c.next_line.ensures.rest) (reading_as bytes h [] (rows_of literals) (after_line c.new-rest.result) table table 0 0 (sym none) refl refl first)
+    let first = reading_first bytes h c.new-rest.result signals c.new-rest.ensures c.in_ok-signals.ensures in
+    subst (λ p. IsReading bytes h (rows_of literals) p signals 0) (sym c.next_line.ensures.rest) (reading_as bytes h [] (rows_of literals) (after_line c.new-rest.result) signals signals 0 0 (sym none) refl refl first)

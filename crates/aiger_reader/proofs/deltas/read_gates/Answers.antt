@@ -1,29 +1,43 @@
 -- One more gate, and a pair that is bad.
-use Rattle.std.proofs.Common.{◌≡◌, ℕ, ◌+◌, ◌*◌, List, [], ◌∷◌, ◌++◌, length, subst, sym, arith}
-use Rattle.aiger_reader.specs.Deltas.{BeginsGates, IsPairFault}
+use Rattle.std.proofs.Common.{◌≡◌, ℕ, ◌+◌, ◌*◌, List, [], ◌∷◌, ◌++◌, length, Err, IfOk, IfErr, refl, subst, sym, arith, rules}
+use Rattle.std.proofs.lemmas.Result.{err_from_is_err_and}
+use Rattle.net_core.specs.declared.named.NetFault.{NetFault}
+use Rattle.net_core.specs.declared.named.NetKind.TheVariants as kind
+use Rattle.net_core.specs.declared.named.NetStop.{NetStop}
+use Rattle.net_core.specs.declared.named.NetStop.TheVariants as stop
+use Rattle.aiger_reader.specs.Deltas.{BeginsFirst, BeginsSecond, BeginsGates, IsBadPair, IsPairFault}
 use Rattle.aiger_reader.proofs.PairLemmas.{gates_push, pair_fault}
+use Rattle.aiger_reader.proofs.ResultLemmas.{ok_before, err_made}
 use Rattle.aiger_reader.proofs.deltas.read_gates.Goals as goal
 
-pub returns-in-Err-clause-fault : goal.returns-in-Err-clause-fault
-returns-in-Err-clause-fault c = λ fault same.
+pub returns-in_err-pair-clause-fault : goal.returns-in_err-pair-clause-fault
+returns-in_err-pair-clause-fault c = λ fault same.
     let i = c.loop-t in
     let cursor = c.args.cursor.now in
     let total = cursor.at + length cursor.bytes in
     let variable = c.args.inputs + 1 in
-    let e : c.in-Err.at ≡ fault.at = cc in
+    let literal = 2 * (c.args.inputs + 1 + i.t) in
+    let left = i.cursor.at + length i.cursor.bytes in
     let P : ℕ → Type 0 = λ at. IsPairFault variable c.args.count cursor.bytes total at in
+    let Q : NetStop → Type 0 = λ s. (f : NetFault) → s ≡ stop.Fault f → P f.at in
     let count : length i.gates.items ≡ i.t = omega (arith, i.invariant.count, i.gates.ok.0) in
-    subst P e (pair_fault variable c.args.count (2 * (c.args.inputs + 1 + i.t)) total (i.cursor.at + length i.cursor.bytes) c.in-Err.at cursor.bytes i.cursor.bytes i.gates.items i.invariant.gates (omega arith) (omega arith) i.invariant.end c.in-Err.ensures.bad)
+    let told : IfErr c.map_err.result Q = err_made c.next_pair.result c.map_err.result _ (IsBadPair literal i.cursor.bytes left) Q c.map_err.ensures.cases c.next_pair.ensures.bad (λ at s made bad f is. let e : s ≡ stop.Fault (record { kind = kind.Delta; at = at }) = search rules in let same_at : at ≡ f.at = cc (e, is) in subst P same_at (pair_fault variable c.args.count literal total left at cursor.bytes i.cursor.bytes i.gates.items i.invariant.gates (omega arith) (omega arith) i.invariant.end bad)) in
+    let p = err_from_is_err_and c.from_residual.result c.from_residual.ensures.1 in
+    let here : c.map_err.result ≡ Err (stop.Fault fault) = cc (p.1, p.2, c.in_err-pair.was) in
+    subst (λ r. IfErr r Q) here told fault refl
 
 pub loop-t-preserved : goal.loop-t-preserved
 loop-t-preserved c =
     let i = c.loop-t in
     let variable = c.args.inputs + 1 in
     let count : length i.gates.items ≡ i.t = omega (arith, i.invariant.count, i.gates.ok.0) in
-    let longer : c.push.new.self.items ≡ i.gates.items ++ c.in-Ok.pair ∷ [] = cc (c.in-Ok-push.ensures.items) in
+    let longer : c.push.new.self.items ≡ i.gates.items ++ c.in_ok-pair.pair ∷ [] = cc (c.in_ok-push.ensures.items) in
+    let literal = 2 * (c.args.inputs + 1 + i.t) in
     let P : List (ℕ × ℕ) → Type 0 = λ gates. BeginsGates variable c.args.cursor.now.bytes gates c.next_pair.new.cursor.bytes in
+    let F : ℕ × ℕ → Type 0 = λ pair. (middle : List ℕ) × BeginsFirst literal i.cursor.bytes pair.0 middle × BeginsSecond pair.0 middle pair.1 c.next_pair.new.cursor.bytes in
+    let first : F c.in_ok-pair.pair = subst (λ r. IfOk r F) (ok_before c.next_pair.result c.map_err.result _ c.in_ok-pair.pair c.map_err.ensures.cases c.in_ok-pair.was) c.next_pair.ensures.first in
     record {
-      count = omega (arith, c.in-Ok-push.ensures.len);
-      gates = subst P (sym longer) (gates_push variable (2 * (c.args.inputs + 1 + i.t)) c.args.cursor.now.bytes i.cursor.bytes c.next_pair.new.cursor.bytes i.gates.items c.in-Ok.pair i.invariant.gates (omega arith) c.in-Ok.ensures.first);
-      end = omega (arith, c.in-Ok.ensures.end);
+      count = omega (arith, c.in_ok-push.ensures.len);
+      gates = subst P (sym longer) (gates_push variable literal c.args.cursor.now.bytes i.cursor.bytes c.next_pair.new.cursor.bytes i.gates.items c.in_ok-pair.pair i.invariant.gates (omega arith) first);
+      end = omega (arith, c.next_pair.ensures.end);
     }

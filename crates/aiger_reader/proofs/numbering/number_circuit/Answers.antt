@@ -41,6 +41,6 @@ number_outputs-requires-clause-small c =
 pub returns-clause-circuit : goal.returns-clause-circuit
 returns-clause-circuit c = λ properties.
     let body = c.args.body.now in
-    let defs = c.in-Ok.ensures ∙ ap₂ (λ s xs. map (def_in s) xs) c.deref.ensures.value c.deref-2.ensures.value in
-    let outputs = c.in-Ok-number_outputs.ensures ∙ ap₂ (λ s xs. map (lit_in s) xs) c.deref-3.ensures.value c.deref-4.ensures.value in
+    let defs = c.in_ok-defs.ensures ∙ ap₂ (λ s xs. map (def_in s) xs) c.deref.ensures.value c.deref-2.ensures.value in
+    let outputs = c.in_ok-outputs.ensures ∙ ap₂ (λ s xs. map (lit_in s) xs) c.deref-3.ensures.value c.deref-4.ensures.value in
     ap₂ (circuit_from c.args.header.inputs) defs outputs ∙ circuit_is (header_of c.args.header []) body.literals body.signals.items c.requires.text c.requires.sound c.requires.known

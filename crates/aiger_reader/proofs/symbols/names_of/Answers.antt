@@ -5,4 +5,4 @@ use Rattle.aiger_reader.proofs.symbols.names_of.Goals as goal
 pub returns : goal.returns
 returns c =
     let i = c.loop-position in
-    all_named c.args.is_output c.args.table.now i.names (omega arith) i.invariant.each
+    all_named c.args.kind c.args.slots.now i.names (omega arith) i.invariant.each

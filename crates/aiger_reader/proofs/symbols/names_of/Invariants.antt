@@ -6,5 +6,5 @@ use Rattle.aiger_reader.proofs.symbols.names_of.Given as goal
 abbrev pub invariant-loop-position : goal.invariant-loop-position
 invariant-loop-position l = record {
   count : length l.names ≡ l.position;
-  each : AreSoFar l.is_output l.table l.names;
+  each : AreSoFar l.kind l.slots l.names;
 }

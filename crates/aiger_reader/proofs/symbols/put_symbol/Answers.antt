@@ -1,29 +1,29 @@
--- One table has the name, and the other is as it was.
+-- The slot has the name, and all others are as they were.
 use Rattle.std.proofs.lemmas.Result.{on_ok_weaker}
-use Rattle.aiger_reader.proofs.PortTableLemmas.{put_output, put_input, bad_output, bad_input}
+use Rattle.aiger_reader.proofs.SlotLemmas.{put_output, put_input, bad_output, bad_input}
 use Rattle.aiger_reader.proofs.symbols.put_symbol.Goals as goal
 
-pub returns-then-symbol-clause-put : goal.returns-then-symbol-clause-put
-returns-then-symbol-clause-put c =
+pub returns-in-Input-clause-put : goal.returns-in-Input-clause-put
+returns-in-Input-clause-put c =
     let symbol = c.args.symbol.now in
-    let tables = c.args.tables.now in
-    on_ok_weaker c.put_name.result (λ puts. put_output symbol.is_output symbol.position symbol.name.now tables.inputs.items tables.outputs.items c.put_name.new.table.items c.if-symbol.true puts) c.put_name.ensures.put
+    let ports = c.args.ports.now in
+    on_ok_weaker c.put_name.result (λ puts. put_input symbol.kind symbol.position symbol.name.now ports.inputs.items ports.outputs.items c.put_name.new.slots.items c.in-Input.is puts) c.put_name.ensures.put
 
-pub returns-then-symbol-clause-bad : goal.returns-then-symbol-clause-bad
-returns-then-symbol-clause-bad c = λ is.
+pub returns-in-Input-clause-bad : goal.returns-in-Input-clause-bad
+returns-in-Input-clause-bad c = λ is.
     let symbol = c.args.symbol.now in
-    let tables = c.args.tables.now in
-    bad_output symbol.is_output symbol.position tables.inputs.items tables.outputs.items c.if-symbol.true (c.put_name.ensures.bad is)
+    let ports = c.args.ports.now in
+    bad_input symbol.kind symbol.position ports.inputs.items ports.outputs.items c.in-Input.is (c.put_name.ensures.bad is)
 
-pub returns-else-symbol-clause-put : goal.returns-else-symbol-clause-put
-returns-else-symbol-clause-put c =
+pub returns-in-Output-clause-put : goal.returns-in-Output-clause-put
+returns-in-Output-clause-put c =
     let symbol = c.args.symbol.now in
-    let tables = c.args.tables.now in
-    let put = c.put_name-else-symbol in
-    on_ok_weaker put.result (λ puts. put_input symbol.is_output symbol.position symbol.name.now tables.inputs.items tables.outputs.items put.new.table.items c.if-symbol.false puts) put.ensures.put
+    let ports = c.args.ports.now in
+    let put = c.put_name-in-Output in
+    on_ok_weaker put.result (λ puts. put_output symbol.kind symbol.position symbol.name.now ports.inputs.items ports.outputs.items put.new.slots.items c.in-Output.is puts) put.ensures.put
 
-pub returns-else-symbol-clause-bad : goal.returns-else-symbol-clause-bad
-returns-else-symbol-clause-bad c = λ is.
+pub returns-in-Output-clause-bad : goal.returns-in-Output-clause-bad
+returns-in-Output-clause-bad c = λ is.
     let symbol = c.args.symbol.now in
-    let tables = c.args.tables.now in
-    bad_input symbol.is_output symbol.position tables.inputs.items tables.outputs.items c.if-symbol.false (c.put_name-else-symbol.ensures.bad is)
+    let ports = c.args.ports.now in
+    bad_output symbol.kind symbol.position ports.inputs.items ports.outputs.items c.in-Output.is (c.put_name-in-Output.ensures.bad is)

@@ -8,6 +8,6 @@ use Rattle.aiger_reader.proofs.whole.binary_net.Goals as goal
 pub new-requires-clause-closed : goal.new-requires-clause-closed
 new-requires-clause-closed c =
     let header = c.args.header in
-    let defs = c.from_vec.ensures ∙ c.in-Ok.ensures in
-    let outputs = c.from_vec-2.ensures ∙ c.in-Ok-lits_of.ensures in
+    let defs = c.from_vec.ensures ∙ c.in_ok-defs.ensures in
+    let outputs = c.from_vec-2.ensures ∙ c.in_ok-outputs.ensures in
     subst IsClosed (sym (ap₂ (circuit_from header.inputs) defs outputs)) (binary_plain header c.args.outputs.now c.args.gates.now c.requires).closed

@@ -1,8 +1,6 @@
 -- The line of a gate on a cycle is there, and there are few gates.
 use Rattle.std.proofs.Common.{arith}
-use Rattle.circuits.proofs.LevelOrders.{IsOrderOf-computes}
 use Rattle.aiger_reader.specs.Numbers.{header_of}
-use Rattle.aiger_reader.proofs.NetlistLemmas.{net_closed}
 use Rattle.aiger_reader.proofs.WholeLemmas.{few_gates, loop_there}
 use Rattle.aiger_reader.proofs.whole.put_in_order.Goals as goal
 
@@ -17,8 +15,3 @@ pub unreachable-requires : goal.unreachable-requires
 unreachable-requires c =
     let net = c.requires.netlist in
     omega (arith, few_gates c.args.input.now c.args.header c.args.net.now net.0 net.1, c.order.ensures.too_many (cc))
-
-pub returns-in-Ok-clause-computes : goal.returns-in-Ok-clause-computes
-returns-in-Ok-clause-computes c =
-    let net = c.requires.netlist in
-    IsOrderOf-computes c.args.net.now c.in-Ok.graph c.in-Ok.ensures.acyclic (net_closed c.args.input.now (header_of c.args.header net.1.0) c.args.net.now net.0 net.1.1) c.in-Ok.ensures.graph

@@ -1,9 +1,11 @@
 -- What the parts say of the whole.
-use Rattle.std.proofs.Common.{arith}
+use Rattle.std.proofs.Common.{◌≡◌, ℕ, List, Err, IfErr, subst, arith}
 use Rattle.std.proofs.lemmas.Result.{err_from_is_err_and}
 use Rattle.circuits.proofs.LevelOrders.{IsOrderOf-outputs}
+use Rattle.net_core.specs.declared.named.NetStop.TheVariants as stop
+use Rattle.aiger_reader.specs.Reading.{IsStop}
 use Rattle.aiger_reader.specs.Numbers.{header_of}
-use Rattle.aiger_reader.proofs.WholeLemmas.{names_fault}
+use Rattle.aiger_reader.proofs.WholeLemmas.{lines_fault, names_fault}
 use Rattle.aiger_reader.proofs.NetlistLemmas.{net_sizes}
 use Rattle.aiger_reader.proofs.whole.read.Goals as goal
 
@@ -11,6 +13,14 @@ pub returns-in_err-header-clause-fault : goal.returns-in_err-header-clause-fault
 returns-in_err-header-clause-fault c = λ fault same.
     let p = err_from_is_err_and c.from_residual.result c.from_residual.ensures.1 in
     c.read_front.ensures.fault fault (cc (p.1, p.2, c.in_err-header.was))
+
+pub returns-in_err-body-clause-fault : goal.returns-in_err-body-clause-fault
+returns-in_err-body-clause-fault c = λ fault same.
+    let bytes = c.args.input.now in
+    let header = c.in_ok-header.header in
+    let p = err_from_is_err_and c.from_residual-in_err-body.result c.from_residual-in_err-body.ensures.1 in
+    let stopped : c.read_body.result ≡ Err (stop.Fault fault) = cc (p.1, p.2, c.in_err-body.was) in
+    lines_fault bytes header fault c.in_ok-header.ensures.begun (subst (λ r. IfErr r (λ s. (properties : List ℕ) → IsStop bytes (header_of header properties) s)) stopped c.read_body.ensures.stop)
 
 pub returns-in_err-net-clause-fault : goal.returns-in_err-net-clause-fault
 returns-in_err-net-clause-fault c = λ fault same.

@@ -1,6 +1,5 @@
 -- One gate more.
 use Rattle.std.proofs.Common.{◌≡◌, [], length, refl, arith}
-use Rattle.std.proofs.lemmas.Result.{on_ok_weaker}
 use Rattle.aiger_reader.specs.declared.body.Literals.{Literals}
 use Rattle.aiger_reader.specs.Numbers.{header_of}
 use Rattle.aiger_reader.proofs.ReadingLemmas.{gate_line}
@@ -12,5 +11,5 @@ returns-clause-reading c =
     let now = c.next_definition.new.self in
     let known = c.in_ok-next_definition.ensures in
     let wide : length c.next_definition.new.row ≡ 3 = omega arith in
-    let after : Literals = record { inputs = now.literals.inputs; outputs = now.literals.outputs; gates = c.push.new.list } in
-    on_ok_weaker c.push.result (λ pushed. gate_line c.args.input.now (header_of c.args.header []) body.literals now.literals after now.rest now.signals.items now.count c.next_definition.new.row known.literals wide known.reading refl refl pushed) c.push.ensures.pushed
+    let after : Literals = record { inputs = now.literals.inputs; outputs = now.literals.outputs; gates = c.push.new.self } in
+    gate_line c.args.input.now (header_of c.args.header []) body.literals now.literals after now.rest now.signals.items now.count c.next_definition.new.row known.literals wide known.reading refl refl c.in_ok-push.ensures.items

@@ -1,6 +1,5 @@
 -- One input more.
 use Rattle.std.proofs.Common.{◌≡◌, [], length, refl, arith}
-use Rattle.std.proofs.lemmas.Result.{on_ok_weaker}
 use Rattle.aiger_reader.specs.declared.body.Literals.{Literals}
 use Rattle.aiger_reader.specs.Numbers.{header_of}
 use Rattle.aiger_reader.proofs.ReadingLemmas.{input_line}
@@ -12,5 +11,5 @@ returns-clause-reading c =
     let now = c.next_definition.new.self in
     let known = c.in_ok-next_definition.ensures in
     let wide : length c.next_definition.new.row ≡ 1 = omega arith in
-    let after : Literals = record { inputs = c.push.new.list; outputs = now.literals.outputs; gates = now.literals.gates } in
-    on_ok_weaker c.push.result (λ pushed. input_line c.args.input.now (header_of c.args.header []) body.literals now.literals after now.rest now.signals.items now.count c.next_definition.new.row known.literals c.requires.next wide known.reading pushed refl refl) c.push.ensures.pushed
+    let after : Literals = record { inputs = c.push.new.self; outputs = now.literals.outputs; gates = now.literals.gates } in
+    input_line c.args.input.now (header_of c.args.header []) body.literals now.literals after now.rest now.signals.items now.count c.next_definition.new.row known.literals c.requires.next wide known.reading c.in_ok-push.ensures.items refl refl
