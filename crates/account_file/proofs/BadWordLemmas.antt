@@ -165,7 +165,7 @@ bad_behind : (words : List (List ℕ)) (word : List ℕ) (more : List (List ℕ)
 bad_behind words word more None is fits other bad =
     let hints = hints_of (behind_colon (words ++ word ∷ more)) in
     let front : before_colon (words ++ word ∷ more) ≡ words ++ word ∷ before_colon more =
-        before_append words (word ∷ more) is ∙ ap (λ b. words ++ cond b [] (word ∷ before_colon more)) other in
+    before_append words (word ∷ more) is ∙ ap (λ b. words ++ cond b [] (word ∷ before_colon more)) other in
     ap (λ ws. line_of (numbers_of ws) hints) front
     ∙ ap (λ r. line_of r hints) (numbers_append words (word ∷ before_colon more) fits.0 fits.1)
     ∙ ap (λ f. line_of (in_front fits.0 (with_number f word (numbers_of (before_colon more)))) hints) bad
@@ -190,9 +190,9 @@ number_behind words n None is fits small =
     let colon : List (List ℕ) = codes ":" ∷ [] in
     let other = no_colon n small in
     let front : before_colon (words ++ decimal n ∷ colon) ≡ words ++ decimal n ∷ [] =
-        before_append words (decimal n ∷ colon) is ∙ ap (λ b. words ++ cond b [] (decimal n ∷ [])) other in
+    before_append words (decimal n ∷ colon) is ∙ ap (λ b. words ++ cond b [] (decimal n ∷ [])) other in
     let back : behind_colon (words ++ decimal n ∷ colon) ≡ Some [] =
-        behind_append words (decimal n ∷ colon) is ∙ ap (λ b. cond b (Some colon) (Some [])) other in
+    behind_append words (decimal n ∷ colon) is ∙ ap (λ b. cond b (Some colon) (Some [])) other in
     record {
       more = colon;
       entry = record_of.Line (log_line (fits.0 ++ n ∷ []) []);
@@ -424,10 +424,10 @@ no_bad_word_in_form line entry form bad = bad.begins_none (record {
 bad_begins_none : (front : List (List ℕ)) (word : List ℕ) → FitsLog front → is_numeral word ≡ true → number_below (2 ^ 64) word ≡ None → BeginsLine (codes "l" ∷ front ++ word ∷ []) → ⊥
 bad_begins_none front word log numeral none start =
     let words : codes "l" ∷ front ++ word ∷ start.behind ≡ words_of start.line =
-        ap (λ l. codes "l" ∷ l) (sym (append_assoc front (word ∷ []) start.behind)) ∙ sym start.words_are in
+    ap (λ l. codes "l" ∷ l) (sym (append_assoc front (word ∷ []) start.behind)) ∙ sym start.words_are in
     let read : record_in (words_of start.line) ≡ Ok start.entry = written_is_read start.entry start.line start.form.0 start.form.1 in
     let bad : log_record (front ++ word ∷ start.behind) ≡ Err (bad_number word) =
-        bad_behind front word start.behind log.behind log.behind_is log.fits (digits_no_colon word numeral) none in
+    bad_behind front word start.behind log.behind log.behind_is log.fits (digits_no_colon word numeral) none in
     let e : Err (bad_number word) ≡ Ok start.entry = sym bad ∙ ap record_in words ∙ read in
     cc
 
