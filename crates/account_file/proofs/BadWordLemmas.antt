@@ -18,7 +18,7 @@ use Rattle.account_file.specs.Words.{words_of}
 use Rattle.account_file.specs.Spelling.{kind_letter, IsWritable}
 use Rattle.account_file.specs.Texts.{in_front}
 use Rattle.account_file.specs.Accounts.{HasForm, BeginsLine, HasBadNumber, HasBadWord}
-use Rattle.account_file.proofs.FaultLemmas.{bad_words}
+use Rattle.account_file.proofs.FaultLemmas.{bad_words, words_no_number, match_words, alone_words, header_words}
 use Rattle.account_file.proofs.NumberLemmas.{number_read, number_written, zero_decimal}
 use Rattle.account_file.proofs.RecordLemmas.{first_word, other_words, pair_word, line_text, line_spaced, first_visible, others_visible, no_colon, colon_written, record_read, record_written, IsRecordWords, cancel_last, written_is_read, read_is_written}
 use Rattle.account_file.proofs.SpellingLemmas.{words_spaced}
@@ -165,7 +165,7 @@ bad_behind : (words : List (List ℕ)) (word : List ℕ) (more : List (List ℕ)
 bad_behind words word more None is fits other bad =
     let hints = hints_of (behind_colon (words ++ word ∷ more)) in
     let front : before_colon (words ++ word ∷ more) ≡ words ++ word ∷ before_colon more =
-        before_append words (word ∷ more) is ∙ ap (λ b. words ++ cond b [] (word ∷ before_colon more)) other in
+    before_append words (word ∷ more) is ∙ ap (λ b. words ++ cond b [] (word ∷ before_colon more)) other in
     ap (λ ws. line_of (numbers_of ws) hints) front
     ∙ ap (λ r. line_of r hints) (numbers_append words (word ∷ before_colon more) fits.0 fits.1)
     ∙ ap (λ f. line_of (in_front fits.0 (with_number f word (numbers_of (before_colon more)))) hints) bad
@@ -190,9 +190,9 @@ number_behind words n None is fits small =
     let colon : List (List ℕ) = codes ":" ∷ [] in
     let other = no_colon n small in
     let front : before_colon (words ++ decimal n ∷ colon) ≡ words ++ decimal n ∷ [] =
-        before_append words (decimal n ∷ colon) is ∙ ap (λ b. words ++ cond b [] (decimal n ∷ [])) other in
+    before_append words (decimal n ∷ colon) is ∙ ap (λ b. words ++ cond b [] (decimal n ∷ [])) other in
     let back : behind_colon (words ++ decimal n ∷ colon) ≡ Some [] =
-        behind_append words (decimal n ∷ colon) is ∙ ap (λ b. cond b (Some colon) (Some [])) other in
+    behind_append words (decimal n ∷ colon) is ∙ ap (λ b. cond b (Some colon) (Some [])) other in
     record {
       more = colon;
       entry = record_of.Line (log_line (fits.0 ++ n ∷ []) []);
@@ -367,31 +367,6 @@ log_bad_at words e = by (numbers_of (before_colon words)) refl (behind_colon wor
 
 -- only a line of a log has a bad number
 
-pairs_bad : (words : List (List ℕ)) (fault : RecordFault) → pairs_of words ≡ Err fault → fault ≡ Word
-pairs_bad [] fault e = cc
-pairs_bad (word ∷ words) fault e = by (pair_of word) (pairs_of words) refl e (λ f rest. pairs_bad words f rest)
-  where
-    by : (first : Option Pair) (rest : Result (List Pair) RecordFault) → pairs_of words ≡ rest → with_pair first rest ≡ Err fault → ((f : RecordFault) → pairs_of words ≡ Err f → f ≡ Word) → fault ≡ Word
-    by None rest is h more = cc
-    by (Some p) (Ok ps) is h more = cc
-    by (Some p) (Err f) is h more = let same : f ≡ fault = cc in sym same ∙ more f is
-
-match_bad : (pairs : Result (List Pair) RecordFault) → ((fault : RecordFault) → pairs ≡ Err fault → fault ≡ Word) → match_record pairs ≡ Err Number → ⊥
-match_bad (Ok ps) word e = cc
-match_bad (Err fault) word e = let is = word fault refl in cc
-
-alone_bad : (entry : Record) (words : List (List ℕ)) → alone entry words ≡ Err Number → ⊥
-alone_bad entry [] e = cc
-alone_bad entry (word ∷ words) e = cc
-
-header_bad : (words : List (List ℕ)) → header_record words ≡ Err Number → ⊥
-header_bad [] e = cc
-header_bad (word ∷ words) e = by (bytes_eq word (codes "1")) e
-  where
-    by : (b : Bool) → cond b (alone record_of.Header words) (Err Word) ≡ Err Number → ⊥
-    by true h = alone_bad record_of.Header words h
-    by false h = cc
-
 record IsLogLine (words : List (List ℕ)) : Type 0 where
   pub rest : List (List ℕ)
   pub words_are : words ≡ codes "l" ∷ rest
@@ -404,9 +379,9 @@ log_has_it (first ∷ words) e = by (bytes_eq first (codes "l")) (bytes_eq first
     by : (l m d h : Bool) → bytes_eq first (codes "l") ≡ l
         → cond l (log_record words) (cond m (match_record (pairs_of words)) (cond d (alone record_of.End words) (cond h (header_record words) (Err Word)))) ≡ Err Number → IsLogLine (first ∷ words)
     by true m d h is bad = record { rest = words; words_are = ap (λ w. w ∷ words) ((bytes_eq-Decides first (codes "l")).0 is); bad = bad }
-    by false true d h is bad = absurd (match_bad (pairs_of words) (pairs_bad words) bad)
-    by false false true h is bad = absurd (alone_bad record_of.End words bad)
-    by false false false true is bad = absurd (header_bad words bad)
+    by false true d h is bad = absurd (words_no_number (match_record (pairs_of words)) (match_words words) bad)
+    by false false true h is bad = absurd (words_no_number (alone record_of.End words) (alone_words record_of.End words) bad)
+    by false false false true is bad = absurd (words_no_number (header_record words) (header_words words) bad)
     by false false false false is bad = absurd (let no : ⊥ = cc in no)
 
 -- a line with no fitting form begins with no record's words that have it whole
@@ -424,10 +399,10 @@ no_bad_word_in_form line entry form bad = bad.begins_none (record {
 bad_begins_none : (front : List (List ℕ)) (word : List ℕ) → FitsLog front → is_numeral word ≡ true → number_below (2 ^ 64) word ≡ None → BeginsLine (codes "l" ∷ front ++ word ∷ []) → ⊥
 bad_begins_none front word log numeral none start =
     let words : codes "l" ∷ front ++ word ∷ start.behind ≡ words_of start.line =
-        ap (λ l. codes "l" ∷ l) (sym (append_assoc front (word ∷ []) start.behind)) ∙ sym start.words_are in
+    ap (λ l. codes "l" ∷ l) (sym (append_assoc front (word ∷ []) start.behind)) ∙ sym start.words_are in
     let read : record_in (words_of start.line) ≡ Ok start.entry = written_is_read start.entry start.line start.form.0 start.form.1 in
     let bad : log_record (front ++ word ∷ start.behind) ≡ Err (bad_number word) =
-        bad_behind front word start.behind log.behind log.behind_is log.fits (digits_no_colon word numeral) none in
+    bad_behind front word start.behind log.behind log.behind_is log.fits (digits_no_colon word numeral) none in
     let e : Err (bad_number word) ≡ Ok start.entry = sym bad ∙ ap record_in words ∙ read in
     cc
 

@@ -12,14 +12,27 @@ use Rattle.account_file.specs.Forms.{number_below, with_number, numbers_of, befo
 abbrev pub IsWordOrNumber : RecordFault → Type 0
 IsWordOrNumber fault = (fault ≡ Word) ⊎ (fault ≡ Number)
 
-number_fault : (b : Bool) → IsWordOrNumber (cond b Number Word)
-number_fault true = inr refl
-number_fault false = inl refl
-
 -- each fault of an answer is one of the two
 abbrev pub AreBad : {X : Type 0} → Result X RecordFault → Type 0
 AreBad {X} (Ok x) = Unit {0}
 AreBad {X} (Err fault) = IsWordOrNumber fault
+
+-- each fault of an answer is a bad word
+abbrev pub AreWords : {X : Type 0} → Result X RecordFault → Type 0
+AreWords {X} (Ok x) = Unit {0}
+AreWords {X} (Err fault) = fault ≡ Word
+
+words_are_bad : {X : Type 0} (found : Result X RecordFault) → AreWords found → AreBad found
+words_are_bad {X} (Ok x) h = tt
+words_are_bad {X} (Err fault) h = inl h
+
+pub words_no_number : {X : Type 0} (found : Result X RecordFault) → AreWords found → found ≡ Err Number → ⊥
+words_no_number {X} (Ok x) h e = cc
+words_no_number {X} (Err fault) h e = cc
+
+number_fault : (b : Bool) → IsWordOrNumber (cond b Number Word)
+number_fault true = inr refl
+number_fault false = inl refl
 
 with_number_bad : (word : List ℕ) (first : Option ℕ) (rest : Result (List ℕ) RecordFault) → AreBad rest → AreBad (with_number first word rest)
 with_number_bad word None rest bad = number_fault (is_numeral word)
@@ -30,15 +43,6 @@ numbers_bad : (words : List (List ℕ)) → AreBad (numbers_of words)
 numbers_bad [] = tt
 numbers_bad (word ∷ words) = with_number_bad word (number_below (2 ^ 64) word) (numbers_of words) (numbers_bad words)
 
-with_pair_bad : (first : Option Pair) (rest : Result (List Pair) RecordFault) → AreBad rest → AreBad (with_pair first rest)
-with_pair_bad None rest bad = inl refl
-with_pair_bad (Some p) (Ok ps) bad = tt
-with_pair_bad (Some p) (Err fault) bad = bad
-
-pairs_bad : (words : List (List ℕ)) → AreBad (pairs_of words)
-pairs_bad [] = tt
-pairs_bad (word ∷ words) = with_pair_bad (pair_of word) (pairs_of words) (pairs_bad words)
-
 line_bad : (literals : Result (List ℕ) RecordFault) (words : Option (List (List ℕ))) → AreBad literals → AreBad (line_of literals (hints_of words))
 line_bad (Err fault) words bad = bad
 line_bad (Ok ns) None bad = inl refl
@@ -48,21 +52,33 @@ line_bad (Ok ns) (Some words) bad = by (numbers_of words) (numbers_bad words)
     by (Err fault) h = h
     by (Ok hints) h = tt
 
-match_bad : (pairs : Result (List Pair) RecordFault) → AreBad pairs → AreBad (match_record pairs)
-match_bad (Err fault) bad = bad
-match_bad (Ok ps) bad = tt
+with_pair_words : (first : Option Pair) (rest : Result (List Pair) RecordFault) → AreWords rest → AreWords (with_pair first rest)
+with_pair_words None rest h = refl
+with_pair_words (Some p) (Ok ps) h = tt
+with_pair_words (Some p) (Err fault) h = h
 
-alone_bad : (entry : Record) (words : List (List ℕ)) → AreBad (alone entry words)
-alone_bad entry [] = tt
-alone_bad entry (word ∷ words) = inl refl
+pairs_words : (words : List (List ℕ)) → AreWords (pairs_of words)
+pairs_words [] = tt
+pairs_words (word ∷ words) = with_pair_words (pair_of word) (pairs_of words) (pairs_words words)
 
-header_bad : (words : List (List ℕ)) → AreBad (header_record words)
-header_bad [] = inl refl
-header_bad (word ∷ words) = by (bytes_eq word (codes "1"))
+pub match_words : (words : List (List ℕ)) → AreWords (match_record (pairs_of words))
+match_words words = by (pairs_of words) (pairs_words words)
   where
-    by : (b : Bool) → AreBad (cond b (alone record_of.Header words) (Err Word))
-    by true = alone_bad record_of.Header words
-    by false = inl refl
+    by : (pairs : Result (List Pair) RecordFault) → AreWords pairs → AreWords (match_record pairs)
+    by (Err fault) h = h
+    by (Ok ps) h = tt
+
+pub alone_words : (entry : Record) (words : List (List ℕ)) → AreWords (alone entry words)
+alone_words entry [] = tt
+alone_words entry (word ∷ words) = refl
+
+pub header_words : (words : List (List ℕ)) → AreWords (header_record words)
+header_words [] = refl
+header_words (word ∷ words) = by (bytes_eq word (codes "1"))
+  where
+    by : (b : Bool) → AreWords (cond b (alone record_of.Header words) (Err Word))
+    by true = alone_words record_of.Header words
+    by false = refl
 
 record_bad : (words : List (List ℕ)) → AreBad (record_in words)
 record_bad [] = inl refl
@@ -70,9 +86,9 @@ record_bad (first ∷ words) = by (bytes_eq first (codes "l")) (bytes_eq first (
   where
     by : (l m d h : Bool) → AreBad (cond l (log_record words) (cond m (match_record (pairs_of words)) (cond d (alone record_of.End words) (cond h (header_record words) (Err Word)))))
     by true m d h = line_bad (numbers_of (before_colon words)) (behind_colon words) (numbers_bad (before_colon words))
-    by false true d h = match_bad (pairs_of words) (pairs_bad words)
-    by false false true h = alone_bad record_of.End words
-    by false false false true = header_bad words
+    by false true d h = words_are_bad (match_record (pairs_of words)) (match_words words)
+    by false false true h = words_are_bad (alone record_of.End words) (alone_words record_of.End words)
+    by false false false true = words_are_bad (header_record words) (header_words words)
     by false false false false = inl refl
 
 pub bad_words : (words : List (List ℕ)) (fault : RecordFault) → record_in words ≡ Err fault → IsWordOrNumber fault

@@ -1,9 +1,10 @@
--- What a text says behind records is said by it alone: one list of records, one answer, one first fault.
-use Rattle.std.proofs.Common.{◌≡◌, ◌≢◌, ℕ, zero, suc, ◌+◌, ◌<◌, Bool, true, false, cond, codes, List, [], ◌∷◌, ◌++◌, length, get_or, take, Option, Some, None, IsSome, Result, Ok, Err, refl, sym, ap, subst, ◌∙◌, arith, inl, inr, length-append, length-take, get_or-take, take-suc, take-take, take_all}
+-- What a text says behind records is one thing: one list of records, one answer, and an account or one first fault.
+use Rattle.std.proofs.Common.{◌≡◌, ◌≢◌, ◌⊎◌, append_assoc, append-nil, ℕ, zero, suc, ◌+◌, ◌<◌, Bool, true, false, cond, codes, List, [], ◌∷◌, ◌++◌, length, get_or, take, Option, Some, None, IsSome, Result, Ok, Err, refl, sym, ap, subst, ◌∙◌, arith, inl, inr, length-append, length-take, get_or-take, take-suc, take-take, take_all}
 use Rattle.std.specs.List.{AllZip}
 use Rattle.std.specs.Str.{bytes_eq}
-use Rattle.std.proofs.Math.Seq.{get_or-append_seam}
+use Rattle.std.proofs.Math.Seq.{get_or-append_seam, take-append_seam}
 use Rattle.std.proofs.lemmas.Bool.{cases_lt, false≢true}
+use Rattle.std.proofs.lemmas.Slice.Zip.{all_zipped_more}
 use Rattle.std.proofs.lemmas.Slice.Eq.{bytes_eq-Decides}
 use Rattle.account_file.specs.declared.record.Record.{Record}
 use Rattle.account_file.specs.declared.record.Record.TheVariants as record_of
@@ -11,21 +12,22 @@ use Rattle.account_file.specs.declared.fault.RecordFault.{RecordFault}
 use Rattle.account_file.specs.declared.fault.RecordFault.TheVariants as fault
 use Rattle.account_file.specs.declared.place.Place.{Place}
 use Rattle.account_file.specs.declared.place.Place.TheVariants.{Start, Headed, Logs, Ended}
-use Rattle.account_file.specs.declared.step.Step.TheVariants.{Read, Refuse}
+use Rattle.account_file.specs.declared.step.Step.{Step}
+use Rattle.account_file.specs.declared.step.Step.TheVariants.{Wait, Read, Refuse}
 use Rattle.account_file.specs.Forms.{record_in}
 use Rattle.account_file.specs.Words.{words_of}
 use Rattle.account_file.specs.Lines.{whole_lines, behind_lines}
 use Rattle.account_file.specs.Order.{place_behind, place_after, AreInOrder, MayStand}
 use Rattle.account_file.specs.Accounts.{HasForm, AreRecords, LineFault, EndFault, HasFormFault, IsAccountOf, SaysNext}
 use Rattle.account_file.specs.Steps.{in_place, placed, step_by, step_at_line}
-use Rattle.account_file.proofs.AccountLemmas.{FaultThere, fault_there}
+use Rattle.account_file.proofs.AccountLemmas.{FaultThere, StepSays, fault_there, line_fault, step_says}
 use Rattle.account_file.proofs.OrderLemmas.{place_behind_last, place_there, take_in_order}
 use Rattle.account_file.proofs.RecordLemmas.{cancel_last, written_is_read}
 
 form_is_read : (line : List ℕ) (entry : Record) → HasForm line entry → record_in (words_of line) ≡ Ok entry
 form_is_read line entry form = written_is_read entry line form.0 form.1
 
-same_record : (line : List ℕ) (first second : Record) → HasForm line first → HasForm line second → first ≡ second
+pub same_record : (line : List ℕ) (first second : Record) → HasForm line first → HasForm line second → first ≡ second
 same_record line first second f s = let e : Ok first ≡ Ok second = sym (form_is_read line first f) ∙ form_is_read line second s in cc
 
 pub same_records : (lines : List (List ℕ)) (first second : List Record) → AllZip HasForm lines first → AllZip HasForm lines second → first ≡ second
@@ -276,3 +278,80 @@ account_or_fault bytes records before fault account has =
           (subst (λ n. AllZip HasForm (take n (whole_lines bytes)) before) same_count has.records.form) are.form in
           account_has_none bytes records fault account (subst (λ r. HasFormFault bytes r fault) same has)
     ]
+
+-- each text is an account or has a first fault
+
+abbrev pub SaysSomething : List ℕ → Type 0
+SaysSomething bytes = ((records : List Record) × IsAccountOf bytes records) ⊎ ((before : List Record) × ((fault : RecordFault) × HasFormFault bytes before fault))
+
+-- the first lines are those of records, behind which an account stands so
+module _ (bytes : List ℕ) (done left : List (List ℕ)) (before : List Record) (place : Place) (lines : whole_lines bytes ≡ done ++ left) (form : AllZip HasForm done before) (at' : place_after before ≡ Some place) where
+  done_are : AreRecords (take (length before) (whole_lines bytes)) before
+  done_are =
+      let count = as_many done before form in
+      let front : take (length before) (whole_lines bytes) ≡ done = ap (take (length before)) lines ∙ ap (λ n. take n (done ++ left)) (sym count) ∙ take-append_seam done left in
+      record { form = subst (λ l. AllZip HasForm l before) (sym front) form; order = subst IsSome (sym at') refl }
+
+  refused_at : (line : List ℕ) (more : List (List ℕ)) → left ≡ line ∷ more → (wrong : RecordFault) → FaultThere place line wrong → HasFormFault bytes before wrong
+  refused_at line more first wrong said =
+      let count = as_many done before form in
+      let all : whole_lines bytes ≡ done ++ line ∷ more = lines ∙ ap (λ l. done ++ l) first in
+      let there : get_or (whole_lines bytes) (length before) [] ≡ line =
+      ap (λ l. get_or l (length before) []) all ∙ ap (λ n. get_or (done ++ line ∷ more) n []) (sym count) ∙ get_or-append_seam done line more [] in
+      record {
+        records = done_are;
+        at_line = λ _. subst (λ l. LineFault before l wrong) (sym there) (line_fault before place line wrong at' said);
+        at_end = λ past. absurd (omega (arith, past, count, ap length all, length-append done (line ∷ more)));
+      }
+
+  refused_end : left ≡ [] → (wrong : RecordFault) → EndFault before (behind_lines bytes) wrong → HasFormFault bytes before wrong
+  refused_end none wrong h =
+      let count = as_many done before form in
+      record {
+        records = done_are;
+        at_line = λ below. absurd (omega (arith, below, count, ap length lines, length-append done left, ap length none));
+        at_end = λ _. h;
+      }
+
+  cut_off : left ≡ [] → place ≢ Ended → SaysSomething bytes
+  cut_off none open' = inr (before, (fault.Truncated, refused_end none fault.Truncated (λ ended. open' (let same : Some place ≡ Some Ended = sym at' ∙ ended in cc))))
+
+  accepted : left ≡ [] → place ≡ Ended → behind_lines bytes ≡ [] → SaysSomething bytes
+  accepted none ended nothing =
+      let all : done ≡ whole_lines bytes = sym (lines ∙ ap (λ l. done ++ l) none ∙ append-nil done) in
+      inl (
+        before,
+        record {
+          records_are = record { form = subst (λ l. AllZip HasForm l before) all form; order = subst IsSome (sym at') refl };
+          ended = at' ∙ ap Some ended;
+          nothing_behind = nothing;
+        },
+      )
+
+  trailing : left ≡ [] → place ≡ Ended → behind_lines bytes ≢ [] → SaysSomething bytes
+  trailing none ended some = inr (before, (fault.Trailing, refused_end none fault.Trailing (at' ∙ ap Some ended, some)))
+
+end_says : (bytes : List ℕ) (done : List (List ℕ)) (before : List Record) (place : Place) → whole_lines bytes ≡ done ++ [] → AllZip HasForm done before → place_after before ≡ Some place → SaysSomething bytes
+end_says bytes done before Start lines form at' = cut_off bytes done [] before Start lines form at' refl (λ e. cc)
+end_says bytes done before Headed lines form at' = cut_off bytes done [] before Headed lines form at' refl (λ e. cc)
+end_says bytes done before (Logs logs) lines form at' = cut_off bytes done [] before (Logs logs) lines form at' refl (λ e. cc)
+end_says bytes done before Ended lines form at' = by (behind_lines bytes) refl
+  where
+    by : (rest : List ℕ) → behind_lines bytes ≡ rest → SaysSomething bytes
+    by [] e = accepted bytes done [] before Ended lines form at' refl refl e
+    by (byte ∷ rest) e = trailing bytes done [] before Ended lines form at' refl refl (λ none. let no : [] ≡ byte ∷ rest = sym none ∙ e in cc)
+
+text_says : (bytes : List ℕ) (done left : List (List ℕ)) (before : List Record) (place : Place) → whole_lines bytes ≡ done ++ left → AllZip HasForm done before → place_after before ≡ Some place → SaysSomething bytes
+text_says bytes done [] before place lines form at' = end_says bytes done before place lines form at'
+text_says bytes done (line ∷ left) before place lines form at' =
+    by (step_at_line place line) (step_says place line)
+    (λ entry behind has e. text_says bytes (done ++ line ∷ []) left (before ++ entry ∷ []) behind (lines ∙ sym (append_assoc done (line ∷ []) left))
+    (all_zipped_more HasForm done before line entry form has) (place_behind_last before entry place at' ∙ e))
+  where
+    by : (step : Step) → StepSays place line step → ((entry : Record) (behind : Place) → HasForm line entry → place_behind place entry ≡ Some behind → SaysSomething bytes) → SaysSomething bytes
+    by Wait said next = absurd said
+    by (Read entry behind used) said next = next entry behind said.0 said.1
+    by (Refuse wrong) said next = inr (before, (wrong, refused_at bytes done (line ∷ left) before place lines form at' line left refl wrong said))
+
+pub every_text : (bytes : List ℕ) → SaysSomething bytes
+every_text bytes = text_says bytes [] (whole_lines bytes) [] Start refl tt refl

@@ -1,7 +1,6 @@
 pub mod AccountLemmas
 pub mod BadWordLemmas
 pub mod ColonLemmas
-pub mod CuttingLemmas
 pub mod FaultLemmas
 pub mod LawLemmas
 pub mod LineLemmas

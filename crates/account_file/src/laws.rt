@@ -1,31 +1,13 @@
-//! What the spelling of records and the reading of lines say together. Each function does nothing; its contract is the law.
+//! What accounts are as whole texts. Each function does nothing; its contract is the law.
 
-ghost use Rattle.std.specs.Prelude.{ℕ, ◌≡◌, ◌≢◌, ◌∷◌, ◌++◌, [], Bool, false, List, Option, Result, Ok};
+ghost use Rattle.std.specs.Prelude.{ℕ, ◌≡◌, ◌⊎◌, Bool, List, Option, Result};
 ghost use Rattle.account_file.specs.declared.record.Record.{Record as Entry};
 ghost use Rattle.account_file.specs.declared.fault.RecordFault.{RecordFault as AnyFault};
-ghost use Rattle.account_file.specs.declared.place.Place.{Place as Standing};
-ghost use Rattle.account_file.specs.Accounts.{AreRecords, HasFormFault, IsAccountOf, SaysNext};
-ghost use Rattle.account_file.specs.Forms.{record_in};
-ghost use Rattle.account_file.specs.Words.{words_of};
-ghost use Rattle.account_file.specs.Steps.{step_of};
-ghost use Rattle.account_file.specs.declared.step.Step.TheVariants.{Wait};
-ghost use Rattle.account_file.specs.Spelling.{IsWritable, record_line};
+ghost use Rattle.account_file.specs.Accounts.{AreRecords, HasForm, HasFormFault, IsAccountOf, SaysNext};
 
-/// A record that is written is read from its line, and what is read from a line is written as this line; so each record
-/// that can be written has one spelling.
-pub fn one_spelling()
-    ensures written { (entry : Entry) (line : List ℕ) → IsWritable entry → record_line entry ≡ line ++ 10 ∷ []
-        → record_in (words_of line) ≡ Ok entry }
-    ensures read { (line : List ℕ) (entry : Entry) → record_in (words_of line) ≡ Ok entry
-        → record_line entry ≡ line ++ 10 ∷ [] }
-    ensures fits { (line : List ℕ) (entry : Entry) → record_in (words_of line) ≡ Ok entry → IsWritable entry }
-{}
-
-/// What is answered where more bytes may come is answered whatever comes, and where no more come; so however a text is cut,
-/// the same is read of it.
-pub fn any_cutting()
-    ensures { (left more : List ℕ) (finished : Bool) (place : Standing) → step_of left false place ≢ Wait
-        → step_of (left ++ more) finished place ≡ step_of left false place }
+/// A line has the form of one record at most.
+pub fn one_record()
+    ensures { (line : List ℕ) (first second : Entry) → HasForm line first → HasForm line second → first ≡ second }
 {}
 
 /// The records of lines are one list at most.
@@ -38,6 +20,12 @@ pub fn one_list_of_records()
 pub fn one_answer()
     ensures { (bytes : List ℕ) (finished : Bool) (before : List Entry) (first second : Result (Option Entry) AnyFault)
         → SaysNext bytes finished before first → SaysNext bytes finished before second → first ≡ second }
+{}
+
+/// A text is an account of records, or has a first fault of form.
+pub fn account_or_fault()
+    ensures { (bytes : List ℕ) → ((records : List Entry) × IsAccountOf bytes records)
+        ⊎ ((before : List Entry) × ((fault : AnyFault) × HasFormFault bytes before fault)) }
 {}
 
 /// A text has one first fault of form at most, and none where it is an account of records.

@@ -11,7 +11,7 @@ mod spelling;
 mod step;
 
 pub use fault::{FileStop, RecordFault};
-pub use laws::{any_cutting, one_answer, one_fault, one_list_of_records, one_spelling};
+pub use laws::{account_or_fault, one_answer, one_fault, one_list_of_records, one_record};
 pub use reader::Reader;
 pub use record::Record;
 pub use spelling::put_record;

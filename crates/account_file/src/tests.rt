@@ -99,6 +99,26 @@ fn read_cut(alloc: Global, account: &[u8], cut: usize) -> Result<Given, AllocErr
     })
 }
 
+/// Reads a short account byte by byte.
+fn read_bytes(alloc: Global, account: &[u8]) -> Result<Given, AllocError> {
+    let mut reader = Reader::new(alloc);
+    let mut text = Vec::new(alloc);
+    if account.len() > 1000 {
+        return Err(AllocError);
+    }
+    for byte in account.iter() {
+        reader.feed(&[*byte])?;
+        drain(alloc, &mut reader, &mut text)?;
+    }
+    reader.finish();
+    let fault = drain(alloc, &mut reader, &mut text)?;
+    Ok(Given {
+        text,
+        fault,
+        line: reader.line(),
+    })
+}
+
 const ACCOUNT: &[u8] =
     b"npnp 1\nmatch i0-0 i1-1 o0-0\nl : 7 8 1 2 6\nl 5 : 4\nl : 7 8 4 5 3\nend\n";
 
@@ -110,6 +130,15 @@ fn reads_what_was_written_wherever_it_is_cut(rt: HostRuntime) -> Result<(), Fail
         assert_eq!(rt; given.fault, None);
         assert_eq!(rt; given.line, 6);
     }
+    Ok(())
+}
+
+#[test]
+fn reads_what_was_written_byte_by_byte(rt: HostRuntime) -> Result<(), Fail> {
+    let given = read_bytes(rt.alloc(), ACCOUNT)?;
+    assert_eq!(rt; given.text.as_slice(), ACCOUNT);
+    assert_eq!(rt; given.fault, None);
+    assert_eq!(rt; given.line, 6);
     Ok(())
 }
 
