@@ -1,6 +1,6 @@
 -- For `lines`: what the definitions of placed lines and words say of what stands at their front.
-use Rattle.std.proofs.Common.{◌≡◌, ◌==◌, ℕ, suc, ◌+◌, ◌<◌, ◌≤◌, Bool, true, false, cond, not, min, List, [], ◌∷◌, Some, None, length, take, drop, refl, ap, sym, ◌∙◌, inl, inr, arith, length-take, length-drop}
-use Rattle.std.specs.List.{filter, onto_first, prefix_len, slice_split}
+use Rattle.std.proofs.Common.{◌≡◌, ◌==◌, ℕ, ◌+◌, ◌<◌, ◌≤◌, Bool, true, false, cond, not, min, List, [], ◌∷◌, Some, None, length, take, drop, refl, ap, sym, ◌∙◌, inl, inr, arith, length-take, length-drop}
+use Rattle.std.specs.List.{filter, prefix_len, slice_split}
 use Rattle.std.proofs.lemmas.List.Splits.{slice_split-cons_yes}
 use Rattle.std.proofs.lemmas.List.Sums.{prefix_len-le-length}
 use Rattle.std.proofs.lemmas.Bool.{cases_lt}
@@ -10,7 +10,7 @@ use Rattle.text_core.specs.Lines.{lines, line_length, first_line, after_line}
 use Rattle.text_core.specs.Words.{is_not_empty, word_length, without_blanks, first_word, after_word}
 use Rattle.text_core.proofs.EmptyTests.{filled_by_test, empty_by_test, nil_from_length, some_by_test, none_by_test}
 use Rattle.text_core.proofs.LineLemmas.{lines-front}
-use Rattle.text_core.proofs.WordLemmas.{word_length-behind_blanks}
+use Rattle.text_core.proofs.WordLemmas.{drop-one_more, parts_behind, slice_split-front, word_length-behind_blanks}
 use Rattle.blif_reader.specs.JoinedLines.{placed, lines_at, words_at}
 
 abbrev piece : List ℕ → ℕ → Piece
@@ -28,9 +28,6 @@ words_from-blank at b bs h =
     ap (λ parts. filter filled (placed at parts)) (slice_split-cons_yes is_blank b bs h)
     ∙ ap (λ n. filter filled (placed n (slice_split is_blank bs))) (let e : at + 0 + 1 ≡ at + 1 = omega arith in e)
 
-drop-one_more : (n b : ℕ) (bs : List ℕ) → drop (1 + n) (b ∷ bs) ≡ drop n bs
-drop-one_more n b bs = let e : 1 + n ≡ suc n = omega arith in ap (λ k. drop k (b ∷ bs)) e
-
 words_from-blanks_by_test : (t : Bool) (at b : ℕ) (bs : List ℕ) (n : ℕ) → is_blank b ≡ t → words_from (at + 1) bs ≡ words_from (at + 1 + n) (drop n bs) → words_from at (b ∷ bs) ≡ words_from (at + cond t (1 + n) 0) (drop (cond t (1 + n) 0) (b ∷ bs))
 words_from-blanks_by_test true at b bs n e h =
     words_from-blank at b bs e
@@ -41,20 +38,6 @@ words_from-blanks_by_test false at b bs n e h =
 words_from-blanks : (at : ℕ) (bs : List ℕ) → words_from at bs ≡ words_from (at + prefix_len is_blank bs) (drop (prefix_len is_blank bs) bs)
 words_from-blanks at [] = refl
 words_from-blanks at (b ∷ bs) = words_from-blanks_by_test (is_blank b) at b bs (prefix_len is_blank bs) refl (words_from-blanks (at + 1) bs)
-
--- the parts between blanks, behind the blank that comes first
-abbrev parts_behind : List ℕ → List (List ℕ)
-parts_behind [] = []
-parts_behind (b ∷ bs) = slice_split is_blank bs
-
--- the first part ends before the first blank
-slice_split-front : (bs : List ℕ) → slice_split is_blank bs ≡ take (word_length bs) bs ∷ parts_behind (drop (word_length bs) bs)
-slice_split-front [] = refl
-slice_split-front (b ∷ bs) =
-    elim (is_blank b) as (λ t. cond t ([] ∷ slice_split is_blank bs) (onto_first b (slice_split is_blank bs)) ≡ take (cond (not t) (1 + word_length bs) 0) (b ∷ bs) ∷ parts_behind (drop (cond (not t) (1 + word_length bs) 0) (b ∷ bs))) [
-      | true ↦ refl
-      | false ↦ let e : 1 + word_length bs ≡ suc (word_length bs) = omega arith in rw (slice_split-front bs, e) refl
-    ]
 
 behind_by_test : (t : Bool) (at b : ℕ) (bs : List ℕ) (n : ℕ) → is_blank b ≡ t → filter filled (placed (at + 1) (parts_behind (drop n bs))) ≡ words_from at (drop n bs) → filter filled (placed (at + 1) (parts_behind (drop (cond (not t) (1 + n) 0) (b ∷ bs)))) ≡ words_from at (drop (cond (not t) (1 + n) 0) (b ∷ bs))
 behind_by_test true at b bs n e h = sym (words_from-blank at b bs e)

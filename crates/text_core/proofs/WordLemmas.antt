@@ -13,7 +13,7 @@ use Rattle.text_core.proofs.EmptyTests.{filled_by_test, empty_by_test, nil_from_
 pub words-blank : (b : ℕ) (bs : List ℕ) → is_blank b ≡ true → words (b ∷ bs) ≡ words bs
 words-blank b bs h = ap (filter is_not_empty) (slice_split-cons_yes is_blank b bs h)
 
-drop-one_more : (n b : ℕ) (bs : List ℕ) → drop (1 + n) (b ∷ bs) ≡ drop n bs
+pub drop-one_more : (n b : ℕ) (bs : List ℕ) → drop (1 + n) (b ∷ bs) ≡ drop n bs
 drop-one_more n b bs = let e : 1 + n ≡ suc n = omega arith in rw e refl
 
 -- nor do all the blanks at the front
@@ -26,12 +26,12 @@ words-blanks [] = refl
 words-blanks (b ∷ bs) = words-blanks_by_test (is_blank b) b bs (prefix_len is_blank bs) refl (words-blanks bs)
 
 -- the parts between blanks, behind the blank that comes first
-abbrev parts_behind : List ℕ → List (List ℕ)
+abbrev pub parts_behind : List ℕ → List (List ℕ)
 parts_behind [] = []
 parts_behind (b ∷ bs) = slice_split is_blank bs
 
 -- the first part ends before the first blank
-slice_split-front : (bs : List ℕ) → slice_split is_blank bs ≡ take (word_length bs) bs ∷ parts_behind (drop (word_length bs) bs)
+pub slice_split-front : (bs : List ℕ) → slice_split is_blank bs ≡ take (word_length bs) bs ∷ parts_behind (drop (word_length bs) bs)
 slice_split-front [] = refl
 slice_split-front (b ∷ bs) =
     elim (is_blank b) as (λ t. cond t ([] ∷ slice_split is_blank bs) (onto_first b (slice_split is_blank bs)) ≡ take (cond (not t) (1 + word_length bs) 0) (b ∷ bs) ∷ parts_behind (drop (cond (not t) (1 + word_length bs) 0) (b ∷ bs))) [
