@@ -1,5 +1,5 @@
 -- A line of no record: the reader's fault is what the words of the line say.
-use Rattle.std.proofs.Common.{◌≡◌, ℕ, zero, suc, ◌+◌, ◌<◌, ◌^◌, Bool, true, false, cond, codes, List, [], ◌∷◌, ◌++◌, length, drop, eqb, map, Option, Some, None, Result, Ok, Err, refl, sym, ap, subst, ◌∙◌, arith, inl, inr, append_assoc, append-nil, length-append, get_or}
+use Rattle.std.proofs.Common.{◌≡◌, ℕ, ◌<◌, ◌^◌, Bool, true, false, cond, codes, List, [], ◌∷◌, ◌++◌, length, drop, eqb, map, Option, Some, None, Result, Ok, Err, refl, sym, ap, subst, ◌∙◌, arith, inl, inr, append_assoc, append-nil, length-append, get_or}
 use Rattle.std.specs.Fmt.{decimal}
 use Rattle.std.specs.Str.{bytes_eq}
 use Rattle.std.proofs.lemmas.Bool.{false≢true}
@@ -13,7 +13,7 @@ use Rattle.account_file.specs.declared.record.Record.{Record}
 use Rattle.account_file.specs.declared.record.Record.TheVariants as record_of
 use Rattle.account_file.specs.declared.fault.RecordFault.{RecordFault}
 use Rattle.account_file.specs.declared.fault.RecordFault.TheVariants.{Word, Number}
-use Rattle.account_file.specs.Forms.{number_below, with_number, bad_number, numbers_of, before_colon, behind_colon, hints_of, line_of, log_line, log_record, pair_of, with_pair, pairs_of, match_record, alone, header_record, record_by, record_in}
+use Rattle.account_file.specs.Forms.{number_below, with_number, bad_number, numbers_of, before_colon, behind_colon, hints_of, line_of, log_line, log_record, pairs_of, match_record, alone, header_record, record_in}
 use Rattle.account_file.specs.Words.{words_of}
 use Rattle.account_file.specs.Spelling.{kind_letter, IsWritable}
 use Rattle.account_file.specs.Texts.{in_front}

@@ -72,7 +72,8 @@ EndFault before rest fault.Order = ⊥
 EndFault before rest fault.Truncated = HaveEnded before → ⊥
 EndFault before rest fault.Trailing = HaveEnded before × (rest ≢ [])
 
--- The first fault of form of a text is behind the lines of these records: at the next line, or where the whole lines end.
+-- The first fault of form of a text is behind the lines of these records: at the next line, or where the whole lines
+-- end.
 pub record HasFormFault (bytes : List ℕ) (before : List Record) (fault : RecordFault) : Type 0 where
   pub records : AreRecords (take (length before) (whole_lines bytes)) before
   pub at_line : length before < length (whole_lines bytes)
@@ -89,9 +90,9 @@ pub record IsAccountOf (bytes : List ℕ) (records : List Record) : Type 0 where
 abbrev pub IsNextRecord : List ℕ → List Record → Record → Type 0
 IsNextRecord bytes before entry = AreRecords (take (length before + 1) (whole_lines bytes)) (before ++ entry ∷ [])
 
--- What a text says behind the lines of these records: the next record, nothing, or the first fault. Where more bytes may
--- come, what stands behind the last line feed says nothing yet.
-abbrev pub SaysNext : (bytes : List ℕ) (finished : Bool) (before : List Record) → Result (Option Record) RecordFault → Type 0
+-- What a text says behind the lines of these records: the next record, nothing, or the first fault. Where more bytes
+-- may come, what stands behind the last line feed says nothing yet.
+abbrev pub SaysNext : List ℕ → Bool → List Record → Result (Option Record) RecordFault → Type 0
 SaysNext bytes finished before (Ok (Some entry)) = IsNextRecord bytes before entry
 SaysNext bytes true before (Ok None) = IsAccountOf bytes before
 SaysNext bytes false before (Ok None) = AreRecords (whole_lines bytes) before

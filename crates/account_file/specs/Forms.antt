@@ -1,5 +1,5 @@
--- The steps of the reader's code at the words of a line, which contracts of private functions cite; what they come to is said
--- in `Accounts`.
+-- The steps of the reader's code at the words of a line, which contracts of private functions cite; what they come to is
+-- said in `Accounts`.
 use Rattle.std.specs.Prelude.{ℕ, ◌^◌, ◌==◌, ◌&&◌, ◌||◌, not, Bool, true, false, List, [], ◌∷◌, codes, length, map, drop, take, Option, None, Some, Result, Ok, Err, nat_lt, slice_index_or, if◌then◌else◌}
 use Rattle.std.specs.Char.{is_ascii_digit}
 use Rattle.std.specs.List.{prefix_len}
@@ -23,7 +23,8 @@ is_plain word = is_numeral word && (length word == 1 || not (slice_index_or word
 
 -- the number below a bound that a word writes so
 abbrev pub number_below : ℕ → List ℕ → Option ℕ
-number_below bound word = if is_plain word && nat_lt (digits_value 10 word) bound then Some (digits_value 10 word) else None
+number_below bound word =
+    if is_plain word && nat_lt (digits_value 10 word) bound then Some (digits_value 10 word) else None
 
 -- what is wrong with a word where a number stands
 abbrev pub bad_number : List ℕ → RecordFault
@@ -91,7 +92,8 @@ pair_behind kind from (sign ∷ to) = pair_by kind (port_of from) (flip_of_sign 
 
 abbrev pub pair_of : List ℕ → Option Pair
 pair_of [] = None
-pair_of (letter ∷ rest) = pair_behind (kind_of_letter letter) (take (prefix_len is_ascii_digit rest) rest) (drop (prefix_len is_ascii_digit rest) rest)
+pair_of (letter ∷ rest) =
+    let n = prefix_len is_ascii_digit rest in pair_behind (kind_of_letter letter) (take n rest) (drop n rest)
 
 abbrev pub with_pair : Option Pair → Result (List Pair) RecordFault → Result (List Pair) RecordFault
 with_pair None rest = Err fault.Word

@@ -1,4 +1,5 @@
--- What may stand after what in an account (this project's format): the header, a conclusion, the logs that prove it, the end.
+-- What may stand after what in an account (this project's format): the header, a conclusion, the logs that prove it, the
+-- end.
 use Rattle.std.specs.Prelude.{◌≡◌, ℕ, ◌-◌, ◌*◌, ◌==◌, Bool, true, false, List, [], ◌∷◌, ◌++◌, count_by, fold, Option, None, Some, IsSome, option_and_then, if◌then◌else◌}
 use Rattle.circuits.specs.declared.port.Pair.{Pair}
 use Rattle.circuits.specs.declared.port.PortKind.{PortKind}

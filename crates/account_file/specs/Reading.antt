@@ -9,8 +9,8 @@ use Rattle.account_file.specs.Accounts.{SaysNext}
 use Rattle.account_file.specs.Order.{place_after}
 use Rattle.account_file.specs.Spelling.{IsWritable, record_line}
 
--- How far a text was read: the bytes that are left; whether no more come; the number of the line that was given or refused
--- last; where the account stands; the fault that was given; and how many bytes came in all.
+-- How far a text was read: the bytes that are left; whether no more come; the number of the line that was given or
+-- refused last; where the account stands; the fault that was given; and how many bytes came in all.
 pub record Reading : Type 0 where
   pub left : List ℕ
   pub finished : Bool
@@ -39,7 +39,8 @@ abbrev pub IsCounted : Option RecordFault → ℕ → ℕ → ℕ → Type 0
 IsCounted None line left total = 2 * line + left ≤ total
 IsCounted (Some fault) line left total = Unit {0}
 
--- What each reader keeps: of the bytes that it holds, the first were read, and no line feed is among the first behind them.
+-- What each reader keeps: of the bytes that it holds, the first were read, and no line feed is among the first behind
+-- them.
 pub record IsReader (bytes : List ℕ) (start looked line : ℕ) (fault : Option RecordFault) (total : ℕ) : Type 0 where
   pub within : start ≤ length bytes
   pub no_line_feed : looked ≤ position_or_len is_line_feed (drop start bytes)

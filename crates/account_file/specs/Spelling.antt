@@ -27,11 +27,13 @@ pair_text pair = 32 ∷ kind_letter pair.kind ∷ decimal pair.from ++ sign_of p
 abbrev pub numbers_text : List ℕ → List ℕ
 numbers_text numbers = flat_map (λ number. 32 ∷ decimal number) numbers
 
--- the line of a record, with its line feed: `npnp 1`; `match` and the pairs; `l`, the literals, `:` and the hints; `end`
+-- the line of a record, with its line feed: `npnp 1`; `match` and the pairs; `l`, the literals, `:` and the hints;
+-- `end`
 abbrev pub record_line : Record → List ℕ
 record_line record_of.Header = codes "npnp 1" ++ 10 ∷ []
 record_line (record_of.Conclusion (Match pairs)) = codes "match" ++ flat_map pair_text pairs ++ 10 ∷ []
-record_line (record_of.Line line) = codes "l" ++ numbers_text (map (λ literal. literal.0) line.clause) ++ codes " :" ++ numbers_text line.hints ++ 10 ∷ []
+record_line (record_of.Line line) =
+    codes "l" ++ numbers_text (map (λ literal. literal.0) line.clause) ++ codes " :" ++ numbers_text line.hints ++ 10 ∷ []
 record_line record_of.End = codes "end" ++ 10 ∷ []
 
 -- Each port of a table has 32 bits, each number of a log 64.

@@ -60,7 +60,8 @@ answer_by (Refuse fault) = Err fault
 
 abbrev pub reading_behind : Reading → Step → Reading
 reading_behind reading Wait = reading
-reading_behind reading (Read entry place used) = record reading { left = drop used reading.left; line = reading.line + 1; place = place }
+reading_behind reading (Read entry place used) =
+    record reading { left = drop used reading.left; line = reading.line + 1; place = place }
 reading_behind reading (Refuse fault) = record reading { line = reading.line + 1; fault = Some fault }
 
 -- after a fault it is given again

@@ -13,9 +13,9 @@ use std::alloc::AllocError;
 use text_core::put_decimal;
 
 /// Writes the one line of a record at the end of `out`: `npnp 1` for the header, `match` and the pairs of ports for a
-/// conclusion, `l`, the literals, `:` and the hints for a line of a log, and `end`. A pair is `i3+5` where input 3 goes to
-/// input 5, and `o0-1` where output 0 goes to output 1 inverted. Numbers have no leading zeros, one blank stands between
-/// two words, and the line ends with a line feed. Want of memory leaves `out` as it was.
+/// conclusion, `l`, the literals, `:` and the hints for a line of a log, and `end`. A pair is `i3+5` where input 3 goes
+/// to input 5, and `o0-1` where output 0 goes to output 1 inverted. Numbers have no leading zeros, one space stands
+/// between two words, and the line ends with a line feed. Want of memory leaves `out` as it was.
 pub fn put_record(entry: &Record, out: &mut Vec<u8>) -> Result<(), AllocError>
     ensures line { OnOk result (out.new.items ≡ out.old.items ++ record_line entry.now) }
     ensures refused { OnErr result (out.new.items ≡ out.old.items) }
