@@ -6,7 +6,7 @@ use Rattle.std.proofs.lemmas.List.Elements.{All-nil, All-push, All-head, All-tai
 use Rattle.std.proofs.lemmas.List.Sums.{take_while-cons}
 use Rattle.text_core.specs.Lines.{lines, text_of_lines, line_length, first_line, after_line}
 use Rattle.text_core.specs.Piece.{Piece, front}
-use Rattle.aiger_reader.specs.Symbols.{Port, Entry, is_comment, symbol_lines, AddsName, GiveNames, ArePortSlots, AreSymbols, IsSymbolFault}
+use Rattle.aiger_reader.specs.Symbols.{Port, is_comment, symbol_lines, AddsName, GiveNames, ArePortSlots, AreSymbols, IsSymbolFault}
 use Rattle.aiger_reader.proofs.GiveLemmas.{give_more, give_split, give_same}
 
 -- What is known after some lines: they gave these names, which the ports have, and this is left of the text.
