@@ -1,5 +1,5 @@
--- The lines behind the header of an AIGER file (AIGER 1.9): inputs, outputs and AND gates of the ASCII form, whose gates
--- may stand in any order; of the binary form only the outputs.
+-- The lines behind the header of an AIGER file (AIGER 1.9): inputs, outputs and AND gates of the ASCII form, whose
+-- gates may stand in any order; of the binary form only the outputs.
 use Rattle.std.specs.Prelude.{◌≡◌, ◌≢◌, ℕ, ◌+◌, ◌*◌, ◌/◌, ◌%◌, ◌<◌, ◌≤◌, ◌==◌, Bool, true, false, IsTrue, List, [], ◌∷◌, ◌++◌, length, map, take, drop, All, AllPairs, Contains, Some, slice_index_or, replicate, if◌then◌else◌}
 use Rattle.std.specs.List.{position_or_len}
 use Rattle.text_core.specs.Lines.{lines, text_of_lines}
@@ -149,7 +149,8 @@ literal_of variables literal =
 
 -- the definition that a gate's line gives
 abbrev pub and_on : List ℕ → List ℕ → Def
-and_on variables row = And (literal_of variables (slice_index_or row 1 0)) (literal_of variables (slice_index_or row 2 0))
+and_on variables row =
+    And (literal_of variables (slice_index_or row 1 0)) (literal_of variables (slice_index_or row 2 0))
 
 -- the netlist of the ASCII form's body
 abbrev pub text_circuit : AigerHeader → List (List ℕ) → Circuit

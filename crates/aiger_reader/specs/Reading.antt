@@ -43,8 +43,8 @@ pub record IsNumbering (greatest : ℕ) (variables signals : List ℕ) : Type 0 
   pub places : (k : ℕ) → k < length variables → slice_index_or signals (slice_index_or variables k 0) 0 ≡ k + 1
   pub others : (v : ℕ) → 0 < slice_index_or signals v 0 → Contains variables v
 
--- The rows are those of good lines, the first of the body; the piece is what is left behind them, and the signals and the
--- count are of the variables that they define.
+-- The rows are those of good lines, the first of the body; the piece is what is left behind them, and the signals and
+-- the count are of the variables that they define.
 pub record IsReading (bytes : List ℕ) (h : AigerHeader) (rows : List (List ℕ)) (rest : Piece) (signals : List ℕ)
     (count : ℕ) : Type 0 where
   pub good : AreGood h (body_lines bytes) rows
