@@ -1,4 +1,4 @@
--- The netlist of the lines, by the table of the variables' places.
+-- The netlist of the lines, by the signals of the variables.
 use Rattle.std.proofs.Common.{◌≡◌, ℕ, ◌+◌, ◌*◌, ◌/◌, ◌%◌, ◌==◌, ◌<◌, ◌^◌, Bool, true, false, List, [], ◌∷◌, ◌++◌, length, length-append, map, inl, inr, take, drop, get_or, All, Contains, if◌then◌else◌, refl, sym, ap, ap₂, subst, ◌∙◌, arith, append_assoc}
 use Rattle.std.specs.List.{position_or_len}
 use Rattle.std.proofs.lemmas.Bool.{ne_eqb, eqb-false, cases_lt}
@@ -42,13 +42,13 @@ by_test : (t : Bool) (a b : ℕ) → (t ≡ false → a ≡ b) → (if t then 0 
 by_test true a b same = refl
 by_test false a b same = same refl
 
--- a known literal has the same number by the table
+-- a known literal has the same number by the signals
 literal_is : (greatest : ℕ) (variables signals : List ℕ) (literal : ℕ) → IsNumbering greatest variables signals → IsKnown variables literal → lit_in signals literal ≡ literal_of variables literal
 literal_is greatest variables signals literal numbering is =
     let numbered : ℕ → Lit = λ n. record { 0 = 2 * n + literal % 2 } in
     ap numbered (by_test (literal / 2 == 0) (get_or signals (literal / 2) 0) (1 + position_or_len (λ w. w == literal / 2) variables) (λ e. place_is greatest variables signals (literal / 2) numbering (is (eqb-false (literal / 2) 0 e))))
 
--- the table has small places
+-- the signals are small
 pub places_small : (h : AigerHeader) (literals : Literals) (signals : List ℕ) → IsSound h literals signals → h.inputs + h.outputs + h.gates < 2 ^ 31 → All (λ place. place < 2 ^ 31) signals
 places_small h literals signals sound few v d below =
     let rows = rows_of literals in

@@ -1,6 +1,6 @@
 -- The names that the lines of the symbols give, a line at a time.
 use Rattle.std.proofs.Common.{◌≡◌, ℕ, List, [], ◌∷◌, ◌++◌, sym, refl, ◌∙◌, subst}
-use Rattle.aiger_reader.specs.Symbols.{Port, Entry, GiveNames, AddsName}
+use Rattle.aiger_reader.specs.Symbols.{Entry, GiveNames, AddsName}
 use Rattle.aiger_reader.proofs.SymbolLemmas.{gives_same}
 
 -- one line more

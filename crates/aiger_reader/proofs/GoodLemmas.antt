@@ -11,7 +11,7 @@ use Rattle.aiger_reader.specs.Headers.{AigerHeader}
 use Rattle.aiger_reader.specs.Bodies.{Role, Output, roles_of, role_at, defines, defined, body_lines, line_offset, first_of, Writes, IsGoodRow, AreGood, IsBodyFault}
 use Rattle.aiger_reader.specs.Reading.{IsAtLine, IsReading, IsWanted, IsRowOn, IsNextFault, IsNumbering, IsRowRead, next_line_of}
 use Rattle.aiger_reader.proofs.PlaceLemmas.{place_more, next_is, there, offset_is, body_ends, file_ends}
-use Rattle.aiger_reader.proofs.TableLemmas.{place_cases, table_more, distinct}
+use Rattle.aiger_reader.proofs.SignalLemmas.{place_cases, signals_more, distinct}
 
 -- what a line defines
 abbrev pub defined_by : Role → List ℕ → List ℕ
@@ -134,8 +134,8 @@ reading_definition bytes h rows p rest signals count width row reading next wide
     let v = first_of row / 2 in
     let before = defined (roles_of h) rows in
     let more : defined (roles_of h) (rows ++ row ∷ []) ≡ before ++ v ∷ [] = defined_more (roles_of h) rows row next.announced ∙ ap (λ t. before ++ (if t then v ∷ [] else [])) next.role in
-    let table = subst (λ n. IsNumbering h.variables (before ++ v ∷ []) (set signals v (n + 1))) (sym reading.counted) (table_more h.variables before signals v within free reading.numbered) in
-    let after : IsNumbering h.variables (defined (roles_of h) (rows ++ row ∷ [])) (set signals v (count + 1)) = subst (λ vs. IsNumbering h.variables vs (set signals v (count + 1))) (sym more) table in
+    let later = subst (λ n. IsNumbering h.variables (before ++ v ∷ []) (set signals v (n + 1))) (sym reading.counted) (signals_more h.variables before signals v within free reading.numbered) in
+    let after : IsNumbering h.variables (defined (roles_of h) (rows ++ row ∷ [])) (set signals v (count + 1)) = subst (λ vs. IsNumbering h.variables vs (set signals v (count + 1))) (sym more) later in
     record {
       good = good_more h (body_lines bytes) rows row width true next read.there wide read.on (distinct h.variables (defined (roles_of h) (rows ++ row ∷ [])) (set signals v (count + 1)) after) reading.good;
       left = subst (λ n. IsAtLine bytes n rest) (omega (arith, length-append rows (row ∷ []))) read.left;

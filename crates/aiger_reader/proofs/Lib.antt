@@ -2,7 +2,7 @@ pub mod ResultLemmas
 pub mod HeaderLemmas
 pub mod LiteralLemmas
 pub mod PlaceLemmas
-pub mod TableLemmas
+pub mod SignalLemmas
 pub mod GoodLemmas
 pub mod RoleLemmas
 pub mod ReadingLemmas

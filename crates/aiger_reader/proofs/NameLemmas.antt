@@ -1,4 +1,4 @@
--- The names of all ports, from the ports of those that are given.
+-- The names of all ports, from the slots of those that are given.
 use Rattle.std.proofs.Common.{◌≡◌, ℕ, List, [], length, get_or, Option, None, Some, refl, sym, ◌∙◌, subst, arith}
 use Rattle.circuits.specs.Literals.{EachAt}
 use Rattle.circuits.specs.declared.port.PortKind.{PortKind}

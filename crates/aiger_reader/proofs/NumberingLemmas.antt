@@ -1,7 +1,8 @@
--- What the lines read, by the table of the variables' places.
-use Rattle.std.proofs.Common.{◌≡◌, ◌≢◌, ℕ, ◌+◌, ◌-◌, ◌*◌, ◌/◌, ◌&&◌, ◌<◌, ◌≤◌, ◌⊎◌, Bool, true, false, List, [], ◌∷◌, ◌++◌, length, length-append, map, get_or, All, inl, inr, refl, sym, ap, subst, ◌∙◌, arith}
+-- What the lines read, by the signals of the variables.
+use Rattle.std.proofs.Common.{◌≡◌, ◌≢◌, ℕ, ◌+◌, ◌-◌, ◌*◌, ◌/◌, ◌<◌, ◌≤◌, ◌⊎◌, Bool, true, false, List, [], ◌∷◌, ◌++◌, length, length-append, map, get_or, All, inl, inr, refl, sym, ap, subst, ◌∙◌, arith}
 use Rattle.std.specs.List.{prefix_len}
 use Rattle.std.proofs.lemmas.Bool.{cases_lt}
+use Rattle.std.proofs.Math.Bool.{and-eq-true_iff}
 use Rattle.std.proofs.lemmas.Bool.Decides.{nat_tests}
 use Rattle.std.proofs.lemmas.List.{length-map, get_or-map, get_or-append-add, get_or_append_left}
 use Rattle.std.proofs.lemmas.List.Sums.{prefix_len_passes, prefix_len_stops}
@@ -12,7 +13,7 @@ use Rattle.aiger_reader.specs.Headers.{AigerHeader}
 use Rattle.aiger_reader.specs.Bodies.{Gate, roles_of, role_at, defined, reads, IsKnown, IsKnownRow}
 use Rattle.aiger_reader.specs.Reading.{row_of, rows_of, input_lines_of, gate_lines_of, IsNumbering}
 use Rattle.aiger_reader.specs.Numbered.{IsSound, has_place, have_places}
-use Rattle.aiger_reader.proofs.TableLemmas.{known}
+use Rattle.aiger_reader.proofs.SignalLemmas.{known}
 use Rattle.aiger_reader.proofs.RoleLemmas.{length-rows_of, input_role, output_role, gate_role, role_is}
 
 -- the row of an output, and of a gate
@@ -67,17 +68,6 @@ no_place_tells greatest variables signals literal numbering has is =
     let free : get_or signals (literal / 2) 0 ≡ 0 = grind (arith, nat_tests) in
     known greatest variables signals (literal / 2) numbering free (is some)
 
-both_tell : (a b : Bool) → (a && b) ≡ true → (a ≡ true) × (b ≡ true)
-both_tell true true e = (refl, refl)
-both_tell true false e = cc
-both_tell false true e = cc
-both_tell false false e = cc
-
-both_true : (a b : Bool) → a ≡ true → b ≡ true → (a && b) ≡ true
-both_true true true one other = refl
-both_true true false one other = cc
-both_true false b one other = cc
-
 bool_cases : (t : Bool) → (t ≡ true) ⊎ (t ≡ false)
 bool_cases true = inl refl
 bool_cases false = inr refl
@@ -115,7 +105,7 @@ gates_known h literals signals n m sound is all_outputs gates_is within k below 
           let place = k - (input_lines_of h + n) in
           let e : input_lines_of h + h.outputs + place ≡ k = omega (arith, sound.counts.outputs_read) in
           let line = get_or literals.gates.items place d in
-          let both = both_tell (has_place signals line.a) (has_place signals line.b) (prefix_len_passes (have_places signals) literals.gates.items place d (omega arith)) in
+          let both = (and-eq-true_iff (has_place signals line.a) (has_place signals line.b)).0 (prefix_len_passes (have_places signals) literals.gates.items place d (omega arith)) in
           let all = All-cons (IsKnown variables) line.a (line.b ∷ []) (place_tells h.variables variables signals line.a sound.numbered both.0) (All-cons (IsKnown variables) line.b [] (place_tells h.variables variables signals line.b sound.numbered both.1) (All-nil (IsKnown variables))) in
           subst (IsKnownRow h (rows_of literals)) e (subst (All (IsKnown variables)) (sym (gate_reads h literals signals place d sound (omega arith))) all)
     ]
@@ -135,10 +125,10 @@ gate_unknown h literals signals n m sound all_outputs gates_is below row =
     let all = subst (All (IsKnown variables)) (gate_reads h literals signals m d sound few) (subst (IsKnownRow h (rows_of literals)) e row) in
     let a = known_tells h.variables variables signals line.a sound.numbered (All-head (IsKnown variables) line.a (line.b ∷ []) all) in
     let b = known_tells h.variables variables signals line.b sound.numbered (All-head (IsKnown variables) line.b [] (All-tail (IsKnown variables) line.a (line.b ∷ []) all)) in
-    let clash : true ≡ false = sym (both_true (has_place signals line.a) (has_place signals line.b) a b) ∙ has in
+    let clash : true ≡ false = sym ((and-eq-true_iff (has_place signals line.a) (has_place signals line.b)).1 (a, b)) ∙ has in
     cc clash
 
--- the literals are of variables in the table
+-- the literals are of variables that have a signal or none
 pub outputs_small : (h : AigerHeader) (literals : Literals) (signals : List ℕ) (k d : ℕ) → IsSound h literals signals → k < length literals.outputs.items → get_or literals.outputs.items k d ≤ 2 * h.variables + 1
 outputs_small h literals signals k d sound below =
     let place = length literals.inputs.items + k in

@@ -1,9 +1,10 @@
 -- The position on a line of the symbols: it ends at the first blank.
-use Rattle.std.proofs.Common.{◌≡◌, ℕ, zero, suc, ◌+◌, ◌-◌, ◌<◌, ◌&&◌, Bool, true, false, List, [], ◌∷◌, ◌++◌, length, take, drop, get_or, Option, None, Some, Result, Ok, Err, IfOk, refl, sym, ap, ap₂, ◌∙◌, subst, append_assoc, arith}
+use Rattle.std.proofs.Common.{◌≡◌, ℕ, zero, suc, ◌+◌, ◌-◌, ◌<◌, true, false, List, [], ◌∷◌, ◌++◌, length, take, drop, get_or, Option, None, Some, Result, Ok, Err, IfOk, refl, sym, ap, ap₂, ◌∙◌, subst, append_assoc, arith}
 use Rattle.std.specs.Char.{is_ascii_digit}
 use Rattle.std.specs.Result.{result_ok}
 use Rattle.std.specs.Str.{all_ascii_digits}
 use Rattle.std.specs.Str.Parse.{digits_value}
+use Rattle.std.proofs.Math.Bool.{and-eq-true_iff}
 use Rattle.std.proofs.lemmas.Bool.Decides.{nat_tests}
 use Rattle.std.proofs.lemmas.List.{get_or_append_left, get_or_at, take_at, drop_at, take_rest, length-append}
 use Rattle.std.proofs.lemmas.List.Sums.{position_or_len_is, split_at_first, passes_at_first}
@@ -17,21 +18,17 @@ use Rattle.aiger_reader.specs.Symbols.{BeginsPosition}
 digit_not_blank : (byte : ℕ) → is_ascii_digit byte ≡ true → is_blank byte ≡ false
 digit_not_blank byte h = grind (arith, nat_tests)
 
-both_true : (a b : Bool) → (a && b) ≡ true → (a ≡ true) × (b ≡ true)
-both_true true b h = (refl, h)
-both_true false b h = cc
-
 digits_not_blank : (digits : List ℕ) → all_ascii_digits digits ≡ true → (k : ℕ) → k < length digits → is_blank (get_or digits k 0) ≡ false
 digits_not_blank [] h k below = absurd (omega arith)
 digits_not_blank (d ∷ ds) h zero below =
-    digit_not_blank d (both_true (is_ascii_digit d) (all_ascii_digits ds) h).0
+    digit_not_blank d ((and-eq-true_iff (is_ascii_digit d) (all_ascii_digits ds)).0 h).0
 digits_not_blank (d ∷ ds) h (suc k) below =
-    digits_not_blank ds (both_true (is_ascii_digit d) (all_ascii_digits ds) h).1 k (omega arith)
+    digits_not_blank ds ((and-eq-true_iff (is_ascii_digit d) (all_ascii_digits ds)).0 h).1 k (omega arith)
 
 number_not_blank : (digits : List ℕ) (n : ℕ) → number digits ≡ Some n → (k : ℕ) → k < length digits → is_blank (get_or digits k 0) ≡ false
 number_not_blank digits n h =
     let numeral = cond_some (is_numeral digits) (digits_value 10 digits) n h in
-    digits_not_blank digits (both_true (is_not_empty digits) (all_ascii_digits digits) numeral.0).1
+    digits_not_blank digits ((and-eq-true_iff (is_not_empty digits) (all_ascii_digits digits)).0 numeral.0).1
 
 word_before_blank : (digits tail : List ℕ) (blank : ℕ) → ((k : ℕ) → k < length digits → is_blank (get_or digits k 0) ≡ false) → is_blank blank ≡ true → word_length (digits ++ blank ∷ tail) ≡ length digits
 word_before_blank digits tail blank none is =

@@ -2,12 +2,9 @@
 use Rattle.std.proofs.Common.{ℕ, List}
 use Rattle.net_core.specs.declared.named.NetKind.{NetKind}
 use Rattle.net_core.specs.declared.named.NetKind.TheVariants as kind
-use Rattle.net_core.specs.declared.named.NetStop.{NetStop}
-use Rattle.net_core.specs.declared.named.NetStop.TheVariants.{Fault, Memory}
 use Rattle.aiger_reader.specs.declared.limits.Header.{Header}
 use Rattle.aiger_reader.specs.Bodies.{Role, IsGoodRow, AreGood, IsLineFault, IsBodyFault, IsBody}
 use Rattle.aiger_reader.specs.Numbers.{header_of}
-use Rattle.aiger_reader.specs.Reading.{IsStop}
 
 row_any : (header : Header) (ps qs : List ℕ) (role : Role) (row : List ℕ) → IsGoodRow (header_of header ps) role row → IsGoodRow (header_of header qs) role row
 row_any header ps qs role row good = record { in_range = good.in_range; plain = good.plain }
@@ -52,7 +49,7 @@ line_any bytes header ps qs rows kind.Redefined at why = (
 line_any bytes header ps qs rows kind.Truncated at why = why
 line_any bytes header ps qs rows other at why = absurd why
 
-fault_any : (bytes : List ℕ) (header : Header) (ps qs : List ℕ) (fault : NetKind) (at : ℕ) → IsBodyFault bytes (header_of header ps) fault at → IsBodyFault bytes (header_of header qs) fault at
+pub fault_any : (bytes : List ℕ) (header : Header) (ps qs : List ℕ) (fault : NetKind) (at : ℕ) → IsBodyFault bytes (header_of header ps) fault at → IsBodyFault bytes (header_of header qs) fault at
 fault_any bytes header ps qs fault at is =
     record {
       rows = is.rows;
@@ -60,7 +57,3 @@ fault_any bytes header ps qs fault at is =
       wanted_line = is.wanted_line;
       why = line_any bytes header ps qs is.rows fault at is.why;
     }
-
-pub stop_any : (bytes : List ℕ) (header : Header) (ps qs : List ℕ) (stop : NetStop) → IsStop bytes (header_of header ps) stop → IsStop bytes (header_of header qs) stop
-stop_any bytes header ps qs (Fault fault) is = fault_any bytes header ps qs fault.kind fault.at is
-stop_any bytes header ps qs Memory is = tt

@@ -19,9 +19,9 @@ width_some Output = omega arith
 width_some Gate = omega arith
 
 -- the same under other names
-pub reading_as : (bytes : List ℕ) (h : AigerHeader) (rows others : List (List ℕ)) (p : Piece) (signals table : List ℕ) (count number : ℕ) → rows ≡ others → signals ≡ table → count ≡ number → IsReading bytes h rows p signals count → IsReading bytes h others p table number
-reading_as bytes h rows others p signals table count number one two three reading =
-    subst (λ n. IsReading bytes h others p table n) three (subst (λ s. IsReading bytes h others p s count) two (subst (λ r. IsReading bytes h r p signals count) one reading))
+pub reading_as : (bytes : List ℕ) (h : AigerHeader) (rows others : List (List ℕ)) (p : Piece) (signals later : List ℕ) (count number : ℕ) → rows ≡ others → signals ≡ later → count ≡ number → IsReading bytes h rows p signals count → IsReading bytes h others p later number
+reading_as bytes h rows others p signals later count number one two three reading =
+    subst (λ n. IsReading bytes h others p later n) three (subst (λ s. IsReading bytes h others p s count) two (subst (λ r. IsReading bytes h r p signals count) one reading))
 
 pub input_line : (bytes : List ℕ) (h : AigerHeader) (old now new : Literals) (rest : Piece) (signals : List ℕ) (count : ℕ) (row : List ℕ) → now ≡ old → IsAtInput h old → length row ≡ 1 → IsReading bytes h (rows_of old ++ row ∷ []) rest signals count → new.inputs.items ≡ now.inputs.items ++ get_or row 0 0 ∷ [] → new.outputs.items ≡ now.outputs.items → new.gates.items ≡ now.gates.items → IsReading bytes h (rows_of new) rest signals count
 input_line bytes h old now new rest signals count row same next wide reading inputs outputs gates =
@@ -34,10 +34,10 @@ gate_line bytes h old now new rest signals count row same wide reading inputs ou
     let rows = rows_gate old new row wide (inputs ∙ ap (λ (l : Literals). l.inputs.items) same) (outputs ∙ ap (λ (l : Literals). l.outputs.items) same) (gates ∙ ap (λ (l : Literals). l.gates.items ++ gate ∷ []) same) in
     subst (λ r. IsReading bytes h r rest signals count) (sym rows) reading
 
-pub output_line : (bytes : List ℕ) (h : AigerHeader) (old now new : Literals) (p rest : Piece) (signals table : List ℕ) (count number : ℕ) (row : List ℕ) → now ≡ old → table ≡ signals → number ≡ count → IsAtOutput h old → length row ≡ 1 → IsReading bytes h (rows_of old) p signals count → IsRowRead bytes h (rows_of old) false row rest → new.inputs.items ≡ now.inputs.items → new.outputs.items ≡ now.outputs.items ++ get_or row 0 0 ∷ [] → new.gates.items ≡ now.gates.items → IsReading bytes h (rows_of new) rest table number
-output_line bytes h old now new p rest signals table count number row same tables numbers next wide reading read inputs outputs gates =
+pub output_line : (bytes : List ℕ) (h : AigerHeader) (old now new : Literals) (p rest : Piece) (signals later : List ℕ) (count number : ℕ) (row : List ℕ) → now ≡ old → later ≡ signals → number ≡ count → IsAtOutput h old → length row ≡ 1 → IsReading bytes h (rows_of old) p signals count → IsRowRead bytes h (rows_of old) false row rest → new.inputs.items ≡ now.inputs.items → new.outputs.items ≡ now.outputs.items ++ get_or row 0 0 ∷ [] → new.gates.items ≡ now.gates.items → IsReading bytes h (rows_of new) rest later number
+output_line bytes h old now new p rest signals later count number row same laters numbers next wide reading read inputs outputs gates =
     let rows = rows_output old new row wide (inputs ∙ ap (λ (l : Literals). l.inputs.items) same) (outputs ∙ ap (λ (l : Literals). l.outputs.items ++ get_or row 0 0 ∷ []) same) (gates ∙ ap (λ (l : Literals). l.gates.items) same) next.gates in
-    reading_as bytes h (rows_of old ++ row ∷ []) (rows_of new) rest signals table count number (sym rows) (sym tables) (sym numbers) (reading_output bytes h (rows_of old) p rest signals count 1 row reading (wanted_output h old next) wide read)
+    reading_as bytes h (rows_of old ++ row ∷ []) (rows_of new) rest signals later count number (sym rows) (sym laters) (sym numbers) (reading_output bytes h (rows_of old) p rest signals count 1 row reading (wanted_output h old next) wide read)
 
 -- zeros alone
 none_there : (n v : ℕ) → ◌≡◌ {A = ℕ} (get_or (replicate n 0) v 0) 0
@@ -46,8 +46,8 @@ none_there (suc n) zero = refl
 none_there (suc n) (suc v) = none_there n v
 
 -- behind the header no line of the body is read
-pub reading_first : (bytes : List ℕ) (h : AigerHeader) (p : Piece) (table : List ℕ) → p ≡ record { bytes = bytes; at = 0 } → table ≡ replicate (h.variables + 1) 0 → IsReading bytes h [] (after_line p) table 0
-reading_first bytes h p table start zeros =
+pub reading_first : (bytes : List ℕ) (h : AigerHeader) (p : Piece) (later : List ℕ) → p ≡ record { bytes = bytes; at = 0 } → later ≡ replicate (h.variables + 1) 0 → IsReading bytes h [] (after_line p) later 0
+reading_first bytes h p later start zeros =
     let none : defined (roles_of h) [] ≡ [] = defined_none (roles_of h) in
     let count : length (defined (roles_of h) []) ≡ 0 = ap length none in
     record {

@@ -1,5 +1,5 @@
 -- What the result of a call says of the same result with another error.
-use Rattle.std.proofs.Common.{◌≡◌, Result, Ok, Err, IfOk, IfErr, OnOk, sym, subst, ◌∙◌}
+use Rattle.std.proofs.Common.{◌≡◌, Result, Ok, Err, IfOk, IfErr, OnOk, IsErrOf, sym, subst}
 use Rattle.std.specs.Result.{MatchResult, IsErrAnd}
 
 -- s is r with an error that is made of r's
@@ -38,3 +38,12 @@ on_ok_three (Err e) A B C D all a b c = tt
 pub err_both : {T E : Type 0} (r : Result T E) (P Q : E → Type 0) → IfErr r P → IfErr r Q → IfErr r (λ e. P e × Q e)
 err_both (Ok x) P Q p q = tt
 err_both (Err e) P Q p q = (p, q)
+
+-- a fact of one outcome
+pub on_ok : {T E : Type 0} (r : Result T E) (x : T) (P : Type 0) → r ≡ Ok x → OnOk r P → P
+on_ok (Ok y) x P is p = p
+on_ok (Err e) x P is p = cc
+
+pub err_of : {T E : Type 0} (r : Result T E) (e : E) (P : Type 0) → (IsErrOf r e → P) → IfErr r (λ d. d ≡ e → P)
+err_of (Ok x) e P is = tt
+err_of (Err d) e P is = λ same. is (cc)

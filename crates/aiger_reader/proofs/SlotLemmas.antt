@@ -1,4 +1,4 @@
--- The ports of the names that are given so far, when one more is given.
+-- The slots of the ports, when one more name is given.
 use Rattle.std.proofs.Common.{◌≡◌, ◌≢◌, ℕ, zero, suc, ◌<◌, ◌⊎◌, List, [], ◌∷◌, ◌++◌, length, get_or, set, All, Option, None, Some, inl, inr, refl, sym, ap, ◌∙◌, subst, arith}
 use Rattle.std.proofs.lemmas.List.{get_or_append_left, get_or_push, get_or-set_same, get_or-set_other, length_push, length-set}
 use Rattle.std.proofs.lemmas.List.Elements.{All-nil, All-cons, All-push}
@@ -41,7 +41,7 @@ given_now entries port name none = record {
   ];
 }
 
--- a free port has nothing in the slots
+-- a free port has nothing in its slot
 free_slot : (entries : List Entry) (port : Port) (o : Option (List ℕ)) → IsGiven entries port o → All (λ old. old.0 ≢ port) entries → o ≡ None
 free_slot entries port None given free = refl
 free_slot entries port (Some name) given free =

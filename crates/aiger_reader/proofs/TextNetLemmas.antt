@@ -6,12 +6,10 @@ use Rattle.std.proofs.lemmas.Grind.{get_or_after_one}
 use Rattle.std.proofs.lemmas.List.{length-map, get_or_default, get_or_past, get_or-drop, get_or-take}
 use Rattle.std.proofs.lemmas.List.Elements.{All-nil, All-cons, All-map}
 use Rattle.std.proofs.lemmas.List.Sums.{fails_before_first}
-use Rattle.circuits.specs.declared.definition.Def.{Def}
-use Rattle.circuits.specs.declared.definition.Def.TheVariants.{And}
 use Rattle.circuits.specs.Literals.{signal_of}
 use Rattle.circuits.specs.Circuits.{HasWideRows, IsClosed, named_by, signals_in}
 use Rattle.aiger_reader.specs.Headers.{AigerHeader}
-use Rattle.aiger_reader.specs.Bodies.{Role, Input, Output, Gate, roles_of, role_at, defines, defined, first_of, reads, IsKnown, IsKnownRow, literal_of, text_circuit}
+use Rattle.aiger_reader.specs.Bodies.{Role, Input, Output, Gate, roles_of, role_at, defines, defined, first_of, reads, IsKnown, IsKnownRow, literal_of, and_on, text_circuit}
 use Rattle.aiger_reader.specs.Reading.{input_lines_of, gate_lines_of}
 use Rattle.aiger_reader.proofs.CircuitLemmas.{same_test}
 use Rattle.aiger_reader.proofs.RoleLemmas.{length-roles_of, role_is, output_role, gate_role}
@@ -80,10 +78,6 @@ known_there : (variables : List ℕ) (n literal : ℕ) → length variables ≤ 
 known_there variables n literal few is =
     signal_below (literal / 2 == 0) (1 + position_or_len (λ w. w == literal / 2) variables) (literal % 2) n (omega arith) (λ e. let there = place_there variables (literal / 2) (is (eqb-false (literal / 2) 0 e)) in omega (arith, there, few))
 
--- the definition of a gate's line
-abbrev and_row : List ℕ → List ℕ → Def
-and_row variables row = And (literal_of variables (get_or row 1 0)) (literal_of variables (get_or row 2 0))
-
 -- what stands on a known row is known, and so is 0 past its end
 known_at : (variables row : List ℕ) (k : ℕ) → All (IsKnown variables) row → IsKnown variables (get_or row k 0)
 known_at variables row k all =
@@ -127,7 +121,7 @@ operand_known h rows k p d text count known few =
     subst (IsKnown variables) (sym (ap (λ r. get_or r (1 + p) 0) row ∙ sym (get_or_after_one (get_or rows line []) p 0))) at
 
 -- both operands of a definition are there
-both_there : (below : ℕ → Type 0) (variables row : List ℕ) → below (signal_of (literal_of variables (get_or row 1 0))) → below (signal_of (literal_of variables (get_or row 2 0))) → All below (named_by (and_row variables row))
+both_there : (below : ℕ → Type 0) (variables row : List ℕ) → below (signal_of (literal_of variables (get_or row 1 0))) → below (signal_of (literal_of variables (get_or row 2 0))) → All below (named_by (and_on variables row))
 both_there below variables row a b =
     let other = signal_of (literal_of variables (get_or row 2 0)) in
     All-cons below (signal_of (literal_of variables (get_or row 1 0))) (other ∷ []) a (All-cons below other [] b (All-nil below))
@@ -141,9 +135,9 @@ text_closed h rows text whole known =
     let outs = take h.outputs (drop h.inputs rows) in
     let gates : length lines ≡ h.gates = omega (arith, length-drop (h.inputs + h.outputs) rows, count) in
     let below : ℕ → Type 0 = λ s. s < signals_in (text_circuit h rows) in
-    let there : (literal : ℕ) → IsKnown variables literal → below (signal_of (literal_of variables literal)) = λ literal is. omega (arith, known_there variables (h.inputs + h.gates) literal (defined_within h rows) is, length-map lines (and_row variables), gates) in
+    let there : (literal : ℕ) → IsKnown variables literal → below (signal_of (literal_of variables literal)) = λ literal is. omega (arith, known_there variables (h.inputs + h.gates) literal (defined_within h rows) is, length-map lines (and_on variables), gates) in
     record {
-      defs = All-map (λ def. All below (named_by def)) (and_row variables) lines (λ k d here. both_there below variables (get_or lines k d) (there _ (operand_known h rows k 0 d text count known (omega (arith, gates)))) (there _ (operand_known h rows k 1 d text count known (omega (arith, gates)))));
-      rows = All-map HasWideRows (and_row variables) lines (λ k d here. tt);
+      defs = All-map (λ def. All below (named_by def)) (and_on variables) lines (λ k d here. both_there below variables (get_or lines k d) (there _ (operand_known h rows k 0 d text count known (omega (arith, gates)))) (there _ (operand_known h rows k 1 d text count known (omega (arith, gates)))));
+      rows = All-map HasWideRows (and_on variables) lines (λ k d here. tt);
       outputs = All-map (λ output. below (signal_of output)) (λ row. literal_of variables (first_of row)) outs (λ k d here. there _ (output_known h rows k d text count known (omega (arith, length-take h.outputs (drop h.inputs rows)))));
     }

@@ -23,6 +23,7 @@ use Rattle.aiger_reader.specs.Reading.{rows_of, input_lines_of, gate_lines_of, I
 use Rattle.aiger_reader.specs.Aiger.{IsOfForm, IsNetlist, IsLinesFault, IsGatesFault, IsUndefinedFault, IsNamesFault, IsAigerFault}
 use Rattle.aiger_reader.specs.Symbols.{IsSymbolFault}
 use Rattle.aiger_reader.specs.Assembly.{IsBegun, AreLinesRead, IsNetOf, ArePairsBelow, IsBinaryBody}
+use Rattle.aiger_reader.proofs.PropertyLemmas.{fault_any}
 use Rattle.aiger_reader.proofs.RoleLemmas.{length-rows_of, length-roles_of}
 use Rattle.aiger_reader.proofs.NumberingLemmas.{outputs_small}
 use Rattle.aiger_reader.proofs.PairLemmas.{file_fault, file_gates}
@@ -40,12 +41,12 @@ end_is bytes k p at =
     omega (arith, at.offset, ap length at.rest, length-drop p.at bytes)
 
 -- a fault of the lines is the file's
-pub lines_fault : (bytes : List ℕ) (header : Header) (fault : NetFault) → IsBegun bytes header → ((properties : List ℕ) → IsBodyFault bytes (header_of header properties) fault.kind fault.at) → IsAigerFault bytes fault.kind fault.at
+pub lines_fault : (bytes : List ℕ) (header : Header) (fault : NetFault) → IsBegun bytes header → IsBodyFault bytes (header_of header []) fault.kind fault.at → IsAigerFault bytes fault.kind fault.at
 lines_fault bytes header fault begun why =
     let found : IsLinesFault bytes fault.kind fault.at = record {
       h = header_of header begun.0;
       begins = begun.1;
-      why = why begun.0;
+      why = fault_any bytes header [] begun.0 fault.kind fault.at why;
     } in
     inr (inl found)
 

@@ -13,13 +13,15 @@ use Rattle.aiger_reader.specs.Numbers.{IsHeaderFault}
 use Rattle.aiger_reader.specs.Symbols.{AreNames, IsSymbolFault}
 
 -- The ASCII form: its lines read only what some line defines, and give this netlist; the rest stands behind them.
-pub record IsText (bytes : List ℕ) (h : AigerHeader) (rows : List (List ℕ)) (circuit : Circuit) (rest : List ℕ) : Type 0 where
+pub record IsText (bytes : List ℕ) (h : AigerHeader) (rows : List (List ℕ)) (circuit : Circuit) (rest : List ℕ)
+    : Type 0 where
   pub known : (k : ℕ) → k < length rows → IsKnownRow h rows k
   pub same : circuit ≡ text_circuit h rows
   pub behind : rest ≡ drop (line_offset bytes (1 + length rows)) bytes
 
 -- The binary form: the deltas of all gates are good, and with the outputs' lines give this netlist.
-pub record IsBinary (bytes : List ℕ) (h : AigerHeader) (rows : List (List ℕ)) (circuit : Circuit) (rest : List ℕ) : Type 0 where
+pub record IsBinary (bytes : List ℕ) (h : AigerHeader) (rows : List (List ℕ)) (circuit : Circuit) (rest : List ℕ)
+    : Type 0 where
   pub gates : List (ℕ × ℕ)
   pub read : AreGates bytes h gates rest
   pub same : circuit ≡ binary_circuit h rows gates
@@ -43,17 +45,17 @@ pub record IsAiger (bytes : List ℕ) (circuit : Circuit) (input_names output_na
   pub acyclic : IsAcyclic circuit
   pub names : AreNames h.inputs h.outputs rest input_names output_names
 
--- A file was read as this graph with these names of its ports: the graph computes the netlist that the file is. Its gates
--- are taken by level, then by place, since accounts name gates by their numbers.
+-- A file was read as this graph with these names of its ports: the graph computes the netlist that the file is. Its
+-- gates are taken by level, then by place, since accounts name gates by their numbers.
 pub record ReadAs (bytes : List ℕ) (graph : Net) (input_names output_names : List (List ℕ)) : Type 0 where
   pub circuit : Circuit
   pub is : IsAiger bytes circuit input_names output_names
   pub computes : Computes graph circuit
   pub numbered : IsOrderOf circuit graph
 
--- The first fault that the file has, by the place where it is found: the header, whose faults stand at 0; the lines; the
--- gates of the binary form; variables that no line defines; cycles, at the line of the first definition without a level;
--- and symbols.
+-- The first fault that the file has, by the place where it is found: the header, whose faults stand at 0; the lines;
+-- the gates of the binary form; variables that no line defines; cycles, at the line of the first definition without a
+-- level; and symbols.
 pub record IsLinesFault (bytes : List ℕ) (fault : NetKind) (at : ℕ) : Type 0 where
   pub h : AigerHeader
   pub begins : Begins bytes h
@@ -99,4 +101,10 @@ pub record IsNamesFault (bytes : List ℕ) (fault : NetKind) (at : ℕ) : Type 0
   pub why : IsSymbolFault h.inputs h.outputs base rest at
 
 abbrev pub IsAigerFault : List ℕ → NetKind → ℕ → Type 0
-IsAigerFault bytes fault at = (IsHeaderFault bytes fault × (at ≡ 0)) ⊎ IsLinesFault bytes fault at ⊎ IsGatesFault bytes fault at ⊎ IsUndefinedFault bytes fault at ⊎ IsCycleFault bytes fault at ⊎ IsNamesFault bytes fault at
+IsAigerFault bytes fault at =
+    (IsHeaderFault bytes fault × (at ≡ 0))
+    ⊎ IsLinesFault bytes fault at
+    ⊎ IsGatesFault bytes fault at
+    ⊎ IsUndefinedFault bytes fault at
+    ⊎ IsCycleFault bytes fault at
+    ⊎ IsNamesFault bytes fault at

@@ -17,7 +17,8 @@ abbrev pub IsBegun : List ℕ → Header → Type 0
 IsBegun bytes header = (properties : List ℕ) × Begins bytes (header_of header properties)
 
 -- All lines behind the header are read, and the piece is what is left behind them.
-pub record AreLinesRead (bytes : List ℕ) (header : Header) (literals : Literals) (signals : List ℕ) (rest : Piece) : Type 0 where
+pub record AreLinesRead (bytes : List ℕ) (header : Header) (literals : Literals) (signals : List ℕ) (rest : Piece)
+    : Type 0 where
   pub body : (properties : List ℕ) → IsBody bytes (header_of header properties) (rows_of literals)
   pub sound : IsSound (header_of header []) literals signals
   pub left : IsAtLine bytes (length (rows_of literals) + 1) rest

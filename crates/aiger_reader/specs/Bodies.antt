@@ -1,9 +1,10 @@
--- The lines behind the header of an AIGER file (AIGER 1.9): inputs, outputs and AND gates of the ASCII form, whose gates
--- may stand in any order; of the binary form only the outputs.
+-- The lines behind the header of an AIGER file (AIGER 1.9): inputs, outputs and AND gates of the ASCII form, whose
+-- gates may stand in any order; of the binary form only the outputs.
 use Rattle.std.specs.Prelude.{◌≡◌, ◌≢◌, ℕ, ◌+◌, ◌*◌, ◌/◌, ◌%◌, ◌<◌, ◌≤◌, ◌==◌, Bool, true, false, IsTrue, List, [], ◌∷◌, ◌++◌, length, map, take, drop, All, AllPairs, Contains, Some, slice_index_or, replicate, if◌then◌else◌}
 use Rattle.std.specs.List.{position_or_len}
 use Rattle.text_core.specs.Lines.{lines, text_of_lines}
 use Rattle.circuits.specs.declared.netlist.Lit.{Lit}
+use Rattle.circuits.specs.declared.definition.Def.{Def}
 use Rattle.circuits.specs.declared.definition.Def.TheVariants.{And}
 use Rattle.circuits.specs.Circuits.{Circuit}
 use Rattle.net_core.specs.declared.named.NetKind.{NetKind}
@@ -19,7 +20,10 @@ pub data Role : Type 0 where
 
 -- the lines that a header announces
 abbrev pub roles_of : AigerHeader → List Role
-roles_of h = (if h.binary then [] else replicate h.inputs Input) ++ replicate h.outputs Output ++ (if h.binary then [] else replicate h.gates Gate)
+roles_of h =
+    (if h.binary then [] else replicate h.inputs Input)
+    ++ replicate h.outputs Output
+    ++ (if h.binary then [] else replicate h.gates Gate)
 
 abbrev pub role_at : AigerHeader → ℕ → Role
 role_at h k = slice_index_or (roles_of h) k Output
@@ -91,9 +95,12 @@ pub record IsRedefined (h : AigerHeader) (body rows : List (List ℕ)) : Type 0 
 
 -- how the line behind the good ones is refused, and where: at its first byte, or at the file's end where it is missing
 abbrev pub IsLineFault : List ℕ → AigerHeader → List (List ℕ) → NetKind → ℕ → Type 0
-IsLineFault bytes h rows kind.BadLine at = IsBadLine h (body_lines bytes) rows × (at ≡ line_offset bytes (length rows + 1))
-IsLineFault bytes h rows kind.BadLiteral at = IsBadLiteral h (body_lines bytes) rows × (at ≡ line_offset bytes (length rows + 1))
-IsLineFault bytes h rows kind.Redefined at = IsRedefined h (body_lines bytes) rows × (at ≡ line_offset bytes (length rows + 1))
+IsLineFault bytes h rows kind.BadLine at =
+    IsBadLine h (body_lines bytes) rows × (at ≡ line_offset bytes (length rows + 1))
+IsLineFault bytes h rows kind.BadLiteral at =
+    IsBadLiteral h (body_lines bytes) rows × (at ≡ line_offset bytes (length rows + 1))
+IsLineFault bytes h rows kind.Redefined at =
+    IsRedefined h (body_lines bytes) rows × (at ≡ line_offset bytes (length rows + 1))
 IsLineFault bytes h rows kind.Truncated at = (length (body_lines bytes) ≡ length rows) × (at ≡ length bytes)
 IsLineFault bytes h rows other at = ⊥
 
@@ -140,12 +147,17 @@ abbrev pub literal_of : List ℕ → ℕ → Lit
 literal_of variables literal =
     lit_from (2 * (if literal / 2 == 0 then 0 else 1 + position_or_len (λ v. v == literal / 2) variables) + literal % 2)
 
+-- the definition that a gate's line gives
+abbrev pub and_on : List ℕ → List ℕ → Def
+and_on variables row =
+    And (literal_of variables (slice_index_or row 1 0)) (literal_of variables (slice_index_or row 2 0))
+
 -- the netlist of the ASCII form's body
 abbrev pub text_circuit : AigerHeader → List (List ℕ) → Circuit
 text_circuit h rows =
     let variables = defined (roles_of h) rows in
     record {
       inputs = h.inputs;
-      defs = map (λ row. And (literal_of variables (slice_index_or row 1 0)) (literal_of variables (slice_index_or row 2 0))) (drop (h.inputs + h.outputs) rows);
+      defs = map (and_on variables) (drop (h.inputs + h.outputs) rows);
       outputs = map (λ row. literal_of variables (first_of row)) (take h.outputs (drop h.inputs rows));
     }

@@ -6,12 +6,13 @@ use Rattle.circuits.specs.Circuits.{Circuit}
 use Rattle.aiger_reader.specs.Headers.{AigerHeader}
 use Rattle.aiger_reader.specs.Bodies.{line_offset, first_of, lit_from}
 
--- The last byte of a number is below 128 and stands for itself. One from 128 on has the low seven bits, and the bytes after
--- it stand for the rest.
+-- The last byte of a number is below 128 and stands for itself. One from 128 on has the low seven bits, and the bytes
+-- after it stand for the rest.
 abbrev pub IsInGroups : List ℕ → ℕ → Type 0
 IsInGroups [] n = ⊥
 IsInGroups (byte ∷ []) n = (byte < 128) × (n ≡ byte)
-IsInGroups (byte ∷ next ∷ bytes) n = (128 ≤ byte) × (high : ℕ) × (n ≡ byte - 128 + 128 * high) × IsInGroups (next ∷ bytes) high
+IsInGroups (byte ∷ next ∷ bytes) n =
+    (128 ≤ byte) × (high : ℕ) × (n ≡ byte - 128 + 128 * high) × IsInGroups (next ∷ bytes) high
 
 -- The bytes begin with a number of at most so many groups.
 pub record BeginsGroups (most : ℕ) (bytes : List ℕ) (n : ℕ) (rest : List ℕ) : Type 0 where
@@ -43,7 +44,11 @@ pub record BeginsSecond (a : ℕ) (bytes : List ℕ) (b : ℕ) (rest : List ℕ)
 -- the bytes begin with the gates whose variables begin at `variable`
 abbrev pub BeginsGates : ℕ → List ℕ → List (ℕ × ℕ) → List ℕ → Type 0
 BeginsGates variable bytes [] rest = bytes ≡ rest
-BeginsGates variable bytes (gate ∷ gates) rest = (middle behind : List ℕ) × BeginsFirst (2 * variable) bytes gate.0 middle × BeginsSecond gate.0 middle gate.1 behind × BeginsGates (variable + 1) behind gates rest
+BeginsGates variable bytes (gate ∷ gates) rest =
+    (middle behind : List ℕ)
+    × BeginsFirst (2 * variable) bytes gate.0 middle
+    × BeginsSecond gate.0 middle gate.1 behind
+    × BeginsGates (variable + 1) behind gates rest
 
 -- what stands behind the header's line and the outputs' lines
 abbrev pub behind_outputs : List ℕ → AigerHeader → List ℕ
@@ -58,7 +63,10 @@ pub record AreGates (bytes : List ℕ) (h : AigerHeader) (gates : List (ℕ × �
 abbrev pub IsBadPair : ℕ → List ℕ → ℕ → ℕ → Type 0
 IsBadPair literal bytes total at =
     (((a : ℕ) (rest : List ℕ) → BeginsFirst literal bytes a rest → ⊥) × (at + length bytes ≡ total))
-    ⊎ ((a : ℕ) × (middle : List ℕ) × BeginsFirst literal bytes a middle × ((b : ℕ) (rest : List ℕ) → BeginsSecond a middle b rest → ⊥) × (at + length middle ≡ total))
+    ⊎ ((a : ℕ) × (middle : List ℕ)
+    × BeginsFirst literal bytes a middle
+    × ((b : ℕ) (rest : List ℕ) → BeginsSecond a middle b rest → ⊥)
+    × (at + length middle ≡ total))
 
 -- Fewer than `count` gates, whose variables begin at `variable`, stand at the front of the bytes, and the pair behind
 -- them is bad. The file ends at the offset `total`.

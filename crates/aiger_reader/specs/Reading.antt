@@ -20,7 +20,9 @@ row_of line = line.lhs ∷ line.a ∷ line.b ∷ []
 -- the rows of the lines that are read: inputs, outputs and gates
 abbrev pub rows_of : Literals → List (List ℕ)
 rows_of literals =
-    map (λ literal. literal ∷ []) literals.inputs.items ++ map (λ literal. literal ∷ []) literals.outputs.items ++ map row_of literals.gates.items
+    map (λ literal. literal ∷ []) literals.inputs.items
+    ++ map (λ literal. literal ∷ []) literals.outputs.items
+    ++ map row_of literals.gates.items
 
 -- how many lines of inputs and of gates there are: none in the binary form
 abbrev pub input_lines_of : AigerHeader → ℕ
@@ -35,15 +37,16 @@ pub record IsAtLine (bytes : List ℕ) (k : ℕ) (p : Piece) : Type 0 where
   pub rest : p.bytes ≡ drop p.at bytes
   pub offset : p.at ≡ min (line_offset bytes k) (length bytes)
 
--- The table has for each variable its place among those that are defined, counted from 1, and 0 where it isn't one.
+-- The signal of a variable is its place among those that are defined, counted from 1, and 0 where it isn't one.
 pub record IsNumbering (greatest : ℕ) (variables signals : List ℕ) : Type 0 where
   pub entries : length signals ≡ greatest + 1
   pub places : (k : ℕ) → k < length variables → slice_index_or signals (slice_index_or variables k 0) 0 ≡ k + 1
   pub others : (v : ℕ) → 0 < slice_index_or signals v 0 → Contains variables v
 
--- The rows are those of good lines, the first of the body; the piece is what is left behind them, and the table and the
--- count are of the variables that they define.
-pub record IsReading (bytes : List ℕ) (h : AigerHeader) (rows : List (List ℕ)) (rest : Piece) (signals : List ℕ) (count : ℕ) : Type 0 where
+-- The rows are those of good lines, the first of the body; the piece is what is left behind them, and the signals and
+-- the count are of the variables that they define.
+pub record IsReading (bytes : List ℕ) (h : AigerHeader) (rows : List (List ℕ)) (rest : Piece) (signals : List ℕ)
+    (count : ℕ) : Type 0 where
   pub good : AreGood h (body_lines bytes) rows
   pub left : IsAtLine bytes (length rows + 1) rest
   pub numbered : IsNumbering h.variables (defined (roles_of h) rows) signals
@@ -109,10 +112,12 @@ IsRowFault line greatest defining width other = ⊥
 -- what is wrong with the next line, or that there is none
 abbrev pub IsNextFault : Piece → ℕ → Bool → ℕ → NetKind → Type 0
 IsNextFault p greatest defining width kind.Truncated = lines p.bytes ≡ []
-IsNextFault p greatest defining width fault = (0 < length p.bytes) × IsRowFault (next_line_of p) greatest defining width fault
+IsNextFault p greatest defining width fault =
+    (0 < length p.bytes) × IsRowFault (next_line_of p) greatest defining width fault
 
 -- The next line of the body writes this row, and the piece is what is left behind it.
-pub record IsRowRead (bytes : List ℕ) (h : AigerHeader) (rows : List (List ℕ)) (defining : Bool) (row : List ℕ) (rest : Piece) : Type 0 where
+pub record IsRowRead (bytes : List ℕ) (h : AigerHeader) (rows : List (List ℕ)) (defining : Bool) (row : List ℕ)
+    (rest : Piece) : Type 0 where
   pub there : length rows < length (body_lines bytes)
   pub on : IsRowOn (slice_index_or (body_lines bytes) (length rows) []) (2 * h.variables + 1) defining row
   pub left : IsAtLine bytes (length rows + 1 + 1) rest

@@ -1,5 +1,5 @@
 -- The symbols behind the body of an AIGER file (AIGER 1.9): a line for each port that has a name, then a comment.
-use Rattle.std.specs.Prelude.{◌≡◌, ◌≢◌, ℕ, ◌+◌, ◌<◌, ◌⊎◌, ◌==◌, Bool, true, false, not, List, [], ◌∷◌, ◌++◌, length, take, All, Option, None, Some, slice_index_or, slice_set, take_while, if◌then◌else◌}
+use Rattle.std.specs.Prelude.{◌≡◌, ◌≢◌, ℕ, ◌+◌, ◌<◌, ◌⊎◌, ◌==◌, Bool, true, not, List, [], ◌∷◌, ◌++◌, length, take, All, Option, None, Some, slice_index_or, slice_set, take_while}
 use Rattle.std.specs.Fmt.{decimal}
 use Rattle.circuits.specs.Literals.{EachAt}
 use Rattle.circuits.specs.declared.port.PortKind.{PortKind}
@@ -106,19 +106,19 @@ IsGiven entries port (Some name) = IsNamed entries port name
 abbrev pub AreSlots : List Entry → PortKind → List (Option (List ℕ)) → Type 0
 AreSlots entries kind slots = EachAt (λ position given. IsGiven entries (port_at kind position) given) slots
 
--- The ports of the inputs and of the outputs have these names.
+-- The slots of the inputs and of the outputs have what these entries give.
 pub record ArePortSlots (entries : List Entry) (inputs outputs : List (Option (List ℕ))) : Type 0 where
   pub input_slots : AreSlots entries Input inputs
   pub output_slots : AreSlots entries Output outputs
 
--- The name stands at its position in the new slots, where the old one had none; all else is as it was.
+-- The name stands in its slot, where none stood before; all other slots are as they were.
 pub record Puts (old : List (Option (List ℕ))) (position : ℕ) (name : List ℕ) (new : List (Option (List ℕ)))
     : Type 0 where
   pub there : position < length old
   pub free : (d : Option (List ℕ)) → slice_index_or old position d ≡ None
   pub put : new ≡ slice_set old position (Some name)
 
--- the name of a port for which the slots has this
+-- the name of a port whose slot has this
 abbrev pub name_or : Port → Option (List ℕ) → List ℕ
 name_or port None = letter_of port.kind ∷ decimal port.position
 name_or port (Some name) = name

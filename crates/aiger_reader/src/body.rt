@@ -219,20 +219,6 @@ pub(crate) fn read_body<'a>(
     input: &'a [u8],
     header: Header,
 ) -> Result<Body<'a>, NetStop>
-    ensures body { IfOk result (λ body. (properties : List ℕ)
-        → IsBody input.now (header_of header properties) (rows_of body.literals)) }
-    ensures sound { IfOk result (λ body.
-        IsSound (header_of header []) body.literals body.signals.items) }
-    ensures rest { IfOk result (λ body.
-        IsAtLine input.now (length (rows_of body.literals) + 1) body.rest) }
-    ensures stop { IfErr result (λ stop. (properties : List ℕ)
-        → IsStop input.now (header_of header properties) stop) }
-{
-    read_lines(alloc, input, header)
-}
-
-// Reads the lines of the body.
-fn read_lines<'a>(alloc: Global, input: &'a [u8], header: Header) -> Result<Body<'a>, NetStop>
     ensures body { IfOk result (λ body.
         IsBody input.now (header_of header []) (rows_of body.literals)) }
     ensures sound { IfOk result (λ body.

@@ -48,6 +48,7 @@ impl Numbers {
             → self.now.has_property ≡ list_any (nat_lt 0) properties
             → header_fault (header_from binary self.now properties) ≡ Some fault) }
     {
+        // what sort of circuit it is comes before how large it is, as the kinds of faults are numbered
         if self.latches > 0 {
             return Err(NetKind::Sequential);
         }

@@ -12,7 +12,8 @@ pub(crate) const MOST_OUTPUTS: u32 = 1024;
 /// The most gates that are accepted.
 pub(crate) const MOST_GATES: u32 = 1_000_000;
 
-/// The greatest variable that is accepted.
+/// The greatest variable that is accepted. The ASCII form may leave gaps among its variables, and a number is kept
+/// for each, defined or not: this bounds the memory that a short file can ask for.
 pub(crate) const MOST_VARIABLES: u32 = 4_000_000;
 
 /// What a file announces in a header that is accepted: its form, the greatest variable, and how many inputs,

@@ -64,6 +64,7 @@ fn read_literals(
     ensures row { OnOk result (IsRowOn line.old.bytes greatest defining row.new) }
     ensures fault { IfErr result (IsRowFault line.old.bytes greatest defining (length row.old)) }
 {
+    // one above the greatest: a number that is too large, even for 64 bits, is a bad literal and no bad line
     let Some(()) = read_capped(line, row, greatest + 1) else {
         return Err(NetKind::BadLine);
     };

@@ -53,6 +53,23 @@ impl From<AllocError> for SymbolStop {
     }
 }
 
+impl SymbolStop {
+    // The reader's stop, for a line that stands at this offset.
+    fn at(self, at: u64) -> NetStop
+        ensures bad { self ≡ SymbolStop.Bad
+            → result ≡ NetStop.Fault (record { kind = NetKind.BadSymbol; at = at }) }
+        ensures memory { self ≡ SymbolStop.Memory → result ≡ NetStop.Memory }
+    {
+        match self {
+            SymbolStop::Bad => NetStop::Fault(NetFault {
+                kind: NetKind::BadSymbol,
+                at,
+            }),
+            SymbolStop::Memory => NetStop::Memory,
+        }
+    }
+}
+
 // Whether a line opens the comment.
 fn opens_comment(line: &[u8]) -> bool
     ensures { result ≡ is_comment line.now }
@@ -209,16 +226,7 @@ fn read_lines(alloc: Global, cursor: &mut Cursor<'_>, ports: &mut PortSlots) -> 
             return Ok(());
         }
         let at = line.at();
-        match add_symbol(alloc, line, ports) {
-            Ok(()) => {}
-            Err(SymbolStop::Bad) => {
-                return Err(NetStop::Fault(NetFault {
-                    kind: NetKind::BadSymbol,
-                    at,
-                }));
-            }
-            Err(SymbolStop::Memory) => return Err(NetStop::Memory),
-        }
+        add_symbol(alloc, line, ports).map_err(|stop| stop.at(at))?;
     }
     Ok(())
 }

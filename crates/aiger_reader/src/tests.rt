@@ -7,12 +7,8 @@ use std::test::Fail;
 fn joined(alloc: Global, names: &Items<Name>) -> Result<Vec<u8>, NetStop> {
     let mut text = Vec::new(alloc);
     for name in names.iter() {
-        if text.extend_from_slice(name.as_slice()).is_err() {
-            return Err(NetStop::Memory);
-        }
-        if text.push(b',').is_err() {
-            return Err(NetStop::Memory);
-        }
+        text.extend_from_slice(name.as_slice())?;
+        text.push(b',')?;
     }
     Ok(text)
 }
@@ -138,33 +134,37 @@ fn reads_netlists(rt: HostRuntime) -> Result<(), Fail> {
     Ok(())
 }
 
+// A file, and the names of its inputs and of its outputs.
+type Names = (&'static [u8], &'static [u8], &'static [u8]);
+
+const NAMES: [Names; 7] = [
+    // a name with a blank, and a comment
+    (
+        b"aag 1 1 0 1 0\n2\n2\ni0 in put\no0 q\nc\nx",
+        b"in put,",
+        b"q,",
+    ),
+    // a name that begins with a blank; of two carriage returns at the end only the last goes
+    (b"aag 1 1 0 1 0\n2\n2\ni0  x\no0 q\r\r\n", b" x,", b"q\r,"),
+    // blank lines among the symbols, and no line feed at the end
+    (b"aag 1 1 0 1 0\n2\n2\n\ni0 a\n \t\r\n\no0\tb", b"a,", b"b,"),
+    // outputs first, positions with leading zeros, and ports that have no name
+    (b"aag 2 2 0 1 0\n2\n4\n2\no00 f\ni01 i0\n", b"i0,i0,", b"f,"),
+    // names of the binary form
+    (
+        b"aig 3 2 0 1 1\n6\n\x02\x02i0 a\ni1 b\no0 c\n",
+        b"a,b,",
+        b"c,",
+    ),
+    // whatever begins with `c` opens the comment
+    (b"aag 1 1 0 1 0\n2\n2\ncomment\ni9 x\n", b"i0,", b"o0,"),
+    // bytes of no alphabet
+    (b"aag 1 1 0 1 0\n2\n2\ni0 \xff\x00\n", b"\xff\x00,", b"o0,"),
+];
+
 #[test]
 fn reads_names(rt: HostRuntime) -> Result<(), Fail> {
-    let table: [(&[u8], &[u8], &[u8]); 7] = [
-        // a name with a blank, and a comment
-        (
-            b"aag 1 1 0 1 0\n2\n2\ni0 in put\no0 q\nc\nx",
-            b"in put,",
-            b"q,",
-        ),
-        // a name that begins with a blank; of two carriage returns at the end only the last goes
-        (b"aag 1 1 0 1 0\n2\n2\ni0  x\no0 q\r\r\n", b" x,", b"q\r,"),
-        // blank lines among the symbols, and no line feed at the end
-        (b"aag 1 1 0 1 0\n2\n2\n\ni0 a\n \t\r\n\no0\tb", b"a,", b"b,"),
-        // outputs first, positions with leading zeros, and ports that have no name
-        (b"aag 2 2 0 1 0\n2\n4\n2\no00 f\ni01 i0\n", b"i0,i0,", b"f,"),
-        // names of the binary form
-        (
-            b"aig 3 2 0 1 1\n6\n\x02\x02i0 a\ni1 b\no0 c\n",
-            b"a,b,",
-            b"c,",
-        ),
-        // whatever begins with `c` opens the comment
-        (b"aag 1 1 0 1 0\n2\n2\ncomment\ni9 x\n", b"i0,", b"o0,"),
-        // bytes of no alphabet
-        (b"aag 1 1 0 1 0\n2\n2\ni0 \xff\x00\n", b"\xff\x00,", b"o0,"),
-    ];
-    for (text, input_names, output_names) in table {
+    for (text, input_names, output_names) in NAMES {
         let named = read(rt.alloc(), text)?;
         let inputs = joined(rt.alloc(), &named.input_names)?;
         let outputs = joined(rt.alloc(), &named.output_names)?;
@@ -174,38 +174,42 @@ fn reads_names(rt: HostRuntime) -> Result<(), Fail> {
     Ok(())
 }
 
+// A file, and the fault of its header.
+type HeaderFault = (&'static [u8], NetKind);
+
+const HEADER_FAULTS: [HeaderFault; 24] = [
+    // no header of either form
+    (b"", NetKind::Header),
+    (b"aag", NetKind::Header),
+    (b"aag ", NetKind::Header),
+    (b" aag 0 0 0 0 0\n", NetKind::Header),
+    (b"aag\t0 0 0 0 0\n", NetKind::Header),
+    (b"aig 0 0 0 0\n", NetKind::Header),
+    (b"aag 0 0 0 0 0 0 0 0 0 0\n", NetKind::Header),
+    (b"aag 0 0 0 0 -0\n", NetKind::Header),
+    (b"aag 0 0 0 0 0\0\n", NetKind::Header),
+    (b"aag 4294967296 0 0 0 0\n", NetKind::Header),
+    // variables too few, or in the binary form too many
+    (b"aag 1 1 0 0 1\n2\n4 2 2\n", NetKind::Header),
+    (b"aag 1 1 1 0 0\n2\n", NetKind::Header),
+    (b"aig 4 2 0 1 1\n6\n\x02\x02", NetKind::Header),
+    (b"aig 0 0 0 0 1\n", NetKind::Header),
+    // latches come before properties, and these before limits
+    (b"aag 1 0 1 0 0\n2 3\n", NetKind::Sequential),
+    (b"aag 1 0 1 0 0 1\n2 3\n2\n", NetKind::Sequential),
+    (b"aag 0 0 0 0 0 1\n0\n", NetKind::Property),
+    (b"aag 1025 1025 0 0 0 0 0 0 1\n", NetKind::Property),
+    (b"aag 1025 1025 0 0 0\n", NetKind::TooManyInputs),
+    (b"aag 1025 1025 0 1025 0\n", NetKind::TooManyInputs),
+    (b"aag 0 0 0 1025 0\n", NetKind::TooManyOutputs),
+    (b"aag 1000001 0 0 0 1000001\n", NetKind::TooManyGates),
+    (b"aag 4000001 0 0 0 0\n", NetKind::TooManyGates),
+    (b"aag 4294967295 0 0 0 0\n", NetKind::TooManyGates),
+];
+
 #[test]
 fn finds_faults_of_the_header(rt: HostRuntime) {
-    let table: [(&[u8], NetKind); 24] = [
-        // no header of either form
-        (b"", NetKind::Header),
-        (b"aag", NetKind::Header),
-        (b"aag ", NetKind::Header),
-        (b" aag 0 0 0 0 0\n", NetKind::Header),
-        (b"aag\t0 0 0 0 0\n", NetKind::Header),
-        (b"aig 0 0 0 0\n", NetKind::Header),
-        (b"aag 0 0 0 0 0 0 0 0 0 0\n", NetKind::Header),
-        (b"aag 0 0 0 0 -0\n", NetKind::Header),
-        (b"aag 0 0 0 0 0\0\n", NetKind::Header),
-        (b"aag 4294967296 0 0 0 0\n", NetKind::Header),
-        // variables too few, or in the binary form too many
-        (b"aag 1 1 0 0 1\n2\n4 2 2\n", NetKind::Header),
-        (b"aag 1 1 1 0 0\n2\n", NetKind::Header),
-        (b"aig 4 2 0 1 1\n6\n\x02\x02", NetKind::Header),
-        (b"aig 0 0 0 0 1\n", NetKind::Header),
-        // latches come before properties, and these before limits
-        (b"aag 1 0 1 0 0\n2 3\n", NetKind::Sequential),
-        (b"aag 1 0 1 0 0 1\n2 3\n2\n", NetKind::Sequential),
-        (b"aag 0 0 0 0 0 1\n0\n", NetKind::Property),
-        (b"aag 1025 1025 0 0 0 0 0 0 1\n", NetKind::Property),
-        (b"aag 1025 1025 0 0 0\n", NetKind::TooManyInputs),
-        (b"aag 1025 1025 0 1025 0\n", NetKind::TooManyInputs),
-        (b"aag 0 0 0 1025 0\n", NetKind::TooManyOutputs),
-        (b"aag 1000001 0 0 0 1000001\n", NetKind::TooManyGates),
-        (b"aag 4000001 0 0 0 0\n", NetKind::TooManyGates),
-        (b"aag 4294967295 0 0 0 0\n", NetKind::TooManyGates),
-    ];
-    for (text, kind) in table {
+    for (text, kind) in HEADER_FAULTS {
         let stop = NetStop::Fault(NetFault { kind, at: 0 });
         assert_eq!(rt; read(rt.alloc(), text).err(), Some(stop), "at {text:?}");
     }

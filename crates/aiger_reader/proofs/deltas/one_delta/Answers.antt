@@ -1,3 +1,4 @@
+-- The law is the lemma.
 use Rattle.aiger_reader.proofs.DeltaLemmas.{delta_same}
 use Rattle.aiger_reader.proofs.deltas.one_delta.Goals as goal
 

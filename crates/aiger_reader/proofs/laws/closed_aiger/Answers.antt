@@ -1,3 +1,4 @@
+-- Each clause is a lemma.
 use Rattle.aiger_reader.proofs.FewPorts.{aiger_closed, aiger_acyclic}
 use Rattle.aiger_reader.proofs.laws.closed_aiger.Goals as goal
 

@@ -1,4 +1,4 @@
--- The table's numbers are the netlist's.
+-- The signals' numbers are the netlist's.
 use Rattle.std.proofs.Common.{◌<◌, ◌/◌, ◌^◌, [], length, map, All, subst, sym, ap₂, ◌∙◌, arith}
 use Rattle.aiger_reader.specs.Numbers.{header_of}
 use Rattle.aiger_reader.specs.Numbered.{lit_in, def_in, circuit_from}

@@ -1,3 +1,4 @@
+-- The slots so far have no name.
 use Rattle.std.proofs.Common.{◌≡◌, replicate, None}
 use Rattle.aiger_reader.proofs.symbols.empty_slots.Given as goal
 

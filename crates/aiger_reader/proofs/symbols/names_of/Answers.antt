@@ -1,3 +1,4 @@
+-- At the end all ports have their names.
 use Rattle.std.proofs.Common.{arith}
 use Rattle.aiger_reader.proofs.NameLemmas.{all_named}
 use Rattle.aiger_reader.proofs.symbols.names_of.Goals as goal

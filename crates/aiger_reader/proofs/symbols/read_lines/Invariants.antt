@@ -1,4 +1,4 @@
--- The lines so far gave the names that the ports have.
+-- The lines so far gave the names that the slots have.
 use Rattle.std.proofs.Common.{◌≡◌, length}
 use Rattle.aiger_reader.proofs.LineSteps.{IsUnderWay}
 use Rattle.aiger_reader.proofs.symbols.read_lines.Given as goal

@@ -1,4 +1,4 @@
--- The ports at the end of the lines have the names of all ports.
+-- The slots at the end of the lines give the names of all ports.
 use Rattle.std.proofs.Common.{length}
 use Rattle.aiger_reader.proofs.NameLemmas.{names_from}
 use Rattle.aiger_reader.proofs.symbols.read_symbols.Goals as goal

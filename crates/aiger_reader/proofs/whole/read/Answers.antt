@@ -1,10 +1,11 @@
 -- What the parts say of the whole.
-use Rattle.std.proofs.Common.{◌≡◌, ℕ, List, Err, IfErr, subst, arith}
+use Rattle.std.proofs.Common.{◌≡◌, [], Err, IfErr, subst, arith}
 use Rattle.std.proofs.lemmas.Result.{err_from_is_err_and}
 use Rattle.circuits.proofs.LevelOrders.{IsOrderOf-outputs}
 use Rattle.net_core.specs.declared.named.NetStop.TheVariants as stop
-use Rattle.aiger_reader.specs.Reading.{IsStop}
+use Rattle.aiger_reader.specs.Reading.{rows_of, IsStop}
 use Rattle.aiger_reader.specs.Numbers.{header_of}
+use Rattle.aiger_reader.proofs.PropertyLemmas.{body_any}
 use Rattle.aiger_reader.proofs.WholeLemmas.{lines_fault, names_fault}
 use Rattle.aiger_reader.proofs.NetlistLemmas.{net_sizes}
 use Rattle.aiger_reader.proofs.whole.read.Goals as goal
@@ -20,7 +21,16 @@ returns-in_err-body-clause-fault c = λ fault same.
     let header = c.in_ok-header.header in
     let p = err_from_is_err_and c.from_residual-in_err-body.result c.from_residual-in_err-body.ensures.1 in
     let stopped : c.read_body.result ≡ Err (stop.Fault fault) = cc (p.1, p.2, c.in_err-body.was) in
-    lines_fault bytes header fault c.in_ok-header.ensures.begun (subst (λ r. IfErr r (λ s. (properties : List ℕ) → IsStop bytes (header_of header properties) s)) stopped c.read_body.ensures.stop)
+    lines_fault bytes header fault c.in_ok-header.ensures.begun (subst (λ r. IfErr r (IsStop bytes (header_of header []))) stopped c.read_body.ensures.stop)
+
+pub read_net-requires-clause-lines : goal.read_net-requires-clause-lines
+read_net-requires-clause-lines c =
+    let known = c.in_ok-body.ensures in
+    record {
+      body = λ properties. body_any c.args.input.now c.in_ok-header.header [] properties (rows_of c.in_ok-body.body.literals) known.body;
+      sound = known.sound;
+      left = known.rest;
+    }
 
 pub returns-in_err-net-clause-fault : goal.returns-in_err-net-clause-fault
 returns-in_err-net-clause-fault c = λ fault same.

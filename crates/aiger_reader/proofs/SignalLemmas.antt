@@ -1,4 +1,4 @@
--- The table of the variables' places.
+-- The signals of the variables: the place of each among those that are defined.
 use Rattle.std.proofs.Common.{◌≡◌, ◌≢◌, ℕ, ◌+◌, ◌<◌, ◌⊎◌, List, [], ◌∷◌, ◌++◌, length, length-append, get_or, set, get_or-set_same, get_or-set_other, AllPairs, Contains, inl, inr, sym, ap, subst, ◌∙◌, arith}
 use Rattle.std.proofs.lemmas.Bool.Decides.{eqb_tells}
 use Rattle.std.proofs.lemmas.List.{length-set, get_or_append_left, get_or_default}
@@ -12,8 +12,8 @@ place_cases k n h =
     elim (eqb_tells k n) [ inl (t, e) ↦ inr e | inr (f, ne) ↦ inl (omega arith) ]
 
 -- one variable more
-pub table_more : (greatest : ℕ) (variables signals : List ℕ) (v : ℕ) → v < length signals → get_or signals v 0 ≡ 0 → IsNumbering greatest variables signals → IsNumbering greatest (variables ++ v ∷ []) (set signals v (length variables + 1))
-table_more greatest variables signals v within free numbering =
+pub signals_more : (greatest : ℕ) (variables signals : List ℕ) (v : ℕ) → v < length signals → get_or signals v 0 ≡ 0 → IsNumbering greatest variables signals → IsNumbering greatest (variables ++ v ∷ []) (set signals v (length variables + 1))
+signals_more greatest variables signals v within free numbering =
     record {
       entries = omega (arith, numbering.entries, length-set signals v (length variables + 1));
       places = λ k below. elim (place_cases k (length variables) (omega (arith, length-append variables (v ∷ [])))) [
