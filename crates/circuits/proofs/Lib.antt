@@ -8,5 +8,6 @@ pub mod Expansions
 pub mod CircuitValuations
 pub mod GateCounts
 pub mod OneOrder
+pub mod Looped
 pub mod AsCircuit
 pub mod MatchLaws
