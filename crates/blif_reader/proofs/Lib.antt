@@ -9,3 +9,4 @@ pub mod FewPorts
 pub mod BuildingLemmas
 pub mod ClosedLemmas
 pub mod BlifLemmas
+pub mod SomeBlif

@@ -1,7 +1,7 @@
 //! Laws of the definitions: what a file is, and its first fault, are determined. Each function does nothing; its
 //! contract is the law.
 
-ghost use Rattle.std.specs.Prelude.{◌≡◌, ℕ, ◌≤◌, List, length};
+ghost use Rattle.std.specs.Prelude.{◌≡◌, ℕ, ◌≤◌, ◌⊎◌, List, length};
 ghost use Rattle.circuits.specs.Circuits.{Circuit, IsClosed};
 ghost use Rattle.circuits.specs.Levels.{IsAcyclic};
 ghost use Rattle.net_core.specs.declared.named.NetKind.{NetKind};
@@ -21,6 +21,13 @@ pub fn blif_or_fault()
         → IsBlif bytes circuit i o
         → IsBlifFault bytes fault at
         → ⊥ }
+{}
+
+/// Each list of bytes is a netlist, or has a first fault.
+pub fn blif_or_its_fault()
+    ensures { (bytes : List ℕ)
+        → ((circuit : Circuit) × (i : List (List ℕ)) × (o : List (List ℕ)) × IsBlif bytes circuit i o)
+        ⊎ ((fault : NetKind) × (at : ℕ) × IsBlifFault bytes fault at) }
 {}
 
 /// A file has one first fault at most, at one place.
