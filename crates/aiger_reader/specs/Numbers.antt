@@ -39,6 +39,12 @@ pub record WritesNumbers (line : List ℕ) (numbers : Numbers) : Type 0 where
   pub header : (binary : Bool) → WritesHeader line (header_from binary numbers properties)
   pub property : numbers.has_property ≡ list_any (nat_lt 0) properties
 
+-- The file has a header of this form and these numbers, with or without a property.
+pub record HasNumbers (bytes : List ℕ) (binary : Bool) (numbers : Numbers) : Type 0 where
+  pub properties : List ℕ
+  pub header : HasHeader bytes (header_from binary numbers properties)
+  pub property : numbers.has_property ≡ list_any (nat_lt 0) properties
+
 -- the variables are enough for what is defined, and no more in the binary form
 pub record IsCounted (binary : Bool) (numbers : Numbers) : Type 0 where
   pub counted : numbers.inputs + numbers.latches + numbers.gates ≤ numbers.variables

@@ -3,8 +3,8 @@
 ghost use Rattle.std.specs.Prelude.{◌≡◌, ℕ, ◌≤◌, ◌↔◌, Bool, List, length, map, take, IsTrue, Some, None, IfOk, IfErr, IfSome, IfNone, nat_lt};
 ghost use Rattle.std.specs.List.{list_any};
 ghost use Rattle.aiger_reader.specs.Words.{numbers_on, AreSmall};
-ghost use Rattle.aiger_reader.specs.Headers.{AigerHeader, keyword, line_behind, WritesHeader, Begins, header_fault};
-ghost use Rattle.aiger_reader.specs.Numbers.{header_of, header_from, WritesNumbers, IsCounted, IsHeaderFault};
+ghost use Rattle.aiger_reader.specs.Headers.{AigerHeader, keyword, line_behind, WritesHeader, HasHeader, Begins, header_fault};
+ghost use Rattle.aiger_reader.specs.Numbers.{header_of, header_from, WritesNumbers, HasNumbers, IsCounted, IsHeaderFault};
 
 pub(crate) use crate::limits::Header;
 use crate::limits::{MOST_GATES, MOST_INPUTS, MOST_OUTPUTS, MOST_VARIABLES};
@@ -93,16 +93,23 @@ pub(crate) fn read_header(input: &[u8]) -> Result<Header, NetKind>
         × Begins input.now (header_of header properties)) }
     ensures fault { IfErr result (IsHeaderFault input.now) }
 {
-    let Some(binary) = form_of(input) else {
+    let Some((binary, numbers)) = announced(input) else {
         return Err(NetKind::Header);
     };
-    let Some(numbers) = read_numbers(input) else {
-        return Err(NetKind::Header);
-    };
-    if !numbers.is_counted(binary) {
-        return Err(NetKind::Header);
-    }
     numbers.accept(binary)
+}
+
+// The form of a file and the numbers of its header, where it has one.
+fn announced(input: &[u8]) -> Option<(bool, Numbers)>
+    ensures header { IfSome result (λ found. HasNumbers input.now found.0 found.1) }
+    ensures none { IfNone result ((h : AigerHeader) → HasHeader input.now h → ⊥) }
+{
+    let binary = form_of(input)?;
+    let numbers = read_numbers(input)?;
+    if !numbers.is_counted(binary) {
+        return None;
+    }
+    Some((binary, numbers))
 }
 
 // Whether a file begins as one of the binary form: `None` where it begins as one of neither form.
