@@ -14,7 +14,7 @@ use Rattle.npnp.specs.Check.{Netlist, HoldsNetlist, HoldsFault, HoldsTooMuch, Sp
 use Rattle.net_core.specs.declared.named.Named.{Named}
 use Rattle.shelf_core.specs.State.{ShelfState, Closed}
 use Rattle.npnp.specs.Report.{IsReport}
-use Rattle.npnp.specs.Steps.{ReadAs, IsReadFrom, netlist_of, IsVerdict, IsOfReading, IsStopOf, ReadsNetlist, Decides}
+use Rattle.npnp.specs.Steps.{ReadAs, IsVerdict, IsOfReading, IsStopOf, ReadsNetlist, Decides}
 use Rattle.npnp.specs.Stops.{outcome_of}
 use Rattle.npnp.specs.declared.run.Ending.{Ending}
 use Rattle.npnp.specs.declared.files.Stop.{Stop}

@@ -1,16 +1,15 @@
 -- What the judging of two graphs by an account says of the circuits that the graphs compute.
-use Rattle.std.proofs.Common.{◌≡◌, ℕ, ◌<◌, ◌≤◌, ◌⊎◌, inl, inr, List, length, Option, None, Some, refl, sym, ◌∙◌, subst, arith}
+use Rattle.std.proofs.Common.{◌≡◌, ℕ, ◌<◌, ◌≤◌, List, length, Some, refl, subst}
 use Rattle.circuits.specs.Circuits.{Circuit}
 use Rattle.circuits.specs.Matches.{IsMatchOfFunctions}
 use Rattle.circuits.specs.Netlists.{Net}
 use Rattle.circuits.proofs.MatchLaws.{functions_from_match, match_from_functions}
 use Rattle.net_core.specs.declared.matching.Matching.{Matching}
-use Rattle.port_table.specs.Table.{IsMatchingTable, IsSmall}
+use Rattle.port_table.specs.Table.{IsMatchingTable}
 use Rattle.port_table.proofs.MatchLemmas.{too_long}
 use Rattle.npnp.specs.Check.{AreWide, AreNarrow, SpellsMatch}
 use Rattle.npnp.specs.Steps.{AreComputed, IsVerdict, IsMatchIfAccepted}
-use Rattle.npnp.specs.declared.outcome.Outcome.{Outcome}
-use Rattle.npnp.specs.declared.outcome.Outcome.TheVariants.{AcceptedMatch, NotATable, Wide}
+use Rattle.npnp.specs.declared.outcome.Outcome.TheVariants.{AcceptedMatch, NotATable}
 
 -- a table that is a match of the graphs is one of the circuits
 

@@ -1,5 +1,5 @@
 -- An account that is too long is no table that is a match.
-use Rattle.std.proofs.Common.{None, Some, refl, rules, sym, subst}
+use Rattle.std.proofs.Common.{sym, subst}
 use Rattle.npnp.specs.Steps.{IsVerdict}
 use Rattle.npnp.specs.declared.outcome.Outcome.TheVariants.{NotATable}
 use Rattle.npnp.proofs.CheckLemmas.{at_too_long, narrow_by}
