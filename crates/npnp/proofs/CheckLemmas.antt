@@ -2,18 +2,19 @@
 use Rattle.std.proofs.Common.{◌≡◌, ◌≢◌, ℕ, ◌<◌, ◌≤◌, ◌↔◌, ◌⊎◌, ◌==◌, inl, inr, Bool, false, IsTrue, List, [], ◌∷◌, length, Option, None, Some, Result, Ok, Err, IfOk, IfErr, get_or, refl, sym, ◌∙◌, ap, subst, arith}
 use Rattle.std.proofs.lemmas.Bool.{false≢true, cases_lt}
 use Rattle.shelf_core.specs.Fault.{Rose}
-use Rattle.circuits.specs.Netlists.{Net}
+use Rattle.circuits.specs.Bijections.{IsSignedBijection}
+use Rattle.circuits.specs.Circuits.{Circuit}
 use Rattle.net_core.specs.declared.matching.Matching.{Matching}
 use Rattle.net_core.specs.declared.named.NetKind.{NetKind}
-use Rattle.port_table.specs.Table.{IsMatchingTable, IsSmall}
-use Rattle.port_table.proofs.MatchLemmas.{one_matching_table}
+use Rattle.port_table.specs.Table.{ArePorts}
+use Rattle.port_table.proofs.MatchLemmas.{one_spelled}
 use Rattle.npnp.specs.Circuits.{IsCircuit, IsCircuitFault}
 use Rattle.npnp.specs.Words.{AsksCheck, AskNothing}
-use Rattle.npnp.specs.Check.{Netlist, HoldsNetlist, HoldsFault, HoldsTooMuch, EndsAt, EndsEarly, IsAsked, AreWide, AreNarrow, IsRight, IsDecided, IsTold}
+use Rattle.npnp.specs.Check.{Netlist, HoldsNetlist, HoldsFault, HoldsTooMuch, SpellsMatch, EndsAt, EndsEarly, IsAsked, AreWide, AreNarrow, IsRight, IsDecided, IsTold}
 use Rattle.net_core.specs.declared.named.Named.{Named}
 use Rattle.shelf_core.specs.State.{ShelfState, Closed}
 use Rattle.npnp.specs.Report.{IsReport}
-use Rattle.npnp.specs.Steps.{IsVerdict, IsVerdictOn, IsOfReading, IsStopOf, IsJudged, ReadsNetlist, Decides}
+use Rattle.npnp.specs.Steps.{ReadAs, IsVerdict, IsOfReading, IsStopOf, ReadsNetlist, Decides}
 use Rattle.npnp.specs.Stops.{outcome_of}
 use Rattle.npnp.specs.declared.run.Ending.{Ending}
 use Rattle.npnp.specs.declared.files.Stop.{Stop}
@@ -21,7 +22,7 @@ use Rattle.npnp.specs.declared.files.Stop.TheVariants as stop
 use Rattle.npnp.specs.Files.{Tells}
 use Rattle.npnp.specs.declared.files.File.{File}
 use Rattle.npnp.specs.declared.files.File.TheVariants.{Absent as NoFile, TooLong, Bytes}
-use Rattle.npnp.proofs.CircuitLemmas.{one_circuit, circuit_or_fault, one_circuit_fault, few_ports}
+use Rattle.npnp.proofs.CircuitLemmas.{one_circuit, circuit_or_fault, one_circuit_fault, few_ports, circuit_acyclic}
 use Rattle.npnp.specs.declared.outcome.Which.{Which}
 use Rattle.npnp.specs.declared.outcome.Which.TheVariants.{First, Second, Account}
 use Rattle.npnp.specs.declared.outcome.Outcome.{Outcome}
@@ -55,19 +56,19 @@ at_too_long limit held TooLong e fact = fact
 at_too_long limit held (Bytes bytes) e fact = cc
 
 -- two circuits of which a test said that they aren't wide
-pub narrow_by : (f g : Net) (wide : Bool) → (IsTrue wide ↔ AreWide f g) → wide ≡ false → AreNarrow f g
-narrow_by f g wide exact refused =
+pub narrow_by : (n m : ℕ) (wide : Bool) → (IsTrue wide ↔ AreWide n m) → wide ≡ false → AreNarrow n m
+narrow_by n m wide exact refused =
     record {
-      first = elim (cases_lt 12 f.inputs) [ inl more ↦ absurd (false≢true (sym refused ∙ exact.1 (inl more))) | inr few ↦ few ];
-      second = elim (cases_lt 12 g.inputs) [ inl more ↦ absurd (false≢true (sym refused ∙ exact.1 (inr more))) | inr few ↦ few ];
+      first = elim (cases_lt 12 n) [ inl more ↦ absurd (false≢true (sym refused ∙ exact.1 (inl more))) | inr few ↦ few ];
+      second = elim (cases_lt 12 m) [ inl more ↦ absurd (false≢true (sym refused ∙ exact.1 (inr more))) | inr few ↦ few ];
     }
 
 -- one name holds one netlist, or one thing that ends the check
 
-netlist_one : (content : Option (List ℕ)) (a b : Netlist) → HoldsNetlist content a → HoldsNetlist content b → a.net ≡ b.net
+netlist_one : (content : Option (List ℕ)) (a b : Netlist) → HoldsNetlist content a → HoldsNetlist content b → a.circuit ≡ b.circuit
 netlist_one content a b one other =
     let same : other.bytes ≡ one.bytes = let e = one.there in let e' = other.there in cc in
-    one_circuit one.bytes a.net b.net a.input_names a.output_names b.input_names b.output_names one.is (subst (λ bytes. IsCircuit bytes b.net b.input_names b.output_names) same other.is)
+    one_circuit one.bytes a.circuit b.circuit a.input_names a.output_names b.input_names b.output_names one.is (subst (λ bytes. IsCircuit bytes b.circuit b.input_names b.output_names) same other.is)
 
 fault_one : (content : Option (List ℕ)) (kind other_kind : NetKind) (at place : ℕ) → HoldsFault content kind at → HoldsFault content other_kind place → (kind ≡ other_kind) × (at ≡ place)
 fault_one content kind other_kind at place one other =
@@ -126,30 +127,30 @@ end_or_netlist file content o f end net =
           absurd (omega (arith, much.long, net.short, ap length same))
       | inr (inr (kind, at, e, fault)) ↦
           let same : fault.bytes ≡ net.bytes = let e' = fault.there in cc in
-          circuit_or_fault net.bytes f.net f.input_names f.output_names kind at net.is (subst (λ bytes. IsCircuitFault bytes kind at) same fault.is)
+          circuit_or_fault net.bytes f.circuit f.input_names f.output_names kind at net.is (subst (λ bytes. IsCircuitFault bytes kind at) same fault.is)
     ]
 
 -- two circuits and what the account's name holds have one verdict
 
-narrow_or_wide : (f g : Net) → AreNarrow f g → AreWide f g → ⊥
-narrow_or_wide f g narrow wide = elim wide [ inl first ↦ absurd (omega (arith, narrow.first, first)) | inr second ↦ absurd (omega (arith, narrow.second, second)) ]
+narrow_or_wide : (n m : ℕ) → AreNarrow n m → AreWide n m → ⊥
+narrow_or_wide n m narrow wide = elim wide [ inl first ↦ absurd (omega (arith, narrow.first, first)) | inr second ↦ absurd (omega (arith, narrow.second, second)) ]
 
-wide_only : (f g : Net) (content : Option (List ℕ)) → AreWide f g → (o : Outcome) → IsVerdict f g content o → o ≡ Wide
-wide_only f g content wide (AcceptedMatch table) fact = absurd (narrow_or_wide f g fact.0 wide)
-wide_only f g content wide NotATable fact = absurd (narrow_or_wide f g fact.0 wide)
+wide_only : (f g : Circuit) (content : Option (List ℕ)) → AreWide f.inputs g.inputs → (o : Outcome) → IsVerdict f g content o → o ≡ Wide
+wide_only f g content wide (AcceptedMatch table) fact = absurd (narrow_or_wide f.inputs g.inputs fact.0 wide)
+wide_only f g content wide NotATable fact = absurd (narrow_or_wide f.inputs g.inputs fact.0 wide)
 wide_only f g content wide Wide fact = refl
 wide_only f g content wide Usage fact = absurd fact
-wide_only f g content wide (Absent which) fact = absurd (narrow_or_wide f g fact.1 wide)
+wide_only f g content wide (Absent which) fact = absurd (narrow_or_wide f.inputs g.inputs fact.1 wide)
 wide_only f g content wide (TooLarge which) fact = absurd fact
 wide_only f g content wide (Malformed which kind at) fact = absurd fact
 wide_only f g content wide ReadFault fact = absurd fact
 wide_only f g content wide WriteFault fact = absurd fact
 wide_only f g content wide Memory fact = absurd fact
 
-absent_only : (f g : Net) (content : Option (List ℕ)) → AreNarrow f g → content ≡ None → (o : Outcome) → IsVerdict f g content o → o ≡ Absent Account
+absent_only : (f g : Circuit) (content : Option (List ℕ)) → AreNarrow f.inputs g.inputs → content ≡ None → (o : Outcome) → IsVerdict f g content o → o ≡ Absent Account
 absent_only f g content narrow none (AcceptedMatch table) fact = let there = fact.2 in cc
 absent_only f g content narrow none NotATable fact = let there = fact.2 in cc
-absent_only f g content narrow none Wide fact = absurd (narrow_or_wide f g narrow fact)
+absent_only f g content narrow none Wide fact = absurd (narrow_or_wide f.inputs g.inputs narrow fact)
 absent_only f g content narrow none Usage fact = absurd fact
 absent_only f g content narrow none (Absent which) fact = ap Absent fact.0
 absent_only f g content narrow none (TooLarge which) fact = absurd fact
@@ -162,10 +163,10 @@ absent_only f g content narrow none Memory fact = absurd fact
 same_account : (content : Option (List ℕ)) (account other : List ℕ) → content ≡ Some account → content ≡ Some other → other ≡ account
 same_account content account other e e' = cc
 
-rejected_only : (f g : Net) (content : Option (List ℕ)) (account : List ℕ) → AreNarrow f g → content ≡ Some account → ((table : Matching) → IsMatchingTable f g account table → ⊥) → (o : Outcome) → IsVerdict f g content o → o ≡ NotATable
-rejected_only f g content account narrow there none (AcceptedMatch table) fact = absurd (none table (subst (λ a. IsMatchingTable f g a table) (same_account content account fact.1 there fact.2) fact.3))
+rejected_only : (f g : Circuit) (content : Option (List ℕ)) (account : List ℕ) → AreNarrow f.inputs g.inputs → content ≡ Some account → ((table : Matching) → SpellsMatch f g account table → ⊥) → (o : Outcome) → IsVerdict f g content o → o ≡ NotATable
+rejected_only f g content account narrow there none (AcceptedMatch table) fact = absurd (none table (subst (λ a. SpellsMatch f g a table) (same_account content account fact.1 there fact.2) fact.3))
 rejected_only f g content account narrow there none NotATable fact = refl
-rejected_only f g content account narrow there none Wide fact = absurd (narrow_or_wide f g narrow fact)
+rejected_only f g content account narrow there none Wide fact = absurd (narrow_or_wide f.inputs g.inputs narrow fact)
 rejected_only f g content account narrow there none Usage fact = absurd fact
 rejected_only f g content account narrow there none (Absent which) fact = let absent = fact.2 in cc
 rejected_only f g content account narrow there none (TooLarge which) fact = absurd fact
@@ -174,10 +175,19 @@ rejected_only f g content account narrow there none ReadFault fact = absurd fact
 rejected_only f g content account narrow there none WriteFault fact = absurd fact
 rejected_only f g content account narrow there none Memory fact = absurd fact
 
-accepted_only : (f g : Net) (content : Option (List ℕ)) (account : List ℕ) (found : Matching) → IsSmall f → AreNarrow f g → content ≡ Some account → IsMatchingTable f g account found → (o : Outcome) → IsVerdict f g content o → o ≡ AcceptedMatch found
-accepted_only f g content account found small narrow there is (AcceptedMatch table) fact = ap AcceptedMatch (sym (one_matching_table f g account found table small is (subst (λ a. IsMatchingTable f g a table) (same_account content account fact.1 there fact.2) fact.3)))
-accepted_only f g content account found small narrow there is NotATable fact = absurd (fact.3 found (subst (λ a. IsMatchingTable f g a found) (sym (same_account content account fact.1 there fact.2)) is))
-accepted_only f g content account found small narrow there is Wide fact = absurd (narrow_or_wide f g narrow fact)
+-- a text spells one match of few ports at most
+ports : (n : ℕ) (p : List (ℕ × Bool)) → n ≤ 1024 → IsSignedBijection n p → ArePorts p
+ports n p few bijection = λ k d h. omega (arith, bijection.in_range k d h)
+
+one_match : (f g : Circuit) (text : List ℕ) (a b : Matching) → length f.outputs ≤ 1024 → AreNarrow f.inputs g.inputs → SpellsMatch f g text a → SpellsMatch f g text b → a ≡ b
+one_match f g text a b few narrow one other =
+    let few_inputs : f.inputs ≤ 1024 = omega (arith, narrow.first) in
+    one_spelled text a b (ports f.inputs a.inputs few_inputs one.matches.inputs) (ports (length f.outputs) a.outputs few one.matches.outputs) (ports f.inputs b.inputs few_inputs other.matches.inputs) (ports (length f.outputs) b.outputs few other.matches.outputs) one.spelled other.spelled
+
+accepted_only : (f g : Circuit) (content : Option (List ℕ)) (account : List ℕ) (found : Matching) → length f.outputs ≤ 1024 → AreNarrow f.inputs g.inputs → content ≡ Some account → SpellsMatch f g account found → (o : Outcome) → IsVerdict f g content o → o ≡ AcceptedMatch found
+accepted_only f g content account found small narrow there is (AcceptedMatch table) fact = ap AcceptedMatch (sym (one_match f g account found table small narrow is (subst (λ a. SpellsMatch f g a table) (same_account content account fact.1 there fact.2) fact.3)))
+accepted_only f g content account found small narrow there is NotATable fact = absurd (fact.3 found (subst (λ a. SpellsMatch f g a found) (sym (same_account content account fact.1 there fact.2)) is))
+accepted_only f g content account found small narrow there is Wide fact = absurd (narrow_or_wide f.inputs g.inputs narrow fact)
 accepted_only f g content account found small narrow there is Usage fact = absurd fact
 accepted_only f g content account found small narrow there is (Absent which) fact = let absent = fact.2 in cc
 accepted_only f g content account found small narrow there is (TooLarge which) fact = absurd fact
@@ -186,8 +196,8 @@ accepted_only f g content account found small narrow there is ReadFault fact = a
 accepted_only f g content account found small narrow there is WriteFault fact = absurd fact
 accepted_only f g content account found small narrow there is Memory fact = absurd fact
 
-verdict_one : (f g : Net) (content : Option (List ℕ)) → length f.outputs ≤ 1024 → (a b : Outcome) → IsVerdict f g content a → IsVerdict f g content b → a ≡ b
-verdict_one f g content few (AcceptedMatch table) b one other = sym (accepted_only f g content one.1 table (record { inputs = one.0.first; outputs = few }) one.0 one.2 one.3 b other)
+verdict_one : (f g : Circuit) (content : Option (List ℕ)) → length f.outputs ≤ 1024 → (a b : Outcome) → IsVerdict f g content a → IsVerdict f g content b → a ≡ b
+verdict_one f g content few (AcceptedMatch table) b one other = sym (accepted_only f g content one.1 table few one.0 one.2 one.3 b other)
 verdict_one f g content few NotATable b one other = sym (rejected_only f g content one.1 one.0 one.2 one.3 b other)
 verdict_one f g content few Wide b one other = sym (wide_only f g content one b other)
 verdict_one f g content few Usage b one other = absurd one
@@ -201,7 +211,7 @@ verdict_one f g content few Memory b one other = absurd one
 -- the outcome is what the words say, or what the files under their names say
 
 abbrev pub SaysSecond : (List ℕ → Option (List ℕ)) → List ℕ → List ℕ → Netlist → Outcome → Type 0
-SaysSecond held second account f o = IsEnd Second (held second) o ⊎ ((g : Netlist) × HoldsNetlist (held second) g × IsVerdict f.net g.net (held account) o)
+SaysSecond held second account f o = IsEnd Second (held second) o ⊎ ((g : Netlist) × HoldsNetlist (held second) g × IsVerdict f.circuit g.circuit (held account) o)
 
 abbrev pub SaysFirst : (List ℕ → Option (List ℕ)) → List ℕ → List ℕ → List ℕ → Outcome → Type 0
 SaysFirst held first second account o = IsEnd First (held first) o ⊎ ((f : Netlist) × HoldsNetlist (held first) f × SaysSecond held second account f o)
@@ -209,7 +219,7 @@ SaysFirst held first second account o = IsEnd First (held first) o ⊎ ((f : Net
 abbrev pub Says : (List ℕ → Option (List ℕ)) → List (List ℕ) → Outcome → Type 0
 Says held words o = ((o ≡ Usage) × AskNothing words) ⊎ ((first : List ℕ) × (second : List ℕ) × (account : List ℕ) × AsksCheck words first second account × SaysFirst held first second account o)
 
-second_one : (held : List ℕ → Option (List ℕ)) (second account : List ℕ) (f f' : Netlist) (a b : Outcome) → length f.net.outputs ≤ 1024 → f.net ≡ f'.net → SaysSecond held second account f a → SaysSecond held second account f' b → a ≡ b
+second_one : (held : List ℕ → Option (List ℕ)) (second account : List ℕ) (f f' : Netlist) (a b : Outcome) → length f.circuit.outputs ≤ 1024 → f.circuit ≡ f'.circuit → SaysSecond held second account f a → SaysSecond held second account f' b → a ≡ b
 second_one held second account f f' a b few same one other =
     elim one [
       | inl end ↦ elim other [
@@ -220,13 +230,13 @@ second_one held second account f f' a b few same one other =
         | inl end' ↦ absurd (end_or_netlist Second (held second) b g end' there)
         | inr (g', there', fact') ↦
             let e = netlist_one (held second) g g' there there' in
-            let moved : IsVerdict f.net g.net (held account) b = subst (λ n. IsVerdict n g.net (held account) b) (sym same) (subst (λ n. IsVerdict f'.net n (held account) b) (sym e) fact') in
-            verdict_one f.net g.net (held account) few a b fact moved
+            let moved : IsVerdict f.circuit g.circuit (held account) b = subst (λ n. IsVerdict n g.circuit (held account) b) (sym same) (subst (λ n. IsVerdict f'.circuit n (held account) b) (sym e) fact') in
+            verdict_one f.circuit g.circuit (held account) few a b fact moved
       ]
     ]
 
-few_outputs : (content : Option (List ℕ)) (f : Netlist) → HoldsNetlist content f → length f.net.outputs ≤ 1024
-few_outputs content f holds = (few_ports holds.bytes f.net f.input_names f.output_names holds.is).1
+few_outputs : (content : Option (List ℕ)) (f : Netlist) → HoldsNetlist content f → length f.circuit.outputs ≤ 1024
+few_outputs content f holds = (few_ports holds.bytes f.circuit f.input_names f.output_names holds.is).1
 
 first_one : (held : List ℕ → Option (List ℕ)) (first second account : List ℕ) (a b : Outcome) → SaysFirst held first second account a → SaysFirst held first second account b → a ≡ b
 first_one held first second account a b one other =
@@ -269,7 +279,7 @@ says_early held words o decided early =
       | inr at ↦ inr (at.first_name, at.second_name, at.account_name, at.asks, inr (at.first, at.first_held, inl (end_of Second (held at.second_name) o decided at.ends)))
     ]
 
-says_asked : (held : List ℕ → Option (List ℕ)) (words : List (List ℕ)) (f g : Netlist) (account : List ℕ) (o : Outcome) → IsAsked held words f g account → IsVerdict f.net g.net (held account) o → Says held words o
+says_asked : (held : List ℕ → Option (List ℕ)) (words : List (List ℕ)) (f g : Netlist) (account : List ℕ) (o : Outcome) → IsAsked held words f g account → IsVerdict f.circuit g.circuit (held account) o → Says held words o
 says_asked held words f g account o asked verdict =
     inr (asked.first_name, asked.second_name, account, asked.asks, inr (f, asked.first_held, inr (g, asked.second_held, verdict)))
 
@@ -311,7 +321,7 @@ right_at_second held words f g t first asks there ReadFault ends = tt
 right_at_second held words f g t first asks there WriteFault ends = absurd ends
 right_at_second held words f g t first asks there Memory ends = tt
 
-pub right_by_verdict : (held : List ℕ → Option (List ℕ)) (words : List (List ℕ)) (f g : Netlist) (t : List ℕ) → IsAsked held words f g t → (o : Outcome) → IsVerdict f.net g.net (held t) o → IsRight held words o
+pub right_by_verdict : (held : List ℕ → Option (List ℕ)) (words : List (List ℕ)) (f g : Netlist) (t : List ℕ) → IsAsked held words f g t → (o : Outcome) → IsVerdict f.circuit g.circuit (held t) o → IsRight held words o
 right_by_verdict held words f g t asked (AcceptedMatch table) fact = record { first = f; second = g; account = fact.1; has = record { account_name = t; asked = asked; narrow = fact.0; there = fact.2 }; accepted = fact.3 }
 right_by_verdict held words f g t asked NotATable fact = record { first = f; second = g; account = fact.1; has = record { account_name = t; asked = asked; narrow = fact.0; there = fact.2 }; rejected = fact.3 }
 right_by_verdict held words f g t asked Wide fact = record { first = f; second = g; account_name = t; asked = asked; wide = fact }
@@ -365,19 +375,6 @@ pub stop_is : (s : Stop) → outcome_of s ≡ ReadFault → s ≡ stop.ReadFault
 stop_is stop.ReadFault e = refl
 stop_is stop.Memory e = cc
 
--- what was judged wasn't a matter of the words or the outside
-pub judged_on : (first second : Named) (o : Outcome) → IsVerdictOn first second o → IsJudged o
-judged_on first second (AcceptedMatch table) fact = record { asked = λ e. cc; read = λ e. cc; unwritten = λ e. cc }
-judged_on first second NotATable fact = record { asked = λ e. cc; read = λ e. cc; unwritten = λ e. cc }
-judged_on first second Wide fact = record { asked = λ e. cc; read = λ e. cc; unwritten = λ e. cc }
-judged_on first second Usage fact = absurd fact
-judged_on first second (Absent which) fact = record { asked = λ e. cc; read = λ e. cc; unwritten = λ e. cc }
-judged_on first second (TooLarge which) fact = absurd fact
-judged_on first second (Malformed which kind at) fact = absurd fact
-judged_on first second ReadFault fact = absurd fact
-judged_on first second WriteFault fact = absurd fact
-judged_on first second Memory fact = absurd fact
-
 -- the files were read up to an outcome that ends the run
 pub stopped : (tells : Bool) (first second account : List ℕ) (old new : ShelfState) (result : Result Ending Outcome) (o : Outcome) → result ≡ Err o → ((n : List ℕ) → new.held n ≡ old.held n) → (IsTrue tells → (words : List (List ℕ)) → AsksCheck words first second account → IsRight old.held words o) → IsOfReading o → (o ≡ ReadFault → Rose old.faults new.faults) → Decides tells first second account old new result
 stopped tells first second account old new result o same files ended reading failed =
@@ -430,12 +427,17 @@ stop_is_of_reading file bytes WriteFault fact = absurd fact
 stop_is_of_reading file bytes Memory fact = record { no_table = λ table e. cc; asked = λ e. cc; unwritten = λ e. cc }
 
 -- a file of few bytes was read
-reads_same : (tells : Bool) (file : Which) (name : List ℕ) (old new : ShelfState) (bytes : List ℕ) (result : Result Named Outcome) → ((n : List ℕ) → new.held n ≡ old.held n) → new.mode ≡ Closed → old.faults ≤ new.faults → (IsTrue tells → (old.held name ≡ Some bytes) × (length bytes ≤ 67108864)) → IfOk result (λ named. IsCircuit bytes named.graph named.input_names named.output_names) → IfErr result (IsStopOf file bytes) → ReadsNetlist tells file name old new result
+reads_same : (tells : Bool) (file : Which) (name : List ℕ) (old new : ShelfState) (bytes : List ℕ) (result : Result Named Outcome) → ((n : List ℕ) → new.held n ≡ old.held n) → new.mode ≡ Closed → old.faults ≤ new.faults → (IsTrue tells → (old.held name ≡ Some bytes) × (length bytes ≤ 67108864)) → IfOk result (λ named. ReadAs bytes named.graph named.input_names named.output_names) → IfErr result (IsStopOf file bytes) → ReadsNetlist tells file name old new result
 reads_same tells file name old new bytes (Ok named) files closed faults found is stop = record {
   files = files;
   closed = closed;
-  found = λ t. record { bytes = bytes; there = (found t).0; short = (found t).1; is = is };
-  few = (few_ports bytes named.graph named.input_names named.output_names is).1;
+  found = record {
+    circuit = is.circuit;
+    held = λ t. record { bytes = bytes; there = (found t).0; short = (found t).1; is = is.is };
+    acyclic = circuit_acyclic bytes is.circuit named.input_names named.output_names is.is;
+    few = (few_ports bytes is.circuit named.input_names named.output_names is.is).1;
+    computes = is.computes;
+  };
   ended = λ t. tt;
   reading = tt;
   faults = faults;
@@ -444,14 +446,13 @@ reads_same tells file name old new bytes (Ok named) files closed faults found is
 reads_same tells file name old new bytes (Err o) files closed faults found is stop = record {
   files = files;
   closed = tt;
-  found = λ t. tt;
-  few = tt;
+  found = tt;
   ended = λ t. stop_ends file (old.held name) bytes (found t).0 (found t).1 o stop;
   reading = stop_is_of_reading file bytes o stop;
   faults = faults;
   failed = λ e. let same : o ≡ ReadFault = cc in absurd (subst (IsStopOf file bytes) same stop);
 }
 
-pub reads_bytes : (tells : Bool) (file : Which) (name : List ℕ) (old new : ShelfState) (bytes read : List ℕ) (result : Result Named Outcome) → read ≡ bytes → ((n : List ℕ) → new.held n ≡ old.held n) → new.mode ≡ Closed → old.faults ≤ new.faults → (IsTrue tells → (old.held name ≡ Some bytes) × (length bytes ≤ 67108864)) → IfOk result (λ named. IsCircuit read named.graph named.input_names named.output_names) → IfErr result (IsStopOf file read) → ReadsNetlist tells file name old new result
+pub reads_bytes : (tells : Bool) (file : Which) (name : List ℕ) (old new : ShelfState) (bytes read : List ℕ) (result : Result Named Outcome) → read ≡ bytes → ((n : List ℕ) → new.held n ≡ old.held n) → new.mode ≡ Closed → old.faults ≤ new.faults → (IsTrue tells → (old.held name ≡ Some bytes) × (length bytes ≤ 67108864)) → IfOk result (λ named. ReadAs read named.graph named.input_names named.output_names) → IfErr result (IsStopOf file read) → ReadsNetlist tells file name old new result
 reads_bytes tells file name old new bytes read result same files closed faults found is stop =
     reads_same tells file name old new read result files closed faults (λ t. subst (λ b. (old.held name ≡ Some b) × (length b ≤ 67108864)) (sym same) (found t)) is stop

@@ -1,14 +1,19 @@
 -- A file is one circuit at most, or has one first fault, and never both.
-use Rattle.std.proofs.Common.{◌≡◌, ℕ, ◌≤◌, ◌⊎◌, inl, inr, List, length}
-use Rattle.circuits.specs.Netlists.{Net}
+use Rattle.std.proofs.Common.{◌≡◌, ℕ, ◌≤◌, inl, inr, List, length, Result, Ok, Err, IfOk}
+use Rattle.circuits.specs.Circuits.{Circuit}
+use Rattle.circuits.specs.Levels.{IsAcyclic}
 use Rattle.net_core.specs.declared.named.NetKind.{NetKind}
+use Rattle.net_core.specs.declared.named.NetStop.{NetStop}
+use Rattle.net_core.specs.declared.named.Named.{Named}
 use Rattle.aiger_reader.proofs.OneAiger.{one_netlist, netlist_or_fault, one_fault}
-use Rattle.aiger_reader.proofs.FewPorts.{few_ports as few_in_aiger}
+use Rattle.aiger_reader.proofs.FewPorts.{few_outputs as few_in_aiger, few_inputs as few_inputs_in_aiger, aiger_acyclic}
 use Rattle.blif_reader.proofs.OneBlif.{one_netlist as one_blif, netlist_or_fault as blif_or_fault, one_fault as one_blif_fault}
-use Rattle.blif_reader.proofs.FewPorts.{few_ports as few_in_blif}
-use Rattle.npnp.specs.Circuits.{IsCircuit, IsCircuitFault}
+use Rattle.blif_reader.proofs.FewPorts.{few_outputs as few_in_blif, few_inputs as few_inputs_in_blif}
+use Rattle.blif_reader.specs.Blif.{ReadAs as BlifReadAs}
+use Rattle.npnp.specs.Circuits.{BeginsAsAiger, IsCircuit, IsCircuitFault}
+use Rattle.npnp.specs.Steps.{ReadAs}
 
-pub one_circuit : (bytes : List ℕ) (a b : Net) (i o j p : List (List ℕ)) → IsCircuit bytes a i o → IsCircuit bytes b j p → a ≡ b
+pub one_circuit : (bytes : List ℕ) (a b : Circuit) (i o j p : List (List ℕ)) → IsCircuit bytes a i o → IsCircuit bytes b j p → a ≡ b
 one_circuit bytes a b i o j p one other =
     elim one [
       | inl (begins, is) ↦ elim other [
@@ -21,16 +26,16 @@ one_circuit bytes a b i o j p one other =
       ]
     ]
 
-pub circuit_or_fault : (bytes : List ℕ) (net : Net) (i o : List (List ℕ)) (kind : NetKind) (at : ℕ) → IsCircuit bytes net i o → IsCircuitFault bytes kind at → ⊥
-circuit_or_fault bytes net i o kind at one other =
+pub circuit_or_fault : (bytes : List ℕ) (circuit : Circuit) (i o : List (List ℕ)) (kind : NetKind) (at : ℕ) → IsCircuit bytes circuit i o → IsCircuitFault bytes kind at → ⊥
+circuit_or_fault bytes circuit i o kind at one other =
     elim one [
       | inl (begins, is) ↦ elim other [
-        | inl (begins', is') ↦ netlist_or_fault bytes net i o kind at is is'
+        | inl (begins', is') ↦ netlist_or_fault bytes circuit i o kind at is is'
         | inr (not', is') ↦ absurd (not' begins)
       ]
       | inr (not, is) ↦ elim other [
         | inl (begins', is') ↦ absurd (not begins')
-        | inr (not', is') ↦ blif_or_fault bytes net i o kind at is is'
+        | inr (not', is') ↦ blif_or_fault bytes circuit i o kind at is is'
       ]
     ]
 
@@ -47,9 +52,17 @@ one_circuit_fault bytes kind other_kind at place one other =
       ]
     ]
 
-pub few_ports : (bytes : List ℕ) (net : Net) (i o : List (List ℕ)) → IsCircuit bytes net i o → (net.inputs ≤ 1024) × (length net.outputs ≤ 1024)
-few_ports bytes net i o is =
+pub few_ports : (bytes : List ℕ) (circuit : Circuit) (i o : List (List ℕ)) → IsCircuit bytes circuit i o → (circuit.inputs ≤ 1024) × (length circuit.outputs ≤ 1024)
+few_ports bytes circuit i o is =
     elim is [
-      | inl (begins, aiger) ↦ few_in_aiger bytes net i o aiger
-      | inr (not, blif) ↦ few_in_blif bytes net i o blif
+      | inl (begins, aiger) ↦ (few_inputs_in_aiger bytes circuit i o aiger, few_in_aiger bytes circuit i o aiger)
+      | inr (not, blif) ↦ (few_inputs_in_blif bytes circuit i o blif, few_in_blif bytes circuit i o blif)
     ]
+
+pub circuit_acyclic : (bytes : List ℕ) (circuit : Circuit) (i o : List (List ℕ)) → IsCircuit bytes circuit i o → IsAcyclic circuit
+circuit_acyclic bytes circuit i o is = elim is [ inl (begins, aiger) ↦ aiger_acyclic bytes circuit i o aiger | inr (not, blif) ↦ blif.acyclic ]
+
+-- what the BLIF reader read is what the file is
+pub blif_read : (bytes : List ℕ) (result : Result Named NetStop) → (BeginsAsAiger bytes → ⊥) → IfOk result (λ named. BlifReadAs bytes named.graph named.input_names named.output_names) → IfOk result (λ named. ReadAs bytes named.graph named.input_names named.output_names)
+blif_read bytes (Ok named) not read = record { circuit = read.circuit; is = inr (not, read.is); computes = read.computes; numbered = read.numbered }
+blif_read bytes (Err stop) not read = tt

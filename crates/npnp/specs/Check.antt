@@ -1,19 +1,20 @@
 -- What `check` answers, said of the words and of the files that are held.
 use Rattle.std.specs.Prelude.{◌≡◌, ◌≢◌, ℕ, ◌<◌, ◌≤◌, ◌⊎◌, List, length, Option, None, Some}
-use Rattle.circuits.specs.Netlists.{Net}
+use Rattle.circuits.specs.Circuits.{Circuit}
+use Rattle.circuits.specs.Matches.{IsMatch}
 use Rattle.npnp.specs.Circuits.{IsCircuit, IsCircuitFault}
 use Rattle.net_core.specs.declared.matching.Matching.{Matching}
 use Rattle.net_core.specs.declared.named.NetKind.{NetKind}
-use Rattle.port_table.specs.Table.{IsMatchingTable}
+use Rattle.port_table.specs.Table.{table_text}
 use Rattle.npnp.specs.Words.{AsksCheck, AskNothing}
 use Rattle.npnp.specs.declared.outcome.Which.{Which}
 use Rattle.npnp.specs.declared.outcome.Which.TheVariants.{First, Second, Account}
 use Rattle.npnp.specs.declared.outcome.Outcome.{Outcome}
 use Rattle.npnp.specs.declared.outcome.Outcome.TheVariants.{AcceptedMatch, NotATable, Wide, Usage, Absent, TooLarge, Malformed, ReadFault, WriteFault, Memory}
 
--- A netlist with the names of its ports.
+-- A netlist as its file has it, with the names of its ports.
 pub record Netlist : Type 0 where
-  pub net : Net
+  pub circuit : Circuit
   pub input_names : List (List ℕ)
   pub output_names : List (List ℕ)
 
@@ -22,7 +23,7 @@ pub record HoldsNetlist (content : Option (List ℕ)) (netlist : Netlist) : Type
   pub bytes : List ℕ
   pub there : content ≡ Some bytes
   pub short : length bytes ≤ 67108864
-  pub is : IsCircuit bytes netlist.net netlist.input_names netlist.output_names
+  pub is : IsCircuit bytes netlist.circuit netlist.input_names netlist.output_names
 
 -- What a name holds is a file of at most 67,108,864 bytes with this first fault.
 pub record HoldsFault (content : Option (List ℕ)) (kind : NetKind) (at : ℕ) : Type 0 where
@@ -77,12 +78,12 @@ pub record IsAsked (held : List ℕ → Option (List ℕ)) (words : List (List �
   pub second_held : HoldsNetlist (held second_name) second
 
 -- more inputs than are tried on every vector
-abbrev pub AreWide : Net → Net → Type 0
-AreWide first second = (12 < first.inputs) ⊎ (12 < second.inputs)
+abbrev pub AreWide : ℕ → ℕ → Type 0
+AreWide first_inputs second_inputs = (12 < first_inputs) ⊎ (12 < second_inputs)
 
-pub record AreNarrow (one other : Net) : Type 0 where
-  pub first : one.inputs ≤ 12
-  pub second : other.inputs ≤ 12
+pub record AreNarrow (first_inputs second_inputs : ℕ) : Type 0 where
+  pub first : first_inputs ≤ 12
+  pub second : second_inputs ≤ 12
 
 -- Both files are netlists, and one of them has more than 12 inputs.
 pub record IsWide (held : List ℕ → Option (List ℕ)) (words : List (List ℕ)) : Type 0 where
@@ -90,7 +91,7 @@ pub record IsWide (held : List ℕ → Option (List ℕ)) (words : List (List �
   pub second : Netlist
   pub account_name : List ℕ
   pub asked : IsAsked held words first second account_name
-  pub wide : AreWide first.net second.net
+  pub wide : AreWide first.circuit.inputs second.circuit.inputs
 
 -- Both files are netlists of at most 12 inputs, and there is no account.
 pub record LacksAccount (held : List ℕ → Option (List ℕ)) (words : List (List ℕ)) : Type 0 where
@@ -98,15 +99,20 @@ pub record LacksAccount (held : List ℕ → Option (List ℕ)) (words : List (L
   pub second : Netlist
   pub account_name : List ℕ
   pub asked : IsAsked held words first second account_name
-  pub narrow : AreNarrow first.net second.net
+  pub narrow : AreNarrow first.circuit.inputs second.circuit.inputs
   pub absent : held account_name ≡ None
 
 -- Both files are netlists of at most 12 inputs, and the account holds these bytes.
 pub record HasAccount (held : List ℕ → Option (List ℕ)) (words : List (List ℕ)) (first second : Netlist) (account : List ℕ) : Type 0 where
   pub account_name : List ℕ
   pub asked : IsAsked held words first second account_name
-  pub narrow : AreNarrow first.net second.net
+  pub narrow : AreNarrow first.circuit.inputs second.circuit.inputs
   pub there : held account_name ≡ Some account
+
+-- The text is the one spelling of the table, and the table is a match of the circuits.
+pub record SpellsMatch (first second : Circuit) (text : List ℕ) (table : Matching) : Type 0 where
+  pub spelled : text ≡ table_text table.inputs table.outputs
+  pub matches : IsMatch first second table.inputs table.outputs
 
 -- The account is this table, a match of the two netlists.
 pub record IsAccepted (held : List ℕ → Option (List ℕ)) (words : List (List ℕ)) (table : Matching) : Type 0 where
@@ -114,7 +120,7 @@ pub record IsAccepted (held : List ℕ → Option (List ℕ)) (words : List (Lis
   pub second : Netlist
   pub account : List ℕ
   pub has : HasAccount held words first second account
-  pub accepted : IsMatchingTable first.net second.net account table
+  pub accepted : SpellsMatch first.circuit second.circuit account table
 
 -- The account is no table that is a match of the two netlists.
 pub record IsRejected (held : List ℕ → Option (List ℕ)) (words : List (List ℕ)) : Type 0 where
@@ -122,7 +128,7 @@ pub record IsRejected (held : List ℕ → Option (List ℕ)) (words : List (Lis
   pub second : Netlist
   pub account : List ℕ
   pub has : HasAccount held words first second account
-  pub rejected : (table : Matching) → IsMatchingTable first.net second.net account table → ⊥
+  pub rejected : (table : Matching) → SpellsMatch first.circuit second.circuit account table → ⊥
 
 -- there is no such file when its turn comes
 abbrev pub IsAbsent : (List ℕ → Option (List ℕ)) → List (List ℕ) → Which → Type 0

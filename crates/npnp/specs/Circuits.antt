@@ -1,6 +1,6 @@
 -- The circuit that a file is: an AIGER file where its first four bytes say so, else a BLIF file.
 use Rattle.std.specs.Prelude.{◌≡◌, ℕ, ◌⊎◌, Bool, List, take}
-use Rattle.circuits.specs.Netlists.{Net}
+use Rattle.circuits.specs.Circuits.{Circuit}
 use Rattle.net_core.specs.declared.named.NetKind.{NetKind}
 use Rattle.aiger_reader.specs.Headers.{keyword}
 use Rattle.aiger_reader.specs.Aiger.{IsAiger, IsAigerFault}
@@ -11,10 +11,10 @@ abbrev pub BeginsAsAiger : List ℕ → Type 0
 BeginsAsAiger bytes = (binary : Bool) × (take 4 bytes ≡ keyword binary)
 
 -- the file is this netlist, with these names of its ports
-abbrev pub IsCircuit : List ℕ → Net → List (List ℕ) → List (List ℕ) → Type 0
-IsCircuit bytes net input_names output_names =
-    (BeginsAsAiger bytes × IsAiger bytes net input_names output_names)
-    ⊎ ((BeginsAsAiger bytes → ⊥) × IsBlif bytes net input_names output_names)
+abbrev pub IsCircuit : List ℕ → Circuit → List (List ℕ) → List (List ℕ) → Type 0
+IsCircuit bytes circuit input_names output_names =
+    (BeginsAsAiger bytes × IsAiger bytes circuit input_names output_names)
+    ⊎ ((BeginsAsAiger bytes → ⊥) × IsBlif bytes circuit input_names output_names)
 
 -- the file has this first fault, at this offset
 abbrev pub IsCircuitFault : List ℕ → NetKind → ℕ → Type 0

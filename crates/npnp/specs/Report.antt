@@ -3,8 +3,7 @@ use Rattle.std.specs.Prelude.{◌≡◌, ◌≢◌, ℕ, ◌⊎◌, Bool, IsTrue
 use Rattle.std.specs.Fmt.{decimal}
 use Rattle.net_core.specs.Kinds.{kind_number}
 use Rattle.net_core.specs.declared.matching.Matching.{Matching}
-use Rattle.net_core.specs.declared.named.Named.{Named}
-use Rattle.port_report.specs.Reports.{match_text}
+use Rattle.port_report.specs.Reports.{PortNames, match_text}
 use Rattle.npnp.specs.Check.{Netlist, IsAsked}
 use Rattle.npnp.specs.declared.outcome.Which.{Which}
 use Rattle.npnp.specs.declared.outcome.Which.TheVariants.{First, Second, Account}
@@ -35,21 +34,20 @@ abbrev pub HasNoTable : Outcome → Type 0
 HasNoTable outcome = (table : Matching) → outcome ≢ AcceptedMatch table
 
 -- the report of an outcome of two netlists: its line, and after an accepted match the port table
-abbrev pub report_on : Named → Named → Outcome → List ℕ
+abbrev pub report_on : PortNames → PortNames → Outcome → List ℕ
 report_on first second (AcceptedMatch table) = line_of (AcceptedMatch table) ++ match_text first second table
 report_on first second other = line_of other
 
--- a netlist of a program, as it is said of files
-abbrev pub netlist_of : Named → Netlist
-netlist_of named = record { net = named.graph; input_names = named.input_names; output_names = named.output_names }
+abbrev pub port_names : Netlist → PortNames
+port_names netlist = record { inputs = netlist.input_names; outputs = netlist.output_names }
 
 -- The text is the report of an outcome of the two files that the words name, with the names of their ports.
 pub record IsNamedReport (tells : Bool) (held : List ℕ → Option (List ℕ)) (words : List (List ℕ)) (outcome : Outcome) (text : List ℕ) : Type 0 where
-  pub first : Named
-  pub second : Named
+  pub first : Netlist
+  pub second : Netlist
   pub account_name : List ℕ
-  pub of_files : IsTrue tells → IsAsked held words (netlist_of first) (netlist_of second) account_name
-  pub same : text ≡ report_on first second outcome
+  pub of_files : IsTrue tells → IsAsked held words first second account_name
+  pub same : text ≡ report_on (port_names first) (port_names second) outcome
 
 -- The text is the report of an outcome: the line of one that has no table, or a report with the names of the two files.
 abbrev pub IsReport : Bool → (List ℕ → Option (List ℕ)) → List (List ℕ) → Outcome → List ℕ → Type 0

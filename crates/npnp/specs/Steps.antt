@@ -1,16 +1,18 @@
 -- What the steps of a check do.
 use Rattle.std.specs.Prelude.{◌≡◌, ◌≢◌, ℕ, ◌⊎◌, ◌≤◌, Bool, IsTrue, List, ◌++◌, length, take, Option, None, Some, Result, Err, IfOk, IfErr, OnOk}
+use Rattle.circuits.specs.Circuits.{Circuit}
+use Rattle.circuits.specs.Functions.{Computes}
+use Rattle.circuits.specs.Levels.{IsAcyclic, IsOrderOf}
+use Rattle.circuits.specs.Matches.{IsMatchOfFunctions}
 use Rattle.circuits.specs.Netlists.{Net}
-use Rattle.circuits.specs.Matches.{IsMatch}
 use Rattle.shelf_core.specs.Fault.{Rose}
 use Rattle.shelf_core.specs.State.{ShelfState, SinkState, Closed}
 use Rattle.net_core.specs.declared.matching.Matching.{Matching}
 use Rattle.net_core.specs.declared.named.Named.{Named}
-use Rattle.port_table.specs.Table.{IsMatchingTable}
-use Rattle.npnp.specs.Circuits.{IsCircuitFault}
+use Rattle.npnp.specs.Circuits.{IsCircuit, IsCircuitFault}
 use Rattle.npnp.specs.Words.{AsksCheck}
-use Rattle.npnp.specs.Check.{HoldsNetlist, EndsAt, AreWide, AreNarrow, IsRight, IsTold}
-use Rattle.npnp.specs.Report.{HasNoTable, IsReport, line_of, netlist_of}
+use Rattle.npnp.specs.Check.{Netlist, HoldsNetlist, SpellsMatch, EndsAt, AreWide, AreNarrow, IsRight, IsTold}
+use Rattle.npnp.specs.Report.{HasNoTable, IsReport, line_of}
 use Rattle.npnp.specs.declared.outcome.Which.{Which}
 use Rattle.npnp.specs.declared.outcome.Which.TheVariants.{Account}
 use Rattle.npnp.specs.declared.outcome.Outcome.{Outcome}
@@ -31,53 +33,78 @@ IsStopOf file bytes (Malformed which kind at) = (which ≡ file) × IsCircuitFau
 IsStopOf file bytes Memory = Unit {0}
 IsStopOf file bytes other = ⊥
 
+-- The bytes were read as this graph with these names of its ports: the graph computes the netlist that the file is.
+pub record ReadAs (bytes : List ℕ) (graph : Net) (input_names output_names : List (List ℕ)) : Type 0 where
+  pub circuit : Circuit
+  pub is : IsCircuit bytes circuit input_names output_names
+  pub computes : Computes graph circuit
+  pub numbered : IsOrderOf circuit graph
+
+-- a circuit with the names that its graph was read with
+abbrev pub netlist_of : Circuit → Named → Netlist
+netlist_of circuit named = record { circuit = circuit; input_names = named.input_names; output_names = named.output_names }
+
+-- What a name holds was read as this graph with these names.
+pub record IsReadFrom (tells : Bool) (content : Option (List ℕ)) (named : Named) : Type 0 where
+  pub circuit : Circuit
+  pub held : IsTrue tells → HoldsNetlist content (netlist_of circuit named)
+  pub acyclic : IsAcyclic circuit
+  pub few : length circuit.outputs ≤ 1024
+  pub computes : Computes named.graph circuit
+
 -- Reading the netlist under a name, or ending the run where none stands there.
 pub record ReadsNetlist (tells : Bool) (file : Which) (name : List ℕ) (old new : ShelfState) (result : Result Named Outcome) : Type 0 where
   -- no file changes, and none is open after an answer
   pub files : (n : List ℕ) → new.held n ≡ old.held n
   pub closed : OnOk result (new.mode ≡ Closed)
-  pub found : IsTrue tells → IfOk result (λ named. HoldsNetlist (old.held name) (netlist_of named))
-  pub few : IfOk result (λ named. length named.graph.outputs ≤ 1024)
+  pub found : IfOk result (IsReadFrom tells (old.held name))
   pub ended : IsTrue tells → IfErr result (EndsAt file (old.held name))
   pub reading : IfErr result IsOfReading
   pub faults : old.faults ≤ new.faults
   pub failed : result ≡ Err ReadFault → Rose old.faults new.faults
 
 -- what an outcome says of two circuits and of what the account's name holds
-abbrev pub IsVerdict : Net → Net → Option (List ℕ) → Outcome → Type 0
-IsVerdict first second content (AcceptedMatch table) = AreNarrow first second × (account : List ℕ) × (content ≡ Some account) × IsMatchingTable first second account table
-IsVerdict first second content NotATable = AreNarrow first second × (account : List ℕ) × (content ≡ Some account) × ((table : Matching) → IsMatchingTable first second account table → ⊥)
-IsVerdict first second content Wide = AreWide first second
-IsVerdict first second content (Absent file) = (file ≡ Account) × AreNarrow first second × (content ≡ None)
+abbrev pub IsVerdict : Circuit → Circuit → Option (List ℕ) → Outcome → Type 0
+IsVerdict first second content (AcceptedMatch table) =
+    AreNarrow first.inputs second.inputs
+    × (account : List ℕ)
+    × (content ≡ Some account)
+    × SpellsMatch first second account table
+IsVerdict first second content NotATable =
+    AreNarrow first.inputs second.inputs
+    × (account : List ℕ)
+    × (content ≡ Some account)
+    × ((table : Matching) → SpellsMatch first second account table → ⊥)
+IsVerdict first second content Wide = AreWide first.inputs second.inputs
+IsVerdict first second content (Absent file) = (file ≡ Account) × AreNarrow first.inputs second.inputs × (content ≡ None)
 IsVerdict first second content other = ⊥
 
--- what an outcome says of two circuits and an account
-abbrev pub Settles : Net → Net → List ℕ → Outcome → Type 0
-Settles first second account (AcceptedMatch table) = IsMatchingTable first second account table
-Settles first second account NotATable = (table : Matching) → IsMatchingTable first second account table → ⊥
-Settles first second account other = ⊥
+-- The graphs compute the circuits.
+pub record AreComputed (f g : Net) (first second : Circuit) : Type 0 where
+  pub first_acyclic : IsAcyclic first
+  pub second_acyclic : IsAcyclic second
+  pub first_computed : Computes f first
+  pub second_computed : Computes g second
 
--- what an outcome says of two netlists, whatever the files hold
-abbrev pub IsVerdictOn : Named → Named → Outcome → Type 0
-IsVerdictOn first second (AcceptedMatch table) = IsMatch first.graph second.graph table.inputs table.outputs
-IsVerdictOn first second NotATable = Unit {0}
-IsVerdictOn first second Wide = Unit {0}
-IsVerdictOn first second (Absent file) = Unit {0}
-IsVerdictOn first second other = ⊥
-
--- Judging two netlists by the account under a name.
-pub record Judges (tells : Bool) (first second : Named) (name : List ℕ) (old new : ShelfState) (result : Result Outcome Stop) : Type 0 where
-  pub files : (n : List ℕ) → new.held n ≡ old.held n
-  pub right : IsTrue tells → IfOk result (IsVerdict first.graph second.graph (old.held name))
-  pub on : IfOk result (IsVerdictOn first second)
-  pub faults : old.faults ≤ new.faults
-  pub failed : result ≡ Err stop.ReadFault → Rose old.faults new.faults
+-- a table that is accepted is a match of the graphs
+abbrev pub IsMatchIfAccepted : Net → Net → Outcome → Type 0
+IsMatchIfAccepted f g outcome =
+    (table : Matching) → outcome ≡ AcceptedMatch table → IsMatchOfFunctions f g table.inputs table.outputs
 
 -- an outcome that two netlists and an account were judged by
 pub record IsJudged (outcome : Outcome) : Type 0 where
   pub asked : outcome ≢ Usage
   pub read : outcome ≢ ReadFault
   pub unwritten : outcome ≢ WriteFault
+
+-- Judging two netlists by the account under a name.
+pub record Judges (tells : Bool) (first second : Named) (name : List ℕ) (old new : ShelfState) (result : Result Outcome Stop) : Type 0 where
+  pub files : (n : List ℕ) → new.held n ≡ old.held n
+  pub right : IsTrue tells → (f g : Circuit) → AreComputed first.graph second.graph f g → IfOk result (IsVerdict f g (old.held name))
+  pub matches : IfOk result (IsMatchIfAccepted first.graph second.graph)
+  pub judged : IfOk result IsJudged
+  pub faults : old.faults ≤ new.faults
+  pub failed : result ≡ Err stop.ReadFault → Rose old.faults new.faults
 
 -- Deciding by the files under three names.
 pub record Decides (tells : Bool) (first_name second_name account_name : List ℕ) (old new : ShelfState) (result : Result Ending Outcome) : Type 0 where

@@ -3,8 +3,8 @@
 ghost use Rattle.std.specs.Prelude.{◌≡◌, ◌↔◌, ◌≤◌, IsTrue, Err, IfOk, IfErr, length};
 ghost use Rattle.shelf_core.specs.State.{Closed};
 ghost use Rattle.net_core.specs.declared.named.NetFault.{NetFault};
-ghost use Rattle.npnp.specs.Circuits.{BeginsAsAiger, IsCircuit, IsCircuitFault};
-ghost use Rattle.npnp.specs.Steps.{ReadsNetlist, IsStopOf};
+ghost use Rattle.npnp.specs.Circuits.{BeginsAsAiger, IsCircuitFault};
+ghost use Rattle.npnp.specs.Steps.{ReadAs, ReadsNetlist, IsStopOf};
 
 use crate::files::{File, read_file};
 use crate::outcome::{Outcome, Which};
@@ -37,7 +37,7 @@ pub fn read_netlist<S: Shelf>(
 fn parse_netlist(alloc: Global, which: Which, bytes: &[u8]) -> Result<Named, Outcome>
     requires { length bytes.now ≤ 67108864 }
     ensures netlist { IfOk result
-        (λ named. IsCircuit bytes.now named.graph named.input_names named.output_names) }
+        (λ named. ReadAs bytes.now named.graph named.input_names named.output_names) }
     ensures stop { IfErr result (IsStopOf which bytes.now) }
 {
     match read_circuit(alloc, bytes) {
@@ -55,7 +55,7 @@ fn parse_netlist(alloc: Global, which: Which, bytes: &[u8]) -> Result<Named, Out
 fn read_circuit(alloc: Global, bytes: &[u8]) -> Result<Named, NetStop>
     requires { length bytes.now ≤ 67108864 }
     ensures netlist { IfOk result
-        (λ named. IsCircuit bytes.now named.graph named.input_names named.output_names) }
+        (λ named. ReadAs bytes.now named.graph named.input_names named.output_names) }
     ensures fault { (fault : NetFault) → result ≡ Err (NetStop.Fault fault)
         → IsCircuitFault bytes.now fault.kind fault.at }
 {

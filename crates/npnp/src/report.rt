@@ -1,8 +1,9 @@
 //! The report of a run: what the program prints on its standard output.
 
 ghost use Rattle.std.specs.Prelude.{◌≡◌, [], ◌∷◌, ◌++◌, OnOk, IfOk};
+ghost use Rattle.port_report.specs.Reports.{names_of};
 ghost use Rattle.npnp.specs.Report.{file_word, line_of, report_on};
-ghost use Rattle.npnp.specs.Steps.{IsVerdictOn};
+ghost use Rattle.npnp.specs.Steps.{IsMatchIfAccepted};
 
 use crate::outcome::{Outcome, Which};
 use net_core::{Named, NetKind};
@@ -18,8 +19,8 @@ pub fn report_named(
     second: &Named,
     outcome: &Outcome,
 ) -> Result<Vec<u8>, AllocError>
-    requires { IsVerdictOn first.now second.now outcome.now }
-    ensures { IfOk result (λ text. text.items ≡ report_on first.now second.now outcome.now) }
+    requires { IsMatchIfAccepted first.now.graph second.now.graph outcome.now }
+    ensures { IfOk result (λ text. text.items ≡ report_on (names_of first.now) (names_of second.now) outcome.now) }
 {
     let mut text = report_line(alloc, outcome)?;
     if let Outcome::AcceptedMatch(table) = outcome {

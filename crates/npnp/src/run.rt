@@ -1,6 +1,6 @@
 //! One run of the program: words in, files read, one report out.
 
-ghost use Rattle.std.specs.Prelude.{◌≡◌, ◌≢◌, ℕ, ◌≤◌, ◌++◌, ◌↔◌, ◌⊎◌, List, IsTrue, IfOk, length, map, string_bytes};
+ghost use Rattle.std.specs.Prelude.{◌≡◌, ◌≢◌, ℕ, ◌≤◌, ◌++◌, ◌↔◌, ◌⊎◌, List, IsTrue, IfOk, Some, length, map, string_bytes};
 ghost use Rattle.net_core.specs.declared.matching.Matching.{Matching as Table};
 ghost use Rattle.net_core.specs.declared.named.NetKind.{NetKind};
 ghost use Rattle.shelf_core.specs.Fault.{Rose};
@@ -8,10 +8,11 @@ ghost use Rattle.shelf_core.specs.State.{Closed};
 ghost use Rattle.npnp.specs.declared.outcome.Outcome.{Outcome as AnyOutcome};
 ghost use Rattle.npnp.specs.declared.outcome.Which.{Which as AnyFile};
 ghost use Rattle.npnp.specs.Words.{AskNothing};
-ghost use Rattle.npnp.specs.Check.{IsRight, IsAccepted, IsRejected, IsWide, IsAbsent, EndsEarly, IsDecided, IsTold, AreWide};
+ghost use Rattle.npnp.specs.Check.{IsRight, IsAccepted, IsRejected, IsWide, IsAbsent, EndsEarly, IsDecided, IsTold, AreWide, AreNarrow};
 ghost use Rattle.port_table.specs.Table.{IsSmall};
 ghost use Rattle.npnp.specs.Report.{IsReport, line_of};
-ghost use Rattle.npnp.specs.Steps.{Settles, Judges, Decides, TellsLine, PutsText, WritesPart};
+ghost use Rattle.circuits.specs.Circuits.{Circuit};
+ghost use Rattle.npnp.specs.Steps.{AreComputed, IsVerdict, IsMatchIfAccepted, IsJudged, Judges, Decides, TellsLine, PutsText, WritesPart};
 
 use crate::files::{File, Stop, read_file};
 use crate::netlists::read_netlist;
@@ -185,7 +186,7 @@ fn judge<S: Shelf>(
 
 /// Whether one of the netlists has more inputs than are tried on every vector.
 fn are_wide(first: &Named, second: &Named) -> bool
-    ensures { IsTrue result ↔ AreWide first.now.graph second.now.graph }
+    ensures { IsTrue result ↔ AreWide first.now.graph.inputs second.now.graph.inputs }
 {
     first.graph.inputs() > MOST_INPUTS || second.graph.inputs() > MOST_INPUTS
 }
@@ -197,8 +198,12 @@ fn settle(
     second: &Graph,
     account: &[u8],
 ) -> Result<Outcome, AllocError>
-    requires { IsSmall first.now }
-    ensures { IfOk result (Settles first.now second.now account.now) }
+    requires small { IsSmall first.now }
+    requires narrow { AreNarrow first.now.inputs second.now.inputs }
+    ensures verdict { (f g : Circuit) → AreComputed first.now second.now f g
+        → IfOk result (IsVerdict f g (Some account.now)) }
+    ensures matches { IfOk result (IsMatchIfAccepted first.now second.now) }
+    ensures judged { IfOk result IsJudged }
 {
     let Some(table) = match_spelled(alloc, first, second, account)? else {
         return Ok(Outcome::NotATable);

@@ -25,10 +25,19 @@ abbrev pub entry_lines : List ℕ → List (List ℕ) → List (List ℕ) → �
 entry_lines kind firsts seconds port [] = []
 entry_lines kind firsts seconds port (entry ∷ entries) = entry_line kind firsts seconds port entry ++ entry_lines kind firsts seconds (port + 1) entries
 
+-- the names of a circuit's ports, in their order
+pub record PortNames : Type 0 where
+  pub inputs : List (List ℕ)
+  pub outputs : List (List ℕ)
+
+abbrev pub names_of : Named → PortNames
+names_of named = record { inputs = named.input_names; outputs = named.output_names }
+
 -- the port table: a line for each input of the first circuit in order, then one for each output
-abbrev pub match_text : Named → Named → Matching → List ℕ
+abbrev pub match_text : PortNames → PortNames → Matching → List ℕ
 match_text first second table =
-    entry_lines (codes "input") first.input_names second.input_names 0 table.inputs ++ entry_lines (codes "output") first.output_names second.output_names 0 table.outputs
+    entry_lines (codes "input") first.inputs second.inputs 0 table.inputs
+    ++ entry_lines (codes "output") first.outputs second.outputs 0 table.outputs
 
 -- the first line of an account that is wrong, and what is wrong with it: `rejected line 7 refutation`
 abbrev pub rejected_text : ℕ → List ℕ → List ℕ

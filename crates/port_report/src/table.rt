@@ -1,6 +1,6 @@
 ghost use Rattle.std.specs.Prelude.{◌≡◌, ◌<◌, ◌≤◌, [], ◌++◌, length, codes, if◌then◌else◌, All, OnOk, OnErr};
 ghost use Rattle.circuits.specs.Bijections.{IsSignedBijection};
-ghost use Rattle.port_report.specs.Reports.{Extends, port_among, entry_line, entry_lines, match_text};
+ghost use Rattle.port_report.specs.Reports.{Extends, port_among, entry_line, entry_lines, match_text, names_of};
 
 use net_core::{Matching, Name, Named};
 use std::alloc::AllocError;
@@ -20,7 +20,7 @@ pub fn put_match(
     requires outputs { length second.now.graph.outputs ≡ length first.now.graph.outputs }
     requires inputs_placed { IsSignedBijection first.now.graph.inputs matching.now.inputs }
     requires outputs_placed { IsSignedBijection (length first.now.graph.outputs) matching.now.outputs }
-    ensures ok { OnOk result (out.new.items ≡ out.old.items ++ match_text first.now second.now matching.now) }
+    ensures ok { OnOk result (out.new.items ≡ out.old.items ++ match_text (names_of first.now) (names_of second.now) matching.now) }
     ensures kept { OnErr result (Extends out.old.items out.new.items) }
 {
     put_entries(

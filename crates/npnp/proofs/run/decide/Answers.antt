@@ -2,11 +2,12 @@
 use Rattle.std.proofs.Common.{inr, ◌∙◌, subst, arith}
 use Rattle.std.proofs.lemmas.Result.{err_from_is_err_and}
 use Rattle.npnp.specs.Check.{EndsAt}
-use Rattle.npnp.specs.Report.{netlist_of}
-use Rattle.npnp.specs.Steps.{IsVerdict}
+use Rattle.npnp.specs.Steps.{AreComputed, IsVerdict, netlist_of}
 use Rattle.npnp.specs.Stops.{outcome_of}
+use Rattle.npnp.specs.declared.files.Stop.TheVariants as stop
+use Rattle.npnp.specs.declared.outcome.Outcome.TheVariants.{Memory}
 use Rattle.npnp.specs.declared.outcome.Which.TheVariants.{Second}
-use Rattle.npnp.proofs.CheckLemmas.{rose_later, right_at_second, right_by_verdict, asks_both, stopped, stop_right, stop_reading, stop_is, judged_on}
+use Rattle.npnp.proofs.CheckLemmas.{rose_later, right_at_second, right_by_verdict, asks_both, stopped, stop_right, stop_reading, stop_is}
 use Rattle.npnp.proofs.run.decide.Goals as goal
 
 pub returns-in_err-second : goal.returns-in_err-second
@@ -14,7 +15,7 @@ returns-in_err-second g c =
     let p = err_from_is_err_and c.from_residual-in_err-second.result c.from_residual-in_err-second.ensures.1 in
     let o = c.in_err-second.field-0.0 in
     stopped _ _ _ _ _ _ _ o (cc (p.1, p.2)) (λ n. c.read_netlist-2.ensures.files n ∙ c.read_netlist.ensures.files n)
-    (λ tells words asks. right_at_second _ words _ _ _ (netlist_of c.in_ok-first.first) asks (c.in_ok-first.ensures.found tells) o (subst (λ content. EndsAt Second content o) (c.read_netlist.ensures.files _) (c.in_err-second.ensures.ended tells)))
+    (λ tells words asks. right_at_second _ words _ _ _ (netlist_of c.in_ok-first.ensures.found.circuit c.in_ok-first.first) asks (c.in_ok-first.ensures.found.held tells) o (subst (λ content. EndsAt Second content o) (c.read_netlist.ensures.files _) (c.in_err-second.ensures.ended tells)))
     c.in_err-second.ensures.reading
     (λ e. rose_later _ _ _ c.read_netlist.ensures.faults c.read_netlist-2.ensures.faults (c.read_netlist-2.ensures.failed (cc (e, c.in_err-second.was))))
 
@@ -27,22 +28,38 @@ returns-in_err-outcome g c =
     (stop_reading s)
     (λ e. let is = stop_is s e in rose_later _ _ _ (omega (arith, c.read_netlist.ensures.faults, c.read_netlist-2.ensures.faults)) c.judge.ensures.faults (c.judge.ensures.failed (cc (is, c.in_err-outcome.was))))
 
+pub returns-in_err-report : goal.returns-in_err-report
+returns-in_err-report g c =
+    let p = err_from_is_err_and c.from_residual-in_err-report.result c.from_residual-in_err-report.ensures.1 in
+    stopped _ _ _ _ _ _ _ Memory (cc (p.1, p.2)) (λ n. c.judge.ensures.files n ∙ c.read_netlist-2.ensures.files n ∙ c.read_netlist.ensures.files n)
+    (λ tells words asks. tt)
+    (stop_reading stop.Memory)
+    (λ e. cc)
+
 pub returns : goal.returns
 returns g c =
-    let first = netlist_of c.in_ok-first.first in
-    let second = netlist_of c.in_ok-second.second in
+    let first_read = c.in_ok-first.ensures.found in
+    let second_read = c.in_ok-second.ensures.found in
+    let first = netlist_of first_read.circuit c.in_ok-first.first in
+    let second = netlist_of second_read.circuit c.in_ok-second.second in
+    let computed : AreComputed c.in_ok-first.first.graph c.in_ok-second.second.graph first.circuit second.circuit = record {
+      first_acyclic = first_read.acyclic;
+      second_acyclic = second_read.acyclic;
+      first_computed = first_read.computes;
+      second_computed = second_read.computes;
+    } in
     record {
       files = λ n. c.judge.ensures.files n ∙ c.read_netlist-2.ensures.files n ∙ c.read_netlist.ensures.files n;
-      right = λ tells words asks. right_by_verdict _ words first second _ (asks_both _ _ words _ _ _ first second (c.read_netlist.ensures.files _) asks (c.in_ok-first.ensures.found tells) (c.in_ok-second.ensures.found tells)) _ (subst (λ content. IsVerdict first.net second.net content c.in_ok-outcome.outcome) (c.read_netlist-2.ensures.files _ ∙ c.read_netlist.ensures.files _) (c.in_ok-outcome.ensures.right tells));
+      right = λ tells words asks. right_by_verdict _ words first second _ (asks_both _ _ words _ _ _ first second (c.read_netlist.ensures.files _) asks (first_read.held tells) (second_read.held tells)) _ (subst (λ content. IsVerdict first.circuit second.circuit content c.in_ok-outcome.outcome) (c.read_netlist-2.ensures.files _ ∙ c.read_netlist.ensures.files _) (c.in_ok-outcome.ensures.right tells first.circuit second.circuit computed));
       ended = λ tells words asks. tt;
       report = λ words asks. inr (record {
-        first = c.in_ok-first.first;
-        second = c.in_ok-second.second;
+        first = first;
+        second = second;
         account_name = c.args.check.now.account.now;
-        of_files = λ tells. asks_both _ _ words _ _ _ first second (c.read_netlist.ensures.files _) asks (c.in_ok-first.ensures.found tells) (c.in_ok-second.ensures.found tells);
+        of_files = λ tells. asks_both _ _ words _ _ _ first second (c.read_netlist.ensures.files _) asks (first_read.held tells) (second_read.held tells);
         same = c.in_ok-report.ensures;
       });
-      judged = judged_on c.in_ok-first.first c.in_ok-second.second c.in_ok-outcome.outcome c.in_ok-outcome.ensures.on;
+      judged = c.in_ok-outcome.ensures.judged;
       reading = tt;
       failed = λ e. cc;
     }
