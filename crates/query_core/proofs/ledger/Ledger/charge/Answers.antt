@@ -1,5 +1,5 @@
 -- The last entry has one line more, which is charged or refused.
-use Rattle.std.proofs.Common.{◌≡◌, ◌+◌, ◌-◌, ◌<◌, length, List, refl, true, sym, subst, ap, ◌∙◌, arith}
+use Rattle.std.proofs.Common.{◌+◌, ◌-◌, ◌<◌, length, List, refl, true, sym, subst, ap, ◌∙◌, arith}
 use Rattle.query_core.specs.declared.ledger.Asked.{Asked}
 use Rattle.query_core.specs.Ledgers.{IsLedger, IsSpent, Ledgered, with_line}
 use Rattle.query_core.proofs.LedgerLemmas.{kept_charged, kept_spent, learned_is, written}
