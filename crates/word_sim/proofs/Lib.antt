@@ -1,3 +1,3 @@
 mod Fillings
 pub mod Lanes
-mod Rows
+pub mod Rows

@@ -17,7 +17,7 @@ put-step columns values k w word here room is so_far =
 abbrev pub written : List (List ℕ) → ℕ → ℕ → ℕ → List (List ℕ)
 written columns k w word = set columns k (set (get_or columns k []) w word)
 
-row-written : (columns : List (List ℕ)) (k w word : ℕ) → w < length (get_or columns k []) → row_of (written columns k w word) w ≡ set (row_of columns w) k word
+pub row-written : (columns : List (List ℕ)) (k w word : ℕ) → w < length (get_or columns k []) → row_of (written columns k w word) w ≡ set (row_of columns w) k word
 row-written columns k w word h =
     map-set (word_of w) columns k (set (get_or columns k []) w word) ∙ ap (λ n. set (row_of columns w) k n) (get_or-set_same (get_or columns k []) w word 0 h)
 

@@ -1,7 +1,7 @@
 //! Tables of words, a column for each port.
 
-ghost use Rattle.std.specs.Prelude.{◌≡◌, ◌<◌, [], IfOk, length, replicate, slice_index_or, slice_set};
-ghost use Rattle.word_sim.specs.Columns.{IsTable, word_of};
+ghost use Rattle.std.specs.Prelude.{◌≡◌, ◌<◌, [], All, IfOk, length, replicate, slice_index_or, slice_set};
+ghost use Rattle.word_sim.specs.Columns.{IsTable, lane as lane_bits, row_of, vector_at, word_of};
 
 use items::Items;
 use std::alloc::{AllocError, Global};
@@ -94,4 +94,35 @@ impl Words {
     {
         self.columns[column as usize].set(word, value);
     }
+
+    /// The vector that a bit of a word holds: a bit of each column.
+    ///
+    /// # Errors
+    ///
+    /// For want of memory alone.
+    pub fn vector(&self, alloc: Global, word: usize, lane: u32) -> Result<Items<bool>, AllocError>
+        requires word { word < self.now.words }
+        requires lane { lane < 64 }
+        ensures { IfOk result (λ vector. vector ≡ vector_at self.now word lane) }
+    {
+        lane_of(alloc, &self.columns, word, lane)
+    }
+}
+
+/// A bit of a word of each column.
+fn lane_of(
+    alloc: Global,
+    columns: &[Items<u64>],
+    word: usize,
+    lane: u32,
+) -> Result<Items<bool>, AllocError>
+    requires word { All (λ column. word < length column) columns.now }
+    requires lane { lane < 64 }
+    ensures { IfOk result (λ bits. bits ≡ lane_bits lane (row_of columns.now word)) }
+{
+    let mut bits = Items::with_capacity(alloc, columns.len())?;
+    for column in columns {
+        bits.push((column[word] >> lane) % 2 == 1)?;
+    }
+    Ok(bits)
 }

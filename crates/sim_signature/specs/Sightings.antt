@@ -1,0 +1,57 @@
+-- Vectors that were seen to break claims of an output.
+use Rattle.std.specs.Prelude.{◌≡◌, ◌⊎◌, ◌↔◌, ℕ, ◌<◌, true, List, [], ◌∷◌, ◌++◌, All, Any}
+use Rattle.circuits.specs.Netlists.{Net}
+use Rattle.query_core.specs.declared.claims.Shape.{Shape}
+use Rattle.query_core.specs.declared.claims.Shape.TheVariants.{Up, Down, Swap}
+use Rattle.query_core.specs.Claims.{IsPlaced, BreaksShape}
+use Rattle.word_sim.specs.Columns.{Table, word_bit, vector_at}
+use Rattle.sim_signature.specs.declared.sighting.Sighting.{Sighting}
+
+-- the vector breaks the shape, whose inputs are there
+abbrev pub IsBroken : Net → ℕ → Sighting → Type 0
+IsBroken net k sighting = IsPlaced net.inputs sighting.shape × BreaksShape net k sighting.shape sighting.vector
+
+abbrev pub AreBroken : Net → ℕ → List Sighting → Type 0
+AreBroken net k sightings = All (IsBroken net k) sightings
+
+-- some sighting is of the shape
+abbrev pub IsSighted : Shape → List Sighting → Type 0
+IsSighted shape sightings = Any (λ sighting. sighting.shape ≡ shape) sightings
+
+-- the bits of a word that stand for vectors, of the first words of the columns, that break the shape
+abbrev pub AreBreaking : Net → ℕ → Table → Shape → ℕ → Type 0
+AreBreaking net k table shape lanes = (v : ℕ) → v < 64 → (word_bit v lanes ≡ true ↔ BreaksShape net k shape (vector_at table 0 v))
+
+-- one of the word's vectors is noted, where there is one
+abbrev pub IsNoted : Table → Shape → ℕ → List Sighting → List Sighting → Type 0
+IsNoted table shape lanes old new =
+    ((lanes ≡ 0) × (new ≡ old)) ⊎ ((v : ℕ) × (v < 64) × (word_bit v lanes ≡ true) × (new ≡ old ++ record { shape = shape; vector = vector_at table 0 v } ∷ []))
+
+-- Sightings are added: each shape among those hunted that one of the 64 vectors breaks is sighted.
+pub record Hunted (net : Net) (k : ℕ) (table : Table) (Among : Shape → Type 0) (old new : List Sighting) : Type 0 where
+  pub broken : AreBroken net k old → AreBroken net k new
+  pub kept : (shape : Shape) → IsSighted shape old → IsSighted shape new
+  pub found : (shape : Shape) → Among shape → (v : ℕ) → v < 64 → BreaksShape net k shape (vector_at table 0 v) → IsSighted shape new
+
+-- the shape is of one input, or of two of which it is the first
+abbrev pub IsOfInput : ℕ → Shape → Type 0
+IsOfInput i (Up j) = j ≡ i
+IsOfInput i (Down j) = j ≡ i
+IsOfInput i (Swap j other a b) = ⊥
+
+abbrev pub IsOfPair : ℕ → ℕ → Shape → Type 0
+IsOfPair i j (Up other) = ⊥
+IsOfPair i j (Down other) = ⊥
+IsOfPair i j (Swap first second a b) = (first ≡ i) × (second ≡ j)
+
+-- the shape swaps input i with one behind it, below `end`
+abbrev pub IsOfPairBelow : ℕ → ℕ → Shape → Type 0
+IsOfPairBelow i end (Up other) = ⊥
+IsOfPairBelow i end (Down other) = ⊥
+IsOfPairBelow i end (Swap first second a b) = (first ≡ i) × (i < second) × (second < end)
+
+-- the shape's first input is below `end`
+abbrev pub IsOfInputsBelow : ℕ → Shape → Type 0
+IsOfInputsBelow end (Up i) = i < end
+IsOfInputsBelow end (Down i) = i < end
+IsOfInputsBelow end (Swap i j a b) = i < end

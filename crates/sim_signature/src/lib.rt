@@ -1,0 +1,13 @@
+//! Vectors that break claims of an output, found by simulation.
+#![tactic(auto)]
+
+mod hunting;
+mod lanes;
+mod sighting;
+mod vectors;
+
+pub use hunting::hunt;
+pub use sighting::Sighting;
+
+#[cfg(test)]
+mod tests;
