@@ -148,6 +148,7 @@ impl Trail {
     /// How many literals are assigned.
     pub fn len(&self) -> u64
         ensures value { result ≡ length self.now.entries }
+        ensures most { result ≤ self.now.variables }
         ensures trail { IsTrail self.now }
     {
         self.entries.len() as u64
