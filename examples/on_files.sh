@@ -12,10 +12,8 @@ sed 's/i1+0/i1+1/' a-b.match >twice.match
 sed '/end/d' a-b.match >cut.match
 sed 's/6 5 2/6 5 3/' b.aag >other.aag
 mkdir folder
-printf 'aag 13 13 0 0 0\n' >wide.aag
-for i in {1..13}; do echo $((2 * i)); done >>wide.aag
 printf 'aig 3 2 0 2 1\n6\n2\n\2\2' >a.aig
-printf 'npnp 1\nmatch i0+0 i1+1 o0+0 o1+1\nend\n' >a.match
+printf '%s\n' 'npnp 1' 'match i0+0 i1+1 o0+0 o1+1' 'l : 7 8 1 2 6' 'l : 7 8 4 5 3' 'l : 7 8' 'l : 7 8' end >a.match
 failed=0
 
 wants() { # STATUS FIRST-LINE WORDS..
@@ -32,16 +30,15 @@ wants() { # STATUS FIRST-LINE WORDS..
 }
 
 wants 0 'accepted match' check a.aag b.aag a-b.match
-wants 2 'rejected' check a.aag b.aag sign.match
-wants 2 'rejected' check a.aag b.aag twice.match
-wants 2 'rejected' check a.aag b.aag cut.match
-wants 2 'rejected' check a.aag other.aag a-b.match
-wants 2 'rejected' check a.aag b.aag a.aag
+wants 2 'rejected line 3 refutation' check a.aag b.aag sign.match
+wants 2 'rejected line 2 conclusion' check a.aag b.aag twice.match
+wants 2 'rejected line 7 truncated' check a.aag b.aag cut.match
+wants 2 'rejected line 3 refutation' check a.aag other.aag a-b.match
+wants 2 'rejected line 1 header' check a.aag b.aag a.aag
 wants 5 'absent account' check a.aag b.aag absent.match
 wants 5 'absent first' check absent.aag b.aag a-b.match
 wants 5 'malformed second 27 0' check a.aag a-b.match a-b.match
 wants 0 'accepted match' check c17.blif c17_moved.aig c17.match
-wants 5 'wide' check wide.aag a.aag absent.match
 wants 0 'accepted match' check a.aag a.aig a.match
 wants 4 'usage' match a.aag b.aag a-b.match
 wants 4 'usage'
