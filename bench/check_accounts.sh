@@ -11,7 +11,7 @@ mkdir -p "$work"
 [ $# -gt 0 ] || trap 'rm -rf "$work"' EXIT
 resynthesize='balance; rewrite; refactor; balance; rewrite; rewrite -z; balance; refactor -z; rewrite -z; balance; dch; if -K 6; strash'
 declare -A verilog=(
-  [adder64]='module m(input [63:0] a, input [63:0] b, output [64:0] y); assign y = a + b; endmodule'
+  [adder96]='module m(input [95:0] a, input [95:0] b, output [96:0] y); assign y = a + b; endmodule'
   [compare48]='module m(input [47:0] a, input [47:0] b, output l, output e); assign l = a < b; assign e = a == b; endmodule'
   [alu16]='module m(input [15:0] a, input [15:0] b, input [1:0] f, output [15:0] y); assign y = f == 0 ? a + b : f == 1 ? a - b : f == 2 ? (a & b) : (a ^ b); endmodule'
   [multiply6]='module m(input [5:0] a, input [5:0] b, output [11:0] y); assign y = a * b; endmodule'
@@ -19,7 +19,7 @@ declare -A verilog=(
 )
 "$top/npnp" --help >/dev/null
 "$top/npnp" >/dev/null 2>&1 || true
-for name in adder64 compare48 alu16 multiply6 multiply7; do
+for name in adder96 compare48 alu16 multiply6 multiply7; do
   base=$work/$name
   if [ ! -e "$base.account" ]; then
     echo "${verilog[$name]}" >"$base.v"
