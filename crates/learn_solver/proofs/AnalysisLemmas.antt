@@ -1,20 +1,20 @@
 -- Where an analysis begins, and how it goes on from place to place.
-use Rattle.std.proofs.Common.{◌≡◌, ◌≢◌, ℕ, zero, suc, ◌+◌, ◌-◌, ◌<◌, ◌≤◌, ◌==◌, ◌&&◌, ◌||◌, cond, Bool, true, false, List, [], ◌∷◌, ◌++◌, length, take, drop, reverse, replicate, All, None, Some, count_by, slice_index_or, inl, inr, refl, sym, ◌∙◌, ap, subst, arith}
+use Rattle.std.proofs.Common.{◌≡◌, ◌≢◌, ℕ, zero, suc, ◌+◌, ◌-◌, ◌<◌, ◌≤◌, ◌==◌, ◌&&◌, ◌||◌, cond, Bool, true, false, List, [], ◌∷◌, ◌++◌, length, take, drop, reverse, replicate, None, slice_index_or, inl, inr, refl, sym, ◌∙◌, ap, subst, arith}
 use Rattle.std.specs.List.{list_all}
 use Rattle.std.proofs.lemmas.Bool.{cases_eq, and_from, and_left, eq-eqb, ne_eqb, or_cases}
 use Rattle.std.proofs.lemmas.Bool.Decides.{eqb_tells, leb_tells}
-use Rattle.std.proofs.lemmas.List.{get_or-take, length-take, take_at}
+use Rattle.std.proofs.lemmas.List.{length-take, take_at}
 use Rattle.std.proofs.lemmas.List.Sums.{count_by-le-length, sum_by_more}
 use Rattle.std.proofs.lemmas.List.Recursion.{and_at, and_from_places}
 use Rattle.circuits.specs.Literals.{bit}
 use Rattle.cnf_core.specs.declared.literal.SatLit.{SatLit}
-use Rattle.cnf_core.specs.declared.effect.Effect.TheVariants.{Conflict, Makes, Neither}
+use Rattle.cnf_core.specs.declared.effect.Effect.TheVariants.{Conflict, Neither}
 use Rattle.cnf_core.specs.Clauses.{clause_at, opposite, variable_of}
 use Rattle.cnf_core.specs.Derivations.{effect_of, is_false, is_true, is_same}
 use Rattle.trail_core.specs.declared.assigned.Assigned.{Assigned}
 use Rattle.trail_core.specs.Trails.{IsTrail, Trailing, entry_at, literals, nothing}
 use Rattle.learn_solver.specs.Propagations.{IsJustified, IsReason, IsSound, before}
-use Rattle.learn_solver.specs.Analyses.{AreBefore, AreMarked, HasPlace, IsAnalysed, StayMarked, here_in, is_marked, kept_here}
+use Rattle.learn_solver.specs.Analyses.{AreBefore, AreMarked, IsAnalysed, StayMarked, here_in, is_marked, kept_here}
 use Rattle.learn_solver.proofs.MarkLemmas.{none_pass}
 use Rattle.learn_solver.proofs.EffectLemmas.{conflict_from, conflict_says, makes_says, same_literal}
 use Rattle.learn_solver.proofs.DeriveLemmas.{derive_conflict, derive_reason, derive_unmarked}
@@ -31,7 +31,7 @@ unmarked_bit (suc n) (suc v) = unmarked_bit n v
 
 pub none_marked : (t : Trailing) (n p : ℕ) → here_in t (replicate n false) p ≡ 0
 none_marked t n p = none_pass (is_counted t (replicate n false)) (take p t.entries) nothing (λ k h.
-  let e = slice_index_or (take p t.entries) k nothing in and_left (is_marked (replicate n false) e) (e.level == t.level) (unmarked_bit n (variable_of e.literal)))
+    let e = slice_index_or (take p t.entries) k nothing in and_left (is_marked (replicate n false) e) (e.level == t.level) (unmarked_bit n (variable_of e.literal)))
 
 pub here_within : (t : Trailing) (marked : List Bool) (p : ℕ) → here_in t marked p ≤ p
 here_within t marked p = omega (arith, count_by-le-length (is_counted t marked) (take p t.entries), length-take p t.entries)
@@ -52,16 +52,16 @@ conflict_here clauses t trail sound marked id there conflict are_marked some =
         let quiet = subst (λ r. IsJustified clauses (before es s.at) (entry_at es s.at).literal r) s.decision (sound.justified s.at s.within) in
         let all = conflict_says (literals es) c conflict in
         let each : (k : ℕ) → k < length c → is_false (before es s.at) (slice_index_or c k no_literal) ≡ true = λ k within.
-          let l = slice_index_or c k no_literal in
-          let falsity = ap (λ made. is_false made l) (before_whole es) ∙ and_at (list_all (is_false (literals es))) (is_false (literals es)) refl (λ _ _. refl) c k no_literal within all in
-          let p = stands es (length es) (opposite l) falsity in
-          let marked_there : is_marked marked (entry_at es p.at) ≡ true = ap (λ (m : SatLit). bit marked (variable_of m)) p.is ∙ (ap (bit marked) (variable_of-opposite l) ∙ are_marked k no_literal within) in
-          let lower : (entry_at es p.at).level ≢ t.level = λ same. absurd (omega (arith, none, counted_here t marked (length es) p.at p.within p.within marked_there same)) in
-          let first : p.at < s.at = elim (leb_tells s.at p.at) [
-            | inl (found, behind) ↦ absurd (omega (arith, lower, low_level t trail p.at p.within, ascend t trail s.at p.at behind p.within, s.level_there))
-            | inr (found, ahead) ↦ ahead
-          ] in
-          ap (is_true (before es s.at)) (sym p.is) ∙ true_before es s.at p.at first p.within in
+        let l = slice_index_or c k no_literal in
+        let falsity = ap (λ made. is_false made l) (before_whole es) ∙ and_at (list_all (is_false (literals es))) (is_false (literals es)) refl (λ _ _. refl) c k no_literal within all in
+        let p = stands es (length es) (opposite l) falsity in
+        let marked_there : is_marked marked (entry_at es p.at) ≡ true = ap (λ (m : SatLit). bit marked (variable_of m)) p.is ∙ (ap (bit marked) (variable_of-opposite l) ∙ are_marked k no_literal within) in
+        let lower : (entry_at es p.at).level ≢ t.level = λ same. absurd (omega (arith, none, counted_here t marked (length es) p.at p.within p.within marked_there same)) in
+        let first : p.at < s.at = elim (leb_tells s.at p.at) [
+          | inl (found, behind) ↦ absurd (omega (arith, lower, low_level t trail p.at p.within, ascend t trail s.at p.at behind p.within, s.level_there))
+          | inr (found, ahead) ↦ ahead
+        ] in
+        ap (is_true (before es s.at)) (sym p.is) ∙ true_before es s.at p.at first p.within in
         let again = conflict_from (before es s.at) c (and_from_places (list_all (is_false (before es s.at))) (is_false (before es s.at)) refl (λ _ _. refl) c no_literal each) in
         let clash : Conflict ≡ Neither = sym again ∙ quiet id [] there in
         cc

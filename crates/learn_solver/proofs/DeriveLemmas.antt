@@ -1,24 +1,22 @@
 -- Steps that lead to a conflict from where the marked literals that are left are true.
-use Rattle.std.proofs.Common.{◌≡◌, ◌≢◌, ℕ, zero, suc, ◌+◌, ◌-◌, ◌<◌, ◌≤◌, ◌==◌, ◌&&◌, ◌||◌, cond, Bool, true, false, List, [], ◌∷◌, ◌++◌, length, take, reverse, All, Option, None, Some, nat_lt, slice_index_or, inl, inr, refl, sym, ◌∙◌, ap, subst, arith}
-use Rattle.std.specs.List.{list_any, list_all}
-use Rattle.std.proofs.lemmas.Bool.{cases_eq, cases_Bool, false≢true, both_ways, lt-ltb, or_cases, or_left, or_right, and_from, cond-true}
+use Rattle.std.proofs.Common.{◌≡◌, ℕ, ◌+◌, ◌<◌, ◌≤◌, ◌||◌, cond, Bool, true, false, List, [], ◌∷◌, ◌++◌, length, reverse, None, Some, slice_index_or, inl, inr, refl, sym, ◌∙◌, ap, arith}
+use Rattle.std.specs.List.{list_all}
+use Rattle.std.proofs.lemmas.Bool.{cases_eq, cases_Bool, false≢true, both_ways, lt-ltb, or_cases, or_left, or_right}
 use Rattle.std.proofs.lemmas.List.{reverse-append}
 use Rattle.std.proofs.lemmas.List.Folds.{list_any-append}
 use Rattle.std.proofs.lemmas.List.Recursion.{and_at, and_from_places}
 use Rattle.circuits.specs.Literals.{bit}
 use Rattle.cnf_core.specs.declared.literal.SatLit.{SatLit}
-use Rattle.cnf_core.specs.declared.effect.Effect.{Effect}
 use Rattle.cnf_core.specs.declared.effect.Effect.TheVariants.{Conflict, Makes}
-use Rattle.cnf_core.specs.declared.fault.LineFault.{LineFault}
 use Rattle.cnf_core.specs.declared.fault.LineFault.TheVariants as fault
 use Rattle.cnf_core.specs.Clauses.{clause_at, opposite, variable_of}
 use Rattle.cnf_core.specs.Derivations.{effect_of, fault_behind, hint_fault, is_false, is_same, is_true}
 use Rattle.trail_core.specs.declared.assigned.Assigned.{Assigned}
-use Rattle.trail_core.specs.Trails.{IsTrail, Trailing, entry_at, literals}
+use Rattle.trail_core.specs.Trails.{entry_at, literals}
 use Rattle.learn_solver.specs.Propagations.{IsReason, before}
-use Rattle.learn_solver.specs.Analyses.{AreBefore, AreMarked, HasPlace, IsBetween, StayMarked, is_marked}
+use Rattle.learn_solver.specs.Analyses.{AreMarked, IsBetween, StayMarked, is_marked}
 use Rattle.learn_solver.proofs.EffectLemmas.{IsMaker, conflict_from, conflict_says, makes_from, makes_says, same_itself, same_literal}
-use Rattle.learn_solver.proofs.PlaceLemmas.{before_whole, place_of_false, stands, true_before, true_further, variable_of-opposite}
+use Rattle.learn_solver.proofs.PlaceLemmas.{before_whole, stands, true_before, true_further, variable_of-opposite}
 
 abbrev nothing_there : SatLit
 nothing_there = record { 0 = 0 }

@@ -1,9 +1,8 @@
 -- What the effect of a clause says of its literals, and what it takes.
-use Rattle.std.proofs.Common.{◌≡◌, ◌≢◌, ℕ, suc, ◌<◌, ◌==◌, ◌&&◌, ◌||◌, not, cond, eqb, Bool, true, false, List, [], ◌∷◌, length, filter, slice_index_or, ◌⊎◌, inl, inr, refl, sym, ◌∙◌, ap, subst, arith}
+use Rattle.std.proofs.Common.{◌≡◌, ◌≢◌, ◌&&◌, ◌||◌, not, cond, Bool, true, false, List, [], ◌∷◌, inl, inr, refl, sym, ◌∙◌, ap, subst}
 use Rattle.std.specs.List.{list_any, list_all}
-use Rattle.std.proofs.lemmas.Bool.{false≢true, eq-eqb, eqb-true, or_cases, or_left, or_right, and_parts, and_from, cases_Bool, cond-true, cond-false, not-true, not_from_false, not_from_true, both_ways}
+use Rattle.std.proofs.lemmas.Bool.{false≢true, eq-eqb, eqb-true, or_cases, or_left, or_right, and_parts, and_from, cases_Bool, cond-true, not-true, both_ways}
 use Rattle.cnf_core.specs.declared.literal.SatLit.{SatLit}
-use Rattle.cnf_core.specs.declared.effect.Effect.{Effect}
 use Rattle.cnf_core.specs.declared.effect.Effect.TheVariants.{Conflict, Makes, Neither}
 use Rattle.cnf_core.specs.Derivations.{is_same, is_true, is_false, effect_by, effect_of}
 use Rattle.learn_solver.proofs.WalkLemmas.{open_ones}
@@ -21,11 +20,11 @@ all_open made p [] = refl
 all_open made p (y ∷ clause) =
     elim (cases_Bool (is_false made y)) [
       | inl e ↦
-              ap (λ t. list_all p (cond (not t) (y ∷ open_ones made clause) (open_ones made clause))) e
-              ∙ (all_open made p clause ∙ sym (ap (λ t. (t || p y) && list_all (λ y'. is_false made y' || p y') clause) e))
+          ap (λ t. list_all p (cond (not t) (y ∷ open_ones made clause) (open_ones made clause))) e
+          ∙ (all_open made p clause ∙ sym (ap (λ t. (t || p y) && list_all (λ y'. is_false made y' || p y') clause) e))
       | inr e ↦
-              ap (λ t. list_all p (cond (not t) (y ∷ open_ones made clause) (open_ones made clause))) e
-              ∙ (ap (λ t. p y && t) (all_open made p clause) ∙ sym (ap (λ t. (t || p y) && list_all (λ y'. is_false made y' || p y') clause) e))
+          ap (λ t. list_all p (cond (not t) (y ∷ open_ones made clause) (open_ones made clause))) e
+          ∙ (ap (λ t. p y && t) (all_open made p clause) ∙ sym (ap (λ t. (t || p y) && list_all (λ y'. is_false made y' || p y') clause) e))
     ]
 
 -- what is found among those that aren't false is in the clause
@@ -35,11 +34,11 @@ any_of_open made p (y ∷ clause) e =
     elim (cases_Bool (is_false made y)) [
       | inl is ↦ or_right (p y) (list_any p clause) (any_of_open made p clause (sym (ap (λ t. list_any p (cond (not t) (y ∷ open_ones made clause) (open_ones made clause))) is) ∙ e))
       | inr is ↦
-              let found = sym (ap (λ t. list_any p (cond (not t) (y ∷ open_ones made clause) (open_ones made clause))) is) ∙ e in
-              elim (or_cases (p y) (list_any p (open_ones made clause)) found) [
-                | inl here ↦ or_left (p y) (list_any p clause) here
-                | inr behind ↦ or_right (p y) (list_any p clause) (any_of_open made p clause behind)
-              ]
+          let found = sym (ap (λ t. list_any p (cond (not t) (y ∷ open_ones made clause) (open_ones made clause))) is) ∙ e in
+          elim (or_cases (p y) (list_any p (open_ones made clause)) found) [
+            | inl here ↦ or_left (p y) (list_any p clause) here
+            | inr behind ↦ or_right (p y) (list_any p clause) (any_of_open made p clause behind)
+          ]
     ]
 
 -- a literal of the clause that isn't false is among those that aren't
@@ -48,16 +47,16 @@ any_in_open made l [] free e = e
 any_in_open made l (y ∷ clause) free e =
     elim (cases_Bool (is_false made y)) [
       | inl is ↦
-              elim (or_cases (is_same l y) (list_any (is_same l) clause) e) [
-                | inl here ↦ absurd (both_ways (is_false made l) free (ap (is_false made) (same_literal l y here) ∙ is))
-                | inr behind ↦ ap (λ t. list_any (is_same l) (cond (not t) (y ∷ open_ones made clause) (open_ones made clause))) is ∙ any_in_open made l clause free behind
-              ]
+          elim (or_cases (is_same l y) (list_any (is_same l) clause) e) [
+            | inl here ↦ absurd (both_ways (is_false made l) free (ap (is_false made) (same_literal l y here) ∙ is))
+            | inr behind ↦ ap (λ t. list_any (is_same l) (cond (not t) (y ∷ open_ones made clause) (open_ones made clause))) is ∙ any_in_open made l clause free behind
+          ]
       | inr is ↦
-              ap (λ t. list_any (is_same l) (cond (not t) (y ∷ open_ones made clause) (open_ones made clause))) is
-              ∙ elim (or_cases (is_same l y) (list_any (is_same l) clause) e) [
-                | inl here ↦ or_left (is_same l y) (list_any (is_same l) (open_ones made clause)) here
-                | inr behind ↦ or_right (is_same l y) (list_any (is_same l) (open_ones made clause)) (any_in_open made l clause free behind)
-              ]
+          ap (λ t. list_any (is_same l) (cond (not t) (y ∷ open_ones made clause) (open_ones made clause))) is
+          ∙ elim (or_cases (is_same l y) (list_any (is_same l) clause) e) [
+            | inl here ↦ or_left (is_same l y) (list_any (is_same l) (open_ones made clause)) here
+            | inr behind ↦ or_right (is_same l y) (list_any (is_same l) (open_ones made clause)) (any_in_open made l clause free behind)
+          ]
     ]
 
 -- of what isn't false nothing is false
@@ -67,9 +66,9 @@ first_open made (y ∷ clause) x others e =
     elim (cases_Bool (is_false made y)) [
       | inl is ↦ first_open made clause x others (sym (ap (λ t. cond (not t) (y ∷ open_ones made clause) (open_ones made clause)) is) ∙ e)
       | inr is ↦
-              let found : y ∷ open_ones made clause ≡ x ∷ others = sym (ap (λ t. cond (not t) (y ∷ open_ones made clause) (open_ones made clause)) is) ∙ e in
-              let same : y ≡ x = cc in
-              ap (is_false made) (sym same) ∙ is
+          let found : y ∷ open_ones made clause ≡ x ∷ others = sym (ap (λ t. cond (not t) (y ∷ open_ones made clause) (open_ones made clause)) is) ∙ e in
+          let same : y ≡ x = cc in
+          ap (is_false made) (sym same) ∙ is
     ]
 
 -- all literals of a conflict are false, and the other way round

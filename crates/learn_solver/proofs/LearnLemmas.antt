@@ -1,21 +1,20 @@
 -- What is learned at the end of an analysis.
-use Rattle.std.proofs.Common.{◌≡◌, ◌≢◌, ℕ, zero, suc, ◌+◌, ◌-◌, ◌/◌, ◌<◌, ◌≤◌, ◌==◌, ◌&&◌, ◌||◌, cond, Bool, true, false, List, [], ◌∷◌, length, map, reverse, All, None, slice_index_or, inl, inr, refl, sym, ◌∙◌, ap, subst, arith}
+use Rattle.std.proofs.Common.{◌≡◌, ◌≢◌, ℕ, zero, suc, ◌/◌, ◌<◌, ◌≤◌, ◌==◌, ◌||◌, cond, Bool, true, false, List, [], ◌∷◌, length, map, reverse, All, None, slice_index_or, inl, inr, refl, sym, ◌∙◌, ap, subst, arith}
 use Rattle.std.specs.List.{list_any, list_all}
-use Rattle.std.proofs.lemmas.Bool.{cases_eq, cases_Bool, both_ways, eq-eqb, eqb-true, false≢true, or_cases, or_from, or_left, or_right}
+use Rattle.std.proofs.lemmas.Bool.{cases_eq, cases_Bool, eq-eqb, eqb-true, false≢true, or_cases, or_from, or_left, or_right}
 use Rattle.std.proofs.lemmas.Bool.Decides.{eqb_tells, leb_tells}
 use Rattle.std.proofs.lemmas.List.Folds.{list_any_at}
 use Rattle.std.proofs.lemmas.List.Recursion.{and_at, and_from_places}
-use Rattle.circuits.specs.Literals.{bit}
 use Rattle.cnf_core.specs.declared.literal.SatLit.{SatLit}
 use Rattle.cnf_core.specs.declared.effect.Effect.TheVariants.{Neither}
-use Rattle.cnf_core.specs.Clauses.{clause_at, opposite, variable_of}
+use Rattle.cnf_core.specs.Clauses.{opposite, variable_of}
 use Rattle.cnf_core.specs.Derivations.{effect_of, hint_fault, is_empty, is_false, is_same, is_true, repeats_variable}
 use Rattle.trail_core.specs.declared.assigned.Assigned.{Assigned}
-use Rattle.trail_core.specs.Trails.{IsTrail, Trailing, entry_at, literals}
-use Rattle.learn_solver.specs.Propagations.{AreKnown, IsJustified, IsQuiet, IsSound, before}
+use Rattle.trail_core.specs.Trails.{IsTrail, Trailing, entry_at}
+use Rattle.learn_solver.specs.Propagations.{IsJustified, IsSound, before}
 use Rattle.learn_solver.specs.Analyses.{IsAnalysed, IsBackLevel, IsBetween, IsLearnedAs, has_all, here_in, is_marked, kept_here, kept_literals}
-use Rattle.learn_solver.proofs.EffectLemmas.{neither_two, not_neither, same_itself, same_literal}
-use Rattle.learn_solver.proofs.KeptLemmas.{IsKeptAt, kept_at, kept_there, learned_at, no_literal, opposite_there, opposites_twice}
+use Rattle.learn_solver.proofs.EffectLemmas.{neither_two, not_neither, same_itself}
+use Rattle.learn_solver.proofs.KeptLemmas.{kept_at, kept_there, learned_at, no_literal, opposite_there, opposites_twice}
 use Rattle.learn_solver.proofs.PlaceLemmas.{IsHere, ascend, counted_here, decision_level, decision_raises, found_here, last_decision, low_level, only_here, opposite_twice, same_place, stands, true_before, variable_of-opposite}
 
 -- all marked literals that are left, and no others, are true where the clause is negated
@@ -89,11 +88,11 @@ few_here clauses t marked p here steps is = omega (arith, is.few, is.analysed.co
 -- at level 0 nothing is left
 closing : (clauses : List (List SatLit)) (t : Trailing) (marked : List Bool) (p here : ℕ) (steps : List ℕ) → IsDone clauses t marked p here steps → t.level ≡ 0 → map opposite (kept_literals t.entries marked p) ≡ []
 closing clauses t marked p here steps is lowest = ap (map opposite) (none_found (kept_literals t.entries marked p) (λ l e.
-  let k = kept_at t.entries marked p l e in
-  let level : (entry_at t.entries k.at).level ≡ t.level = omega (arith, low_level t is.trail k.at k.within, lowest) in
-  let some = counted_here t marked p k.at k.early k.within k.marked_there level in
-  let none : kept_here t.level ≡ 0 = ap (λ b. cond {A = ℕ} b 0 1) (eq-eqb t.level 0 lowest) in
-  omega (arith, some, is.few, is.analysed.count, none)))
+    let k = kept_at t.entries marked p l e in
+    let level : (entry_at t.entries k.at).level ≡ t.level = omega (arith, low_level t is.trail k.at k.within, lowest) in
+    let some = counted_here t marked p k.at k.early k.within k.marked_there level in
+    let none : kept_here t.level ≡ 0 = ap (λ b. cond {A = ℕ} b 0 1) (eq-eqb t.level 0 lowest) in
+    omega (arith, some, is.few, is.analysed.count, none)))
 
 -- no clause has all its literals in what is learned
 fresh_above : (clauses : List (List SatLit)) (t : Trailing) (marked : List Bool) (p here : ℕ) (steps : List ℕ) → IsDone clauses t marked p here steps → 0 < t.level → (id : ℕ) (d : List SatLit) → id < length clauses → has_all (map opposite (kept_literals t.entries marked p)) (slice_index_or clauses id d) ≡ true → ⊥
@@ -148,8 +147,8 @@ not_single clauses t marked p here level steps is back k within decision low =
     let a = (entry_at es u.at).literal in
     let b = (entry_at es w.at).literal in
     let differ : (opposite a).0 ≢ (opposite b).0 = λ same.
-      let one = same_place t is.trail u.at w.at u.within inside (sym (variable_of-opposite a) ∙ (ap (λ n. n / 2) same ∙ variable_of-opposite b)) in
-      omega (arith, ap (λ n. (entry_at es n).level) one, u.level_there, w.level_there, w.below) in
+    let one = same_place t is.trail u.at w.at u.within inside (sym (variable_of-opposite a) ∙ (ap (λ n. n / 2) same ∙ variable_of-opposite b)) in
+    omega (arith, ap (λ n. (entry_at es n).level) one, u.level_there, w.level_there, w.below) in
     let free_a = not_there u.at u.within (λ early. omega (arith, decision_raises t is.trail u.at k early within decision, u.level_there, w.below, low)) in
     let free_b = not_there w.at inside (λ early. omega (arith, decision_raises t is.trail w.at k early within decision, w.level_there, low)) in
     neither_two (before es k) (map opposite (kept_literals es marked p)) (opposite a) (opposite b) differ free_a free_b (opposite_there (kept_literals es marked p) a (kept_there es marked p u.at u.early u.within u.marked_there)) (opposite_there (kept_literals es marked p) b (kept_there es marked p w.at w.early inside w.marked_there))

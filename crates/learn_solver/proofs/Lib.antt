@@ -6,3 +6,8 @@ pub mod DeriveLemmas
 pub mod KeptLemmas
 pub mod AnalysisLemmas
 pub mod LearnLemmas
+pub mod SearchLemmas
+pub mod SolverLemmas
+pub mod StepLemmas
+pub mod ModelLemmas
+pub mod AdvanceLemmas

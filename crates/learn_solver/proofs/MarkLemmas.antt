@@ -1,5 +1,5 @@
 -- Marks of variables, and how many marked literals are of the present level.
-use Rattle.std.proofs.Common.{◌≡◌, ◌≢◌, ℕ, zero, suc, ◌+◌, ◌<◌, ◌≤◌, ◌==◌, ◌&&◌, cond, Bool, true, false, List, [], ◌∷◌, length, take, All, count_by, slice_index_or, slice_set, refl, sym, ◌∙◌, ap, subst, inl, inr, arith}
+use Rattle.std.proofs.Common.{◌≡◌, ◌≢◌, ℕ, zero, suc, ◌+◌, ◌<◌, ◌≤◌, ◌==◌, ◌&&◌, cond, Bool, true, false, List, [], ◌∷◌, length, take, count_by, slice_index_or, slice_set, refl, sym, ◌∙◌, ap, inl, inr, arith}
 use Rattle.std.proofs.lemmas.Bool.{cases_eq, cases_Bool}
 use Rattle.std.proofs.lemmas.Bool.Decides.{leb_tells}
 use Rattle.std.proofs.lemmas.List.{get_or_default, get_or-set_same, get_or-set_other, get_or-take, length-take, length-set}
@@ -100,11 +100,11 @@ counted_more t trail now v more place known fresh p present =
     let fails = ap f at ∙ (ap (λ w. bit now w && ((entry_at es p.at).level == t.level)) p.there ∙ ap (λ b. b && ((entry_at es p.at).level == t.level)) fresh) in
     let passes = ap g at ∙ (ap (λ w. bit (slice_set now v true) w && ((entry_at es p.at).level == t.level)) p.there ∙ ap (λ b. b && ((entry_at es p.at).level == t.level)) (get_or-set_same now v true false known)) in
     let same : (j : ℕ) → j < length (take place es) → j ≢ p.at → g (slice_index_or (take place es) j nothing) ≡ f (slice_index_or (take place es) j nothing) =
-      λ j h ne.
-        let first : j < place = omega (arith, length-take place es, h) in
-        let there = get_or-take place es j nothing first in
-        let other : variable_of (entry_at es j).literal ≢ v = λ e. apart t trail j p.at (omega (arith, length-take place es, h)) p.within ne (e ∙ sym p.there) in
-        ap g there ∙ (ap (λ b. b && ((entry_at es j).level == t.level)) (get_or-set_other now v (variable_of (entry_at es j).literal) true false other) ∙ sym (ap f there)) in
+    λ j h ne.
+    let first : j < place = omega (arith, length-take place es, h) in
+    let there = get_or-take place es j nothing first in
+    let other : variable_of (entry_at es j).literal ≢ v = λ e. apart t trail j p.at (omega (arith, length-take place es, h)) p.within ne (e ∙ sym p.there) in
+    ap g there ∙ (ap (λ b. b && ((entry_at es j).level == t.level)) (get_or-set_other now v (variable_of (entry_at es j).literal) true false other) ∙ sym (ap f there)) in
     one_more_counted f g (take place es) p.at nothing inside fails same ∙ ap (λ n. count_by f (take place es) + n) (ap (λ b. one_if b) passes ∙ sym (present p.at (record { within = p.within; there = p.there })))
 
 still : (now : List Bool) (v w : ℕ) → v < length now → bit now w ≡ true → bit (slice_set now v true) w ≡ true

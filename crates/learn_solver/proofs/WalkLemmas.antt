@@ -1,17 +1,17 @@
 -- A walk over clauses that assigns what is left of one: how far it has come.
-use Rattle.std.proofs.Common.{◌≡◌, ℕ, suc, ◌+◌, ◌<◌, ◌≤◌, ◌==◌, ◌&&◌, ◌||◌, not, cond, Bool, true, false, List, [], ◌∷◌, ◌++◌, length, map, filter, take, drop, All, Option, None, Some, IfSome, slice_index_or, ◌⊎◌, inl, inr, refl, sym, ◌∙◌, ap, subst, arith}
-use Rattle.std.specs.List.{list_any, list_all}
+use Rattle.std.proofs.Common.{◌≡◌, ℕ, ◌+◌, ◌<◌, ◌≤◌, ◌&&◌, not, cond, false, List, [], ◌∷◌, ◌++◌, length, filter, take, drop, Option, None, Some, IfSome, ◌⊎◌, inl, inr, sym, ◌∙◌, ap, subst, arith}
+use Rattle.std.specs.List.{list_all}
 use Rattle.cnf_core.specs.declared.literal.SatLit.{SatLit}
 use Rattle.cnf_core.specs.declared.effect.Effect.{Effect}
 use Rattle.cnf_core.specs.declared.effect.Effect.TheVariants.{Makes, Neither}
-use Rattle.std.proofs.lemmas.List.{map-append, take-append-le, take-take, take_all, take_at, get_or_append_left, get_or_at, length-append, length-map}
+use Rattle.std.proofs.lemmas.List.{map-append, take-append-le, take-take, take_all, get_or_append_left, get_or_at, length-append, length-map}
 use Rattle.std.proofs.lemmas.List.Elements.{All-more}
 use Rattle.std.proofs.lemmas.Bool.{cases_eq}
 use Rattle.cnf_core.specs.Clauses.{clause_at, variable_of}
 use Rattle.cnf_core.specs.Derivations.{is_same, is_true, is_false, effect_by, effect_of}
 use Rattle.trail_core.specs.declared.assigned.Assigned.{Assigned}
 use Rattle.trail_core.specs.Trails.{Trailing, entry_at, literals, nothing}
-use Rattle.learn_solver.specs.Propagations.{IsGrown, IsJustified, IsPassed, IsQuiet, IsSound, before}
+use Rattle.learn_solver.specs.Propagations.{IsGrown, IsJustified, IsPassed, IsSound, before}
 
 -- the trail has grown, and is sound
 pub record IsUnderWay (clauses : List (List SatLit)) (old now : Trailing) : Type 0 where

@@ -3,9 +3,9 @@ use Rattle.std.specs.Prelude.{◌≡◌, ℕ, ◌<◌, ◌≤◌, ◌==◌, ◌&
 use Rattle.std.specs.List.{list_all}
 use Rattle.circuits.specs.Literals.{bit}
 use Rattle.cnf_core.specs.declared.literal.SatLit.{SatLit}
-use Rattle.cnf_core.specs.declared.effect.Effect.TheVariants.{Makes, Neither}
+use Rattle.cnf_core.specs.declared.effect.Effect.TheVariants.{Neither}
 use Rattle.cnf_core.specs.Clauses.{opposite, variable_of}
-use Rattle.cnf_core.specs.Derivations.{effect_of, hint_fault, is_empty, is_true, repeats_variable}
+use Rattle.cnf_core.specs.Derivations.{effect_of, hint_fault, is_true, repeats_variable}
 use Rattle.trail_core.specs.declared.assigned.Assigned.{Assigned}
 use Rattle.trail_core.specs.Trails.{Trailing, entry_at}
 use Rattle.learn_solver.specs.declared.conflict.Analysis.{Analysis}

@@ -116,7 +116,12 @@ impl Analysis {
     }
 
     // What is learned once as few literals of the present level are left as there can be.
-    fn finish(self, alloc: Global, clauses: &ClauseStore, trail: &Trail) -> Result<Learned, AllocError>
+    fn finish(
+        self,
+        alloc: Global,
+        clauses: &ClauseStore,
+        trail: &Trail,
+    ) -> Result<Learned, AllocError>
         requires trail { IsTrail trail.now }
         requires filled { All (λ clause. is_empty clause ≡ false) clauses.now.clauses }
         requires sound { IsSound clauses.now.clauses trail.now }
@@ -176,7 +181,12 @@ fn present(trail: &Trail, variable: u64) -> u64
 }
 
 // The opposites of the marked literals before a place.
-fn negated(alloc: Global, trail: &Trail, marked: &[bool], below: u64) -> Result<Items<SatLit>, AllocError>
+fn negated(
+    alloc: Global,
+    trail: &Trail,
+    marked: &[bool],
+    below: u64,
+) -> Result<Items<SatLit>, AllocError>
     requires trail { IsTrail trail.now }
     requires size { length marked.now ≡ trail.now.variables }
     requires within { below ≤ length trail.now.entries }

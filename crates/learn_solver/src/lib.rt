@@ -4,4 +4,10 @@
 #![tactic(auto)]
 
 mod conflict;
+mod decision;
 mod propagation;
+mod solver;
+mod verdict;
+
+pub use solver::{Solver, solve};
+pub use verdict::Verdict;

@@ -77,6 +77,7 @@ impl Ledger {
         requires asked { 0 < length self.old.asked }
         requires not_spent { self.old.spent ≡ false }
         ensures within { OnOk result (learned_in self.old < self.old.budget) }
+        ensures counted { OnOk result (learned_in self.new ≡ learned_in self.old + 1) }
         ensures charged { OnOk result (self.new
             ≡ record self.old { asked = with_line line.now self.old.asked }) }
         ensures refused { IfErr result (IsRefused self.old line.now self.new) }

@@ -1,5 +1,5 @@
 -- A variable is marked already, or now.
-use Rattle.std.proofs.Common.{◌≡◌, ◌+◌, ◌<◌, List, Bool, false, length, slice_set, true, sym, subst, ap, ◌∙◌, arith}
+use Rattle.std.proofs.Common.{◌+◌, ◌<◌, List, Bool, length, slice_set, true, sym, subst, ap, ◌∙◌, arith}
 use Rattle.circuits.specs.Literals.{bit}
 use Rattle.cnf_core.specs.declared.literal.SatLit.{SatLit}
 use Rattle.learn_solver.proofs.MarkLemmas.{IsMarking, marking_new, marking_old}

@@ -1,9 +1,8 @@
 -- One literal further: a marked one is added.
-use Rattle.std.proofs.Common.{◌≡◌, ◌<◌, ◌++◌, ◌∷◌, [], List, Bool, map, length, true, sym, ap, ◌∙◌, arith}
+use Rattle.std.proofs.Common.{◌<◌, ◌++◌, ◌∷◌, [], length, sym, ap, ◌∙◌, arith}
 use Rattle.circuits.specs.Literals.{bit}
 use Rattle.cnf_core.specs.declared.literal.SatLit.{SatLit}
 use Rattle.cnf_core.specs.Clauses.{opposite, variable_of}
-use Rattle.trail_core.specs.Trails.{entry_at}
 use Rattle.learn_solver.proofs.KeptLemmas.{negated_no, negated_yes}
 use Rattle.learn_solver.proofs.conflict.negated.Goals as goal
 use Rattle.learn_solver.proofs.conflict.negated.Goals.{then-marked-variable+in_ok-push, else-marked-variable}

@@ -1,7 +1,6 @@
 -- Each clause is a conflict, leaves a single literal, which is assigned, or does neither.
-use Rattle.std.proofs.Common.{◌≡◌, ◌+◌, ◌<◌, List, length, All, sym, subst, ap, ◌∙◌, arith}
+use Rattle.std.proofs.Common.{◌+◌, ◌<◌, List, length, sym, subst, ap, ◌∙◌, arith}
 use Rattle.std.proofs.lemmas.List.{take_all}
-use Rattle.cnf_core.specs.declared.effect.Effect.TheVariants.{Neither}
 use Rattle.cnf_core.specs.declared.literal.SatLit.{SatLit}
 use Rattle.cnf_core.specs.Derivations.{effect_of}
 use Rattle.trail_core.specs.Trails.{Trailing, literals}

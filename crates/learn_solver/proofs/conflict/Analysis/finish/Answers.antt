@@ -1,5 +1,5 @@
 -- What is learned at the end.
-use Rattle.std.proofs.Common.{◌≡◌, ℕ, List, Bool, map, reverse, sym, subst, ap, ◌∙◌}
+use Rattle.std.proofs.Common.{ℕ, List, Bool, map, reverse, sym, subst, ap, ◌∙◌}
 use Rattle.cnf_core.specs.declared.literal.SatLit.{SatLit}
 use Rattle.cnf_core.specs.Clauses.{opposite}
 use Rattle.learn_solver.specs.Analyses.{IsBackLevel, IsLearnedAs, kept_literals}

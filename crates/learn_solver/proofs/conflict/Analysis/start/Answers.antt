@@ -1,8 +1,7 @@
 -- An analysis begins with the literals of the conflict.
-use Rattle.std.proofs.Common.{◌≡◌, ℕ, ◌+◌, ◌<◌, ◌++◌, ◌∷◌, [], List, Bool, length, false, sym, subst, ap, ◌∙◌, arith}
+use Rattle.std.proofs.Common.{◌≡◌, ℕ, ◌++◌, ◌∷◌, [], List, Bool, length, false, sym, subst, ap, ◌∙◌, arith}
 use Rattle.std.proofs.lemmas.List.{length-replicate}
 use Rattle.cnf_core.specs.declared.literal.SatLit.{SatLit}
-use Rattle.trail_core.specs.Trails.{literals}
 use Rattle.learn_solver.specs.Analyses.{AreBefore, AreMarked, IsAnalysed, here_in}
 use Rattle.learn_solver.proofs.PlaceLemmas.{conflict_places}
 use Rattle.learn_solver.proofs.AnalysisLemmas.{analysed_start, given_back, none_marked}

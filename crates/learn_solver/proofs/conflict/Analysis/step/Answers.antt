@@ -1,13 +1,13 @@
 -- One place further down the trail.
-use Rattle.std.proofs.Common.{◌≡◌, ℕ, ◌+◌, ◌-◌, ◌^◌, ◌<◌, ◌≤◌, ◌++◌, ◌∷◌, [], List, Bool, length, false, true, Some, None, slice_index_or, sym, subst, ap, ◌∙◌, arith}
+use Rattle.std.proofs.Common.{◌≡◌, ℕ, ◌+◌, ◌-◌, ◌^◌, ◌<◌, List, Bool, length, false, slice_index_or, sym, subst, ap, ◌∙◌, arith}
 use Rattle.std.proofs.lemmas.List.{get_or_default}
 use Rattle.circuits.specs.Literals.{bit}
 use Rattle.cnf_core.specs.declared.literal.SatLit.{SatLit}
 use Rattle.cnf_core.specs.Clauses.{clause_at, variable_of}
 use Rattle.trail_core.specs.Trails.{IsTrail, Trailing, entry_at}
 use Rattle.learn_solver.specs.declared.conflict.Analysis.{Analysis}
-use Rattle.learn_solver.specs.Propagations.{IsJustified, IsReason, before}
-use Rattle.learn_solver.specs.Analyses.{AreBefore, AreMarked, IsAnalysed, StayMarked, here_in, is_marked, kept_here}
+use Rattle.learn_solver.specs.Propagations.{IsJustified, before}
+use Rattle.learn_solver.specs.Analyses.{AreBefore, AreMarked, IsAnalysed, StayMarked, here_in, is_marked}
 use Rattle.learn_solver.proofs.AnalysisLemmas.{analysed_reason, analysed_unmarked, decision_alone, given_back, here_within, places_further, reason_places, top_level}
 use Rattle.learn_solver.proofs.conflict.Analysis.step.Goals as goal
 use Rattle.learn_solver.proofs.conflict.Analysis.step.Goals.{then-index+in-Some+in_ok-push, else-index}
