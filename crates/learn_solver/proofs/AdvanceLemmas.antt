@@ -11,7 +11,7 @@ use Rattle.cnf_core.specs.declared.log.LogLine.{LogLine}
 use Rattle.cnf_core.specs.declared.stop.Stop.{Stop}
 use Rattle.cnf_core.specs.declared.stop.Stop.TheVariants.{Spent, Memory}
 use Rattle.cnf_core.specs.declared.effect.Effect.TheVariants.{Neither}
-use Rattle.cnf_core.specs.Derivations.{clauses_of, effect_of, is_empty}
+use Rattle.cnf_core.specs.Derivations.{AreDerived, clauses_of, effect_of, is_empty, line_fault}
 use Rattle.trail_core.specs.declared.assigned.Assigned.{Assigned}
 use Rattle.trail_core.specs.Trails.{Trailing, entry_at, literals, nothing}
 use Rattle.query_core.specs.declared.ledger.Asked.{Asked}
@@ -19,7 +19,7 @@ use Rattle.query_core.specs.Ledgers.{Ledgered, last_asked, learned_in, nothing_a
 use Rattle.learn_solver.specs.Propagations.{IsJustified, IsQuiet, before}
 use Rattle.learn_solver.specs.Analyses.{has_all}
 use Rattle.learn_solver.specs.Searches.{IsDecided, IsLearnt, IsLesson, IsSearching, last_line, remaining}
-use Rattle.learn_solver.specs.Solvers.{IsAsking, IsExtended, IsStopped, Solving, active}
+use Rattle.learn_solver.specs.Solvers.{IsAdded, IsAsking, IsExtended, IsStopped, Solving, active}
 use Rattle.learn_solver.proofs.WalkLemmas.{sound_more}
 use Rattle.learn_solver.proofs.SolverLemmas.{active_more, clauses_more}
 use Rattle.learn_solver.proofs.StepLemmas.{extended_one, last_is, last_lines, lines_twice}
@@ -101,7 +101,7 @@ extended_none s first asking = record {
   ids = refl;
   longer = omega arith;
   kept = take_all (length s.lines) s.lines (omega arith);
-  fresh = λ k d late within. absurd (omega (arith, late, within));
+  added = λ k d late within. absurd (omega (arith, late, within));
   budget = refl;
   asked = sym (ap (λ ls. with_lines ls first.asked) (sym asking.lines_are) ∙ set-get_or first.asked (length first.asked - 1) nothing_asked);
 }
@@ -113,12 +113,12 @@ extended_twice one two three first second third asking before_it after_it = reco
   ids = after_it.ids ∙ before_it.ids;
   longer = omega (arith, before_it.longer, after_it.longer);
   kept = sym (take-take (length one.lines) (length two.lines) three.lines before_it.longer) ∙ (ap (take (length one.lines)) after_it.kept ∙ before_it.kept);
-  fresh = λ k d late within. elim (cases_lt k (length two.lines)) [
+  added = λ k d late within. elim (cases_lt k (length two.lines)) [
     | inl early ↦
         let at : slice_index_or three.lines k d ≡ slice_index_or two.lines k d = sym (get_or-take (length two.lines) three.lines k d early) ∙ ap (λ ls. slice_index_or ls k d) after_it.kept in
         let front : take k three.lines ≡ take k two.lines = sym (take-take k (length two.lines) three.lines (omega (arith, early))) ∙ ap (take k) after_it.kept in
-        subst (λ (l : LogLine). All (λ c. has_all l.clause c ≡ false) (active one.formula one.ids (take k three.lines))) (sym at) (subst (λ ls. All (λ c. has_all (slice_index_or two.lines k d).clause c ≡ false) (active one.formula one.ids ls)) (sym front) (before_it.fresh k d late early))
-    | inr later ↦ subst (λ f. All (λ c. has_all (slice_index_or three.lines k d).clause c ≡ false) (active f one.ids (take k three.lines))) before_it.formula (subst (λ i. All (λ c. has_all (slice_index_or three.lines k d).clause c ≡ false) (active two.formula i (take k three.lines))) before_it.ids (after_it.fresh k d later within))
+        subst (λ (l : LogLine). IsAdded one.formula one.ids (take k three.lines) l) (sym at) (subst (λ ls. IsAdded one.formula one.ids ls (slice_index_or two.lines k d)) (sym front) (before_it.added k d late early))
+    | inr later ↦ subst (λ f. IsAdded f one.ids (take k three.lines) (slice_index_or three.lines k d)) before_it.formula (subst (λ i. IsAdded two.formula i (take k three.lines) (slice_index_or three.lines k d)) before_it.ids (after_it.added k d later within))
   ];
   budget = after_it.budget ∙ before_it.budget;
   asked = after_it.asked ∙ (ap (with_lines three.lines) before_it.asked ∙ lines_twice first.asked two.lines three.lines asking.asked);
@@ -137,10 +137,20 @@ stopped_after one two three first second third (Spent learned) asking extended s
 pub extended_learnt : (old new : Solving) (first after : Ledgered) (t : Trailing) (back : Option ℕ) → IsAsking first old.lines → IsLearnt old new first after t back → IsExtended old new first after
 extended_learnt old new first after t back asking learnt =
     let last : last_line new.lines ≡ learnt.line = ap (λ (s : Solving). last_line s.lines) learnt.added ∙ last_is old.lines learnt.line in
-    extended_one old new learnt.line first after asking learnt.added learnt.fresh (ap (λ (l : Ledgered). l.budget) learnt.charged) (ap (λ (l : Ledgered). l.asked) learnt.charged ∙ ap (λ l. with_line l first.asked) (sym last))
+    extended_one old new learnt.line first after asking learnt.added learnt.learned_is (ap (λ (l : Ledgered). l.budget) learnt.charged) (ap (λ (l : Ledgered). l.asked) learnt.charged ∙ ap (λ l. with_line l first.asked) (sym last))
 
 -- A search that has come from the first lines to these.
 pub record IsUnderWay (old now : Solving) (first ledger : Ledgered) (trail : Trailing) : Type 0 where
   pub searching : IsSearching now trail
   pub extended : IsExtended old now first ledger
   pub asking : IsAsking ledger now.lines
+
+-- lines that were added to derived ones are derived
+pub derived_after : (old new : Solving) (first after : Ledgered) → AreDerived old.formula old.lines → IsExtended old new first after → AreDerived new.formula new.lines
+derived_after old new first after derived extended k d within = subst (λ f. line_fault f (clauses_of (take k new.lines)) (slice_index_or new.lines k d) ≡ None) (sym extended.formula) (elim (cases_lt k (length old.lines)) [
+  | inl early ↦
+      let at : slice_index_or new.lines k d ≡ slice_index_or old.lines k d = sym (get_or-take (length old.lines) new.lines k d early) ∙ ap (λ ls. slice_index_or ls k d) extended.kept in
+      let front : take k new.lines ≡ take k old.lines = sym (take-take k (length old.lines) new.lines (omega (arith, early))) ∙ ap (take k) extended.kept in
+      ap (λ l. line_fault old.formula (clauses_of (take k new.lines)) l) at ∙ (ap (λ ls. line_fault old.formula (clauses_of ls) (slice_index_or old.lines k d)) front ∙ derived k d early)
+  | inr late ↦ (extended.added k d late within).derived
+])

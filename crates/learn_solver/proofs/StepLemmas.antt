@@ -16,7 +16,7 @@ use Rattle.trail_core.specs.Trails.{Trailing}
 use Rattle.query_core.specs.declared.ledger.Asked.{Asked}
 use Rattle.query_core.specs.Ledgers.{IsRefused, Ledgered, last_asked, nothing_asked, with_line, with_lines}
 use Rattle.learn_solver.specs.Analyses.{IsLearnedAs, has_all}
-use Rattle.learn_solver.specs.Solvers.{IsAsking, IsExtended, IsSolver, IsStopped, Solving, active, id_at, wanted}
+use Rattle.learn_solver.specs.Solvers.{IsAdded, IsAsking, IsExtended, IsSolver, IsStopped, Solving, active, id_at, wanted}
 use Rattle.learn_solver.specs.Searches.{IsLesson, IsSearching, last_line, no_line}
 use Rattle.learn_solver.proofs.SolverLemmas.{at_number, hints_follow, line_from}
 
@@ -75,7 +75,7 @@ last_lines asked lines there =
     ap (λ k. (slice_index_or (with_lines lines asked) k nothing_asked).lines) last ∙ ap (λ (x : Asked). x.lines) (get_or-set_same asked at (record e { lines = lines }) nothing_asked (omega (arith, there)))
 
 -- one line was added
-pub extended_one : (old new : Solving) (line : LogLine) (first after : Ledgered) → IsAsking first old.lines → new ≡ record old { lines = old.lines ++ line ∷ [] } → All (λ c. has_all line.clause c ≡ false) (active old.formula old.ids old.lines) → after.budget ≡ first.budget → after.asked ≡ with_line (last_line new.lines) first.asked → IsExtended old new first after
+pub extended_one : (old new : Solving) (line : LogLine) (first after : Ledgered) → IsAsking first old.lines → new ≡ record old { lines = old.lines ++ line ∷ [] } → IsAdded old.formula old.ids old.lines line → after.budget ≡ first.budget → after.asked ≡ with_line (last_line new.lines) first.asked → IsExtended old new first after
 extended_one old new line first after asking added fresh budget asked =
     let lines : new.lines ≡ old.lines ++ line ∷ [] = ap (λ (s : Solving). s.lines) added in
     let last : last_line new.lines ≡ line = ap last_line lines ∙ last_is old.lines line in
@@ -84,18 +84,18 @@ extended_one old new line first after asking added fresh budget asked =
       ids = ap (λ (s : Solving). s.ids) added;
       longer = omega (arith, ap length lines, length-append old.lines (line ∷ []));
       kept = ap (take (length old.lines)) lines ∙ take_at old.lines (line ∷ []) (length old.lines) refl;
-      fresh = subst (λ (ls : List LogLine). (k : ℕ) (d : LogLine) → length old.lines ≤ k → k < length ls → All (λ c. has_all (slice_index_or ls k d).clause c ≡ false) (active old.formula old.ids (take k ls))) (sym lines) one;
+      added = subst (λ (ls : List LogLine). (k : ℕ) (d : LogLine) → length old.lines ≤ k → k < length ls → IsAdded old.formula old.ids (take k ls) (slice_index_or ls k d)) (sym lines) one;
       budget = budget;
       asked = asked ∙ (ap (λ (ls : List LogLine). with_lines (ls ++ last_line new.lines ∷ []) first.asked) asking.lines_are ∙ (ap (λ l. with_lines (old.lines ++ l ∷ []) first.asked) last ∙ ap (λ ls. with_lines ls first.asked) (sym lines)));
     }
   where
-    one : (k : ℕ) (d : LogLine) → length old.lines ≤ k → k < length (old.lines ++ line ∷ []) → All (λ c. has_all (slice_index_or (old.lines ++ line ∷ []) k d).clause c ≡ false) (active old.formula old.ids (take k (old.lines ++ line ∷ [])))
+    one : (k : ℕ) (d : LogLine) → length old.lines ≤ k → k < length (old.lines ++ line ∷ []) → IsAdded old.formula old.ids (take k (old.lines ++ line ∷ [])) (slice_index_or (old.lines ++ line ∷ []) k d)
     one k d late within =
         let here : k ≡ length old.lines = omega (arith, late, within, length-append old.lines (line ∷ [])) in
-        subst (λ (l : LogLine). All (λ c. has_all l.clause c ≡ false) (active old.formula old.ids (take k (old.lines ++ line ∷ [])))) (sym (get_or_at old.lines line [] d k (sym here))) (subst (λ ls. All (λ c. has_all line.clause c ≡ false) (active old.formula old.ids ls)) (sym (take_at old.lines (line ∷ []) k (sym here))) fresh)
+        subst (λ (l : LogLine). IsAdded old.formula old.ids (take k (old.lines ++ line ∷ [])) l) (sym (get_or_at old.lines line [] d k (sym here))) (subst (λ ls. IsAdded old.formula old.ids ls line) (sym (take_at old.lines (line ∷ []) k (sym here))) fresh)
 
 -- a line that is refused ends the search
-pub stopped_one : (old new : Solving) (line : LogLine) (first after : Ledgered) (stop : Stop) → IsAsking first old.lines → new ≡ record old { lines = old.lines ++ line ∷ [] } → All (λ c. has_all line.clause c ≡ false) (active old.formula old.ids old.lines) → IsRefused first (last_line new.lines) after stop → IsStopped old new first after stop
+pub stopped_one : (old new : Solving) (line : LogLine) (first after : Ledgered) (stop : Stop) → IsAsking first old.lines → new ≡ record old { lines = old.lines ++ line ∷ [] } → IsAdded old.formula old.ids old.lines line → IsRefused first (last_line new.lines) after stop → IsStopped old new first after stop
 stopped_one old new line first after Memory asking added fresh refused = tt
 stopped_one old new line first after (Spent learned) asking added fresh refused = record {
   extended = extended_one old new line first after asking added fresh (ap (λ (l : Ledgered). l.budget) refused.refused) (ap (λ (l : Ledgered). l.asked) refused.refused);

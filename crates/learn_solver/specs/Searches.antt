@@ -9,7 +9,7 @@ use Rattle.query_core.specs.Ledgers.{Ledgered, learned_in, with_line}
 use Rattle.trail_core.specs.Trails.{Trailing, entry_at, literals, value_in}
 use Rattle.learn_solver.specs.Propagations.{IsSound, before}
 use Rattle.learn_solver.specs.Analyses.{has_all}
-use Rattle.learn_solver.specs.Solvers.{Solving, active}
+use Rattle.learn_solver.specs.Solvers.{IsAdded, Solving, active}
 
 -- each variable is assigned
 abbrev pub IsTotal : Trailing → Type 0
@@ -48,7 +48,7 @@ IsWayBack solving trail line (Some level) = (is_empty line.clause ≡ false) × 
 -- A line was learned and charged.
 pub record IsLearnt (old new : Solving) (first after : Ledgered) (trail : Trailing) (back : Option ℕ) : Type 0 where
   pub line : LogLine
-  pub fresh : All (λ clause. has_all line.clause clause ≡ false) (active old.formula old.ids old.lines)
+  pub learned_is : IsAdded old.formula old.ids old.lines line
   pub added : new ≡ record old { lines = old.lines ++ line ∷ [] }
   pub charged : after ≡ record first { asked = with_line line first.asked }
   pub within : learned_in first < first.budget

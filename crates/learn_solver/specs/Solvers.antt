@@ -1,11 +1,11 @@
 -- What a solver is, and what its answers say.
-use Rattle.std.specs.Prelude.{◌≡◌, ℕ, ◌+◌, ◌-◌, ◌<◌, ◌≤◌, Bool, true, false, List, ◌++◌, length, map, take, All, nat_lt, slice_index_or, if◌then◌else◌}
+use Rattle.std.specs.Prelude.{◌≡◌, ℕ, ◌+◌, ◌-◌, ◌<◌, ◌≤◌, Bool, true, false, List, ◌++◌, length, map, take, All, None, nat_lt, slice_index_or, if◌then◌else◌}
 use Rattle.cnf_core.specs.declared.literal.SatLit.{SatLit}
 use Rattle.cnf_core.specs.declared.log.LogLine.{LogLine}
 use Rattle.cnf_core.specs.declared.stop.Stop.{Stop}
 use Rattle.cnf_core.specs.declared.stop.Stop.TheVariants.{Spent, Memory}
 use Rattle.cnf_core.specs.Clauses.{Formula, Meets, clause_at}
-use Rattle.cnf_core.specs.Derivations.{AreDerived, IsRefutation, clauses_of, is_empty}
+use Rattle.cnf_core.specs.Derivations.{AreDerived, IsRefutation, clauses_of, is_empty, line_fault}
 use Rattle.query_core.specs.Ledgers.{Ledgered, last_asked, learned_in, with_lines}
 use Rattle.learn_solver.specs.declared.verdict.Verdict.{Verdict}
 use Rattle.learn_solver.specs.declared.verdict.Verdict.TheVariants.{Model, Refuted}
@@ -44,14 +44,18 @@ pub record IsAsking (ledger : Ledgered) (lines : List LogLine) : Type 0 where
   pub lines_are : (last_asked ledger.asked).lines ≡ lines
   pub not_spent : ledger.spent ≡ false
 
--- Lines were added at the end, to the ledger's last entry too. None of them has all the literals of a clause that was looked
--- at before it.
+-- A line that may be added: it is derived, and has all the literals of no clause that is looked at.
+pub record IsAdded (formula : Formula) (ids : List ℕ) (lines : List LogLine) (line : LogLine) : Type 0 where
+  pub derived : line_fault formula (clauses_of lines) line ≡ None
+  pub fresh : All (λ clause. has_all line.clause clause ≡ false) (active formula ids lines)
+
+-- Lines were added at the end, to the ledger's last entry too.
 pub record IsExtended (old new : Solving) (before after : Ledgered) : Type 0 where
   pub formula : new.formula ≡ old.formula
   pub ids : new.ids ≡ old.ids
   pub longer : length old.lines ≤ length new.lines
   pub kept : take (length old.lines) new.lines ≡ old.lines
-  pub fresh : (k : ℕ) (d : LogLine) → length old.lines ≤ k → k < length new.lines → All (λ clause. has_all (slice_index_or new.lines k d).clause clause ≡ false) (active old.formula old.ids (take k new.lines))
+  pub added : (k : ℕ) (d : LogLine) → length old.lines ≤ k → k < length new.lines → IsAdded old.formula old.ids (take k new.lines) (slice_index_or new.lines k d)
   pub budget : after.budget ≡ before.budget
   pub asked : after.asked ≡ with_lines new.lines before.asked
 

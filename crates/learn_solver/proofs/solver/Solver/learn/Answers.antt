@@ -10,4 +10,4 @@ returns-in_err-charge_last-clause-stop g c =
     let old = c.args.self.now in
     let new = c.add.new.self in
     let stop = c.in_err-charge_last.field-0.0 in
-    passed_on c.from_residual-in_err-charge_last.result stop (IsStopped old new first after) c.from_residual-in_err-charge_last.ensures.1 (stopped_one old new c.in_ok-line.field-0.line first after stop c.requires.asking c.in_ok-add.ensures.added c.in_ok-line.ensures.fresh c.in_err-charge_last.ensures.refused)
+    passed_on c.from_residual-in_err-charge_last.result stop (IsStopped old new first after) c.from_residual-in_err-charge_last.ensures.1 (stopped_one old new c.in_ok-line.field-0.line first after stop c.requires.asking c.in_ok-add.ensures.added (record { derived = c.in_ok-line.ensures.good; fresh = c.in_ok-line.ensures.fresh }) c.in_err-charge_last.ensures.refused)
