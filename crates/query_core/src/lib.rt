@@ -2,6 +2,8 @@
 #![tactic(auto)]
 
 mod base;
+mod claims;
+pub mod fact_laws;
 pub mod laws;
 mod ledger;
 mod literals;
@@ -9,6 +11,7 @@ mod matches;
 mod query;
 
 pub use base::QueryBase;
+pub use claims::{Claim, Shape};
 pub use ledger::{Asked, Ledger};
 pub use matches::of_match;
 pub use query::{Cone, Feed, Query};

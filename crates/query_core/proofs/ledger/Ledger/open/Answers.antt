@@ -1,7 +1,7 @@
 -- An entry that was opened has no learned lines.
 use Rattle.std.proofs.Common.{◌≡◌, List, ◌++◌, ◌∷◌, [], sym, subst, ap, ◌∙◌}
 use Rattle.query_core.specs.declared.ledger.Asked.{Asked}
-use Rattle.query_core.specs.Ledgers.{IsLedger, Ledgered, charged_front, entry_of, opened}
+use Rattle.query_core.specs.Ledgers.{IsLedger, Ledgered, charged_front, opened}
 use Rattle.query_core.proofs.LedgerLemmas.{kept_opened}
 use Rattle.query_core.proofs.ledger.Ledger.open.Goals as goal
 

@@ -1,0 +1,71 @@
+-- One bit of each word: the gates of words are the gates of bits.
+use Rattle.std.proofs.Common.{ℕ, zero, suc, cond, ◌%◌, ◌+◌, ◌<◌, ◌≡◌, ◌^◌, ◌-◌, ◌⊎◌, Bool, true, false, ◌&&◌, eqb, List, [], ◌∷◌, ◌++◌, get_or, map, refl, ap, ◌∙◌, inl, inr, arith, bit_and, bit_xor, min}
+use Rattle.std.specs.Int.{bit_at}
+use Rattle.std.proofs.lemmas.Nat.Bits.{bit_at_and, bit_at_xor, bit_at_ones, bit_at-zero, bit_at-lt}
+use Rattle.circuits.specs.declared.netlist.Lit.{Lit}
+use Rattle.circuits.specs.declared.netlist.Gate.{Gate}
+use Rattle.circuits.specs.Literals.{bit, differ, signal_of, is_negated, literal_bit}
+use Rattle.circuits.specs.Netlists.{Net, gate_bit, with_gates, function_of}
+use Rattle.word_sim.specs.Columns.{word_bit, lane, literal_word, gate_word, with_gate_words}
+
+two : (n : ℕ) → n < 2 → (n ≡ 0) ⊎ (n ≡ 1)
+two zero h = inl refl
+two (suc zero) h = inr refl
+two (suc (suc n)) h = absurd (omega arith)
+
+-- digits of base two: the lesser one, and the digit of a sum
+lesser : (m n : ℕ) → m < 2 → n < 2 → eqb (min m n) 1 ≡ eqb m 1 && eqb n 1
+lesser m n l k =
+    elim (two m l) [
+      | inl e ↦ elim (two n k) [ inl f ↦ rw e (rw f refl) | inr f ↦ rw e (rw f refl) ]
+      | inr e ↦ elim (two n k) [ inl f ↦ rw e (rw f refl) | inr f ↦ rw e (rw f refl) ]
+    ]
+
+one_more : (m : ℕ) → m < 2 → eqb ((m + 1) % 2) 1 ≡ differ (eqb m 1) true
+one_more m l = elim (two m l) [ inl e ↦ rw e refl | inr e ↦ rw e refl ]
+
+none_more : (m : ℕ) → m < 2 → eqb ((m + 0) % 2) 1 ≡ differ (eqb m 1) false
+none_more m l = elim (two m l) [ inl e ↦ rw e refl | inr e ↦ rw e refl ]
+
+and-bit : (v a b : ℕ) → word_bit v (bit_and a b) ≡ word_bit v a && word_bit v b
+and-bit v a b = ap (λ n. eqb n 1) (bit_at_and a b v) ∙ lesser (bit_at a v) (bit_at b v) (bit_at-lt a v) (bit_at-lt b v)
+
+inverted-bit : (v a : ℕ) (negated : Bool) → v < 64 → word_bit v (bit_xor a (cond negated (2 ^ 64 - 1) 0)) ≡ differ (word_bit v a) negated
+inverted-bit v a true h =
+    ap (λ n. eqb n 1) (bit_at_xor a (2 ^ 64 - 1) v) ∙ (ap (λ n. eqb ((bit_at a v + n) % 2) 1) (bit_at_ones 64 v h) ∙ one_more (bit_at a v) (bit_at-lt a v))
+inverted-bit v a false h =
+    ap (λ n. eqb n 1) (bit_at_xor a 0 v) ∙ (ap (λ n. eqb ((bit_at a v + n) % 2) 1) (bit_at-zero v) ∙ none_more (bit_at a v) (bit_at-lt a v))
+
+lane-bit : (v : ℕ) (words : List ℕ) (i : ℕ) → word_bit v (get_or words i 0) ≡ bit (lane v words) i
+lane-bit v [] i = ap (λ n. eqb n 1) (bit_at-zero v)
+lane-bit v (word ∷ words) zero = refl
+lane-bit v (word ∷ words) (suc i) = lane-bit v words i
+
+pub lane-literal : (v : ℕ) (words : List ℕ) (literal : Lit) → v < 64 → word_bit v (literal_word words literal) ≡ literal_bit (lane v words) literal
+lane-literal v words literal h =
+    inverted-bit v (get_or words (signal_of literal) 0) (is_negated literal) h ∙ ap (λ b. differ b (is_negated literal)) (lane-bit v words (signal_of literal))
+
+lane-gate : (v : ℕ) (words : List ℕ) (gate : Gate) → v < 64 → word_bit v (gate_word words gate) ≡ gate_bit (lane v words) gate
+lane-gate v words gate h =
+    and-bit v (literal_word words gate.a) (literal_word words gate.b) ∙ (ap (λ b. b && word_bit v (literal_word words gate.b)) (lane-literal v words gate.a h) ∙ ap (λ b. literal_bit (lane v words) gate.a && b) (lane-literal v words gate.b h))
+
+lane-push : (v : ℕ) (words : List ℕ) (word : ℕ) → lane v (words ++ word ∷ []) ≡ lane v words ++ word_bit v word ∷ []
+lane-push v [] word = refl
+lane-push v (first ∷ words) word = ap (λ bits. word_bit v first ∷ bits) (lane-push v words word)
+
+pub lane-gates : (v : ℕ) (words : List ℕ) (gates : List Gate) → v < 64 → lane v (with_gate_words words gates) ≡ with_gates (lane v words) gates
+lane-gates v words [] h = refl
+lane-gates v words (gate ∷ gates) h =
+    let next = lane-push v words (gate_word words gate) ∙ ap (λ b. lane v words ++ b ∷ []) (lane-gate v words gate h) in
+    lane-gates v (words ++ gate_word words gate ∷ []) gates h ∙ ap (λ bits. with_gates bits gates) next
+
+pub lane-literals : (v : ℕ) (words : List ℕ) (literals : List Lit) → v < 64 → lane v (map (literal_word words) literals) ≡ map (literal_bit (lane v words)) literals
+lane-literals v words [] h = refl
+lane-literals v words (literal ∷ literals) h =
+    ap (λ b. b ∷ lane v (map (literal_word words) literals)) (lane-literal v words literal h) ∙ ap (λ bits. literal_bit (lane v words) literal ∷ bits) (lane-literals v words literals h)
+
+-- the outputs' words hold the outputs' bits
+pub lane-function : (v : ℕ) (net : Net) (row : List ℕ) → v < 64 → lane v (map (literal_word (with_gate_words (0 ∷ row) net.gates)) net.outputs) ≡ function_of net (lane v row)
+lane-function v net row h =
+    let constant : lane v (0 ∷ row) ≡ false ∷ lane v row = ap (λ n. eqb n 1 ∷ lane v row) (bit_at-zero v) in
+    lane-literals v (with_gate_words (0 ∷ row) net.gates) net.outputs h ∙ ap (λ bits. map (literal_bit bits) net.outputs) (lane-gates v (0 ∷ row) net.gates h ∙ ap (λ bits. with_gates bits net.gates) constant)

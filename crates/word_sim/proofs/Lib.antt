@@ -1,0 +1,3 @@
+mod Fillings
+mod Lanes
+mod Rows

@@ -1,0 +1,44 @@
+-- Many vectors at once, 64 in a word (parallel-pattern simulation, as in textbooks of digital testing).
+use Rattle.std.specs.Prelude.{◌≡◌, ℕ, ◌-◌, ◌/◌, ◌%◌, ◌^◌, ◌==◌, Bool, List, [], ◌∷◌, ◌++◌, length, map, All, slice_index_or, if◌then◌else◌, bit_and, bit_xor}
+use Rattle.circuits.specs.declared.netlist.Lit.{Lit}
+use Rattle.circuits.specs.declared.netlist.Gate.{Gate}
+use Rattle.circuits.specs.Literals.{signal_of, is_negated}
+
+-- A number of words, and a list of columns, each of so many words.
+pub record Table : Type 0 where
+  pub words : ℕ
+  pub columns : List (List ℕ)
+
+abbrev pub IsTable : Table → Type 0
+IsTable table = All (λ column. length column ≡ table.words) table.columns
+
+-- bit v of a word
+abbrev pub word_bit : ℕ → ℕ → Bool
+word_bit v word = word / 2 ^ v % 2 == 1
+
+-- bit v of each word
+abbrev pub lane : ℕ → List ℕ → List Bool
+lane v words = map (word_bit v) words
+
+-- word w of a column, and of each column
+abbrev pub word_of : ℕ → List ℕ → ℕ
+word_of w column = slice_index_or column w 0
+
+abbrev pub row_of : List (List ℕ) → ℕ → List ℕ
+row_of columns w = map (word_of w) columns
+
+-- The vector that bit v of word w holds: its bit i is bit v of word w of column i. It is number 64 * w + v of the vectors.
+abbrev pub vector_at : Table → ℕ → ℕ → List Bool
+vector_at table w v = lane v (row_of table.columns w)
+
+-- a literal's word: the bits of its signal's word, all inverted where it is negated
+abbrev pub literal_word : List ℕ → Lit → ℕ
+literal_word words literal = bit_xor (slice_index_or words (signal_of literal) 0) (if is_negated literal then 2 ^ 64 - 1 else 0)
+
+abbrev pub gate_word : List ℕ → Gate → ℕ
+gate_word words gate = bit_and (literal_word words gate.a) (literal_word words gate.b)
+
+-- the words so far, continued by one word for each gate
+abbrev pub with_gate_words : List ℕ → List Gate → List ℕ
+with_gate_words words [] = words
+with_gate_words words (gate ∷ gates) = with_gate_words (words ++ gate_word words gate ∷ []) gates

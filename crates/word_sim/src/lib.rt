@@ -1,0 +1,16 @@
+//! A netlist evaluated on many vectors at once, 64 in a word, and on vectors with unknown bits.
+#![tactic(auto)]
+
+pub mod laws;
+mod simulation;
+mod three_values;
+mod tri;
+mod words;
+
+pub use simulation::simulate;
+pub use three_values::tri_eval;
+pub use tri::Tri;
+pub use words::Words;
+
+#[cfg(test)]
+mod tests;
