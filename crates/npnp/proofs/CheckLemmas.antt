@@ -2,7 +2,6 @@
 use Rattle.std.proofs.Common.{◌≡◌, ◌≢◌, ℕ, ◌-◌, ◌^◌, ◌<◌, ◌≤◌, ◌↔◌, ◌⊎◌, ◌==◌, inl, inr, Bool, false, true, IsTrue, List, [], ◌∷◌, length, Option, None, Some, Result, Ok, Err, IfOk, IfErr, get_or, refl, sym, ◌∙◌, ap, subst, arith}
 use Rattle.std.proofs.lemmas.Bool.{false≢true, cases_lt}
 use Rattle.shelf_core.specs.Fault.{Rose}
-use Rattle.circuits.specs.Circuits.{Circuit}
 use Rattle.circuits.specs.Levels.{IsOrderOf}
 use Rattle.circuits.specs.Netlists.{Net}
 use Rattle.circuits.proofs.OneOrder.{one_order}
@@ -14,7 +13,7 @@ use Rattle.account_check.specs.declared.verdict.Why.{Why}
 use Rattle.account_check.proofs.VerdictLemmas.{one_rejection, one_matching, never_both}
 use Rattle.npnp.specs.Circuits.{IsCircuit, IsCircuitFault}
 use Rattle.npnp.specs.Words.{AsksCheck, AskNothing}
-use Rattle.npnp.specs.Check.{Netlist, HoldsNetlist, HoldsGraph, HoldsFault, HoldsTooMuch, EndsAt, EndsEarly, IsAsked, HasAccount, LacksAccount, IsRight, IsSound, IsMatchOfFiles, IsDecided, IsTold}
+use Rattle.npnp.specs.Check.{Netlist, HoldsNetlist, HoldsGraph, HoldsFault, HoldsTooMuch, EndsAt, EndsEarly, IsAsked, HasAccount, LacksAccount, IsRight, IsDecided, IsTold}
 use Rattle.net_core.specs.declared.named.Named.{Named}
 use Rattle.shelf_core.specs.State.{ShelfState, Closed}
 use Rattle.npnp.specs.Report.{IsReport}

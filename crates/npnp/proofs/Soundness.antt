@@ -1,5 +1,5 @@
 -- A table that is a match of the graphs that were read is a match of the files' netlists.
-use Rattle.std.proofs.Common.{◌≡◌, ℕ, Bool, IsTrue, List, Option, Result, Ok, subst}
+use Rattle.std.proofs.Common.{◌≡◌, ℕ, Bool, List, Option, Result, Ok, subst}
 use Rattle.circuits.specs.Matches.{IsMatchOfFunctions}
 use Rattle.circuits.specs.Netlists.{Net}
 use Rattle.circuits.proofs.MatchLaws.{match_from_functions}
