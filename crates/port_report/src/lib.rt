@@ -1,9 +1,11 @@
 //! Texts of reports.
 #![tactic(auto)]
 
+mod info;
 mod rejected;
 mod table;
 
+pub use info::{OutputInfo, Sym, Unate, put_info};
 pub use rejected::put_rejected;
 pub use table::put_match;
 

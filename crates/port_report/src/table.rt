@@ -92,7 +92,12 @@ fn put_sign(inverted: bool, out: &mut Vec<u8>) -> Result<(), AllocError>
 }
 
 // Writes a port by its kind, its number and its name.
-fn put_port(kind: &[u8], names: &[Name], port: usize, out: &mut Vec<u8>) -> Result<(), AllocError>
+pub(crate) fn put_port(
+    kind: &[u8],
+    names: &[Name],
+    port: usize,
+    out: &mut Vec<u8>,
+) -> Result<(), AllocError>
     requires { port < length names.now }
     ensures ok { OnOk result (out.new.items ≡ out.old.items ++ port_among kind.now names.now port) }
     ensures kept { Extends out.old.items out.new.items }

@@ -1,8 +1,10 @@
 //! Texts that are written out by hand.
 
-ghost use Rattle.std.specs.Prelude.{◌<◌};
+ghost use Rattle.std.specs.Prelude.{◌<◌, ◌↔◌, All, IsTrue};
+ghost use Rattle.port_report.specs.Infos.{IsInRange};
 
-use crate::{put_match, put_rejected};
+use crate::{OutputInfo, Sym, Unate, put_info, put_match, put_rejected};
+use items::Items;
 use net_core::{Matching, Named};
 use samples::{SampleFault, graph, matching, named};
 use std::alloc::Global;
@@ -74,6 +76,67 @@ fn writes_rejected_lines(rt: HostRuntime) -> Result<(), Fail> {
     assert_eq!(rt;
         out.as_slice(),
         b"rejected line 7 refutation\nrejected line 18446744073709551615 id\n".as_slice()
+    );
+    Ok(())
+}
+
+fn is_in_range(inputs: u32, row: &OutputInfo) -> bool
+    ensures { IsTrue result ↔ IsInRange inputs row.now }
+{
+    row.support.iter().all(|entry| entry.0 < inputs)
+}
+
+fn are_in_range(inputs: u32, rows: &[OutputInfo]) -> bool
+    ensures { IsTrue result ↔ All (IsInRange inputs) rows.now }
+{
+    rows.iter().all(|row| is_in_range(inputs, row))
+}
+
+fn info_row(
+    alloc: Global,
+    support: &[(u32, Unate)],
+    pairs: &[(u32, u32, Sym)],
+) -> Result<OutputInfo, Fail> {
+    Ok(OutputInfo {
+        support: Items::from_slice(alloc, support)?,
+        pairs: Items::from_slice(alloc, pairs)?,
+    })
+}
+
+#[test]
+fn writes_what_is_known_of_outputs(rt: HostRuntime) -> Result<(), Fail> {
+    let alloc = rt.alloc();
+    let circuit = named(
+        alloc,
+        graph(alloc, 2, &[(2, 4)], &[7, 1, 6, 0])?,
+        &[b"a", b"b"],
+        &[b"y", b"one", b"z", b"zero"],
+    )?;
+    let rows = vec![in alloc;
+        info_row(
+            alloc,
+            &[(0, Unate::Negative), (1, Unate::Negative)],
+            &[(0, 1, Sym::Symmetric)]
+        )?,
+        info_row(alloc, &[], &[])?,
+        info_row(
+            alloc,
+            &[(0, Unate::Positive), (1, Unate::Binate)],
+            &[(0, 1, Sym::Skew), (0, 1, Sym::Both)]
+        )?,
+        info_row(alloc, &[], &[])?,
+    ]?;
+    if rows.len() != circuit.graph.outputs().len() {
+        return Err("a row for each output".into());
+    }
+    if !are_in_range(circuit.graph.inputs(), rows.as_slice()) {
+        return Err("inputs that are there".into());
+    }
+    let mut out = b">".to_vec(alloc)?;
+    put_info(&circuit, rows.as_slice(), &mut out)?;
+    assert_eq!(rt;
+        out.as_slice(),
+        b">inputs 2\noutputs 4\ngates 1\noutput 0 y support 2\ninput 0 a negative\ninput 1 b negative\npair 0 1 symmetric\noutput 1 one support 0\noutput 2 z support 2\ninput 0 a positive\ninput 1 b binate\npair 0 1 skew\npair 0 1 both\noutput 3 zero support 0\n".as_slice()
     );
     Ok(())
 }

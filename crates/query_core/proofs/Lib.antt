@@ -4,4 +4,4 @@ pub mod LawLemmas
 pub mod MatchLemmas
 pub mod RefutedLemmas
 pub mod LedgerLemmas
-mod ClaimLaws
+pub mod ClaimLaws

@@ -27,16 +27,16 @@ one_more m l = elim (two m l) [ inl e ↦ rw e refl | inr e ↦ rw e refl ]
 none_more : (m : ℕ) → m < 2 → eqb ((m + 0) % 2) 1 ≡ differ (eqb m 1) false
 none_more m l = elim (two m l) [ inl e ↦ rw e refl | inr e ↦ rw e refl ]
 
-and-bit : (v a b : ℕ) → word_bit v (bit_and a b) ≡ word_bit v a && word_bit v b
+pub and-bit : (v a b : ℕ) → word_bit v (bit_and a b) ≡ word_bit v a && word_bit v b
 and-bit v a b = ap (λ n. eqb n 1) (bit_at_and a b v) ∙ lesser (bit_at a v) (bit_at b v) (bit_at-lt a v) (bit_at-lt b v)
 
-inverted-bit : (v a : ℕ) (negated : Bool) → v < 64 → word_bit v (bit_xor a (cond negated (2 ^ 64 - 1) 0)) ≡ differ (word_bit v a) negated
+pub inverted-bit : (v a : ℕ) (negated : Bool) → v < 64 → word_bit v (bit_xor a (cond negated (2 ^ 64 - 1) 0)) ≡ differ (word_bit v a) negated
 inverted-bit v a true h =
     ap (λ n. eqb n 1) (bit_at_xor a (2 ^ 64 - 1) v) ∙ (ap (λ n. eqb ((bit_at a v + n) % 2) 1) (bit_at_ones 64 v h) ∙ one_more (bit_at a v) (bit_at-lt a v))
 inverted-bit v a false h =
     ap (λ n. eqb n 1) (bit_at_xor a 0 v) ∙ (ap (λ n. eqb ((bit_at a v + n) % 2) 1) (bit_at-zero v) ∙ none_more (bit_at a v) (bit_at-lt a v))
 
-lane-bit : (v : ℕ) (words : List ℕ) (i : ℕ) → word_bit v (get_or words i 0) ≡ bit (lane v words) i
+pub lane-bit : (v : ℕ) (words : List ℕ) (i : ℕ) → word_bit v (get_or words i 0) ≡ bit (lane v words) i
 lane-bit v [] i = ap (λ n. eqb n 1) (bit_at-zero v)
 lane-bit v (word ∷ words) zero = refl
 lane-bit v (word ∷ words) (suc i) = lane-bit v words i

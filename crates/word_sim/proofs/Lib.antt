@@ -1,3 +1,3 @@
 mod Fillings
-mod Lanes
+pub mod Lanes
 mod Rows

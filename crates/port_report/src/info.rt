@@ -1,0 +1,194 @@
+//! The report of a circuit's functions.
+
+ghost use Rattle.std.specs.Prelude.{◌≡◌, ◌<◌, ◌≤◌, [], ◌∷◌, ◌++◌, length, All, OnOk, OnErr};
+ghost use Rattle.std.specs.Fmt.{decimal};
+ghost use Rattle.port_report.specs.Infos.{IsInRange, count_line, info_text, input_line, input_lines, output_line, output_text, output_texts, pair_line, pair_lines, sym_word, unate_word};
+ghost use Rattle.port_report.specs.Reports.{Extends, names_of};
+
+use crate::table::put_port;
+use items::Items;
+use net_core::{Name, Named};
+use std::alloc::AllocError;
+use text_core::put_decimal;
+
+/// How an output depends on an input.
+#[derive(Clone, Copy, Debug, Drop, PartialEq, Eq)]
+pub enum Unate {
+    /// It never falls where the input rises.
+    Positive,
+    /// It never rises where the input rises.
+    Negative,
+    /// It does both.
+    Binate,
+}
+
+impl Unate {
+    fn word(self) -> &'static [u8]
+        ensures { result.now ≡ unate_word self }
+    {
+        match self {
+            Unate::Positive => b"positive",
+            Unate::Negative => b"negative",
+            Unate::Binate => b"binate",
+        }
+    }
+}
+
+/// In which way two inputs may be exchanged: as they are, each inverted, or both ways.
+#[derive(Clone, Copy, Debug, Drop, PartialEq, Eq)]
+pub enum Sym {
+    Symmetric,
+    Skew,
+    Both,
+}
+
+impl Sym {
+    fn word(self) -> &'static [u8]
+        ensures { result.now ≡ sym_word self }
+    {
+        match self {
+            Sym::Symmetric => b"symmetric",
+            Sym::Skew => b"skew",
+            Sym::Both => b"both",
+        }
+    }
+}
+
+/// What is known of an output.
+#[derive(Debug, Drop)]
+pub struct OutputInfo {
+    /// The inputs that it depends on, and how.
+    pub support: Items<(u32, Unate)>,
+    /// Pairs of these inputs, the lesser one first, that may be exchanged.
+    pub pairs: Items<(u32, u32, Sym)>,
+}
+
+/// Writes at the end of `out` how many inputs, outputs and gates the circuit has, and then of each output how it
+/// depends on which inputs, and which pairs of them may be exchanged. Names are written byte for byte.
+/// Where memory is wanting, a first part of the text may stand behind what stood in `out`.
+#[tactic(auto, using(crate::proofs::Extending::extends_same, crate::proofs::Extending::extends_twice))]
+pub fn put_info(named: &Named, rows: &[OutputInfo], out: &mut Vec<u8>) -> Result<(), AllocError>
+    requires rows { length rows.now ≡ length named.now.graph.outputs }
+    requires inputs { All (IsInRange named.now.graph.inputs) rows.now }
+    ensures ok { OnOk result (out.new.items ≡ out.old.items ++ info_text named.now rows.now) }
+    ensures kept { OnErr result (Extends out.old.items out.new.items) }
+{
+    put_count(b"inputs", named.graph.inputs() as usize, out)?;
+    put_count(b"outputs", named.graph.outputs().len(), out)?;
+    put_count(b"gates", named.graph.gates().len(), out)?;
+    put_outputs(named, rows, out)
+}
+
+fn put_count(word: &[u8], count: usize, out: &mut Vec<u8>) -> Result<(), AllocError>
+    ensures ok { OnOk result (out.new.items ≡ out.old.items ++ count_line word.now count) }
+    ensures kept { Extends out.old.items out.new.items }
+{
+    out.extend_from_slice(word)?;
+    out.extend_from_slice(b" ")?;
+    put_decimal(count as u64, out)?;
+    out.extend_from_slice(b"\n")
+}
+
+// Writes what is known of each output.
+#[tactic(auto, using(crate::proofs::Extending::extends_same, crate::proofs::Extending::extends_twice))]
+fn put_outputs(named: &Named, rows: &[OutputInfo], out: &mut Vec<u8>) -> Result<(), AllocError>
+    requires rows { length rows.now ≤ length named.now.output_names }
+    requires inputs { All (IsInRange (length named.now.input_names)) rows.now }
+    ensures ok { OnOk result (out.new.items ≡ out.old.items ++ output_texts (names_of named.now) 0 rows.now) }
+    ensures kept { Extends out.old.items out.new.items }
+{
+    for (port, row) in rows.iter().enumerate() {
+        put_output(&named.input_names, &named.output_names, port, row, out)?;
+    }
+    Ok(())
+}
+
+#[tactic(auto, using(crate::proofs::Extending::extends_same, crate::proofs::Extending::extends_twice))]
+fn put_output(
+    inputs: &[Name],
+    outputs: &[Name],
+    port: usize,
+    row: &OutputInfo,
+    out: &mut Vec<u8>,
+) -> Result<(), AllocError>
+    requires port { port < length outputs.now }
+    requires inputs { IsInRange (length inputs.now) row.now }
+    ensures ok { OnOk result (out.new.items ≡ out.old.items ++ output_text (record { inputs = inputs.now; outputs = outputs.now }) port row.now) }
+    ensures kept { Extends out.old.items out.new.items }
+{
+    put_output_line(outputs, port, row.support.len(), out)?;
+    put_inputs(inputs, &row.support, out)?;
+    put_pairs(&row.pairs, out)
+}
+
+fn put_output_line(
+    names: &[Name],
+    port: usize,
+    support: usize,
+    out: &mut Vec<u8>,
+) -> Result<(), AllocError>
+    requires { port < length names.now }
+    ensures ok { OnOk result (out.new.items ≡ out.old.items ++ output_line names.now port support) }
+    ensures kept { Extends out.old.items out.new.items }
+{
+    put_port(b"output", names, port, out)?;
+    out.extend_from_slice(b" support ")?;
+    put_decimal(support as u64, out)?;
+    out.extend_from_slice(b"\n")
+}
+
+#[tactic(auto, using(crate::proofs::Extending::extends_same, crate::proofs::Extending::extends_twice))]
+fn put_inputs(names: &[Name], support: &[(u32, Unate)], out: &mut Vec<u8>) -> Result<(), AllocError>
+    requires { All (λ entry. entry.0 < length names.now) support.now }
+    ensures ok { OnOk result (out.new.items ≡ out.old.items ++ input_lines names.now support.now) }
+    ensures kept { Extends out.old.items out.new.items }
+{
+    for entry in support.iter() {
+        put_input(names, *entry, out)?;
+    }
+    Ok(())
+}
+
+fn put_input(names: &[Name], entry: (u32, Unate), out: &mut Vec<u8>) -> Result<(), AllocError>
+    requires { entry.0 < length names.now }
+    ensures ok { OnOk result (out.new.items ≡ out.old.items ++ input_line names.now entry) }
+    ensures kept { Extends out.old.items out.new.items }
+{
+    let (input, unate) = entry;
+    put_port(b"input", names, input as usize, out)?;
+    out.extend_from_slice(b" ")?;
+    out.extend_from_slice(unate.word())?;
+    out.extend_from_slice(b"\n")
+}
+
+#[tactic(auto, using(crate::proofs::Extending::extends_same, crate::proofs::Extending::extends_twice))]
+fn put_pairs(pairs: &[(u32, u32, Sym)], out: &mut Vec<u8>) -> Result<(), AllocError>
+    ensures ok { OnOk result (out.new.items ≡ out.old.items ++ pair_lines pairs.now) }
+    ensures kept { Extends out.old.items out.new.items }
+{
+    for pair in pairs.iter() {
+        put_pair(*pair, out)?;
+    }
+    Ok(())
+}
+
+fn put_pair(pair: (u32, u32, Sym), out: &mut Vec<u8>) -> Result<(), AllocError>
+    ensures ok { OnOk result (out.new.items ≡ out.old.items ++ pair_line pair) }
+    ensures kept { Extends out.old.items out.new.items }
+{
+    let (first, second, symmetry) = pair;
+    out.extend_from_slice(b"pair ")?;
+    put_number(first, out)?;
+    put_number(second, out)?;
+    out.extend_from_slice(symmetry.word())?;
+    out.extend_from_slice(b"\n")
+}
+
+// Writes a number with a blank behind it.
+fn put_number(number: u32, out: &mut Vec<u8>) -> Result<(), AllocError>
+    ensures ok { OnOk result (out.new.items ≡ out.old.items ++ (decimal number ++ 32 ∷ [])) }
+    ensures kept { Extends out.old.items out.new.items }
+{
+    put_decimal(number as u64, out)?;
+    out.extend_from_slice(b" ")
+}
