@@ -29,11 +29,13 @@ pub record IsLearnedLine (formula : Formula) (earlier : List LogLine) (line : Lo
   pub derived : line_fault formula (clauses_of earlier) line ≡ None
   pub fresh : All (λ clause. has_all line.clause clause ≡ false) (formula.clauses ++ clauses_of earlier)
 
--- A query was asked: it stands last in the ledger, without lemmas and with lines that were learned for it. The entries before
--- stay.
+-- A query was asked: it stands last in the ledger, without lemmas and with lines that were learned for it. The entries
+-- before stay.
 pub record IsAskedIn (graphs : Graphs) (query : Query) (old new : Ledgered) : Type 0 where
   pub lines : List LogLine
-  pub learned : (k : ℕ) (d : LogLine) → k < length lines → IsLearnedLine (formula_of graphs query) (take k lines) (slice_index_or lines k d)
+  pub learned : (k : ℕ) (d : LogLine)
+      → k < length lines
+      → IsLearnedLine (formula_of graphs query) (take k lines) (slice_index_or lines k d)
   pub budget : new.budget ≡ old.budget
   pub asked : new.asked ≡ with_lines lines (opened query [] old.asked)
 

@@ -5,3 +5,6 @@ mod question;
 mod vector;
 
 pub use question::{Answer, ask};
+
+#[cfg(test)]
+mod tests;

@@ -20,16 +20,22 @@ has_all clause other = list_all (is_true clause) other
 abbrev pub kept_here : ℕ → ℕ
 kept_here level = if level == 0 then 0 else 1
 
--- What is learned: a clause without a repeated variable that the steps derive, and that has all the literals of none of the
--- clauses. It is empty at level 0. At each decision up to the level to go back to it left more than a single literal.
-pub record IsLearnedAs (clauses : List (List SatLit)) (trail : Trailing) (clause : List SatLit) (steps : List ℕ) (level : ℕ) : Type 0 where
+-- What is learned: a clause without a repeated variable that the steps derive, and that has all the literals of none of
+-- the clauses. It is empty at level 0. At each decision up to the level to go back to it left more than a single
+-- literal.
+pub record IsLearnedAs (clauses : List (List SatLit)) (trail : Trailing) (clause : List SatLit) (steps : List ℕ) (level : ℕ)
+    : Type 0 where
   pub derived : hint_fault clauses (map opposite clause) steps ≡ None
   pub once : repeats_variable clause ≡ false
   pub known : AreKnown trail.variables clause
   pub fresh : All (λ other. has_all clause other ≡ false) clauses
   pub closing : trail.level ≡ 0 → clause ≡ []
   pub low : level ≤ trail.level
-  pub not_single : (k : ℕ) → k < length trail.entries → (entry_at trail.entries k).reason ≡ None → (entry_at trail.entries k).level ≤ level → effect_of (before trail.entries k) clause ≡ Neither
+  pub not_single : (k : ℕ)
+      → k < length trail.entries
+      → (entry_at trail.entries k).reason ≡ None
+      → (entry_at trail.entries k).level ≤ level
+      → effect_of (before trail.entries k) clause ≡ Neither
 
 abbrev pub IsLearned : List (List SatLit) → Trailing → Learned → Type 0
 IsLearned clauses trail learned = IsLearnedAs clauses trail learned.clause learned.steps.items learned.level
@@ -40,7 +46,8 @@ is_marked marked entry = bit marked (variable_of entry.literal)
 
 -- how many of the first so many literals are marked and of the present level
 abbrev pub here_in : Trailing → List Bool → ℕ → ℕ
-here_in trail marked place = count_by (λ entry. is_marked marked entry && (entry.level == trail.level)) (take place trail.entries)
+here_in trail marked place =
+    count_by (λ entry. is_marked marked entry && (entry.level == trail.level)) (take place trail.entries)
 
 -- the marked ones of the first so many literals
 abbrev pub kept_literals : List Assigned → List Bool → ℕ → List SatLit
@@ -67,20 +74,28 @@ StayMarked old new = (variable : ℕ) → bit old variable ≡ true → bit new 
 
 -- these are true: the marked ones of the first so many literals, and at most all of the first so many
 pub record IsBetween (entries : List Assigned) (marked : List Bool) (place : ℕ) (made : List SatLit) : Type 0 where
-  pub needed : (k : ℕ) → k < place → k < length entries → is_marked marked (entry_at entries k) ≡ true → is_true made (entry_at entries k).literal ≡ true
+  pub needed : (k : ℕ)
+      → k < place
+      → k < length entries
+      → is_marked marked (entry_at entries k) ≡ true
+      → is_true made (entry_at entries k).literal ≡ true
   pub within : (literal : SatLit) → is_true made literal ≡ true → is_true (before entries place) literal ≡ true
 
--- How far an analysis has come: wherever the marked literals that are left are true, and no later ones, the steps lead to the
--- conflict.
-pub record IsAnalysed (clauses : List (List SatLit)) (trail : Trailing) (marked : List Bool) (below here : ℕ) (steps : List ℕ) : Type 0 where
+-- How far an analysis has come: wherever the marked literals that are left are true, and no later ones, the steps lead
+-- to the conflict.
+pub record IsAnalysed (clauses : List (List SatLit)) (trail : Trailing) (marked : List Bool) (below here : ℕ) (steps : List ℕ)
+    : Type 0 where
   pub size : length marked ≡ trail.variables
   pub within : below ≤ length trail.entries
   pub count : here ≡ here_in trail marked below
   pub present : 0 < trail.level → 0 < here
-  pub derives : (made : List SatLit) → IsBetween trail.entries marked below made → hint_fault clauses made (reverse steps) ≡ None
+  pub derives : (made : List SatLit)
+      → IsBetween trail.entries marked below made
+      → hint_fault clauses made (reverse steps) ≡ None
 
 abbrev pub IsAnalysis : List (List SatLit) → Trailing → Analysis → Type 0
-IsAnalysis clauses trail analysis = IsAnalysed clauses trail analysis.marked.items analysis.below analysis.here analysis.steps.items
+IsAnalysis clauses trail analysis =
+    IsAnalysed clauses trail analysis.marked.items analysis.below analysis.here analysis.steps.items
 
 -- A marked literal of the first so many has this level, which is below the present one.
 pub record IsReached (trail : Trailing) (marked : List Bool) (place level : ℕ) : Type 0 where
@@ -92,5 +107,9 @@ pub record IsReached (trail : Trailing) (marked : List Bool) (place level : ℕ)
 
 -- The level to go back to: the greatest one below the present one among the marked literals of the first so many, or 0.
 pub record IsBackLevel (trail : Trailing) (marked : List Bool) (place level : ℕ) : Type 0 where
-  pub most : (k : ℕ) → k < place → is_marked marked (entry_at trail.entries k) ≡ true → (entry_at trail.entries k).level < trail.level → (entry_at trail.entries k).level ≤ level
+  pub most : (k : ℕ)
+      → k < place
+      → is_marked marked (entry_at trail.entries k) ≡ true
+      → (entry_at trail.entries k).level < trail.level
+      → (entry_at trail.entries k).level ≤ level
   pub reached : 0 < level → IsReached trail marked place level

@@ -1,5 +1,5 @@
--- What holds of a trail on which literals are assigned because clauses leave nothing else (unit propagation; Marques-Silva and
--- Sakallah, GRASP, 1999).
+-- What holds of a trail on which literals are assigned because clauses leave nothing else (unit propagation; Marques-
+-- Silva and Sakallah, GRASP, 1999).
 use Rattle.std.specs.Prelude.{◌≡◌, ℕ, ◌<◌, ◌≤◌, List, length, take, All, Option, None, Some}
 use Rattle.cnf_core.specs.declared.literal.SatLit.{SatLit}
 use Rattle.cnf_core.specs.declared.effect.Effect.TheVariants.{Conflict, Makes, Neither}
@@ -37,7 +37,9 @@ IsJustified clauses made literal None = IsQuiet clauses made
 
 -- Each literal of a trail is justified.
 pub record IsSound (clauses : List (List SatLit)) (trail : Trailing) : Type 0 where
-  pub justified : (k : ℕ) → k < length trail.entries → IsJustified clauses (before trail.entries k) (entry_at trail.entries k).literal (entry_at trail.entries k).reason
+  pub justified : (k : ℕ)
+      → k < length trail.entries
+      → IsJustified clauses (before trail.entries k) (entry_at trail.entries k).literal (entry_at trail.entries k).reason
 
 -- A trail has more literals, at the same level: none of them is a decision.
 pub record IsGrown (old new : Trailing) : Type 0 where

@@ -18,7 +18,9 @@ IsTotal trail = (v : ℕ) → v < trail.variables → value_in (literals trail.e
 -- the value of each variable
 pub record AreValues (trail : Trailing) (values : List Bool) : Type 0 where
   pub count : length values ≡ trail.variables
-  pub each : (v : ℕ) (d : Bool) → v < length values → slice_index_or values v d ≡ is_true (literals trail.entries) (literal_of v true)
+  pub each : (v : ℕ) (d : Bool)
+      → v < length values
+      → slice_index_or values v d ≡ is_true (literals trail.entries) (literal_of v true)
 
 -- A search is under way: no line is empty, and the trail is sound for the clauses that are looked at.
 pub record IsSearching (solving : Solving) (trail : Trailing) : Type 0 where
@@ -38,7 +40,11 @@ pub record IsLesson (solving : Solving) (trail : Trailing) (line : LogLine) (lev
   pub good : line_fault solving.formula (clauses_of solving.lines) line ≡ None
   pub fresh : All (λ clause. has_all line.clause clause ≡ false) (active solving.formula solving.ids solving.lines)
   pub low : level ≤ trail.level
-  pub not_single : (k : ℕ) → k < length trail.entries → (entry_at trail.entries k).reason ≡ None → (entry_at trail.entries k).level ≤ level → effect_of (before trail.entries k) line.clause ≡ Neither
+  pub not_single : (k : ℕ)
+      → k < length trail.entries
+      → (entry_at trail.entries k).reason ≡ None
+      → (entry_at trail.entries k).level ≤ level
+      → effect_of (before trail.entries k) line.clause ≡ Neither
 
 -- the level to go back to, or none where the line is empty
 abbrev pub IsWayBack : Solving → Trailing → LogLine → Option ℕ → Type 0
@@ -63,7 +69,8 @@ pub record IsDecided (solving : Solving) (old new : Trailing) : Type 0 where
 
 -- how much is left to do: each line that may be learned, and in between each variable that may be assigned
 abbrev pub remaining : Ledgered → Trailing → ℕ
-remaining ledger trail = (trail.variables + 1) * (ledger.budget + 1 - learned_in ledger) + (trail.variables - length trail.entries)
+remaining ledger trail =
+    (trail.variables + 1) * (ledger.budget + 1 - learned_in ledger) + (trail.variables - length trail.entries)
 
 -- The search goes on, with less to do.
 pub record IsAdvanced (solving : Solving) (first after : Ledgered) (old new : Trailing) : Type 0 where

@@ -28,10 +28,12 @@ active formula ids lines = wanted formula ids ++ clauses_of lines
 
 -- the number that a clause that is looked at has in the formula and its log
 abbrev pub id_at : Formula → List ℕ → ℕ → ℕ
-id_at formula ids k = if nat_lt k (length ids) then slice_index_or ids k 0 else length formula.clauses + (k - length ids)
+id_at formula ids k =
+    if nat_lt k (length ids) then slice_index_or ids k 0 else length formula.clauses + (k - length ids)
 
 -- What each solver keeps.
-pub record IsSolver (formula : Formula) (ids : List ℕ) (lines : List LogLine) (clauses : List (List SatLit)) : Type 0 where
+pub record IsSolver (formula : Formula) (ids : List ℕ) (lines : List LogLine) (clauses : List (List SatLit))
+    : Type 0 where
   pub stored : clauses ≡ active formula ids lines
   pub there : All (λ id. id < length formula.clauses) ids
   pub known : All (AreKnown formula.variables) clauses
@@ -55,7 +57,10 @@ pub record IsExtended (old new : Solving) (before after : Ledgered) : Type 0 whe
   pub ids : new.ids ≡ old.ids
   pub longer : length old.lines ≤ length new.lines
   pub kept : take (length old.lines) new.lines ≡ old.lines
-  pub added : (k : ℕ) (d : LogLine) → length old.lines ≤ k → k < length new.lines → IsAdded old.formula old.ids (take k new.lines) (slice_index_or new.lines k d)
+  pub added : (k : ℕ) (d : LogLine)
+      → length old.lines ≤ k
+      → k < length new.lines
+      → IsAdded old.formula old.ids (take k new.lines) (slice_index_or new.lines k d)
   pub budget : after.budget ≡ before.budget
   pub asked : after.asked ≡ with_lines new.lines before.asked
 
