@@ -6,8 +6,10 @@ ghost use Rattle.query_core.specs.Queries.{IsCone, IsQuery, IsWired};
 use crate::{Answer, ask};
 use cnf_core::{Log, Stop};
 use items::Items;
-use net_core::{Gate, Graph, Graphs, Lit, Side};
+use net_core::{Gate, Graph, Graphs, Lit, Side, lit_value};
 use query_core::{Cone, Feed, Ledger, Query, QueryBase};
+use rand_core::utils::NextWord;
+use rand_pcg::Pcg32;
 use refute_check::Refuter;
 use std::alloc::{AllocError, Global};
 use std::test::Fail;
@@ -136,7 +138,12 @@ fn is_taken(alloc: Global, base: QueryBase<'_>, log: &Log) -> Result<bool, Alloc
     Ok(refuter.closed())
 }
 
-fn outcome_of(alloc: Global, graphs: &Graphs, query: &Query, budget: u64) -> Result<Outcome, AllocError> {
+fn outcome_of(
+    alloc: Global,
+    graphs: &Graphs,
+    query: &Query,
+    budget: u64,
+) -> Result<Outcome, AllocError> {
     if !is_query(graphs, query) {
         return Ok(Outcome::Unfit);
     }
@@ -155,21 +162,149 @@ fn outcome_of(alloc: Global, graphs: &Graphs, query: &Query, budget: u64) -> Res
     }
 }
 
+/// A question about two circuits of so many inputs, whose gates and output are given as literals.
+#[derive(Clone, Copy, Debug)]
+struct Row<'a> {
+    inputs: u32,
+    first: &'a [(u32, u32)],
+    first_output: u32,
+    second: &'a [(u32, u32)],
+    second_output: u32,
+    falls: bool,
+    budget: u64,
+    outcome: Outcome,
+}
+
+fn outcome_of_row(alloc: Global, row: &Row<'_>) -> Result<Outcome, Fail> {
+    let graphs = Graphs {
+        first: graph_of(alloc, row.inputs, row.first, row.first_output)?,
+        second: graph_of(alloc, row.inputs, row.second, row.second_output)?,
+    };
+    let query = if row.falls {
+        falls(alloc, row.inputs)?
+    } else {
+        exceeds(alloc, row.inputs)?
+    };
+    Ok(outcome_of(alloc, &graphs, &query, row.budget)?)
+}
+
+const AND: &[(u32, u32)] = &[(2, 4)];
+
+const XOR: &[(u32, u32)] = &[(2, 5), (3, 4), (7, 9)];
+
 #[test]
 fn asks_of_small_circuits(rt: HostRuntime) -> Result<(), Fail> {
+    let rows = [
+        // the AND doesn't fall where input 0 rises
+        Row {
+            inputs: 2,
+            first: AND,
+            first_output: 6,
+            second: AND,
+            second_output: 6,
+            falls: true,
+            budget: 0,
+            outcome: Outcome::Spent(0),
+        },
+        Row {
+            inputs: 2,
+            first: AND,
+            first_output: 6,
+            second: AND,
+            second_output: 6,
+            falls: true,
+            budget: 1,
+            outcome: Outcome::Refuted(1),
+        },
+        // the exclusive or falls where input 1 is 1
+        Row {
+            inputs: 2,
+            first: XOR,
+            first_output: 11,
+            second: AND,
+            second_output: 6,
+            falls: true,
+            budget: 9,
+            outcome: Outcome::Vector(2),
+        },
+        // an AND is below an OR, and is not below a constant
+        Row {
+            inputs: 2,
+            first: AND,
+            first_output: 6,
+            second: &[(3, 5)],
+            second_output: 7,
+            falls: false,
+            budget: 9,
+            outcome: Outcome::Refuted(1),
+        },
+        Row {
+            inputs: 2,
+            first: AND,
+            first_output: 6,
+            second: &[],
+            second_output: 0,
+            falls: false,
+            budget: 9,
+            outcome: Outcome::Vector(3),
+        },
+    ];
+    for row in rows.iter() {
+        assert_eq!(rt; outcome_of_row(rt.alloc(), row)?, row.outcome);
+    }
+    Ok(())
+}
+
+/// A circuit of three inputs and six gates, drawn by a seed.
+fn drawn(alloc: Global, numbers: &mut Pcg32) -> Result<Graph, Fail> {
+    let mut gates = Vec::new(alloc);
+    for t in 0..6u32 {
+        let below = 2 * (4 + t);
+        let a = Lit(numbers.next_word() % below);
+        let b = Lit(numbers.next_word() % below);
+        gates.push(Gate { a, b })?;
+    }
+    let outputs = vec![in alloc; Lit(18 + numbers.next_word() % 2); 1]?;
+    if gates.len() > 99 {
+        return Err("a larger graph than this test makes".into());
+    }
+    Ok(Graph::new(3, gates, outputs).ok_or("no graph")?)
+}
+
+/// The output of a circuit of three inputs on a vector.
+fn output_on(alloc: Global, graph: &Graph, code: u32) -> Result<bool, Fail> {
+    let vector = [code % 2 == 1, code / 2 % 2 == 1, code / 4 % 2 == 1];
+    if graph.inputs() != 3 || graph.outputs().is_empty() {
+        return Err("another graph".into());
+    }
+    let mut values = vec![in alloc; false; graph.signals()]?;
+    graph.eval_into(&vector, &mut values);
+    Ok(lit_value(&values, graph.outputs()[0]))
+}
+
+/// Whether the first circuit is true on some vector where the second one is false.
+fn exceeds_somewhere(alloc: Global, graphs: &Graphs) -> Result<bool, Fail> {
+    for code in 0..8 {
+        if output_on(alloc, &graphs.first, code)? && !output_on(alloc, &graphs.second, code)? {
+            return Ok(true);
+        }
+    }
+    Ok(false)
+}
+
+#[test]
+fn agrees_with_all_vectors(rt: HostRuntime) -> Result<(), Fail> {
     let alloc = rt.alloc();
-    let and = Graphs {
-        first: graph_of(alloc, 2, &[(2, 4)], 6)?,
-        second: graph_of(alloc, 2, &[(2, 4)], 6)?,
-    };
-    assert_eq!(rt; outcome_of(alloc, &and, &falls(alloc, 2)?, 0)?, Outcome::Spent(0));
-    assert_eq!(rt; outcome_of(alloc, &and, &falls(alloc, 2)?, 1)?, Outcome::Refuted(1));
-    assert_eq!(rt; outcome_of(alloc, &and, &exceeds(alloc, 2)?, 9)?, Outcome::Refuted(1));
-    let xor = Graphs {
-        first: graph_of(alloc, 2, &[(2, 5), (3, 4), (7, 9)], 11)?,
-        second: graph_of(alloc, 2, &[(2, 4)], 6)?,
-    };
-    // bit 0 is fixed, and 0 where nothing else is said; bit 1 is 1
-    assert_eq!(rt; outcome_of(alloc, &xor, &falls(alloc, 2)?, 9)?, Outcome::Vector(2));
+    let mut numbers = Pcg32::new(7, 54);
+    for _ in 0..40 {
+        let graphs = Graphs {
+            first: drawn(alloc, &mut numbers)?,
+            second: drawn(alloc, &mut numbers)?,
+        };
+        let there = exceeds_somewhere(alloc, &graphs)?;
+        let outcome = outcome_of(alloc, &graphs, &exceeds(alloc, 3)?, 1000)?;
+        assert_eq!(rt; matches!(outcome, Outcome::Vector(_)), there);
+        assert_eq!(rt; matches!(outcome, Outcome::Refuted(_)), !there);
+    }
     Ok(())
 }
