@@ -5,17 +5,17 @@ set -u
 here=$(cd "$(dirname "${BASH_SOURCE[0]}")" && pwd)
 work=$(mktemp -d)
 trap 'rm -rf "$work"' EXIT
-cp "$here"/*.aag "$here"/*.aig "$here"/*.blif "$here"/*.match "$work"
+cp "$here"/*.aag "$here"/*.aig "$here"/*.blif "$here"/*.account "$work"
 cd "$work" || exit 1
-sed 's/i0-1/i0+1/' a-b.match >sign.match
-sed 's/i1+0/i1+1/' a-b.match >twice.match
-sed '/end/d' a-b.match >cut.match
+sed 's/i0-1/i0+1/' a-b.account >sign.account
+sed 's/i1+0/i1+1/' a-b.account >twice.account
+sed '/end/d' a-b.account >cut.account
+sed 4d and-or.account >order.account
+sed '3s/1 2 6/1 2/' and-or.account >hint.account
 sed 's/6 5 2/6 5 3/' b.aag >other.aag
+sed 's/npnp 1/npnp 9/' a-b.account >header.account
 mkdir folder
-printf 'aag 13 13 0 0 0\n' >wide.aag
-for i in {1..13}; do echo $((2 * i)); done >>wide.aag
 printf 'aig 3 2 0 2 1\n6\n2\n\2\2' >a.aig
-printf 'npnp 1\nmatch i0+0 i1+1 o0+0 o1+1\nend\n' >a.match
 failed=0
 
 wants() { # STATUS FIRST-LINE WORDS..
@@ -31,27 +31,31 @@ wants() { # STATUS FIRST-LINE WORDS..
   fi
 }
 
-wants 0 'accepted match' check a.aag b.aag a-b.match
-wants 2 'rejected' check a.aag b.aag sign.match
-wants 2 'rejected' check a.aag b.aag twice.match
-wants 2 'rejected' check a.aag b.aag cut.match
-wants 2 'rejected' check a.aag other.aag a-b.match
-wants 2 'rejected' check a.aag b.aag a.aag
-wants 5 'absent account' check a.aag b.aag absent.match
-wants 5 'absent first' check absent.aag b.aag a-b.match
-wants 5 'malformed second 27 0' check a.aag a-b.match a-b.match
-wants 0 'accepted match' check c17.blif c17_moved.aig c17.match
-wants 5 'wide' check wide.aag a.aag absent.match
-wants 0 'accepted match' check a.aag a.aig a.match
-wants 4 'usage' match a.aag b.aag a-b.match
+wants 0 'accepted match' check a.aag b.aag a-b.account
+wants 0 'accepted match' check and.blif or.blif and-or.account
+wants 0 'accepted match' check c17.blif c17_moved.aig c17.account
+wants 0 'accepted match' check alu4.aig alu4_lost.aig alu4.account
+wants 2 'rejected line 3 refutation' check a.aag b.aag sign.account
+wants 2 'rejected line 2 conclusion' check a.aag b.aag twice.account
+wants 2 'rejected line 7 truncated' check a.aag b.aag cut.account
+wants 2 'rejected line 4 order' check and.blif or.blif order.account
+wants 2 'rejected line 3 refutation' check and.blif or.blif hint.account
+wants 2 'rejected line 1 header' check a.aag b.aag header.account
+wants 2 'rejected line 1 header' check a.aag b.aag a.aag
+wants 2 'rejected line 3 refutation' check a.aag other.aag a-b.account
+wants 2 'rejected line 3 refutation' check a.aag a.aig a-b.account
+wants 5 'absent account' check a.aag b.aag absent.account
+wants 5 'absent first' check absent.aag b.aag a-b.account
+wants 5 'malformed second 27 0' check a.aag a-b.account a-b.account
+wants 4 'usage' match a.aag b.aag a-b.account
 wants 4 'usage'
-wants 6 'read fault' check folder b.aag a-b.match
+wants 6 'read fault' check folder b.aag a-b.account
 wants 6 'read fault' check a.aag b.aag folder
 # what comes through a pipe is read to its end; a device without an end is a fault
-wants 0 'accepted match' check <(cat a.aag) <(cat b.aag) <(cat a-b.match)
+wants 0 'accepted match' check <(cat a.aag) <(cat b.aag) <(cat a-b.account)
 mkfifo named_pipe
 cat c17.blif >named_pipe &
-wants 0 'accepted match' check named_pipe c17_moved.aig c17.match
-wants 5 'malformed first 28 0' check /dev/null b.aag a-b.match
-wants 6 'read fault' check /dev/zero b.aag a-b.match
+wants 0 'accepted match' check named_pipe c17_moved.aig c17.account
+wants 5 'malformed first 28 0' check /dev/null b.aag a-b.account
+wants 6 'read fault' check /dev/zero b.aag a-b.account
 exit "$failed"

@@ -1,3 +1,4 @@
 pub mod LogLemmas
 pub mod PairLemmas
 pub mod FaultLemmas
+pub mod VerdictLemmas

@@ -1,7 +1,10 @@
 pub mod Conclusions
 pub mod Accounts
+pub mod Verdicts
+pub mod Words
 pub mod Proofs
 pub mod Stages
+pub mod Checking
 pub use Rattle.account_file.specs.Order
 pub use Rattle.circuits.specs.Bijections
 pub use Rattle.circuits.specs.Matches

@@ -53,6 +53,7 @@ impl Reader {
     pub fn new(alloc: Global) -> Reader
         ensures begun { HasRead result [] [] }
         ensures more { result.finished ≡ false }
+        ensures no_fault { result.fault ≡ None }
     {
         Reader {
             bytes: Vec::new(alloc),
@@ -110,6 +111,8 @@ impl Reader {
             → HasRead self.new bytes (records ++ given_by result) }
         ensures refused { result ≡ Err FileStop.Memory → self.new ≡ self.old }
         ensures shrinks { (entry : Entry) → result ≡ Ok (Some entry) → length self.new.left < length self.old.left }
+        ensures fault { (fault : AnyFault) → result ≡ Err (FileStop.Fault fault) → self.new.fault ≡ Some fault }
+        ensures no_fault { OnOk result (self.new.fault ≡ None) }
         ensures finished { self.new.finished ≡ self.old.finished }
         ensures total { self.new.total ≡ self.old.total }
     {
@@ -122,6 +125,8 @@ impl Reader {
         ensures reading { result ≢ Err FileStop.Memory → self.new ≡ next_reading self.old.fault self.old }
         ensures refused { result ≡ Err FileStop.Memory → self.new ≡ self.old }
         ensures shrinks { (entry : Entry) → result ≡ Ok (Some entry) → length self.new.left < length self.old.left }
+        ensures fault { (fault : AnyFault) → result ≡ Err (FileStop.Fault fault) → self.new.fault ≡ Some fault }
+        ensures no_fault { OnOk result (self.new.fault ≡ None) }
         ensures finished { self.new.finished ≡ self.old.finished }
         ensures total { self.new.total ≡ self.old.total }
     {

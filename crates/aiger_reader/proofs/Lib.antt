@@ -27,3 +27,9 @@ pub mod OneDelta
 pub mod OneSymbols
 pub mod OneAiger
 pub mod FewPorts
+pub mod TellLemmas
+pub mod SomeHeader
+pub mod SomeBody
+pub mod SomeGates
+pub mod SomeNames
+pub mod SomeAiger

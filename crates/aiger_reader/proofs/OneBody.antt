@@ -10,7 +10,7 @@ use Rattle.aiger_reader.specs.Bodies.{Role, Input, Output, Gate, roles_of, role_
 use Rattle.aiger_reader.proofs.HeaderLemmas.{map_same, keyword_same}
 use Rattle.aiger_reader.proofs.GoodLemmas.{defined_by, defined_more}
 
-abbrev header_from_row : Bool → List ℕ → AigerHeader
+abbrev pub header_from_row : Bool → List ℕ → AigerHeader
 header_from_row binary row = record {
   binary = binary;
   variables = get_or row 0 0;
@@ -49,7 +49,7 @@ defined_front (role ∷ roles) (y ∷ ys) zs =
     let more = defined_front roles ys zs in
     (more.0, ap (λ vs. defined_by role y ++ vs) more.1 ∙ sym (append_assoc (defined_by role y) (defined roles ys) more.0))
 
-defines_one : (role : Role) (row : List ℕ) → IsTrue (defines role) → defined_by role row ≡ first_of row / 2 ∷ []
+pub defines_one : (role : Role) (row : List ℕ) → IsTrue (defines role) → defined_by role row ≡ first_of row / 2 ∷ []
 defines_one Input row t = refl
 defines_one Output row t = cc
 defines_one Gate row t = refl

@@ -20,7 +20,7 @@ kind_or_not Input Output = inr (λ e. cc)
 kind_or_not Output Input = inr (λ e. cc)
 kind_or_not Output Output = inl refl
 
-port_or_not : (p q : Port) → (p ≡ q) ⊎ (p ≢ q)
+pub port_or_not : (p q : Port) → (p ≡ q) ⊎ (p ≢ q)
 port_or_not p q = elim (kind_or_not p.kind q.kind) [
   | inl e ↦ elim (eqb_tells p.position q.position) [
     | inl (t, f) ↦ inl (ap₂ port_at e f)

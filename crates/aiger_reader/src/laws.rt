@@ -1,6 +1,6 @@
 //! Laws of the definitions: what a file is, and its first fault, are determined.
 
-ghost use Rattle.std.specs.Prelude.{◌≡◌, ℕ, ◌≤◌, List, length};
+ghost use Rattle.std.specs.Prelude.{◌≡◌, ℕ, ◌≤◌, ◌⊎◌, List, length};
 ghost use Rattle.circuits.specs.Circuits.{Circuit, IsClosed};
 ghost use Rattle.circuits.specs.Levels.{IsAcyclic};
 ghost use Rattle.net_core.specs.declared.named.NetKind.{NetKind};
@@ -20,6 +20,13 @@ pub fn aiger_or_fault()
         → IsAiger bytes circuit i o
         → IsAigerFault bytes fault at
         → ⊥ }
+{}
+
+/// Each list of bytes is a netlist, or has a first fault.
+pub fn aiger_or_its_fault()
+    ensures { (bytes : List ℕ)
+        → ((circuit : Circuit) × (i : List (List ℕ)) × (o : List (List ℕ)) × IsAiger bytes circuit i o)
+        ⊎ ((fault : NetKind) × (at : ℕ) × IsAigerFault bytes fault at) }
 {}
 
 /// A file has one first fault at most, at one place.

@@ -1,16 +1,19 @@
 -- The words and the files determine what `check` answers.
-use Rattle.std.proofs.Common.{◌≡◌, ◌≢◌, ℕ, ◌<◌, ◌≤◌, ◌↔◌, ◌⊎◌, ◌==◌, inl, inr, Bool, false, IsTrue, List, [], ◌∷◌, length, Option, None, Some, Result, Ok, Err, IfOk, IfErr, get_or, refl, sym, ◌∙◌, ap, subst, arith}
+use Rattle.std.proofs.Common.{◌≡◌, ◌≢◌, ℕ, ◌-◌, ◌^◌, ◌<◌, ◌≤◌, ◌↔◌, ◌⊎◌, ◌==◌, inl, inr, Bool, false, true, IsTrue, List, [], ◌∷◌, length, Option, None, Some, Result, Ok, Err, IfOk, IfErr, get_or, refl, sym, ◌∙◌, ap, subst, arith}
 use Rattle.std.proofs.lemmas.Bool.{false≢true, cases_lt}
 use Rattle.shelf_core.specs.Fault.{Rose}
-use Rattle.circuits.specs.Bijections.{IsSignedBijection}
-use Rattle.circuits.specs.Circuits.{Circuit}
+use Rattle.circuits.specs.Levels.{IsOrderOf}
+use Rattle.circuits.specs.Netlists.{Net}
+use Rattle.circuits.proofs.OneOrder.{one_order}
+use Rattle.net_core.specs.declared.graphs.Graphs.{Graphs}
 use Rattle.net_core.specs.declared.matching.Matching.{Matching}
 use Rattle.net_core.specs.declared.named.NetKind.{NetKind}
-use Rattle.port_table.specs.Table.{ArePorts}
-use Rattle.port_table.proofs.MatchLemmas.{one_spelled}
+use Rattle.account_check.specs.Verdicts.{IsAccepted as ProvesMatch, IsRejected as IsBadAt}
+use Rattle.account_check.specs.declared.verdict.Why.{Why}
+use Rattle.account_check.proofs.VerdictLemmas.{one_rejection, one_matching, never_both}
 use Rattle.npnp.specs.Circuits.{IsCircuit, IsCircuitFault}
 use Rattle.npnp.specs.Words.{AsksCheck, AskNothing}
-use Rattle.npnp.specs.Check.{Netlist, HoldsNetlist, HoldsFault, HoldsTooMuch, SpellsMatch, EndsAt, EndsEarly, IsAsked, AreWide, AreNarrow, IsRight, IsDecided, IsTold}
+use Rattle.npnp.specs.Check.{Netlist, HoldsNetlist, HoldsGraph, HoldsFault, HoldsTooMuch, EndsAt, EndsEarly, IsAsked, HasAccount, LacksAccount, IsRight, IsDecided, IsTold}
 use Rattle.net_core.specs.declared.named.Named.{Named}
 use Rattle.shelf_core.specs.State.{ShelfState, Closed}
 use Rattle.npnp.specs.Report.{IsReport}
@@ -26,7 +29,7 @@ use Rattle.npnp.proofs.CircuitLemmas.{one_circuit, circuit_or_fault, one_circuit
 use Rattle.npnp.specs.declared.outcome.Which.{Which}
 use Rattle.npnp.specs.declared.outcome.Which.TheVariants.{First, Second, Account}
 use Rattle.npnp.specs.declared.outcome.Outcome.{Outcome}
-use Rattle.npnp.specs.declared.outcome.Outcome.TheVariants.{AcceptedMatch, NotATable, Wide, Usage, Absent, TooLarge, Malformed, ReadFault, WriteFault, Memory}
+use Rattle.npnp.specs.declared.outcome.Outcome.TheVariants.{AcceptedMatch, Rejected, Usage, Absent, TooLarge, Malformed, ReadFault, WriteFault, Memory}
 
 -- a count that rose in the last of several calls
 pub rose_later : (a b c : ℕ) → a ≤ b → b ≤ c → Rose b c → Rose a c
@@ -55,13 +58,9 @@ at_too_long limit held NoFile e fact = cc
 at_too_long limit held TooLong e fact = fact
 at_too_long limit held (Bytes bytes) e fact = cc
 
--- two circuits of which a test said that they aren't wide
-pub narrow_by : (n m : ℕ) (wide : Bool) → (IsTrue wide ↔ AreWide n m) → wide ≡ false → AreNarrow n m
-narrow_by n m wide exact refused =
-    record {
-      first = elim (cases_lt 12 n) [ inl more ↦ absurd (false≢true (sym refused ∙ exact.1 (inl more))) | inr few ↦ few ];
-      second = elim (cases_lt 12 m) [ inl more ↦ absurd (false≢true (sym refused ∙ exact.1 (inr more))) | inr few ↦ few ];
-    }
+-- no length is past the largest number of 64 bits
+pub never_too_long : (file : File) → file ≡ TooLong → (file ≡ TooLong → 2 ^ 64 - 1 < 2 ^ 64 - 1) → ⊥
+never_too_long file is long = omega (arith, long is)
 
 -- one name holds one netlist, or one thing that ends the check
 
@@ -81,8 +80,7 @@ IsEnd file content o = ((o ≡ Absent file) × (content ≡ None)) ⊎ ((o ≡ T
 
 end_of : (file : Which) (content : Option (List ℕ)) (o : Outcome) → IsDecided o → EndsAt file content o → IsEnd file content o
 end_of file content (AcceptedMatch table) decided fact = absurd fact
-end_of file content NotATable decided fact = absurd fact
-end_of file content Wide decided fact = absurd fact
+end_of file content (Rejected line why) decided fact = absurd fact
 end_of file content Usage decided fact = absurd fact
 end_of file content (Absent which) decided fact = inl (ap Absent fact.0, fact.1)
 end_of file content (TooLarge which) decided fact = inr (inl (ap TooLarge fact.0, fact.1))
@@ -130,97 +128,71 @@ end_or_netlist file content o f end net =
           circuit_or_fault net.bytes f.circuit f.input_names f.output_names kind at net.is (subst (λ bytes. IsCircuitFault bytes kind at) same fault.is)
     ]
 
--- two circuits and what the account's name holds have one verdict
+-- one name holds one graph
 
-narrow_or_wide : (n m : ℕ) → AreNarrow n m → AreWide n m → ⊥
-narrow_or_wide n m narrow wide = elim wide [ inl first ↦ absurd (omega (arith, narrow.first, first)) | inr second ↦ absurd (omega (arith, narrow.second, second)) ]
+graph_one : (content : Option (List ℕ)) (a b : Net) → HoldsGraph content a → HoldsGraph content b → a ≡ b
+graph_one content a b one other =
+    let e = netlist_one content one.netlist other.netlist one.holds other.holds in
+    let bytes = one.holds.bytes in
+    let acyclic = circuit_acyclic bytes one.netlist.circuit one.netlist.input_names one.netlist.output_names one.holds.is in
+    one_order one.netlist.circuit a b acyclic one.numbered (subst (λ circuit. IsOrderOf circuit b) (sym e) other.numbered)
 
-wide_only : (f g : Circuit) (content : Option (List ℕ)) → AreWide f.inputs g.inputs → (o : Outcome) → IsVerdict f g content o → o ≡ Wide
-wide_only f g content wide (AcceptedMatch table) fact = absurd (narrow_or_wide f.inputs g.inputs fact.0 wide)
-wide_only f g content wide NotATable fact = absurd (narrow_or_wide f.inputs g.inputs fact.0 wide)
-wide_only f g content wide Wide fact = refl
-wide_only f g content wide Usage fact = absurd fact
-wide_only f g content wide (Absent which) fact = absurd (narrow_or_wide f.inputs g.inputs fact.1 wide)
-wide_only f g content wide (TooLarge which) fact = absurd fact
-wide_only f g content wide (Malformed which kind at) fact = absurd fact
-wide_only f g content wide ReadFault fact = absurd fact
-wide_only f g content wide WriteFault fact = absurd fact
-wide_only f g content wide Memory fact = absurd fact
+-- what the account's bytes answer
+abbrev pub IsAnswer : Graphs → List ℕ → Outcome → Type 0
+IsAnswer graphs account o =
+    ((table : Matching) × (o ≡ AcceptedMatch table) × ProvesMatch graphs account table)
+    ⊎ ((line : ℕ) × (why : Why) × (o ≡ Rejected line why) × IsBadAt graphs account line why)
 
-absent_only : (f g : Circuit) (content : Option (List ℕ)) → AreNarrow f.inputs g.inputs → content ≡ None → (o : Outcome) → IsVerdict f g content o → o ≡ Absent Account
-absent_only f g content narrow none (AcceptedMatch table) fact = let there = fact.2 in cc
-absent_only f g content narrow none NotATable fact = let there = fact.2 in cc
-absent_only f g content narrow none Wide fact = absurd (narrow_or_wide f.inputs g.inputs narrow fact)
-absent_only f g content narrow none Usage fact = absurd fact
-absent_only f g content narrow none (Absent which) fact = ap Absent fact.0
-absent_only f g content narrow none (TooLarge which) fact = absurd fact
-absent_only f g content narrow none (Malformed which kind at) fact = absurd fact
-absent_only f g content narrow none ReadFault fact = absurd fact
-absent_only f g content narrow none WriteFault fact = absurd fact
-absent_only f g content narrow none Memory fact = absurd fact
-
--- the account that a name holds
-same_account : (content : Option (List ℕ)) (account other : List ℕ) → content ≡ Some account → content ≡ Some other → other ≡ account
-same_account content account other e e' = cc
-
-rejected_only : (f g : Circuit) (content : Option (List ℕ)) (account : List ℕ) → AreNarrow f.inputs g.inputs → content ≡ Some account → ((table : Matching) → SpellsMatch f g account table → ⊥) → (o : Outcome) → IsVerdict f g content o → o ≡ NotATable
-rejected_only f g content account narrow there none (AcceptedMatch table) fact = absurd (none table (subst (λ a. SpellsMatch f g a table) (same_account content account fact.1 there fact.2) fact.3))
-rejected_only f g content account narrow there none NotATable fact = refl
-rejected_only f g content account narrow there none Wide fact = absurd (narrow_or_wide f.inputs g.inputs narrow fact)
-rejected_only f g content account narrow there none Usage fact = absurd fact
-rejected_only f g content account narrow there none (Absent which) fact = let absent = fact.2 in cc
-rejected_only f g content account narrow there none (TooLarge which) fact = absurd fact
-rejected_only f g content account narrow there none (Malformed which kind at) fact = absurd fact
-rejected_only f g content account narrow there none ReadFault fact = absurd fact
-rejected_only f g content account narrow there none WriteFault fact = absurd fact
-rejected_only f g content account narrow there none Memory fact = absurd fact
-
--- a text spells one match of few ports at most
-ports : (n : ℕ) (p : List (ℕ × Bool)) → n ≤ 1024 → IsSignedBijection n p → ArePorts p
-ports n p few bijection = λ k d h. omega (arith, bijection.in_range k d h)
-
-one_match : (f g : Circuit) (text : List ℕ) (a b : Matching) → length f.outputs ≤ 1024 → AreNarrow f.inputs g.inputs → SpellsMatch f g text a → SpellsMatch f g text b → a ≡ b
-one_match f g text a b few narrow one other =
-    let few_inputs : f.inputs ≤ 1024 = omega (arith, narrow.first) in
-    one_spelled text a b (ports f.inputs a.inputs few_inputs one.matches.inputs) (ports (length f.outputs) a.outputs few one.matches.outputs) (ports f.inputs b.inputs few_inputs other.matches.inputs) (ports (length f.outputs) b.outputs few other.matches.outputs) one.spelled other.spelled
-
-accepted_only : (f g : Circuit) (content : Option (List ℕ)) (account : List ℕ) (found : Matching) → length f.outputs ≤ 1024 → AreNarrow f.inputs g.inputs → content ≡ Some account → SpellsMatch f g account found → (o : Outcome) → IsVerdict f g content o → o ≡ AcceptedMatch found
-accepted_only f g content account found small narrow there is (AcceptedMatch table) fact = ap AcceptedMatch (sym (one_match f g account found table small narrow is (subst (λ a. SpellsMatch f g a table) (same_account content account fact.1 there fact.2) fact.3)))
-accepted_only f g content account found small narrow there is NotATable fact = absurd (fact.3 found (subst (λ a. SpellsMatch f g a found) (sym (same_account content account fact.1 there fact.2)) is))
-accepted_only f g content account found small narrow there is Wide fact = absurd (narrow_or_wide f.inputs g.inputs narrow fact)
-accepted_only f g content account found small narrow there is Usage fact = absurd fact
-accepted_only f g content account found small narrow there is (Absent which) fact = let absent = fact.2 in cc
-accepted_only f g content account found small narrow there is (TooLarge which) fact = absurd fact
-accepted_only f g content account found small narrow there is (Malformed which kind at) fact = absurd fact
-accepted_only f g content account found small narrow there is ReadFault fact = absurd fact
-accepted_only f g content account found small narrow there is WriteFault fact = absurd fact
-accepted_only f g content account found small narrow there is Memory fact = absurd fact
-
-verdict_one : (f g : Circuit) (content : Option (List ℕ)) → length f.outputs ≤ 1024 → (a b : Outcome) → IsVerdict f g content a → IsVerdict f g content b → a ≡ b
-verdict_one f g content few (AcceptedMatch table) b one other = sym (accepted_only f g content one.1 table few one.0 one.2 one.3 b other)
-verdict_one f g content few NotATable b one other = sym (rejected_only f g content one.1 one.0 one.2 one.3 b other)
-verdict_one f g content few Wide b one other = sym (wide_only f g content one b other)
-verdict_one f g content few Usage b one other = absurd one
-verdict_one f g content few (Absent which) b one other = ap Absent one.0 ∙ sym (absent_only f g content one.1 one.2 b other)
-verdict_one f g content few (TooLarge which) b one other = absurd one
-verdict_one f g content few (Malformed which kind at) b one other = absurd one
-verdict_one f g content few ReadFault b one other = absurd one
-verdict_one f g content few WriteFault b one other = absurd one
-verdict_one f g content few Memory b one other = absurd one
+answer_one : (graphs : Graphs) (account : List ℕ) (a b : Outcome) → IsAnswer graphs account a → IsAnswer graphs account b → a ≡ b
+answer_one graphs account a b one other =
+    elim one [
+      | inl (table, e, proves) ↦ elim other [
+        | inl (table', e', proves') ↦ e ∙ ap AcceptedMatch (one_matching graphs account table table' proves proves') ∙ sym e'
+        | inr (line, why, e', bad) ↦ absurd (never_both graphs account table line why proves bad)
+      ]
+      | inr (line, why, e, bad) ↦ elim other [
+        | inl (table, e', proves) ↦ absurd (never_both graphs account table line why proves bad)
+        | inr (line', why', e', bad') ↦ let same = one_rejection graphs account line line' why why' bad bad' in let l = same.0 in let w = same.1 in cc
+      ]
+    ]
 
 -- the outcome is what the words say, or what the files under their names say
 
-abbrev pub SaysSecond : (List ℕ → Option (List ℕ)) → List ℕ → List ℕ → Netlist → Outcome → Type 0
-SaysSecond held second account f o = IsEnd Second (held second) o ⊎ ((g : Netlist) × HoldsNetlist (held second) g × IsVerdict f.circuit g.circuit (held account) o)
+abbrev pub SaysAccount : (List ℕ → Option (List ℕ)) → List ℕ → List ℕ → List ℕ → Outcome → Type 0
+SaysAccount held first second account o =
+    ((o ≡ Absent Account) × (held account ≡ None))
+    ⊎ ((graphs : Graphs) × HoldsGraph (held first) graphs.first × HoldsGraph (held second) graphs.second × (bytes : List ℕ) × (held account ≡ Some bytes) × IsAnswer graphs bytes o)
+
+abbrev pub SaysSecond : (List ℕ → Option (List ℕ)) → List ℕ → List ℕ → List ℕ → Outcome → Type 0
+SaysSecond held first second account o = IsEnd Second (held second) o ⊎ ((g : Netlist) × HoldsNetlist (held second) g × SaysAccount held first second account o)
 
 abbrev pub SaysFirst : (List ℕ → Option (List ℕ)) → List ℕ → List ℕ → List ℕ → Outcome → Type 0
-SaysFirst held first second account o = IsEnd First (held first) o ⊎ ((f : Netlist) × HoldsNetlist (held first) f × SaysSecond held second account f o)
+SaysFirst held first second account o = IsEnd First (held first) o ⊎ ((f : Netlist) × HoldsNetlist (held first) f × SaysSecond held first second account o)
 
 abbrev pub Says : (List ℕ → Option (List ℕ)) → List (List ℕ) → Outcome → Type 0
 Says held words o = ((o ≡ Usage) × AskNothing words) ⊎ ((first : List ℕ) × (second : List ℕ) × (account : List ℕ) × AsksCheck words first second account × SaysFirst held first second account o)
 
-second_one : (held : List ℕ → Option (List ℕ)) (second account : List ℕ) (f f' : Netlist) (a b : Outcome) → length f.circuit.outputs ≤ 1024 → f.circuit ≡ f'.circuit → SaysSecond held second account f a → SaysSecond held second account f' b → a ≡ b
-second_one held second account f f' a b few same one other =
+graphs_same : (a b : Graphs) → a.first ≡ b.first → a.second ≡ b.second → a ≡ b
+graphs_same a b e f = λ i. record { first = e i; second = f i }
+
+account_one : (held : List ℕ → Option (List ℕ)) (first second account : List ℕ) (a b : Outcome) → SaysAccount held first second account a → SaysAccount held first second account b → a ≡ b
+account_one held first second account a b one other =
+    elim one [
+      | inl (e, none) ↦ elim other [
+        | inl (e', none') ↦ e ∙ sym e'
+        | inr (graphs, f, g, bytes, there, answer) ↦ cc
+      ]
+      | inr (graphs, f, g, bytes, there, answer) ↦ elim other [
+        | inl (e, none) ↦ cc
+        | inr (graphs', f', g', bytes', there', answer') ↦
+            let same = graphs_same graphs' graphs (graph_one (held first) graphs'.first graphs.first f' f) (graph_one (held second) graphs'.second graphs.second g' g) in
+            let text : bytes' ≡ bytes = cc in
+            answer_one graphs bytes a b answer (subst (λ t. IsAnswer graphs t b) text (subst (λ two. IsAnswer two bytes' b) same answer'))
+      ]
+    ]
+
+second_one : (held : List ℕ → Option (List ℕ)) (first second account : List ℕ) (a b : Outcome) → SaysSecond held first second account a → SaysSecond held first second account b → a ≡ b
+second_one held first second account a b one other =
     elim one [
       | inl end ↦ elim other [
         | inl end' ↦ end_one Second (held second) a b end end'
@@ -228,15 +200,9 @@ second_one held second account f f' a b few same one other =
       ]
       | inr (g, there, fact) ↦ elim other [
         | inl end' ↦ absurd (end_or_netlist Second (held second) b g end' there)
-        | inr (g', there', fact') ↦
-            let e = netlist_one (held second) g g' there there' in
-            let moved : IsVerdict f.circuit g.circuit (held account) b = subst (λ n. IsVerdict n g.circuit (held account) b) (sym same) (subst (λ n. IsVerdict f'.circuit n (held account) b) (sym e) fact') in
-            verdict_one f.circuit g.circuit (held account) few a b fact moved
+        | inr (g', there', fact') ↦ account_one held first second account a b fact fact'
       ]
     ]
-
-few_outputs : (content : Option (List ℕ)) (f : Netlist) → HoldsNetlist content f → length f.circuit.outputs ≤ 1024
-few_outputs content f holds = (few_ports holds.bytes f.circuit f.input_names f.output_names holds.is).1
 
 first_one : (held : List ℕ → Option (List ℕ)) (first second account : List ℕ) (a b : Outcome) → SaysFirst held first second account a → SaysFirst held first second account b → a ≡ b
 first_one held first second account a b one other =
@@ -247,7 +213,7 @@ first_one held first second account a b one other =
       ]
       | inr (f, there, fact) ↦ elim other [
         | inl end' ↦ absurd (end_or_netlist First (held first) b f end' there)
-        | inr (f', there', fact') ↦ second_one held second account f f' a b (few_outputs (held first) f there) (netlist_one (held first) f f' there there') fact fact'
+        | inr (f', there', fact') ↦ second_one held first second account a b fact fact'
       ]
     ]
 
@@ -279,16 +245,19 @@ says_early held words o decided early =
       | inr at ↦ inr (at.first_name, at.second_name, at.account_name, at.asks, inr (at.first, at.first_held, inl (end_of Second (held at.second_name) o decided at.ends)))
     ]
 
-says_asked : (held : List ℕ → Option (List ℕ)) (words : List (List ℕ)) (f g : Netlist) (account : List ℕ) (o : Outcome) → IsAsked held words f g account → IsVerdict f.circuit g.circuit (held account) o → Says held words o
-says_asked held words f g account o asked verdict =
-    inr (asked.first_name, asked.second_name, account, asked.asks, inr (f, asked.first_held, inr (g, asked.second_held, verdict)))
+says_answer : (held : List ℕ → Option (List ℕ)) (words : List (List ℕ)) (graphs : Graphs) (bytes : List ℕ) (o : Outcome) → HasAccount held words graphs bytes → IsAnswer graphs bytes o → Says held words o
+says_answer held words graphs bytes o has answer =
+    inr (has.first_name, has.second_name, has.account_name, has.asks, inr (has.first_held.netlist, has.first_held.holds, inr (has.second_held.netlist, has.second_held.holds, inr (graphs, has.first_held, has.second_held, bytes, has.there, answer))))
+
+says_absent : (held : List ℕ → Option (List ℕ)) (words : List (List ℕ)) (which : Which) → which ≡ Account → LacksAccount held words → Says held words (Absent which)
+says_absent held words which e lacks =
+    inr (lacks.asked.first_name, lacks.asked.second_name, lacks.account_name, lacks.asked.asks, inr (lacks.first, lacks.asked.first_held, inr (lacks.second, lacks.asked.second_held, inl (ap Absent e, lacks.absent))))
 
 says : (held : List ℕ → Option (List ℕ)) (words : List (List ℕ)) (o : Outcome) → IsDecided o → IsRight held words o → Says held words o
-says held words (AcceptedMatch table) decided right = says_asked held words right.first right.second right.has.account_name (AcceptedMatch table) right.has.asked (right.has.narrow, right.account, right.has.there, right.accepted)
-says held words NotATable decided right = says_asked held words right.first right.second right.has.account_name NotATable right.has.asked (right.has.narrow, right.account, right.has.there, right.rejected)
-says held words Wide decided right = says_asked held words right.first right.second right.account_name Wide right.asked right.wide
+says held words (AcceptedMatch table) decided right = says_answer held words right.graphs right.account (AcceptedMatch table) right.has (inl (table, refl, right.accepted))
+says held words (Rejected line why) decided right = says_answer held words right.graphs right.account (Rejected line why) right.has (inr (line, why, refl, right.rejected))
 says held words Usage decided right = inl (refl, right)
-says held words (Absent which) decided right = elim right [ inl early ↦ says_early held words (Absent which) decided early | inr (e, lacks) ↦ says_asked held words lacks.first lacks.second lacks.account_name (Absent which) lacks.asked (e, lacks.narrow, lacks.absent) ]
+says held words (Absent which) decided right = elim right [ inl early ↦ says_early held words (Absent which) decided early | inr (e, lacks) ↦ says_absent held words which e lacks ]
 says held words (TooLarge which) decided right = says_early held words (TooLarge which) decided right
 says held words (Malformed which kind at) decided right = says_early held words (Malformed which kind at) decided right
 says held words ReadFault decided right = absurd (decided.read refl)
@@ -299,8 +268,7 @@ says held words Memory decided right = absurd (decided.told.room refl)
 
 pub right_at_first : (held : List ℕ → Option (List ℕ)) (words : List (List ℕ)) (f g t : List ℕ) → AsksCheck words f g t → (o : Outcome) → EndsAt First (held f) o → IsRight held words o
 right_at_first held words f g t asks (AcceptedMatch table) ends = absurd ends
-right_at_first held words f g t asks NotATable ends = absurd ends
-right_at_first held words f g t asks Wide ends = absurd ends
+right_at_first held words f g t asks (Rejected line why) ends = absurd ends
 right_at_first held words f g t asks Usage ends = absurd ends
 right_at_first held words f g t asks (Absent which) ends = inl (inl (record { first_name = f; second_name = g; account_name = t; asks = asks; ends = ends }))
 right_at_first held words f g t asks (TooLarge which) ends = inl (record { first_name = f; second_name = g; account_name = t; asks = asks; ends = ends })
@@ -311,8 +279,7 @@ right_at_first held words f g t asks Memory ends = tt
 
 pub right_at_second : (held : List ℕ → Option (List ℕ)) (words : List (List ℕ)) (f g t : List ℕ) (first : Netlist) → AsksCheck words f g t → HoldsNetlist (held f) first → (o : Outcome) → EndsAt Second (held g) o → IsRight held words o
 right_at_second held words f g t first asks there (AcceptedMatch table) ends = absurd ends
-right_at_second held words f g t first asks there NotATable ends = absurd ends
-right_at_second held words f g t first asks there Wide ends = absurd ends
+right_at_second held words f g t first asks there (Rejected line why) ends = absurd ends
 right_at_second held words f g t first asks there Usage ends = absurd ends
 right_at_second held words f g t first asks there (Absent which) ends = inl (inr (record { first_name = f; second_name = g; account_name = t; asks = asks; first = first; first_held = there; ends = ends }))
 right_at_second held words f g t first asks there (TooLarge which) ends = inr (record { first_name = f; second_name = g; account_name = t; asks = asks; first = first; first_held = there; ends = ends })
@@ -321,17 +288,16 @@ right_at_second held words f g t first asks there ReadFault ends = tt
 right_at_second held words f g t first asks there WriteFault ends = absurd ends
 right_at_second held words f g t first asks there Memory ends = tt
 
-pub right_by_verdict : (held : List ℕ → Option (List ℕ)) (words : List (List ℕ)) (f g : Netlist) (t : List ℕ) → IsAsked held words f g t → (o : Outcome) → IsVerdict f.circuit g.circuit (held t) o → IsRight held words o
-right_by_verdict held words f g t asked (AcceptedMatch table) fact = record { first = f; second = g; account = fact.1; has = record { account_name = t; asked = asked; narrow = fact.0; there = fact.2 }; accepted = fact.3 }
-right_by_verdict held words f g t asked NotATable fact = record { first = f; second = g; account = fact.1; has = record { account_name = t; asked = asked; narrow = fact.0; there = fact.2 }; rejected = fact.3 }
-right_by_verdict held words f g t asked Wide fact = record { first = f; second = g; account_name = t; asked = asked; wide = fact }
-right_by_verdict held words f g t asked Usage fact = absurd fact
-right_by_verdict held words f g t asked (Absent which) fact = inr (fact.0, record { first = f; second = g; account_name = t; asked = asked; narrow = fact.1; absent = fact.2 })
-right_by_verdict held words f g t asked (TooLarge which) fact = absurd fact
-right_by_verdict held words f g t asked (Malformed which kind at) fact = absurd fact
-right_by_verdict held words f g t asked ReadFault fact = absurd fact
-right_by_verdict held words f g t asked WriteFault fact = absurd fact
-right_by_verdict held words f g t asked Memory fact = absurd fact
+pub right_by_verdict : (held : List ℕ → Option (List ℕ)) (words : List (List ℕ)) (f g t : List ℕ) (graphs : Graphs) → AsksCheck words f g t → HoldsGraph (held f) graphs.first → HoldsGraph (held g) graphs.second → (o : Outcome) → IsVerdict graphs (held t) o → IsRight held words o
+right_by_verdict held words f g t graphs asks first second (AcceptedMatch table) fact = record { graphs = graphs; account = fact.0; has = record { first_name = f; second_name = g; account_name = t; asks = asks; first_held = first; second_held = second; there = fact.1 }; accepted = fact.2 }
+right_by_verdict held words f g t graphs asks first second (Rejected line why) fact = record { graphs = graphs; account = fact.0; has = record { first_name = f; second_name = g; account_name = t; asks = asks; first_held = first; second_held = second; there = fact.1 }; rejected = fact.2 }
+right_by_verdict held words f g t graphs asks first second Usage fact = absurd fact
+right_by_verdict held words f g t graphs asks first second (Absent which) fact = inr (fact.0, record { first = first.netlist; second = second.netlist; account_name = t; asked = record { first_name = f; second_name = g; asks = asks; first_held = first.holds; second_held = second.holds }; absent = fact.1 })
+right_by_verdict held words f g t graphs asks first second (TooLarge which) fact = absurd fact
+right_by_verdict held words f g t graphs asks first second (Malformed which kind at) fact = absurd fact
+right_by_verdict held words f g t graphs asks first second ReadFault fact = absurd fact
+right_by_verdict held words f g t graphs asks first second WriteFault fact = absurd fact
+right_by_verdict held words f g t graphs asks first second Memory fact = absurd fact
 
 -- The outcome of a run that was asked to tell a right one is exactly what the words and the files say.
 module _ (held : List ℕ → Option (List ℕ)) (words : List (List ℕ)) (asked answer : Outcome) (right : IsRight held words asked) (same : IsTold answer → answer ≡ asked) (decided : IsDecided answer) where
@@ -346,11 +312,8 @@ module _ (held : List ℕ → Option (List ℕ)) (words : List (List ℕ)) (aske
 pub decided_accepted : (table : Matching) → IsDecided (AcceptedMatch table)
 decided_accepted table = record { read = λ e. cc; told = record { written = λ e. cc; room = λ e. cc } }
 
-pub decided_rejected : IsDecided NotATable
-decided_rejected = record { read = λ e. cc; told = record { written = λ e. cc; room = λ e. cc } }
-
-pub decided_wide : IsDecided Wide
-decided_wide = record { read = λ e. cc; told = record { written = λ e. cc; room = λ e. cc } }
+pub decided_rejected : (line : ℕ) (why : Why) → IsDecided (Rejected line why)
+decided_rejected line why = record { read = λ e. cc; told = record { written = λ e. cc; room = λ e. cc } }
 
 pub decided_absent : (which : Which) → IsDecided (Absent which)
 decided_absent which = record { read = λ e. cc; told = record { written = λ e. cc; room = λ e. cc } }
@@ -382,6 +345,7 @@ stopped tells first second account old new result o same files ended reading fai
       files = files;
       right = λ t words asks. tt;
       ended = ended;
+      sound = λ t words asks. tt;
       report = λ words asks. tt;
       judged = tt;
       reading = reading;
@@ -404,8 +368,7 @@ asks_both held content words f g t first second same asks holds other = record {
 -- what the bytes of a file that is no netlist end the run with
 stop_ends : (file : Which) (content : Option (List ℕ)) (bytes : List ℕ) → content ≡ Some bytes → length bytes ≤ 67108864 → (o : Outcome) → IsStopOf file bytes o → EndsAt file content o
 stop_ends file content bytes there short (AcceptedMatch table) fact = absurd fact
-stop_ends file content bytes there short NotATable fact = absurd fact
-stop_ends file content bytes there short Wide fact = absurd fact
+stop_ends file content bytes there short (Rejected line why) fact = absurd fact
 stop_ends file content bytes there short Usage fact = absurd fact
 stop_ends file content bytes there short (Absent which) fact = absurd fact
 stop_ends file content bytes there short (TooLarge which) fact = absurd fact
@@ -416,8 +379,7 @@ stop_ends file content bytes there short Memory fact = tt
 
 stop_is_of_reading : (file : Which) (bytes : List ℕ) (o : Outcome) → IsStopOf file bytes o → IsOfReading o
 stop_is_of_reading file bytes (AcceptedMatch table) fact = absurd fact
-stop_is_of_reading file bytes NotATable fact = absurd fact
-stop_is_of_reading file bytes Wide fact = absurd fact
+stop_is_of_reading file bytes (Rejected line why) fact = absurd fact
 stop_is_of_reading file bytes Usage fact = absurd fact
 stop_is_of_reading file bytes (Absent which) fact = absurd fact
 stop_is_of_reading file bytes (TooLarge which) fact = absurd fact
@@ -437,6 +399,7 @@ reads_same tells file name old new bytes (Ok named) files closed faults found is
     acyclic = circuit_acyclic bytes is.circuit named.input_names named.output_names is.is;
     few = (few_ports bytes is.circuit named.input_names named.output_names is.is).1;
     computes = is.computes;
+    numbered = is.numbered;
   };
   ended = λ t. tt;
   reading = tt;

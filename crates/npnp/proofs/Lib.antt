@@ -1,4 +1,4 @@
 pub mod CheckLemmas
 pub mod CircuitLemmas
 pub mod Reading
-pub mod VerdictLemmas
+pub mod Soundness

@@ -1,16 +1,20 @@
 -- What `check` answers, said of the words and of the files that are held.
 use Rattle.std.specs.Prelude.{◌≡◌, ◌≢◌, ℕ, ◌<◌, ◌≤◌, ◌⊎◌, List, length, Option, None, Some}
 use Rattle.circuits.specs.Circuits.{Circuit}
+use Rattle.circuits.specs.Levels.{IsOrderOf}
 use Rattle.circuits.specs.Matches.{IsMatch}
+use Rattle.circuits.specs.Netlists.{Net}
+use Rattle.account_check.specs.Verdicts.{IsAccepted as ProvesMatch, IsRejected as IsBadAt}
+use Rattle.account_check.specs.declared.verdict.Why.{Why}
 use Rattle.npnp.specs.Circuits.{IsCircuit, IsCircuitFault}
+use Rattle.net_core.specs.declared.graphs.Graphs.{Graphs}
 use Rattle.net_core.specs.declared.matching.Matching.{Matching}
 use Rattle.net_core.specs.declared.named.NetKind.{NetKind}
-use Rattle.port_table.specs.Table.{table_text}
 use Rattle.npnp.specs.Words.{AsksCheck, AskNothing}
 use Rattle.npnp.specs.declared.outcome.Which.{Which}
 use Rattle.npnp.specs.declared.outcome.Which.TheVariants.{First, Second, Account}
 use Rattle.npnp.specs.declared.outcome.Outcome.{Outcome}
-use Rattle.npnp.specs.declared.outcome.Outcome.TheVariants.{AcceptedMatch, NotATable, Wide, Usage, Absent, TooLarge, Malformed, ReadFault, WriteFault, Memory}
+use Rattle.npnp.specs.declared.outcome.Outcome.TheVariants.{AcceptedMatch, Rejected, Usage, Absent, TooLarge, Malformed, ReadFault, WriteFault, Memory}
 
 -- A netlist as its file has it, with the names of its ports.
 pub record Netlist : Type 0 where
@@ -77,58 +81,52 @@ pub record IsAsked (held : List ℕ → Option (List ℕ)) (words : List (List �
   pub first_held : HoldsNetlist (held first_name) first
   pub second_held : HoldsNetlist (held second_name) second
 
--- more inputs than are tried on every vector
-abbrev pub AreWide : ℕ → ℕ → Type 0
-AreWide first_inputs second_inputs = (12 < first_inputs) ⊎ (12 < second_inputs)
-
-pub record AreNarrow (first_inputs second_inputs : ℕ) : Type 0 where
-  pub first : first_inputs ≤ 12
-  pub second : second_inputs ≤ 12
-
--- Both files are netlists, and one of them has more than 12 inputs.
-pub record IsWide (held : List ℕ → Option (List ℕ)) (words : List (List ℕ)) : Type 0 where
-  pub first : Netlist
-  pub second : Netlist
-  pub account_name : List ℕ
-  pub asked : IsAsked held words first second account_name
-  pub wide : AreWide first.circuit.inputs second.circuit.inputs
-
--- Both files are netlists of at most 12 inputs, and there is no account.
+-- Both files are netlists, and there is no account.
 pub record LacksAccount (held : List ℕ → Option (List ℕ)) (words : List (List ℕ)) : Type 0 where
   pub first : Netlist
   pub second : Netlist
   pub account_name : List ℕ
   pub asked : IsAsked held words first second account_name
-  pub narrow : AreNarrow first.circuit.inputs second.circuit.inputs
   pub absent : held account_name ≡ None
 
--- Both files are netlists of at most 12 inputs, and the account holds these bytes.
-pub record HasAccount (held : List ℕ → Option (List ℕ)) (words : List (List ℕ)) (first second : Netlist) (account : List ℕ) : Type 0 where
+-- What a name holds is a netlist, and this is the graph by which accounts number its gates: its definitions by level, then
+-- by place, each expanded to gates.
+pub record HoldsGraph (content : Option (List ℕ)) (graph : Net) : Type 0 where
+  pub netlist : Netlist
+  pub holds : HoldsNetlist content netlist
+  pub numbered : IsOrderOf netlist.circuit graph
+
+-- The words ask for a check of two files by which accounts number these graphs, and the account holds these bytes.
+pub record HasAccount (held : List ℕ → Option (List ℕ)) (words : List (List ℕ)) (graphs : Graphs) (account : List ℕ) : Type 0 where
+  pub first_name : List ℕ
+  pub second_name : List ℕ
   pub account_name : List ℕ
-  pub asked : IsAsked held words first second account_name
-  pub narrow : AreNarrow first.circuit.inputs second.circuit.inputs
+  pub asks : AsksCheck words first_name second_name account_name
+  pub first_held : HoldsGraph (held first_name) graphs.first
+  pub second_held : HoldsGraph (held second_name) graphs.second
   pub there : held account_name ≡ Some account
 
--- The text is the one spelling of the table, and the table is a match of the circuits.
-pub record SpellsMatch (first second : Circuit) (text : List ℕ) (table : Matching) : Type 0 where
-  pub spelled : text ≡ table_text table.inputs table.outputs
-  pub matches : IsMatch first second table.inputs table.outputs
-
--- The account is this table, a match of the two netlists.
+-- The account's records are all valid, and prove this match.
 pub record IsAccepted (held : List ℕ → Option (List ℕ)) (words : List (List ℕ)) (table : Matching) : Type 0 where
-  pub first : Netlist
-  pub second : Netlist
+  pub graphs : Graphs
   pub account : List ℕ
-  pub has : HasAccount held words first second account
-  pub accepted : SpellsMatch first.circuit second.circuit account table
+  pub has : HasAccount held words graphs account
+  pub accepted : ProvesMatch graphs account table
 
--- The account is no table that is a match of the two netlists.
-pub record IsRejected (held : List ℕ → Option (List ℕ)) (words : List (List ℕ)) : Type 0 where
+-- The account's first bad line is this one, counted from 1, for this reason.
+pub record IsRejected (held : List ℕ → Option (List ℕ)) (words : List (List ℕ)) (line : ℕ) (why : Why) : Type 0 where
+  pub graphs : Graphs
+  pub account : List ℕ
+  pub has : HasAccount held words graphs account
+  pub rejected : IsBadAt graphs account line why
+
+-- The words ask for a check of two files that are netlists, and the table is a match of them.
+pub record IsMatchOfFiles (held : List ℕ → Option (List ℕ)) (words : List (List ℕ)) (table : Matching) : Type 0 where
   pub first : Netlist
   pub second : Netlist
-  pub account : List ℕ
-  pub has : HasAccount held words first second account
-  pub rejected : (table : Matching) → SpellsMatch first.circuit second.circuit account table → ⊥
+  pub account_name : List ℕ
+  pub asked : IsAsked held words first second account_name
+  pub matches : IsMatch first.circuit second.circuit table.inputs table.outputs
 
 -- there is no such file when its turn comes
 abbrev pub IsAbsent : (List ℕ → Option (List ℕ)) → List (List ℕ) → Which → Type 0
@@ -137,13 +135,16 @@ IsAbsent held words which = EndsEarly held words (Absent which) ⊎ ((which ≡ 
 -- what an outcome says of the words and the files; the faults and the want of memory say nothing of them
 abbrev pub IsRight : (List ℕ → Option (List ℕ)) → List (List ℕ) → Outcome → Type 0
 IsRight held words (AcceptedMatch table) = IsAccepted held words table
-IsRight held words NotATable = IsRejected held words
-IsRight held words Wide = IsWide held words
+IsRight held words (Rejected line why) = IsRejected held words line why
 IsRight held words Usage = AskNothing words
 IsRight held words (Absent which) = IsAbsent held words which
 IsRight held words (TooLarge which) = EndsEarly held words (TooLarge which)
 IsRight held words (Malformed which kind at) = EndsEarly held words (Malformed which kind at)
 IsRight held words other = Unit {0}
+
+-- whoever wrote the account, a table that is accepted is a match of the files' netlists
+abbrev pub IsSound : (List ℕ → Option (List ℕ)) → List (List ℕ) → Outcome → Type 0
+IsSound held words outcome = (table : Matching) → outcome ≡ AcceptedMatch table → IsMatchOfFiles held words table
 
 -- the report was put whole
 pub record IsTold (outcome : Outcome) : Type 0 where

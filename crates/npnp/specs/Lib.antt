@@ -6,5 +6,5 @@ pub mod Status
 pub mod Steps
 pub mod Stops
 pub mod Words
-pub use Rattle.port_table.specs.Table
+pub use Rattle.account_check.specs.Verdicts
 pub use Rattle.port_report.specs.Reports

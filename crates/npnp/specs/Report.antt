@@ -3,12 +3,13 @@ use Rattle.std.specs.Prelude.{◌≡◌, ◌≢◌, ℕ, ◌⊎◌, Bool, IsTrue
 use Rattle.std.specs.Fmt.{decimal}
 use Rattle.net_core.specs.Kinds.{kind_number}
 use Rattle.net_core.specs.declared.matching.Matching.{Matching}
-use Rattle.port_report.specs.Reports.{PortNames, match_text}
+use Rattle.port_report.specs.Reports.{PortNames, match_text, rejected_text}
+use Rattle.account_check.specs.Words.{word_of}
 use Rattle.npnp.specs.Check.{Netlist, IsAsked}
 use Rattle.npnp.specs.declared.outcome.Which.{Which}
 use Rattle.npnp.specs.declared.outcome.Which.TheVariants.{First, Second, Account}
 use Rattle.npnp.specs.declared.outcome.Outcome.{Outcome}
-use Rattle.npnp.specs.declared.outcome.Outcome.TheVariants.{AcceptedMatch, NotATable, Wide, Usage, Absent, TooLarge, Malformed, ReadFault, WriteFault, Memory}
+use Rattle.npnp.specs.declared.outcome.Outcome.TheVariants.{AcceptedMatch, Rejected, Usage, Absent, TooLarge, Malformed, ReadFault, WriteFault, Memory}
 
 -- the word for a file
 abbrev pub file_word : Which → List ℕ
@@ -19,8 +20,7 @@ file_word Account = codes "account"
 -- the line that names an outcome; a failed write has none
 abbrev pub line_of : Outcome → List ℕ
 line_of (AcceptedMatch table) = codes "accepted match" ++ 10 ∷ []
-line_of NotATable = codes "rejected" ++ 10 ∷ []
-line_of Wide = codes "wide" ++ 10 ∷ []
+line_of (Rejected line why) = rejected_text line (word_of why)
 line_of Usage = codes "usage" ++ 10 ∷ []
 line_of (Absent file) = codes "absent " ++ file_word file ++ 10 ∷ []
 line_of (TooLarge file) = codes "too large " ++ file_word file ++ 10 ∷ []

@@ -7,16 +7,18 @@ use Rattle.circuits.specs.Matches.{IsMatchOfFunctions}
 use Rattle.circuits.specs.Netlists.{Net}
 use Rattle.shelf_core.specs.Fault.{Rose}
 use Rattle.shelf_core.specs.State.{ShelfState, SinkState, Closed}
+use Rattle.net_core.specs.declared.graphs.Graphs.{Graphs}
 use Rattle.net_core.specs.declared.matching.Matching.{Matching}
 use Rattle.net_core.specs.declared.named.Named.{Named}
+use Rattle.account_check.specs.Verdicts.{IsAccepted as ProvesMatch, IsRejected as IsBadAt}
 use Rattle.npnp.specs.Circuits.{IsCircuit, IsCircuitFault}
 use Rattle.npnp.specs.Words.{AsksCheck}
-use Rattle.npnp.specs.Check.{Netlist, HoldsNetlist, SpellsMatch, EndsAt, AreWide, AreNarrow, IsRight, IsTold}
+use Rattle.npnp.specs.Check.{Netlist, HoldsNetlist, EndsAt, IsRight, IsSound, IsTold}
 use Rattle.npnp.specs.Report.{HasNoTable, IsReport, line_of}
 use Rattle.npnp.specs.declared.outcome.Which.{Which}
 use Rattle.npnp.specs.declared.outcome.Which.TheVariants.{Account}
 use Rattle.npnp.specs.declared.outcome.Outcome.{Outcome}
-use Rattle.npnp.specs.declared.outcome.Outcome.TheVariants.{AcceptedMatch, NotATable, Wide, Usage, Absent, Malformed, ReadFault, WriteFault, Memory}
+use Rattle.npnp.specs.declared.outcome.Outcome.TheVariants.{AcceptedMatch, Rejected, Usage, Absent, Malformed, ReadFault, WriteFault, Memory}
 use Rattle.npnp.specs.declared.files.Stop.{Stop}
 use Rattle.npnp.specs.declared.files.Stop.TheVariants as stop
 use Rattle.npnp.specs.declared.run.Ending.{Ending}
@@ -51,6 +53,7 @@ pub record IsReadFrom (tells : Bool) (content : Option (List ℕ)) (named : Name
   pub acyclic : IsAcyclic circuit
   pub few : length circuit.outputs ≤ 1024
   pub computes : Computes named.graph circuit
+  pub numbered : IsOrderOf circuit named.graph
 
 -- Reading the netlist under a name, or ending the run where none stands there.
 pub record ReadsNetlist (tells : Bool) (file : Which) (name : List ℕ) (old new : ShelfState) (result : Result Named Outcome) : Type 0 where
@@ -63,28 +66,18 @@ pub record ReadsNetlist (tells : Bool) (file : Which) (name : List ℕ) (old new
   pub faults : old.faults ≤ new.faults
   pub failed : result ≡ Err ReadFault → Rose old.faults new.faults
 
--- what an outcome says of two circuits and of what the account's name holds
-abbrev pub IsVerdict : Circuit → Circuit → Option (List ℕ) → Outcome → Type 0
-IsVerdict first second content (AcceptedMatch table) =
-    AreNarrow first.inputs second.inputs
-    × (account : List ℕ)
-    × (content ≡ Some account)
-    × SpellsMatch first second account table
-IsVerdict first second content NotATable =
-    AreNarrow first.inputs second.inputs
-    × (account : List ℕ)
-    × (content ≡ Some account)
-    × ((table : Matching) → SpellsMatch first second account table → ⊥)
-IsVerdict first second content Wide = AreWide first.inputs second.inputs
-IsVerdict first second content (Absent file) = (file ≡ Account) × AreNarrow first.inputs second.inputs × (content ≡ None)
-IsVerdict first second content other = ⊥
+-- the graphs of two netlists
+abbrev pub graphs_of : Named → Named → Graphs
+graphs_of first second = record { first = first.graph; second = second.graph }
 
--- The graphs compute the circuits.
-pub record AreComputed (f g : Net) (first second : Circuit) : Type 0 where
-  pub first_acyclic : IsAcyclic first
-  pub second_acyclic : IsAcyclic second
-  pub first_computed : Computes f first
-  pub second_computed : Computes g second
+-- what an outcome says of two graphs and of what the account's name holds
+abbrev pub IsVerdict : Graphs → Option (List ℕ) → Outcome → Type 0
+IsVerdict graphs content (AcceptedMatch table) =
+    (account : List ℕ) × (content ≡ Some account) × ProvesMatch graphs account table
+IsVerdict graphs content (Rejected line why) =
+    (account : List ℕ) × (content ≡ Some account) × IsBadAt graphs account line why
+IsVerdict graphs content (Absent file) = (file ≡ Account) × (content ≡ None)
+IsVerdict graphs content other = ⊥
 
 -- a table that is accepted is a match of the graphs
 abbrev pub IsMatchIfAccepted : Net → Net → Outcome → Type 0
@@ -100,7 +93,7 @@ pub record IsJudged (outcome : Outcome) : Type 0 where
 -- Judging two netlists by the account under a name.
 pub record Judges (tells : Bool) (first second : Named) (name : List ℕ) (old new : ShelfState) (result : Result Outcome Stop) : Type 0 where
   pub files : (n : List ℕ) → new.held n ≡ old.held n
-  pub right : IsTrue tells → (f g : Circuit) → AreComputed first.graph second.graph f g → IfOk result (IsVerdict f g (old.held name))
+  pub right : IsTrue tells → IfOk result (IsVerdict (graphs_of first second) (old.held name))
   pub matches : IfOk result (IsMatchIfAccepted first.graph second.graph)
   pub judged : IfOk result IsJudged
   pub faults : old.faults ≤ new.faults
@@ -112,6 +105,8 @@ pub record Decides (tells : Bool) (first_name second_name account_name : List �
   -- what is decided is what the files say, for words that name them
   pub right : IsTrue tells → (words : List (List ℕ)) → AsksCheck words first_name second_name account_name → IfOk result (λ ending. IsRight old.held words ending.outcome)
   pub ended : IsTrue tells → (words : List (List ℕ)) → AsksCheck words first_name second_name account_name → IfErr result (IsRight old.held words)
+  -- an accepted table is a match of the files' netlists
+  pub sound : IsTrue tells → (words : List (List ℕ)) → AsksCheck words first_name second_name account_name → IfOk result (λ ending. IsSound old.held words ending.outcome)
   pub report : (words : List (List ℕ)) → AsksCheck words first_name second_name account_name → IfOk result (λ ending. IsReport tells old.held words ending.outcome ending.report.items)
   pub judged : IfOk result (λ ending. IsJudged ending.outcome)
   pub reading : IfErr result IsOfReading

@@ -4,6 +4,7 @@ ghost use Rattle.std.specs.Prelude.{◌≡◌};
 ghost use Rattle.npnp.specs.Status.{status_of};
 
 use crate::files::Stop;
+use account_check::Why;
 use net_core::{Matching, NetKind};
 use std::alloc::AllocError;
 
@@ -21,12 +22,14 @@ pub enum Which {
 /// How a run ends.
 #[derive(Debug, Drop)]
 pub enum Outcome {
-    /// The account is a port table under which the circuits agree on every vector: this one.
+    /// The account proves that this port table is a match of the circuits.
     AcceptedMatch(Matching),
-    /// The account is no port table, or not one under which the circuits agree on every vector.
-    NotATable,
-    /// A netlist has more inputs than are tried on every vector.
-    Wide,
+    /// The first line of the account that is wrong, counted from 1, and why. Where a line is missing it is the one behind the
+    /// last.
+    Rejected {
+        line: u64,
+        why: Why,
+    },
     /// The words are of no form that the program knows.
     Usage,
     /// There is no such file.
@@ -49,15 +52,14 @@ pub enum Outcome {
 
 impl Outcome {
     /// The exit status of the program: 0 accepted, 2 rejected, 4 words of no known form, 5 a file that isn't there
-    /// or isn't a netlist that can be checked, 6 a fault of the outside, 7 no memory.
+    /// or isn't a netlist, 6 a fault of the outside, 7 no memory.
     pub fn status(&self) -> u8
         ensures { result ≡ status_of self.now }
     {
         match self {
             Outcome::AcceptedMatch(_) => 0,
-            Outcome::NotATable => 2,
+            Outcome::Rejected { .. } => 2,
             Outcome::Usage => 4,
-            Outcome::Wide => 5,
             Outcome::Absent(_) => 5,
             Outcome::TooLarge(_) => 5,
             Outcome::Malformed { .. } => 5,

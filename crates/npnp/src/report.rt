@@ -7,7 +7,7 @@ ghost use Rattle.npnp.specs.Steps.{IsMatchIfAccepted};
 
 use crate::outcome::{Outcome, Which};
 use net_core::{Named, NetKind};
-use port_report::put_match;
+use port_report::{put_match, put_rejected};
 use std::alloc::{AllocError, Global};
 use text_core::put_decimal;
 
@@ -44,8 +44,7 @@ fn put_line(outcome: &Outcome, out: &mut Vec<u8>) -> Result<(), AllocError>
 {
     match outcome {
         Outcome::AcceptedMatch(_) => out.extend_from_slice(b"accepted match\n"),
-        Outcome::NotATable => out.extend_from_slice(b"rejected\n"),
-        Outcome::Wide => out.extend_from_slice(b"wide\n"),
+        Outcome::Rejected { line, why } => put_rejected(*line, why.word(), out),
         Outcome::Usage => out.extend_from_slice(b"usage\n"),
         Outcome::Absent(which) => put_file(b"absent ", *which, out),
         Outcome::TooLarge(which) => put_file(b"too large ", *which, out),

@@ -1,34 +1,27 @@
 //! One run of the program: words in, files read, one report out.
 
-ghost use Rattle.std.specs.Prelude.{◌≡◌, ◌≢◌, ℕ, ◌≤◌, ◌++◌, ◌↔◌, ◌⊎◌, List, IsTrue, IfOk, Some, length, map, string_bytes};
+ghost use Rattle.std.specs.Prelude.{◌≡◌, ◌≢◌, ℕ, ◌++◌, ◌↔◌, ◌⊎◌, List, IsTrue, IfOk, Some, Err, map, string_bytes};
 ghost use Rattle.net_core.specs.declared.matching.Matching.{Matching as Table};
 ghost use Rattle.net_core.specs.declared.named.NetKind.{NetKind};
 ghost use Rattle.shelf_core.specs.Fault.{Rose};
 ghost use Rattle.shelf_core.specs.State.{Closed};
+ghost use Rattle.account_check.specs.declared.verdict.Why.{Why as Reason};
 ghost use Rattle.npnp.specs.declared.outcome.Outcome.{Outcome as AnyOutcome};
 ghost use Rattle.npnp.specs.declared.outcome.Which.{Which as AnyFile};
 ghost use Rattle.npnp.specs.Words.{AskNothing};
-ghost use Rattle.npnp.specs.Check.{IsRight, IsAccepted, IsRejected, IsWide, IsAbsent, EndsEarly, IsDecided, IsTold, AreWide, AreNarrow};
-ghost use Rattle.port_table.specs.Table.{IsSmall};
+ghost use Rattle.npnp.specs.Check.{IsRight, IsSound, IsAccepted, IsRejected, IsMatchOfFiles, IsAbsent, EndsEarly, IsDecided, IsTold};
 ghost use Rattle.npnp.specs.Report.{IsReport, line_of};
-ghost use Rattle.circuits.specs.Circuits.{Circuit};
-ghost use Rattle.npnp.specs.Steps.{AreComputed, IsVerdict, IsMatchIfAccepted, IsJudged, Judges, Decides, TellsLine, PutsText, WritesPart};
+ghost use Rattle.npnp.specs.Steps.{IsVerdict, IsMatchIfAccepted, IsJudged, Judges, Decides, TellsLine, PutsText, WritesPart, graphs_of};
 
 use crate::files::{File, Stop, read_file};
 use crate::netlists::read_netlist;
 use crate::outcome::{Outcome, Which};
 use crate::report::{report_line, report_named};
 use crate::words::{Check, check_asked};
-use net_core::{Graph, Named};
-use port_table::match_spelled;
+use account_check::{CheckStop, Verdict, check};
+use net_core::{Graphs, Named};
 use shelf_core::{Shelf, ShelfStop, Sink};
 use std::alloc::{AllocError, Global};
-
-/// The most bytes that a port table may have. A match of circuits that are tried on every vector has fewer.
-const TABLE_LIMIT: u64 = 65_536;
-
-/// The most inputs of circuits that are tried on every vector.
-const MOST_INPUTS: u32 = 12;
 
 /// What is printed where there is no memory.
 const OUT_OF_MEMORY: &[u8] = b"out of memory\n";
@@ -43,11 +36,10 @@ pub struct Ending {
 
 /// Runs the program on the words of its command line: reads the files that they name, decides, and puts one
 /// report. The words that it knows are `check FIRST SECOND ACCOUNT`: FIRST and SECOND are netlists, each in BLIF or in
-/// the AIGER format, and ACCOUNT is a port table, which is accepted exactly where it is a match of the two.
+/// the AIGER format, and ACCOUNT is a text that claims a port table and proves, by refutations, that it is a match of the two.
 ///
 /// The files are opened in this order, each read and closed before the next. A netlist of more than 67,108,864
-/// bytes and an account of more than 65,536 are closed unread. Netlists of more than 12 inputs aren't compared, and
-/// the account isn't opened then.
+/// bytes is closed unread.
 pub fn run<S: Shelf, K: Sink>(
     alloc: Global,
     words: &[String],
@@ -60,12 +52,9 @@ pub fn run<S: Shelf, K: Sink>(
     ensures accepted { IsTrue S.tells → IsDecided result → (table : Table)
         → ((result ≡ Outcome.AcceptedMatch table)
         ↔ IsAccepted (S.state shelf.old).held (map string_bytes words.now) table) }
-    ensures rejected { IsTrue S.tells → IsDecided result
-        → ((result ≡ Outcome.NotATable)
-        ↔ IsRejected (S.state shelf.old).held (map string_bytes words.now)) }
-    ensures wide { IsTrue S.tells → IsDecided result
-        → ((result ≡ Outcome.Wide)
-        ↔ IsWide (S.state shelf.old).held (map string_bytes words.now)) }
+    ensures rejected { IsTrue S.tells → IsDecided result → (line : ℕ) (why : Reason)
+        → ((result ≡ Outcome.Rejected line why)
+        ↔ IsRejected (S.state shelf.old).held (map string_bytes words.now) line why) }
     ensures absent { IsTrue S.tells → IsDecided result → (which : AnyFile)
         → ((result ≡ Outcome.Absent which)
         ↔ IsAbsent (S.state shelf.old).held (map string_bytes words.now) which) }
@@ -77,6 +66,10 @@ pub fn run<S: Shelf, K: Sink>(
         → ((result ≡ Outcome.Malformed which kind at)
         ↔ EndsEarly (S.state shelf.old).held (map string_bytes words.now)
         (Outcome.Malformed which kind at)) }
+
+    // A table is accepted only where it is a match of the two files' netlists, whoever wrote the account.
+    ensures sound { IsTrue S.tells → (table : Table) → result ≡ Outcome.AcceptedMatch table
+        → IsMatchOfFiles (S.state shelf.old).held (map string_bytes words.now) table }
 
     // Words of no known form are answered so, and make no call of the shelf.
     ensures usage { IsTold result
@@ -113,6 +106,8 @@ fn answer<S: Shelf>(alloc: Global, words: &[String], shelf: &mut S) -> Ending
     requires { (S.state shelf.old).mode ≡ Closed }
     ensures right { IsTrue S.tells
         → IsRight (S.state shelf.old).held (map string_bytes words.now) result.outcome }
+    ensures sound { IsTrue S.tells
+        → IsSound (S.state shelf.old).held (map string_bytes words.now) result.outcome }
     ensures report { (result.outcome ≡ Outcome.Memory)
         ⊎ IsReport S.tells (S.state shelf.old).held (map string_bytes words.now)
         result.outcome result.report.items }
@@ -169,46 +164,41 @@ fn judge<S: Shelf>(
     shelf: &mut S,
     name: &str,
 ) -> Result<Outcome, Stop>
-    requires closed { (S.state shelf.old).mode ≡ Closed }
-    requires few_outputs { length first.now.graph.outputs ≤ 1024 }
+    requires { (S.state shelf.old).mode ≡ Closed }
     ensures { Judges S.tells first.now second.now name.now
         (S.state shelf.old) (S.state shelf.new) result }
 {
-    if are_wide(first, second) {
-        return Ok(Outcome::Wide);
-    }
-    match read_file(alloc, shelf, name, TABLE_LIMIT)? {
+    let graphs = copy_graphs(alloc, first, second)?;
+    match read_file(alloc, shelf, name, u64::MAX)? {
         File::Absent => Ok(Outcome::Absent(Which::Account)),
-        File::TooLong => Ok(Outcome::NotATable),
-        File::Bytes(account) => Ok(settle(alloc, &first.graph, &second.graph, &account)?),
+        // no length is above this limit
+        File::TooLong => unreachable!(),
+        File::Bytes(account) => settle(alloc, &graphs, &account),
     }
 }
 
-/// Whether one of the netlists has more inputs than are tried on every vector.
-fn are_wide(first: &Named, second: &Named) -> bool
-    ensures { IsTrue result ↔ AreWide first.now.graph.inputs second.now.graph.inputs }
+/// The graphs of two netlists, side by side.
+fn copy_graphs(alloc: Global, first: &Named, second: &Named) -> Result<Graphs, AllocError>
+    ensures { IfOk result (λ graphs. graphs ≡ graphs_of first.now second.now) }
 {
-    first.graph.inputs() > MOST_INPUTS || second.graph.inputs() > MOST_INPUTS
+    Ok(Graphs {
+        first: first.graph.copy(alloc)?,
+        second: second.graph.copy(alloc)?,
+    })
 }
 
 /// What the bytes of an account say of two circuits.
-fn settle(
-    alloc: Global,
-    first: &Graph,
-    second: &Graph,
-    account: &[u8],
-) -> Result<Outcome, AllocError>
-    requires small { IsSmall first.now }
-    requires narrow { AreNarrow first.now.inputs second.now.inputs }
-    ensures verdict { (f g : Circuit) → AreComputed first.now second.now f g
-        → IfOk result (IsVerdict f g (Some account.now)) }
-    ensures matches { IfOk result (IsMatchIfAccepted first.now second.now) }
+fn settle(alloc: Global, graphs: &Graphs, account: &[u8]) -> Result<Outcome, Stop>
+    ensures verdict { IfOk result (IsVerdict graphs.now (Some account.now)) }
+    ensures matches { IfOk result (IsMatchIfAccepted graphs.now.first graphs.now.second) }
     ensures judged { IfOk result IsJudged }
+    ensures no_fault { result ≢ Err Stop.ReadFault }
 {
-    let Some(table) = match_spelled(alloc, first, second, account)? else {
-        return Ok(Outcome::NotATable);
-    };
-    Ok(Outcome::AcceptedMatch(table))
+    match check(alloc, graphs, account) {
+        Ok(Verdict::Match(table)) => Ok(Outcome::AcceptedMatch(table)),
+        Err(CheckStop::Rejected { line, why }) => Ok(Outcome::Rejected { line, why }),
+        Err(CheckStop::Memory) => Err(Stop::Memory),
+    }
 }
 
 /// Puts the report of an ending, and answers how the run ends with that.

@@ -18,8 +18,9 @@ const B: &[u8] = b"aag 3 2 0 2 1\n2\n4\n5\n7\n6 5 2\n";
 /// Neither inputs nor outputs.
 const EMPTY: &[u8] = b"aag 0 0 0 0 0\n";
 
-/// A match of A and B.
-const TABLE: &[u8] = b"npnp 1\nmatch i0-1 i1+0 o0-1 o1+0\nend\n";
+/// A match of A and B, with a refutation for either value of each output.
+const TABLE: &[u8] =
+    b"npnp 1\nmatch i0-1 i1+0 o0-1 o1+0\nl : 7 8 1 2 6\nl : 7 8 4 5 3\nl : 7 8\nl : 7 8\nend\n";
 
 fn words_of(alloc: Global, words: &[&str]) -> Result<Vec<String>, AllocError> {
     let mut list = Vec::new(alloc);
@@ -62,17 +63,46 @@ fn check_rows(rt: &impl Abort, alloc: Global, rows: &[Row]) -> Result<(), Fail> 
     Ok(())
 }
 
+/// The AND of two inputs.
+const AND: &[u8] = b"aag 3 2 0 1 1\n2\n4\n6\n6 2 4\n";
+
+/// Their OR.
+const OR: &[u8] = b"aag 3 2 0 1 1\n2\n4\n7\n6 3 5\n";
+
+/// One input that is the output.
+const WIRE: &[u8] = b"aag 1 1 0 1 0\n2\n2\n";
+
+/// The AND is the OR with each port inverted.
+const AND_OR: &[u8] = b"npnp 1\nmatch i0-0 i1-1 o0-0\nl : 7 8 1 2 6\nl : 7 8 4 5 3\nend\n";
+
+/// Thirteen inputs and nothing else.
+const THIRTEEN: &[u8] = b"aag 13 13 0 0 0\n2\n4\n6\n8\n10\n12\n14\n16\n18\n20\n22\n24\n26\n";
+
 /// Two gates, of which the first line names the other.
 const REVERSED: &[u8] = b"aag 4 2 0 1 2\n2\n4\n8\n8 6 2\n6 2 4\n";
 
 /// One input and one output, with symbols and a comment.
 const NAMED: &[u8] = b"aag 1 1 0 1 0\n2\n2\ni0 in put\no0 q\nc\nx";
 
-const MATCHES: [Row; 4] = [
+const MATCHES: [Row; 7] = [
     Row {
         files: [A, B, TABLE],
         status: 0,
         report: b"accepted match\ninput 0 i0 = not input 1 i1\ninput 1 i1 = input 0 i0\noutput 0 o0 = not output 1 o1\noutput 1 o1 = output 0 o0\n",
+    },
+    Row {
+        files: [AND, OR, AND_OR],
+        status: 0,
+        report: b"accepted match\ninput 0 i0 = not input 0 i0\ninput 1 i1 = not input 1 i1\noutput 0 o0 = not output 0 o0\n",
+    },
+    Row {
+        files: [
+            b"aag 0 0 0 1 0\n0\n",
+            b"aag 0 0 0 1 0\n1\n",
+            b"npnp 1\nmatch o0-0\nl : 0 1\nl : 0 2\nend\n",
+        ],
+        status: 0,
+        report: b"accepted match\noutput 0 o0 = not output 0 o0\n",
     },
     Row {
         files: [EMPTY, EMPTY, b"npnp 1\nmatch\nend\n"],
@@ -80,14 +110,32 @@ const MATCHES: [Row; 4] = [
         report: b"accepted match\n",
     },
     Row {
-        files: [REVERSED, REVERSED, b"npnp 1\nmatch i0+0 i1+1 o0+0\nend\n"],
+        files: [
+            REVERSED,
+            REVERSED,
+            b"npnp 1\nmatch i0+0 i1+1 o0+0\nl : 13 14 4 1 2 9 12\nl : 13 14 10 7 8 3 6\nend\n",
+        ],
         status: 0,
         report: b"accepted match\ninput 0 i0 = input 0 i0\ninput 1 i1 = input 1 i1\noutput 0 o0 = output 0 o0\n",
     },
     Row {
-        files: [NAMED, NAMED, b"npnp 1\nmatch i0+0 o0+0\nend\n"],
+        files: [
+            NAMED,
+            NAMED,
+            b"npnp 1\nmatch i0+0 o0+0\nl : 1 2\nl : 1 2\nend\n",
+        ],
         status: 0,
         report: b"accepted match\ninput 0 in put = input 0 in put\noutput 0 q = output 0 q\n",
+    },
+    // more inputs than could be tried on every vector
+    Row {
+        files: [
+            THIRTEEN,
+            THIRTEEN,
+            b"npnp 1\nmatch i0+0 i1+1 i2+2 i3+3 i4+4 i5+5 i6+6 i7+7 i8+8 i9+9 i10+10 i11+11 i12+12\nend\n",
+        ],
+        status: 0,
+        report: b"accepted match\ninput 0 i0 = input 0 i0\ninput 1 i1 = input 1 i1\ninput 2 i2 = input 2 i2\ninput 3 i3 = input 3 i3\ninput 4 i4 = input 4 i4\ninput 5 i5 = input 5 i5\ninput 6 i6 = input 6 i6\ninput 7 i7 = input 7 i7\ninput 8 i8 = input 8 i8\ninput 9 i9 = input 9 i9\ninput 10 i10 = input 10 i10\ninput 11 i11 = input 11 i11\ninput 12 i12 = input 12 i12\n",
     },
 ];
 
@@ -96,20 +144,80 @@ fn accepts_matches(rt: HostRuntime) -> Result<(), Fail> {
     check_rows(&rt, rt.alloc(), &MATCHES)
 }
 
+/// Accounts of the AND and the OR, with the report on each.
+const BAD_ACCOUNTS: [(&[u8], &[u8]); 17] = [
+    // their form
+    (b"", b"rejected line 1 truncated\n"),
+    (b"npnp 9\n", b"rejected line 1 header\n"),
+    (
+        b"npnp 1\nmatch i0-0 i1-1  o0-0\n",
+        b"rejected line 2 word\n",
+    ),
+    (b"npnp 1\nnone ports\nend\n", b"rejected line 2 word\n"),
+    (b"npnp 1\nnpnp 1\n", b"rejected line 2 order\n"),
+    (
+        b"npnp 1\nmatch i0-0 i1-1 o0-0\nl : 07 8\n",
+        b"rejected line 3 number\n",
+    ),
+    // cut behind each line
+    (b"npnp 1\n", b"rejected line 2 truncated\n"),
+    (
+        b"npnp 1\nmatch i0-0 i1-1 o0-0\n",
+        b"rejected line 3 truncated\n",
+    ),
+    (
+        b"npnp 1\nmatch i0-0 i1-1 o0-0\nl : 7 8 1 2 6\n",
+        b"rejected line 4 truncated\n",
+    ),
+    (
+        b"npnp 1\nmatch i0-0 i1-1 o0-0\nl : 7 8 1 2 6\nl : 7 8 4 5 3\n",
+        b"rejected line 5 truncated\n",
+    ),
+    // more than the account
+    (
+        b"npnp 1\nmatch i0-0 i1-1 o0-0\nl : 7 8 1 2 6\nl : 7 8 4 5 3\nend\n\n",
+        b"rejected line 6 trailing\n",
+    ),
+    // logs that are missing, and one that is none
+    (
+        b"npnp 1\nmatch i0-0 i1-1 o0-0\nend\n",
+        b"rejected line 3 order\n",
+    ),
+    (
+        b"npnp 1\nmatch i0-0 i1-1 o0-0\nl : 7 8 1 2 6\nend\n",
+        b"rejected line 4 order\n",
+    ),
+    (
+        b"npnp 1\nmatch i0-0 i1-1 o0-0\nl : 7 8 1 2\nl : 7 8 4 5 3\nend\n",
+        b"rejected line 3 refutation\n",
+    ),
+    // tables that are none, and one that is no match
+    (
+        b"npnp 1\nmatch i0-0 i1-0 o0-0\n",
+        b"rejected line 2 conclusion\n",
+    ),
+    (b"npnp 1\nmatch i5+0 i1-1 o0-0\n", b"rejected line 2 id\n"),
+    (
+        b"npnp 1\nmatch i0+0 i1-1 o0-0\nl : 7 8 1 2 6\nl : 7 8 4 5 3\nend\n",
+        b"rejected line 3 refutation\n",
+    ),
+];
+
 #[test]
-fn rejects_other_accounts(rt: HostRuntime) -> Result<(), Fail> {
-    let rows: [[&[u8]; 3]; 5] = [
-        [A, B, b"npnp 1\nmatch i0+1 i1+0 o0-1 o1+0\nend\n"],
-        [A, B, b"npnp 1\nmatch i0-1 i1+1 o0-1 o1+0\nend\n"],
-        [A, B, b"npnp 1\nmatch i0-1 i1+0 o0-1 o1+0\n"],
-        [A, B, b""],
-        [A, EMPTY, TABLE],
-    ];
-    for files in rows {
-        let (ended, printed) = answer(rt.alloc(), &["check", "A", "B", "t"], files)?;
-        assert_eq!(rt; printed.as_slice(), b"rejected\n".as_slice());
+fn rejects_accounts_at_their_first_bad_line(rt: HostRuntime) -> Result<(), Fail> {
+    for (account, report) in BAD_ACCOUNTS {
+        let (ended, printed) = answer(rt.alloc(), &["check", "A", "B", "t"], [AND, OR, account])?;
+        assert_eq!(rt; printed.as_slice(), report);
         assert_eq!(rt; ended, 2);
     }
+    // other netlists than those of the account
+    let files = [AND, WIRE, AND_OR];
+    let (ended, printed) = answer(rt.alloc(), &["check", "A", "B", "t"], files)?;
+    assert_eq!(rt;
+        printed.as_slice(),
+        b"rejected line 2 conclusion\n".as_slice()
+    );
+    assert_eq!(rt; ended, 2);
     Ok(())
 }
 
@@ -121,10 +229,14 @@ const C17: &[u8] =
 const C17_MOVED: &[u8] =
     b"aig 11 5 0 2 6\n23\n21\n\x04\x03\x08\x01\x03\x03\x05\x0b\x03\x02\x03\x02";
 
-/// The NAND of two inputs, and a table that pairs the ports of two such circuits in their order.
+/// A match of the two: the lines of a log derive that gates are equal, up to the last one, which is empty.
+const C17_ACCOUNT: &[u8] =
+    b"npnp 1\nmatch i0+2 i1+4 i2-1 i3+3 i4+0 o0+1 o1+0\nl 14 25 : 19 20 6\nl 13 26 : 1 2 24\nl 17 28 : 7 8 27 39\nl 20 33 : 31 32 40 41 15\nl : 37 38 42\nl 15 24 : 4 5 21\nl 12 27 : 22 23 3\nl 16 29 : 25 26 39 9\nl 21 32 : 13 14 40 41 33\nl : 37 38 42\nl 14 25 : 19 20 6\nl 17 28 : 7 8 27 39\nl 19 30 : 10 11 30 39\nl 22 35 : 34 35 40 41 18\nl : 37 38 42\nl 15 24 : 4 5 21\nl 16 29 : 25 26 39 9\nl 18 31 : 28 29 39 12\nl 23 34 : 16 17 40 41 36\nl : 37 38 42\nend\n";
+
+/// The NAND of two inputs, and an account that pairs the ports of two such circuits in their order.
 const NAND: &[u8] = b".inputs a b\n.outputs y\n.names a b y\n11 0\n";
 
-const TWO_TO_ONE: &[u8] = b"npnp 1\nmatch i0+0 i1+1 o0+0\nend\n";
+const TWO_TO_ONE: &[u8] = b"npnp 1\nmatch i0+0 i1+1 o0+0\nl : 7 8 4 5 3\nl : 7 8 1 2 6\nend\n";
 
 /// Covers in front of the ports, a continued line, and both constants.
 const MIXED: &[u8] =
@@ -132,11 +244,7 @@ const MIXED: &[u8] =
 
 const OF_BOTH_FORMATS: [Row; 5] = [
     Row {
-        files: [
-            C17,
-            C17_MOVED,
-            b"npnp 1\nmatch i0+2 i1+4 i2-1 i3+3 i4+0 o0+1 o1+0\nend\n",
-        ],
+        files: [C17, C17_MOVED, C17_ACCOUNT],
         status: 0,
         report: b"accepted match\ninput 0 1 = input 2 i2\ninput 1 2 = input 4 i4\ninput 2 3 = not input 1 i1\ninput 3 6 = input 3 i3\ninput 4 7 = input 0 i0\noutput 0 22 = output 1 o1\noutput 1 23 = output 0 o0\n",
     },
@@ -156,13 +264,13 @@ const OF_BOTH_FORMATS: [Row; 5] = [
             TWO_TO_ONE,
         ],
         status: 2,
-        report: b"rejected\n",
+        report: b"rejected line 3 refutation\n",
     },
     Row {
         files: [
             MIXED,
             MIXED,
-            b"npnp 1\nmatch i0+0 i1+1 o0+0 o1+1 o2+2\nend\n",
+            b"npnp 1\nmatch i0+0 i1+1 o0+0 o1+1 o2+2\nl : 7 8 4 5 3\nl : 7 8 1 2 6\nl : 0 8\nl : 0 7\nl : 0 7\nl : 0 8\nend\n",
         ],
         status: 0,
         report: b"accepted match\ninput 0 a = input 0 a\ninput 1 b = input 1 b\noutput 0 y = output 0 y\noutput 1 one = output 1 one\noutput 2 zero = output 2 zero\n",
@@ -170,8 +278,8 @@ const OF_BOTH_FORMATS: [Row; 5] = [
     Row {
         files: [
             b".inputs a\n.outputs y\n.names $false\n.names a y\n1 1\n.cname n\n.end\n",
-            b"aag 1 1 0 1 0\n2\n2\n",
-            b"npnp 1\nmatch i0+0 o0+0\nend\n",
+            WIRE,
+            b"npnp 1\nmatch i0+0 o0+0\nl : 1 2\nl : 1 2\nend\n",
         ],
         status: 0,
         report: b"accepted match\ninput 0 a = input 0 i0\noutput 0 y = output 0 o0\n",
@@ -199,29 +307,6 @@ fn names_what_is_missing(rt: HostRuntime) -> Result<(), Fail> {
         let (ended, printed) = answer(rt.alloc(), words, [A, B, TABLE])?;
         assert_eq!(rt; printed.as_slice(), report);
         assert_eq!(rt; ended, status);
-    }
-    Ok(())
-}
-
-#[test]
-fn refuses_what_is_too_wide(rt: HostRuntime) -> Result<(), Fail> {
-    let wide = b"aag 13 13 0 0 0\n2\n4\n6\n8\n10\n12\n14\n16\n18\n20\n22\n24\n26\n";
-    // the account that isn't there isn't looked for
-    let rows: [(&[u8], &[u8], &[u8]); 4] = [
-        (wide, wide, b"t"),
-        (wide, wide, b"z"),
-        (A, wide, b"t"),
-        (wide, A, b"t"),
-    ];
-    for (first, second, account) in rows {
-        let name = if account == b"t".as_slice() { "t" } else { "z" };
-        let (ended, printed) = answer(
-            rt.alloc(),
-            &["check", "A", "B", name],
-            [first, second, TABLE],
-        )?;
-        assert_eq!(rt; printed.as_slice(), b"wide\n".as_slice());
-        assert_eq!(rt; ended, 5);
     }
     Ok(())
 }

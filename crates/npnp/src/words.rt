@@ -10,7 +10,7 @@ pub struct Check<'a> {
     pub first: &'a str,
     /// The second netlist.
     pub second: &'a str,
-    /// The file with the port table.
+    /// The account: a port table, and the proof that it is a match.
     pub account: &'a str,
 }
 

@@ -57,6 +57,7 @@ opened query lemmas asked = charged_front asked ++ entry_of query lemmas ∷ []
 pub record IsSpent (old : Ledgered) (line : LogLine) (new : Ledgered) (learned : ℕ) : Type 0 where
   pub learned_is : learned ≡ old.budget
   pub budget : learned_in old ≡ old.budget
+  pub counted : learned_in new ≡ old.budget
   pub refused : new ≡ record old { asked = with_line line old.asked; spent = true }
 
 -- a line isn't charged: the budget is spent, or memory is wanting, and then nothing changes

@@ -1,7 +1,7 @@
 //! What was asked in a run, and the budget of learned lines.
 
 ghost use Rattle.std.specs.Prelude.{◌≡◌, ◌+◌, ◌-◌, ◌<◌, ◌≤◌, [], ◌∷◌, ◌++◌, false, IfOk, IfErr, OnOk, OnErr, All, length, vec_len, vec_capacity};
-ghost use Rattle.query_core.specs.Ledgers.{IsRefused, charged_front, entry_of, learned_in, opened, with_line};
+ghost use Rattle.query_core.specs.Ledgers.{IsRefused, charged_front, entry_of, last_asked, learned_in, opened, with_line};
 
 use crate::query::Query;
 use cnf_core::{LogLine, Stop};
@@ -62,6 +62,8 @@ impl Ledger {
         requires { self.old.spent ≡ false }
         ensures opened { OnOk result (self.new
             ≡ record self.old { asked = opened query.now lemmas.now self.old.asked }) }
+        ensures some { OnOk result (0 < length self.new.asked) }
+        ensures last { OnOk result (last_asked self.new.asked ≡ entry_of query.now lemmas.now) }
         ensures refused { OnErr result (self.new ≡ self.old) }
     {
         let entry = opening(alloc, query, lemmas)?;
@@ -77,6 +79,7 @@ impl Ledger {
         requires asked { 0 < length self.old.asked }
         requires not_spent { self.old.spent ≡ false }
         ensures within { OnOk result (learned_in self.old < self.old.budget) }
+        ensures counted { OnOk result (learned_in self.new ≡ learned_in self.old + 1) }
         ensures charged { OnOk result (self.new
             ≡ record self.old { asked = with_line line.now self.old.asked }) }
         ensures refused { IfErr result (IsRefused self.old line.now self.new) }

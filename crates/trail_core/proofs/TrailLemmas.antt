@@ -1,5 +1,5 @@
 -- What is true on a trail, where the literals of variables stand, and one literal more at the end.
-use Rattle.std.proofs.Common.{◌≡◌, ◌≢◌, ℕ, zero, suc, ◌+◌, ◌/◌, ◌<◌, ◌||◌, cond, eqb, Bool, true, false, List, [], ◌∷◌, ◌++◌, length, map, take, drop, All, Option, None, Some, is_none, slice_index_or, slice_set, Vec, vec_capacity, ◌⊎◌, inl, inr, refl, sym, ◌∙◌, ap, subst, arith}
+use Rattle.std.proofs.Common.{◌≡◌, ◌≢◌, ℕ, zero, suc, ◌+◌, ◌/◌, ◌<◌, ◌≤◌, ◌||◌, cond, eqb, Bool, true, false, List, [], ◌∷◌, ◌++◌, length, map, take, drop, All, Option, None, Some, is_none, slice_index_or, slice_set, Vec, vec_capacity, ◌⊎◌, inl, inr, refl, sym, ◌∙◌, ap, subst, arith}
 use Rattle.std.specs.List.{list_any}
 use Rattle.std.proofs.lemmas.Bool.{cases_eq, cases_Bool, false≢true, eq-eqb, ne_eqb}
 use Rattle.std.proofs.lemmas.Bool.Decides.{eqb_tells, leb_tells}
@@ -243,3 +243,26 @@ kept_more entries new places level walked n e is known free raised counted items
 -- places lent to be written to, once they are given back
 pub given_back : (size : ℕ) (old lent now : List (Option ℕ)) → lent ≡ old → length now ≡ length lent → length old ≡ size → take size (now ++ drop (length now) old) ≡ now
 given_back size old lent now value same full = take_at now (drop (length now) old) size (same ∙ (ap length value ∙ full))
+
+-- at most as many literals are assigned as there are variables
+pub at_most : (t : Trailing) → IsTrail t → length t.entries ≤ t.variables
+at_most t is =
+    let vs = map (λ (e : Assigned). variable_of e.literal) t.entries in
+    let count = length-le_from_distinct_below vs t.variables (IsDistinct-from_apart eqb vs apart) (below t.entries (λ k h. is.known k h)) in
+    omega (arith, count, length-map t.entries (λ (e : Assigned). variable_of e.literal))
+  where
+    at_map : (k d : ℕ) → k < length t.entries → slice_index_or (map (λ (e : Assigned). variable_of e.literal) t.entries) k d ≡ variable_of (entry_at t.entries k).literal
+    at_map k d within = get_or-map (λ (e : Assigned). variable_of e.literal) t.entries k nothing d within
+
+    apart : (i j d : ℕ) → i < j → j < length (map (λ (e : Assigned). variable_of e.literal) t.entries) → eqb (slice_index_or (map (λ (e : Assigned). variable_of e.literal) t.entries) i d) (slice_index_or (map (λ (e : Assigned). variable_of e.literal) t.entries) j d) ≡ false
+    apart i j d before within =
+        let inside : j < length t.entries = omega (arith, within, length-map t.entries (λ (e : Assigned). variable_of e.literal)) in
+        ne_eqb _ _ (λ same. is.distinct i j before inside (sym (at_map i d (omega (arith, before, inside))) ∙ (same ∙ at_map j d inside)))
+
+    below : (es : List Assigned) → ((k : ℕ) → k < length es → variable_of (entry_at es k).literal < t.variables) → (q : ℕ) → list_any (eqb q) (map (λ (e : Assigned). variable_of e.literal) es) ≡ true → q < t.variables
+    below [] known q e = absurd (false≢true e)
+    below (x ∷ es) known q e =
+        elim (eqb_tells q (variable_of x.literal)) [
+          | inl (found, same) ↦ let low = known 0 (omega arith) in omega (arith, same, low)
+          | inr (found, differ) ↦ below es (λ k h. known (suc k) (omega (arith, h))) q (sym (ap (λ t'. t' || list_any (eqb q) (map (λ (e : Assigned). variable_of e.literal) es)) found) ∙ e)
+        ]

@@ -1,6 +1,6 @@
 //! The trail.
 
-ghost use Rattle.std.specs.Prelude.{◌≡◌, ◌≢◌, ◌+◌, ◌<◌, ◌≤◌, ◌++◌, ◌∷◌, [], None, Some, IfOk, IfSome, IfNone, All, length, take, drop, filter, min, replicate, nat_le, ◌==◌, slice_set, vec_len, vec_capacity};
+ghost use Rattle.std.specs.Prelude.{◌≡◌, ◌≢◌, ◌+◌, ◌^◌, ◌<◌, ◌≤◌, ◌++◌, ◌∷◌, [], None, Some, IfOk, IfSome, IfNone, All, length, take, drop, filter, min, replicate, nat_le, ◌==◌, slice_set, vec_len, vec_capacity};
 ghost use Rattle.cnf_core.specs.Clauses.{variable_of};
 ghost use Rattle.trail_core.specs.Trails.{IsTrail, IsPlace, IsFree, IsCutAt, entry_at, literals, value_in};
 ghost use Rattle.trail_core.specs.Places.{IsUnset};
@@ -53,10 +53,11 @@ impl Trail {
     /// Assigns a literal as a decision: it begins a level.
     pub fn decide(&mut self, lit: SatLit)
         requires { IsFree self.old lit }
-        ensures { let level = self.old.level + 1 in self.new ≡ record self.old {
+        ensures decided { let level = self.old.level + 1 in self.new ≡ record self.old {
           entries = self.old.entries ++ record { literal = lit; level = level; reason = None } ∷ [];
           level = level;
         } }
+        ensures most { length self.old.entries < self.old.variables }
     {
         let level = self.level + 1;
         let entry = Assigned {
@@ -148,6 +149,8 @@ impl Trail {
     /// How many literals are assigned.
     pub fn len(&self) -> u64
         ensures value { result ≡ length self.now.entries }
+        ensures most { result ≤ self.now.variables }
+        ensures small { self.now.variables < 2 ^ 63 }
         ensures trail { IsTrail self.now }
     {
         self.entries.len() as u64

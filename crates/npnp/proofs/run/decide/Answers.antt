@@ -1,13 +1,14 @@
 -- What the files decide, one after the other: no call changes what is held.
 use Rattle.std.proofs.Common.{inr, ◌∙◌, subst, arith}
 use Rattle.std.proofs.lemmas.Result.{err_from_is_err_and}
-use Rattle.npnp.specs.Check.{EndsAt}
-use Rattle.npnp.specs.Steps.{AreComputed, IsVerdict, netlist_of}
+use Rattle.npnp.specs.Check.{EndsAt, HoldsGraph}
+use Rattle.npnp.specs.Steps.{IsVerdict, graphs_of, netlist_of}
 use Rattle.npnp.specs.Stops.{outcome_of}
 use Rattle.npnp.specs.declared.files.Stop.TheVariants as stop
 use Rattle.npnp.specs.declared.outcome.Outcome.TheVariants.{Memory}
 use Rattle.npnp.specs.declared.outcome.Which.TheVariants.{Second}
 use Rattle.npnp.proofs.CheckLemmas.{rose_later, right_at_second, right_by_verdict, asks_both, stopped, stop_right, stop_reading, stop_is}
+use Rattle.npnp.proofs.Soundness.{sound}
 use Rattle.npnp.proofs.run.decide.Goals as goal
 
 pub returns-in_err-second : goal.returns-in_err-second
@@ -42,21 +43,23 @@ returns g c =
     let second_read = c.in_ok-second.ensures.found in
     let first = netlist_of first_read.circuit c.in_ok-first.first in
     let second = netlist_of second_read.circuit c.in_ok-second.second in
-    let computed : AreComputed c.in_ok-first.first.graph c.in_ok-second.second.graph first.circuit second.circuit = record {
-      first_acyclic = first_read.acyclic;
-      second_acyclic = second_read.acyclic;
-      first_computed = first_read.computes;
-      second_computed = second_read.computes;
-    } in
+    let outcome = c.in_ok-outcome.outcome in
+    let there = c.read_netlist-2.ensures.files c.args.check.now.account.now ∙ c.read_netlist.ensures.files c.args.check.now.account.now in
+    let same = c.read_netlist.ensures.files c.args.check.now.second.now in
     record {
       files = λ n. c.judge.ensures.files n ∙ c.read_netlist-2.ensures.files n ∙ c.read_netlist.ensures.files n;
-      right = λ tells words asks. right_by_verdict _ words first second _ (asks_both _ _ words _ _ _ first second (c.read_netlist.ensures.files _) asks (first_read.held tells) (second_read.held tells)) _ (subst (λ content. IsVerdict first.circuit second.circuit content c.in_ok-outcome.outcome) (c.read_netlist-2.ensures.files _ ∙ c.read_netlist.ensures.files _) (c.in_ok-outcome.ensures.right tells first.circuit second.circuit computed));
+      right = λ tells words asks. right_by_verdict _ words _ _ _ (graphs_of c.in_ok-first.first c.in_ok-second.second) asks
+          (record { netlist = first; holds = first_read.held tells; numbered = first_read.numbered })
+          (subst (λ content. HoldsGraph content c.in_ok-second.second.graph) same (record { netlist = second; holds = second_read.held tells; numbered = second_read.numbered }))
+          outcome (subst (λ content. IsVerdict (graphs_of c.in_ok-first.first c.in_ok-second.second) content outcome) there (c.in_ok-outcome.ensures.right tells));
       ended = λ tells words asks. tt;
+      sound = λ tells words asks. sound _ _ words _ _ c.in_ok-first.first c.in_ok-second.second c.args.check.now.account.now outcome first_read second_read
+          (asks_both _ _ words _ _ _ first second same asks (first_read.held tells) (second_read.held tells)) c.in_ok-outcome.ensures.matches;
       report = λ words asks. inr (record {
         first = first;
         second = second;
         account_name = c.args.check.now.account.now;
-        of_files = λ tells. asks_both _ _ words _ _ _ first second (c.read_netlist.ensures.files _) asks (first_read.held tells) (second_read.held tells);
+        of_files = λ tells. asks_both _ _ words _ _ _ first second same asks (first_read.held tells) (second_read.held tells);
         same = c.in_ok-report.ensures;
       });
       judged = c.in_ok-outcome.ensures.judged;

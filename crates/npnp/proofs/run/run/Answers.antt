@@ -1,18 +1,21 @@
 -- What is told is what was answered.
-use Rattle.std.proofs.Common.{inl, inr, refl, ◌∙◌}
+use Rattle.std.proofs.Common.{inl, inr, refl, sym, subst, ◌∙◌}
+use Rattle.npnp.specs.Check.{IsTold}
 use Rattle.npnp.specs.Report.{line_of}
-use Rattle.npnp.specs.declared.outcome.Outcome.TheVariants.{AcceptedMatch, NotATable, Wide, Absent, TooLarge, Malformed, Memory}
-use Rattle.npnp.proofs.CheckLemmas.{exactly, report_of_same, decided_accepted, decided_rejected, decided_wide, decided_absent, decided_too_large, decided_malformed}
+use Rattle.npnp.specs.declared.outcome.Outcome.TheVariants.{AcceptedMatch, Rejected, Absent, TooLarge, Malformed, Memory}
+use Rattle.npnp.proofs.CheckLemmas.{exactly, report_of_same, decided_accepted, decided_rejected, decided_absent, decided_too_large, decided_malformed}
 use Rattle.npnp.proofs.run.run.Goals as goal
 
 pub returns-clause-accepted : goal.returns-clause-accepted
 returns-clause-accepted g c = λ tells decided table. exactly _ _ _ _ (c.answer-ending.ensures.right tells) c.tell.ensures.same decided (AcceptedMatch table) (decided_accepted table)
 
 pub returns-clause-rejected : goal.returns-clause-rejected
-returns-clause-rejected g c = λ tells decided. exactly _ _ _ _ (c.answer-ending.ensures.right tells) c.tell.ensures.same decided NotATable decided_rejected
+returns-clause-rejected g c = λ tells decided line why. exactly _ _ _ _ (c.answer-ending.ensures.right tells) c.tell.ensures.same decided (Rejected line why) (decided_rejected line why)
 
-pub returns-clause-wide : goal.returns-clause-wide
-returns-clause-wide g c = λ tells decided. exactly _ _ _ _ (c.answer-ending.ensures.right tells) c.tell.ensures.same decided Wide decided_wide
+pub returns-clause-sound : goal.returns-clause-sound
+returns-clause-sound g c = λ tells table is.
+    let told : IsTold c.tell.result = subst IsTold (sym is) (decided_accepted table).told in
+    c.answer-ending.ensures.sound tells table (sym (c.tell.ensures.same told) ∙ is)
 
 pub returns-clause-absent : goal.returns-clause-absent
 returns-clause-absent g c = λ tells decided which. exactly _ _ _ _ (c.answer-ending.ensures.right tells) c.tell.ensures.same decided (Absent which) (decided_absent which)

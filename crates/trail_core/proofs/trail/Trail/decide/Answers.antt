@@ -1,5 +1,5 @@
 -- Where a variable is free, there is room; and what the trail keeps.
-use Rattle.std.proofs.Common.{◌≡◌, ℕ, ◌+◌, List, length, Option, Some, None, slice_set, sym, subst, ap, ◌∙◌, arith}
+use Rattle.std.proofs.Common.{◌≡◌, ℕ, ◌+◌, ◌<◌, List, length, Option, Some, None, slice_set, sym, subst, ap, ◌∙◌, arith}
 use Rattle.std.proofs.lemmas.List.{length-set}
 use Rattle.cnf_core.specs.Clauses.{variable_of}
 use Rattle.trail_core.specs.declared.assigned.Assigned.{Assigned}
@@ -27,3 +27,10 @@ invariant_of-self c =
     let entry : Assigned = record { literal = c.args.lit; level = old.level + 1; reason = None } in
     let more = kept_more old.entries c.put.new.entries old.places.items old.level old.walked old.entries.len entry c.self.invariant free.known free.unassigned (omega arith) (omega (arith, old.entries.ok.0)) c.put.ensures.entries c.put.ensures.capacity in
     subst (λ (ps : List (Option ℕ)). IsKept c.put.new.entries ps entry.level old.walked) (sym (back ∙ written)) more
+
+pub returns-clause-most : goal.returns-clause-most
+returns-clause-most c =
+    let old = c.self.inside in
+    let free = subst (λ (t : Trailing). IsFree t c.args.lit) (sym c.self.view_is) c.requires in
+    let few = fewer (record { variables = length old.places.items; entries = old.entries.items; level = old.level; walked = old.walked }) c.self.invariant.trail c.args.lit free in
+    subst (λ (t : Trailing). length t.entries < t.variables) c.self.view_is few

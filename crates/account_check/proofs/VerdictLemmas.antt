@@ -1,0 +1,346 @@
+-- The verdict of an account's bytes is one, and each step of the check tells it.
+use Rattle.std.proofs.Common.{◌≡◌, ◌≢◌, ℕ, zero, suc, ◌+◌, ◌<◌, ◌≤◌, Bool, true, cond, List, [], ◌∷◌, ◌++◌, length, get_or, take, fold, slice_index_or, Option, None, Some, IsSome, Result, Ok, Err, refl, sym, ap, subst, ◌∙◌, arith, inl, inr, length-append, length-take, take-suc, take-take, take_all}
+use Rattle.std.specs.Prelude.{is_some, unwrap_or}
+use Rattle.std.specs.List.{AllZip}
+use Rattle.std.specs.Result.{IsErrAnd}
+use Rattle.std.proofs.lemmas.Bool.{cases_lt}
+use Rattle.std.proofs.lemmas.List.{append-nil, get_or_append_left, get_or-append-add, take-append-le}
+use Rattle.std.proofs.lemmas.List.Sums.{fold_push}
+use Rattle.std.proofs.Math.Seq.{take-length}
+use Rattle.net_core.specs.declared.graphs.Graphs.{Graphs}
+use Rattle.net_core.specs.declared.matching.Matching.{Matching}
+use Rattle.account_file.specs.declared.record.Record.{Record}
+use Rattle.account_file.specs.declared.record.Record.TheVariants as record_of
+use Rattle.account_file.specs.declared.fault.RecordFault.{RecordFault}
+use Rattle.account_file.specs.declared.fault.FileStop.{FileStop}
+use Rattle.account_file.specs.declared.fault.FileStop.TheVariants as file
+use Rattle.account_file.specs.declared.place.Place.{Place}
+use Rattle.account_file.specs.declared.place.Place.TheVariants as place
+use Rattle.account_file.specs.Lines.{whole_lines}
+use Rattle.account_file.specs.Order.{place_after, place_after_one, place_behind}
+use Rattle.account_file.specs.Accounts.{AreRecords, HasForm, IsAccountOf, IsNextRecord, SaysNext}
+use Rattle.account_file.specs.Reading.{Reading, HasRead, given_by}
+use Rattle.account_file.specs.Texts.{Says}
+use Rattle.account_file.proofs.LawLemmas.{as_many, one_answer, same_records}
+use Rattle.account_file.proofs.OrderLemmas.{place_behind_last, take_in_order}
+use Rattle.account_check.specs.declared.reject.Reject.{Reject}
+use Rattle.account_check.specs.declared.reject.RecordStop.{RecordStop}
+use Rattle.account_check.specs.declared.reject.RecordStop.TheVariants as stop
+use Rattle.account_check.specs.declared.verdict.Verdict.{Verdict}
+use Rattle.account_check.specs.declared.verdict.Verdict.TheVariants as verdict
+use Rattle.account_check.specs.declared.verdict.Why.{Why}
+use Rattle.account_check.specs.declared.verdict.Why.TheVariants as why
+use Rattle.account_check.specs.declared.verdict.CheckStop.{CheckStop}
+use Rattle.account_check.specs.declared.verdict.CheckStop.TheVariants.{Rejected, Memory}
+use Rattle.account_check.specs.Accounts.{Account, account_after, after, empty_account, verdict_of, HasFault}
+use Rattle.account_check.specs.Verdicts.{AreValid, IsAccepted, IsBad, IsRejected, IsVerdict}
+use Rattle.account_check.specs.Checking.{refused, unread, Goes, IsChecking, IsDone}
+use Rattle.account_check.proofs.FaultLemmas.{one_fault}
+
+-- one record more
+pub account_after-push : (graphs : Graphs) (records : List Record) (entry : Record) → account_after graphs (records ++ entry ∷ []) ≡ after (account_after graphs records) entry
+account_after-push graphs records entry = fold_push after (empty_account graphs) records entry
+
+-- the circuits stay
+graphs_stay : (account : Account) (records : List Record) → (fold after account records).graphs ≡ account.graphs
+graphs_stay account [] = refl
+graphs_stay account (entry ∷ records) = graphs_stay (after account entry) records
+
+pub account_graphs : (graphs : Graphs) (records : List Record) → (account_after graphs records).graphs ≡ graphs
+account_graphs graphs records = graphs_stay (empty_account graphs) records
+
+-- the account stands where its records lead
+none_stays : (records : List Record) → fold place_after_one None records ≡ None
+none_stays [] = refl
+none_stays (entry ∷ records) = none_stays records
+
+some_place : (p q : Place) → Some p ≡ Some q → p ≡ q
+some_place p q e = cc
+
+no_place : (p : Place) → None ≡ Some p → ⊥
+no_place p e = cc
+
+places_follow : (account : Account) (records : List Record) (place : Place) → fold place_after_one (Some account.place) records ≡ Some place → (fold after account records).place ≡ place
+places_follow account [] place e = some_place account.place place e
+places_follow account (entry ∷ records) place e =
+    by (place_behind account.place entry) refl (places_follow (after account entry) records place)
+  where
+    by : (o : Option Place) → place_behind account.place entry ≡ o → (fold place_after_one (Some (after account entry).place) records ≡ Some place → (fold after account (entry ∷ records)).place ≡ place) → (fold after account (entry ∷ records)).place ≡ place
+    by None is go =
+        absurd (no_place place (sym (none_stays records) ∙ (ap (λ o. fold place_after_one o records) (sym is) ∙ e)))
+    by (Some p) is go =
+        let there : (after account entry).place ≡ p = ap (λ o. unwrap_or o account.place) is in
+        go (ap (λ q. fold place_after_one (Some q) records) there ∙ (ap (λ o. fold place_after_one o records) (sym is) ∙ e))
+
+pub account_place : (graphs : Graphs) (records : List Record) (place : Place) → place_after records ≡ Some place → (account_after graphs records).place ≡ place
+account_place graphs records place e = places_follow (empty_account graphs) records place e
+
+-- one valid record more
+pub valid_more : (graphs : Graphs) (records : List Record) (entry : Record) → AreValid graphs records → HasFault (account_after graphs records) entry None → AreValid graphs (records ++ entry ∷ [])
+valid_more graphs records entry valid fine k d below =
+    elim (cases_lt k (length records)) [
+      | inl before ↦
+          let here = get_or_append_left records (entry ∷ []) d k before in
+          let prior = take-append-le k records (entry ∷ []) (omega arith) in
+          subst (λ e. HasFault (account_after graphs (take k (records ++ entry ∷ []))) e None) (sym here) (subst (λ rs. HasFault (account_after graphs rs) (slice_index_or records k d) None) (sym prior) (valid k d before))
+      | inr behind ↦
+          let last : k ≡ length records = omega (arith, below, length-append records (entry ∷ [])) in
+          let end : length records + 0 ≡ k = omega (arith, last) in
+          let here : slice_index_or (records ++ entry ∷ []) k d ≡ entry = ap (λ j. slice_index_or (records ++ entry ∷ []) j d) (sym end) ∙ get_or-append-add records (entry ∷ []) 0 d in
+          let prior : take k (records ++ entry ∷ []) ≡ records = take-append-le k records (entry ∷ []) (omega arith) ∙ (ap (λ j. take j records) last ∙ take-length records) in
+          subst (λ e. HasFault (account_after graphs (take k (records ++ entry ∷ []))) e None) (sym here) (subst (λ rs. HasFault (account_after graphs rs) entry None) (sym prior) fine)
+    ]
+
+-- the first records of lines
+front_forms : (lines : List (List ℕ)) (records : List Record) (k : ℕ) → AllZip HasForm lines records → AllZip HasForm (take k lines) (take k records)
+front_forms lines records zero z = tt
+front_forms [] [] (suc k) z = tt
+front_forms [] (e ∷ es) (suc k) z = absurd z
+front_forms (line ∷ lines) [] (suc k) z = absurd z
+front_forms (line ∷ lines) (e ∷ es) (suc k) z = (z.0, front_forms lines es k z.1)
+
+pub front_records : (lines : List (List ℕ)) (records : List Record) (k n : ℕ) → AreRecords (take n lines) records → k ≤ n → AreRecords (take k lines) (take k records)
+front_records lines records k n are few = record {
+  form = subst (λ l. AllZip HasForm l (take k records)) (take-take k n lines few) (front_forms (take n lines) records k are.form);
+  order = take_in_order k records are.order;
+}
+
+-- the records before a bad line
+before_bad : (graphs : Graphs) (bytes : List ℕ) (before : List Record) (reason : Why) → IsBad graphs bytes before reason → AreRecords (take (length before) (whole_lines bytes)) before
+before_bad graphs bytes before (why.Form fault) bad = bad.records
+before_bad graphs bytes before (why.Record reject) bad =
+    let n = length before in
+    let front = front_records (whole_lines bytes) (before ++ bad.0 ∷ []) n (n + 1) bad.1 (omega arith) in
+    let same : take n (before ++ bad.0 ∷ []) ≡ before = take-append-le n before (bad.0 ∷ []) (omega arith) ∙ take-length before in
+    subst (AreRecords (take n (whole_lines bytes))) same front
+
+-- a bad line isn't a valid record
+bad_and_valid : (graphs : Graphs) (bytes : List ℕ) (before : List Record) (entry : Record) (reason : Why) → IsBad graphs bytes before reason → IsNextRecord bytes before entry → HasFault (account_after graphs before) entry None → ⊥
+bad_and_valid graphs bytes before entry (why.Form fault) bad next fine =
+    let e : Err fault ≡ Ok (Some entry) = one_answer bytes true before (Err fault) (Ok (Some entry)) bad next in
+    cc
+bad_and_valid graphs bytes before entry (why.Record reject) bad next fine =
+    let e : ◌≡◌ {A = Result (Option Record) RecordFault} (Ok (Some bad.0)) (Ok (Some entry)) = one_answer bytes true before (Ok (Some bad.0)) (Ok (Some entry)) bad.1 next in
+    let same : bad.0 ≡ entry = cc in
+    let has = subst (λ r. HasFault (account_after graphs before) r (Some reject)) same bad.2 in
+    let clash : None ≡ Some reject = one_fault (account_after graphs before) entry None (Some reject) fine has in
+    cc
+
+-- more records, of which the first are these
+further : (graphs : Graphs) (bytes : List ℕ) (before more : List Record) (reason : Why) → IsBad graphs bytes before reason → AreRecords (take (length more) (whole_lines bytes)) more → AreValid graphs more → length before < length more → ⊥
+further graphs bytes before more reason bad many valid below =
+    let lines = whole_lines bytes in
+    let k = length before in
+    let few = before_bad graphs bytes before reason bad in
+    let front = front_records lines more k (length more) many (omega (arith, below)) in
+    let same : before ≡ take k more = same_records (take k lines) before (take k more) few.form front.form in
+    let entry = get_or more k record_of.End in
+    let next : AreRecords (take (suc k) lines) (take (suc k) more) = front_records lines more (suc k) (length more) many (omega (arith, below)) in
+    let split : take (suc k) more ≡ before ++ entry ∷ [] = take-suc more k record_of.End below ∙ ap (λ r. r ++ entry ∷ []) (sym same) in
+    let one : suc k ≡ k + 1 = omega arith in
+    let is_next : IsNextRecord bytes before entry = subst (λ n. AreRecords (take n lines) (before ++ entry ∷ [])) one (subst (AreRecords (take (suc k) lines)) split next) in
+    let fine = subst (λ rs. HasFault (account_after graphs rs) entry None) (sym same) (valid k record_of.End below) in
+    bad_and_valid graphs bytes before entry reason bad is_next fine
+
+-- a line is bad for one reason
+same_bad : (graphs : Graphs) (bytes : List ℕ) (before : List Record) (first second : Why) → IsBad graphs bytes before first → IsBad graphs bytes before second → first ≡ second
+same_bad graphs bytes before (why.Form a) (why.Form b) one other =
+    let e : ◌≡◌ {A = Result (Option Record) RecordFault} (Err a) (Err b) = one_answer bytes true before (Err a) (Err b) one other in
+    let same : a ≡ b = cc in
+    ap (λ f. why.Form f) same
+same_bad graphs bytes before (why.Form a) (why.Record b) one other =
+    let e : Err a ≡ Ok (Some other.0) = one_answer bytes true before (Err a) (Ok (Some other.0)) one other.1 in
+    cc
+same_bad graphs bytes before (why.Record a) (why.Form b) one other =
+    let e : Ok (Some one.0) ≡ Err b = one_answer bytes true before (Ok (Some one.0)) (Err b) one.1 other in
+    cc
+same_bad graphs bytes before (why.Record a) (why.Record b) one other =
+    let e : ◌≡◌ {A = Result (Option Record) RecordFault} (Ok (Some one.0)) (Ok (Some other.0)) = one_answer bytes true before (Ok (Some one.0)) (Ok (Some other.0)) one.1 other.1 in
+    let same : one.0 ≡ other.0 = cc in
+    let has = subst (λ r. HasFault (account_after graphs before) r (Some a)) same one.2 in
+    let fault : ◌≡◌ {A = Option Reject} (Some a) (Some b) = one_fault (account_after graphs before) other.0 (Some a) (Some b) has other.2 in
+    let reject : a ≡ b = cc in
+    ap (λ r. why.Record r) reject
+
+-- an account has one first bad line
+pub one_rejection : (graphs : Graphs) (bytes : List ℕ) (line other : ℕ) (first second : Why) → IsRejected graphs bytes line first → IsRejected graphs bytes other second → (line ≡ other) × (first ≡ second)
+one_rejection graphs bytes line other first second f s = elim (cases_lt (length f.before) (length s.before)) [
+  | inl less ↦ absurd (further graphs bytes f.before s.before first f.bad (before_bad graphs bytes s.before second s.bad) s.valid less)
+  | inr least ↦ elim (cases_lt (length s.before) (length f.before)) [
+    | inl less ↦ absurd (further graphs bytes s.before f.before second s.bad (before_bad graphs bytes f.before first f.bad) f.valid less)
+    | inr most ↦
+        let count : length s.before ≡ length f.before = omega (arith, least, most) in
+        let one = before_bad graphs bytes f.before first f.bad in
+        let two = before_bad graphs bytes s.before second s.bad in
+        let same : f.before ≡ s.before = same_records (take (length f.before) (whole_lines bytes)) f.before s.before one.form (subst (λ n. AllZip HasForm (take n (whole_lines bytes)) s.before) count two.form) in
+        (f.line_is ∙ (ap (λ n. n + 1) (sym count) ∙ sym s.line_is), same_bad graphs bytes s.before first second (subst (λ r. IsBad graphs bytes r first) same f.bad) s.bad)
+  ]
+]
+
+-- and one matching
+pub one_matching : (graphs : Graphs) (bytes : List ℕ) (first second : Matching) → IsAccepted graphs bytes first → IsAccepted graphs bytes second → first ≡ second
+one_matching graphs bytes first second f s =
+    let same : f.records ≡ s.records = same_records (whole_lines bytes) f.records s.records f.account.records_are.form s.account.records_are.form in
+    let e : Some (verdict.Match first) ≡ Some (verdict.Match second) = sym f.verdict ∙ (ap (λ r. verdict_of (account_after graphs r)) same ∙ s.verdict) in
+    cc
+
+-- what is accepted has no bad line
+pub never_both : (graphs : Graphs) (bytes : List ℕ) (matching : Matching) (line : ℕ) (reason : Why) → IsAccepted graphs bytes matching → IsRejected graphs bytes line reason → ⊥
+never_both graphs bytes matching line reason accepted rejected =
+    let lines = whole_lines bytes in
+    let records = accepted.records in
+    let before = rejected.before in
+    let count : length lines ≡ length records = as_many lines records accepted.account.records_are.form in
+    let whole : take (length records) lines ≡ lines = take_all (length records) lines (omega (arith, count)) in
+    let are : AreRecords (take (length records) lines) records = subst (λ l. AreRecords l records) (sym whole) accepted.account.records_are in
+    let few = before_bad graphs bytes before reason rejected.bad in
+    let some = as_many (take (length before) lines) before few.form in
+    elim (cases_lt (length before) (length records)) [
+      | inl less ↦ further graphs bytes before records reason rejected.bad are accepted.valid less
+      | inr least ↦
+          let same_count : length before ≡ length records = omega (arith, least, some, count, length-take (length before) lines) in
+          let same : before ≡ records = same_records (take (length records) lines) before records (subst (λ n. AllZip HasForm (take n lines) before) same_count few.form) are.form in
+          ends records reason (subst (λ r. IsBad graphs bytes r reason) same rejected.bad) accepted.account
+    ]
+  where
+    ends : (records : List Record) (reason : Why) → IsBad graphs bytes records reason → IsAccountOf bytes records → ⊥
+    ends records (why.Form fault) bad account =
+        let e : Err fault ≡ Ok None = one_answer bytes true records (Err fault) (Ok None) bad account in
+        cc
+    ends records (why.Record reject) bad account =
+        let e : ◌≡◌ {A = Result (Option Record) RecordFault} (Ok (Some bad.0)) (Ok None) = one_answer bytes true records (Ok (Some bad.0)) (Ok None) bad.1 account in
+        cc
+
+-- an answer that is the verdict tells it exactly
+pub accepted_told : (graphs : Graphs) (bytes : List ℕ) (result : Result Verdict CheckStop) (matching : Matching) → IsVerdict graphs bytes result → result ≡ Ok (verdict.Match matching) → IsAccepted graphs bytes matching
+accepted_told graphs bytes result matching is e = subst (IsVerdict graphs bytes) e is
+
+pub rejected_told : (graphs : Graphs) (bytes : List ℕ) (result : Result Verdict CheckStop) (line : ℕ) (reason : Why) → IsVerdict graphs bytes result → result ≡ Err (Rejected line reason) → IsRejected graphs bytes line reason
+rejected_told graphs bytes result line reason is e = subst (IsVerdict graphs bytes) e is
+
+pub accepted_exactly : (graphs : Graphs) (bytes : List ℕ) (result : Result Verdict CheckStop) (matching : Matching) → IsVerdict graphs bytes result → result ≢ Err Memory → IsAccepted graphs bytes matching → result ≡ Ok (verdict.Match matching)
+accepted_exactly graphs bytes (Ok (verdict.Match other)) matching is memory accepted =
+    ap (λ m. Ok (verdict.Match m)) (one_matching graphs bytes other matching is accepted)
+accepted_exactly graphs bytes (Err (Rejected line reason)) matching is memory accepted = absurd (never_both graphs bytes matching line reason accepted is)
+accepted_exactly graphs bytes (Err Memory) matching is memory accepted = absurd (memory refl)
+
+pub rejected_exactly : (graphs : Graphs) (bytes : List ℕ) (result : Result Verdict CheckStop) (line : ℕ) (reason : Why) → IsVerdict graphs bytes result → result ≢ Err Memory → IsRejected graphs bytes line reason → result ≡ Err (Rejected line reason)
+rejected_exactly graphs bytes (Ok (verdict.Match other)) line reason is memory rejected = absurd (never_both graphs bytes other line reason is rejected)
+rejected_exactly graphs bytes (Err (Rejected at because)) line reason is memory rejected =
+    let same = one_rejection graphs bytes at line because reason is rejected in
+    ap (λ n. Err (Rejected n because)) same.0 ∙ ap (λ w. Err (Rejected line w)) same.1
+rejected_exactly graphs bytes (Err Memory) line reason is memory rejected = absurd (memory refl)
+
+-- the line behind the records that were read
+next_line : (records : List Record) (new : Reading) (bytes : List ℕ) (count : ℕ) → HasRead new bytes records → (if_fault : Option RecordFault) → new.fault ≡ if_fault → count ≡ length records + cond (is_some if_fault) 1 0 → new.line ≡ count
+next_line records new bytes count read fault is count_is =
+    read.line ∙ (ap (λ f. length records + cond (is_some f) 1 0) is ∙ sym count_is)
+
+-- a record that may stand next
+pub may_stand : (graphs : Graphs) (bytes : List ℕ) (reading : Reading) (account : Account) (entry : Record) → (so_far : IsChecking graphs bytes reading account) → IsNextRecord bytes so_far.records entry → IsSome (place_behind account.place entry)
+may_stand graphs bytes reading account entry so_far next =
+    let place = reading.place in
+    let there : account.place ≡ place = ap (λ (a : Account). a.place) so_far.account_is ∙ account_place graphs so_far.records place so_far.read.place in
+    subst IsSome (place_behind_last so_far.records entry place so_far.read.place ∙ ap (λ p. place_behind p entry) (sym there)) next.order
+
+-- a record more was taken
+pub goes_on : (graphs : Graphs) (bytes : List ℕ) (old new : Reading) (account then : Account) (entry : Record) → (so_far : IsChecking graphs bytes old account) → HasRead new bytes (so_far.records ++ entry ∷ []) → new.finished ≡ old.finished → new.fault ≡ None → HasFault account entry None → then ≡ after account entry → IsChecking graphs bytes new then
+goes_on graphs bytes old new account then entry so_far read finished no_fault fine is = record {
+  records = so_far.records ++ entry ∷ [];
+  read = read;
+  finished = finished ∙ so_far.finished;
+  no_fault = no_fault;
+  valid = valid_more graphs so_far.records entry so_far.valid (subst (λ a. HasFault a entry None) so_far.account_is fine);
+  account_is = is ∙ (ap (λ a. after a entry) so_far.account_is ∙ sym (account_after-push graphs so_far.records entry));
+}
+
+-- all records were taken
+pub done : (graphs : Graphs) (bytes : List ℕ) (old : Reading) (account : Account) → (so_far : IsChecking graphs bytes old account) → SaysNext bytes old.finished so_far.records (Ok None) → IsDone graphs bytes account
+done graphs bytes old account so_far says = record {
+  records = so_far.records;
+  are = subst (λ b. SaysNext bytes b so_far.records (Ok None)) so_far.finished says;
+  valid = so_far.valid;
+  account_is = so_far.account_is;
+}
+
+-- a line isn't read
+pub unread_goes : (graphs : Graphs) (bytes : List ℕ) (old new : Reading) (account then : Account) (file_stop : FileStop) → (so_far : IsChecking graphs bytes old account) → Says {X = Option Record} (Err file_stop) (SaysNext bytes old.finished so_far.records) → HasRead new bytes (so_far.records ++ []) → ((fault : RecordFault) → file_stop ≡ file.Fault fault → new.fault ≡ Some fault) → Goes graphs bytes new then (Err (unread new.line file_stop))
+unread_goes graphs bytes old new account then (file.Fault fault) so_far says read told = record {
+  before = so_far.records;
+  valid = so_far.valid;
+  line_is = next_line so_far.records new bytes (length so_far.records + 1) (subst (HasRead new bytes) (append-nil so_far.records) read) (Some fault) (told fault refl) refl;
+  bad = subst (λ b. SaysNext bytes b so_far.records (Err fault)) so_far.finished says;
+}
+unread_goes graphs bytes old new account then file.Memory so_far says read told = tt
+
+-- a record isn't taken
+pub refused_goes : (graphs : Graphs) (bytes : List ℕ) (old new : Reading) (account then : Account) (entry : Record) (record_stop : RecordStop) → (so_far : IsChecking graphs bytes old account) → IsNextRecord bytes so_far.records entry → HasRead new bytes (so_far.records ++ entry ∷ []) → new.fault ≡ None → ((reject : Reject) → record_stop ≡ stop.Reject reject → HasFault account entry (Some reject)) → Goes graphs bytes new then (Err (refused new.line record_stop))
+refused_goes graphs bytes old new account then entry (stop.Reject reject) so_far next read no_fault has = record {
+  before = so_far.records;
+  valid = so_far.valid;
+  line_is = next_line (so_far.records ++ entry ∷ []) new bytes (length so_far.records + 1) read None no_fault (omega (arith, length-append so_far.records (entry ∷ [])));
+  bad = (entry, next, subst (λ a. HasFault a entry (Some reject)) so_far.account_is (has reject refl));
+}
+refused_goes graphs bytes old new account then entry stop.Memory so_far next read no_fault has = tt
+
+-- where all records were taken, the account has ended
+pub ended_place : (graphs : Graphs) (bytes : List ℕ) (account : Account) → IsDone graphs bytes account → account.place ≡ place.Ended
+ended_place graphs bytes account is =
+    ap (λ (a : Account). a.place) is.account_is ∙ account_place graphs is.records place.Ended is.are.ended
+
+-- and its verdict is that of the bytes
+pub verdict_there : (graphs : Graphs) (bytes : List ℕ) (account : Account) (told : Verdict) → IsDone graphs bytes account → Some told ≡ verdict_of account → IsVerdict graphs bytes (Ok told)
+verdict_there graphs bytes account (verdict.Match matching) is told = record {
+  records = is.records;
+  account = is.are;
+  valid = is.valid;
+  verdict = ap (λ (a : Account). verdict_of a) (sym is.account_is) ∙ sym told;
+}
+
+pub done_graphs : (graphs : Graphs) (bytes : List ℕ) (account : Account) → IsDone graphs bytes account → account.graphs ≡ graphs
+done_graphs graphs bytes account is =
+    ap (λ (a : Account). a.graphs) is.account_is ∙ account_graphs graphs is.records
+
+-- the record that was read is the next
+pub next_read : (bytes : List ℕ) (finished : Bool) (records : List Record) (entry : Record) (given : Option Record) → given ≡ Some entry → Says {X = Option Record} (Ok given) (SaysNext bytes finished records) → IsNextRecord bytes records entry
+next_read bytes finished records entry given is says =
+    subst (λ o. SaysNext bytes finished records (Ok o)) is says
+
+pub read_on : (new : Reading) (bytes : List ℕ) (records : List Record) (entry : Record) (given : Option Record) → given ≡ Some entry → HasRead new bytes (records ++ given_by {E = FileStop} (Ok given)) → HasRead new bytes (records ++ entry ∷ [])
+read_on new bytes records entry given is read =
+    subst (λ o. HasRead new bytes (records ++ given_by {E = FileStop} (Ok o))) is read
+
+-- a refusal tells the record's fault
+pub refusal_told : (account : Account) (entry : Record) (record_stop : RecordStop) → ((r : Reject) → (◌≡◌ {A = Result (Unit {0}) RecordStop} (Err record_stop) (Err stop.Memory) → ⊥) → (◌≡◌ {A = Result (Unit {0}) RecordStop} (Err record_stop) (Err (stop.Reject r)) → HasFault account entry (Some r)) × (HasFault account entry (Some r) → ◌≡◌ {A = Result (Unit {0}) RecordStop} (Err record_stop) (Err (stop.Reject r)))) → (reject : Reject) → record_stop ≡ stop.Reject reject → HasFault account entry (Some reject)
+refusal_told account entry record_stop told reject is =
+    (told reject (no_memory record_stop reject is)).0 (ap (λ (s : RecordStop). Err s) is)
+  where
+    no_memory : (s : RecordStop) (r : Reject) → s ≡ stop.Reject r → ◌≡◌ {A = Result (Unit {0}) RecordStop} (Err s) (Err stop.Memory) → ⊥
+    no_memory s r e m = cc
+
+-- a check before its first record
+pub begun : (graphs : Graphs) (bytes : List ℕ) (reading : Reading) (account : Account) → HasRead reading bytes [] → reading.finished ≡ true → reading.fault ≡ None → account ≡ empty_account graphs → IsChecking graphs bytes reading account
+begun graphs bytes reading account read finished no_fault is = record {
+  records = [];
+  read = read;
+  finished = finished;
+  no_fault = no_fault;
+  valid = λ k d below. absurd (omega (arith, below));
+  account_is = is;
+}
+
+-- the reason that `?` hands on is the verdict
+pub stopped : (graphs : Graphs) (bytes : List ℕ) (reading : Reading) (account : Account) (check_stop : CheckStop) (result : Result Verdict CheckStop) → Goes graphs bytes reading account (Err check_stop) → IsErrAnd result (λ handed. handed ≡ check_stop) → IsVerdict graphs bytes result
+stopped graphs bytes reading account check_stop result goes same =
+    by result same
+  where
+    told : (s : CheckStop) → Goes graphs bytes reading account (Err s) → IsVerdict graphs bytes (Err s)
+    told (Rejected line reason) rejected = rejected
+    told Memory none = tt
+
+    by : (result : Result Verdict CheckStop) → IsErrAnd result (λ handed. handed ≡ check_stop) → IsVerdict graphs bytes result
+    by (Ok verdict) none = absurd none
+    by (Err handed) is = subst (λ (s : CheckStop). IsVerdict graphs bytes (Err s)) (sym is) (told check_stop goes)
+
+pub same_verdict : (a b : Verdict) → ◌≡◌ {A = Result Verdict CheckStop} (Ok a) (Ok b) → a ≡ b
+same_verdict a b e = cc

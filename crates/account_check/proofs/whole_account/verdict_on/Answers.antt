@@ -1,0 +1,43 @@
+-- Where the text has no record more, the account has ended, and its verdict is that of the bytes.
+use Rattle.std.proofs.Common.{Ok, Some, sym, ap, subst, ◌∙◌}
+use Rattle.circuits.specs.Matches.{IsMatchOfFunctions}
+use Rattle.account_check.specs.declared.verdict.Verdict.{Verdict}
+use Rattle.account_check.specs.declared.verdict.Verdict.TheVariants as verdict
+use Rattle.account_check.specs.Checking.{Goes, IsDone}
+use Rattle.account_check.proofs.VerdictLemmas.{done_graphs, ended_place, same_verdict, stopped, verdict_there}
+use Rattle.account_check.proofs.whole_account.verdict_on.Goals as goal
+
+pub returns-in_err-take_next-clause-verdict : goal.returns-in_err-take_next-clause-verdict
+returns-in_err-take_next-clause-verdict c =
+    let graphs = c.args.graphs.now in
+    let bytes = c.args.account.now in
+    let goes = c.in_err-take_next.ensures.goes graphs bytes c.loop-checker.invariant in
+    stopped graphs bytes c.take_next.new.reader c.take_next.new.checker c.in_err-take_next.field-0.0 c.from_residual-in_err-take_next.result goes c.from_residual-in_err-take_next.ensures.1
+
+pub ended-requires : goal.ended-requires
+ended-requires c =
+    let graphs = c.args.graphs.now in
+    let bytes = c.args.account.now in
+    let account = c.take_next.new.checker in
+    let goes = c.in_ok-take_next.ensures.goes graphs bytes c.loop-checker.invariant in
+    let done : IsDone graphs bytes account = subst (λ b. Goes graphs bytes c.take_next.new.reader account (Ok b)) c.if-branch.false goes in
+    ended_place graphs bytes account done
+
+pub returns-clause-verdict : goal.returns-clause-verdict
+returns-clause-verdict c =
+    let graphs = c.args.graphs.now in
+    let bytes = c.args.account.now in
+    let account = c.take_next.new.checker in
+    let goes = c.in_ok-take_next.ensures.goes graphs bytes c.loop-checker.invariant in
+    let done : IsDone graphs bytes account = subst (λ b. Goes graphs bytes c.take_next.new.reader account (Ok b)) c.if-branch.false goes in
+    verdict_there graphs bytes account c.in_ok-ended.field-0 done c.in_ok-ended.ensures.verdict
+
+pub returns-clause-proved : goal.returns-clause-proved
+returns-clause-proved c matching is =
+    let graphs = c.args.graphs.now in
+    let bytes = c.args.account.now in
+    let account = c.take_next.new.checker in
+    let goes = c.in_ok-take_next.ensures.goes graphs bytes c.loop-checker.invariant in
+    let done : IsDone graphs bytes account = subst (λ b. Goes graphs bytes c.take_next.new.reader account (Ok b)) c.if-branch.false goes in
+    let told = sym c.in_ok-ended.ensures.verdict ∙ ap (λ (v : Verdict). Some v) (same_verdict c.in_ok-ended.field-0 (verdict.Match matching) is) in
+    subst (λ g. IsMatchOfFunctions g.first g.second matching.inputs matching.outputs) (done_graphs graphs bytes account done) (c.in_ok-ended.ensures.proved matching told)

@@ -1,0 +1,44 @@
+-- The verdict of an account's whole bytes (this project's format): the matching that it proves, or its first bad line.
+use Rattle.std.specs.Prelude.{◌≡◌, ℕ, ◌+◌, List, length, take, None, Some, Result, Ok, Err}
+use Rattle.circuits.specs.Literals.{EachAt}
+use Rattle.net_core.specs.declared.graphs.Graphs.{Graphs}
+use Rattle.net_core.specs.declared.matching.Matching.{Matching}
+use Rattle.account_file.specs.declared.record.Record.{Record}
+use Rattle.account_file.specs.Accounts.{HasFormFault, IsAccountOf, IsNextRecord}
+use Rattle.account_check.specs.declared.verdict.Verdict.{Verdict}
+use Rattle.account_check.specs.declared.verdict.Verdict.TheVariants.{Match}
+use Rattle.account_check.specs.declared.verdict.Why.{Why}
+use Rattle.account_check.specs.declared.verdict.Why.TheVariants as why
+use Rattle.account_check.specs.declared.verdict.CheckStop.{CheckStop}
+use Rattle.account_check.specs.declared.verdict.CheckStop.TheVariants.{Rejected, Memory}
+use Rattle.account_check.specs.Accounts.{account_after, verdict_of, HasFault}
+
+-- nothing is wrong with any of the records, in view of those before it
+abbrev pub AreValid : Graphs → List Record → Type 0
+AreValid graphs records = EachAt (λ k entry. HasFault (account_after graphs (take k records)) entry None) records
+
+-- What is wrong with the line behind these records: its form; or it is a record that may stand there, and that has this fault.
+abbrev pub IsBad : Graphs → List ℕ → List Record → Why → Type 0
+IsBad graphs bytes before (why.Form fault) = HasFormFault bytes before fault
+IsBad graphs bytes before (why.Record reject) =
+    (entry : Record) × IsNextRecord bytes before entry × HasFault (account_after graphs before) entry (Some reject)
+
+-- The first bad line of an account, counted from 1: the lines before it are valid records, and it is bad.
+pub record IsRejected (graphs : Graphs) (bytes : List ℕ) (line : ℕ) (reason : Why) : Type 0 where
+  pub before : List Record
+  pub valid : AreValid graphs before
+  pub line_is : line ≡ length before + 1
+  pub bad : IsBad graphs bytes before reason
+
+-- An account proves that a matching is a match: all its lines are valid records, up to the end, and nothing stands behind.
+pub record IsAccepted (graphs : Graphs) (bytes : List ℕ) (matching : Matching) : Type 0 where
+  pub records : List Record
+  pub account : IsAccountOf bytes records
+  pub valid : AreValid graphs records
+  pub verdict : verdict_of (account_after graphs records) ≡ Some (Match matching)
+
+-- an answer is the verdict, or memory is wanting
+abbrev pub IsVerdict : Graphs → List ℕ → Result Verdict CheckStop → Type 0
+IsVerdict graphs bytes (Ok (Match matching)) = IsAccepted graphs bytes matching
+IsVerdict graphs bytes (Err (Rejected line reason)) = IsRejected graphs bytes line reason
+IsVerdict graphs bytes (Err Memory) = Unit {0}

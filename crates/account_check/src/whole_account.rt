@@ -1,0 +1,108 @@
+//! The check of an account's whole bytes.
+
+ghost use Rattle.std.specs.Prelude.{ℕ, List, ◌≡◌, ◌≢◌, ◌<◌, ◌↔◌, true, IfOk, Ok, Err, Some, length};
+ghost use Rattle.circuits.specs.Matches.{IsMatchOfFunctions};
+ghost use Rattle.net_core.specs.declared.graphs.Graphs.{Graphs as TwoGraphs};
+ghost use Rattle.net_core.specs.declared.matching.Matching.{Matching as Table};
+ghost use Rattle.account_file.specs.declared.place.Place.TheVariants.{Ended};
+ghost use Rattle.account_check.specs.declared.verdict.CheckStop.TheVariants as stop;
+ghost use Rattle.account_check.specs.declared.verdict.Verdict.TheVariants as verdict;
+ghost use Rattle.account_check.specs.declared.verdict.Why.{Why as Reason};
+ghost use Rattle.account_check.specs.Accounts.{verdict_of};
+ghost use Rattle.account_check.specs.Checking.{refused, unread, Goes, IsChecking, IsUnderCheck};
+ghost use Rattle.account_check.specs.Verdicts.{IsAccepted, IsRejected, IsVerdict};
+
+use crate::checker::Checker;
+use crate::reject::RecordStop;
+use crate::verdict::{CheckStop, Verdict, Why};
+use account_file::{FileStop, Reader};
+use net_core::Graphs;
+use std::alloc::{AllocError, Global};
+
+/// The verdict of an account: the matching that it proves to be a match of the two circuits, or its first bad line and what
+/// is wrong with it, each exactly so unless memory is wanting.
+pub fn check(alloc: Global, graphs: &Graphs, account: &[u8]) -> Result<Verdict, CheckStop>
+    ensures accepted { (matching : Table) → result ≢ Err stop.Memory
+        → ((result ≡ Ok (verdict.Match matching)) ↔ IsAccepted graphs.now account.now matching) }
+    ensures rejected { (line : ℕ) (why : Reason) → result ≢ Err stop.Memory
+        → ((result ≡ Err (stop.Rejected line why)) ↔ IsRejected graphs.now account.now line why) }
+    ensures proved { (matching : Table) → result ≡ Ok (verdict.Match matching)
+        → IsMatchOfFunctions graphs.now.first graphs.now.second matching.inputs matching.outputs }
+{
+    verdict_on(alloc, graphs, account)
+}
+
+// The verdict of an account.
+fn verdict_on(alloc: Global, graphs: &Graphs, account: &[u8]) -> Result<Verdict, CheckStop>
+    ensures verdict { IsVerdict graphs.now account.now result }
+    ensures proved { (matching : Table) → result ≡ Ok (verdict.Match matching)
+        → IsMatchOfFunctions graphs.now.first graphs.now.second matching.inputs matching.outputs }
+{
+    let mut reader = Reader::new(alloc);
+    reader.feed(account)?;
+    reader.finish();
+    let mut checker = Checker::new(alloc, graphs)?;
+    while take_next(alloc, &mut reader, &mut checker)? {}
+    Ok(ended(alloc, &checker)?)
+}
+
+// Takes the next record, and tells whether there was one.
+fn take_next(
+    alloc: Global,
+    reader: &mut Reader,
+    checker: &mut Checker<'_>,
+) -> Result<bool, CheckStop>
+    requires { IsUnderCheck reader.old checker.old }
+    ensures goes { (graphs : TwoGraphs) (bytes : List ℕ) → IsChecking graphs bytes reader.old checker.old
+        → Goes graphs bytes reader.new checker.new result }
+    ensures shrinks { result ≡ Ok true → length reader.new.left < length reader.old.left }
+{
+    let entry = match reader.next(alloc) {
+        Ok(Some(entry)) => entry,
+        Ok(None) => return Ok(false),
+        Err(stop) => return Err(unread(reader.line(), stop)),
+    };
+    match checker.record(alloc, &entry) {
+        Ok(()) => Ok(true),
+        Err(stop) => Err(refused(reader.line(), stop)),
+    }
+}
+
+// Why an account is given up at a line that isn't read.
+fn unread(line: u64, stop: FileStop) -> CheckStop
+    ensures { result ≡ unread line stop }
+{
+    match stop {
+        FileStop::Fault(fault) => CheckStop::Rejected {
+            line,
+            why: Why::Form(fault),
+        },
+        FileStop::Memory => CheckStop::Memory,
+    }
+}
+
+// Why an account is given up at a line whose record isn't taken.
+fn refused(line: u64, stop: RecordStop) -> CheckStop
+    ensures { result ≡ refused line stop }
+{
+    match stop {
+        RecordStop::Reject(reject) => CheckStop::Rejected {
+            line,
+            why: Why::Record(reject),
+        },
+        RecordStop::Memory => CheckStop::Memory,
+    }
+}
+
+// The verdict of an account that has ended.
+fn ended(alloc: Global, checker: &Checker<'_>) -> Result<Verdict, AllocError>
+    requires { checker.now.place ≡ Ended }
+    ensures verdict { IfOk result (λ verdict. Some verdict ≡ verdict_of checker.now) }
+    ensures proved { (matching : Table) → verdict_of checker.now ≡ Some (verdict.Match matching)
+        → IsMatchOfFunctions checker.now.graphs.first checker.now.graphs.second matching.inputs matching.outputs }
+{
+    let Some(verdict) = checker.verdict(alloc)? else {
+        unreachable!()
+    };
+    Ok(verdict)
+}

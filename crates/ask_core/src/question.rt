@@ -1,0 +1,63 @@
+//! One question, asked.
+
+ghost use Rattle.std.specs.Prelude.{◌≡◌, false, IfOk, IfErr};
+ghost use Rattle.std.specs.List.{range_with_len};
+ghost use Rattle.query_core.specs.Queries.{IsQuery};
+ghost use Rattle.ask_core.specs.Answers.{IsAnswer, IsAskedIn, IsStopped};
+
+use crate::vector::vector_of;
+use cnf_core::{Base, Log, Stop};
+use items::Items;
+use learn_solver::{Solver, Verdict, solve};
+use net_core::Graphs;
+use query_core::{Ledger, Query, QueryBase};
+use std::alloc::{AllocError, Global};
+
+/// An answer to a query.
+#[derive(Debug, Drop)]
+pub enum Answer {
+    /// A vector on which the cones have the values that are asked for.
+    Vector(Items<bool>),
+    /// A log that refutes the query's clauses: there is no such vector.
+    Refuted(Log),
+}
+
+/// Answers a query that fits two circuits. The ledger gets an entry for it, in place of a last one for which nothing was
+/// learned, with one line for each conflict. Spent comes at a conflict that is met with the budget spent; its line is kept
+/// as the refused one. Where memory is wanting, nothing is said of the last entry.
+pub fn ask(
+    alloc: Global,
+    graphs: &Graphs,
+    query: &Query,
+    ledger: &mut Ledger,
+) -> Result<Answer, Stop>
+    requires fits { IsQuery graphs.now query.now }
+    requires not_spent { ledger.old.spent ≡ false }
+    ensures answer { IfOk result (IsAnswer graphs.now query.now) }
+    ensures asked { IfOk result (λ _. IsAskedIn graphs.now query.now ledger.old ledger.new) }
+    ensures not_spent { IfOk result (λ _. ledger.new.spent ≡ false) }
+    ensures stop { IfErr result (IsStopped graphs.now query.now ledger.old ledger.new) }
+{
+    let base = QueryBase::new(alloc, graphs, query)?;
+    let ids = numbers(alloc, base.count())?;
+    ledger.open(alloc, query, &[])?;
+    let mut solver = Solver::new(alloc, &base, &ids, &[])?;
+    match solve(alloc, &mut solver, ledger)? {
+        Verdict::Model(values) => {
+            let vector = vector_of(alloc, graphs, query, &values)?;
+            Ok(Answer::Vector(vector))
+        }
+        Verdict::Refuted(log) => Ok(Answer::Refuted(log)),
+    }
+}
+
+// The numbers below a count.
+fn numbers(alloc: Global, count: u64) -> Result<Vec<u64>, AllocError>
+    ensures { IfOk result (λ numbers. numbers.items ≡ range_with_len 0 count) }
+{
+    let mut numbers = Vec::new(alloc);
+    for number in 0..count {
+        numbers.push(number)?;
+    }
+    Ok(numbers)
+}

@@ -1,0 +1,34 @@
+//! The vector that a model has.
+
+ghost use Rattle.std.specs.Prelude.{◌≡◌, IfOk, length};
+ghost use Rattle.cnf_core.specs.Clauses.{Meets};
+ghost use Rattle.query_core.specs.Queries.{IsQuery, bits_in, vector_in};
+ghost use Rattle.query_core.specs.Formulas.{formula_of, query_clauses};
+ghost use Rattle.ask_core.specs.Answers.{IsVector};
+
+use items::Items;
+use net_core::Graphs;
+use query_core::Query;
+use std::alloc::{AllocError, Global};
+
+/// The bits of the input variables, where the values meet a query's clauses.
+pub(crate) fn vector_of(
+    alloc: Global,
+    graphs: &Graphs,
+    query: &Query,
+    values: &[bool],
+) -> Result<Items<bool>, AllocError>
+    requires fits { IsQuery graphs.now query.now }
+    requires variables { length values.now ≡ (formula_of graphs.now query.now).variables }
+    requires meets { Meets values.now (query_clauses graphs.now query.now) }
+    ensures { IfOk result (IsVector graphs.now query.now) }
+{
+    let _inputs = graphs.first.inputs();
+    let _inputs = graphs.second.inputs();
+    let inputs = query.left.feed.len();
+    let mut vector = Items::new(alloc);
+    for input in 0..inputs {
+        vector.push(values[1 + input])?;
+    }
+    Ok(vector)
+}

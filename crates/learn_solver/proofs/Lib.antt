@@ -1,0 +1,13 @@
+pub mod WalkLemmas
+pub mod EffectLemmas
+pub mod MarkLemmas
+pub mod PlaceLemmas
+pub mod DeriveLemmas
+pub mod KeptLemmas
+pub mod AnalysisLemmas
+pub mod LearnLemmas
+pub mod SearchLemmas
+pub mod SolverLemmas
+pub mod StepLemmas
+pub mod ModelLemmas
+pub mod AdvanceLemmas

@@ -1,0 +1,90 @@
+-- Values that make the literals of a trail true meet clauses that leave nothing open.
+use Rattle.std.proofs.Common.{◌≡◌, ℕ, suc, ◌+◌, ◌-◌, ◌*◌, ◌/◌, ◌%◌, ◌<◌, cond, eqb, Bool, true, false, List, [], ◌∷◌, length, All, None, Some, slice_index_or, inl, inr, refl, sym, ◌∙◌, ap, subst, arith}
+use Rattle.std.specs.List.{list_any, list_all}
+use Rattle.std.proofs.lemmas.Bool.{and_from, cases_Bool, both_ways, or_parts, true_from_ne_false}
+use Rattle.std.proofs.lemmas.Bool.Decides.{eqb_tells}
+use Rattle.std.proofs.lemmas.List.{get_or_append_left, length-append}
+use Rattle.circuits.specs.Literals.{bit, differ}
+use Rattle.cnf_core.specs.declared.literal.SatLit.{SatLit}
+use Rattle.cnf_core.specs.declared.effect.Effect.TheVariants.{Conflict, Neither}
+use Rattle.cnf_core.specs.Clauses.{is_negated, literal_bit, literal_of, opposite, variable_of}
+use Rattle.cnf_core.specs.Derivations.{clauses_of, effect_of, is_false, is_true}
+use Rattle.trail_core.specs.Trails.{Trailing, literals, value_in}
+use Rattle.learn_solver.specs.Propagations.{AreKnown, IsQuiet}
+use Rattle.learn_solver.specs.Searches.{AreValues, IsSearching, IsTotal}
+use Rattle.learn_solver.specs.Solvers.{IsModel, IsSolver, Solving, active, wanted}
+use Rattle.learn_solver.proofs.EffectLemmas.{conflict_from}
+use Rattle.learn_solver.proofs.PlaceLemmas.{opposite_twice}
+
+-- a literal is that of its variable with its sign, and its opposite that with the other one
+plain_is : (l : SatLit) → is_negated l ≡ false → literal_of (variable_of l) true ≡ l
+plain_is l plain = ap (λ n. record { 0 = n }) (number l.0 plain)
+  where
+    number : (n : ℕ) → eqb (n % 2) 1 ≡ false → 2 * (n / 2) ≡ n
+    number n e = elim (eqb_tells (n % 2) 1) [ inl (odd, _) ↦ absurd (both_ways (eqb (n % 2) 1) e odd) | inr (even, ne) ↦ omega (arith, ne) ]
+
+negated_is : (l : SatLit) → is_negated l ≡ true → literal_of (variable_of l) true ≡ opposite l
+negated_is l negated = ap (λ n. record { 0 = n }) (number l.0 negated)
+  where
+    number : (n : ℕ) → eqb (n % 2) 1 ≡ true → 2 * (n / 2) ≡ 2 * (n / 2) + (1 - n % 2)
+    number n e = elim (eqb_tells (n % 2) 1) [ inl (odd, one) ↦ omega (arith, one) | inr (even, _) ↦ absurd (both_ways (eqb (n % 2) 1) even e) ]
+
+other_is : (l : SatLit) → is_negated l ≡ false → literal_of (variable_of l) false ≡ opposite l
+other_is l plain = ap (λ n. record { 0 = n }) (number l.0 plain)
+  where
+    number : (n : ℕ) → eqb (n % 2) 1 ≡ false → 2 * (n / 2) + 1 ≡ 2 * (n / 2) + (1 - n % 2)
+    number n e = elim (eqb_tells (n % 2) 1) [ inl (odd, _) ↦ absurd (both_ways (eqb (n % 2) 1) e odd) | inr (even, ne) ↦ omega (arith, ne) ]
+
+-- a variable whose literals are both not true has no value
+no_value : (made : List SatLit) (m : SatLit) → is_true made m ≡ false → is_false made m ≡ false → value_in made m ≡ None
+no_value made m t f = ap (λ b. cond b (Some true) (cond (is_false made m) (Some false) None)) t ∙ ap (λ b. cond b (Some false) None) f
+
+-- a literal that the values make false is false on the trail
+false_on : (t : Trailing) (values : List Bool) → IsTotal t → AreValues t values → (l : SatLit) → variable_of l < t.variables → literal_bit values l ≡ false → is_false (literals t.entries) l ≡ true
+false_on t values total are l known falsity =
+    let made = literals t.entries in
+    let v = variable_of l in
+    let at : bit values v ≡ is_true made (literal_of v true) = are.each v false (omega (arith, known, are.count)) in
+    elim (cases_Bool (is_negated l)) [
+      | inl negated ↦
+          let held : bit values v ≡ true = by_negated (bit values v) (ap (differ (bit values v)) (sym negated) ∙ falsity) in
+          ap (is_true made) (sym (negated_is l negated)) ∙ (sym at ∙ held)
+      | inr plain ↦
+          let held : bit values v ≡ false = by_plain (bit values v) (ap (differ (bit values v)) (sym plain) ∙ falsity) in
+          let not_made : is_true made l ≡ false = ap (is_true made) (sym (plain_is l plain)) ∙ (sym at ∙ held) in
+          true_from_ne_false (is_false made l) (λ free.
+          let other = other_is l plain in
+          let none : value_in made (literal_of v false) ≡ None = ap (value_in made) other ∙ no_value made (opposite l) free (ap (is_true made) (opposite_twice l) ∙ not_made) in
+          total v known none)
+    ]
+  where
+    by_negated : (b : Bool) → differ b true ≡ false → b ≡ true
+    by_negated true e = refl
+    by_negated false e = absurd (let x : true ≡ false = e in cc)
+
+    by_plain : (b : Bool) → differ b false ≡ false → b ≡ false
+    by_plain true e = absurd (let x : true ≡ false = e in cc)
+    by_plain false e = refl
+
+-- a clause that isn't met has false literals alone
+all_false : (t : Trailing) (values : List Bool) → IsTotal t → AreValues t values → (c : List SatLit) → ((k : ℕ) (d : SatLit) → k < length c → variable_of (slice_index_or c k d) < t.variables) → list_any (literal_bit values) c ≡ false → list_all (is_false (literals t.entries)) c ≡ true
+all_false t values total are [] known e = refl
+all_false t values total are (l ∷ c) known e =
+    let parts = or_parts (literal_bit values l) (list_any (literal_bit values) c) e in
+    and_from (is_false (literals t.entries) l) (list_all (is_false (literals t.entries)) c) (false_on t values total are l (known 0 l (omega arith)) parts.0) (all_false t values total are c (λ k d h. known (suc k) d (omega (arith, h))) parts.1)
+
+pub model_from : (s : Solving) (clauses : List (List SatLit)) (t : Trailing) (values : List Bool) → IsSolver s.formula s.ids s.lines clauses → IsSearching s t → IsQuiet (active s.formula s.ids s.lines) (literals t.entries) → IsTotal t → AreValues t values → IsModel s values
+model_from s clauses t values is searching quiet total are = record {
+  variables = are.count ∙ searching.variables;
+  meets = λ k d within.
+      let want = wanted s.formula s.ids in
+      let c = slice_index_or want k d in
+      let at = get_or_append_left want (clauses_of s.lines) d k within in
+      let inside : k < length (active s.formula s.ids s.lines) = omega (arith, within, length-append want (clauses_of s.lines)) in
+      let known : AreKnown s.formula.variables c = subst (AreKnown s.formula.variables) at (subst (λ (cs : List (List SatLit)). All (AreKnown s.formula.variables) cs) is.stored is.known k d inside) in
+      let open_one : effect_of (literals t.entries) c ≡ Neither = ap (effect_of (literals t.entries)) (sym at) ∙ quiet k d inside in
+      true_from_ne_false (list_any (literal_bit values) c) (λ unmet.
+      let falsity = all_false t values total are c (λ j e h. omega (arith, known j e h, searching.variables)) unmet in
+      let clash : Conflict ≡ Neither = sym (conflict_from (literals t.entries) c falsity) ∙ open_one in
+      cc);
+}

@@ -1,0 +1,148 @@
+-- Lines that are added to a solver, and the numbers of its clauses.
+use Rattle.std.proofs.Common.{◌≡◌, ℕ, zero, suc, ◌+◌, ◌-◌, ◌<◌, not, cond, Bool, true, false, List, [], ◌∷◌, ◌++◌, length, map, take, All, Option, None, Some, nat_lt, slice_index_or, inl, inr, refl, sym, ◌∙◌, ap, subst, arith}
+use Rattle.std.specs.List.{list_any, list_all}
+use Rattle.std.proofs.lemmas.Bool.{cases_eq, cases_lt, cond-false, le-ltb, lt-ltb, ltb-true}
+use Rattle.std.proofs.lemmas.List.{append_assoc, get_or_append_left, get_or-append_right, get_or-map, get_or_at, length-append, length-map, map-append, take-append-le, take_at}
+use Rattle.std.proofs.lemmas.List.Elements.{All-append, All-map, All-push}
+use Rattle.std.proofs.lemmas.List.Recursion.{and_at}
+use Rattle.cnf_core.specs.declared.literal.SatLit.{SatLit}
+use Rattle.cnf_core.specs.declared.log.LogLine.{LogLine}
+use Rattle.cnf_core.specs.declared.effect.Effect.{Effect}
+use Rattle.cnf_core.specs.declared.effect.Effect.TheVariants.{Conflict, Makes, Neither}
+use Rattle.cnf_core.specs.declared.fault.LineFault.{LineFault}
+use Rattle.cnf_core.specs.declared.fault.LineFault.TheVariants as fault
+use Rattle.cnf_core.specs.Clauses.{Formula, clause_at, opposite, variable_of}
+use Rattle.cnf_core.specs.Derivations.{AreDerived, clauses_of, effect_of, fault_behind, hint_fault, is_empty, line_fault, repeats_variable}
+use Rattle.learn_solver.specs.Propagations.{AreKnown}
+use Rattle.learn_solver.specs.Solvers.{ArePut, IsSolver, active, id_at, wanted}
+
+-- What it says that a line has no fault.
+pub record IsLine (formula : Formula) (taken : List (List SatLit)) (line : LogLine) : Type 0 where
+  pub unclosed : list_any is_empty taken ≡ false
+  pub known : list_all (λ l. nat_lt (variable_of l) formula.variables) line.clause ≡ true
+  pub once : repeats_variable line.clause ≡ false
+  pub hints : hint_fault (formula.clauses ++ taken) (map opposite line.clause) line.hints ≡ None
+
+line_says : (formula : Formula) (taken : List (List SatLit)) (line : LogLine) → line_fault formula taken line ≡ None → IsLine formula taken line
+line_says formula taken line e =
+    let parts = by_tests (list_any is_empty taken) (list_all (λ l. nat_lt (variable_of l) formula.variables) line.clause) (repeats_variable line.clause) (hint_fault (formula.clauses ++ taken) (map opposite line.clause) line.hints) e in
+    record { unclosed = parts.0; known = parts.1; once = parts.2; hints = parts.3 }
+  where
+    by_tests : (a b c : Bool) (h : Option LineFault) → cond a (Some fault.Closed) (cond (not b) (Some fault.UnknownVariable) (cond c (Some fault.TwiceVariable) h)) ≡ None → (a ≡ false) × (b ≡ true) × (c ≡ false) × (h ≡ None)
+    by_tests true b c h e = absurd (let x : Some fault.Closed ≡ None = e in cc)
+    by_tests false false c h e = absurd (let x : Some fault.UnknownVariable ≡ None = e in cc)
+    by_tests false true true h e = absurd (let x : Some fault.TwiceVariable ≡ None = e in cc)
+    by_tests false true false h e = (refl, refl, refl, e)
+
+pub line_from : (formula : Formula) (taken : List (List SatLit)) (line : LogLine) → IsLine formula taken line → line_fault formula taken line ≡ None
+line_from formula taken line is =
+    cond-false (list_any is_empty taken) (Some fault.Closed) (cond (not (list_all (λ l. nat_lt (variable_of l) formula.variables) line.clause)) (Some fault.UnknownVariable) (cond (repeats_variable line.clause) (Some fault.TwiceVariable) (hint_fault (formula.clauses ++ taken) (map opposite line.clause) line.hints))) is.unclosed
+    ∙ (ap (λ b. cond (not b) (Some fault.UnknownVariable) (cond (repeats_variable line.clause) (Some fault.TwiceVariable) (hint_fault (formula.clauses ++ taken) (map opposite line.clause) line.hints))) is.known
+    ∙ (ap (λ b. cond b (Some fault.TwiceVariable) (hint_fault (formula.clauses ++ taken) (map opposite line.clause) line.hints)) is.once ∙ is.hints))
+
+line_known : (formula : Formula) (taken : List (List SatLit)) (line : LogLine) → line_fault formula taken line ≡ None → AreKnown formula.variables line.clause
+line_known formula taken line e k d within =
+    ltb-true (variable_of (slice_index_or line.clause k d)) formula.variables (and_at (list_all (λ l. nat_lt (variable_of l) formula.variables)) (λ l. nat_lt (variable_of l) formula.variables) refl (λ _ _. refl) line.clause k d within (line_says formula taken line e).known)
+
+-- one line more
+derived_more : (formula : Formula) (lines : List LogLine) (line : LogLine) → AreDerived formula lines → line_fault formula (clauses_of lines) line ≡ None → AreDerived formula (lines ++ line ∷ [])
+derived_more formula lines line derived good k d within =
+    elim (cases_eq k (length lines)) [
+      | inl last ↦
+          let at = get_or_at lines line [] d k (sym last) in
+          let front : take k (lines ++ line ∷ []) ≡ lines = take_at lines (line ∷ []) k (sym last) in
+          ap (λ l. line_fault formula (clauses_of (take k (lines ++ line ∷ []))) l) at ∙ (ap (λ ls. line_fault formula (clauses_of ls) line) front ∙ good)
+      | inr other ↦
+          let early : k < length lines = omega (arith, other, within, length-append lines (line ∷ [])) in
+          let at = get_or_append_left lines (line ∷ []) d k early in
+          let front : take k (lines ++ line ∷ []) ≡ take k lines = take-append-le k lines (line ∷ []) (omega (arith, early)) in
+          ap (λ l. line_fault formula (clauses_of (take k (lines ++ line ∷ []))) l) at ∙ (ap (λ ls. line_fault formula (clauses_of ls) (slice_index_or lines k d)) front ∙ derived k d early)
+    ]
+
+pub clauses_more : (lines : List LogLine) (line : LogLine) → clauses_of (lines ++ line ∷ []) ≡ clauses_of lines ++ line.clause ∷ []
+clauses_more lines line = map-append (λ (l : LogLine). l.clause) lines (line ∷ [])
+
+pub active_more : (formula : Formula) (ids : List ℕ) (lines : List LogLine) (line : LogLine) → active formula ids (lines ++ line ∷ []) ≡ active formula ids lines ++ line.clause ∷ []
+active_more formula ids lines line = ap (λ cs. wanted formula ids ++ cs) (clauses_more lines line) ∙ sym (append_assoc (wanted formula ids) (clauses_of lines) (line.clause ∷ []))
+
+pub solver_more : (formula : Formula) (ids : List ℕ) (lines new : List LogLine) (clauses put : List (List SatLit)) (line : LogLine) → IsSolver formula ids lines clauses → line_fault formula (clauses_of lines) line ≡ None → new ≡ lines ++ line ∷ [] → put ≡ clauses ++ line.clause ∷ [] → IsSolver formula ids new put
+solver_more formula ids lines new clauses put line is good new_is put_is = record {
+  stored = put_is ∙ (ap (λ cs. cs ++ line.clause ∷ []) is.stored ∙ (sym (active_more formula ids lines line) ∙ ap (active formula ids) (sym new_is)));
+  there = is.there;
+  known = subst (λ (cs : List (List SatLit)). All (AreKnown formula.variables) cs) (sym put_is) (All-push (AreKnown formula.variables) clauses line.clause is.known (line_known formula (clauses_of lines) line good));
+  filled = is.filled;
+  derived = subst (λ ls. AreDerived formula ls) (sym new_is) (derived_more formula lines line is.derived good);
+}
+
+-- a new solver
+pub solver_new : (formula : Formula) (ids given : List ℕ) (lemmas lines : List LogLine) (put clauses : List (List SatLit)) → All (λ id. id < length formula.clauses) ids → AreDerived formula lemmas → ArePut formula ids put → clauses ≡ put ++ clauses_of lemmas → given ≡ ids → lines ≡ lemmas → IsSolver formula given lines clauses
+solver_new formula ids given lemmas lines put clauses there derived is clauses_are given_are lines_are =
+    subst (λ g. IsSolver formula g lines clauses) (sym given_are) (subst (λ ls. IsSolver formula ids ls clauses) (sym lines_are) (record {
+      stored = clauses_are ∙ ap (λ cs. cs ++ clauses_of lemmas) is.put;
+      there = there;
+      known = subst (λ (cs : List (List SatLit)). All (AreKnown formula.variables) cs) (sym clauses_are) (All-append (AreKnown formula.variables) put (clauses_of lemmas) is.known (All-map (AreKnown formula.variables) (λ (l : LogLine). l.clause) lemmas (λ k d within. line_known formula (clauses_of (take k lemmas)) (slice_index_or lemmas k d) (derived k d within))));
+      filled = subst (λ (cs : List (List SatLit)). All (λ c. is_empty c ≡ false) cs) is.put is.filled;
+      derived = derived;
+    }))
+
+-- each clause that is looked at is the one of its number
+pub at_number : (formula : Formula) (ids : List ℕ) (lines : List LogLine) → All (λ id. id < length formula.clauses) ids → (k : ℕ) → k < length (active formula ids lines) → (id_at formula ids k < length (formula.clauses ++ clauses_of lines)) × (clause_at (formula.clauses ++ clauses_of lines) (id_at formula ids k) ≡ clause_at (active formula ids lines) k)
+at_number formula ids lines there k within =
+    elim (cases_lt k (length ids)) [
+      | inl early ↦
+          let found = lt-ltb k (length ids) early in
+          let id = slice_index_or ids k 0 in
+          let number : id_at formula ids k ≡ id = ap (λ b. cond b (slice_index_or ids k 0) (length formula.clauses + (k - length ids))) found in
+          let low = there k 0 early in
+          let first = get_or_append_left formula.clauses (clauses_of lines) [] id low in
+          let second = get_or_append_left (wanted formula ids) (clauses_of lines) [] k (omega (arith, early, length-map ids (clause_at formula.clauses))) ∙ get_or-map (clause_at formula.clauses) ids k 0 [] early in
+          (omega (arith, number, low, length-append formula.clauses (clauses_of lines)), ap (clause_at (formula.clauses ++ clauses_of lines)) number ∙ (first ∙ sym second))
+      | inr late ↦
+          let found = le-ltb k (length ids) late in
+          let number : id_at formula ids k ≡ length formula.clauses + (k - length ids) = ap (λ b. cond b (slice_index_or ids k 0) (length formula.clauses + (k - length ids))) found in
+          let size = length-map ids (clause_at formula.clauses) in
+          let second = get_or-append_right (wanted formula ids) (clauses_of lines) (length ids) k [] size late in
+          let first = get_or-append_right formula.clauses (clauses_of lines) (length formula.clauses) (length formula.clauses + (k - length ids)) [] refl (omega arith) in
+          let index : length formula.clauses + (k - length ids) - length formula.clauses ≡ k - length ids = omega arith in
+          (omega (arith, number, within, late, size, length-append formula.clauses (clauses_of lines), length-append (wanted formula ids) (clauses_of lines)), ap (clause_at (formula.clauses ++ clauses_of lines)) number ∙ (first ∙ (ap (λ n. slice_index_or (clauses_of lines) n []) index ∙ sym second)))
+    ]
+
+-- Steps that go through are clauses that are there.
+pub steps_there : (clauses : List (List SatLit)) (made : List SatLit) (steps : List ℕ) → hint_fault clauses made steps ≡ None → (k d : ℕ) → k < length steps → slice_index_or steps k d < length clauses
+steps_there clauses made [] e k d within = absurd (omega (arith, within))
+steps_there clauses made (s ∷ steps) e k d within =
+    elim (cases_lt s (length clauses)) [
+      | inr late ↦ let found = le-ltb s (length clauses) late in absurd (let x : Some fault.UnknownHint ≡ None = sym (ap (λ b. cond b (fault_behind (effect_of made (clause_at clauses s)) steps (λ m. hint_fault clauses (made ++ m ∷ []) steps)) (Some fault.UnknownHint)) found) ∙ e in cc)
+      | inl low ↦ let found = lt-ltb s (length clauses) low in by_place k low (λ m. steps_there clauses (made ++ m ∷ []) steps) (effect_of made (clause_at clauses s)) (sym (ap (λ b. cond b (fault_behind (effect_of made (clause_at clauses s)) steps (λ m. hint_fault clauses (made ++ m ∷ []) steps)) (Some fault.UnknownHint)) found) ∙ e) within
+    ]
+  where
+    by_place : (n : ℕ) → s < length clauses → ((m : SatLit) → hint_fault clauses (made ++ m ∷ []) steps ≡ None → (j e : ℕ) → j < length steps → slice_index_or steps j e < length clauses) → (effect : Effect) → fault_behind effect steps (λ m. hint_fault clauses (made ++ m ∷ []) steps) ≡ None → n < length (s ∷ steps) → slice_index_or (s ∷ steps) n d < length clauses
+    by_place zero low rest effect goes h = low
+    by_place (suc n) low rest (Makes m) goes h = rest m goes n d (omega (arith, h))
+    by_place (suc n) low rest Neither goes h = absurd (let x : Some fault.NotUnit ≡ None = goes in cc)
+    by_place (suc n) low rest Conflict goes h = ends steps goes (omega (arith, h))
+      where
+        ends : (left : List ℕ) → fault_behind Conflict left (λ m. hint_fault clauses (made ++ m ∷ []) left) ≡ None → n < length left → slice_index_or left n d < length clauses
+        ends [] goes' h' = absurd (omega (arith, h'))
+        ends (x ∷ left) goes' h' = absurd (let y : Some fault.AfterConflict ≡ None = goes' in cc)
+
+-- the hints of steps go through as the steps do
+pub hints_follow : (clauses all : List (List SatLit)) (number : ℕ → ℕ) → ((k : ℕ) → k < length clauses → (number k < length all) × (clause_at all (number k) ≡ clause_at clauses k)) → (made : List SatLit) (steps : List ℕ) → hint_fault clauses made steps ≡ None → hint_fault all made (map number steps) ≡ None
+hints_follow clauses all number same made [] e = e
+hints_follow clauses all number same made (s ∷ steps) e =
+    elim (cases_lt s (length clauses)) [
+      | inr late ↦ let found = le-ltb s (length clauses) late in absurd (let x : Some fault.UnknownHint ≡ None = sym (ap (λ b. cond b (fault_behind (effect_of made (clause_at clauses s)) steps (λ m. hint_fault clauses (made ++ m ∷ []) steps)) (Some fault.UnknownHint)) found) ∙ e in cc)
+      | inl low ↦
+          let found = lt-ltb s (length clauses) low in
+          let there = same s low in
+          let after = sym (ap (λ b. cond b (fault_behind (effect_of made (clause_at clauses s)) steps (λ m. hint_fault clauses (made ++ m ∷ []) steps)) (Some fault.UnknownHint)) found) ∙ e in
+          ap (λ b. cond b (fault_behind (effect_of made (clause_at all (number s))) (map number steps) (λ m. hint_fault all (made ++ m ∷ []) (map number steps))) (Some fault.UnknownHint)) (lt-ltb (number s) (length all) there.0)
+          ∙ (ap (λ c. fault_behind (effect_of made c) (map number steps) (λ m. hint_fault all (made ++ m ∷ []) (map number steps))) there.1
+          ∙ by_effect (effect_of made (clause_at clauses s)) steps (λ m left. hints_follow clauses all number same (made ++ m ∷ []) steps left) after)
+    ]
+  where
+    by_effect : (effect : Effect) (left : List ℕ) → ((m : SatLit) → hint_fault clauses (made ++ m ∷ []) steps ≡ None → hint_fault all (made ++ m ∷ []) (map number steps) ≡ None) → fault_behind effect left (λ m. hint_fault clauses (made ++ m ∷ []) steps) ≡ None → fault_behind effect (map number left) (λ m. hint_fault all (made ++ m ∷ []) (map number steps)) ≡ None
+    by_effect Conflict [] rest goes = refl
+    by_effect Conflict (x ∷ left) rest goes = absurd (let y : Some fault.AfterConflict ≡ None = goes in cc)
+    by_effect (Makes m) left rest goes = rest m goes
+    by_effect Neither left rest goes = absurd (let y : Some fault.NotUnit ≡ None = goes in cc)

@@ -1,0 +1,110 @@
+-- One step of a search: a line is learned from a conflict.
+use Rattle.std.proofs.Common.{◌≡◌, ℕ, zero, suc, ◌-◌, ◌<◌, ◌≤◌, false, List, [], ◌∷◌, ◌++◌, length, map, take, All, Result, Ok, Err, IfErr, nat_lt, slice_index_or, slice_set, refl, sym, ◌∙◌, ap, subst, arith}
+use Rattle.std.specs.Result.{IsErrAnd}
+use Rattle.std.specs.List.{list_any, list_all}
+use Rattle.std.proofs.lemmas.Bool.{lt-ltb, or_parts}
+use Rattle.std.proofs.lemmas.List.{get_or_at, get_or-set_same, length-append, length-set, set-set, take_at}
+use Rattle.std.proofs.lemmas.List.Elements.{All-append}
+use Rattle.std.proofs.lemmas.List.Recursion.{and_from_places}
+use Rattle.cnf_core.specs.declared.literal.SatLit.{SatLit}
+use Rattle.cnf_core.specs.declared.log.LogLine.{LogLine}
+use Rattle.cnf_core.specs.declared.stop.Stop.{Stop}
+use Rattle.cnf_core.specs.declared.stop.Stop.TheVariants.{Spent, Memory}
+use Rattle.cnf_core.specs.Clauses.{Formula, clause_at, opposite, variable_of}
+use Rattle.cnf_core.specs.Derivations.{clauses_of, hint_fault, is_empty}
+use Rattle.trail_core.specs.Trails.{Trailing}
+use Rattle.query_core.specs.declared.ledger.Asked.{Asked}
+use Rattle.query_core.specs.Ledgers.{IsRefused, Ledgered, last_asked, nothing_asked, with_line, with_lines}
+use Rattle.learn_solver.specs.Analyses.{IsLearnedAs, has_all}
+use Rattle.learn_solver.specs.Solvers.{IsAdded, IsAsking, IsExtended, IsSolver, IsStopped, Solving, active, id_at, wanted}
+use Rattle.learn_solver.specs.Searches.{IsLesson, IsSearching, last_line, no_line}
+use Rattle.learn_solver.proofs.SolverLemmas.{at_number, hints_follow, line_from}
+
+abbrev no_literal : SatLit
+no_literal = record { 0 = 0 }
+
+-- none of the clauses that are looked at is empty
+none_empty : (cs : List (List SatLit)) → list_any is_empty cs ≡ false → (k : ℕ) (d : List SatLit) → k < length cs → is_empty (slice_index_or cs k d) ≡ false
+none_empty [] e k d within = absurd (omega (arith, within))
+none_empty (c ∷ cs) e zero d within = (or_parts (is_empty c) (list_any is_empty cs) e).0
+none_empty (c ∷ cs) e (suc k) d within = none_empty cs (or_parts (is_empty c) (list_any is_empty cs) e).1 k d (omega (arith, within))
+
+pub all_filled : (formula : Formula) (ids : List ℕ) (lines : List LogLine) (clauses : List (List SatLit)) → IsSolver formula ids lines clauses → list_any is_empty (clauses_of lines) ≡ false → All (λ c. is_empty c ≡ false) clauses
+all_filled formula ids lines clauses is unrefuted =
+    subst (λ (cs : List (List SatLit)). All (λ c. is_empty c ≡ false) cs) (sym is.stored) (All-append (λ c. is_empty c ≡ false) (wanted formula ids) (clauses_of lines) is.filled (none_empty (clauses_of lines) unrefuted))
+
+-- what was learned is a lesson
+pub lesson_from : (s : Solving) (t : Trailing) (clauses : List (List SatLit)) (line : LogLine) (steps : List ℕ) (level : ℕ) → IsSolver s.formula s.ids s.lines clauses → IsSearching s t → IsLearnedAs clauses t line.clause steps level → line.hints ≡ map (id_at s.formula s.ids) steps → IsLesson s t line level
+lesson_from s t clauses line steps level is searching learned hints = record {
+  good = line_from s.formula (clauses_of s.lines) line (record {
+    unclosed = searching.unrefuted;
+    known = and_from_places (list_all (λ l. nat_lt (variable_of l) s.formula.variables)) (λ l. nat_lt (variable_of l) s.formula.variables) refl (λ _ _. refl) line.clause no_literal (λ k within. lt-ltb (variable_of (slice_index_or line.clause k no_literal)) s.formula.variables (omega (arith, learned.known k no_literal within, searching.variables)));
+    once = learned.once;
+    hints = ap (hint_fault (s.formula.clauses ++ clauses_of s.lines) (map opposite line.clause)) hints ∙ hints_follow clauses (s.formula.clauses ++ clauses_of s.lines) (id_at s.formula s.ids) same (map opposite line.clause) steps learned.derived;
+  });
+  fresh = subst (λ (cs : List (List SatLit)). All (λ c. has_all line.clause c ≡ false) cs) is.stored learned.fresh;
+  low = learned.low;
+  not_single = learned.not_single;
+}
+  where
+    same : (k : ℕ) → k < length clauses → (id_at s.formula s.ids k < length (s.formula.clauses ++ clauses_of s.lines)) × (clause_at (s.formula.clauses ++ clauses_of s.lines) (id_at s.formula s.ids k) ≡ clause_at clauses k)
+    same k within =
+        let there = at_number s.formula s.ids s.lines is.there k (omega (arith, within, ap length is.stored)) in
+        (there.0, there.1 ∙ ap (λ cs. clause_at cs k) (sym is.stored))
+
+-- the last of lines with one more
+pub last_is : (lines : List LogLine) (line : LogLine) → last_line (lines ++ line ∷ []) ≡ line
+last_is lines line = get_or_at lines line [] no_line (length (lines ++ line ∷ []) - 1) (omega (arith, length-append lines (line ∷ [])))
+
+-- lines given twice to the last entry
+pub lines_twice : (asked : List Asked) (first second : List LogLine) → 0 < length asked → with_lines second (with_lines first asked) ≡ with_lines second asked
+lines_twice asked first second there =
+    let at = length asked - 1 in
+    let e = last_asked asked in
+    let size = length-set asked at (record e { lines = first }) in
+    let last : length (with_lines first asked) - 1 ≡ at = omega (arith, size) in
+    let entry : last_asked (with_lines first asked) ≡ record e { lines = first } = ap (λ k. slice_index_or (with_lines first asked) k nothing_asked) last ∙ get_or-set_same asked at (record e { lines = first }) nothing_asked (omega (arith, there)) in
+    ap (λ k. slice_set (with_lines first asked) k (record (last_asked (with_lines first asked)) { lines = second })) last
+    ∙ (ap (λ (x : Asked). slice_set (with_lines first asked) at (record x { lines = second })) entry ∙ set-set asked at (record e { lines = first }) (record e { lines = second }))
+
+pub last_lines : (asked : List Asked) (lines : List LogLine) → 0 < length asked → (last_asked (with_lines lines asked)).lines ≡ lines
+last_lines asked lines there =
+    let at = length asked - 1 in
+    let e = last_asked asked in
+    let last : length (with_lines lines asked) - 1 ≡ at = omega (arith, length-set asked at (record e { lines = lines })) in
+    ap (λ k. (slice_index_or (with_lines lines asked) k nothing_asked).lines) last ∙ ap (λ (x : Asked). x.lines) (get_or-set_same asked at (record e { lines = lines }) nothing_asked (omega (arith, there)))
+
+-- one line was added
+pub extended_one : (old new : Solving) (line : LogLine) (first after : Ledgered) → IsAsking first old.lines → new ≡ record old { lines = old.lines ++ line ∷ [] } → IsAdded old.formula old.ids old.lines line → after.budget ≡ first.budget → after.asked ≡ with_line (last_line new.lines) first.asked → IsExtended old new first after
+extended_one old new line first after asking added fresh budget asked =
+    let lines : new.lines ≡ old.lines ++ line ∷ [] = ap (λ (s : Solving). s.lines) added in
+    let last : last_line new.lines ≡ line = ap last_line lines ∙ last_is old.lines line in
+    record {
+      formula = ap (λ (s : Solving). s.formula) added;
+      ids = ap (λ (s : Solving). s.ids) added;
+      longer = omega (arith, ap length lines, length-append old.lines (line ∷ []));
+      kept = ap (take (length old.lines)) lines ∙ take_at old.lines (line ∷ []) (length old.lines) refl;
+      added = subst (λ (ls : List LogLine). (k : ℕ) (d : LogLine) → length old.lines ≤ k → k < length ls → IsAdded old.formula old.ids (take k ls) (slice_index_or ls k d)) (sym lines) one;
+      budget = budget;
+      asked = asked ∙ (ap (λ (ls : List LogLine). with_lines (ls ++ last_line new.lines ∷ []) first.asked) asking.lines_are ∙ (ap (λ l. with_lines (old.lines ++ l ∷ []) first.asked) last ∙ ap (λ ls. with_lines ls first.asked) (sym lines)));
+    }
+  where
+    one : (k : ℕ) (d : LogLine) → length old.lines ≤ k → k < length (old.lines ++ line ∷ []) → IsAdded old.formula old.ids (take k (old.lines ++ line ∷ [])) (slice_index_or (old.lines ++ line ∷ []) k d)
+    one k d late within =
+        let here : k ≡ length old.lines = omega (arith, late, within, length-append old.lines (line ∷ [])) in
+        subst (λ (l : LogLine). IsAdded old.formula old.ids (take k (old.lines ++ line ∷ [])) l) (sym (get_or_at old.lines line [] d k (sym here))) (subst (λ ls. IsAdded old.formula old.ids ls line) (sym (take_at old.lines (line ∷ []) k (sym here))) fresh)
+
+-- a line that is refused ends the search
+pub stopped_one : (old new : Solving) (line : LogLine) (first after : Ledgered) (stop : Stop) → IsAsking first old.lines → new ≡ record old { lines = old.lines ++ line ∷ [] } → IsAdded old.formula old.ids old.lines line → IsRefused first (last_line new.lines) after stop → IsStopped old new first after stop
+stopped_one old new line first after Memory asking added fresh refused = tt
+stopped_one old new line first after (Spent learned) asking added fresh refused = record {
+  extended = extended_one old new line first after asking added fresh (ap (λ (l : Ledgered). l.budget) refused.refused) (ap (λ (l : Ledgered). l.asked) refused.refused);
+  learned_is = refused.learned_is;
+  spent = ap (λ (l : Ledgered). l.spent) refused.refused;
+  used = refused.counted;
+}
+
+-- a stop that is passed on
+pub passed_on : {T : Type 0} (r : Result T Stop) (stop : Stop) (P : Stop → Type 0) → IsErrAnd r (λ e. e ≡ stop) → P stop → IfErr r P
+passed_on (Ok x) stop P is holds = tt
+passed_on (Err e) stop P is holds = subst P (sym is) holds

@@ -1,0 +1,115 @@
+-- What is learned from a conflict, and how far an analysis has come (Marques-Silva and Sakallah, GRASP, 1999).
+use Rattle.std.specs.Prelude.{◌≡◌, ℕ, ◌<◌, ◌≤◌, ◌==◌, ◌&&◌, Bool, true, false, List, [], length, map, take, filter, reverse, All, None, count_by, if◌then◌else◌}
+use Rattle.std.specs.List.{list_all}
+use Rattle.circuits.specs.Literals.{bit}
+use Rattle.cnf_core.specs.declared.literal.SatLit.{SatLit}
+use Rattle.cnf_core.specs.declared.effect.Effect.TheVariants.{Neither}
+use Rattle.cnf_core.specs.Clauses.{opposite, variable_of}
+use Rattle.cnf_core.specs.Derivations.{effect_of, hint_fault, is_true, repeats_variable}
+use Rattle.trail_core.specs.declared.assigned.Assigned.{Assigned}
+use Rattle.trail_core.specs.Trails.{Trailing, entry_at}
+use Rattle.learn_solver.specs.declared.conflict.Analysis.{Analysis}
+use Rattle.learn_solver.specs.declared.conflict.Learned.{Learned}
+use Rattle.learn_solver.specs.Propagations.{AreKnown, before}
+
+-- whether a clause has all the literals of another
+abbrev pub has_all : List SatLit → List SatLit → Bool
+has_all clause other = list_all (is_true clause) other
+
+-- how many literals of the present level a learned clause keeps
+abbrev pub kept_here : ℕ → ℕ
+kept_here level = if level == 0 then 0 else 1
+
+-- What is learned: a clause without a repeated variable that the steps derive, and that has all the literals of none of
+-- the clauses. It is empty at level 0. At each decision up to the level to go back to it left more than a single
+-- literal.
+pub record IsLearnedAs (clauses : List (List SatLit)) (trail : Trailing) (clause : List SatLit) (steps : List ℕ) (level : ℕ)
+    : Type 0 where
+  pub derived : hint_fault clauses (map opposite clause) steps ≡ None
+  pub once : repeats_variable clause ≡ false
+  pub known : AreKnown trail.variables clause
+  pub fresh : All (λ other. has_all clause other ≡ false) clauses
+  pub closing : trail.level ≡ 0 → clause ≡ []
+  pub low : level ≤ trail.level
+  pub not_single : (k : ℕ)
+      → k < length trail.entries
+      → (entry_at trail.entries k).reason ≡ None
+      → (entry_at trail.entries k).level ≤ level
+      → effect_of (before trail.entries k) clause ≡ Neither
+
+abbrev pub IsLearned : List (List SatLit) → Trailing → Learned → Type 0
+IsLearned clauses trail learned = IsLearnedAs clauses trail learned.clause learned.steps.items learned.level
+
+-- whether an entry's variable is marked
+abbrev pub is_marked : List Bool → Assigned → Bool
+is_marked marked entry = bit marked (variable_of entry.literal)
+
+-- how many of the first so many literals are marked and of the present level
+abbrev pub here_in : Trailing → List Bool → ℕ → ℕ
+here_in trail marked place =
+    count_by (λ entry. is_marked marked entry && (entry.level == trail.level)) (take place trail.entries)
+
+-- the marked ones of the first so many literals
+abbrev pub kept_literals : List Assigned → List Bool → ℕ → List SatLit
+kept_literals entries marked place = filter (λ literal. bit marked (variable_of literal)) (before entries place)
+
+-- a variable's literal stands before a place
+pub record HasPlace (entries : List Assigned) (place variable : ℕ) : Type 0 where
+  pub at : ℕ
+  pub early : at < place
+  pub within : at < length entries
+  pub there : variable_of (entry_at entries at).literal ≡ variable
+
+-- so do those of all of a clause's variables
+abbrev pub AreBefore : List Assigned → ℕ → List SatLit → Type 0
+AreBefore entries place clause = All (λ literal. HasPlace entries place (variable_of literal)) clause
+
+-- all of a clause's variables are marked
+abbrev pub AreMarked : List Bool → List SatLit → Type 0
+AreMarked marked clause = All (λ literal. bit marked (variable_of literal) ≡ true) clause
+
+-- what was marked stays so
+abbrev pub StayMarked : List Bool → List Bool → Type 0
+StayMarked old new = (variable : ℕ) → bit old variable ≡ true → bit new variable ≡ true
+
+-- these are true: the marked ones of the first so many literals, and at most all of the first so many
+pub record IsBetween (entries : List Assigned) (marked : List Bool) (place : ℕ) (made : List SatLit) : Type 0 where
+  pub needed : (k : ℕ)
+      → k < place
+      → k < length entries
+      → is_marked marked (entry_at entries k) ≡ true
+      → is_true made (entry_at entries k).literal ≡ true
+  pub within : (literal : SatLit) → is_true made literal ≡ true → is_true (before entries place) literal ≡ true
+
+-- How far an analysis has come: wherever the marked literals that are left are true, and no later ones, the steps lead
+-- to the conflict.
+pub record IsAnalysed (clauses : List (List SatLit)) (trail : Trailing) (marked : List Bool) (below here : ℕ) (steps : List ℕ)
+    : Type 0 where
+  pub size : length marked ≡ trail.variables
+  pub within : below ≤ length trail.entries
+  pub count : here ≡ here_in trail marked below
+  pub present : 0 < trail.level → 0 < here
+  pub derives : (made : List SatLit)
+      → IsBetween trail.entries marked below made
+      → hint_fault clauses made (reverse steps) ≡ None
+
+abbrev pub IsAnalysis : List (List SatLit) → Trailing → Analysis → Type 0
+IsAnalysis clauses trail analysis =
+    IsAnalysed clauses trail analysis.marked.items analysis.below analysis.here analysis.steps.items
+
+-- A marked literal of the first so many has this level, which is below the present one.
+pub record IsReached (trail : Trailing) (marked : List Bool) (place level : ℕ) : Type 0 where
+  pub at : ℕ
+  pub early : at < place
+  pub marked_there : is_marked marked (entry_at trail.entries at) ≡ true
+  pub level_there : (entry_at trail.entries at).level ≡ level
+  pub below : level < trail.level
+
+-- The level to go back to: the greatest one below the present one among the marked literals of the first so many, or 0.
+pub record IsBackLevel (trail : Trailing) (marked : List Bool) (place level : ℕ) : Type 0 where
+  pub most : (k : ℕ)
+      → k < place
+      → is_marked marked (entry_at trail.entries k) ≡ true
+      → (entry_at trail.entries k).level < trail.level
+      → (entry_at trail.entries k).level ≤ level
+  pub reached : 0 < level → IsReached trail marked place level

@@ -1,0 +1,78 @@
+-- Where a search stands.
+use Rattle.std.specs.Prelude.{◌≡◌, ◌≢◌, ℕ, ◌+◌, ◌-◌, ◌*◌, ◌<◌, ◌≤◌, ◌++◌, ◌∷◌, Bool, true, false, List, [], length, All, Option, None, Some, slice_index_or}
+use Rattle.std.specs.List.{list_any}
+use Rattle.cnf_core.specs.declared.log.LogLine.{LogLine}
+use Rattle.cnf_core.specs.Clauses.{literal_of}
+use Rattle.cnf_core.specs.declared.effect.Effect.TheVariants.{Neither}
+use Rattle.cnf_core.specs.Derivations.{clauses_of, effect_of, is_empty, is_true, line_fault}
+use Rattle.query_core.specs.Ledgers.{Ledgered, learned_in, with_line}
+use Rattle.trail_core.specs.Trails.{Trailing, entry_at, literals, value_in}
+use Rattle.learn_solver.specs.Propagations.{IsSound, before}
+use Rattle.learn_solver.specs.Analyses.{has_all}
+use Rattle.learn_solver.specs.Solvers.{IsAdded, Solving, active}
+
+-- each variable is assigned
+abbrev pub IsTotal : Trailing → Type 0
+IsTotal trail = (v : ℕ) → v < trail.variables → value_in (literals trail.entries) (literal_of v false) ≢ None
+
+-- the value of each variable
+pub record AreValues (trail : Trailing) (values : List Bool) : Type 0 where
+  pub count : length values ≡ trail.variables
+  pub each : (v : ℕ) (d : Bool)
+      → v < length values
+      → slice_index_or values v d ≡ is_true (literals trail.entries) (literal_of v true)
+
+-- A search is under way: no line is empty, and the trail is sound for the clauses that are looked at.
+pub record IsSearching (solving : Solving) (trail : Trailing) : Type 0 where
+  pub variables : trail.variables ≡ solving.formula.variables
+  pub unrefuted : list_any is_empty (clauses_of solving.lines) ≡ false
+  pub sound : IsSound (active solving.formula solving.ids solving.lines) trail
+
+abbrev pub no_line : LogLine
+no_line = record { clause = []; hints = [] }
+
+-- the last of some lines
+abbrev pub last_line : List LogLine → LogLine
+last_line lines = slice_index_or lines (length lines - 1) no_line
+
+-- A derived line that has all the literals of no clause that is looked at, and the level to go back to with it.
+pub record IsLesson (solving : Solving) (trail : Trailing) (line : LogLine) (level : ℕ) : Type 0 where
+  pub good : line_fault solving.formula (clauses_of solving.lines) line ≡ None
+  pub fresh : All (λ clause. has_all line.clause clause ≡ false) (active solving.formula solving.ids solving.lines)
+  pub low : level ≤ trail.level
+  pub not_single : (k : ℕ)
+      → k < length trail.entries
+      → (entry_at trail.entries k).reason ≡ None
+      → (entry_at trail.entries k).level ≤ level
+      → effect_of (before trail.entries k) line.clause ≡ Neither
+
+-- the level to go back to, or none where the line is empty
+abbrev pub IsWayBack : Solving → Trailing → LogLine → Option ℕ → Type 0
+IsWayBack solving trail line None = is_empty line.clause ≡ true
+IsWayBack solving trail line (Some level) = (is_empty line.clause ≡ false) × IsLesson solving trail line level
+
+-- A line was learned and charged.
+pub record IsLearnt (old new : Solving) (first after : Ledgered) (trail : Trailing) (back : Option ℕ) : Type 0 where
+  pub line : LogLine
+  pub learned_is : IsAdded old.formula old.ids old.lines line
+  pub added : new ≡ record old { lines = old.lines ++ line ∷ [] }
+  pub charged : after ≡ record first { asked = with_line line first.asked }
+  pub within : learned_in first < first.budget
+  pub counted : learned_in after ≡ learned_in first + 1
+  pub way : IsWayBack old trail line back
+
+-- A trail has one literal more at least, and is sound.
+pub record IsDecided (solving : Solving) (old new : Trailing) : Type 0 where
+  pub searching : IsSearching solving new
+  pub longer : length old.entries < length new.entries
+  pub most : length new.entries ≤ new.variables
+
+-- how much is left to do: each line that may be learned, and in between each variable that may be assigned
+abbrev pub remaining : Ledgered → Trailing → ℕ
+remaining ledger trail =
+    (trail.variables + 1) * (ledger.budget + 1 - learned_in ledger) + (trail.variables - length trail.entries)
+
+-- The search goes on, with less to do.
+pub record IsAdvanced (solving : Solving) (first after : Ledgered) (old new : Trailing) : Type 0 where
+  pub searching : IsSearching solving new
+  pub less : remaining after new < remaining first old

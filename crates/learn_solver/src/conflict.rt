@@ -1,0 +1,220 @@
+//! Analysis of a conflict: the clause that is learned from it.
+
+ghost use Rattle.std.specs.Prelude.{◌≡◌, ◌+◌, ◌<◌, ◌≤◌, ◌==◌, false, All, IfOk, OnOk, length, map, replicate, ℕ, if◌then◌else◌};
+ghost use Rattle.cnf_core.specs.Clauses.{opposite};
+ghost use Rattle.cnf_core.specs.Derivations.{is_empty};
+ghost use Rattle.trail_core.specs.Trails.{IsPlace, IsTrail, entry_at, literals};
+ghost use Rattle.learn_solver.specs.Propagations.{AreKnown, IsConflict, IsSound};
+ghost use Rattle.learn_solver.specs.Analyses.{AreBefore, AreMarked, HasPlace, IsAnalysis, IsBackLevel, IsLearned, StayMarked, here_in, kept_literals, kept_here};
+
+use cnf_core::{ClauseStore, SatLit};
+use items::Items;
+use std::alloc::{AllocError, Global};
+use trail_core::Trail;
+
+/// What is learned from a conflict: a clause that follows, the numbers of the clauses that derive it in the order in which
+/// they are used, and the level to go back to, at which the clause leaves a single literal.
+#[derive(Debug, Drop)]
+pub(crate) struct Learned {
+    pub(crate) clause: Items<SatLit>,
+    pub(crate) steps: Vec<u64>,
+    pub(crate) level: u64,
+}
+
+/// How far an analysis has come, from the end of the trail down. The marked variables are those of the clause that is
+/// resolved so far; those whose literals stand before `below` are left.
+#[derive(Debug, Drop)]
+struct Analysis {
+    marked: Vec<bool>,
+    below: u64,
+    /// How many marked literals before `below` are of the present level.
+    here: u64,
+    /// The clauses that were resolved, the last one to be used first.
+    steps: Vec<u64>,
+}
+
+/// Learns from a clause all of whose literals are false. The clause is resolved with reasons, from the last literal of the
+/// trail down, up to the first literal of the level through which all of the conflict goes (the first unique implication
+/// point; Marques-Silva and Sakallah, GRASP, 1999). At level 0 everything is resolved.
+pub(crate) fn analyse(
+    alloc: Global,
+    clauses: &ClauseStore,
+    trail: &Trail,
+    variables: u64,
+    conflict: u64,
+) -> Result<Learned, AllocError>
+    requires variables { variables ≡ trail.now.variables }
+    requires known { All (AreKnown trail.now.variables) clauses.now.clauses }
+    requires filled { All (λ clause. is_empty clause ≡ false) clauses.now.clauses }
+    requires sound { IsSound clauses.now.clauses trail.now }
+    requires conflict { IsConflict clauses.now.clauses (literals trail.now.entries) conflict }
+    ensures { IfOk result (IsLearned clauses.now.clauses trail.now) }
+{
+    let mut analysis = Analysis::start(alloc, clauses, trail, variables, conflict)?;
+    let kept = kept_here(trail.level());
+    while analysis.here > kept {
+        analysis.step(clauses, trail)?;
+    }
+    analysis.finish(alloc, clauses, trail)
+}
+
+// How many literals of the present level a learned clause keeps.
+fn kept_here(level: u64) -> u64
+    ensures { result ≡ kept_here level }
+{
+    if level == 0 { 0 } else { 1 }
+}
+
+impl Analysis {
+    // The literals of the conflict are marked.
+    fn start(
+        alloc: Global,
+        clauses: &ClauseStore,
+        trail: &Trail,
+        variables: u64,
+        conflict: u64,
+    ) -> Result<Analysis, AllocError>
+        requires variables { variables ≡ trail.now.variables }
+        requires known { All (AreKnown trail.now.variables) clauses.now.clauses }
+        requires sound { IsSound clauses.now.clauses trail.now }
+        requires conflict { IsConflict clauses.now.clauses (literals trail.now.entries) conflict }
+        ensures { IfOk result (IsAnalysis clauses.now.clauses trail.now) }
+    {
+        let below = trail.len();
+        let mut marked = no_marks(alloc, variables as usize)?;
+        let here = mark(&mut marked, trail, clauses.get(conflict));
+        let mut steps = Vec::new(alloc);
+        steps.push(conflict)?;
+        Ok(Analysis {
+            marked,
+            below,
+            here,
+            steps,
+        })
+    }
+
+    // Looks at the next literal down the trail. A marked one gives way to the other literals of its reason.
+    fn step(&mut self, clauses: &ClauseStore, trail: &Trail) -> Result<(), AllocError>
+        requires trail { IsTrail trail.now }
+        requires sound { IsSound clauses.now.clauses trail.now }
+        requires analysis { IsAnalysis clauses.now.clauses trail.now self.old }
+        requires more { kept_here trail.now.level < self.old.here }
+        ensures analysis { OnOk result (IsAnalysis clauses.now.clauses trail.now self.new) }
+        ensures below { OnOk result (self.new.below + 1 ≡ self.old.below) }
+    {
+        let place = self.below - 1;
+        if self.marked[trail.lit_at(place).variable() as usize] {
+            let Some(reason) = trail.reason_at(place) else {
+                unreachable!()
+            };
+            let more = mark(&mut self.marked, trail, clauses.get(reason));
+            self.here = self.here + more - 1;
+            self.steps.push(reason)?;
+        }
+        self.below = place;
+        Ok(())
+    }
+
+    // What is learned once as few literals of the present level are left as there can be.
+    fn finish(
+        self,
+        alloc: Global,
+        clauses: &ClauseStore,
+        trail: &Trail,
+    ) -> Result<Learned, AllocError>
+        requires trail { IsTrail trail.now }
+        requires filled { All (λ clause. is_empty clause ≡ false) clauses.now.clauses }
+        requires sound { IsSound clauses.now.clauses trail.now }
+        requires analysis { IsAnalysis clauses.now.clauses trail.now self }
+        requires done { self.here ≤ kept_here trail.now.level }
+        ensures { IfOk result (IsLearned clauses.now.clauses trail.now) }
+    {
+        let clause = negated(alloc, trail, &self.marked, self.below)?;
+        let level = back_level(trail, &self.marked, self.below);
+        let mut steps = self.steps;
+        steps.reverse();
+        Ok(Learned {
+            clause,
+            steps,
+            level,
+        })
+    }
+}
+
+fn no_marks(alloc: Global, count: usize) -> Result<Vec<bool>, AllocError>
+    ensures { IfOk result (λ marked. marked.items ≡ replicate count false) }
+{
+    vec![in alloc; false; count]
+}
+
+// Marks the variables of a clause, and counts those of the present level that weren't marked before.
+fn mark(marked: &mut [bool], trail: &Trail, clause: &[SatLit]) -> u64
+    requires size { length marked.old ≡ trail.now.variables }
+    requires trail { IsTrail trail.now }
+    requires places { AreBefore trail.now.entries (length trail.now.entries) clause.now }
+    ensures stay { StayMarked marked.old marked.new }
+    ensures marked { AreMarked marked.new clause.now }
+    ensures here { (place : ℕ) → AreBefore trail.now.entries place clause.now
+        → here_in trail.now marked.new place ≡ here_in trail.now marked.old place + result }
+{
+    let mut here = 0;
+    for literal in clause.iter() {
+        let variable = literal.variable();
+        if !marked[variable as usize] {
+            marked[variable as usize] = true;
+            here += present(trail, variable);
+        }
+    }
+    here
+}
+
+// 1 where the literal of a variable is of the present level, else 0.
+fn present(trail: &Trail, variable: u64) -> u64
+    requires { HasPlace trail.now.entries (length trail.now.entries) variable }
+    ensures { (place : ℕ) → IsPlace trail.now.entries variable place
+        → result ≡ (if (entry_at trail.now.entries place).level == trail.now.level then 1 else 0) }
+{
+    let Some(place) = trail.place(variable) else {
+        unreachable!()
+    };
+    u64::from(trail.level_at(place) == trail.level())
+}
+
+// The opposites of the marked literals before a place.
+fn negated(
+    alloc: Global,
+    trail: &Trail,
+    marked: &[bool],
+    below: u64,
+) -> Result<Items<SatLit>, AllocError>
+    requires trail { IsTrail trail.now }
+    requires size { length marked.now ≡ trail.now.variables }
+    requires within { below ≤ length trail.now.entries }
+    ensures { IfOk result (λ clause. clause ≡ map opposite (kept_literals trail.now.entries marked.now below)) }
+{
+    let mut clause = Items::new(alloc);
+    for place in 0..below {
+        let literal = trail.lit_at(place);
+        if marked[literal.variable() as usize] {
+            clause.push(literal.opposite())?;
+        }
+    }
+    Ok(clause)
+}
+
+// The greatest level below the present one among the marked literals before a place.
+fn back_level(trail: &Trail, marked: &[bool], below: u64) -> u64
+    requires trail { IsTrail trail.now }
+    requires size { length marked.now ≡ trail.now.variables }
+    requires within { below ≤ length trail.now.entries }
+    ensures { IsBackLevel trail.now marked.now below result }
+{
+    let mut level = 0;
+    for place in 0..below {
+        let found = trail.level_at(place);
+        if marked[trail.lit_at(place).variable() as usize] & (found < trail.level()) {
+            level = level.max(found);
+        }
+    }
+    level
+}

@@ -1,0 +1,13 @@
+//! A search for a model of clauses that learns from each conflict and writes down how (conflict-driven clause learning:
+//! Marques-Silva and Sakallah, GRASP, 1999; Eén and Sörensson, MiniSat, 2003; the hints are those of LRAT, Cruz-Filipe and
+//! others, 2017).
+#![tactic(auto)]
+
+mod conflict;
+mod decision;
+mod propagation;
+mod solver;
+mod verdict;
+
+pub use solver::{Solver, solve};
+pub use verdict::Verdict;

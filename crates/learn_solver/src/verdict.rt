@@ -1,0 +1,13 @@
+//! Answers of the solver.
+
+use cnf_core::Log;
+use items::Items;
+
+/// How a search ends.
+#[derive(Debug, Drop)]
+pub enum Verdict {
+    /// A value for each variable: together they meet the clauses.
+    Model(Items<bool>),
+    /// A log that refutes the formula.
+    Refuted(Log),
+}

@@ -1,4 +1,0 @@
-pub mod Comparing
-pub mod ReadLemmas
-pub mod TableLemmas
-pub mod MatchLemmas
