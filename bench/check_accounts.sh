@@ -17,7 +17,6 @@ declare -A verilog=(
   [multiply6]='module m(input [5:0] a, input [5:0] b, output [11:0] y); assign y = a * b; endmodule'
   [multiply7]='module m(input [6:0] a, input [6:0] b, output [13:0] y); assign y = a * b; endmodule'
 )
-"$top/npnp" --help >/dev/null
 "$top/npnp" >/dev/null 2>&1 || true
 for name in adder96 compare48 alu16 multiply6 multiply7; do
   base=$work/$name
