@@ -5,6 +5,7 @@ use Rattle.query_core.specs.declared.claims.Shape.{Shape}
 use Rattle.query_core.specs.declared.claims.Shape.TheVariants.{Up, Down, Swap}
 use Rattle.query_core.specs.Claims.{IsPlaced, BreaksShape}
 use Rattle.word_sim.specs.Columns.{Table, word_bit, vector_at}
+use Rattle.sim_signature.specs.Rounds.{Simulated}
 use Rattle.sim_signature.specs.declared.sighting.Sighting.{Sighting}
 
 -- the vector breaks the shape, whose inputs are there
@@ -20,18 +21,24 @@ IsSighted shape sightings = Any (λ sighting. sighting.shape ≡ shape) sighting
 
 -- the bits of a word that stand for vectors, of the first words of the columns, that break the shape
 abbrev pub AreBreaking : Net → ℕ → Table → Shape → ℕ → Type 0
-AreBreaking net k table shape lanes = (v : ℕ) → v < 64 → (word_bit v lanes ≡ true ↔ BreaksShape net k shape (vector_at table 0 v))
+AreBreaking net k table shape lanes = (v : ℕ) → v < 64
+    → (word_bit v lanes ≡ true ↔ BreaksShape net k shape (vector_at table 0 v))
 
 -- one of the word's vectors is noted, where there is one
 abbrev pub IsNoted : Table → Shape → ℕ → List Sighting → List Sighting → Type 0
 IsNoted table shape lanes old new =
-    ((lanes ≡ 0) × (new ≡ old)) ⊎ ((v : ℕ) × (v < 64) × (word_bit v lanes ≡ true) × (new ≡ old ++ record { shape = shape; vector = vector_at table 0 v } ∷ []))
+    ((lanes ≡ 0) × (new ≡ old))
+    ⊎ ((v : ℕ) × (v < 64) × (word_bit v lanes ≡ true)
+    × (new ≡ old ++ record { shape = shape; vector = vector_at table 0 v } ∷ []))
 
 -- Sightings are added: each shape among those hunted that one of the 64 vectors breaks is sighted.
-pub record Hunted (net : Net) (k : ℕ) (table : Table) (Among : Shape → Type 0) (old new : List Sighting) : Type 0 where
-  pub broken : AreBroken net k old → AreBroken net k new
+pub record Hunted (s : Simulated) (Among : Shape → Type 0) (old new : List Sighting) : Type 0 where
+  pub broken : AreBroken s.net s.output old → AreBroken s.net s.output new
   pub kept : (shape : Shape) → IsSighted shape old → IsSighted shape new
-  pub found : (shape : Shape) → Among shape → (v : ℕ) → v < 64 → BreaksShape net k shape (vector_at table 0 v) → IsSighted shape new
+  pub found : (shape : Shape) → Among shape
+      → (v : ℕ) → v < 64
+      → BreaksShape s.net s.output shape (vector_at s.table 0 v)
+      → IsSighted shape new
 
 -- the shape is of one input, or of two of which it is the first
 abbrev pub IsOfInput : ℕ → Shape → Type 0

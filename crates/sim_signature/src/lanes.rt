@@ -15,8 +15,10 @@ pub(crate) fn first_lane(word: u64) -> Option<u32>
 
 /// The bits of a word at which another word has this value.
 pub(crate) fn picked(word: u64, column: u64, value: bool) -> u64
-    ensures { (v : ℕ) → v < 64 → (word_bit v result ≡ true ↔ ((word_bit v word ≡ true) × (word_bit v column ≡ value))) }
+    ensures { (v : ℕ) → v < 64
+        → (word_bit v result ≡ true ↔ ((word_bit v word ≡ true) × (word_bit v column ≡ value))) }
 {
+    // an inverted column has a 1 where it had a 0, so that one AND picks either value
     let inverted = if value { 0 } else { u64::MAX };
     word & (column ^ inverted)
 }

@@ -3,6 +3,7 @@
 
 mod hunting;
 mod lanes;
+mod round;
 mod sighting;
 mod vectors;
 

@@ -65,7 +65,8 @@ pub(crate) fn with_inverted(inputs: &Words, input: u32) -> Result<Words, AllocEr
     requires input { input < length inputs.now.columns }
     requires words { inputs.now.words ≡ 1 }
     ensures vectors { IfOk result (λ table. (v : ℕ) → v < 64
-        → vector_at table 0 v ≡ with_input input (not (bit (vector_at inputs.now 0 v) input)) (vector_at inputs.now 0 v)) }
+        → vector_at table 0 v
+        ≡ with_input input (not (bit (vector_at inputs.now 0 v) input)) (vector_at inputs.now 0 v)) }
     ensures words { IfOk result (λ table. table.words ≡ 1) }
     ensures columns { IfOk result (λ table. length table.columns ≡ length inputs.now.columns) }
     ensures table { IfOk result IsTable }
