@@ -20,7 +20,8 @@ entry_of query lemmas = record { query = query; lemmas = length lemmas; lines = 
 
 abbrev pub nothing_asked : Asked
 nothing_asked =
-    let cone : Cone = record { side = First; output = 0; feed = [] } in entry_of (record { left = cone; left_value = true; right = cone; right_value = true }) []
+    let cone : Cone = record { side = First; output = 0; feed = [] } in
+    entry_of (record { left = cone; left_value = true; right = cone; right_value = true }) []
 
 -- the last entry
 abbrev pub last_asked : List Asked → Asked
@@ -47,7 +48,8 @@ learned_in ledger = sum_by charged_in ledger.asked - one_if ledger.spent
 
 -- the entries without a last one for which nothing was learned
 abbrev pub charged_front : List Asked → List Asked
-charged_front asked = if length (last_asked asked).lines == (last_asked asked).lemmas then take (length asked - 1) asked else asked
+charged_front asked =
+    if length (last_asked asked).lines == (last_asked asked).lemmas then take (length asked - 1) asked else asked
 
 -- a query is added with its lemmas
 abbrev pub opened : Query → List LogLine → List Asked → List Asked

@@ -11,7 +11,9 @@ place_at places variable = slice_index_or places variable None
 -- What each trail keeps: the place of each literal, and room for all literals.
 pub record IsKept (entries : Vec Assigned Global) (places : List (Option ℕ)) (level walked : ℕ) : Type 0 where
   pub trail : IsTrail (record { variables = length places; entries = entries.items; level = level; walked = walked })
-  pub filled : (k : ℕ) → k < length entries.items → place_at places (variable_of (entry_at entries.items k).literal) ≡ Some k
+  pub filled : (k : ℕ)
+      → k < length entries.items
+      → place_at places (variable_of (entry_at entries.items k).literal) ≡ Some k
   pub told : (v p : ℕ) → v < length places → place_at places v ≡ Some p → IsPlace entries.items v p
   pub room : length places ≤ vec_capacity entries
 
@@ -19,4 +21,6 @@ pub record IsKept (entries : Vec Assigned Global) (places : List (Option ℕ)) (
 pub record IsUnset (old now : List (Option ℕ)) (dropped : List Assigned) (count : ℕ) : Type 0 where
   pub same_length : length now ≡ length old
   pub none : (k : ℕ) → k < count → place_at now (variable_of (entry_at dropped k).literal) ≡ None
-  pub others : (v : ℕ) → ((k : ℕ) → k < count → variable_of (entry_at dropped k).literal ≢ v) → place_at now v ≡ place_at old v
+  pub others : (v : ℕ)
+      → ((k : ℕ) → k < count → variable_of (entry_at dropped k).literal ≢ v)
+      → place_at now v ≡ place_at old v

@@ -1,5 +1,5 @@
--- Trails: assigned literals in order, with levels and reasons (the implication graph of Marques-Silva and Sakallah, GRASP,
--- 1999; the trail of Eén and Sörensson, MiniSat, 2003).
+-- Trails: assigned literals in order, with levels and reasons (the implication graph of Marques-Silva and Sakallah,
+-- GRASP, 1999; the trail of Eén and Sörensson, MiniSat, 2003).
 use Rattle.std.specs.Prelude.{◌≡◌, ◌≢◌, ℕ, ◌+◌, ◌-◌, ◌<◌, ◌≤◌, Bool, true, false, List, length, map, take, Option, None, Some, count_by, is_none, slice_index_or, if◌then◌else◌}
 use Rattle.cnf_core.specs.declared.literal.SatLit.{SatLit}
 use Rattle.cnf_core.specs.Clauses.{variable_of}
@@ -34,8 +34,13 @@ value_in made literal = if is_true made literal then Some true else if is_false 
 -- What each trail is: no variable is assigned twice, and a level is the number of decisions so far.
 pub record IsTrail (trail : Trailing) : Type 0 where
   pub known : (k : ℕ) → k < length trail.entries → variable_of (entry_at trail.entries k).literal < trail.variables
-  pub distinct : (j k : ℕ) → j < k → k < length trail.entries → variable_of (entry_at trail.entries j).literal ≢ variable_of (entry_at trail.entries k).literal
-  pub levels : (k : ℕ) → k < length trail.entries → (entry_at trail.entries k).level ≡ decisions (take (k + 1) trail.entries)
+  pub distinct : (j k : ℕ)
+      → j < k
+      → k < length trail.entries
+      → variable_of (entry_at trail.entries j).literal ≢ variable_of (entry_at trail.entries k).literal
+  pub levels : (k : ℕ)
+      → k < length trail.entries
+      → (entry_at trail.entries k).level ≡ decisions (take (k + 1) trail.entries)
   pub level : trail.level ≡ decisions trail.entries
   pub walked : trail.walked ≤ length trail.entries
 
