@@ -2,5 +2,9 @@
 #![tactic(auto)]
 
 mod conclusion;
+mod fact;
+mod step;
 
 pub use conclusion::Conclusion;
+pub use fact::{Evidence, Fact, FactHead};
+pub use step::{Ban, Step, Tallied};

@@ -1,0 +1,30 @@
+//! Facts about the outputs of two circuits.
+
+use bit_list::Bits;
+use cnf_core::Log;
+use query_core::Claim;
+
+/// Why a claim fails, or why it holds.
+#[derive(Clone, Debug, Drop, PartialEq, Eq)]
+pub enum Evidence {
+    /// The claim fails: this vector breaks it. It has one bit for each input of the claim's circuit.
+    Fails(Bits),
+    /// The claim holds: this log refutes its query.
+    Holds(Log),
+}
+
+/// A claim that was decided.
+#[derive(Clone, Debug, Drop, PartialEq, Eq)]
+pub struct Fact {
+    pub claim: Claim,
+    pub evidence: Evidence,
+}
+
+/// The line of an account that gives a fact. Behind a claim that holds, the lines of its log follow.
+#[derive(Clone, Debug, Drop, PartialEq, Eq)]
+pub enum FactHead {
+    /// The claim fails: the vector of these bits breaks it.
+    Fails { claim: Claim, bits: Bits },
+    /// The claim holds.
+    Holds { claim: Claim },
+}
