@@ -1,7 +1,7 @@
 //! That valid steps exclude what their bans say: no match has all pairs of a ban. Each function does nothing; its contract is
 //! the law.
 
-ghost use Rattle.std.specs.Prelude.{ℕ, ◌≡◌, ◌<◌, ◌↔◌, List, [], All, Option};
+ghost use Rattle.std.specs.Prelude.{ℕ, ◌≡◌, ◌<◌, List, [], All, Option};
 ghost use Rattle.circuits.specs.declared.port.Pair.{Pair as AnyPair};
 ghost use Rattle.circuits.specs.declared.port.PortKind.{PortKind as AnyKind};
 ghost use Rattle.circuits.specs.declared.port.PortKind.TheVariants.{Input};
@@ -9,21 +9,16 @@ ghost use Rattle.circuits.specs.Matches.{HaveNpnpEqualFunctions};
 ghost use Rattle.circuits.specs.Netlists.{Net};
 ghost use Rattle.net_core.specs.Graph.{IsGraph};
 ghost use Rattle.net_core.specs.declared.graphs.Graphs.{Graphs as TwoGraphs};
-ghost use Rattle.query_core.specs.Claims.{IsClaim, Holds};
-ghost use Rattle.query_core.specs.declared.claims.Claim.{Claim as AnyClaim};
 ghost use Rattle.query_core.specs.Images.{Agree};
 ghost use Rattle.word_sim.specs.declared.tri.Tri.{Tri as AnyTri};
 ghost use Rattle.account_core.specs.declared.step.Ban.{Ban as AnyBan};
 ghost use Rattle.account_core.specs.declared.step.Tallied.{Tallied as AnyTallied};
 ghost use Rattle.account_core.specs.Covers.{AreCoverNames, IsCover};
 ghost use Rattle.account_core.specs.Exclusions.{Excludes, AreRight};
-ghost use Rattle.account_core.specs.declared.fact.FactHead.{FactHead as AnyHead};
-ghost use Rattle.account_core.specs.declared.fact.FactHead.TheVariants as head;
-ghost use Rattle.account_core.specs.Facts.{IsClaimKnown, IsInOrder, IsValidFact};
-ghost use Rattle.account_core.specs.Given.{told_by, Decided, Given, IsFactGiven, IsTrueFact, pairs_of, with_more};
+ghost use Rattle.account_core.specs.Given.{Decided, Given, IsFactGiven, IsTrueFact, pairs_of, with_more};
 ghost use Rattle.account_core.specs.Mismatches.{IsMismatch};
 ghost use Rattle.account_core.specs.Ports.{AreOrdered, HaveAsMany};
-ghost use Rattle.account_core.specs.Steps.{AreValidBans, IsValidBan, NamesUnknown, BreaksRule, ShowsNothing};
+ghost use Rattle.account_core.specs.Steps.{AreValidBans, IsValidBan};
 ghost use Rattle.account_core.specs.Tallies.{IsTally};
 ghost use Rattle.account_core.specs.Vectors.{ShowsDifference, AreSent, values_sent};
 
@@ -68,20 +63,6 @@ pub fn cover_excludes()
         → AreCoverNames graphs given kind from to refs
         → IsCover graphs given pairs kind from to refs
         → Excludes graphs pairs }
-{}
-
-/// A claim is well placed exactly where its output and inputs exist, and a swap names its lesser input first.
-pub fn claims_by_parts()
-    ensures { (graphs : TwoGraphs) (claim : AnyClaim)
-        → (IsClaim graphs claim ↔ (IsClaimKnown graphs claim × IsInOrder claim.shape)) }
-{}
-
-/// The line of a fact that is valid gives a true fact: always where the claim fails, and where it holds as soon as that is so.
-pub fn valid_fact_is_true()
-    ensures { (graphs : TwoGraphs) (fact : AnyHead)
-        → IsValidFact graphs fact
-        → ((claim : AnyClaim) → fact ≡ head.Holds claim → Holds graphs claim)
-        → IsTrueFact graphs (told_by fact) }
 {}
 
 /// A ban that is valid in view of true facts, and of bans that no match extends, is extended by no match either.
@@ -144,32 +125,4 @@ pub fn sent_values()
     ensures only { (pairs : List AnyPair) (n : ℕ) (values sent : List AnyTri)
         → AreSent pairs n values sent
         → sent ≡ values_sent pairs n values }
-{}
-
-/// A ban has one of four: a name that isn't known, a broken rule, a vector that shows nothing, or validity.
-pub fn one_fault_of_a_ban()
-    ensures valid_or_unknown { (graphs : TwoGraphs) (given : Given) (ban : AnyBan)
-        → IsValidBan graphs given ban
-        → NamesUnknown graphs given ban
-        → ⊥ }
-    ensures valid_or_broken { (graphs : TwoGraphs) (given : Given) (ban : AnyBan)
-        → IsValidBan graphs given ban
-        → BreaksRule graphs given ban
-        → ⊥ }
-    ensures valid_or_nothing_shown { (graphs : TwoGraphs) (given : Given) (ban : AnyBan)
-        → IsValidBan graphs given ban
-        → ShowsNothing graphs given ban
-        → ⊥ }
-    ensures unknown_or_broken { (graphs : TwoGraphs) (given : Given) (ban : AnyBan)
-        → NamesUnknown graphs given ban
-        → BreaksRule graphs given ban
-        → ⊥ }
-    ensures unknown_or_nothing_shown { (graphs : TwoGraphs) (given : Given) (ban : AnyBan)
-        → NamesUnknown graphs given ban
-        → ShowsNothing graphs given ban
-        → ⊥ }
-    ensures broken_or_nothing_shown { (graphs : TwoGraphs) (given : Given) (ban : AnyBan)
-        → BreaksRule graphs given ban
-        → ShowsNothing graphs given ban
-        → ⊥ }
 {}
