@@ -1,5 +1,5 @@
-//! That valid steps exclude what their bans say: no match has all pairs of a ban. Each function does nothing; its contract is
-//! the law.
+//! That valid steps exclude what their bans say: no match has all pairs of a ban. Each function does nothing; its
+//! contract is the law.
 
 ghost use Rattle.std.specs.Prelude.{ℕ, ◌≡◌, ◌<◌, List, [], All, Option};
 ghost use Rattle.circuits.specs.declared.port.Pair.{Pair as AnyPair};
@@ -22,8 +22,8 @@ ghost use Rattle.account_core.specs.Steps.{AreValidBans, IsValidBan};
 ghost use Rattle.account_core.specs.Tallies.{IsTally};
 ghost use Rattle.account_core.specs.Vectors.{ShowsDifference, AreSent, values_sent};
 
-/// Values on which an output and its partner are both definite, and differ by the sign of their pair, exclude the pairs: a
-/// match would give both outputs these values on each vector that fills the X in.
+/// Values on which an output and its partner are both definite, and differ by the sign of their pair, exclude the
+/// pairs: a match would give both outputs these values on each vector that fills the X in.
 pub fn vector_excludes()
     ensures { (graphs : TwoGraphs) (pairs : List AnyPair) (output : ℕ) (values : List AnyTri)
         → IsGraph graphs.first
@@ -32,8 +32,8 @@ pub fn vector_excludes()
         → Excludes graphs pairs }
 {}
 
-/// A claim that fails, where the claim of the other circuit that the pairs carry it to holds, excludes the pairs: under a match
-/// both would hold, or neither.
+/// A claim that fails, where the claim of the other circuit that the pairs carry it to holds, excludes the pairs:
+/// under a match both would hold, or neither.
 pub fn mismatch_excludes()
     ensures { (graphs : TwoGraphs) (given : Given) (pairs : List AnyPair) (fails holds : ℕ)
         → All (IsTrueFact graphs) given.facts
@@ -43,8 +43,8 @@ pub fn mismatch_excludes()
         → Excludes graphs pairs }
 {}
 
-/// More inputs that one output has, together with those that its partner lacks, than there are, exclude the pairs: under a match
-/// some input that the one has would go to an input that the other lacks.
+/// More inputs that one output has, together with those that its partner lacks, than there are, exclude the pairs:
+/// under a match some input that the one has would go to an input that the other lacks.
 pub fn tally_excludes()
     ensures { (graphs : TwoGraphs) (given : Given) (pairs : List AnyPair) (kind : AnyTallied) (have lack : List ℕ)
         → All (IsTrueFact graphs) given.facts
@@ -54,8 +54,8 @@ pub fn tally_excludes()
         → Excludes graphs pairs }
 {}
 
-/// Ports of which one must go to one of others, where each way to pair two of them is impossible or has an earlier ban, exclude
-/// the pairs: a match would take one of the ways.
+/// Ports of which one must go to one of others, where each way to pair two of them is impossible or has an earlier
+/// ban, exclude the pairs: a match would take one of the ways.
 pub fn cover_excludes()
     ensures { (graphs : TwoGraphs) (given : Given) (pairs : List AnyPair) (kind : AnyKind) (from to : List ℕ)
         (refs : List (Option ℕ))
@@ -115,8 +115,8 @@ pub fn ordered_pairs_agree()
         → Agree pairs }
 {}
 
-/// What the pairs make of values at the second circuit's inputs is told by each of them: a paired input has its partner's value,
-/// by the sign, and every other one has X.
+/// What the pairs make of values at the second circuit's inputs is told by each of them: a paired input has its
+/// partner's value, by the sign, and every other one has X.
 pub fn sent_values()
     ensures are { (pairs : List AnyPair) (n : ℕ) (values : List AnyTri)
         → AreOrdered pairs
