@@ -3,8 +3,10 @@
 
 mod conclusion;
 mod fact;
+mod oracle;
 mod step;
 
 pub use conclusion::Conclusion;
 pub use fact::{Evidence, Fact, FactHead};
+pub use oracle::{Compared, Oracle};
 pub use step::{Ban, Step, Tallied};

@@ -1,0 +1,68 @@
+-- What the entries of a ledger are worth: lines that were derived for queries of two circuits, each query asked once, and no
+-- line that says less than what was known (this project's; derivations are those of hinted unit propagation).
+use Rattle.std.specs.Prelude.{◌≡◌, ◌≢◌, ◌⊎◌, ℕ, ◌<◌, ◌≤◌, Bool, true, false, List, ◌++◌, length, take, All, AllPairs}
+use Rattle.std.specs.List.{list_all}
+use Rattle.circuits.specs.Literals.{EachAt}
+use Rattle.circuits.specs.Matches.{HavePorts}
+use Rattle.cnf_core.specs.declared.literal.SatLit.{SatLit}
+use Rattle.cnf_core.specs.declared.log.LogLine.{LogLine}
+use Rattle.cnf_core.specs.Derivations.{AreDerived, clauses_of, is_true}
+use Rattle.net_core.specs.declared.graphs.Graphs.{Graphs}
+use Rattle.net_core.specs.declared.matching.Matching.{Matching}
+use Rattle.query_core.specs.declared.claims.Claim.{Claim}
+use Rattle.query_core.specs.declared.query.Query.{Query}
+use Rattle.query_core.specs.declared.ledger.Asked.{Asked}
+use Rattle.query_core.specs.Queries.{IsQuery}
+use Rattle.query_core.specs.Formulas.{formula_of}
+use Rattle.query_core.specs.Claims.{IsClaim}
+use Rattle.query_core.specs.MatchQueries.{match_query}
+use Rattle.account_core.specs.Stub.{claim_query, cone_clauses}
+use Rattle.query_core.specs.Ledgers.{Ledgered}
+
+-- lines were learned for the entry, behind its lemmas
+abbrev pub IsCharged : Asked → Type 0
+IsCharged entry = entry.lemmas < length entry.lines
+
+-- whether a clause has all the literals of another
+abbrev pub has_all : List SatLit → List SatLit → Bool
+has_all clause other = list_all (is_true clause) other
+
+-- the line says something that none of these clauses says: it has all the literals of none
+abbrev pub IsFresh : List (List SatLit) → LogLine → Type 0
+IsFresh clauses line = All (λ clause. has_all line.clause clause ≡ false) clauses
+
+-- The query fits. The lines are derived in order, none behind an empty one. Each one behind the lemmas says something that
+-- neither the clauses of the two cones say, nor an earlier line.
+pub record IsWorkOn (graphs : Graphs) (entry : Asked) : Type 0 where
+  pub fits : IsQuery graphs entry.query
+  pub lemmas : entry.lemmas ≤ length entry.lines
+  pub derived : AreDerived (formula_of graphs entry.query) entry.lines
+  pub fresh : EachAt (λ k line. entry.lemmas ≤ k
+      → IsFresh (cone_clauses graphs entry.query ++ clauses_of (take k entry.lines)) line) entry.lines
+
+-- lines were learned for both, and their queries aren't the same
+abbrev pub AreApart : Asked → Asked → Type 0
+AreApart one other = IsCharged one → IsCharged other → one.query ≢ other.query
+
+-- A ledger is work on two circuits. No query has two entries with learned lines.
+pub record IsWork (graphs : Graphs) (ledger : Ledgered) : Type 0 where
+  pub entries : All (IsWorkOn graphs) ledger.asked
+  pub once : AllPairs AreApart ledger.asked
+
+-- the query of a well-placed claim
+abbrev pub IsOfClaim : Graphs → Query → Type 0
+IsOfClaim graphs query = (claim : Claim) × IsClaim graphs claim × (query ≡ claim_query graphs claim)
+
+-- the query of an output of a matching, for one of its values
+pub record IsOfMatch (graphs : Graphs) (query : Query) : Type 0 where
+  pub matching : Matching
+  pub output : ℕ
+  pub value : Bool
+  pub ports : HavePorts graphs.first graphs.second matching.inputs matching.outputs
+  pub there : output < length graphs.first.outputs
+  pub query_is : query ≡ match_query graphs.first.inputs matching output value
+
+-- Work, for queries of claims and of matches alone.
+pub record IsWorkOfClaimsAndMatches (graphs : Graphs) (ledger : Ledgered) : Type 0 where
+  pub work : IsWork graphs ledger
+  pub queries : All (λ entry. IsOfClaim graphs entry.query ⊎ IsOfMatch graphs entry.query) ledger.asked
