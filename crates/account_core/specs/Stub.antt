@@ -1,5 +1,4 @@
-use Rattle.std.specs.Prelude.{ℕ, Bool, true, false, not, List, map, ◌==◌, if◌then◌else◌}
-use Rattle.std.specs.List.{range_with_len}
+use Rattle.std.specs.Prelude.{ℕ, Bool, true, false, not, List, All, slice_set}
 use Rattle.cnf_core.specs.declared.literal.SatLit.{SatLit}
 use Rattle.net_core.specs.declared.graphs.Graphs.{Graphs}
 use Rattle.net_core.specs.Sides.{graph_of}
@@ -9,25 +8,35 @@ use Rattle.query_core.specs.declared.query.Query.{Query}
 use Rattle.query_core.specs.declared.claims.Claim.{Claim}
 use Rattle.query_core.specs.declared.claims.Shape.{Shape}
 use Rattle.query_core.specs.declared.claims.Shape.TheVariants.{Up, Down, Swap}
+use Rattle.query_core.specs.MatchQueries.{straight}
 use Rattle.query_core.specs.Formulas.{query_clauses}
 
-abbrev pub fixed_by : Shape → ℕ → Feed
-fixed_by (Up i) k = if k == i then Fixed false else Wire k false
-fixed_by (Down i) k = if k == i then Fixed true else Wire k false
-fixed_by (Swap i j a b) k = if k == i then Fixed a else if k == j then Fixed b else Wire k false
+-- an input gets a fixed bit
+abbrev pub with_fixed : ℕ → Bool → List Feed → List Feed
+with_fixed i b feed = slice_set feed i (Fixed b)
 
-abbrev pub opposed_by : Shape → ℕ → Feed
-opposed_by (Up i) k = if k == i then Fixed true else Wire k false
-opposed_by (Down i) k = if k == i then Fixed false else Wire k false
-opposed_by (Swap i j a b) k = if k == i then Fixed (not a) else if k == j then Fixed (not b) else Wire k false
+-- the shape's inputs get its values, and each other input gets its own bit
+abbrev pub values_feed : ℕ → Shape → List Feed
+values_feed n (Up i) = with_fixed i false (straight n)
+values_feed n (Down i) = with_fixed i true (straight n)
+values_feed n (Swap i j a b) = with_fixed j b (with_fixed i a (straight n))
 
+-- the shape with the opposite values
+abbrev pub opposite_shape : Shape → Shape
+opposite_shape (Up i) = Down i
+opposite_shape (Down i) = Up i
+opposite_shape (Swap i j a b) = Swap i j (not a) (not b)
+
+-- The left cone has the shape's values, the right one the opposite ones.
 abbrev pub claim_query : Graphs → Claim → Query
-claim_query graphs claim = record {
-  left = record { side = claim.side; output = claim.output; feed = map (fixed_by claim.shape) (range_with_len 0 (graph_of graphs claim.side).inputs) };
-  left_value = true;
-  right = record { side = claim.side; output = claim.output; feed = map (opposed_by claim.shape) (range_with_len 0 (graph_of graphs claim.side).inputs) };
-  right_value = false;
-}
+claim_query graphs claim =
+    let n = (graph_of graphs claim.side).inputs in
+    record {
+      left = record { side = claim.side; output = claim.output; feed = values_feed n claim.shape };
+      left_value = true;
+      right = record { side = claim.side; output = claim.output; feed = values_feed n (opposite_shape claim.shape) };
+      right_value = false;
+    }
 
-abbrev pub cone_clauses : Graphs → Query → List (List SatLit)
-cone_clauses graphs query = query_clauses graphs query
+abbrev pub AllOfCones : Graphs → Query → (List SatLit → Type 0) → Type 0
+AllOfCones graphs query P = All P (query_clauses graphs query)

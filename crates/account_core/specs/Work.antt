@@ -1,12 +1,12 @@
 -- What the entries of a ledger are worth: lines that were derived for queries of two circuits, each query asked once, and no
 -- line that says less than what was known (this project's; derivations are those of hinted unit propagation).
-use Rattle.std.specs.Prelude.{◌≡◌, ◌≢◌, ◌⊎◌, ℕ, ◌<◌, ◌≤◌, Bool, true, false, List, ◌++◌, length, take, All, AllPairs}
+use Rattle.std.specs.Prelude.{◌≡◌, ◌≢◌, ◌⊎◌, ℕ, ◌<◌, ◌≤◌, Bool, true, false, List, None, length, take, All, AllPairs}
 use Rattle.std.specs.List.{list_all}
 use Rattle.circuits.specs.Literals.{EachAt}
 use Rattle.circuits.specs.Matches.{HavePorts}
 use Rattle.cnf_core.specs.declared.literal.SatLit.{SatLit}
 use Rattle.cnf_core.specs.declared.log.LogLine.{LogLine}
-use Rattle.cnf_core.specs.Derivations.{AreDerived, clauses_of, is_true}
+use Rattle.cnf_core.specs.Derivations.{AreDerived, clauses_of, is_true, line_fault}
 use Rattle.net_core.specs.declared.graphs.Graphs.{Graphs}
 use Rattle.net_core.specs.declared.matching.Matching.{Matching}
 use Rattle.query_core.specs.declared.claims.Claim.{Claim}
@@ -16,7 +16,7 @@ use Rattle.query_core.specs.Queries.{IsQuery}
 use Rattle.query_core.specs.Formulas.{formula_of}
 use Rattle.query_core.specs.Claims.{IsClaim}
 use Rattle.query_core.specs.MatchQueries.{match_query}
-use Rattle.account_core.specs.Stub.{claim_query, cone_clauses}
+use Rattle.account_core.specs.Stub.{claim_query, AllOfCones}
 use Rattle.query_core.specs.Ledgers.{Ledgered}
 
 -- lines were learned for the entry, behind its lemmas
@@ -27,18 +27,23 @@ IsCharged entry = entry.lemmas < length entry.lines
 abbrev pub has_all : List SatLit → List SatLit → Bool
 has_all clause other = list_all (is_true clause) other
 
--- the line says something that none of these clauses says: it has all the literals of none
-abbrev pub IsFresh : List (List SatLit) → LogLine → Type 0
-IsFresh clauses line = All (λ clause. has_all line.clause clause ≡ false) clauses
+-- a clause that says something that another doesn't say: it hasn't all its literals
+abbrev pub IsNewBeside : List SatLit → List SatLit → Type 0
+IsNewBeside clause other = has_all clause other ≡ false
 
--- The query fits. The lines are derived in order, none behind an empty one. Each one behind the lemmas says something that
--- neither the clauses of the two cones say, nor an earlier line.
+-- The line is derived, and says something that no clause of the two cones and no earlier line says.
+pub record IsLearned (graphs : Graphs) (query : Query) (earlier : List LogLine) (line : LogLine) : Type 0 where
+  pub derived : line_fault (formula_of graphs query) (clauses_of earlier) line ≡ None
+  pub beside_cones : AllOfCones graphs query (IsNewBeside line.clause)
+  pub beside_lines : All (IsNewBeside line.clause) (clauses_of earlier)
+
+-- The query fits. The lines are derived in order, none behind an empty one, and each one behind the lemmas says something
+-- new.
 pub record IsWorkOn (graphs : Graphs) (entry : Asked) : Type 0 where
   pub fits : IsQuery graphs entry.query
   pub lemmas : entry.lemmas ≤ length entry.lines
   pub derived : AreDerived (formula_of graphs entry.query) entry.lines
-  pub fresh : EachAt (λ k line. entry.lemmas ≤ k
-      → IsFresh (cone_clauses graphs entry.query ++ clauses_of (take k entry.lines)) line) entry.lines
+  pub learned : EachAt (λ k line. entry.lemmas ≤ k → IsLearned graphs entry.query (take k entry.lines) line) entry.lines
 
 -- lines were learned for both, and their queries aren't the same
 abbrev pub AreApart : Asked → Asked → Type 0
