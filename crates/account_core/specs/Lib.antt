@@ -1,9 +1,10 @@
-pub mod Stub
 pub mod Work
 pub mod Oracles
 pub use Rattle.query_core.specs.Claims
 pub use Rattle.query_core.specs.Queries
 pub use Rattle.query_core.specs.Formulas
 pub use Rattle.query_core.specs.MatchQueries
+pub use Rattle.query_core.specs.ClaimQueries
+pub use Rattle.query_core.specs.ConeClauses
 pub use Rattle.query_core.specs.Ledgers
 pub use Rattle.cnf_core.specs.Derivations

@@ -15,7 +15,7 @@ use Rattle.query_core.specs.declared.ledger.Asked.{Asked}
 use Rattle.query_core.specs.Claims.{Breaks, IsClaim}
 use Rattle.query_core.specs.Formulas.{formula_of}
 use Rattle.query_core.specs.MatchQueries.{match_query}
-use Rattle.account_core.specs.Stub.{claim_query}
+use Rattle.query_core.specs.ClaimQueries.{claim_query}
 use Rattle.query_core.specs.Ledgers.{Ledgered, learned_in, nothing_asked}
 use Rattle.account_core.specs.declared.fact.Evidence.{Evidence}
 use Rattle.account_core.specs.declared.fact.Evidence.TheVariants.{Fails, Holds}

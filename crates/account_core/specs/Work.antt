@@ -16,7 +16,8 @@ use Rattle.query_core.specs.Queries.{IsQuery}
 use Rattle.query_core.specs.Formulas.{formula_of}
 use Rattle.query_core.specs.Claims.{IsClaim}
 use Rattle.query_core.specs.MatchQueries.{match_query}
-use Rattle.account_core.specs.Stub.{claim_query, AllOfCones}
+use Rattle.query_core.specs.ClaimQueries.{claim_query}
+use Rattle.query_core.specs.ConeClauses.{AllOfCones}
 use Rattle.query_core.specs.Ledgers.{Ledgered}
 
 -- lines were learned for the entry, behind its lemmas
