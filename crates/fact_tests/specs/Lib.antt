@@ -1,0 +1,2 @@
+pub mod Supports
+pub use Rattle.account_core.specs.Oracles
