@@ -1,6 +1,6 @@
 //! Questions about two netlists whose ports correspond by position.
 
-ghost use Rattle.std.specs.Prelude.{◌≡◌, ◌<◌, IfOk, IsTrue, length};
+ghost use Rattle.std.specs.Prelude.{IfOk, IsTrue};
 ghost use Rattle.circuits.specs.Matches.{HavePorts};
 ghost use Rattle.query_core.specs.Queries.{IsQuery};
 
