@@ -1,0 +1,46 @@
+#!/usr/bin/env bash
+# How many words of gates `word_sim::simulate` evaluates a second (64 vectors a word), beside the same loop in C (simulate.c,
+# compiled by `cc -O2`): on a multiplier that ABC makes, about 100,000 gates where nothing else is asked for, in the same
+# order of gates and on the same words. Reading the file isn't counted: the time of no rounds is taken off. Each is run
+# several times, in turn, and the shortest time of each counts. Needs Debian's berkeley-abc and a C compiler. Not part of
+# the gate. Ends with status 1 where the two print different words.
+#
+#     bench/simulate.sh [BITS [WORDS [ROUNDS]]]
+set -eu
+top=$(cd "$(dirname "${BASH_SOURCE[0]}")/.." && pwd)
+bits=${1-112} words=${2-64} rounds=${3-20}
+work=$(mktemp -d)
+trap 'rm -rf "$work"' EXIT
+program=$("$top/bench/build_workbench.sh")
+berkeley-abc -q "gen -m -N $bits $work/made.blif; read_blif $work/made.blif; strash; write_aiger $work/multiplier.aig" >/dev/null
+cc -O2 -o "$work/simulate" "$top/bench/simulate.c"
+python3 - "$program" "$work" "$words" "$rounds" <<'PYTHON'
+import subprocess, sys, time
+
+program, work, words, rounds = sys.argv[1], sys.argv[2], int(sys.argv[3]), int(sys.argv[4])
+file = f"{work}/multiplier.aig"
+gates = int(open(file, "rb").readline().split()[5])
+commands = {"workbench": [program, "simulate", file], "C": [f"{work}/simulate", file]}
+
+
+def seconds(command, count):
+    start = time.perf_counter()
+    printed = subprocess.run([*command, str(words), str(count)], check=True, capture_output=True, text=True).stdout
+    return time.perf_counter() - start, printed
+
+
+best, printed = {}, {}
+for _ in range(7):
+    for name, command in commands.items():
+        for count in (0, rounds):
+            took, printed[name, count] = seconds(command, count)
+            best[name, count] = min(took, best.get((name, count), took))
+print(f"{gates} gates, {words} words, {rounds} rounds")
+rate = {}
+for name in commands:
+    took = max(best[name, rounds] - best[name, 0], 1e-6)
+    rate[name] = gates * words * rounds / took
+    print(f"{name:<10}{took:8.3f} s {rate[name] / 1e6:10.1f} million words of gates a second: {printed[name, rounds].strip()}")
+print(f"workbench takes {rate['C'] / rate['workbench']:.2f} times as long as C")
+sys.exit(printed["workbench", rounds] != printed["C", rounds])
+PYTHON

@@ -1,0 +1,136 @@
+"""Asks, for each output and either value, whether the output of one netlist can have the value where that of another has not,
+and prints a row of a table: what `workbench ask` answered, how many lines it learned, and the seconds that it, minisat and
+picosat took.
+
+    solve.py WORKBENCH NAME FIRST SECOND LIMIT
+
+The two solvers get the same clauses, numbered here and not by the program. Each answer is compared, and each vector tried
+by an evaluation of its own. LIMIT is the seconds that a question has; who is late five times isn't asked any more of this
+pair. `--head` alone prints the head of the table. Ends with status 1 where answers differ or a vector is wrong.
+"""
+import resource
+import subprocess
+import sys
+import tempfile
+from account_of import Question, in_order
+
+NAMES = ("workbench", "minisat", "picosat")
+MOST_LATE = 5
+HEAD = f"{'pair':<16}{'outputs':>8}{'gates':>7}{'vectors':>9}{'refuted':>9}{'lines':>9}{'most':>8}" + "".join(
+    f"{name:>32}" for name in NAMES
+)
+
+
+def bits(net, vector):
+    """The outputs of a netlist in order."""
+    inputs, gates, outputs = net
+    values = [0, *vector]
+    for a, b in gates:
+        values.append((values[a // 2] ^ a % 2) & (values[b // 2] ^ b % 2))
+    return [values[it // 2] ^ it % 2 for it in outputs]
+
+
+def put_formula(clauses, path):
+    """Writes clauses in the DIMACS form, over the variables that they have."""
+    number = {}
+    with open(path, "w") as file:
+        rows = []
+        for clause in clauses:
+            for literal in clause:
+                number.setdefault(literal // 2, 1 + len(number))
+            rows.append(" ".join(str(number[it // 2] * (-1 if it % 2 else 1)) for it in clause) + " 0\n")
+        file.write(f"p cnf {len(number)} {len(rows)}\n" + "".join(rows))
+
+
+def run(command, limit):
+    """What a command printed, its status, and the processor seconds that it took; none of the first two past the limit."""
+    before = resource.getrusage(resource.RUSAGE_CHILDREN)
+    try:
+        ran = subprocess.run(command, capture_output=True, text=True, timeout=limit)
+        printed, status = ran.stdout.strip(), ran.returncode
+    except subprocess.TimeoutExpired:
+        printed, status = None, None
+    after = resource.getrusage(resource.RUSAGE_CHILDREN)
+    return printed, status, after.ru_utime + after.ru_stime - before.ru_utime - before.ru_stime
+
+
+class Row:
+    """What came out for a pair."""
+
+    def __init__(self, name, nets):
+        self.name, self.nets, self.wrong = name, nets, []
+        self.answers, self.lines = {"vector": 0, "refuted": 0}, []
+        self.seconds, self.late, self.unasked = ({it: start for it in NAMES} for start in ((), 0, 0))
+
+    def run(self, solver, command, limit):
+        """What a solver printed, and its status; none of these where it was late."""
+        if self.late[solver] == MOST_LATE:
+            self.unasked[solver] += 1
+            return None, None
+        printed, status, took = run(command, limit)
+        self.seconds[solver] += (took,)
+        self.late[solver] += status is None
+        return printed, status
+
+    def check_vector(self, output, value, text):
+        vector = [int(it) for it in text]
+        first, second = (bits(net, vector)[output] for net in self.nets)
+        if len(vector) != self.nets[0][0] or first != value or second == value:
+            self.wrong.append(f"output {output}, value {value}: the vector {text} is wrong")
+
+    def take(self, output, value, printed, status):
+        """Reads the program's answer: whether there is a vector, or nothing where it is none."""
+        words = (printed or "").split()
+        if status == 0 and words[0] == "vector":
+            self.answers["vector"] += 1
+            self.check_vector(output, value, words[1] if len(words) > 1 else "")
+            return True
+        if status == 0 and words[0] == "refuted":
+            self.answers["refuted"] += 1
+            self.lines.append(int(words[1]))
+            return False
+        if status is not None:
+            self.wrong.append(f"output {output}, value {value}: status {status}: {printed}")
+        return None
+
+    def __str__(self):
+        inputs, gates, outputs = self.nets[0]
+        found = [len(outputs), len(gates) + len(self.nets[1][1]), self.answers["vector"], self.answers["refuted"]]
+        found += [sum(self.lines), max(self.lines, default=0)]
+        text = "".join(f"{it:>{width}}" for it, width in zip(found, (8, 7, 9, 9, 9, 8)))
+        for solver in NAMES:
+            late = f" {self.late[solver]} late" if self.late[solver] else ""
+            late += f" {self.unasked[solver]} unasked" if self.unasked[solver] else ""
+            text += f"{sum(self.seconds[solver]):.2f} ({max(self.seconds[solver]):.2f}){late}".rjust(32)
+        return f"{self.name:<16}" + text
+
+
+def ask(program, name, files, limit):
+    nets = [in_order(file) for file in files]
+    row = Row(name, nets)
+    pairs = [f"i{k}+{k}" for k in range(nets[0][0])] + [f"o{k}+{k}" for k in range(len(nets[0][2]))]
+    question = Question(*nets, pairs)
+    with tempfile.TemporaryDirectory() as folder:
+        formula = f"{folder}/formula"
+        for output in range(len(nets[0][2])):
+            for value in (1, 0):
+                put_formula(question.clauses(output, value).values(), formula)
+                question_words = [str(output), str(value), "1000000000"]
+                printed, status = row.run("workbench", [program, "ask", *files, *question_words], limit)
+                there = {"workbench": row.take(output, value, printed, status)}
+                for solver, options in (("minisat", ["-verb=0"]), ("picosat", ["-n"])):
+                    _, status = row.run(solver, [solver, *options, formula], limit)
+                    there[solver] = {10: True, 20: False}.get(status)
+                if len(set(there.values()) - {None}) > 1:
+                    row.wrong.append(f"output {output}, value {value}: {there}")
+    return row
+
+
+if __name__ == "__main__":
+    if sys.argv[1:] == ["--head"]:
+        print(HEAD)
+        sys.exit(0)
+    program, name, first, second, limit = sys.argv[1:]
+    row = ask(program, name, (first, second), float(limit))
+    print(row, *row.wrong, sep="\n")
+    sys.exit(bool(row.wrong))
