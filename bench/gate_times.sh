@@ -12,11 +12,18 @@ ticks = os.sysconf("SC_CLK_TCK")
 seen = {}  # process: (crate, what), seconds so far
 
 
+def is_below(pid, above):
+    """Whether a process was started by another one, or by one that this one started."""
+    while pid > 1 and pid != above:
+        pid = int(open(f"/proc/{pid}/stat").read().rsplit(")", 1)[1].split()[1])
+    return pid == above
+
+
 def look():
     for pid in filter(str.isdigit, os.listdir("/proc")):
         try:
             words = open(f"/proc/{pid}/cmdline").read().split("\0")
-            if not words[0].endswith("/rattle") or "--crate-name" not in words:
+            if not words[0].endswith("/rattle") or "--crate-name" not in words or not is_below(int(pid), gate.pid):
                 continue
             times = open(f"/proc/{pid}/stat").read().rsplit(")", 1)[1].split()
             started = times[19]
