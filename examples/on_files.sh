@@ -1,5 +1,5 @@
 #!/usr/bin/env bash
-# Runs `./npnp check` on files of the machine, and compares its status and its first line with what is wanted. Ends
+# Runs `./npnp` on files of the machine, and compares its status and its first line with what is wanted. Ends
 # with status 1 where one differs. Not part of the gate, which runs the same program on files in memory.
 set -u
 here=$(cd "$(dirname "${BASH_SOURCE[0]}")" && pwd)
@@ -14,6 +14,8 @@ sed 4d and-or.account >order.account
 sed '3s/1 2 6/1 2/' and-or.account >hint.account
 sed 's/6 5 2/6 5 3/' b.aag >other.aag
 sed 's/npnp 1/npnp 9/' a-b.account >header.account
+sed '10s/0 1$/0/' and-xor.account >plain.account
+sed '7s/0 7 1/0 7/' and-xor.account >line.account
 mkdir folder
 printf 'aig 3 2 0 2 1\n6\n2\n\2\2' >a.aig
 failed=0
@@ -35,6 +37,12 @@ wants 0 'accepted match' check a.aag b.aag a-b.account
 wants 0 'accepted match' check and.blif or.blif and-or.account
 wants 0 'accepted match' check c17.blif c17_moved.aig c17.account
 wants 0 'accepted match' check alu4.aig alu4_lost.aig alu4.account
+wants 1 'accepted refusal' check and.blif xor.blif and-xor.account
+wants 0 'inputs 3' info full_adder.blif
+wants 0 'inputs 5' info c17.blif
+wants 3 'spent 0' info mixed.blif 0
+wants 2 'rejected line 10 rule' check and.blif xor.blif plain.account
+wants 2 'rejected line 7 refutation' check and.blif xor.blif line.account
 wants 2 'rejected line 3 refutation' check a.aag b.aag sign.account
 wants 2 'rejected line 2 conclusion' check a.aag b.aag twice.account
 wants 2 'rejected line 7 truncated' check a.aag b.aag cut.account
@@ -49,6 +57,7 @@ wants 5 'absent first' check absent.aag b.aag a-b.account
 wants 5 'malformed second 27 0' check a.aag a-b.account a-b.account
 wants 4 'usage' match a.aag b.aag a-b.account
 wants 4 'usage'
+wants 4 'usage' info c17.blif 18446744073709551616
 wants 6 'read fault' check folder b.aag a-b.account
 wants 6 'read fault' check a.aag b.aag folder
 # what comes through a pipe is read to its end; a device without an end is a fault
