@@ -1,31 +1,35 @@
 //! The list of bits.
 
-ghost use Rattle.std.specs.Cmp.Lexicographic.{pointwise, lists_per, lists_equiv};
 ghost use Rattle.std.proofs.Common.{rules};
 ghost use Rattle.std.specs.Bool.{beq};
+ghost use Rattle.std.specs.Cmp.Lexicographic.{pointwise, lists_per, lists_equiv};
 ghost use Rattle.std.specs.Cmp.Rules.{comparing};
-ghost use Rattle.std.specs.Prelude.{◌≡◌, ◌<◌, ◌∷◌, [], ◌++◌, length, false, slice_index_or, IfOk, OnOk, OnErr};
+ghost use Rattle.std.specs.Prelude.{◌≡◌, ◌≢◌, ℕ, ◌+◌, ◌*◌, ◌^◌, ◌<◌, ◌≤◌, ◌∷◌, [], ◌++◌, length, take, false, slice_index_or, IfOk, OnOk, OnErr, nat_eq};
+ghost use Rattle.bit_list.specs.Packing.{packed_bit, word_bit};
 
 use items::Items;
 use std::alloc::{AllocError, Global};
 use std::marker::Model;
 
 /// A growable list of bits. Contracts see it as the list of its bits, in order.
+///
+/// It takes a bit of memory for each bit, rounded up to words of 8 bytes, and as much again where it grew by pushes.
 #[derive(Debug, Drop)]
 pub struct Bits {
-    inside: Items<bool>,
+    /// Bit i is bit i % 64 of word i / 64. What is left of the last word is 0, so equal lists have equal words.
+    words: Items<u64>,
+    count: usize,
 }
 
 impl Model for Bits {
-    ghost use Rattle.std.specs.Cmp.Lexicographic.{pointwise, lists_per, lists_equiv};
-ghost use Rattle.std.proofs.Common.{rules};
-ghost use Rattle.std.specs.Bool.{beq};
-ghost use Rattle.std.specs.Cmp.Rules.{comparing};
-ghost use Rattle.std.specs.Prelude.{List, Bool};
+    ghost use Rattle.std.specs.Prelude.{List, Bool};
+    ghost use Rattle.bit_list.specs.Packing.{bits_of, IsPacked};
 
     ghost Value = { List Bool };
 
-    ghost view = { λ a. a.inside };
+    ghost view = { λ a. bits_of a.words a.count };
+
+    ghost invariant = { λ a. IsPacked a.words a.count };
 }
 
 impl Bits {
@@ -34,24 +38,52 @@ impl Bits {
         ensures { result ≡ [] }
     {
         Bits {
-            inside: Items::new(alloc),
+            words: Items::new(alloc),
+            count: 0,
         }
     }
 
     /// A list of bits that stand in a slice.
+    ///
+    /// # Errors
+    ///
+    /// For want of memory alone.
     pub fn from_slice(alloc: Global, bits: &[bool]) -> Result<Bits, AllocError>
         ensures { IfOk result (λ list. list ≡ bits.now) }
     {
-        let inside = Items::from_slice(alloc, bits)?;
-        Ok(Bits { inside })
+        let mut list = Bits::with_capacity(alloc, bits.len())?;
+        for bit in bits.iter() {
+            list.push(*bit)?;
+        }
+        Ok(list)
+    }
+
+    /// The empty list with room for so many bits.
+    ///
+    /// # Errors
+    ///
+    /// For want of memory alone.
+    pub fn with_capacity(alloc: Global, bits: usize) -> Result<Bits, AllocError>
+        ensures { IfOk result (λ list. list ≡ []) }
+    {
+        let words = Items::with_capacity(alloc, bits.div_ceil(64))?;
+        Ok(Bits { words, count: 0 })
     }
 
     /// Adds a bit at the end. Where memory is wanting, the list stays as it was.
+    ///
+    /// # Errors
+    ///
+    /// For want of memory alone: no memory holds 2^64 bits.
     pub fn push(&mut self, bit: bool) -> Result<(), AllocError>
         ensures pushed { OnOk result (self.new ≡ self.old ++ bit ∷ []) }
         ensures refused { OnErr result (self.new ≡ self.old) }
     {
-        self.inside.push(bit)?;
+        let count = self.count.checked_add(1).ok_or(AllocError)?;
+        make_room(&mut self.words, self.count)?;
+        let word = with_bit(self.words[self.count / 64], self.count % 64, bit);
+        self.words.set(self.count / 64, word);
+        self.count = count;
         Ok(())
     }
 
@@ -59,7 +91,7 @@ impl Bits {
     pub fn len(&self) -> usize
         ensures { result ≡ length self.now }
     {
-        self.inside.len()
+        self.count
     }
 
     /// The bit at a place.
@@ -67,16 +99,63 @@ impl Bits {
         requires { place < length self.now }
         ensures { result ≡ slice_index_or self.now place false }
     {
-        self.inside[place]
+        (self.words[place / 64] >> (place % 64)) % 2 == 1
     }
+
+    /// Writes the bits to a slice of as many places.
+    pub fn copy_into(&self, out: &mut [bool])
+        requires { length out.old ≡ length self.now }
+        ensures { out.new ≡ self.now }
+    {
+        for place in 0..self.len() {
+            out[place] = self.get(place);
+        }
+    }
+}
+
+/// Adds a word of 0 where all words are full.
+fn make_room(words: &mut Items<u64>, count: usize) -> Result<(), AllocError>
+    requires enough { count ≤ 64 * length words.old }
+    requires none_more { 64 * length words.old < count + 64 }
+    ensures room { OnOk result (count < 64 * length words.new) }
+    ensures none_more { OnOk result (64 * length words.new < count + 1 + 64) }
+    ensures bits { OnOk result ((i : ℕ) → packed_bit words.new i ≡ packed_bit words.old i) }
+    ensures refused { OnErr result (words.new ≡ words.old) }
+{
+    if count % 64 == 0 {
+        words.push(0)?;
+    }
+    Ok(())
+}
+
+/// The word with a bit at a place where it has a 0.
+fn with_bit(word: u64, place: usize, bit: bool) -> u64
+    requires place { place < 64 }
+    requires free { word_bit place word ≡ false }
+    ensures placed { word_bit place result ≡ bit }
+    ensures others { (v : ℕ) → v ≢ place → word_bit v result ≡ word_bit v word }
+{
+    if bit { word | 1 << place } else { word }
+}
+
+/// Whether the words are the same, each of which is below 2^64.
+fn same_words(first: &[u64], second: &[u64]) -> bool
+    ensures value { result ≡ pointwise nat_eq first.now second.now }
+    ensures first { (k : ℕ) → slice_index_or first.now k 0 < 2 ^ 64 }
+    ensures second { (k : ℕ) → slice_index_or second.now k 0 < 2 ^ 64 }
+{
+    first == second
 }
 
 impl Clone for Bits {
     ghost is_clone = { λ bits copy. copy ≡ bits };
 
     fn clone(&self) -> Result<Bits, AllocError> {
-        let inside = self.inside.clone()?;
-        Ok(Bits { inside })
+        let words = self.words.clone()?;
+        Ok(Bits {
+            words,
+            count: self.count,
+        })
     }
 }
 
@@ -86,7 +165,7 @@ impl PartialEq for Bits {
     ghost laws = { lists_per (Prim.search (comparing, rules)) };
 
     fn eq(&self, other: &Self) -> bool {
-        self.inside == other.inside
+        (self.count == other.count) & same_words(&self.words, &other.words)
     }
 }
 

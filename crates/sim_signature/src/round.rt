@@ -12,6 +12,7 @@ ghost use Rattle.sim_signature.specs.Sightings.{Hunted, IsNoted, IsOfInput, IsOf
 use crate::lanes::{first_lane, picked};
 use crate::sighting::Sighting;
 use crate::vectors::{output_word, with_inverted};
+use bit_list::Bits;
 use net_core::Graph;
 use query_core::Shape;
 use std::alloc::{AllocError, Global};
@@ -145,7 +146,7 @@ impl<'a> Round<'a> {
         let Some(lane) = first_lane(lanes) else {
             return Ok(());
         };
-        let vector = self.inputs().vector(self.alloc, 0, lane)?;
+        let vector = Bits::from_slice(self.alloc, &self.inputs().vector(self.alloc, 0, lane)?)?;
         sightings.push(Sighting { shape, vector })?;
         Ok(())
     }

@@ -1,6 +1,6 @@
 //! What simulation saw.
 
-use items::Items;
+use bit_list::Bits;
 use query_core::Shape;
 
 /// A vector that breaks the claim of a shape: it has the shape's values and gives 1, and with the shape's
@@ -9,5 +9,5 @@ use query_core::Shape;
 pub struct Sighting {
     pub shape: Shape,
     /// A bit for each input.
-    pub vector: Items<bool>,
+    pub vector: Bits,
 }
