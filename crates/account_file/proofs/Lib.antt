@@ -1,7 +1,5 @@
 pub mod AccountLemmas
 pub mod BadWordLemmas
-pub mod ColonLemmas
-pub mod FaultLemmas
 pub mod GrammarLemmas
 pub mod LawLemmas
 pub mod LineLemmas

@@ -87,7 +87,8 @@ step_words (Mismatch fails holds) = codes "mismatch" ∷ decimal fails ∷ decim
 step_words (Tally kind have lack) =
     codes "tally" ∷ tallied_word kind ∷ map decimal have ++ codes "/" ∷ map decimal lack
 step_words (Cover kind from to refs) =
-    codes "cover" ∷ kind_word kind ∷ map decimal from ++ codes "/" ∷ map decimal to ++ codes "/" ∷ map reference_word refs
+    codes "cover" ∷ kind_word kind
+    ∷ (map decimal from ++ codes "/" ∷ (map decimal to ++ codes "/" ∷ map reference_word refs))
 
 -- the first word of a record's line
 abbrev pub first_word : Record → List ℕ

@@ -2,10 +2,6 @@ use Rattle.std.proofs.Common.{◌≡◌, ◌+◌, ◌-◌, ◌∷◌, length, ta
 use Rattle.std.proofs.lemmas.List.{length-drop}
 use Rattle.std.proofs.Math.Seq.{take-length}
 use Rattle.account_file.specs.Words.{words_of}
-use Rattle.account_file.proofs.ReadLemmas.{nested_read}
-use Rattle.account_file.proofs.RecordLemmas.{Taken}
-use Rattle.account_file.proofs.NameLemmas.{side_spelled}
-use Rattle.account_file.proofs.ValueLemmas.{pair_spelled}
 use Rattle.account_file.proofs.WordLemmas.{words_cut, words_whole}
 use Rattle.account_file.proofs.words.cut.Goals as goal
 
