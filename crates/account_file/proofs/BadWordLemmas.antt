@@ -1,14 +1,13 @@
 -- A line of no record: the reader's fault is what the words of the line say.
-use Rattle.std.proofs.Common.{◌≡◌, ◌⊎◌, ℕ, ◌<◌, ◌^◌, List, [], ◌∷◌, ◌++◌, codes, Result, Ok, Err, refl, sym, ap, ◌∙◌, inl, inr, arith, append_assoc}
+use Rattle.std.proofs.Common.{◌≡◌, ℕ, List, [], ◌∷◌, ◌++◌, codes, Result, Ok, Err, refl, sym, ap, ◌∙◌, inl, inr, arith, append_assoc}
 use Rattle.std.specs.Fmt.{decimal}
-use Rattle.text_core.specs.Numbers.{is_numeral}
 use Rattle.account_file.specs.declared.record.Record.{Record}
 use Rattle.account_file.specs.declared.fault.RecordFault.{RecordFault}
 use Rattle.account_file.specs.declared.fault.RecordFault.TheVariants.{Word, Number}
 use Rattle.account_file.specs.Forms.{record_in}
 use Rattle.account_file.specs.Words.{words_of}
 use Rattle.account_file.specs.Spelling.{line_text}
-use Rattle.account_file.specs.Accounts.{HasForm, BeginsLine, HasBadNumber, HasBadWord}
+use Rattle.account_file.specs.Accounts.{BeginsLine, HasBadNumber, HasBadWord}
 use Rattle.account_file.proofs.GrammarLemmas.{line_is_read}
 use Rattle.account_file.proofs.NumberLemmas.{zero_decimal}
 use Rattle.account_file.proofs.ReadLemmas.{CanRead, IsWordOrNumber}
@@ -48,7 +47,7 @@ pub bad_number_read : (line : List ℕ) → HasBadNumber line → record_in (wor
 bad_number_read line bad =
     let zero = bad.number_fits 0 (omega arith) in
     let read : record_in (bad.before ++ codes "0" ∷ zero.behind) ≡ Ok zero.entry =
-        ap (λ w. record_in (bad.before ++ w ∷ zero.behind)) (sym zero_decimal) ∙ begun bad.before (decimal 0) zero in
+    ap (λ w. record_in (bad.before ++ w ∷ zero.behind)) (sym zero_decimal) ∙ begun bad.before (decimal 0) zero in
     elim (line_is_read.zero bad.before zero.behind bad.word zero.entry read bad.digits) [
       | inl stuck ↦ ap record_in bad.words_are ∙ stuck bad.behind
       | inr c ↦ absurd (bad.begins_none (begins bad.before bad.word c))

@@ -1,7 +1,6 @@
 -- The lines of an account are read word by word.
-use Rattle.std.proofs.Common.{◌≡◌, ℕ, ◌<◌, ◌^◌, Bool, true, false, codes, List, [], ◌∷◌, Option, Result, Ok, Err, refl, arith}
+use Rattle.std.proofs.Common.{◌≡◌, ℕ, ◌<◌, ◌^◌, Bool, true, false, codes, List, Result, Ok, Err, refl, arith}
 use Rattle.std.specs.Fmt.{decimal}
-use Rattle.circuits.specs.declared.port.Pair.{Pair}
 use Rattle.query_core.specs.declared.claims.Shape.{Shape}
 use Rattle.query_core.specs.declared.claims.Shape.TheVariants.{Up, Down, Swap}
 use Rattle.query_core.specs.declared.claims.Claim.{Claim}
@@ -21,8 +20,8 @@ use Rattle.account_file.specs.declared.names.StepName.{StepName}
 use Rattle.account_file.specs.declared.names.StepName.TheVariants as step_name
 use Rattle.account_file.specs.declared.names.NoneName.{NoneName}
 use Rattle.account_file.specs.declared.names.NoneName.TheVariants as none_name
-use Rattle.account_file.specs.Forms.{Parsed, followed, next_by, list_by, last_part, named, is_separator, number_of, port_of, literal_of, reference_of, pair_of, bits_of, tris_of, two_bits_of, side_of, kind_of, tallied_of, shape_name_of, step_name_of, none_name_of, record_name_of, shape_by, shape_of, claim_of, step_by, step_of, none_by, record_by, record_in_front, record_in}
-use Rattle.account_file.proofs.ReadLemmas.{Behind, CanRead, CanEnd, IsRead, IsWord, next_read, list_read, end_named, end_list, end_last, last_read, nested_read, nested_end}
+use Rattle.account_file.specs.Forms.{Parsed, followed, next_by, list_by, last_part, named, is_separator, number_of, port_of, literal_of, reference_of, pair_of, bits_of, tris_of, two_bits_of, side_of, kind_of, tallied_of, shape_name_of, step_name_of, none_name_of, record_name_of, shape_by, shape_of, claim_of, step_by, step_of, none_by, record_by, record_in}
+use Rattle.account_file.proofs.ReadLemmas.{Behind, CanEnd, IsRead, IsWord, next_read, list_read, end_named, end_last, last_read, nested_read, nested_end}
 use Rattle.account_file.proofs.ValueLemmas.{port_is_word, number_is_word, number_is_item, literal_is_word, reference_is_word, pair_is_word}
 use Rattle.account_file.proofs.NameLemmas.{side_is_word, kind_is_word, tallied_is_word, shape_name_is_word, step_name_is_word, none_name_is_word, record_name_is_word, named_is_word, bits_is_word, tris_is_word, two_bits_is_word}
 

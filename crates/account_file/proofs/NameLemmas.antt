@@ -1,8 +1,8 @@
 -- Words that are names or bits: as they are written they are read.
-use Rattle.std.proofs.Common.{◌≡◌, ℕ, ◌<◌, eqb, Bool, true, false, cond, codes, List, [], ◌∷◌, ◌++◌, map, All, Result, Ok, Err, refl, sym, ap, subst, ◌∙◌, arith}
+use Rattle.std.proofs.Common.{◌≡◌, ℕ, ◌<◌, eqb, Bool, true, false, cond, codes, List, [], ◌∷◌, map, Result, Ok, Err, refl, sym, ap, ◌∙◌, arith}
 use Rattle.std.specs.Str.{bytes_eq}
 use Rattle.std.proofs.lemmas.Bool.{eqb-true}
-use Rattle.std.proofs.lemmas.List.Elements.{All-nil, All-cons, All-head, All-tail}
+use Rattle.std.proofs.lemmas.List.Elements.{All-nil, All-cons}
 use Rattle.std.proofs.lemmas.Slice.Eq.{bytes_eq-Decides}
 use Rattle.circuits.specs.declared.port.PortKind.{PortKind}
 use Rattle.circuits.specs.declared.port.PortKind.TheVariants.{Input, Output}
@@ -22,7 +22,7 @@ use Rattle.account_file.specs.declared.names.StepName.{StepName}
 use Rattle.account_file.specs.declared.names.StepName.TheVariants as step_name
 use Rattle.account_file.specs.declared.names.NoneName.{NoneName}
 use Rattle.account_file.specs.declared.names.NoneName.TheVariants as none_name
-use Rattle.account_file.specs.Forms.{bit_of, tri_of, with_digit, digits_by, digits_behind, values_in, bits_of, tris_of, both_bits, second_bit, two_bits_of, side_of, kind_of, tallied_of, shape_name_of, step_name_of, none_name_of, record_name_of, named, is_separator}
+use Rattle.account_file.specs.Forms.{bit_of, tri_of, with_digit, digits_by, digits_behind, values_in, bits_of, tris_of, both_bits, two_bits_of, side_of, kind_of, tallied_of, shape_name_of, step_name_of, none_name_of, record_name_of, named}
 use Rattle.account_file.specs.Spelling.{side_word, bit_digit, tri_digit, bits_word, tris_word, tallied_word, kind_word}
 use Rattle.account_file.proofs.ReadLemmas.{IsWord}
 use Rattle.account_file.proofs.SpellingLemmas.{IsVisible, shown}

@@ -1,10 +1,8 @@
 -- Records as they are written are those that are read.
-use Rattle.std.proofs.Common.{◌≡◌, ℕ, ◌<◌, ◌^◌, Bool, true, false, cond, List, [], ◌∷◌, ◌++◌, length, map, drop, All, codes, Option, Result, Ok, Err, refl, sym, ap, ◌∙◌, subst, arith, append_assoc, append-nil, length-append, get_or}
+use Rattle.std.proofs.Common.{◌≡◌, ℕ, Bool, true, false, cond, List, [], ◌∷◌, ◌++◌, length, map, drop, All, codes, Result, Ok, Err, refl, sym, ap, ◌∙◌, subst, arith, append_assoc, append-nil, length-append, get_or}
 use Rattle.std.specs.Fmt.{decimal}
 use Rattle.std.proofs.lemmas.List.Elements.{All-nil, All-cons, All-head, All-tail, All-append}
 use Rattle.text_core.specs.Lines.{IsLine}
-use Rattle.circuits.specs.declared.port.Pair.{Pair}
-use Rattle.cnf_core.specs.declared.literal.SatLit.{SatLit}
 use Rattle.query_core.specs.declared.claims.Shape.{Shape}
 use Rattle.query_core.specs.declared.claims.Shape.TheVariants.{Up, Down, Swap}
 use Rattle.query_core.specs.declared.claims.Claim.{Claim}
@@ -25,7 +23,7 @@ use Rattle.account_file.specs.declared.names.NoneName.{NoneName}
 use Rattle.account_file.specs.declared.names.NoneName.TheVariants as none_name
 use Rattle.account_file.specs.Forms.{Parsed, followed, with_words, next_by, is_separator, with_item, list_by, last_part, named, number_of, port_of, literal_of, reference_of, pair_of, bits_of, tris_of, two_bits_of, side_of, kind_of, tallied_of, shape_name_of, step_name_of, none_name_of, record_name_of, shape_by, shape_of, claim_of, step_by, step_of, none_by, record_by, record_in_front, record_in}
 use Rattle.account_file.specs.Words.{words_of}
-use Rattle.account_file.specs.Spelling.{pair_word, side_word, bits_word, tris_word, tallied_word, kind_word, reference_word, shape_words, claim_words, step_words, first_word, other_words, spaced, line_text, record_line, IsPort, IsNumber, HasPorts, ShapeHasPorts, ClaimHasPorts, IsReference, StepHasNumbers, BanHasNumbers, IsWritable}
+use Rattle.account_file.specs.Spelling.{pair_word, side_word, bits_word, tris_word, tallied_word, kind_word, reference_word, shape_words, claim_words, step_words, first_word, other_words, line_text, record_line, IsPort, IsNumber, HasPorts, ShapeHasPorts, ClaimHasPorts, IsReference, StepHasNumbers, IsWritable}
 use Rattle.account_file.proofs.NameLemmas.{Any, named_written, side_spelled, kind_spelled, tallied_spelled, shape_word, shape_name_spelled, step_word, step_name_spelled, none_word, none_name_spelled, record_word, record_name_spelled, bits_spelled, tris_spelled, two_bits_word, two_bits_spelled}
 use Rattle.account_file.proofs.ReadLemmas.{stops, list_stops}
 use Rattle.account_file.proofs.SpellingLemmas.{IsVisible, shown, words_spaced, line_spaced_words, spaced_words}
@@ -130,7 +128,7 @@ shape_named shape_name.Swap words part e =
     let same : (Swap i.value j.value bits.value.0 bits.value.1, bits.behind) ≡ part = let last = bits.rest in cc in
     subst (ShapeIs (codes "swap" ∷ words)) same (
       ap (λ l. codes "swap" ∷ l) i.words_are ∙ ap (λ l. codes "swap" ∷ decimal i.value ∷ l) j.words_are
-      ∙ ap (λ l. codes "swap" ∷ decimal i.value ∷ decimal j.value ∷ l) bits.words_are,
+          ∙ ap (λ l. codes "swap" ∷ decimal i.value ∷ decimal j.value ∷ l) bits.words_are,
       (i.fit, j.fit),
     )
 
@@ -182,8 +180,8 @@ step_tally words part e =
     let front : List (List ℕ) → List (List ℕ) = λ l. codes "tally" ∷ tallied_word kind.value ∷ l in
     subst (StepIs (codes "tally" ∷ words)) same (
       ap (λ l. codes "tally" ∷ l) kind.words_are ∙ ap front have.words_are
-      ∙ ap (λ l. front (map decimal have.value ++ l)) (slash.words_are ∙ ap (λ l. codes "/" ∷ l) lack.words_are)
-      ∙ ap front (sym (append_assoc (map decimal have.value) (codes "/" ∷ map decimal lack.value) lack.behind)),
+          ∙ ap (λ l. front (map decimal have.value ++ l)) (slash.words_are ∙ ap (λ l. codes "/" ∷ l) lack.words_are)
+          ∙ ap front (sym (append_assoc (map decimal have.value) (codes "/" ∷ map decimal lack.value) lack.behind)),
       (have.fit, lack.fit),
     )
 
@@ -198,12 +196,12 @@ step_cover words part e =
     let same : (Cover kind.value from.value to.value refs.value, refs.behind) ≡ part = let last = refs.rest in cc in
     let front : List (List ℕ) → List (List ℕ) = λ l. codes "cover" ∷ kind_word kind.value ∷ l in
     let tail : slash.behind ≡ (map decimal to.value ++ codes "/" ∷ map reference_word refs.value) ++ refs.behind =
-        to.words_are ∙ ap (λ l. map decimal to.value ++ l) (second.words_are ∙ ap (λ l. codes "/" ∷ l) refs.words_are)
-        ∙ sym (append_assoc (map decimal to.value) (codes "/" ∷ map reference_word refs.value) refs.behind) in
+    to.words_are ∙ ap (λ l. map decimal to.value ++ l) (second.words_are ∙ ap (λ l. codes "/" ∷ l) refs.words_are)
+    ∙ sym (append_assoc (map decimal to.value) (codes "/" ∷ map reference_word refs.value) refs.behind) in
     subst (StepIs (codes "cover" ∷ words)) same (
       ap (λ l. codes "cover" ∷ l) kind.words_are ∙ ap front from.words_are
-      ∙ ap (λ l. front (map decimal from.value ++ l)) (slash.words_are ∙ ap (λ l. codes "/" ∷ l) tail)
-      ∙ ap front (sym (append_assoc (map decimal from.value) (codes "/" ∷ (map decimal to.value ++ codes "/" ∷ map reference_word refs.value)) refs.behind)),
+          ∙ ap (λ l. front (map decimal from.value ++ l)) (slash.words_are ∙ ap (λ l. codes "/" ∷ l) tail)
+          ∙ ap front (sym (append_assoc (map decimal from.value) (codes "/" ∷ (map decimal to.value ++ codes "/" ∷ map reference_word refs.value)) refs.behind)),
       (from.fit, (to.fit, refs.fit)),
     )
 
@@ -234,7 +232,7 @@ record_fails words part e =
     let same : (record_of.Fact (Fails claim.value bits.value), bits.behind) ≡ part = let last = bits.rest in cc in
     subst (RecordIs (codes "fails" ∷ words)) same (
       ap (λ l. codes "fails" ∷ l) claim.words_are ∙ ap (λ l. codes "fails" ∷ claim_words claim.value ++ l) bits.words_are
-      ∙ ap (λ l. codes "fails" ∷ l) (sym (append_assoc (claim_words claim.value) (bits_word bits.value ∷ []) bits.behind)),
+          ∙ ap (λ l. codes "fails" ∷ l) (sym (append_assoc (claim_words claim.value) (bits_word bits.value ∷ []) bits.behind)),
       claim.fit,
     )
 
@@ -252,8 +250,8 @@ record_log words part e =
     let same : (record_of.Line (record { clause = clause.value; hints = hints.value }), hints.behind) ≡ part = let last = hints.rest in cc in
     subst (RecordIs (codes "l" ∷ words)) same (
       ap (λ l. codes "l" ∷ l) clause.words_are
-      ∙ ap (λ l. codes "l" ∷ map literal_word clause.value ++ l) (colon.words_are ∙ ap (λ l. codes ":" ∷ l) hints.words_are)
-      ∙ ap (λ l. codes "l" ∷ l) (sym (append_assoc (map literal_word clause.value) (codes ":" ∷ map decimal hints.value) hints.behind)),
+          ∙ ap (λ l. codes "l" ∷ map literal_word clause.value ++ l) (colon.words_are ∙ ap (λ l. codes ":" ∷ l) hints.words_are)
+          ∙ ap (λ l. codes "l" ∷ l) (sym (append_assoc (map literal_word clause.value) (codes ":" ∷ map decimal hints.value) hints.behind)),
       record { literals = clause.fit; hints = hints.fit },
     )
 
@@ -265,8 +263,8 @@ record_ban words part e =
     let same : (record_of.Ban (record { pairs = pairs.value; step = step.value }), step.behind) ≡ part = let last = step.rest in cc in
     subst (RecordIs (codes "ban" ∷ words)) same (
       ap (λ l. codes "ban" ∷ l) pairs.words_are
-      ∙ ap (λ l. codes "ban" ∷ map pair_word pairs.value ++ l) (colon.words_are ∙ ap (λ l. codes ":" ∷ l) step.words_are)
-      ∙ ap (λ l. codes "ban" ∷ l) (sym (append_assoc (map pair_word pairs.value) (codes ":" ∷ step_words step.value) step.behind)),
+          ∙ ap (λ l. codes "ban" ∷ map pair_word pairs.value ++ l) (colon.words_are ∙ ap (λ l. codes ":" ∷ l) step.words_are)
+          ∙ ap (λ l. codes "ban" ∷ l) (sym (append_assoc (map pair_word pairs.value) (codes ":" ∷ step_words step.value) step.behind)),
       record { pairs = pairs.fit; step = step.fit },
     )
 

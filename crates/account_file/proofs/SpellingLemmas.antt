@@ -1,5 +1,5 @@
 -- Lines as they are written are those that are read.
-use Rattle.std.proofs.Common.{◌≡◌, ℕ, ◌+◌, ◌<◌, ◌≤◌, eqb, ltb, true, false, cond, List, [], ◌∷◌, ◌++◌, length, map, All, refl, sym, ap, ◌∙◌, arith, append_assoc, append-nil}
+use Rattle.std.proofs.Common.{◌≡◌, ℕ, ◌+◌, ◌<◌, ◌≤◌, eqb, ltb, true, false, cond, List, [], ◌∷◌, ◌++◌, length, All, refl, sym, ap, ◌∙◌, arith, append-nil}
 use Rattle.std.specs.Char.{is_ascii_digit}
 use Rattle.std.specs.List.{join_with_byte, list_all, prefix_len}
 use Rattle.std.specs.Str.{all_ascii_digits}

@@ -1,36 +1,22 @@
 -- Words as they are written are those that are read, each kind of word in its turn.
-use Rattle.std.proofs.Common.{◌≡◌, ◌⊎◌, ℕ, ◌<◌, ◌≤◌, ◌^◌, eqb, Bool, true, false, cond, codes, List, [], ◌∷◌, ◌++◌, length, map, take, drop, All, Option, Some, None, Result, Ok, Err, refl, sym, ap, subst, ◌∙◌, arith, inl, inr, take-append-drop, take_at, drop_at}
+use Rattle.std.proofs.Common.{◌≡◌, ◌⊎◌, ℕ, ◌<◌, ◌≤◌, ◌^◌, eqb, Bool, true, false, cond, codes, List, [], ◌∷◌, ◌++◌, length, take, drop, Option, Some, None, Result, Ok, Err, refl, sym, ap, subst, ◌∙◌, arith, inl, inr, take-append-drop, take_at, drop_at}
 use Rattle.std.specs.Char.{is_ascii_digit}
 use Rattle.std.specs.Fmt.{decimal}
 use Rattle.std.specs.List.{prefix_len}
 use Rattle.std.specs.Str.{bytes_eq}
 use Rattle.std.proofs.lemmas.Bool.{eqb-true, false≢true}
-use Rattle.std.proofs.lemmas.List.Elements.{All-nil, All-cons, All-head, All-tail, All-append}
+use Rattle.std.proofs.lemmas.List.Elements.{All-cons, All-append}
 use Rattle.std.proofs.lemmas.Slice.Eq.{bytes_eq-Decides}
 use Rattle.text_core.specs.Numbers.{is_numeral}
 use Rattle.circuits.specs.declared.port.Pair.{Pair}
 use Rattle.circuits.specs.declared.port.PortKind.{PortKind}
 use Rattle.circuits.specs.declared.port.PortKind.TheVariants.{Input, Output}
-use Rattle.net_core.specs.declared.graphs.Side.{Side}
-use Rattle.net_core.specs.declared.graphs.Side.TheVariants.{First, Second}
-use Rattle.word_sim.specs.declared.tri.Tri.{Tri}
-use Rattle.word_sim.specs.declared.tri.Tri.TheVariants as tri
 use Rattle.cnf_core.specs.declared.literal.SatLit.{SatLit}
-use Rattle.account_core.specs.declared.step.Tallied.{Tallied}
-use Rattle.account_core.specs.declared.step.Tallied.TheVariants.{Support, Binate}
 use Rattle.account_file.specs.declared.fault.RecordFault.{RecordFault}
 use Rattle.account_file.specs.declared.fault.RecordFault.TheVariants.{Word, Number}
-use Rattle.account_file.specs.declared.names.RecordName.{RecordName}
-use Rattle.account_file.specs.declared.names.RecordName.TheVariants as record_name
-use Rattle.account_file.specs.declared.names.ShapeName.{ShapeName}
-use Rattle.account_file.specs.declared.names.ShapeName.TheVariants as shape_name
-use Rattle.account_file.specs.declared.names.StepName.{StepName}
-use Rattle.account_file.specs.declared.names.StepName.TheVariants as step_name
-use Rattle.account_file.specs.declared.names.NoneName.{NoneName}
-use Rattle.account_file.specs.declared.names.NoneName.TheVariants as none_name
-use Rattle.account_file.specs.Forms.{number_below, bad_number, or_fault, number_of, port_of, mapped, literal_with, literal_of, numbered, reference_of, kind_of_letter, flip_of_sign, pair_by, pair_behind, pair_in, pair_of, bit_of, tri_of, with_digit, digits_by, digits_behind, values_in, bits_of, tris_of, both_bits, second_bit, two_bits_of, side_of, kind_of, tallied_of, shape_name_of, step_name_of, none_name_of, record_name_of, named, is_separator}
-use Rattle.account_file.specs.Spelling.{kind_letter, sign_of, pair_word, side_word, bit_digit, tri_digit, bits_word, tris_word, tallied_word, kind_word, reference_word, IsPort, IsNumber, HasPorts, IsReference}
-use Rattle.account_file.proofs.NumberLemmas.{decimal_digits, decimal_numeral, number_read, number_written, zero_decimal}
+use Rattle.account_file.specs.Forms.{number_below, bad_number, or_fault, number_of, port_of, mapped, literal_with, literal_of, numbered, reference_of, kind_of_letter, flip_of_sign, pair_by, pair_behind, pair_in, pair_of, is_separator}
+use Rattle.account_file.specs.Spelling.{kind_letter, sign_of, pair_word, reference_word, IsPort, IsNumber, HasPorts, IsReference}
+use Rattle.account_file.proofs.NumberLemmas.{decimal_digits, decimal_numeral, number_read, number_written}
 use Rattle.account_file.proofs.ReadLemmas.{IsWord, IsWordOrNumber, Wrote, digits_no_separator}
 use Rattle.account_file.proofs.SpellingLemmas.{IsVisible, shown, digits_visible, digits_front}
 
@@ -307,7 +293,7 @@ by_fields letter front sign back (Some kind) (Some from) (Some flip) (Some to) p
     let second = number_written (2 ^ 32) back to (omega arith) en in
     subst (IsPairWord (letter ∷ front ++ sign ∷ back)) is (
       ap (λ l. l ∷ front ++ sign ∷ back) (kind_written letter kind ek) ∙ ap (λ l. kind_letter kind ∷ l ++ sign ∷ back) first.0
-      ∙ ap (λ s. kind_letter kind ∷ decimal from ++ s ∷ back) (flip_written sign flip ef) ∙ ap (λ l. kind_letter kind ∷ decimal from ++ sign_of flip ∷ l) second.0,
+          ∙ ap (λ s. kind_letter kind ∷ decimal from ++ s ∷ back) (flip_written sign flip ef) ∙ ap (λ l. kind_letter kind ∷ decimal from ++ sign_of flip ∷ l) second.0,
       record { from = first.1; to = second.1 },
     )
 by_fields letter front sign back None m f n pair ek em ef en e = cc

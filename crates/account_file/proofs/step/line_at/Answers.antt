@@ -1,4 +1,4 @@
-use Rattle.std.proofs.Common.{◌≡◌, sym, ap, subst, ◌∙◌}
+use Rattle.std.proofs.Common.{sym, ap, subst, ◌∙◌}
 use Rattle.account_file.specs.Forms.{record_in}
 use Rattle.account_file.specs.Steps.{in_place}
 use Rattle.account_file.specs.Texts.{Answers}
