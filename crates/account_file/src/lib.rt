@@ -10,6 +10,7 @@ mod reader;
 mod record;
 mod spelling;
 mod step;
+mod values;
 mod words;
 
 pub use fault::{FileStop, RecordFault};

@@ -75,7 +75,7 @@ fn writes_facts(rt: HostRuntime) -> Result<(), Fail> {
 }
 
 #[test]
-fn writes_bans(rt: HostRuntime) -> Result<(), Fail> {
+fn writes_a_vector(rt: HostRuntime) -> Result<(), Fail> {
     let alloc = rt.alloc();
     let bits = Items::from_slice(alloc, &[Tri::Zero, Tri::X, Tri::One])?;
     let vector = ban(alloc, Step::Vector { output: 3, bits })?;
@@ -83,23 +83,39 @@ fn writes_bans(rt: HostRuntime) -> Result<(), Fail> {
         written(alloc, &vector)?.as_slice(),
         b">ban i0-12 o3+0 : vector 3 =0x1\n".as_slice()
     );
-    let tally = Step::Tally {
-        kind: Tallied::Binate,
-        have: Items::from_slice(alloc, &[0, 1])?,
-        lack: Items::new(alloc),
-    };
-    let tally = ban(alloc, tally)?;
+    Ok(())
+}
+
+#[test]
+fn writes_a_tally(rt: HostRuntime) -> Result<(), Fail> {
+    let alloc = rt.alloc();
+    let have = Items::from_slice(alloc, &[0, 1])?;
+    let lack = Items::new(alloc);
+    let kind = Tallied::Binate;
+    let tally = ban(alloc, Step::Tally { kind, have, lack })?;
     assert_eq!(rt;
         written(alloc, &tally)?.as_slice(),
         b">ban i0-12 o3+0 : tally binate 0 1 /\n".as_slice()
     );
-    let cover = Step::Cover {
-        kind: PortKind::Output,
-        from: Items::from_slice(alloc, &[7])?,
-        to: Items::from_slice(alloc, &[0])?,
-        refs: Items::from_slice(alloc, &[None, Some(5)])?,
-    };
-    let cover = ban(alloc, cover)?;
+    Ok(())
+}
+
+#[test]
+fn writes_a_cover(rt: HostRuntime) -> Result<(), Fail> {
+    let alloc = rt.alloc();
+    let from = Items::from_slice(alloc, &[7])?;
+    let to = Items::from_slice(alloc, &[0])?;
+    let refs = Items::from_slice(alloc, &[None, Some(5)])?;
+    let kind = PortKind::Output;
+    let cover = ban(
+        alloc,
+        Step::Cover {
+            kind,
+            from,
+            to,
+            refs,
+        },
+    )?;
     assert_eq!(rt;
         written(alloc, &cover)?.as_slice(),
         b">ban i0-12 o3+0 : cover out 7 / 0 / - 5\n".as_slice()
@@ -200,8 +216,9 @@ fn read_bytes(alloc: Global, account: &[u8]) -> Result<Given, AllocError> {
     })
 }
 
-// A refusal with each kind of record and step.
-const ACCOUNT: &[u8] = b"npnp 1
+/// A refusal with each kind of record and step.
+fn refusal() -> &'static [u8] {
+    b"npnp 1
 fails b 0 up 0 =01
 holds a 0 swap 0 1 10
 l 7 10 : 4
@@ -215,13 +232,15 @@ ban : cover out 0 / 0 1 / 0 - 1 2
 ban : cover in / /
 none ban 4
 end
-";
+"
+}
 
 #[test]
 fn reads_what_was_written_wherever_it_is_cut(rt: HostRuntime) -> Result<(), Fail> {
-    for cut in 0..ACCOUNT.len() {
-        let given = read_cut(rt.alloc(), ACCOUNT, cut)?;
-        assert_eq!(rt; given.text.as_slice(), ACCOUNT, "cut at {cut}");
+    let account = refusal();
+    for cut in 0..account.len() {
+        let given = read_cut(rt.alloc(), account, cut)?;
+        assert_eq!(rt; given.text.as_slice(), account, "cut at {cut}");
         assert_eq!(rt; given.fault, None);
         assert_eq!(rt; given.line, 14);
     }
@@ -233,8 +252,9 @@ const MATCH: &[u8] = b"npnp 1\nmatch i0-0 i1-1 o0-0\nl : 7 8 1 2 6\nl 5 : 4\nl :
 
 #[test]
 fn reads_what_was_written_byte_by_byte(rt: HostRuntime) -> Result<(), Fail> {
-    let given = read_bytes(rt.alloc(), MATCH)?;
-    assert_eq!(rt; given.text.as_slice(), MATCH);
+    let account = a_match();
+    let given = read_bytes(rt.alloc(), account)?;
+    assert_eq!(rt; given.text.as_slice(), account);
     assert_eq!(rt; given.fault, None);
     assert_eq!(rt; given.line, 6);
     Ok(())
@@ -257,117 +277,128 @@ fn fault_in(alloc: Global, lines: &[u8]) -> Result<(Option<RecordFault>, u64), A
     Ok((given.fault, given.line))
 }
 
-const NO_HEADERS: [(&[u8], RecordFault); 5] = [
-    (b"", RecordFault::Truncated),
-    (b"npnp 1", RecordFault::Truncated),
-    (b"npnp 9\n", RecordFault::Header),
-    (b"\nnpnp 1\n", RecordFault::Header),
-    (b"end\n", RecordFault::Header),
-];
+/// Texts that don't begin with the header.
+fn no_headers() -> &'static [(&'static [u8], RecordFault)] {
+    &[
+        (b"", RecordFault::Truncated),
+        (b"npnp 1", RecordFault::Truncated),
+        (b"npnp 9\n", RecordFault::Header),
+        (b"\nnpnp 1\n", RecordFault::Header),
+        (b"end\n", RecordFault::Header),
+    ]
+}
 
 #[test]
 fn wants_a_header(rt: HostRuntime) -> Result<(), Fail> {
-    for (account, fault) in NO_HEADERS {
+    for (account, fault) in no_headers().iter() {
         let given = read_cut(rt.alloc(), account, account.len() / 2)?;
-        assert_eq!(rt; given.fault, Some(fault), "at {account:?}");
+        assert_eq!(rt; given.fault, Some(*fault), "at {account:?}");
         assert_eq!(rt; given.line, 1);
     }
     Ok(())
 }
 
-// Second lines in which a word doesn't fit.
-const BAD_WORDS: [&[u8]; 22] = [
-    b"foils b 0 up 0 =01\n",
-    b"\n",
-    b"npnp 7\n",
-    b"none\tports\n",
-    b"match\ti0+0\n",
-    b"match i0+0 \n",
-    b"match i00+0\n",
-    b"match i4294967296+0\n",
-    b"match 7\n",
-    b"l 7 1\n",
-    b"l 7  : 1\n",
-    b"fails c 0 up 0 =01\n",
-    b"fails 7 0 up 0 =01\n",
-    b"fails a 0 up 0 01\n",
-    b"fails a 0 up 0 =x\n",
-    b"fails a 0 swap 0 1 2 =01\n",
-    b"holds a 0 swap 0 1\n",
-    b"holds a 0 up 0 =01\n",
-    b"ban i0+0 7 : mismatch 0 1\n",
-    b"ban : cover in 0 / 0\n",
-    b"ban : cover in 0 / 0 / 1 -0\n",
-    b"none ban\n",
-];
+/// Second lines in which a word doesn't fit.
+fn bad_words() -> &'static [&'static [u8]] {
+    &[
+        b"foils b 0 up 0 =01\n",
+        b"\n",
+        b"npnp 7\n",
+        b"none\tports\n",
+        b"match\ti0+0\n",
+        b"match i0+0 \n",
+        b"match i00+0\n",
+        b"match i4294967296+0\n",
+        b"match 7\n",
+        b"l 7 1\n",
+        b"l 7  : 1\n",
+        b"fails c 0 up 0 =01\n",
+        b"fails 7 0 up 0 =01\n",
+        b"fails a 0 up 0 01\n",
+        b"fails a 0 up 0 =x\n",
+        b"fails a 0 swap 0 1 2 =01\n",
+        b"holds a 0 swap 0 1\n",
+        b"holds a 0 up 0 =01\n",
+        b"ban i0+0 7 : mismatch 0 1\n",
+        b"ban : cover in 0 / 0\n",
+        b"ban : cover in 0 / 0 / 1 -0\n",
+        b"none ban\n",
+    ]
+}
 
 #[test]
 fn names_a_bad_word(rt: HostRuntime) -> Result<(), Fail> {
-    for lines in BAD_WORDS {
+    for lines in bad_words().iter() {
         let given = fault_in(rt.alloc(), lines)?;
         assert_eq!(rt; given, (Some(RecordFault::Word), 2), "at {lines:?}");
     }
     Ok(())
 }
 
-// Second lines in which a number is too large or has a leading zero.
-const BAD_NUMBERS: [&[u8]; 9] = [
-    b"l 07 : 1\n",
-    b"l 7 : 18446744073709551616\n",
-    b"fails a 4294967296 up 0 =01\n",
-    b"fails a 007\n",
-    b"holds b 0 swap 0 4294967296 01\n",
-    b"ban : mismatch 0 01\n",
-    b"ban : tally support 0 / 18446744073709551616\n",
-    b"ban : cover out 0 / 0 / - 00\n",
-    b"none ban 02\n",
-];
+/// Second lines in which a number is too large or has a leading zero.
+fn bad_numbers() -> &'static [&'static [u8]] {
+    &[
+        b"l 07 : 1\n",
+        b"l 7 : 18446744073709551616\n",
+        b"fails a 4294967296 up 0 =01\n",
+        b"fails a 007\n",
+        b"holds b 0 swap 0 4294967296 01\n",
+        b"ban : mismatch 0 01\n",
+        b"ban : tally support 0 / 18446744073709551616\n",
+        b"ban : cover out 0 / 0 / - 00\n",
+        b"none ban 02\n",
+    ]
+}
 
 #[test]
 fn names_a_bad_number(rt: HostRuntime) -> Result<(), Fail> {
-    for lines in BAD_NUMBERS {
+    for lines in bad_numbers().iter() {
         let given = fault_in(rt.alloc(), lines)?;
         assert_eq!(rt; given, (Some(RecordFault::Number), 2), "at {lines:?}");
     }
     Ok(())
 }
 
-// Lines behind the header of which the last is out of order, with its number.
-const OUT_OF_ORDER: [(&[u8], u64); 9] = [
-    (b"npnp 1\n", 2),
-    (b"end\n", 2),
-    (b"l : 0\n", 2),
-    (b"match i0-0 i1-1 o0-0\nend\n", 3),
-    (b"match\nl : 0\n", 3),
-    (b"holds a 0 up 0\nnone ports\n", 3),
-    (b"holds a 0 up 0\nl 7 : 1\nban : mismatch 0 1\n", 4),
-    (b"fails a 0 up 0 =0\nl : 0\n", 3),
-    (b"none ports\nban : mismatch 0 1\n", 3),
-];
+/// Lines behind the header of which the last is out of order, with its number.
+fn out_of_order() -> &'static [(&'static [u8], u64)] {
+    &[
+        (b"npnp 1\n", 2),
+        (b"end\n", 2),
+        (b"l : 0\n", 2),
+        (b"match i0-0 i1-1 o0-0\nend\n", 3),
+        (b"match\nl : 0\n", 3),
+        (b"holds a 0 up 0\nnone ports\n", 3),
+        (b"holds a 0 up 0\nl 7 : 1\nban : mismatch 0 1\n", 4),
+        (b"fails a 0 up 0 =0\nl : 0\n", 3),
+        (b"none ports\nban : mismatch 0 1\n", 3),
+    ]
+}
 
 #[test]
 fn names_a_line_out_of_order(rt: HostRuntime) -> Result<(), Fail> {
-    for (lines, line) in OUT_OF_ORDER {
+    for (lines, line) in out_of_order().iter() {
         let given = fault_in(rt.alloc(), lines)?;
-        assert_eq!(rt; given, (Some(RecordFault::Order), line), "at {lines:?}");
+        assert_eq!(rt; given, (Some(RecordFault::Order), *line), "at {lines:?}");
     }
     Ok(())
 }
 
-// Lines behind the header that end too early or too late.
-const BAD_ENDS: [(&[u8], RecordFault, u64); 5] = [
-    (b"match\nend", RecordFault::Truncated, 3),
-    (b"holds a 0 up 0\nl : 0\n", RecordFault::Truncated, 4),
-    (b"none ports\n", RecordFault::Truncated, 3),
-    (b"match\nend\nx", RecordFault::Trailing, 4),
-    (b"none ban 0\nend\n\n", RecordFault::Trailing, 4),
-];
+/// Lines behind the header that end too early or too late.
+fn bad_ends() -> &'static [(&'static [u8], RecordFault, u64)] {
+    &[
+        (b"match\nend", RecordFault::Truncated, 3),
+        (b"holds a 0 up 0\nl : 0\n", RecordFault::Truncated, 4),
+        (b"none ports\n", RecordFault::Truncated, 3),
+        (b"match\nend\nx", RecordFault::Trailing, 4),
+        (b"none ban 0\nend\n\n", RecordFault::Trailing, 4),
+    ]
+}
 
 #[test]
 fn names_a_bad_end(rt: HostRuntime) -> Result<(), Fail> {
-    for (lines, fault, line) in BAD_ENDS {
+    for (lines, fault, line) in bad_ends().iter() {
         let given = fault_in(rt.alloc(), lines)?;
-        assert_eq!(rt; given, (Some(fault), line), "at {lines:?}");
+        assert_eq!(rt; given, (Some(*fault), *line), "at {lines:?}");
     }
     Ok(())
 }
