@@ -247,8 +247,16 @@ fn reads_what_was_written_wherever_it_is_cut(rt: HostRuntime) -> Result<(), Fail
     Ok(())
 }
 
-// A match with the two logs of its output.
-const MATCH: &[u8] = b"npnp 1\nmatch i0-0 i1-1 o0-0\nl : 7 8 1 2 6\nl 5 : 4\nl : 7 8 4 5 3\nend\n";
+/// A match with the two logs of its output.
+fn a_match() -> &'static [u8] {
+    b"npnp 1
+match i0-0 i1-1 o0-0
+l : 7 8 1 2 6
+l 5 : 4
+l : 7 8 4 5 3
+end
+"
+}
 
 #[test]
 fn reads_what_was_written_byte_by_byte(rt: HostRuntime) -> Result<(), Fail> {
