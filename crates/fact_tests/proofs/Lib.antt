@@ -1,3 +1,5 @@
 mod NumberLemmas
 mod EqualLemmas
 mod WorkLemmas
+mod SupportLemmas
+mod StructureLemmas
