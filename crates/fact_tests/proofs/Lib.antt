@@ -3,3 +3,5 @@ mod EqualLemmas
 mod WorkLemmas
 mod SupportLemmas
 mod StructureLemmas
+mod ConeLemmas
+mod AskingLemmas

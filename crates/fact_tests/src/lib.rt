@@ -1,5 +1,7 @@
 //! Facts about the outputs of two circuits: decided by structure, by vectors that were seen, and by refutation.
 #![tactic(auto)]
 
+mod asking;
 mod facts;
+mod sightings;
 mod structure;
