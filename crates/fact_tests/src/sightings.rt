@@ -1,9 +1,8 @@
 //! Vectors that were seen to break claims.
 
-ghost use Rattle.std.specs.Prelude.{◌≡◌, ◌<◌, ℕ, All, IfOk, IfSome, length};
+ghost use Rattle.std.specs.Prelude.{◌≡◌, ◌<◌, ℕ, None, All, Contains, IfOk, IfSome, length};
 ghost use Rattle.circuits.specs.Netlists.{Net as AnyNet};
 ghost use Rattle.query_core.specs.Claims.{BreaksShape};
-ghost use Rattle.sim_signature.specs.declared.sighting.Sighting.{Sighting as AnySighting};
 ghost use Rattle.fact_tests.specs.Hunting.{AreSeen, IsSeen};
 
 use bit_list::Bits;
@@ -81,7 +80,8 @@ impl<'a> Sightings<'a> {
 
 /// So many entries of outputs that weren't hunted.
 fn unseen(alloc: Global, count: usize) -> Result<Vec<Option<Seen>>, AllocError>
-    ensures { (net : AnyNet) → count ≡ length net.outputs → IfOk result (λ outputs. AreSeen net outputs.items) }
+    ensures count { IfOk result (λ outputs. length outputs.items ≡ count) }
+    ensures none { IfOk result (λ outputs. All (λ entry. entry ≡ None) outputs.items) }
 {
     let mut outputs = Vec::new(alloc);
     for _ in 0..count {
@@ -140,8 +140,7 @@ fn sighting_of<'b>(
     places: &IndexMap<Shape, usize>,
     shape: &Shape,
 ) -> Option<&'b Sighting>
-    ensures { IfSome result (λ found. (found.now.shape ≡ shape.now)
-        × ((P : AnySighting → Type 0) → All P sightings.now → P found.now)) }
+    ensures { IfSome result (λ found. (found.now.shape ≡ shape.now) × Contains sightings.now found.now) }
 {
     let place = places.get(shape)?;
     let sighting = sightings.get(*place)?;
