@@ -1,5 +1,5 @@
 -- What deciding a query makes of a ledger.
-use Rattle.std.specs.Prelude.{◌≡◌, ℕ, Bool, true, List, [], ◌∷◌, ◌++◌}
+use Rattle.std.specs.Prelude.{◌≡◌, ◌⊎◌, ℕ, Bool, true, List, [], ◌∷◌, ◌++◌}
 use Rattle.cnf_core.specs.declared.log.LogLine.{LogLine}
 use Rattle.cnf_core.specs.declared.stop.Stop.{Stop}
 use Rattle.cnf_core.specs.declared.stop.Stop.TheVariants.{Spent, Memory}
@@ -31,3 +31,7 @@ pub record IsSpent (graphs : Graphs) (query : Query) (before after : Ledgered) (
 abbrev pub IsHalted : Graphs → Query → Ledgered → Ledgered → Stop → Type 0
 IsHalted graphs query before after (Spent learned) = IsSpent graphs query before after learned
 IsHalted graphs query before after Memory = Unit {0}
+
+-- a query was decided, and asked where that was needed
+abbrev pub IsDecided : Graphs → Query → Ledgered → Ledgered → Type 0
+IsDecided graphs query before after = (after ≡ before) ⊎ IsAsked graphs query before after

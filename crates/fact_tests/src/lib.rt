@@ -1,7 +1,9 @@
 //! Facts about the outputs of two circuits: decided by structure, by vectors that were seen, and by refutation.
 #![tactic(auto)]
 
+mod answers;
 mod asking;
+mod deciding;
 mod facts;
 mod sightings;
 mod structure;
