@@ -5,3 +5,4 @@ mod SupportLemmas
 mod StructureLemmas
 mod ConeLemmas
 mod AskingLemmas
+mod BookLemmas

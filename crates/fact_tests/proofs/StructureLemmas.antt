@@ -160,20 +160,18 @@ same_is (Wire place flip) (Wire other sign) is =
     cc
 
 -- input k isn't one of the shape's
-IsApart : ℕ → Shape → Type 0
+abbrev pub IsApart : ℕ → Shape → Type 0
 IsApart k (Up i) = k ≢ i
 IsApart k (Down i) = k ≢ i
 IsApart k (Swap i j a b) = (k ≢ i) × (k ≢ j)
 
 apart_opposite : (k : ℕ) (shape : Shape) → IsApart k shape → IsApart k (opposite_shape shape)
-unfolding IsApart
 apart_opposite k (Up i) apart = apart
 apart_opposite k (Down i) apart = apart
 apart_opposite k (Swap i j a b) apart = apart
 
 -- such an input gets its own bit
-own_bit : (n k : ℕ) (shape : Shape) (d : Feed) → IsApart k shape → slice_index_or (values_feed n shape) k d ≡ slice_index_or (straight n) k d
-unfolding IsApart
+pub own_bit : (n k : ℕ) (shape : Shape) (d : Feed) → IsApart k shape → slice_index_or (values_feed n shape) k d ≡ slice_index_or (straight n) k d
 own_bit n k (Up i) d apart = get_or-set_other (straight n) i k (Fixed false) d apart
 own_bit n k (Down i) d apart = get_or-set_other (straight n) i k (Fixed true) d apart
 own_bit n k (Swap i j a b) d apart = get_or-set_other (with_fixed i a (straight n)) j k (Fixed b) d apart.1 ∙ get_or-set_other (straight n) i k (Fixed a) d apart.0
@@ -191,18 +189,17 @@ only_at n i k below is =
     get_or-map-range_with_len (λ j. eqb j i) 0 n k k false below (omega arith) ∙ eq-eqb k i is
 
 -- the inputs of a shape, twice the one where there is one alone
-first_of : Shape → ℕ
+abbrev pub first_of : Shape → ℕ
 first_of (Up i) = i
 first_of (Down i) = i
 first_of (Swap i j a b) = i
 
-second_of : Shape → ℕ
+abbrev pub second_of : Shape → ℕ
 second_of (Up i) = i
 second_of (Down i) = i
 second_of (Swap i j a b) = j
 
-apart_from : (k : ℕ) (shape : Shape) → k ≢ first_of shape → k ≢ second_of shape → IsApart k shape
-unfolding IsApart first_of second_of
+pub apart_from : (k : ℕ) (shape : Shape) → k ≢ first_of shape → k ≢ second_of shape → IsApart k shape
 apart_from k (Up i) one other = one
 apart_from k (Down i) one other = one
 apart_from k (Swap i j a b) one other = (one, other)
@@ -230,7 +227,6 @@ length-only_input : (n i : ℕ) → length (only_input n i) ≡ n
 length-only_input n i = length-map-range_with_len (λ k. eqb k i) 0 n
 
 outside_both : (net : Net) (k : ℕ) (shape : Shape) → IsOutside net k shape → (output_reaches net k (first_of shape) ≡ false) × (output_reaches net k (second_of shape) ≡ false)
-unfolding first_of second_of
 outside_both net k (Up i) outside = (outside, outside)
 outside_both net k (Down i) outside = (outside, outside)
 outside_both net k (Swap i j a b) outside = outside

@@ -17,7 +17,7 @@ use ask_core::Answer;
 use bit_list::Bits;
 use cnf_core::Stop;
 use items::Items;
-use net_core::{Graph, Graphs};
+use net_core::{Graph, Graphs, Side};
 use query_core::{Claim, Ledger, Shape, of_claim};
 use std::alloc::{AllocError, Global};
 
@@ -40,9 +40,36 @@ impl<'a> Source<'a> {
     }
 }
 
+/// Decides a claim of either circuit.
+pub(crate) fn decide_of_side(
+    alloc: Global,
+    graphs: &Graphs,
+    first: &mut Source<'_>,
+    second: &mut Source<'_>,
+    claim: &Claim,
+    ledger: &mut Ledger,
+) -> Result<Evidence, Stop>
+    requires placed { IsClaim graphs.now claim.now }
+    requires first { IsSource graphs.now.first first.old }
+    requires second { IsSource graphs.now.second second.old }
+    requires unspent { ledger.old.spent ≡ false }
+    ensures first { IsSource graphs.now.first first.new }
+    ensures second { IsSource graphs.now.second second.new }
+    ensures evidence { IfOk result (IsEvidence graphs.now claim.now) }
+    ensures decided { IfOk result
+        (λ _. IsDecided graphs.now (claim_query graphs.now claim.now) ledger.old ledger.new) }
+    ensures unspent { IfOk result (λ _. ledger.new.spent ≡ false) }
+    ensures stop { IfErr result (IsHalted graphs.now (claim_query graphs.now claim.now) ledger.old ledger.new) }
+{
+    match claim.side {
+        Side::First => decide(alloc, graphs, first, claim, ledger),
+        Side::Second => decide(alloc, graphs, second, claim, ledger),
+    }
+}
+
 /// Decides a claim of a circuit: by structure where its output reaches none of the shape's inputs; by a vector that was
 /// seen to break it; and else by asking.
-pub(crate) fn decide(
+fn decide(
     alloc: Global,
     graphs: &Graphs,
     source: &mut Source<'_>,

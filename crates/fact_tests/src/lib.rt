@@ -3,7 +3,10 @@
 
 mod answers;
 mod asking;
+mod book;
 mod deciding;
 mod facts;
 mod sightings;
 mod structure;
+
+pub use book::FactBook;
