@@ -1,25 +1,22 @@
 -- What an answered query, and one refuted by its outputs, make of a ledger.
-use Rattle.std.proofs.Common.{◌≡◌, ℕ, zero, suc, ◌+◌, ◌*◌, ◌<◌, ◌≤◌, Bool, true, false, None, List, [], ◌∷◌, ◌++◌, length, take, All, slice_index_or, refl, sym, ap, subst, ◌∙◌, arith}
+use Rattle.std.proofs.Common.{◌≡◌, ℕ, zero, suc, ◌+◌, ◌<◌, List, [], ◌∷◌, ◌++◌, length, take, All, slice_index_or, ap, subst, ◌∙◌, arith}
 use Rattle.std.proofs.lemmas.List.{get_or-append-add, length-append}
 use Rattle.circuits.specs.Netlists.{signals_of}
 use Rattle.cnf_core.specs.declared.literal.SatLit.{SatLit}
 use Rattle.cnf_core.specs.declared.log.LogLine.{LogLine}
 use Rattle.cnf_core.specs.declared.stop.Stop.{Stop}
 use Rattle.cnf_core.specs.declared.stop.Stop.TheVariants.{Spent, Memory}
-use Rattle.cnf_core.specs.Derivations.{IsRefutation, clauses_of, line_fault}
+use Rattle.cnf_core.specs.Derivations.{IsRefutation, clauses_of}
 use Rattle.net_core.specs.declared.graphs.Graphs.{Graphs}
-use Rattle.net_core.specs.declared.graphs.Side.{Side}
-use Rattle.net_core.specs.declared.graphs.Side.TheVariants.{First, Second}
 use Rattle.net_core.specs.Cones.{output_signal}
 use Rattle.net_core.specs.Graph.{IsGraph}
 use Rattle.net_core.specs.Sides.{graph_of}
 use Rattle.query_core.specs.declared.claims.Claim.{Claim}
 use Rattle.query_core.specs.declared.query.Query.{Query}
-use Rattle.query_core.specs.declared.ledger.Asked.{Asked}
 use Rattle.query_core.specs.Claims.{IsClaim}
 use Rattle.query_core.specs.ClaimQueries.{claim_query}
 use Rattle.query_core.specs.Formulas.{formula_of, query_clauses}
-use Rattle.query_core.specs.Ledgers.{Ledgered, learned_in, opened, with_line, IsRefused}
+use Rattle.query_core.specs.Ledgers.{Ledgered, opened, with_line, IsRefused}
 use Rattle.query_core.specs.Queries.{IsQuery}
 use Rattle.query_core.proofs.ClaimQueryLemmas.{claim_query_fits}
 use Rattle.account_core.specs.Work.{IsLearned, IsNewBeside, IsWorkOn}

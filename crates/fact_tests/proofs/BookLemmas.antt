@@ -1,7 +1,8 @@
 -- What a book knows, and what it knows once a claim was decided or a query answered.
-use Rattle.std.proofs.Common.{◌≡◌, ◌≢◌, ◌⊎◌, ℕ, zero, suc, ◌+◌, ◌-◌, ◌<◌, ◌≤◌, Bool, true, false, not, Result, Ok, Err, List, [], ◌∷◌, ◌++◌, length, map, All, AllPairs, slice_index_or, inl, inr, refl, sym, ap, subst, ◌∙◌, arith}
+use Rattle.std.proofs.Common.{◌≡◌, ◌≢◌, ◌⊎◌, ℕ, ◌+◌, ◌-◌, ◌<◌, ◌≤◌, Bool, true, false, Result, Ok, Err, List, [], ◌∷◌, ◌++◌, length, map, All, slice_index_or, inl, inr, refl, sym, ap, subst, ◌∙◌, arith}
 use Rattle.std.specs.List.{Any}
-use Rattle.std.proofs.lemmas.Bool.{cases_eq, cases_lt}
+use Rattle.std.specs.Result.{IsErr, IsErrAnd}
+use Rattle.std.proofs.lemmas.Bool.{cases_eq, cases_lt, false≢true}
 use Rattle.std.proofs.lemmas.List.{get_or_append_left, get_or-append-add, get_or-map, get_or-set_same, get_or-set_other, length-append, length-map, length-set, map_push, append-nil, append_assoc}
 use Rattle.std.proofs.lemmas.List.FromFn.{get_or-map-range_with_len}
 use Rattle.std.proofs.lemmas.Result.{IfOk-weaker, IfErr-weaker}
@@ -10,7 +11,6 @@ use Rattle.std.proofs.lemmas.List.Quantifiers.{all_pairs_push}
 use Rattle.cnf_core.specs.declared.stop.Stop.{Stop}
 use Rattle.cnf_core.specs.declared.stop.Stop.TheVariants.{Spent, Memory}
 use Rattle.net_core.specs.declared.graphs.Graphs.{Graphs}
-use Rattle.net_core.specs.declared.graphs.Side.{Side}
 use Rattle.net_core.specs.declared.graphs.Side.TheVariants.{First, Second}
 use Rattle.net_core.specs.Sides.{graph_of}
 use Rattle.query_core.specs.declared.claims.Claim.{Claim}
@@ -22,21 +22,21 @@ use Rattle.query_core.specs.declared.query.Query.{Query}
 use Rattle.query_core.specs.declared.ledger.Asked.{Asked}
 use Rattle.query_core.specs.Claims.{IsClaim, IsPlaced}
 use Rattle.query_core.specs.ClaimQueries.{claim_query, values_feed, with_fixed}
-use Rattle.query_core.specs.MatchQueries.{match_query, straight}
+use Rattle.query_core.specs.MatchQueries.{straight}
 use Rattle.query_core.specs.Ledgers.{Ledgered}
 use Rattle.query_core.proofs.MatchLemmas.{straight_count}
 use Rattle.account_core.specs.declared.fact.Evidence.{Evidence}
-use Rattle.account_core.specs.declared.fact.Evidence.TheVariants.{Fails, Holds}
+use Rattle.account_core.specs.declared.fact.Evidence.TheVariants.{Fails}
 use Rattle.account_core.specs.declared.fact.Fact.{Fact}
 use Rattle.account_core.specs.Work.{IsCharged, IsOfClaim, IsOfMatch, IsWorkOfClaimsAndMatches}
-use Rattle.account_core.specs.Oracles.{AreFacts, Claims, Grows, IsAnswered, IsAsBefore, IsEvidence, IsFact, IsNumberOf, IsSpentWork, IsStopped, Keeps, Known, Serves, Suits, entry_at}
+use Rattle.account_core.specs.Oracles.{AreFacts, Claims, Grows, IsAnswered, IsEvidence, IsFact, IsNumberOf, IsStopped, Keeps, Known, Serves, Suits, entry_at}
 use Rattle.ask_core.specs.declared.question.Answer.{Answer}
-use Rattle.ask_core.specs.declared.question.Answer.TheVariants.{Vector, Refuted}
+use Rattle.ask_core.specs.declared.question.Answer.TheVariants.{Vector}
 use Rattle.ask_core.specs.Answers.{IsAnswer}
 use Rattle.fact_tests.specs.declared.answers.Kept.{Kept}
 use Rattle.fact_tests.specs.Asking.{IsAsked, IsDecided, IsHalted}
 use Rattle.fact_tests.specs.Books.{IsKept, known_by}
-use Rattle.fact_tests.proofs.StructureLemmas.{IsApart, first_of, second_of, apart_from, own_bit}
+use Rattle.fact_tests.proofs.StructureLemmas.{first_of, second_of, apart_from, own_bit}
 use Rattle.fact_tests.proofs.WorkLemmas.{IsAskedNew, asked_keeps, asked_suits, asked_work}
 
 -- ---- different claims ask different queries
@@ -434,6 +434,13 @@ module _ (graphs : Graphs) (facts : List Fact) (kept : List Kept) (claim : Claim
         number = tt;
         held = λ number number_is. not_held number number_is;
       }
+
+  -- there is no memory to note the fact
+  pub claims_refused : (before after : Ledgered) (later : List Fact) (r : Result ℕ Stop) → later ≡ facts → IsErr r → IsErrAnd r (λ stop. stop ≡ Memory) → Suits known before → Claims claim known (known_by graphs later kept) before after r
+  claims_refused before after later (Ok number) same err and suits = absurd (false≢true err)
+  claims_refused before after later (Err stop) same err and suits =
+      let halted : IsHalted graphs (claim_query graphs claim) before after stop = subst (IsHalted graphs (claim_query graphs claim) before after) (sym and) tt in
+      subst (λ (fs : List Fact). Claims claim known (known_by graphs fs kept) before after (Err stop)) (sym same) (claims_stopped before after stop suits halted)
 
 -- ---- a query of a match is answered
 

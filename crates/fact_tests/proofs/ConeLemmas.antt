@@ -1,15 +1,13 @@
 -- The clauses of a query's cones, and lines that say something new beside them.
-use Rattle.std.proofs.Common.{◌≡◌, ◌≢◌, ◌⊎◌, ℕ, zero, suc, ◌+◌, ◌-◌, ◌*◌, ◌<◌, ◌≤◌, Bool, true, false, None, List, [], ◌∷◌, ◌++◌, length, map, take, All, replicate, slice_index_or, inl, inr, refl, sym, ap, subst, ◌∙◌, arith}
+use Rattle.std.proofs.Common.{◌≡◌, ℕ, ◌+◌, ◌<◌, Bool, true, false, List, [], ◌∷◌, ◌++◌, length, All, replicate, inl, inr, refl, sym, subst, ◌∙◌, arith}
 use Rattle.std.specs.List.{AllByRecursion}
 use Rattle.std.proofs.lemmas.Bool.{cases_lt, false≢true}
 use Rattle.std.proofs.lemmas.List.{get_or_past, get_or_append_left, length-append, length-replicate, get_or-replicate}
 use Rattle.std.proofs.lemmas.List.Elements.{All-from_recursion}
 use Rattle.circuits.specs.declared.netlist.Gate.{Gate}
-use Rattle.circuits.specs.Literals.{EachAt, bit, signal_of}
+use Rattle.circuits.specs.Literals.{bit}
 use Rattle.circuits.specs.Netlists.{Net, IsOrdered, signals_of}
 use Rattle.cnf_core.specs.declared.literal.SatLit.{SatLit}
-use Rattle.cnf_core.specs.declared.log.LogLine.{LogLine}
-use Rattle.cnf_core.specs.Clauses.{clause_at}
 use Rattle.net_core.specs.declared.graphs.Graphs.{Graphs}
 use Rattle.net_core.specs.declared.graphs.Side.{Side}
 use Rattle.net_core.specs.declared.graphs.Side.TheVariants.{First, Second}
@@ -19,9 +17,9 @@ use Rattle.net_core.specs.Sides.{graph_of}
 use Rattle.query_core.specs.declared.query.Query.{Query}
 use Rattle.query_core.specs.Queries.{IsQuery, circuit_of}
 use Rattle.query_core.specs.Formulas.{query_clauses, gate_clauses, half_clauses, left_literals, right_literals}
-use Rattle.query_core.specs.ConeClauses.{AllOfCones, IsConeId, left_gates, right_gates}
+use Rattle.query_core.specs.ConeClauses.{AllOfCones, IsConeId}
 use Rattle.query_core.proofs.FormulaLemmas.{count_of}
-use Rattle.account_core.specs.Work.{has_all, IsNewBeside}
+use Rattle.account_core.specs.Work.{IsNewBeside}
 
 -- an output reaches no gate that isn't there
 gate_there : (net : Net) (k t : ℕ) → IsOrdered net → k < length net.outputs → ReachesGate net k t → t < length net.gates

@@ -1,5 +1,5 @@
 -- Claims, and queries, are the same where the derived comparison says so.
-use Rattle.std.proofs.Common.{◌≡◌, ◌&&◌, ℕ, eqb, List, Bool, true, false, refl, sym, ap, ◌∙◌}
+use Rattle.std.proofs.Common.{◌≡◌, ◌&&◌, eqb, List, Bool, true, false, refl, ap}
 use Rattle.std.specs.Bool.{Decides, beq}
 use Rattle.std.proofs.lemmas.Bool.Decides.{Decides-eqb, Decides-and, Decides-like}
 use Rattle.std.specs.Cmp.Lexicographic.{pointwise}

@@ -6,3 +6,4 @@ mod StructureLemmas
 mod ConeLemmas
 mod AskingLemmas
 mod BookLemmas
+mod MatchBits

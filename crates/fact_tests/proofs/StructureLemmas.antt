@@ -1,10 +1,10 @@
 -- The clauses of a claim whose inputs the output doesn't reach: those of the two outputs contradict each other.
-use Rattle.std.proofs.Common.{◌≡◌, ◌≢◌, ◌⊎◌, ℕ, zero, suc, ◌+◌, ◌-◌, ◌*◌, ◌/◌, ◌%◌, ◌<◌, ◌≤◌, ◌==◌, eqb, cond, ◌||◌, ◌&&◌, not, Bool, true, false, Option, None, Some, List, [], ◌∷◌, ◌++◌, length, map, drop, take, All, slice_index_or, nat_lt, inl, inr, refl, sym, ap, subst, ◌∙◌, arith, eq-eqb}
+use Rattle.std.proofs.Common.{◌≡◌, ◌≢◌, ◌⊎◌, ℕ, zero, suc, ◌+◌, ◌-◌, ◌*◌, ◌<◌, ◌≤◌, eqb, cond, ◌||◌, ◌&&◌, not, Bool, true, false, Option, None, Some, List, [], ◌∷◌, ◌++◌, length, map, drop, take, slice_index_or, nat_lt, inl, inr, refl, sym, ap, ◌∙◌, arith, eq-eqb}
 use Rattle.std.specs.Bool.{beq}
-use Rattle.std.specs.List.{range_with_len, AllByRecursion, list_all}
-use Rattle.std.proofs.lemmas.Bool.{cases_eq, cases_lt, ne_eqb, false≢true}
-use Rattle.std.proofs.lemmas.Bool.Decides.{eqb_tells, nat_tests}
-use Rattle.std.proofs.lemmas.List.{get_or_append_left, get_or-append-add, get_or_past, get_or_default, get_or-map, get_or-drop, get_or-set_other, length-append, length-map, length-set, length-drop, append-nil}
+use Rattle.std.specs.List.{range_with_len}
+use Rattle.std.proofs.lemmas.Bool.{cases_eq, cases_lt, false≢true}
+use Rattle.std.proofs.lemmas.Bool.Decides.{nat_tests}
+use Rattle.std.proofs.lemmas.List.{get_or_append_left, get_or-append-add, get_or_past, get_or-map, get_or-drop, get_or-set_other, length-append, length-map, length-drop, append-nil}
 use Rattle.std.proofs.lemmas.List.FromFn.{get_or-map-range_with_len, get_or-range_with_len, length-range_with_len, length-map-range_with_len}
 use Rattle.circuits.specs.declared.netlist.Gate.{Gate}
 use Rattle.circuits.specs.declared.netlist.Lit.{Lit}
@@ -15,9 +15,9 @@ use Rattle.cnf_core.specs.declared.log.LogLine.{LogLine}
 use Rattle.cnf_core.specs.declared.fault.LineFault.{LineFault}
 use Rattle.cnf_core.specs.declared.fault.LineFault.TheVariants as fault
 use Rattle.cnf_core.specs.declared.effect.Effect.{Effect}
-use Rattle.cnf_core.specs.declared.effect.Effect.TheVariants.{Conflict, Makes}
+use Rattle.cnf_core.specs.declared.effect.Effect.TheVariants.{Conflict}
 use Rattle.cnf_core.specs.Clauses.{Formula, clause_at, opposite}
-use Rattle.cnf_core.specs.Derivations.{IsRefutation, clauses_of, effect_by, effect_of, fault_behind, hint_fault, is_true, line_fault}
+use Rattle.cnf_core.specs.Derivations.{IsRefutation, clauses_of, effect_by, effect_of, fault_behind, hint_fault, line_fault}
 use Rattle.net_core.specs.declared.graphs.Graphs.{Graphs}
 use Rattle.net_core.specs.declared.graphs.Side.{Side}
 use Rattle.net_core.specs.declared.graphs.Side.TheVariants.{First, Second}
@@ -30,12 +30,10 @@ use Rattle.query_core.specs.declared.query.Feed.{Feed}
 use Rattle.query_core.specs.declared.query.Feed.TheVariants.{Fixed, Wire}
 use Rattle.query_core.specs.declared.query.Query.{Query}
 use Rattle.query_core.specs.MatchQueries.{straight}
-use Rattle.query_core.specs.Queries.{IsQuery, circuit_of}
 use Rattle.query_core.specs.ClaimQueries.{claim_query, opposite_shape, values_feed, with_fixed}
-use Rattle.query_core.specs.Formulas.{feed_literal, feeds_differ, false_literal, formula_of, plain, query_clauses, reaching, reaches, same_feed, same_side, shared_from, signal_literals, stand_in, stands_for, left_literals, right_literals, left_variables, right_variables, half_clauses, output_literal}
+use Rattle.query_core.specs.Formulas.{feed_literal, feeds_differ, false_literal, formula_of, plain, query_clauses, reaching, reaches, same_feed, same_side, shared_from, signal_literals, stand_in, stands_for, left_literals, right_literals, half_clauses}
 use Rattle.query_core.proofs.ClaimQueryLemmas.{values_count}
-use Rattle.query_core.proofs.FormulaLemmas.{count_of, first_output, second_output, gate_clause_count, length-reaching, length-feeds_differ, reached_count}
-use Rattle.query_core.proofs.MatchLemmas.{straight_count}
+use Rattle.query_core.proofs.FormulaLemmas.{count_of, first_output, second_output, gate_clause_count, length-reaching, length-feeds_differ}
 use Rattle.fact_tests.specs.Supports.{IsOutside, only_input, output_reaches, reaches_input, closing_line}
 
 -- ---- what reaches what

@@ -1,5 +1,5 @@
 -- The bits of words, and which inputs signals reach.
-use Rattle.std.proofs.Common.{◌≡◌, ◌≢◌, ◌⊎◌, ℕ, zero, suc, ◌+◌, ◌-◌, ◌*◌, ◌/◌, ◌%◌, ◌^◌, ◌<◌, ◌≤◌, ◌==◌, max, eqb, ◌||◌, Bool, true, false, List, [], ◌∷◌, ◌++◌, length, map, drop, All, slice_index_or, bit_or, inl, inr, refl, sym, ap, subst, ◌∙◌, arith, eq-eqb}
+use Rattle.std.proofs.Common.{◌≡◌, ◌≢◌, ◌⊎◌, ℕ, zero, suc, ◌+◌, ◌-◌, ◌*◌, ◌%◌, ◌^◌, ◌<◌, ◌≤◌, ◌==◌, max, eqb, ◌||◌, Bool, false, List, [], ◌∷◌, ◌++◌, length, map, drop, slice_index_or, bit_or, inl, inr, refl, sym, ap, subst, ◌∙◌, arith, eq-eqb}
 use Rattle.std.specs.List.{range_with_len}
 use Rattle.std.specs.Int.{bit_at}
 use Rattle.std.proofs.lemmas.Bool.{ne_eqb, cases_eq, cases_lt}
@@ -17,7 +17,7 @@ use Rattle.circuits.specs.Netlists.{Net}
 use Rattle.query_core.specs.Formulas.{reaching}
 use Rattle.word_sim.specs.Columns.{lane, word_bit}
 use Rattle.word_sim.proofs.Lanes.{lane-bit}
-use Rattle.fact_tests.specs.Supports.{IsBlock, only_input, output_reaches, reaches_input}
+use Rattle.fact_tests.specs.Supports.{IsBlock, only_input, reaches_input}
 
 two : (m : ℕ) → m < 2 → (m ≡ 0) ⊎ (m ≡ 1)
 two zero l = inl refl

@@ -1,9 +1,8 @@
 -- What asking one more query makes of a ledger.
-use Rattle.std.proofs.Common.{◌≡◌, ◌≢◌, ◌⊎◌, ℕ, zero, suc, ◌+◌, ◌-◌, ◌<◌, ◌≤◌, eqb, cond, Bool, true, false, List, [], ◌∷◌, ◌++◌, length, take, All, AllPairs, slice_index_or, slice_set, inl, inr, refl, sym, ap, subst, ◌∙◌, arith}
-use Rattle.std.specs.List.{Any}
+use Rattle.std.proofs.Common.{◌≡◌, ◌⊎◌, ℕ, suc, ◌+◌, ◌-◌, ◌<◌, ◌≤◌, cond, false, List, [], ◌∷◌, ◌++◌, length, take, All, AllPairs, slice_index_or, slice_set, inl, inr, refl, sym, ap, subst, ◌∙◌, arith}
 use Rattle.std.proofs.lemmas.Bool.Decides.{eqb_tells}
 use Rattle.std.proofs.lemmas.Bool.{cases_lt}
-use Rattle.std.proofs.lemmas.List.{get_or_default, get_or-take, get_or_append_left, get_or-append-add, length-append, length-take, take_all}
+use Rattle.std.proofs.lemmas.List.{get_or-take, get_or_append_left, get_or-append-add, length-append, length-take, take_all}
 use Rattle.std.proofs.lemmas.List.Elements.{All-push, All-take}
 use Rattle.std.proofs.lemmas.List.Quantifiers.{all_pairs_push}
 use Rattle.cnf_core.specs.declared.log.LogLine.{LogLine}
@@ -11,7 +10,7 @@ use Rattle.net_core.specs.declared.graphs.Graphs.{Graphs}
 use Rattle.query_core.specs.declared.query.Query.{Query}
 use Rattle.query_core.specs.declared.ledger.Asked.{Asked}
 use Rattle.query_core.specs.Ledgers.{Ledgered, charged_front, entry_of, last_asked, nothing_asked, opened, with_line, with_lines}
-use Rattle.account_core.specs.Work.{AreApart, IsCharged, IsOfClaim, IsOfMatch, IsWork, IsWorkOn, IsWorkOfClaimsAndMatches}
+use Rattle.account_core.specs.Work.{AreApart, IsCharged, IsOfClaim, IsOfMatch, IsWorkOn, IsWorkOfClaimsAndMatches}
 use Rattle.fact_tests.specs.Asking.{entry_with}
 use Rattle.account_core.specs.Oracles.{Known, IsAnswered, IsAsBefore, Keeps, Suits, entry_at}
 

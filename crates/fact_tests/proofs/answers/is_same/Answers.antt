@@ -1,4 +1,4 @@
-use Rattle.std.proofs.Common.{◌≡◌, sym, ◌∙◌}
+use Rattle.std.proofs.Common.{sym, ◌∙◌}
 use Rattle.fact_tests.proofs.EqualLemmas.{query_decides}
 use Rattle.fact_tests.proofs.answers.is_same.Goals as goal
 

@@ -1,4 +1,3 @@
-use Rattle.std.proofs.Common.{◌≡◌}
 use Rattle.std.proofs.lemmas.Result.{IfOk-weaker, IfErr-weaker}
 use Rattle.ask_core.specs.declared.question.Answer.{Answer}
 use Rattle.cnf_core.specs.declared.stop.Stop.{Stop}

@@ -1,4 +1,4 @@
-use Rattle.std.proofs.Common.{◌≡◌, sym, subst}
+use Rattle.std.proofs.Common.{sym, subst}
 use Rattle.ask_core.specs.Answers.{IsAnswer, IsVector}
 use Rattle.query_core.specs.Claims.{Breaks}
 use Rattle.query_core.proofs.ClaimQueryLemmas.{meets-breaks}

@@ -1,4 +1,4 @@
-use Rattle.std.proofs.Common.{ap, ◌∙◌, ◌+◌, ◌++◌, [], ◌∷◌, arith, length, bit_or, drop}
+use Rattle.std.proofs.Common.{ap, ◌∙◌, ◌+◌, [], ◌∷◌, arith, length, bit_or, drop}
 use Rattle.std.proofs.lemmas.List.{length-append}
 use Rattle.query_core.specs.Formulas.{reaching}
 use Rattle.word_sim.specs.Columns.{lane}

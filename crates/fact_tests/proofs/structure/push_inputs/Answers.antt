@@ -1,4 +1,4 @@
-use Rattle.std.proofs.Common.{ap, ◌∙◌, ◌++◌, [], ◌∷◌, arith, length}
+use Rattle.std.proofs.Common.{ap, ◌∙◌, [], ◌∷◌, arith, length}
 use Rattle.std.proofs.lemmas.List.{length-append}
 use Rattle.word_sim.specs.Columns.{lane}
 use Rattle.fact_tests.proofs.SupportLemmas.{inputs_more}
