@@ -1,3 +1,5 @@
-mod Picking
-mod Tables
+mod Evaluating
 mod Hunts
+mod Picking
+mod Rows
+mod Wanted

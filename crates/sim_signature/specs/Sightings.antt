@@ -1,10 +1,11 @@
 -- Vectors that were seen to break claims of an output.
-use Rattle.std.specs.Prelude.{◌≡◌, ◌⊎◌, ◌↔◌, ℕ, ◌<◌, true, List, [], ◌∷◌, ◌++◌, All, Any}
+use Rattle.std.specs.Prelude.{◌≡◌, ◌⊎◌, ℕ, ◌<◌, Bool, true, List, [], ◌∷◌, ◌++◌, All, Any, Contains}
+use Rattle.circuits.specs.Literals.{bit}
 use Rattle.circuits.specs.Netlists.{Net}
 use Rattle.query_core.specs.declared.claims.Shape.{Shape}
 use Rattle.query_core.specs.declared.claims.Shape.TheVariants.{Up, Down, Swap}
 use Rattle.query_core.specs.Claims.{IsPlaced, BreaksShape}
-use Rattle.word_sim.specs.Columns.{Table, word_bit, vector_at}
+use Rattle.word_sim.specs.Columns.{word_bit, lane}
 use Rattle.sim_signature.specs.Rounds.{Simulated}
 use Rattle.sim_signature.specs.declared.sighting.Sighting.{Sighting}
 
@@ -19,25 +20,20 @@ AreBroken net k sightings = All (IsBroken net k) sightings
 abbrev pub IsSighted : Shape → List Sighting → Type 0
 IsSighted shape sightings = Any (λ sighting. sighting.shape ≡ shape) sightings
 
--- the bits of a word that stand for vectors, of the first words of the columns, that break the shape
-abbrev pub AreBreaking : Net → ℕ → Table → Shape → ℕ → Type 0
-AreBreaking net k table shape lanes = (v : ℕ) → v < 64
-    → (word_bit v lanes ≡ true ↔ BreaksShape net k shape (vector_at table 0 v))
-
 -- one of the word's vectors is noted, where there is one
-abbrev pub IsNoted : Table → Shape → ℕ → List Sighting → List Sighting → Type 0
-IsNoted table shape lanes old new =
+abbrev pub IsNoted : List ℕ → Shape → ℕ → List Sighting → List Sighting → Type 0
+IsNoted row shape lanes old new =
     ((lanes ≡ 0) × (new ≡ old))
     ⊎ ((v : ℕ) × (v < 64) × (word_bit v lanes ≡ true)
-    × (new ≡ old ++ record { shape = shape; vector = vector_at table 0 v } ∷ []))
+    × (new ≡ old ++ record { shape = shape; vector = lane v row } ∷ []))
 
 -- Sightings are added: each shape among those hunted that one of the 64 vectors breaks is sighted.
 pub record Hunted (s : Simulated) (Among : Shape → Type 0) (old new : List Sighting) : Type 0 where
-  pub broken : AreBroken s.net s.output old → AreBroken s.net s.output new
+  pub broken : AreBroken s.target.net s.target.output old → AreBroken s.target.net s.target.output new
   pub kept : (shape : Shape) → IsSighted shape old → IsSighted shape new
   pub found : (shape : Shape) → Among shape
       → (v : ℕ) → v < 64
-      → BreaksShape s.net s.output shape (vector_at s.table 0 v)
+      → BreaksShape s.target.net s.target.output shape (lane v s.row)
       → IsSighted shape new
 
 -- the shape is of one input, or of two of which it is the first
@@ -62,3 +58,15 @@ abbrev pub IsOfInputsBelow : ℕ → Shape → Type 0
 IsOfInputsBelow end (Up i) = i < end
 IsOfInputsBelow end (Down i) = i < end
 IsOfInputsBelow end (Swap i j a b) = i < end
+
+-- the inputs of a shape, which is placed, are marked
+abbrev pub AreHunted : List Bool → Shape → Type 0
+AreHunted hunted (Up i) = bit hunted i ≡ true
+AreHunted hunted (Down i) = bit hunted i ≡ true
+AreHunted hunted (Swap i j a b) = (i < j) × (bit hunted i ≡ true) × (bit hunted j ≡ true)
+
+-- Shapes whose inputs are there are added, and among them are those that are wanted.
+pub record Added (n : ℕ) (Wanted : Shape → Type 0) (old new : List Shape) : Type 0 where
+  pub placed : All (IsPlaced n) old → All (IsPlaced n) new
+  pub kept : (shape : Shape) → Contains old shape → Contains new shape
+  pub found : (shape : Shape) → Wanted shape → Contains new shape

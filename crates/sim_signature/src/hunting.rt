@@ -5,6 +5,8 @@ ghost use Rattle.query_core.specs.declared.claims.Shape.{Shape};
 ghost use Rattle.query_core.specs.Claims.{IsPlaced, ShapeFails};
 ghost use Rattle.sim_signature.specs.Sightings.{AreBroken, IsSighted};
 
+use crate::claims::claims;
+use crate::cone::Cone;
 use crate::round::Round;
 use crate::sighting::Sighting;
 use crate::vectors::{all_vectors, drawn_vectors};
@@ -17,6 +19,8 @@ const FEW: u32 = 6;
 
 /// Looks for vectors that break claims of an output: on at most six inputs among all vectors, and on more
 /// inputs among 64 vectors a round, drawn from the number `seed`, and these with one or two inputs inverted.
+/// There only the inputs that the output reads are inverted, and a claim that is broken is not hunted again.
+/// Each simulation goes through the gates that the output reaches.
 ///
 /// # Errors
 ///
@@ -58,9 +62,11 @@ fn hunt_all(alloc: Global, graph: &Graph, output: u32) -> Result<Vec<Sighting>, 
         → IsSighted shape sightings.items) }
 {
     let mut sightings = Vec::new(alloc);
-    let inputs = all_vectors(alloc, graph.inputs())?;
-    let round = Round::new(alloc, graph, output, inputs)?;
-    round.sight_all(&mut sightings)?;
+    let cone = Cone::new(alloc, graph, output)?;
+    let inputs = vec![in alloc; true; cone.inputs() as usize]?;
+    let claims = claims(alloc, &inputs)?;
+    let mut round = Round::new(alloc, &cone, all_vectors(alloc, cone.inputs())?)?;
+    round.sight_all(&claims, &mut sightings)?;
     Ok(sightings)
 }
 
@@ -77,10 +83,12 @@ fn hunt_drawn(
 {
     let mut sightings = Vec::new(alloc);
     let mut generator = Pcg32::new(seed, output as u64);
+    let cone = Cone::new(alloc, graph, output)?;
+    let mut left = claims(alloc, &cone.read_inputs(alloc)?)?;
     for _ in 0..rounds {
-        let inputs = drawn_vectors(alloc, graph.inputs(), &mut generator)?;
-        let round = Round::new(alloc, graph, output, inputs)?;
-        round.sight_all(&mut sightings)?;
+        let row = drawn_vectors(alloc, cone.inputs(), &mut generator)?;
+        let mut round = Round::new(alloc, &cone, row)?;
+        left = round.sight_all(&left, &mut sightings)?;
     }
     Ok(sightings)
 }

@@ -1,6 +1,9 @@
 //! Vectors that break claims of an output, found by simulation.
 #![tactic(auto)]
 
+mod change;
+mod claims;
+mod cone;
 mod hunting;
 mod lanes;
 mod round;

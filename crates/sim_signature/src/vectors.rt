@@ -1,15 +1,12 @@
-//! Tables of 64 vectors, a word for each input.
+//! 64 vectors, a word for each input.
 
-ghost use Rattle.std.specs.Prelude.{◌≡◌, ◌<◌, ◌≤◌, ◌/◌, ◌%◌, ◌^◌, ◌==◌, ℕ, not, length, IfOk};
-ghost use Rattle.circuits.specs.Literals.{bit, vector_of};
-ghost use Rattle.query_core.specs.Claims.{output_bit, with_input};
-ghost use Rattle.word_sim.specs.Columns.{IsTable, vector_at, word_bit};
+ghost use Rattle.std.specs.Prelude.{◌≡◌, ◌<◌, ◌≤◌, ◌/◌, ◌%◌, ◌^◌, ◌==◌, ℕ, length, IfOk};
+ghost use Rattle.circuits.specs.Literals.{vector_of};
+ghost use Rattle.word_sim.specs.Columns.{lane, word_bit};
 
-use net_core::Graph;
 use rand_core::Rng;
 use rand_pcg::Pcg32;
 use std::alloc::{AllocError, Global};
-use word_sim::{Words, simulate};
 
 /// Bit v of word i is digit i of v in base two.
 const ALTERNATING: [u64; 6] = [
@@ -29,18 +26,16 @@ fn alternating(input: u32) -> u64
 }
 
 /// All vectors of at most six inputs: bit v stands for the vector with the number v.
-pub(crate) fn all_vectors(alloc: Global, inputs: u32) -> Result<Words, AllocError>
+pub(crate) fn all_vectors(alloc: Global, inputs: u32) -> Result<Vec<u64>, AllocError>
     requires { inputs ≤ 6 }
-    ensures vectors { IfOk result (λ table. (v : ℕ) → v < 64 → vector_at table 0 v ≡ vector_of inputs v) }
-    ensures words { IfOk result (λ table. table.words ≡ 1) }
-    ensures columns { IfOk result (λ table. length table.columns ≡ inputs) }
-    ensures table { IfOk result IsTable }
+    ensures vectors { IfOk result (λ row. (v : ℕ) → v < 64 → lane v row.items ≡ vector_of inputs v) }
+    ensures inputs { IfOk result (λ row. length row.items ≡ inputs) }
 {
-    let mut table = Words::new(alloc, inputs, 1)?;
+    let mut row = Vec::with_capacity(alloc, inputs as usize)?;
     for input in 0..inputs {
-        table.set(input, 0, alternating(input));
+        row.push(alternating(input))?;
     }
-    Ok(table)
+    Ok(row)
 }
 
 /// Vectors drawn by a generator.
@@ -48,48 +43,12 @@ pub(crate) fn drawn_vectors(
     alloc: Global,
     inputs: u32,
     generator: &mut Pcg32,
-) -> Result<Words, AllocError>
-    ensures words { IfOk result (λ table. table.words ≡ 1) }
-    ensures columns { IfOk result (λ table. length table.columns ≡ inputs) }
-    ensures table { IfOk result IsTable }
+) -> Result<Vec<u64>, AllocError>
+    ensures { IfOk result (λ row. length row.items ≡ inputs) }
 {
-    let mut table = Words::new(alloc, inputs, 1)?;
-    for input in 0..inputs {
-        table.set(input, 0, generator.next_u64());
+    let mut row = Vec::with_capacity(alloc, inputs as usize)?;
+    for _ in 0..inputs {
+        row.push(generator.next_u64())?;
     }
-    Ok(table)
-}
-
-/// The same vectors with one input inverted.
-pub(crate) fn with_inverted(inputs: &Words, input: u32) -> Result<Words, AllocError>
-    requires input { input < length inputs.now.columns }
-    requires words { inputs.now.words ≡ 1 }
-    ensures vectors { IfOk result (λ table. (v : ℕ) → v < 64
-        → vector_at table 0 v
-        ≡ with_input input (not (bit (vector_at inputs.now 0 v) input)) (vector_at inputs.now 0 v)) }
-    ensures words { IfOk result (λ table. table.words ≡ 1) }
-    ensures columns { IfOk result (λ table. length table.columns ≡ length inputs.now.columns) }
-    ensures table { IfOk result IsTable }
-{
-    let mut table = inputs.copy()?;
-    let word = inputs.get(input, 0);
-    table.set(input, 0, word ^ u64::MAX);
-    Ok(table)
-}
-
-/// The output's bit on each of the vectors.
-pub(crate) fn output_word(
-    alloc: Global,
-    graph: &Graph,
-    output: u32,
-    inputs: &Words,
-) -> Result<u64, AllocError>
-    requires output { output < length graph.now.outputs }
-    requires inputs { length inputs.now.columns ≡ graph.now.inputs }
-    requires words { inputs.now.words ≡ 1 }
-    ensures { IfOk result (λ word. (v : ℕ) → v < 64
-        → word_bit v word ≡ output_bit graph.now output (vector_at inputs.now 0 v)) }
-{
-    let outputs = simulate(alloc, graph, inputs)?;
-    Ok(outputs.get(output, 0))
+    Ok(row)
 }

@@ -45,7 +45,7 @@ pub lane-literal : (v : ℕ) (words : List ℕ) (literal : Lit) → v < 64 → w
 lane-literal v words literal h =
     inverted-bit v (get_or words (signal_of literal) 0) (is_negated literal) h ∙ ap (λ b. differ b (is_negated literal)) (lane-bit v words (signal_of literal))
 
-lane-gate : (v : ℕ) (words : List ℕ) (gate : Gate) → v < 64 → word_bit v (gate_word words gate) ≡ gate_bit (lane v words) gate
+pub lane-gate : (v : ℕ) (words : List ℕ) (gate : Gate) → v < 64 → word_bit v (gate_word words gate) ≡ gate_bit (lane v words) gate
 lane-gate v words gate h =
     and-bit v (literal_word words gate.a) (literal_word words gate.b) ∙ (ap (λ b. b && word_bit v (literal_word words gate.b)) (lane-literal v words gate.a h) ∙ ap (λ b. literal_bit (lane v words) gate.a && b) (lane-literal v words gate.b h))
 

@@ -7,7 +7,7 @@ mod three_values;
 mod tri;
 mod words;
 
-pub use simulation::simulate;
+pub use simulation::{gate_word, literal_word, simulate};
 pub use three_values::tri_eval;
 pub use tri::Tri;
 pub use words::Words;

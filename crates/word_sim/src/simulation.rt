@@ -77,8 +77,8 @@ fn run_gates(gates: &[Gate], first: usize, values: &mut [u64])
     }
 }
 
-/// The gate's word: the AND of its two literals' words.
-fn gate_word(values: &[u64], gate: Gate) -> u64
+/// The gate's word where each signal has the word that `values` gives it: the AND of its two literals' words.
+pub fn gate_word(values: &[u64], gate: Gate) -> u64
     requires first_operand { signal_of gate.a < length values.now }
     requires second_operand { signal_of gate.b < length values.now }
     ensures { result ≡ gate_word values.now gate }
@@ -86,8 +86,9 @@ fn gate_word(values: &[u64], gate: Gate) -> u64
     literal_word(values, gate.a) & literal_word(values, gate.b)
 }
 
-/// The literal's word.
-fn literal_word(values: &[u64], literal: Lit) -> u64
+/// The literal's word where each signal has the word that `values` gives it: its signal's word, all 64 bits inverted where
+/// the literal is negated.
+pub fn literal_word(values: &[u64], literal: Lit) -> u64
     requires { signal_of literal < length values.now }
     ensures { result ≡ literal_word values.now literal }
 {

@@ -1,20 +1,27 @@
 -- All vectors were tried.
-use Rattle.std.proofs.Common.{subst, sym, arith, ◌∙◌, ap}
+use Rattle.std.proofs.Common.{ℕ, replicate, true, ◌≡◌, ◌<◌, ◌∙◌, ap, subst}
+use Rattle.std.specs.List.{Contains}
 use Rattle.circuits.specs.Literals.{vector_of}
-use Rattle.query_core.specs.Claims.{IsPlaced}
-use Rattle.sim_signature.specs.Rounds.{Simulated}
-use Rattle.sim_signature.specs.Sightings.{AreBroken, Hunted}
+use Rattle.word_sim.specs.Columns.{lane}
+use Rattle.sim_signature.specs.Rounds.{Simulated, Target}
+use Rattle.sim_signature.specs.Sightings.{Hunted}
 use Rattle.sim_signature.proofs.Hunts.{all_sighted}
+use Rattle.sim_signature.proofs.Wanted.{all_marked}
 use Rattle.sim_signature.proofs.hunting.hunt_all.Goals as goal
 
-pub returns-clause-broken : goal.returns-clause-broken
-returns-clause-broken c =
-    let net = c.args.graph.now in
-    let P : Simulated → Type 0 = λ s. AreBroken s.net s.output c.new-sightings.result.items → AreBroken s.net s.output c.sight_all.new.sightings.items in
-    subst P c.in_ok-round.ensures c.in_ok-sight_all.ensures.broken (subst (AreBroken net c.args.output) (sym c.new-sightings.ensures.items) (λ k d h. absurd (omega (arith, h))))
-
 pub returns-clause-all : goal.returns-clause-all
-returns-clause-all c =
-    let s : Simulated = record { net = c.args.graph.now; output = c.args.output; table = c.in_ok-inputs.inputs } in
-    let P : Simulated → Type 0 = λ s. Hunted s (IsPlaced s.net.inputs) c.new-sightings.result.items c.sight_all.new.sightings.items in
-    all_sighted s c.new-sightings.result.items c.sight_all.new.sightings.items c.requires.few (λ v h. c.in_ok-inputs.ensures.vectors v h ∙ ap (λ n. vector_of n v) c.inputs.ensures.value) (subst P c.in_ok-round.ensures c.in_ok-sight_all.ensures)
+returns-clause-all c shape placed fails =
+    let target : Target = record { net = c.args.graph.now; output = c.args.output } in
+    let row = c.in_ok-all_vectors.field-0.items in
+    let s : Simulated = record { target = target; row = row } in
+    let claims = c.in_ok-claims.claims.items in
+    let old = c.new-sightings.result.items in
+    let new = c.sight_all.new.sightings.items in
+    let same : c.in_ok-round.round ≡ s = c.in_ok-round.ensures ∙ ap (λ (t : Target). record { target = t; row = row }) c.in_ok-cone.ensures in
+    let hunted : Hunted s (Contains claims) old new =
+    subst (λ (t : Simulated). Hunted t (Contains claims) old new) same (subst (λ list. Hunted c.in_ok-round.round (Contains list) old new) c.deref-2.ensures.value c.in_ok-sight_all.ensures.hunted) in
+    let inputs = ap (λ (t : Target). t.net.inputs) c.in_ok-cone.ensures in
+    let marked : c.deref.result.now ≡ replicate s.target.net.inputs true = c.deref.ensures.value ∙ (c.in_ok-inputs.ensures.items_if_clones_equal (λ y e. e) ∙ ap (λ n. replicate n true) (c.inputs.ensures ∙ inputs)) in
+    let wanted : Contains claims shape = c.in_ok-claims.ensures.found shape (all_marked s.target.net.inputs c.deref.result.now shape marked placed) in
+    let all : (v : ℕ) → v < 64 → lane v row ≡ vector_of s.target.net.inputs v = λ v h. c.in_ok-all_vectors.ensures.vectors v h ∙ ap (λ n. vector_of n v) (c.inputs-2.ensures ∙ inputs) in
+    all_sighted s claims old new c.requires.few all hunted shape wanted fails

@@ -1,10 +1,17 @@
 -- A round adds broken claims alone.
-use Rattle.std.proofs.Common.{subst}
-use Rattle.sim_signature.specs.Rounds.{Simulated}
+use Rattle.std.proofs.Common.{◌≡◌, ◌∙◌, ap, subst}
+use Rattle.std.specs.List.{All}
+use Rattle.query_core.specs.Claims.{IsPlaced}
+use Rattle.sim_signature.specs.Rounds.{Simulated, Target}
 use Rattle.sim_signature.specs.Sightings.{AreBroken}
 use Rattle.sim_signature.proofs.hunting.hunt_drawn.Goals as goal
 
 pub loop-preserved : goal.loop-preserved
 loop-preserved c =
-    let P : Simulated → Type 0 = λ s. AreBroken s.net s.output c.loop.sightings.items → AreBroken s.net s.output c.sight_all.new.sightings.items in
-    subst P c.in_ok-round.ensures c.in_ok-sight_all.ensures.broken c.loop.invariant
+    let target : Target = record { net = c.args.graph.now; output = c.args.output } in
+    let row = c.in_ok-row.row.items in
+    let s : Simulated = record { target = target; row = row } in
+    let same : c.in_ok-round.round ≡ s = c.in_ok-round.ensures ∙ ap (λ (t : Target). record { target = t; row = row }) c.in_ok-cone.ensures in
+    let said = c.in_ok-left-2.ensures in
+    let P : Simulated → Type 0 = λ s. AreBroken s.target.net s.target.output c.loop.sightings.items → AreBroken s.target.net s.target.output c.sight_all.new.sightings.items in
+    (subst P same said.hunted.broken c.loop.invariant.0, subst (λ (s : Simulated). All (IsPlaced s.target.net.inputs) c.in_ok-left-2.left.items) same said.left)

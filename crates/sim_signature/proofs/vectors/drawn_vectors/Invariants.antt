@@ -1,7 +1,6 @@
--- The table keeps its size.
+-- There are as many words.
 use Rattle.std.proofs.Common.{◌≡◌, length}
-use Rattle.word_sim.specs.Columns.{IsTable}
 use Rattle.sim_signature.proofs.vectors.drawn_vectors.Given as goal
 
-abbrev pub invariant-loop-input : goal.invariant-loop-input
-invariant-loop-input l = (l.table.words ≡ 1) × (length l.table.columns ≡ l.inputs) × IsTable l.table
+abbrev pub invariant-loop : goal.invariant-loop
+invariant-loop l = length l.row.items ≡ l.counter

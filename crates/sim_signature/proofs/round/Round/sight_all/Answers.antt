@@ -1,27 +1,35 @@
--- One input more was hunted, with the pairs that it begins.
-use Rattle.std.proofs.Common.{◌+◌, ◌⊎◌, arith}
+-- One claim more was hunted.
+use Rattle.std.proofs.Common.{◌+◌, ◌≡◌, ◌<◌, ◌⊎◌, ◌∙◌, List, length, get_or, take, sym, subst}
+use Rattle.std.specs.List.{All, Contains}
+use Rattle.std.proofs.lemmas.List.Elements.{All-push}
+use Rattle.query_core.specs.declared.claims.Shape.{Shape}
+use Rattle.query_core.specs.declared.claims.Shape.TheVariants.{Up}
 use Rattle.query_core.specs.Claims.{IsPlaced}
-use Rattle.sim_signature.specs.Sightings.{IsOfInput, IsOfPairBelow}
-use Rattle.sim_signature.proofs.Hunts.{Hunted-then, Hunted-among, Hunted-none, IsPlacedBelow, one_input_more, no_input_below, placed_all}
+use Rattle.sim_signature.specs.Rounds.{Simulated}
+use Rattle.sim_signature.specs.Sightings.{Hunted}
+use Rattle.sim_signature.proofs.Hunts.{Hunted-among, Hunted-then, one_claim_more}
+use Rattle.sim_signature.proofs.round.Round.sight_all.Goals.{then-not-branch+in_ok-push, else-not-branch}
 use Rattle.sim_signature.proofs.round.Round.sight_all.Goals as goal
 
-pub loop-i-init : goal.loop-i-init
-loop-i-init c =
-    Hunted-none c.args.self.now (IsPlacedBelow c.args.self.now.net.inputs 0) c.args.sightings.now.items (no_input_below c.args.self.now.net.inputs)
-
-pub loop-i-preserved : goal.loop-i-preserved
-loop-i-preserved c =
-    let s = c.args.self.now in
-    let n = s.net.inputs in
-    let i = c.loop-i.i in
+pub loop-shape-preserved : goal.loop-shape-preserved
+loop-shape-preserved c =
+    let s : Simulated = c.loop-shape.self in
+    let claims : List Shape = c.args.claims.now in
+    let k = c.loop-shape.shape-index in
+    let shape = get_or claims k (Up 0) in
     let old = c.args.sightings.now.items in
-    let mid = c.sight_input.new.sightings.items in
-    let new = c.sight_pairs.new.sightings.items in
-    let ones = Hunted-then s (IsPlacedBelow n i) (IsOfInput i) old c.loop-i.sightings.items mid c.loop-i.invariant c.in_ok-sight_input.ensures in
-    let all = Hunted-then s (λ shape. IsPlacedBelow n i shape ⊎ IsOfInput i shape) (IsOfPairBelow i n) old mid new ones c.in_ok-sight_pairs.ensures in
-    Hunted-among s (λ shape. (IsPlacedBelow n i shape ⊎ IsOfInput i shape) ⊎ IsOfPairBelow i n shape) (IsPlacedBelow n (i + 1)) old new (one_input_more n i) all
-
-pub returns : goal.returns
-returns c =
-    let s = c.args.self.now in
-    Hunted-among s (IsPlacedBelow s.net.inputs c.loop-i.i) (IsPlaced s.net.inputs) c.args.sightings.now.items c.loop-i.sightings.items (placed_all s.net.inputs c.loop-i.i (omega (arith, c.loop-i-test.false, c.count-count.ensures))) c.loop-i.invariant
+    let mid = c.loop-shape.sightings.items in
+    let new = c.sight.new.sightings.items in
+    let left : List Shape = c.if-not-branch.left.items in
+    let inv = c.loop-shape.invariant in
+    let same = c.in_ok-sight.ensures.same in
+    let here : k < length claims = c.loop-shape-test.true in
+    let one : Hunted s (λ other. other ≡ shape) mid new = c.in_ok-sight.ensures.hunted in
+    let both = Hunted-then s (Contains (take k claims)) (λ other. other ≡ shape) old mid new inv.2 one in
+    let all = Hunted-among s (λ other. Contains (take k claims) other ⊎ (other ≡ shape)) (Contains (take (k + 1) claims)) old new (λ other. one_claim_more claims k (Up 0) other here) both in
+    let placed : IsPlaced s.target.net.inputs shape = subst (λ (t : Simulated). IsPlaced t.target.net.inputs shape) (sym inv.0) (c.requires k (Up 0) here) in
+    let still : All (IsPlaced s.target.net.inputs) left = elim c.if-not-branch.branch [
+      | then-not-branch+in_ok-push w ↦ rw (w.left-is, w.in_ok-push.ensures.items) (All-push (IsPlaced s.target.net.inputs) c.loop-shape.left.items shape inv.1 placed)
+      | else-not-branch w ↦ rw w.left-is inv.1
+    ] in
+    (same ∙ inv.0, subst (λ (t : Simulated). All (IsPlaced t.target.net.inputs) left) (sym same) still, subst (λ (t : Simulated). Hunted t (Contains (take (k + 1) claims)) old new) (sym same) all)

@@ -1,7 +1,9 @@
--- The inputs so far were hunted, with the pairs that they begin.
+-- The claims so far were hunted.
+use Rattle.std.proofs.Common.{◌≡◌, take}
+use Rattle.std.specs.List.{All, Contains}
+use Rattle.query_core.specs.Claims.{IsPlaced}
 use Rattle.sim_signature.specs.Sightings.{Hunted}
-use Rattle.sim_signature.proofs.Hunts.{IsPlacedBelow}
 use Rattle.sim_signature.proofs.round.Round.sight_all.Given as goal
 
-abbrev pub invariant-loop-i : goal.invariant-loop-i
-invariant-loop-i l = Hunted l.self (IsPlacedBelow l.self.net.inputs l.i) l.initial.sightings.items l.sightings.items
+abbrev pub invariant-loop-shape : goal.invariant-loop-shape
+invariant-loop-shape l = (l.self ≡ l.fn.self) × All (IsPlaced l.self.target.net.inputs) l.left.items × Hunted l.self (Contains (take l.shape-index l.claims)) l.fn.sightings.items l.sightings.items

@@ -1,0 +1,8 @@
+-- The claims of the inputs so far were added.
+use Rattle.std.proofs.Common.{[], length}
+use Rattle.sim_signature.specs.Sightings.{Added}
+use Rattle.sim_signature.proofs.Wanted.{IsOfInputsAnd}
+use Rattle.sim_signature.proofs.claims.claims.Given as goal
+
+abbrev pub invariant-loop-i : goal.invariant-loop-i
+invariant-loop-i l = Added (length l.hunted) (IsOfInputsAnd l.hunted l.i) [] l.shapes.items
