@@ -1,8 +1,6 @@
 -- What an answered query, and one refuted by its outputs, make of a ledger.
-use Rattle.std.proofs.Common.{◌≡◌, ℕ, zero, suc, ◌+◌, ◌<◌, List, [], ◌∷◌, ◌++◌, length, take, All, slice_index_or, ap, subst, ◌∙◌, arith}
-use Rattle.std.proofs.lemmas.List.{get_or-append-add, length-append}
+use Rattle.std.proofs.Common.{◌≡◌, ℕ, zero, suc, ◌<◌, [], ◌∷◌, take, slice_index_or, ap, ◌∙◌, arith}
 use Rattle.circuits.specs.Netlists.{signals_of}
-use Rattle.cnf_core.specs.declared.literal.SatLit.{SatLit}
 use Rattle.cnf_core.specs.declared.log.LogLine.{LogLine}
 use Rattle.cnf_core.specs.declared.stop.Stop.{Stop}
 use Rattle.cnf_core.specs.declared.stop.Stop.TheVariants.{Spent, Memory}
@@ -15,24 +13,20 @@ use Rattle.query_core.specs.declared.claims.Claim.{Claim}
 use Rattle.query_core.specs.declared.query.Query.{Query}
 use Rattle.query_core.specs.Claims.{IsClaim}
 use Rattle.query_core.specs.ClaimQueries.{claim_query}
-use Rattle.query_core.specs.Formulas.{formula_of, query_clauses}
+use Rattle.query_core.specs.Formulas.{formula_of}
 use Rattle.query_core.specs.Ledgers.{Ledgered, opened, with_line, IsRefused}
 use Rattle.query_core.specs.Queries.{IsQuery}
 use Rattle.query_core.proofs.ClaimQueryLemmas.{claim_query_fits}
-use Rattle.account_core.specs.Work.{IsLearned, IsNewBeside, IsWorkOn}
+use Rattle.account_core.specs.Work.{IsLearned, IsWorkOn}
 use Rattle.ask_core.specs.Answers.{IsAskedIn, IsStopped}
 use Rattle.fact_tests.specs.Asking.{IsAsked, IsHalted, entry_with}
 use Rattle.fact_tests.specs.Supports.{IsOutside, closing_line}
-use Rattle.fact_tests.proofs.ConeLemmas.{empty_is_new, graph_is, new_beside_cones}
+use Rattle.fact_tests.proofs.ConeLemmas.{empty_is_new, graph_is}
 use Rattle.fact_tests.proofs.StructureLemmas.{outside_refuted}
 use Rattle.fact_tests.proofs.WorkLemmas.{asked_last, line_last}
 
-all_behind : (P : List SatLit → Type 0) (xs ys : List (List SatLit)) → All P (xs ++ ys) → All P ys
-all_behind P xs ys each k d below =
-    subst P (get_or-append-add xs ys k d) (each (length xs + k) d (omega (arith, below, length-append xs ys)))
-
-pub asked_of : (graphs : Graphs) (query : Query) (before after : Ledgered) → IsGraph graphs.first → IsGraph graphs.second → IsQuery graphs query → IsAskedIn graphs query before after → IsAsked graphs query before after
-asked_of graphs query before after first second fits is = record {
+pub asked_of : (graphs : Graphs) (query : Query) (before after : Ledgered) → IsQuery graphs query → IsAskedIn graphs query before after → IsAsked graphs query before after
+asked_of graphs query before after fits is = record {
   lines = is.lines;
   work = record {
     fits = fits;
@@ -44,18 +38,18 @@ asked_of graphs query before after first second fits is = record {
         let learned = is.learned k d below in
         record {
           derived = learned.derived;
-          beside_cones = new_beside_cones graphs query line.clause earlier first second fits learned.fresh;
-          beside_lines = all_behind (IsNewBeside line.clause) (query_clauses graphs query) earlier learned.fresh;
+          beside_cones = learned.fresh;
+          beside_lines = learned.unlike_earlier;
         };
   };
   budget = is.budget;
   asked = is.asked ∙ asked_last query is.lines before.asked;
 }
 
-pub halted_of : (graphs : Graphs) (query : Query) (before after : Ledgered) (stop : Stop) → IsGraph graphs.first → IsGraph graphs.second → IsQuery graphs query → IsStopped graphs query before after stop → IsHalted graphs query before after stop
-halted_of graphs query before after Memory first second fits stopped = tt
-halted_of graphs query before after (Spent learned) first second fits stopped = record {
-  asked = asked_of graphs query before after first second fits stopped.asked_in;
+pub halted_of : (graphs : Graphs) (query : Query) (before after : Ledgered) (stop : Stop) → IsQuery graphs query → IsStopped graphs query before after stop → IsHalted graphs query before after stop
+halted_of graphs query before after Memory fits stopped = tt
+halted_of graphs query before after (Spent learned) fits stopped = record {
+  asked = asked_of graphs query before after fits stopped.asked_in;
   learned_is = stopped.learned_is;
   used = stopped.used;
   refused = stopped.spent;

@@ -1,8 +1,8 @@
 -- The clauses of a query's cones, and lines that say something new beside them.
-use Rattle.std.proofs.Common.{◌≡◌, ℕ, ◌+◌, ◌<◌, Bool, true, false, List, [], ◌∷◌, ◌++◌, length, All, replicate, inl, inr, refl, sym, subst, ◌∙◌, arith}
+use Rattle.std.proofs.Common.{◌≡◌, ℕ, ◌+◌, ◌<◌, Bool, true, false, List, [], ◌∷◌, ◌++◌, length, replicate, inl, inr, refl, sym, ◌∙◌, arith}
 use Rattle.std.specs.List.{AllByRecursion}
 use Rattle.std.proofs.lemmas.Bool.{cases_lt, false≢true}
-use Rattle.std.proofs.lemmas.List.{get_or_past, get_or_append_left, length-append, length-replicate, get_or-replicate}
+use Rattle.std.proofs.lemmas.List.{get_or_past, length-replicate, get_or-replicate}
 use Rattle.std.proofs.lemmas.List.Elements.{All-from_recursion}
 use Rattle.circuits.specs.declared.netlist.Gate.{Gate}
 use Rattle.circuits.specs.Literals.{bit}
@@ -78,9 +78,3 @@ clauses_some graphs query =
 pub empty_is_new : (graphs : Graphs) (query : Query) → IsGraph graphs.first → IsGraph graphs.second → IsQuery graphs query → AllOfCones graphs query (IsNewBeside [])
 empty_is_new graphs query first second fits id of_cone =
     All-from_recursion (IsNewBeside []) (query_clauses graphs query) (clauses_some graphs query) id [] (cone_id_below graphs query id first second fits of_cone)
-
--- what is new beside all clauses is new beside those of the cones
-pub new_beside_cones : (graphs : Graphs) (query : Query) (clause : List SatLit) (more : List (List SatLit)) → IsGraph graphs.first → IsGraph graphs.second → IsQuery graphs query → All (IsNewBeside clause) (query_clauses graphs query ++ more) → AllOfCones graphs query (IsNewBeside clause)
-new_beside_cones graphs query clause more first second fits each id of_cone =
-    let below = cone_id_below graphs query id first second fits of_cone in
-    subst (IsNewBeside clause) (get_or_append_left (query_clauses graphs query) more [] id below) (each id [] (omega (arith, below, length-append (query_clauses graphs query) more)))

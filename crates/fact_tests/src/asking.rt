@@ -32,8 +32,6 @@ pub(crate) fn answer_to(
     ensures unspent { IfOk result (λ _. ledger.new.spent ≡ false) }
     ensures stop { IfErr result (IsHalted graphs.now query.now ledger.old ledger.new) }
 {
-    let _first = graphs.first.inputs();
-    let _second = graphs.second.inputs();
     ask(alloc, graphs, query, ledger)
 }
 

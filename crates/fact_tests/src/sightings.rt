@@ -74,7 +74,7 @@ impl<'a> Sightings<'a> {
         ensures breaks { IfOk result (λ found. IfSome found (BreaksShape self.old output shape.now)) }
     {
         hunt_once(alloc, self.graph, self.seed, output, &mut self.outputs)?;
-        copy_of(alloc, &self.outputs[output as usize], shape)
+        copy_of(&self.outputs[output as usize], shape)
     }
 }
 
@@ -121,7 +121,7 @@ fn places_of(alloc: Global, sightings: &[Sighting]) -> Result<IndexMap<Shape, us
 }
 
 /// The vector of a shape.
-fn copy_of(alloc: Global, seen: &Option<Seen>, shape: &Shape) -> Result<Option<Bits>, AllocError>
+fn copy_of(seen: &Option<Seen>, shape: &Shape) -> Result<Option<Bits>, AllocError>
     ensures { (net : AnyNet) (k : ℕ) → IsSeen net k seen.now
         → IfOk result (λ found. IfSome found (BreaksShape net k shape.now)) }
 {
@@ -129,7 +129,7 @@ fn copy_of(alloc: Global, seen: &Option<Seen>, shape: &Shape) -> Result<Option<B
         return Ok(None);
     };
     match sighting_of(&seen.sightings, &seen.places, shape) {
-        Some(sighting) => Ok(Some(Bits::from_slice(alloc, &sighting.vector)?)),
+        Some(sighting) => Ok(Some(sighting.vector.clone()?)),
         None => Ok(None),
     }
 }

@@ -12,7 +12,7 @@ returns-clause-asked c =
     let query = c.args.query.now in
     let before = c.args.ledger.now in
     let after = c.ask.new.ledger in
-    IfOk-weaker c.ask.result (λ (a : Answer). IsAskedIn graphs query before after) (λ (a : Answer). IsAsked graphs query before after) (λ a is. asked_of graphs query before after c.inputs-first.ensures.graph c.inputs-second.ensures.graph c.requires.fits is) c.ask.ensures.asked
+    IfOk-weaker c.ask.result (λ (a : Answer). IsAskedIn graphs query before after) (λ (a : Answer). IsAsked graphs query before after) (λ a is. asked_of graphs query before after c.requires.fits is) c.ask.ensures.asked
 
 pub returns-clause-stop : goal.returns-clause-stop
 returns-clause-stop c =
@@ -20,4 +20,4 @@ returns-clause-stop c =
     let query = c.args.query.now in
     let before = c.args.ledger.now in
     let after = c.ask.new.ledger in
-    IfErr-weaker c.ask.result (IsStopped graphs query before after) (IsHalted graphs query before after) (λ (s : Stop) is. halted_of graphs query before after s c.inputs-first.ensures.graph c.inputs-second.ensures.graph c.requires.fits is) c.ask.ensures.stop
+    IfErr-weaker c.ask.result (IsStopped graphs query before after) (IsHalted graphs query before after) (λ (s : Stop) is. halted_of graphs query before after s c.requires.fits is) c.ask.ensures.stop
