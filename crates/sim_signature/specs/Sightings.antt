@@ -20,6 +20,10 @@ AreBroken net k sightings = All (IsBroken net k) sightings
 abbrev pub IsSighted : Shape → List Sighting → Type 0
 IsSighted shape sightings = Any (λ sighting. sighting.shape ≡ shape) sightings
 
+-- each of these claims was sighted or is among those that are left
+abbrev pub AreLeft : List Shape → List Sighting → List Shape → Type 0
+AreLeft claims sightings left = (shape : Shape) → Contains claims shape → Contains left shape ⊎ IsSighted shape sightings
+
 -- one of the word's vectors is noted, where there is one
 abbrev pub IsNoted : List ℕ → Shape → ℕ → List Sighting → List Sighting → Type 0
 IsNoted row shape lanes old new =

@@ -6,7 +6,7 @@ ghost use Rattle.query_core.specs.Claims.{HasValues, IsPlaced};
 ghost use Rattle.word_sim.specs.Columns.{lane as lane_bits, word_bit};
 ghost use Rattle.sim_signature.specs.Changes.{IsChange};
 ghost use Rattle.sim_signature.specs.Rounds.{AreFalls};
-ghost use Rattle.sim_signature.specs.Sightings.{Hunted, IsNoted};
+ghost use Rattle.sim_signature.specs.Sightings.{AreLeft, Hunted, IsNoted, IsSighted};
 
 use crate::change::{Change, change_of};
 use crate::cone::Cone;
@@ -84,7 +84,8 @@ impl<'a> Round<'a> {
         sightings: &mut Vec<Sighting>,
     ) -> Result<Vec<Shape>, AllocError>
         requires { All (IsPlaced self.old.target.net.inputs) claims.now }
-        ensures left { IfOk result (λ left. All (IsPlaced self.old.target.net.inputs) left.items) }
+        ensures placed { IfOk result (λ left. All (IsPlaced self.old.target.net.inputs) left.items) }
+        ensures left { IfOk result (λ left. AreLeft claims.now sightings.new.items left.items) }
         ensures hunted { OnOk result
             (Hunted self.old (Contains claims.now) sightings.old.items sightings.new.items) }
     {
@@ -97,26 +98,29 @@ impl<'a> Round<'a> {
         Ok(left)
     }
 
-    /// Notes a vector that breaks the claim, if one of the vectors does.
+    /// Notes a vector that breaks the claim, if one of the vectors does, and tells whether one does.
     fn sight(&mut self, shape: Shape, sightings: &mut Vec<Sighting>) -> Result<bool, AllocError>
         requires { IsPlaced self.old.target.net.inputs shape }
         ensures same { self.new ≡ self.old }
         ensures hunted { OnOk result
             (Hunted self.old (λ other. other ≡ shape) sightings.old.items sightings.new.items) }
+        ensures sighted { IfOk result (λ found. found ≡ true → IsSighted shape sightings.new.items) }
     {
         let falls = self.falls(change_of(shape));
         let lanes = self.having(falls, shape);
         self.note(shape, lanes, sightings)
     }
 
-    /// Notes the first of the vectors that a word's bits stand for, if there is one.
+    /// Notes the first of the vectors that a word's bits stand for, and tells whether there is one.
     fn note(
         &self,
         shape: Shape,
         lanes: u64,
         sightings: &mut Vec<Sighting>,
     ) -> Result<bool, AllocError>
-        ensures { OnOk result (IsNoted self.now.row shape lanes sightings.old.items sightings.new.items) }
+        ensures noted { OnOk result
+            (IsNoted self.now.row shape lanes sightings.old.items sightings.new.items) }
+        ensures sighted { IfOk result (λ found. found ≡ true → IsSighted shape sightings.new.items) }
     {
         let Some(lane) = first_lane(lanes) else {
             return Ok(false);

@@ -14,4 +14,4 @@ loop-preserved c =
     let same : c.in_ok-round.round ≡ s = c.in_ok-round.ensures ∙ ap (λ (t : Target). record { target = t; row = row }) c.in_ok-cone.ensures in
     let said = c.in_ok-left-2.ensures in
     let P : Simulated → Type 0 = λ s. AreBroken s.target.net s.target.output c.loop.sightings.items → AreBroken s.target.net s.target.output c.sight_all.new.sightings.items in
-    (subst P same said.hunted.broken c.loop.invariant.0, subst (λ (s : Simulated). All (IsPlaced s.target.net.inputs) c.in_ok-left-2.left.items) same said.left)
+    (subst P same said.hunted.broken c.loop.invariant.0, subst (λ (s : Simulated). All (IsPlaced s.target.net.inputs) c.in_ok-left-2.left.items) same said.placed)

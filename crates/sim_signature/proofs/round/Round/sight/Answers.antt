@@ -19,4 +19,4 @@ returns-clause-hunted c =
     let falls = subst (λ change. AreFalls s change fallen) c.change_of.ensures c.falls-falls.ensures.falls in
     let len = subst (λ (t : Simulated). length t.row ≡ t.target.net.inputs) same c.having-lanes.ensures.inputs in
     let valued = subst (λ (t : Simulated). (v : ℕ) → v < 64 → (word_bit v lanes ≡ true) ↔ ((word_bit v fallen ≡ true) × HasValues shape (lane v t.row))) same c.having-lanes.ensures.lanes in
-    on_ok c.note.result (IsNoted c.falls-falls.new.self.row shape lanes old new) (Hunted s (λ other. other ≡ shape) old new) (λ noted. Hunted-note s shape lanes old new c.requires (breaking s shape fallen lanes len falls valued) (subst (λ (t : Simulated). IsNoted t.row shape lanes old new) same noted)) c.note.ensures
+    on_ok c.note.result (IsNoted c.falls-falls.new.self.row shape lanes old new) (Hunted s (λ other. other ≡ shape) old new) (λ noted. Hunted-note s shape lanes old new c.requires (breaking s shape fallen lanes len falls valued) (subst (λ (t : Simulated). IsNoted t.row shape lanes old new) same noted)) c.note.ensures.noted

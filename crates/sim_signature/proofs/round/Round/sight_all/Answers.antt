@@ -1,12 +1,13 @@
 -- One claim more was hunted.
-use Rattle.std.proofs.Common.{◌+◌, ◌≡◌, ◌<◌, ◌⊎◌, ◌∙◌, List, length, get_or, take, sym, subst}
+use Rattle.std.proofs.Common.{◌+◌, ◌≡◌, ◌<◌, ◌≤◌, ◌⊎◌, ◌∙◌, ◌∷◌, ◌++◌, [], inl, inr, List, length, get_or, take, sym, subst}
 use Rattle.std.specs.List.{All, Contains}
-use Rattle.std.proofs.lemmas.List.Elements.{All-push}
+use Rattle.std.proofs.lemmas.List.{take_all}
+use Rattle.std.proofs.lemmas.List.Elements.{All-push, Contains-append_left, Contains-push}
 use Rattle.query_core.specs.declared.claims.Shape.{Shape}
 use Rattle.query_core.specs.declared.claims.Shape.TheVariants.{Up}
 use Rattle.query_core.specs.Claims.{IsPlaced}
 use Rattle.sim_signature.specs.Rounds.{Simulated}
-use Rattle.sim_signature.specs.Sightings.{Hunted}
+use Rattle.sim_signature.specs.Sightings.{AreLeft, Hunted, IsSighted}
 use Rattle.sim_signature.proofs.Hunts.{Hunted-among, Hunted-then, one_claim_more}
 use Rattle.sim_signature.proofs.round.Round.sight_all.Goals.{then-not-branch+in_ok-push, else-not-branch}
 use Rattle.sim_signature.proofs.round.Round.sight_all.Goals as goal
@@ -32,4 +33,23 @@ loop-shape-preserved c =
       | then-not-branch+in_ok-push w ↦ rw (w.left-is, w.in_ok-push.ensures.items) (All-push (IsPlaced s.target.net.inputs) c.loop-shape.left.items shape inv.1 placed)
       | else-not-branch w ↦ rw w.left-is inv.1
     ] in
-    (same ∙ inv.0, subst (λ (t : Simulated). All (IsPlaced t.target.net.inputs) left) (sym same) still, subst (λ (t : Simulated). Hunted t (Contains (take (k + 1) claims)) old new) (sym same) all)
+    let remaining : AreLeft (take (k + 1) claims) new left = λ other wanted. elim (one_claim_more claims k (Up 0) other here wanted) [
+      | inl before ↦ elim (inv.3 other before) [
+        | inl still_left ↦ inl (elim c.if-not-branch.branch [
+          | then-not-branch+in_ok-push w ↦ rw (w.left-is, w.in_ok-push.ensures.items) (Contains-append_left c.loop-shape.left.items (shape ∷ []) other still_left)
+          | else-not-branch w ↦ rw w.left-is still_left
+        ])
+        | inr sighted ↦ inr (one.kept other sighted)
+      ]
+      | inr last ↦ elim c.if-not-branch.branch [
+        | then-not-branch+in_ok-push w ↦ inl (rw (w.left-is, w.in_ok-push.ensures.items) (subst (Contains (c.loop-shape.left.items ++ shape ∷ [])) (sym last) (Contains-push c.loop-shape.left.items shape)))
+        | else-not-branch w ↦ inr (subst (λ claim. IsSighted claim new) (sym last) (c.in_ok-sight.ensures.sighted w.if-not-branch.false))
+      ]
+    ] in
+    (same ∙ inv.0, subst (λ (t : Simulated). All (IsPlaced t.target.net.inputs) left) (sym same) still, subst (λ (t : Simulated). Hunted t (Contains (take (k + 1) claims)) old new) (sym same) all, remaining)
+
+pub returns-clause-left : goal.returns-clause-left
+returns-clause-left c shape wanted =
+    let claims : List Shape = c.args.claims.now in
+    let past : length claims ≤ c.loop-shape.shape-index = c.loop-shape-test.false in
+    c.loop-shape.invariant.3 shape (subst (λ front. Contains front shape) (sym (take_all c.loop-shape.shape-index claims past)) wanted)
