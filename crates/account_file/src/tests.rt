@@ -42,10 +42,9 @@ fn ban(alloc: Global, step: Step) -> Result<Record, AllocError> {
     Ok(Record::Ban(Ban { pairs, step }))
 }
 
-#[test]
-fn writes_facts(rt: HostRuntime) -> Result<(), Fail> {
-    let alloc = rt.alloc();
-    let claim = Claim {
+/// A claim about two inputs.
+fn swap() -> Claim {
+    Claim {
         side: Side::Second,
         output: 2,
         shape: Shape::Swap {
@@ -54,21 +53,42 @@ fn writes_facts(rt: HostRuntime) -> Result<(), Fail> {
             a: false,
             b: true,
         },
-    };
+    }
+}
+
+/// A claim that fails.
+fn failing(alloc: Global) -> Result<Record, AllocError> {
     let bits = Bits::from_slice(alloc, &[false, false, true, true, true])?;
-    let fails = Record::Fact(FactHead::Fails { claim, bits });
+    Ok(Record::Fact(FactHead::Fails {
+        claim: swap(),
+        bits,
+    }))
+}
+
+#[test]
+fn writes_a_claim_that_fails(rt: HostRuntime) -> Result<(), Fail> {
+    let fact = failing(rt.alloc())?;
     assert_eq!(rt;
-        written(alloc, &fails)?.as_slice(),
+        written(rt.alloc(), &fact)?.as_slice(),
         b">fails b 2 swap 1 4 01 =00111\n".as_slice()
     );
+    Ok(())
+}
+
+/// A claim that holds.
+fn holding() -> Record {
     let claim = Claim {
         side: Side::First,
         output: 0,
         shape: Shape::Down(10),
     };
-    let holds = Record::Fact(FactHead::Holds { claim });
+    Record::Fact(FactHead::Holds { claim })
+}
+
+#[test]
+fn writes_a_claim_that_holds(rt: HostRuntime) -> Result<(), Fail> {
     assert_eq!(rt;
-        written(alloc, &holds)?.as_slice(),
+        written(rt.alloc(), &holding())?.as_slice(),
         b">holds a 0 down 10\n".as_slice()
     );
     Ok(())
@@ -124,7 +144,7 @@ fn writes_a_cover(rt: HostRuntime) -> Result<(), Fail> {
 }
 
 #[test]
-fn writes_conclusions_and_logs(rt: HostRuntime) -> Result<(), Fail> {
+fn writes_a_match(rt: HostRuntime) -> Result<(), Fail> {
     let alloc = rt.alloc();
     let pairs = Items::from_slice(alloc, &PAIRS)?;
     let found = Record::Conclusion(Conclusion::Match(pairs));
@@ -132,15 +152,15 @@ fn writes_conclusions_and_logs(rt: HostRuntime) -> Result<(), Fail> {
         written(alloc, &found)?.as_slice(),
         b">match i0-12 o3+0\n".as_slice()
     );
-    let none = Record::Conclusion(Conclusion::NoneBan(40));
-    assert_eq!(rt;
-        written(alloc, &none)?.as_slice(),
-        b">none ban 40\n".as_slice()
-    );
-    let line = Record::Line(LogLine {
-        clause: Items::from_slice(alloc, &[SatLit(7), SatLit(10)])?,
-        hints: Items::from_slice(alloc, &[4])?,
-    });
+    Ok(())
+}
+
+#[test]
+fn writes_a_line_of_a_log(rt: HostRuntime) -> Result<(), Fail> {
+    let alloc = rt.alloc();
+    let clause = Items::from_slice(alloc, &[SatLit(7), SatLit(10)])?;
+    let hints = Items::from_slice(alloc, &[4])?;
+    let line = Record::Line(LogLine { clause, hints });
     assert_eq!(rt;
         written(alloc, &line)?.as_slice(),
         b">l 7 10 : 4\n".as_slice()
