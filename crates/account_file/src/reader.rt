@@ -155,7 +155,7 @@ impl Reader {
         }
     }
 
-    // Drops the bytes that were read where they are more than half, so that in all fewer bytes are moved than were read.
+    // Drops the bytes that were read where they are more than half, so that in all fewer are moved than were read.
     fn drop_read(&mut self)
         ensures { self.new ≡ self.old }
     {

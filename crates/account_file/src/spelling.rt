@@ -18,8 +18,8 @@ use word_sim::Tri;
 /// Writes the one line of a record at the end of `out`: its words with one space between two, and a line feed. The
 /// header is `npnp 1`. A fact is `fails` or `holds`, the claim, and the bits of the vector that breaks it, as in
 /// `fails b 0 swap 1 4 01 =01101`. A line of a log is `l`, the literals, `:` and the hints. A ban is `ban`, its pairs,
-/// `:` and its step. A conclusion is `none ports`, `none ban` and a ban's number, or `match` and the pairs of ports. The
-/// last line is `end`. A pair is `i3+5` where input 3 goes to input 5, and `o0-1` where output 0 goes to output 1
+/// `:` and its step. A conclusion is `none ports`, `none ban` and a ban's number, or `match` and the pairs of ports.
+/// The last line is `end`. A pair is `i3+5` where input 3 goes to input 5, and `o0-1` where output 0 goes to output 1
 /// inverted. Numbers have no leading zeros. Want of memory leaves `out` as it was.
 pub fn put_record(entry: &Record, out: &mut Vec<u8>) -> Result<(), AllocError>
     ensures line { OnOk result (out.new.items ≡ out.old.items ++ record_line entry.now) }
@@ -31,8 +31,8 @@ pub fn put_record(entry: &Record, out: &mut Vec<u8>) -> Result<(), AllocError>
     out.extend_from_slice(&line)
 }
 
-// Writes the line of a record without its line feed; a first part of it may stand in `out` where memory is wanting, here
-// and below.
+// Writes the line of a record without its line feed. Here and below a first part may stand in `out` where memory is
+// wanting.
 fn put_text(entry: &Record, out: &mut Vec<u8>) -> Result<(), AllocError>
     ensures { OnOk result (out.new.items ≡ out.old.items ++ line_text entry.now) }
 {
@@ -147,7 +147,8 @@ fn put_log_line(line: &LogLine, out: &mut Vec<u8>) -> Result<(), AllocError>
 }
 
 fn put_literals(literals: &[SatLit], out: &mut Vec<u8>) -> Result<(), AllocError>
-    ensures { OnOk result (out.new.items ≡ out.old.items ++ spaced (map (λ literal. digits_of_number literal.0) literals.now)) }
+    ensures { OnOk result (out.new.items ≡ out.old.items
+        ++ spaced (map (λ literal. digits_of_number literal.0) literals.now)) }
 {
     for literal in literals.iter() {
         put_number(literal.0, out)?;
