@@ -38,9 +38,13 @@ pub record Given : Type 0 where
   pub facts : List Decided
   pub bans : List (List Pair)
 
--- fact number k; where there is none, one that says nothing of use
+-- what stands for a fact that isn't there
+abbrev pub no_fact : Decided
+no_fact = decided (record { side = First; output = 0; shape = Up 0 }) true
+
+-- fact number k
 abbrev pub fact_at : Given → ℕ → Decided
-fact_at given k = slice_index_or given.facts k (decided (record { side = First; output = 0; shape = Up 0 }) true)
+fact_at given k = slice_index_or given.facts k no_fact
 
 -- the pairs of ban number b
 abbrev pub ban_at : Given → ℕ → List Pair
