@@ -3,6 +3,7 @@
 ghost use Rattle.std.specs.Prelude.{◌≡◌, ◌≢◌, ◌↔◌, IsOk, IsSome, IfOk, OnOk, OnErr, Ok, Err, None, Some};
 ghost use Rattle.circuits.specs.Matches.{HaveNpnpEqualFunctions, IsMatchOfFunctions};
 ghost use Rattle.account_core.specs.declared.conclusion.Conclusion.TheVariants as conclusion;
+ghost use Rattle.account_core.specs.declared.fact.FactHead.TheVariants as head;
 ghost use Rattle.account_file.specs.Order.{place_behind};
 ghost use Rattle.account_check.specs.Accounts.{after, empty_account, verdict_of, HasFault};
 ghost use Rattle.account_file.specs.declared.place.Place.TheVariants as place;
@@ -14,7 +15,7 @@ ghost use Rattle.net_core.specs.declared.matching.Matching.{Matching as Table};
 
 use crate::bans::test_ban;
 use crate::fact_log::FactLog;
-use crate::facts::test_fact;
+use crate::facts::{test_fails, test_holds};
 use crate::given::Given;
 use crate::logs::Logs;
 use crate::pairs::{matching, test_empty_ban, test_ports};
@@ -22,10 +23,12 @@ use crate::reject::RecordStop;
 use crate::verdict::Verdict;
 use account_core::{Ban, Conclusion, FactHead};
 use account_file::Record;
+use bit_list::Bits;
 use circuits::Pair;
 use cnf_core::LogLine;
 use items::Items;
 use net_core::{Graphs, Matching};
+use query_core::Claim;
 use std::alloc::{AllocError, Global};
 use std::marker::Model;
 use std::mem;
@@ -139,7 +142,7 @@ impl<'a> Checker<'a> {
         }
     }
 
-    // Takes a fact. Of one that holds the log follows.
+    // Takes a fact.
     fn fact(&mut self, alloc: Global, head: &FactHead) -> Result<(), RecordStop>
         requires { IsSome (place_behind self.old.place (entry.Fact head.now)) }
         ensures refused { (reject : AnyReject) → result ≡ Err (stop.Reject reject)
@@ -148,15 +151,41 @@ impl<'a> Checker<'a> {
         ensures after { OnOk result (self.new ≡ after self.old (entry.Fact head.now)) }
         ensures unchanged { OnErr result (self.new ≡ self.old) }
     {
-        if let Some(reject) = test_fact(alloc, self.graphs, head)? {
+        match head {
+            FactHead::Fails { claim, bits } => self.fails(alloc, claim, bits),
+            FactHead::Holds { claim } => self.holds(alloc, claim),
+        }
+    }
+
+    // Takes a claim that fails.
+    fn fails(&mut self, alloc: Global, claim: &Claim, bits: &Bits) -> Result<(), RecordStop>
+        requires { IsSome (place_behind self.old.place (entry.Fact (head.Fails claim.now bits.now))) }
+        ensures refused { (reject : AnyReject) → result ≡ Err (stop.Reject reject)
+            → HasFault self.old (entry.Fact (head.Fails claim.now bits.now)) (Some reject) }
+        ensures taken { OnOk result (HasFault self.old (entry.Fact (head.Fails claim.now bits.now)) None) }
+        ensures after { OnOk result (self.new ≡ after self.old (entry.Fact (head.Fails claim.now bits.now))) }
+        ensures unchanged { OnErr result (self.new ≡ self.old) }
+    {
+        if let Some(reject) = test_fails(alloc, self.graphs, claim, bits)? {
             return Err(RecordStop::Reject(reject));
         }
-        match head {
-            FactHead::Fails { claim, .. } => self.given.add_fact(*claim, false)?,
-            FactHead::Holds { claim } => {
-                self.stage = Stage::Showing(FactLog::new(alloc, self.graphs, claim)?);
-            }
+        self.given.add_fact(*claim, false)?;
+        Ok(())
+    }
+
+    // Takes a claim that holds, whose log follows.
+    fn holds(&mut self, alloc: Global, claim: &Claim) -> Result<(), RecordStop>
+        requires { IsSome (place_behind self.old.place (entry.Fact (head.Holds claim.now))) }
+        ensures refused { (reject : AnyReject) → result ≡ Err (stop.Reject reject)
+            → HasFault self.old (entry.Fact (head.Holds claim.now)) (Some reject) }
+        ensures taken { OnOk result (HasFault self.old (entry.Fact (head.Holds claim.now)) None) }
+        ensures after { OnOk result (self.new ≡ after self.old (entry.Fact (head.Holds claim.now))) }
+        ensures unchanged { OnErr result (self.new ≡ self.old) }
+    {
+        if let Some(reject) = test_holds(self.graphs, claim) {
+            return Err(RecordStop::Reject(reject));
         }
+        self.stage = Stage::Showing(FactLog::new(alloc, self.graphs, claim)?);
         Ok(())
     }
 

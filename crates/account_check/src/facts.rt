@@ -2,48 +2,27 @@
 
 ghost use Rattle.std.specs.Prelude.{◌↔◌, IsTrue, IfOk};
 ghost use Rattle.account_core.specs.declared.fact.FactHead.TheVariants as head;
-ghost use Rattle.query_core.specs.Claims.{IsClaim};
 ghost use Rattle.account_check.specs.Conclusions.{PortsTest};
-ghost use Rattle.account_check.specs.Facts.{AreInputs, ArePortsThere, ClaimTests, FactTests, IsLesserFirst};
-ghost use Rattle.account_check.specs.Tests.{Passed};
+ghost use Rattle.account_check.specs.Facts.{AreInputs, ArePortsThere, FactTests, IsLesserFirst};
 
 use crate::breaking::breaks;
 use crate::ports::have_as_many;
 use crate::reject::Reject;
-use account_core::FactHead;
 use bit_list::Bits;
 use net_core::Graphs;
 use query_core::{Claim, Shape};
 use std::alloc::{AllocError, Global};
 
-/// What is wrong with the line of a fact: the circuits have other numbers of ports; the claim names an output or an input that
-/// doesn't exist, or a swap's greater input first; the vector of a claim that fails doesn't break it.
-pub(crate) fn test_fact(
-    alloc: Global,
-    graphs: &Graphs,
-    head: &FactHead,
-) -> Result<Option<Reject>, AllocError>
-    ensures { IfOk result (PortsTest graphs.now (FactTests graphs.now head.now)) }
-{
-    if !have_as_many(graphs) {
-        return Ok(Some(Reject::Conclusion));
-    }
-    match head {
-        FactHead::Fails { claim, bits } => test_fails(alloc, graphs, claim, bits),
-        FactHead::Holds { claim } => Ok(test_claim(graphs, claim)),
-    }
-}
-
-// What is wrong with a claim and the vector that is to break it.
-fn test_fails(
+/// What is wrong with the line of a claim that fails: what would be wrong with it where it holds; or that its vector doesn't break it.
+pub(crate) fn test_fails(
     alloc: Global,
     graphs: &Graphs,
     claim: &Claim,
     bits: &Bits,
 ) -> Result<Option<Reject>, AllocError>
-    ensures { IfOk result (FactTests graphs.now (head.Fails claim.now bits.now)) }
+    ensures { IfOk result (PortsTest graphs.now (FactTests graphs.now (head.Fails claim.now bits.now))) }
 {
-    if let Some(reject) = test_claim(graphs, claim) {
+    if let Some(reject) = test_holds(graphs, claim) {
         return Ok(Some(reject));
     }
     if !breaks(alloc, graphs, claim, bits)? {
@@ -52,10 +31,14 @@ fn test_fails(
     Ok(None)
 }
 
-// What is wrong with a claim.
-fn test_claim(graphs: &Graphs, claim: &Claim) -> Option<Reject>
-    ensures { ClaimTests graphs.now claim.now Passed result }
+/// What is wrong with the line of a claim that holds: the circuits have other numbers of ports; the claim names an output or an input
+/// that doesn't exist, or a swap's greater input first.
+pub(crate) fn test_holds(graphs: &Graphs, claim: &Claim) -> Option<Reject>
+    ensures { PortsTest graphs.now (FactTests graphs.now (head.Holds claim.now)) result }
 {
+    if !have_as_many(graphs) {
+        return Some(Reject::Conclusion);
+    }
     if !are_ports_there(graphs, claim) {
         return Some(Reject::UnknownId);
     }
