@@ -1,5 +1,5 @@
 -- What a claim of the first circuit becomes where its ports go to ports of the second, with signs.
-use Rattle.std.specs.Prelude.{◌≡◌, ◌≢◌, ◌⊎◌, ℕ, ◌<◌, ◌==◌, ◌&&◌, Bool, true, false, List, length, All, Contains, Option, find, nat_lt, option_and_then, option_map, slice_index_or, if◌then◌else◌}
+use Rattle.std.specs.Prelude.{◌≡◌, ◌⊎◌, ℕ, ◌<◌, ◌==◌, ◌&&◌, Bool, true, false, List, length, All, Contains, Option, find, nat_lt, option_and_then, option_map, slice_index_or, if◌then◌else◌}
 use Rattle.circuits.specs.Literals.{differ}
 use Rattle.circuits.specs.declared.port.PortKind.{PortKind}
 use Rattle.circuits.specs.declared.port.PortKind.TheVariants.{Input, Output}
@@ -74,8 +74,8 @@ moved_shape pairs exchanged (Up i) = option_map (moved_one exchanged false) (pai
 moved_shape pairs exchanged (Down i) = option_map (moved_one exchanged true) (pair_of pairs Input i)
 moved_shape pairs exchanged (Swap i j a b) =
     option_and_then
-      (λ first. option_map (moved_two exchanged a b first) (pair_of pairs Input j))
-      (pair_of pairs Input i)
+    (λ first. option_map (moved_two exchanged a b first) (pair_of pairs Input j))
+    (pair_of pairs Input i)
 
 abbrev pub claim_of_second : ℕ → Shape → Claim
 claim_of_second output shape = record { side = Second; output = output; shape = shape }
@@ -84,8 +84,8 @@ claim_of_second output shape = record { side = Second; output = output; shape = 
 abbrev pub image_of : List Pair → Claim → Option Claim
 image_of pairs claim =
     option_and_then
-      (λ output. option_map (claim_of_second output.to) (moved_shape pairs output.flip claim.shape))
-      (pair_of pairs Output claim.output)
+    (λ output. option_map (claim_of_second output.to) (moved_shape pairs output.flip claim.shape))
+    (pair_of pairs Output claim.output)
 
 -- no pair is of this port
 abbrev pub Lacks : List Pair → PortKind → ℕ → Type 0
