@@ -51,4 +51,4 @@ cover_contradicts graphs given pairs kind from to refs excluded names cover p q 
     let below : x < n = All-contains (λ port. port < n) from x names.first_ports met.1 in
     let has : HasPair p q taken = record { there = omega (arith, below, bijection.entries); goes = refl } in
     let stands = zipped (IsReference given pairs) (ways kind from to) refs taken cover.referred (way_listed kind from to x (place_of entries x) (sign_of entries x) met.1 met.2) in
-    refuted graphs given pairs taken stands.0 p q excluded (λ ban is. names.given_bans ban (subst (λ ref. Contains refs ref) is stands.1)) match extends has stands.2
+    refuted graphs given pairs taken stands.0 p q excluded (λ ban is. names.given_bans ban (subst (Contains refs) {x = stands.0} is stands.1)) match extends has stands.2

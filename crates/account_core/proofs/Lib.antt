@@ -4,3 +4,9 @@ pub mod SentValues
 pub mod Listed
 pub mod CoverLemmas
 pub mod TallyLemmas
+pub mod Growing
+pub mod ImageLemmas
+pub mod StepLemmas
+pub mod OrderedPairs
+pub mod BanFaults
+pub mod SentOnly

@@ -1,5 +1,5 @@
 -- What was given of two circuits so far: facts and bans, each numbered from 0 in its own order (this project's format).
-use Rattle.std.specs.Prelude.{ℕ, ◌<◌, Bool, true, false, List, [], ◌++◌, length, slice_index_or}
+use Rattle.std.specs.Prelude.{ℕ, ◌<◌, Bool, true, false, List, [], ◌++◌, length, map, slice_index_or}
 use Rattle.circuits.specs.declared.port.Pair.{Pair}
 use Rattle.net_core.specs.declared.graphs.Graphs.{Graphs}
 use Rattle.net_core.specs.declared.graphs.Side.TheVariants.{First}
@@ -10,6 +10,7 @@ use Rattle.account_core.specs.declared.fact.Evidence.{Evidence}
 use Rattle.account_core.specs.declared.fact.Evidence.TheVariants as evidence
 use Rattle.account_core.specs.declared.fact.Fact.{Fact}
 use Rattle.account_core.specs.declared.fact.FactHead.{FactHead}
+use Rattle.account_core.specs.declared.step.Ban.{Ban}
 use Rattle.account_core.specs.declared.fact.FactHead.TheVariants as head
 
 -- A claim that was decided: it holds, or it fails.
@@ -55,6 +56,14 @@ IsFactGiven given k = k < length given.facts
 
 abbrev pub IsBanGiven : Given → ℕ → Type 0
 IsBanGiven given b = b < length given.bans
+
+-- the pairs of each ban
+abbrev pub pairs_of : List Ban → List (List Pair)
+pairs_of bans = map (λ ban. ban.pairs) bans
+
+-- these facts and bans
+abbrev pub given_of : List Decided → List Ban → Given
+given_of facts bans = record { facts = facts; bans = pairs_of bans }
 
 -- what is given when more facts and bans came behind
 abbrev pub with_more : Given → List Decided → List (List Pair) → Given

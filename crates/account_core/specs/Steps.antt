@@ -1,6 +1,7 @@
 -- When a ban's step is valid in view of the facts and bans given before it (this project's format).
-use Rattle.std.specs.Prelude.{◌⊎◌, ◌<◌, List, length, All, IsSome}
+use Rattle.std.specs.Prelude.{◌⊎◌, ◌<◌, List, length, take, All, IsSome}
 use Rattle.circuits.specs.declared.port.Pair.{Pair}
+use Rattle.circuits.specs.Literals.{EachAt}
 use Rattle.circuits.specs.declared.port.PortKind.TheVariants.{Output}
 use Rattle.net_core.specs.declared.graphs.Graphs.{Graphs}
 use Rattle.query_core.specs.Images.{pair_of}
@@ -8,7 +9,7 @@ use Rattle.account_core.specs.declared.step.Step.{Step}
 use Rattle.account_core.specs.declared.step.Step.TheVariants as step
 use Rattle.account_core.specs.declared.step.Ban.{Ban}
 use Rattle.account_core.specs.Ports.{IsKnown, AreOrdered}
-use Rattle.account_core.specs.Given.{Given, IsFactGiven}
+use Rattle.account_core.specs.Given.{Decided, Given, given_of, IsFactGiven}
 use Rattle.account_core.specs.Vectors.{ShowsDifference}
 use Rattle.account_core.specs.Mismatches.{IsMismatch}
 use Rattle.account_core.specs.Tallies.{IsTally}
@@ -42,6 +43,10 @@ pub record IsValidBan (graphs : Graphs) (given : Given) (ban : Ban) : Type 0 whe
   pub names : AreNamesKnown graphs given ban.step
   pub rule : KeepsRule graphs given ban.pairs ban.step
   pub shown : HasShown graphs ban.pairs ban.step
+
+-- each ban of a list is valid in view of the facts, and of the bans before it
+abbrev pub AreValidBans : Graphs → List Decided → List Ban → Type 0
+AreValidBans graphs facts bans = EachAt (λ k ban. IsValidBan graphs (given_of facts (take k bans)) ban) bans
 
 -- All pairs' ports exist and the pairs are in order, so that the step is tested.
 pub record HasGoodPairs (graphs : Graphs) (ban : Ban) : Type 0 where
