@@ -3,7 +3,7 @@ use Rattle.std.proofs.lemmas.List.{length-drop}
 use Rattle.std.proofs.Math.Seq.{take-length}
 use Rattle.account_file.specs.Words.{words_of}
 use Rattle.account_file.proofs.WordLemmas.{words_cut, words_whole}
-use Rattle.account_file.proofs.forms.cut.Goals as goal
+use Rattle.account_file.proofs.words.cut.Goals as goal
 
 pub returns-then-end-line-clause-alone : goal.returns-then-end-line-clause-alone
 returns-then-end-line-clause-alone c = words_whole c.args.line.now (omega (arith, c.word_end-end.ensures, c.if-end-line.true))
