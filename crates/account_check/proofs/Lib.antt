@@ -6,3 +6,5 @@ pub mod VerdictLemmas
 pub mod RightLemmas
 pub mod AscentLemmas
 pub mod CountLemmas
+pub mod TallyLemmas
+pub mod CoverLemmas
