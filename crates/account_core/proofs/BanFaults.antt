@@ -1,5 +1,5 @@
 -- That a ban is valid or has one kind of fault.
-use Rattle.std.proofs.Common.{◌⊎◌, inl, inr}
+use Rattle.std.proofs.Common.{inl, inr}
 use Rattle.net_core.specs.declared.graphs.Graphs.{Graphs}
 use Rattle.account_core.specs.declared.step.Ban.{Ban}
 use Rattle.account_core.specs.Given.{Given}

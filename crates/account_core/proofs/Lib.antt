@@ -10,3 +10,4 @@ pub mod StepLemmas
 pub mod OrderedPairs
 pub mod BanFaults
 pub mod SentOnly
+pub mod FactLemmas
