@@ -32,7 +32,6 @@ use Rattle.account_core.specs.declared.step.Ban.{Ban}
 use Rattle.account_core.specs.Exclusions.{AreRight, Excludes}
 use Rattle.account_core.specs.Given.{Given, IsBanGiven, IsTrueFact, ban_at, decided}
 use Rattle.account_core.specs.Steps.{IsValidBan}
-use Rattle.query_core.proofs.ImageLaws.{image_holds}
 use Rattle.account_core.proofs.StepLemmas.{ban_contradicts, no_pairs, other_counts}
 use Rattle.account_file.specs.declared.place.Place.{Place}
 use Rattle.account_file.specs.declared.place.Place.TheVariants as place
@@ -175,8 +174,7 @@ right_line account (Some fact) line first second right being none =
 
 -- a valid ban excludes its pairs
 valid_excludes : (graphs : Graphs) (given : Given) (ban : Ban) → IsGraph graphs.first → IsGraph graphs.second → AreRight graphs given → IsValidBan graphs given ban → Excludes graphs ban.pairs
-valid_excludes graphs given ban =
-    ban_contradicts graphs given ban (λ pairs claim image p q. image_holds graphs p q pairs claim image)
+valid_excludes = ban_contradicts
 
 -- a ban
 right_ban : (account : Account) (ban : Ban) → IsGraph account.graphs.first → IsGraph account.graphs.second → IsRight account → BanTests account.graphs account.given ban None → IsRight (behind account (entry_of.Ban ban))

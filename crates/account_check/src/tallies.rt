@@ -120,13 +120,15 @@ fn go_over_twice(given: &Given, numbers: &[u64]) -> bool
     let mut least = 0;
     let mut left = numbers;
     while let [up, down, behind @ ..] = left {
-        let Some(input) = twin_input(given.fact(*up).claim.shape, given.fact(*down).claim.shape) else {
+        let one = given.fact(*up).claim.shape;
+        let other = given.fact(*down).claim.shape;
+        let Some(twin) = twin_input(one, other) else {
             return false;
         };
-        if u64::from(input) < least {
+        if u64::from(twin) < least {
             return false;
         }
-        least = u64::from(input) + 1;
+        least = u64::from(twin) + 1;
         left = behind;
     }
     left.is_empty()
