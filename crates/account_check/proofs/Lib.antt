@@ -3,7 +3,10 @@ pub mod LogLemmas
 pub mod PairLemmas
 pub mod FaultLemmas
 pub mod VerdictLemmas
+pub mod AccountLemmas
 pub mod RightLemmas
+pub mod RefusalLemmas
+pub mod AfterLemmas
 pub mod AscentLemmas
 pub mod CountLemmas
 pub mod TallyLemmas

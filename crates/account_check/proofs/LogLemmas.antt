@@ -25,7 +25,7 @@ use Rattle.account_check.specs.declared.reject.Reject.{Reject}
 use Rattle.account_check.specs.declared.reject.Reject.TheVariants as reject_of
 use Rattle.account_check.specs.declared.reject.RecordStop.{RecordStop}
 use Rattle.account_check.specs.declared.reject.RecordStop.TheVariants as stop
-use Rattle.account_check.specs.Accounts.{Proof, line_reject, log_count, log_query, refutation_of}
+use Rattle.account_check.specs.Logs.{Proof, line_reject, log_count, log_query, refutation_of}
 use Rattle.account_check.specs.Proofs.{AreRefuted, IsLogSoFar, IsOpen, LogSoFar}
 
 -- one more line that is derived

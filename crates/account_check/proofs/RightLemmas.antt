@@ -34,23 +34,23 @@ use Rattle.account_core.specs.Given.{Given, IsBanGiven, IsTrueFact, ban_at, deci
 use Rattle.account_core.specs.Steps.{IsValidBan}
 use Rattle.account_core.proofs.StepLemmas.{ban_contradicts, no_pairs, other_counts}
 use Rattle.account_file.specs.declared.place.Place.{Place}
-use Rattle.account_file.specs.declared.place.Place.TheVariants as place
 use Rattle.account_file.specs.declared.record.Record.{Record}
 use Rattle.account_file.specs.declared.record.Record.TheVariants as entry_of
 use Rattle.account_check.specs.declared.reject.Reject.{Reject}
 use Rattle.account_check.specs.declared.verdict.Verdict.{Verdict}
 use Rattle.account_check.specs.declared.verdict.Verdict.TheVariants as verdict
-use Rattle.account_check.specs.Accounts.{Account, OpenFact, Proof, account_after, after, behind, behind_conclusion, behind_line, empty_account, fact_reject, line_reject, refutation_of, verdict_at, with_ban, with_fact, HasFault}
+use Rattle.account_check.specs.Logs.{OpenFact, Proof, fact_reject, line_reject, refutation_of, with_ban, with_fact}
+use Rattle.account_check.specs.Accounts.{Account, account_after, after, behind, behind_conclusion, behind_line, empty_account, HasFault}
 use Rattle.account_check.specs.Bans.{BanTests}
 use Rattle.account_check.specs.Conclusions.{ConclusionTests}
 use Rattle.account_check.specs.Facts.{AreInputs, ArePortsThere, ClaimTests, FactTests, IsLesserFirst}
 use Rattle.account_check.specs.Proofs.{IsLogSoFar}
-use Rattle.account_check.specs.Rightness.{HaveNoMatch, IsBeingShown, IsOpenFact, IsRight}
+use Rattle.account_check.specs.Rightness.{IsBeingShown, IsOpenFact, IsRight}
 use Rattle.account_check.specs.Tests.{Passed, Unless}
-use Rattle.account_check.specs.Verdicts.{AreValid, IsAccepted}
+use Rattle.account_check.specs.Accounts.{AreValid}
 use Rattle.account_check.proofs.LogLemmas.{log_begun, log_more, refuted_by}
 use Rattle.account_check.proofs.TestLemmas.{passed}
-use Rattle.account_check.proofs.VerdictLemmas.{account_after-push, account_graphs}
+use Rattle.account_check.proofs.AccountLemmas.{account_after-push, account_graphs}
 
 -- a claim whose ports are there, a swap's lesser input first, is one
 placed : (n : ℕ) (shape : Shape) → AreInputs n shape → IsLesserFirst shape → IsPlaced n shape
@@ -258,18 +258,3 @@ right_records graphs records first second valid =
 pub right_prefix : (graphs : Graphs) (records : List Record) → IsGraph graphs.first → IsGraph graphs.second → AreValid graphs records → AreRight graphs (account_after graphs records).given
 right_prefix graphs records first second valid =
     subst (λ (g : Graphs). AreRight g (account_after graphs records).given) (account_graphs graphs records) (right_records graphs records first second valid).given
-
--- an account's verdict is its conclusion
-concluded_so : (place : Place) (concluded : Option Verdict) (told : Verdict) → verdict_at place concluded ≡ Some told → concluded ≡ Some told
-concluded_so place.Start concluded told e = cc
-concluded_so place.Headed concluded told e = cc
-concluded_so place.FactLog concluded told e = cc
-concluded_so (place.Logs left) concluded told e = cc
-concluded_so place.Ended concluded told e = e
-
-pub right_refusal : (graphs : Graphs) (bytes : List ℕ) → IsGraph graphs.first → IsGraph graphs.second → IsAccepted graphs bytes verdict.None → HaveNoMatch graphs
-right_refusal graphs bytes first second accepted =
-    let account = account_after graphs accepted.records in
-    let right = right_records graphs accepted.records first second accepted.valid in
-    let concluded = concluded_so account.place account.concluded verdict.None accepted.verdict_is in
-    subst HaveNoMatch (account_graphs graphs accepted.records) (right.refused concluded)

@@ -2,6 +2,7 @@ pub mod Tests
 pub mod Facts
 pub mod Bans
 pub mod Conclusions
+pub mod Logs
 pub mod Accounts
 pub mod Verdicts
 pub mod Words

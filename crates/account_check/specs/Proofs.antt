@@ -12,7 +12,7 @@ use Rattle.query_core.specs.declared.query.Query.{Query}
 use Rattle.query_core.specs.ClaimQueries.{claim_query}
 use Rattle.query_core.specs.Queries.{IsQuery}
 use Rattle.query_core.specs.Formulas.{formula_of, IsRefuted}
-use Rattle.account_check.specs.Accounts.{OpenFact, Proof, log_count, log_query}
+use Rattle.account_check.specs.Logs.{OpenFact, Proof, log_count, log_query}
 
 -- A log of a query of two circuits, as far as its lines were taken.
 pub record LogSoFar : Type 0 where

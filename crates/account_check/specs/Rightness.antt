@@ -7,7 +7,8 @@ use Rattle.query_core.specs.Claims.{IsClaim}
 use Rattle.query_core.specs.ClaimQueries.{claim_query}
 use Rattle.account_core.specs.Exclusions.{AreRight}
 use Rattle.account_check.specs.declared.verdict.Verdict.TheVariants as verdict
-use Rattle.account_check.specs.Accounts.{Account, OpenFact}
+use Rattle.account_check.specs.Logs.{OpenFact}
+use Rattle.account_check.specs.Accounts.{Account}
 use Rattle.account_check.specs.Proofs.{IsLogSoFar}
 
 -- The claim's output and inputs are there, and the lines of its log are derived.

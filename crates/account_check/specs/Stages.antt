@@ -7,7 +7,7 @@ use Rattle.account_check.specs.declared.checker.Stage.{Stage}
 use Rattle.account_check.specs.declared.checker.Stage.TheVariants as stage
 use Rattle.account_check.specs.declared.verdict.Verdict.{Verdict}
 use Rattle.account_check.specs.declared.verdict.Verdict.TheVariants as verdict
-use Rattle.account_check.specs.Accounts.{OpenFact, Proof, log_count, nothing}
+use Rattle.account_check.specs.Logs.{OpenFact, Proof, log_count, nothing}
 
 -- what may stand next
 abbrev pub place_of : Stage → Place

@@ -1,6 +1,5 @@
 -- The verdict of an account's whole bytes (this project's format): what it proves, or its first bad line.
-use Rattle.std.specs.Prelude.{◌≡◌, ℕ, ◌+◌, List, length, take, None, Some, Result, Ok, Err}
-use Rattle.circuits.specs.Literals.{EachAt}
+use Rattle.std.specs.Prelude.{◌≡◌, ℕ, ◌+◌, List, length, Some, Result, Ok, Err}
 use Rattle.net_core.specs.declared.graphs.Graphs.{Graphs}
 use Rattle.account_file.specs.declared.record.Record.{Record}
 use Rattle.account_file.specs.Accounts.{HasFormFault, IsAccountOf, IsNextRecord}
@@ -9,11 +8,7 @@ use Rattle.account_check.specs.declared.verdict.Why.{Why}
 use Rattle.account_check.specs.declared.verdict.Why.TheVariants as why
 use Rattle.account_check.specs.declared.verdict.CheckStop.{CheckStop}
 use Rattle.account_check.specs.declared.verdict.CheckStop.TheVariants.{Rejected, Memory}
-use Rattle.account_check.specs.Accounts.{account_after, verdict_of, HasFault}
-
--- nothing is wrong with any of the records, in view of those before it
-abbrev pub AreValid : Graphs → List Record → Type 0
-AreValid graphs records = EachAt (λ k entry. HasFault (account_after graphs (take k records)) entry None) records
+use Rattle.account_check.specs.Accounts.{account_after, verdict_of, AreValid, HasFault}
 
 -- What is wrong with the line behind these records: its form; or it is a record that may stand there, and that has this fault.
 abbrev pub IsBad : Graphs → List ℕ → List Record → Why → Type 0

@@ -2,7 +2,7 @@
 
 ghost use Rattle.std.specs.Prelude.{◌≡◌, ◌++◌, ◌∷◌, [], IfOk, OnOk, OnErr, Err, None, Some};
 ghost use Rattle.query_core.specs.Claims.{IsClaim};
-ghost use Rattle.account_check.specs.Accounts.{fact_reject, unshown};
+ghost use Rattle.account_check.specs.Logs.{fact_reject, unshown};
 ghost use Rattle.account_check.specs.declared.reject.RecordStop.TheVariants as stop;
 ghost use Rattle.account_check.specs.declared.reject.Reject.{Reject as AnyReject};
 

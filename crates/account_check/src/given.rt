@@ -2,7 +2,7 @@
 
 ghost use Rattle.std.specs.Prelude.{◌≡◌, ◌-◌, ◌↔◌, [], IsTrue, OnOk, OnErr, length, take};
 ghost use Rattle.account_core.specs.Given.{ban_at, fact_at, IsBanGiven, IsFactGiven};
-ghost use Rattle.account_check.specs.Accounts.{with_ban, with_fact};
+ghost use Rattle.account_check.specs.Logs.{with_ban, with_fact};
 
 use circuits::Pair;
 use items::{Few, Items};

@@ -11,7 +11,8 @@ ghost use Rattle.account_check.specs.declared.verdict.Verdict.{Verdict as AnyVer
 ghost use Rattle.account_check.specs.declared.verdict.Verdict.TheVariants.{None as NoMatch};
 ghost use Rattle.account_check.specs.declared.verdict.Why.{Why as Reason};
 ghost use Rattle.account_check.specs.Accounts.{account_after, Account, HasFault};
-ghost use Rattle.account_check.specs.Verdicts.{AreValid, IsAccepted, IsRejected};
+ghost use Rattle.account_check.specs.Accounts.{AreValid};
+ghost use Rattle.account_check.specs.Verdicts.{IsAccepted, IsRejected};
 
 /// A record has one fault at most.
 pub fn one_fault_of_a_record()

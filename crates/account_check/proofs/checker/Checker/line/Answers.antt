@@ -1,6 +1,7 @@
 -- What is wrong with a line, as the open match's logs tell it.
 use Rattle.std.proofs.Common.{◌≡◌, None, OnOk, sym, ap, subst, ◌∙◌}
-use Rattle.account_check.specs.Accounts.{Account, line_reject}
+use Rattle.account_check.specs.Logs.{line_reject}
+use Rattle.account_check.specs.Accounts.{Account}
 use Rattle.account_check.specs.Stages.{IsStage, proof_of}
 use Rattle.account_check.proofs.checker.Checker.line.Goals as goal
 

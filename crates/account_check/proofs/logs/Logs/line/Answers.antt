@@ -3,7 +3,7 @@ use Rattle.std.proofs.Common.{◌≡◌, ◌+◌, Ok, Some, None, sym, ap, subst
 use Rattle.net_core.specs.declared.graphs.Graphs.{Graphs}
 use Rattle.query_core.specs.Formulas.{IsRefuted}
 use Rattle.account_check.specs.declared.reject.RecordStop.TheVariants as stop
-use Rattle.account_check.specs.Accounts.{Proof, line_reject, refutation_of}
+use Rattle.account_check.specs.Logs.{Proof, line_reject, refutation_of}
 use Rattle.account_check.specs.Proofs.{MatchLogs, IsLog, lines_in}
 use Rattle.account_check.proofs.LogLemmas.{failed, handed_on, refuted_more, same_reject}
 use Rattle.account_check.proofs.logs.Logs.line.Goals as goal
