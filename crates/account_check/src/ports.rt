@@ -2,7 +2,7 @@
 
 ghost use Rattle.std.specs.Prelude.{◌≡◌, ◌↔◌, All, IsTrue};
 ghost use Rattle.account_core.specs.Ports.{ports_in, AreOrdered, HaveAsMany, IsKnown, StandInOrder};
-ghost use Rattle.query_core.specs.Images.{pair_of};
+ghost use Rattle.query_core.specs.Images.{is_of, pair_of};
 
 use circuits::{Pair, PortKind};
 use net_core::{Graph, Graphs};
@@ -74,11 +74,18 @@ pub(crate) fn pair_of(pairs: &[Pair], kind: PortKind, port: u32) -> Option<Pair>
     ensures { result ≡ pair_of pairs.now kind port }
 {
     for pair in pairs.iter() {
-        if (pair.kind == kind) & (pair.from == port) {
+        if is_of(*pair, kind, port) {
             return Some(*pair);
         }
     }
     None
+}
+
+// Whether a pair is of a port of the first circuit.
+fn is_of(pair: Pair, kind: PortKind, port: u32) -> bool
+    ensures { result ≡ is_of kind port pair }
+{
+    (pair.kind == kind) & (pair.from == port)
 }
 
 /// Whether two pairs are the same.
