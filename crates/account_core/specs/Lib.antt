@@ -1,6 +1,5 @@
 pub mod Ports
 pub mod Given
-pub mod Facts
 pub mod Exclusions
 pub mod Vectors
 pub mod Mismatches

@@ -1,7 +1,7 @@
-//! That valid steps exclude what their bans say: no match has all pairs of a ban. Each function does nothing; its contract is
-//! the law.
+//! That valid steps exclude what their bans say: no match has all pairs of a ban. Each function does nothing; its
+//! contract is the law.
 
-ghost use Rattle.std.specs.Prelude.{ℕ, ◌≡◌, ◌<◌, ◌↔◌, List, [], All, Option};
+ghost use Rattle.std.specs.Prelude.{ℕ, ◌≡◌, ◌<◌, List, [], All, Option};
 ghost use Rattle.circuits.specs.declared.port.Pair.{Pair as AnyPair};
 ghost use Rattle.circuits.specs.declared.port.PortKind.{PortKind as AnyKind};
 ghost use Rattle.circuits.specs.declared.port.PortKind.TheVariants.{Input};
@@ -9,26 +9,21 @@ ghost use Rattle.circuits.specs.Matches.{HaveNpnpEqualFunctions};
 ghost use Rattle.circuits.specs.Netlists.{Net};
 ghost use Rattle.net_core.specs.Graph.{IsGraph};
 ghost use Rattle.net_core.specs.declared.graphs.Graphs.{Graphs as TwoGraphs};
-ghost use Rattle.query_core.specs.Claims.{IsClaim, Holds};
-ghost use Rattle.query_core.specs.declared.claims.Claim.{Claim as AnyClaim};
 ghost use Rattle.query_core.specs.Images.{Agree};
 ghost use Rattle.word_sim.specs.declared.tri.Tri.{Tri as AnyTri};
 ghost use Rattle.account_core.specs.declared.step.Ban.{Ban as AnyBan};
 ghost use Rattle.account_core.specs.declared.step.Tallied.{Tallied as AnyTallied};
 ghost use Rattle.account_core.specs.Covers.{AreCoverNames, IsCover};
 ghost use Rattle.account_core.specs.Exclusions.{Excludes, AreRight};
-ghost use Rattle.account_core.specs.declared.fact.FactHead.{FactHead as AnyHead};
-ghost use Rattle.account_core.specs.declared.fact.FactHead.TheVariants as head;
-ghost use Rattle.account_core.specs.Facts.{IsClaimKnown, IsInOrder, IsValidFact};
-ghost use Rattle.account_core.specs.Given.{told_by, Decided, Given, IsFactGiven, IsTrueFact, pairs_of, with_more};
+ghost use Rattle.account_core.specs.Given.{Decided, Given, IsFactGiven, IsTrueFact, pairs_of, with_more};
 ghost use Rattle.account_core.specs.Mismatches.{IsMismatch};
 ghost use Rattle.account_core.specs.Ports.{AreOrdered, HaveAsMany};
-ghost use Rattle.account_core.specs.Steps.{AreValidBans, IsValidBan, NamesUnknown, BreaksRule, ShowsNothing};
+ghost use Rattle.account_core.specs.Steps.{AreValidBans, IsValidBan};
 ghost use Rattle.account_core.specs.Tallies.{IsTally};
 ghost use Rattle.account_core.specs.Vectors.{ShowsDifference, AreSent, values_sent};
 
-/// Values on which an output and its partner are both definite, and differ by the sign of their pair, exclude the pairs: a
-/// match would give both outputs these values on each vector that fills the X in.
+/// Values on which an output and its partner are both definite, and differ by the sign of their pair, exclude the
+/// pairs: a match would give both outputs these values on each vector that fills the X in.
 pub fn vector_excludes()
     ensures { (graphs : TwoGraphs) (pairs : List AnyPair) (output : ℕ) (values : List AnyTri)
         → IsGraph graphs.first
@@ -37,8 +32,8 @@ pub fn vector_excludes()
         → Excludes graphs pairs }
 {}
 
-/// A claim that fails, where the claim of the other circuit that the pairs carry it to holds, excludes the pairs: under a match
-/// both would hold, or neither.
+/// A claim that fails, where the claim of the other circuit that the pairs carry it to holds, excludes the pairs:
+/// under a match both would hold, or neither.
 pub fn mismatch_excludes()
     ensures { (graphs : TwoGraphs) (given : Given) (pairs : List AnyPair) (fails holds : ℕ)
         → All (IsTrueFact graphs) given.facts
@@ -48,8 +43,8 @@ pub fn mismatch_excludes()
         → Excludes graphs pairs }
 {}
 
-/// More inputs that one output has, together with those that its partner lacks, than there are, exclude the pairs: under a match
-/// some input that the one has would go to an input that the other lacks.
+/// More inputs that one output has, together with those that its partner lacks, than there are, exclude the pairs:
+/// under a match some input that the one has would go to an input that the other lacks.
 pub fn tally_excludes()
     ensures { (graphs : TwoGraphs) (given : Given) (pairs : List AnyPair) (kind : AnyTallied) (have lack : List ℕ)
         → All (IsTrueFact graphs) given.facts
@@ -59,8 +54,8 @@ pub fn tally_excludes()
         → Excludes graphs pairs }
 {}
 
-/// Ports of which one must go to one of others, where each way to pair two of them is impossible or has an earlier ban, exclude
-/// the pairs: a match would take one of the ways.
+/// Ports of which one must go to one of others, where each way to pair two of them is impossible or has an earlier
+/// ban, exclude the pairs: a match would take one of the ways.
 pub fn cover_excludes()
     ensures { (graphs : TwoGraphs) (given : Given) (pairs : List AnyPair) (kind : AnyKind) (from to : List ℕ)
         (refs : List (Option ℕ))
@@ -68,20 +63,6 @@ pub fn cover_excludes()
         → AreCoverNames graphs given kind from to refs
         → IsCover graphs given pairs kind from to refs
         → Excludes graphs pairs }
-{}
-
-/// A claim is well placed exactly where its output and inputs exist, and a swap names its lesser input first.
-pub fn claims_by_parts()
-    ensures { (graphs : TwoGraphs) (claim : AnyClaim)
-        → (IsClaim graphs claim ↔ (IsClaimKnown graphs claim × IsInOrder claim.shape)) }
-{}
-
-/// The line of a fact that is valid gives a true fact: always where the claim fails, and where it holds as soon as that is so.
-pub fn valid_fact_is_true()
-    ensures { (graphs : TwoGraphs) (fact : AnyHead)
-        → IsValidFact graphs fact
-        → ((claim : AnyClaim) → fact ≡ head.Holds claim → Holds graphs claim)
-        → IsTrueFact graphs (told_by fact) }
 {}
 
 /// A ban that is valid in view of true facts, and of bans that no match extends, is extended by no match either.
@@ -134,8 +115,8 @@ pub fn ordered_pairs_agree()
         → Agree pairs }
 {}
 
-/// What the pairs make of values at the second circuit's inputs is told by each of them: a paired input has its partner's value,
-/// by the sign, and every other one has X.
+/// What the pairs make of values at the second circuit's inputs is told by each of them: a paired input has its
+/// partner's value, by the sign, and every other one has X.
 pub fn sent_values()
     ensures are { (pairs : List AnyPair) (n : ℕ) (values : List AnyTri)
         → AreOrdered pairs
@@ -144,32 +125,4 @@ pub fn sent_values()
     ensures only { (pairs : List AnyPair) (n : ℕ) (values sent : List AnyTri)
         → AreSent pairs n values sent
         → sent ≡ values_sent pairs n values }
-{}
-
-/// A ban has one of four: a name that isn't known, a broken rule, a vector that shows nothing, or validity.
-pub fn one_fault_of_a_ban()
-    ensures valid_or_unknown { (graphs : TwoGraphs) (given : Given) (ban : AnyBan)
-        → IsValidBan graphs given ban
-        → NamesUnknown graphs given ban
-        → ⊥ }
-    ensures valid_or_broken { (graphs : TwoGraphs) (given : Given) (ban : AnyBan)
-        → IsValidBan graphs given ban
-        → BreaksRule graphs given ban
-        → ⊥ }
-    ensures valid_or_nothing_shown { (graphs : TwoGraphs) (given : Given) (ban : AnyBan)
-        → IsValidBan graphs given ban
-        → ShowsNothing graphs given ban
-        → ⊥ }
-    ensures unknown_or_broken { (graphs : TwoGraphs) (given : Given) (ban : AnyBan)
-        → NamesUnknown graphs given ban
-        → BreaksRule graphs given ban
-        → ⊥ }
-    ensures unknown_or_nothing_shown { (graphs : TwoGraphs) (given : Given) (ban : AnyBan)
-        → NamesUnknown graphs given ban
-        → ShowsNothing graphs given ban
-        → ⊥ }
-    ensures broken_or_nothing_shown { (graphs : TwoGraphs) (given : Given) (ban : AnyBan)
-        → BreaksRule graphs given ban
-        → ShowsNothing graphs given ban
-        → ⊥ }
 {}
