@@ -61,20 +61,23 @@ number_of word = or_fault (number_below (2 ^ 64) word) (bad_number word)
 abbrev pub port_of : List ℕ → Result ℕ RecordFault
 port_of word = or_fault (number_below (2 ^ 32) word) (bad_number word)
 
-abbrev pub literal_by : Result ℕ RecordFault → Result SatLit RecordFault
-literal_by (Ok number) = Ok (record { 0 = number })
-literal_by (Err fault) = Err fault
+-- the same value in another form
+abbrev pub mapped : {X Y : Type 0} → (X → Y) → Result X RecordFault → Result Y RecordFault
+mapped {X} {Y} form (Ok x) = Ok (form x)
+mapped {X} {Y} form (Err fault) = Err fault
+
+abbrev pub literal_with : ℕ → SatLit
+literal_with number = record { 0 = number }
 
 abbrev pub literal_of : List ℕ → Result SatLit RecordFault
-literal_of word = literal_by (number_of word)
+literal_of word = mapped literal_with (number_of word)
 
 -- a ban's number, or `-`
-abbrev pub ban_by : Result ℕ RecordFault → Result (Option ℕ) RecordFault
-ban_by (Ok number) = Ok (Some number)
-ban_by (Err fault) = Err fault
+abbrev pub numbered : ℕ → Option ℕ
+numbered ban = Some ban
 
 abbrev pub reference_of : List ℕ → Result (Option ℕ) RecordFault
-reference_of word = if bytes_eq word (codes "-") then Ok None else ban_by (number_of word)
+reference_of word = if bytes_eq word (codes "-") then Ok None else mapped numbered (number_of word)
 
 -- a pair of ports: a letter, a number, a sign, a number; both numbers of 32 bits
 abbrev pub kind_of_letter : ℕ → Option PortKind

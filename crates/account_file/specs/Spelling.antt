@@ -9,7 +9,6 @@ use Rattle.net_core.specs.declared.graphs.Side.{Side}
 use Rattle.net_core.specs.declared.graphs.Side.TheVariants.{First, Second}
 use Rattle.word_sim.specs.declared.tri.Tri.{Tri}
 use Rattle.word_sim.specs.declared.tri.Tri.TheVariants as tri
-use Rattle.cnf_core.specs.declared.literal.SatLit.{SatLit}
 use Rattle.cnf_core.specs.declared.log.LogLine.{LogLine}
 use Rattle.query_core.specs.declared.claims.Shape.{Shape}
 use Rattle.query_core.specs.declared.claims.Shape.TheVariants.{Up, Down, Swap}
@@ -87,7 +86,8 @@ step_words (Mismatch fails holds) = codes "mismatch" ∷ decimal fails ∷ decim
 step_words (Tally kind have lack) =
     codes "tally" ∷ tallied_word kind ∷ map decimal have ++ codes "/" ∷ map decimal lack
 step_words (Cover kind from to refs) =
-    codes "cover" ∷ kind_word kind ∷ map decimal from ++ codes "/" ∷ map decimal to ++ codes "/" ∷ map reference_word refs
+    codes "cover" ∷ kind_word kind
+    ∷ (map decimal from ++ codes "/" ∷ (map decimal to ++ codes "/" ∷ map reference_word refs))
 
 -- the first word of a record's line
 abbrev pub first_word : Record → List ℕ
