@@ -1,9 +1,12 @@
 -- Numbers that ascend, read from the front.
-use Rattle.std.proofs.Common.{◌≡◌, ℕ, suc, ◌+◌, ◌<◌, ◌≤◌, List, [], ◌∷◌, length, get_or, ◌↔◌, refl, sym, subst, arith}
+use Rattle.std.proofs.Common.{◌≡◌, ℕ, suc, ◌+◌, ◌<◌, ◌≤◌, List, [], ◌∷◌, length, get_or, drop, ◌↔◌, true, refl, sym, subst, arith}
+use Rattle.std.proofs.lemmas.List.{drop_all}
 use Rattle.std.proofs.lemmas.List.Elements.{All-cons}
 use Rattle.std.proofs.lemmas.List.Kept.{AllPairs-cons}
+use Rattle.std.specs.Bool.{IsTrue}
 use Rattle.account_core.specs.Tallies.{Ascend}
 use Rattle.account_check.specs.Counted.{AscendFrom}
+use Rattle.account_check.proofs.BoolLemmas.{granted}
 
 pub none_ascend : (least : ℕ) → AscendFrom least []
 none_ascend least = record {
@@ -41,3 +44,8 @@ pub ascent_stop : (P : Type 0) (least x : ℕ) (xs ys : List ℕ) → ys ≡ x �
 ascent_stop P least x xs ys is below so_far p =
     let e = (ascend_rest least x xs (subst (AscendFrom least) is (so_far.1 p))).0 in
     omega (arith, e, below)
+
+-- all numbers are read
+pub ascent_end : (P : Type 0) (least : ℕ) (numbers : List ℕ) (k : ℕ) → length numbers ≤ k → (AscendFrom least (drop k numbers) ↔ P) → IsTrue true ↔ P
+ascent_end P least numbers k all so_far =
+    granted P (so_far.0 (subst (AscendFrom least) (sym (drop_all k numbers all)) (none_ascend least)))

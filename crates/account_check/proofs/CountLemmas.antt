@@ -1,7 +1,9 @@
 -- Facts of a tally, read from the front, and what they count.
-use Rattle.std.proofs.Common.{◌≡◌, ◌⊎◌, ℕ, zero, suc, ◌+◌, ◌*◌, ◌/◌, ◌<◌, ◌≤◌, ◌==◌, Bool, true, false, List, [], ◌∷◌, length, map, get_or, All, Any, Contains, Option, None, Some, ◌↔◌, inl, inr, refl, sym, ap, subst, ◌∙◌, arith, if◌then◌else◌, slice_index_or}
+use Rattle.std.proofs.Common.{◌≡◌, ◌⊎◌, ℕ, zero, suc, ◌+◌, ◌*◌, ◌/◌, ◌<◌, ◌≤◌, ◌==◌, Bool, true, false, List, [], ◌∷◌, length, map, get_or, take, drop, length-drop, take_all, ◌-◌, All, Any, Contains, Option, None, Some, ◌↔◌, inl, inr, refl, sym, ap, subst, ◌∙◌, arith, if◌then◌else◌, slice_index_or}
+use Rattle.std.specs.Bool.{IsTrue}
 use Rattle.std.specs.List.{AllZip, flat_map}
 use Rattle.std.proofs.lemmas.List.{length-map}
+use Rattle.std.proofs.lemmas.Bool.Decides.{nat_tests}
 use Rattle.std.proofs.lemmas.List.Elements.{length_all_zip}
 use Rattle.circuits.specs.declared.port.Pair.{Pair}
 use Rattle.net_core.specs.declared.graphs.Graphs.{Graphs}
@@ -65,14 +67,11 @@ inputs_step P least i shape shapes left is input within so_far =
         subst (λ n. GoOverInputs (n + 1) shapes) (some_is parts.i i (sym parts.is ∙ input)) parts.rest)
     )
 
-pub inputs_stop : (P : Type 0) (least : ℕ) (shape : Shape) (shapes left : List Shape) → left ≡ shape ∷ shapes → one_input shape ≡ None → (GoOverInputs least left ↔ P) → P → ⊥
+pub inputs_stop : (P : Type 0) (least : ℕ) (shape : Shape) (shapes left : List Shape) → left ≡ shape ∷ shapes → ((i : ℕ) → one_input shape ≡ Some i → ⊥) → (GoOverInputs least left ↔ P) → P → ⊥
 inputs_stop P least shape shapes left is none so_far p =
     let whole = subst (GoOverInputs least) is (so_far.1 p) in
     let parts = inputs_split least whole.inputs shape shapes whole.of_each whole.ascend in
-    never parts.i (sym none ∙ parts.is)
-  where
-    never : (i : ℕ) → None ≡ Some i → ⊥
-    never i e = cc
+    none parts.i parts.is
 
 pub inputs_below : (P : Type 0) (least i : ℕ) (shape : Shape) (shapes left : List Shape) → left ≡ shape ∷ shapes → one_input shape ≡ Some i → i < least → (GoOverInputs least left ↔ P) → P → ⊥
 inputs_below P least i shape shapes left is input below so_far p =
@@ -86,14 +85,23 @@ pub no_twos : (least : ℕ) → GoOverTwice least []
 no_twos least = record { inputs = []; both_of_each = refl; ascend = none_ascend least }
 
 of_two : (i : ℕ) (one other : Shape) → twin_input one other ≡ Some i → (one ≡ Up i) × (other ≡ Down i)
-of_two i (Up j) (Down k) e = ?
+of_two i (Up j) (Down k) e =
+    by (j == k) refl e
+  where
+    by : (b : Bool) → (j == k) ≡ b → (if b then Some j else None) ≡ Some i → (Up j ≡ Up i) × (Down k ≡ Down i)
+    by true t e =
+        let same : j ≡ k = grind (arith, nat_tests) in
+        (ap Up (some_is j i e), ap Down (sym same ∙ some_is j i e))
+    by false t e = cc
 of_two i (Up j) (Up k) e = cc
 of_two i (Up j) (Swap k l a b) e = cc
 of_two i (Down j) other e = cc
 of_two i (Swap j k a b) other e = cc
 
 to_two : (i : ℕ) → twin_input (Up i) (Down i) ≡ Some i
-to_two i = ?
+to_two i =
+    let same : (i == i) ≡ true = grind (arith, nat_tests) in
+    ap (λ b. if b then Some i else None) same
 
 pub twos_more : (least i : ℕ) (one other : Shape) (shapes : List Shape) → twin_input one other ≡ Some i → least ≤ i → GoOverTwice (i + 1) shapes → GoOverTwice least (one ∷ other ∷ shapes)
 twos_more least i one other shapes is within rest =
@@ -116,7 +124,7 @@ head_is {X} x y xs ys e = cc
 tail_is : {X : Type 0} (x y : X) (xs ys : List X) → x ∷ xs ≡ y ∷ ys → xs ≡ ys
 tail_is {X} x y xs ys e = cc
 
-both : ℕ → List Shape
+abbrev both : ℕ → List Shape
 both i = Up i ∷ Down i ∷ []
 
 twos_split : (least : ℕ) (inputs : List ℕ) (one other : Shape) (shapes : List Shape) → AreBothOfEach inputs (one ∷ other ∷ shapes) → AscendFrom least inputs → TwosRest least one other shapes
@@ -142,14 +150,11 @@ twos_step P least i one other shapes left is input within so_far =
         subst (λ n. GoOverTwice (n + 1) shapes) (some_is parts.i i (sym parts.is ∙ input)) parts.rest)
     )
 
-pub twos_stop : (P : Type 0) (least : ℕ) (one other : Shape) (shapes left : List Shape) → left ≡ one ∷ other ∷ shapes → twin_input one other ≡ None → (GoOverTwice least left ↔ P) → P → ⊥
+pub twos_stop : (P : Type 0) (least : ℕ) (one other : Shape) (shapes left : List Shape) → left ≡ one ∷ other ∷ shapes → ((i : ℕ) → twin_input one other ≡ Some i → ⊥) → (GoOverTwice least left ↔ P) → P → ⊥
 twos_stop P least one other shapes left is none so_far p =
     let whole = subst (GoOverTwice least) is (so_far.1 p) in
     let parts = twos_split least whole.inputs one other shapes whole.both_of_each whole.ascend in
-    never parts.i (sym none ∙ parts.is)
-  where
-    never : (i : ℕ) → None ≡ Some i → ⊥
-    never i e = cc
+    none parts.i parts.is
 
 pub twos_below : (P : Type 0) (least i : ℕ) (one other : Shape) (shapes left : List Shape) → left ≡ one ∷ other ∷ shapes → twin_input one other ≡ Some i → i < least → (GoOverTwice least left ↔ P) → P → ⊥
 twos_below P least i one other shapes left is input below so_far p =
@@ -182,3 +187,23 @@ inputs_count least shapes whole = length_zip whole.inputs shapes whole.of_each
 
 pub twos_count : (least : ℕ) (shapes : List Shape) (whole : GoOverTwice least shapes) → length shapes ≡ 2 * length whole.inputs
 twos_count least shapes whole = ap (λ (ss : List Shape). length ss) whole.both_of_each ∙ twos_length whole.inputs
+
+-- the first two of a list
+pub front_two : (xs : List ℕ) → 2 ≤ length xs → xs ≡ get_or xs 0 0 ∷ get_or xs 1 0 ∷ drop 2 xs
+front_two [] long = absurd (omega (arith, long))
+front_two (x ∷ []) long = absurd (omega (arith, long))
+front_two (x ∷ y ∷ xs) long = refl
+
+-- what is left behind the first two
+pub behind_two : (xs : List ℕ) → take (length xs - 2) (drop 2 xs) ≡ drop 2 xs
+behind_two xs = take_all (length xs - 2) (drop 2 xs) (omega (arith, length-drop 2 xs))
+
+-- fewer than two are left
+pub twos_end : (P : Type 0) (given : Given) (least : ℕ) (left : List ℕ) (none : Bool) → length left < 2 → none ≡ (length left == 0) → (GoOverTwice least (shapes_of given left) ↔ P) → IsTrue none ↔ P
+twos_end P given least [] none short is so_far = ((λ e. so_far.0 (no_twos least)), (λ p. is))
+twos_end P given least (x ∷ []) none short is so_far =
+    ((λ e. absurd (no (sym is ∙ e))), (λ p. absurd (twos_odd least _ (so_far.1 p))))
+  where
+    no : (1 == 0) ≡ true → ⊥
+    no e = cc
+twos_end P given least (x ∷ y ∷ left) none short is so_far = absurd (omega (arith, short))

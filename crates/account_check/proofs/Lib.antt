@@ -1,4 +1,6 @@
+pub mod BoolLemmas
 pub mod TestLemmas
+pub mod PortLemmas
 pub mod LogLemmas
 pub mod PairLemmas
 pub mod FaultLemmas

@@ -1,5 +1,5 @@
 -- Lists of ports and of facts that are read from the front.
-use Rattle.std.specs.Prelude.{◌≡◌, ℕ, ◌+◌, ◌/◌, ◌<◌, ◌≤◌, ◌==◌, Bool, true, false, List, [], ◌∷◌, length, All, Option, None, Some, if◌then◌else◌}
+use Rattle.std.specs.Prelude.{◌≡◌, ℕ, ◌+◌, ◌/◌, ◌<◌, ◌≤◌, ◌==◌, Bool, true, false, List, [], ◌∷◌, length, All, Contains, Option, None, Some, if◌then◌else◌}
 use Rattle.std.specs.List.{flat_map}
 use Rattle.circuits.specs.declared.port.Pair.{Pair}
 use Rattle.circuits.specs.declared.port.PortKind.{PortKind}
@@ -10,7 +10,7 @@ use Rattle.query_core.specs.declared.claims.Claim.{Claim}
 use Rattle.account_core.specs.declared.step.Tallied.{Tallied}
 use Rattle.account_core.specs.declared.step.Tallied.TheVariants.{Support, Binate}
 use Rattle.account_core.specs.Covers.{way}
-use Rattle.account_core.specs.Given.{Given, fact_at}
+use Rattle.account_core.specs.Given.{Given, fact_at, IsBanGiven}
 use Rattle.account_core.specs.Tallies.{other_side, port_on, shapes_of, AreBothOfEach, AreOfEach, Ascend}
 
 -- Numbers ascend, from `least` on.
@@ -68,3 +68,11 @@ HaveTooMany inputs given Binate have lack = AreTooMany inputs given lack have
 -- the ways to pair one port with each of some others
 abbrev pub row : PortKind → ℕ → List ℕ → List Pair
 row kind port to = flat_map (λ t. way kind port t false ∷ way kind port t true ∷ []) to
+
+-- A pair is one of the pairs, or the one more.
+pub record IsHeld (pairs : List Pair) (more : Pair) (held : Pair) : Type 0 where
+  pub there : Contains (more ∷ pairs) held
+
+-- The ban that is referred to was given, if one is.
+pub record IsReferredBanGiven (given : Given) (reference : Option ℕ) : Type 0 where
+  pub given_if_named : (ban : ℕ) → reference ≡ Some ban → IsBanGiven given ban

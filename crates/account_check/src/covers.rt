@@ -1,12 +1,11 @@
 //! Bans by ports of which some must go to some of others, though each way to pair two of them is excluded.
 
-ghost use Rattle.std.specs.Prelude.{ℕ, ◌≡◌, ◌↔◌, ◌<◌, ◌++◌, ◌∷◌, true, false, All, Contains, IsSomeAnd, IsTrue, List, Some};
+ghost use Rattle.std.specs.Prelude.{◌≡◌, ◌↔◌, ◌<◌, ◌++◌, ◌∷◌, true, false, All, Any, IsSomeAnd, IsTrue, List};
 ghost use Rattle.std.specs.List.{AllZip};
 ghost use Rattle.circuits.specs.declared.port.Pair.{Pair as AnyPair};
 ghost use Rattle.account_core.specs.Covers.{way, ways, AreCoverNames, IsCover, IsImpossible, IsReference};
-ghost use Rattle.account_core.specs.Given.{IsBanGiven};
 ghost use Rattle.account_core.specs.Ports.{Clash};
-ghost use Rattle.account_check.specs.Counted.{row};
+ghost use Rattle.account_check.specs.Counted.{row, IsHeld, IsReferredBanGiven};
 
 use crate::ascent::ascend;
 use crate::given::Given;
@@ -27,7 +26,7 @@ pub(crate) fn are_cover_names(
 {
     are_below(ports_in(&graphs.first, kind), from)
         & are_below(ports_in(&graphs.second, kind), to)
-        & refs.iter().all(|reference| is_given(given, *reference))
+        & are_given(given, refs)
 }
 
 // Whether ports are some of so many.
@@ -37,9 +36,16 @@ fn are_below(count: usize, ports: &[u32]) -> bool
     ports.iter().all(|port| (*port as usize) < count)
 }
 
+// Whether the bans that are referred to were given.
+fn are_given(given: &Given, refs: &[Option<u64>]) -> bool
+    ensures { IsTrue result ↔ All (IsReferredBanGiven given.now) refs.now }
+{
+    refs.iter().all(|reference| is_given(given, *reference))
+}
+
 // Whether the ban that is referred to was given, if one is.
 fn is_given(given: &Given, reference: Option<u64>) -> bool
-    ensures { IsTrue result ↔ ((ban : ℕ) → reference ≡ Some ban → IsBanGiven given.now ban) }
+    ensures { IsTrue result ↔ IsReferredBanGiven given.now reference }
 {
     match reference {
         Some(ban) => given.has_ban(ban),
@@ -155,14 +161,21 @@ fn clash(one: Pair, other: Pair) -> bool
 
 // Whether a ban's pairs are among the pairs and one more.
 fn are_among(ban: &[Pair], pairs: &[Pair], more: Pair) -> bool
-    ensures { IsTrue result ↔ All (Contains (more ∷ pairs.now)) ban.now }
+    ensures { IsTrue result ↔ All (IsHeld pairs.now more) ban.now }
 {
     ban.iter().all(|held| is_among(*held, pairs, more))
 }
 
 // Whether a pair is among the pairs and one more.
 fn is_among(held: Pair, pairs: &[Pair], more: Pair) -> bool
-    ensures { IsTrue result ↔ Contains (more ∷ pairs.now) held }
+    ensures { IsTrue result ↔ IsHeld pairs.now more held }
 {
-    are_same(held, more) | pairs.iter().any(|pair| are_same(*pair, held))
+    are_same(held, more) | has_pair(pairs, held)
+}
+
+// Whether a pair is one of the pairs.
+fn has_pair(pairs: &[Pair], held: Pair) -> bool
+    ensures { IsTrue result ↔ Any (λ pair. pair ≡ held) pairs.now }
+{
+    pairs.iter().any(|pair| are_same(*pair, held))
 }

@@ -22,7 +22,10 @@ pub(crate) fn is_tally(
 ) -> bool
     ensures { IsTrue result ↔ IsTally graphs.now given.now pairs.now kind have.now lack.now }
 {
-    let ([having, ..], [lacking, ..]) = (have, lack) else {
+    let [having, ..] = have else {
+        return false;
+    };
+    let [lacking, ..] = lack else {
         return false;
     };
     let one = given.fact(*having).claim;
