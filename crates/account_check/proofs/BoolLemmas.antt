@@ -1,6 +1,8 @@
 -- What tests tell.
-use Rattle.std.proofs.Common.{◌≡◌, ℕ, suc, ◌+◌, ◌<◌, ◌&&◌, ◌||◌, Bool, true, false, not, List, ◌∷◌, length, get_or, drop, ◌↔◌, ◌⊎◌, inl, inr, refl, sym, ◌∙◌, arith, add-one, drop-cons}
+use Rattle.std.proofs.Common.{◌≡◌, ℕ, suc, ◌+◌, ◌<◌, ◌&&◌, ◌||◌, Bool, true, false, not, List, ◌∷◌, length, get_or, slice_index_or, drop, All, ap, subst, ◌↔◌, ◌⊎◌, inl, inr, refl, sym, ◌∙◌, arith, add-one, drop-cons}
 use Rattle.std.specs.Bool.{IsTrue}
+use Rattle.std.proofs.lemmas.Bool.{cases_lt}
+use Rattle.std.proofs.lemmas.List.{get_or_default}
 
 no_truth : IsTrue false → ⊥
 no_truth e = cc
@@ -38,3 +40,16 @@ same_test b P Q to from p = ((λ e. to (p.0 e)), (λ q. p.1 (from q)))
 -- the front of what is left of a list
 pub front : {X : Type 0} (xs : List X) (k : ℕ) (d : X) → k < length xs → drop k xs ≡ get_or xs k d ∷ drop (k + 1) xs
 front {X} xs k d within = rw (add-one, drop-cons xs k d) refl
+
+-- one element more has a property
+pub all_more : {X : Type 0} (P : X → Type 0) (xs : List X) (k : ℕ) (e : X) → k < length xs → ((j : ℕ) (d : X) → j < k → P (slice_index_or xs j d)) → P (get_or xs k e) → (j : ℕ) (d : X) → j < k + 1 → P (slice_index_or xs j d)
+all_more {X} P xs k e within so_far here j d below =
+    elim (cases_lt j k) [
+      | inl before ↦ so_far j d before
+      | inr not_before ↦
+          let last : k ≡ j = omega (arith, below, not_before) in
+          subst P (get_or_default xs k e d within ∙ ap (λ n. get_or xs n d) last) here
+    ]
+
+pub not_all : {X : Type 0} (P : X → Type 0) (xs : List X) (k : ℕ) (e : X) → k < length xs → All P xs → P (get_or xs k e)
+not_all {X} P xs k e within all = all k e within

@@ -47,6 +47,10 @@ pub record AreWhole (graphs : Graphs) (pairs : List Pair) : Type 0 where
 abbrev pub PortsTest : Graphs → (Option Reject → Type 0) → Option Reject → Type 0
 PortsTest graphs Behind fault = Unless (HaveAsMany graphs.first graphs.second) reject.Conclusion Behind fault
 
+-- the test of the conclusion that they differ
+abbrev pub OtherPortsTest : Graphs → Option Reject → Type 0
+OtherPortsTest graphs fault = Unless (HaveAsMany graphs.first graphs.second → ⊥) reject.Conclusion Passed fault
+
 -- the tests of a match's pairs
 abbrev pub PairTests : Graphs → List Pair → Option Reject → Type 0
 PairTests graphs pairs fault =
@@ -59,7 +63,6 @@ EmptyBanTests given ban fault =
 
 -- the tests of a conclusion
 abbrev pub ConclusionTests : Graphs → Given → Conclusion → Option Reject → Type 0
-ConclusionTests graphs given conclusion.NonePorts fault =
-    Unless (HaveAsMany graphs.first graphs.second → ⊥) reject.Conclusion Passed fault
+ConclusionTests graphs given conclusion.NonePorts fault = OtherPortsTest graphs fault
 ConclusionTests graphs given (conclusion.NoneBan ban) fault = PortsTest graphs (EmptyBanTests given ban) fault
 ConclusionTests graphs given (conclusion.Match pairs) fault = PortsTest graphs (PairTests graphs pairs) fault

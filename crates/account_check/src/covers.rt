@@ -163,7 +163,12 @@ fn clash(one: Pair, other: Pair) -> bool
 fn are_among(ban: &[Pair], pairs: &[Pair], more: Pair) -> bool
     ensures { IsTrue result ↔ All (IsHeld pairs.now more) ban.now }
 {
-    ban.iter().all(|held| is_among(*held, pairs, more))
+    for held in ban.iter() {
+        if !is_among(*held, pairs, more) {
+            return false;
+        }
+    }
+    true
 }
 
 // Whether a pair is among the pairs and one more.

@@ -1,11 +1,9 @@
 //! The tests of a conclusion, and the matching of its pairs.
 
-ghost use Rattle.std.specs.Prelude.{◌≡◌, ◌+◌, ◌≤◌, ◌↔◌, [], IsTrue, IfOk, OnOk, Err, None, Some, length, map};
+ghost use Rattle.std.specs.Prelude.{◌≡◌, ◌+◌, ◌≤◌, ◌↔◌, IsTrue, IfOk, OnOk, Err, None, Some, length, map};
 ghost use Rattle.circuits.specs.Matches.{HavePorts};
 ghost use Rattle.net_core.specs.Graph.{IsGraph};
-ghost use Rattle.account_core.specs.Given.{Given as AnyGiven};
-ghost use Rattle.account_core.specs.declared.conclusion.Conclusion.TheVariants as conclusion;
-ghost use Rattle.account_check.specs.Conclusions.{entry_of, matching_of, AreInOrder, AreOfKind, ConclusionTests, EmptyBanTests, PairTests, PortsTest};
+ghost use Rattle.account_check.specs.Conclusions.{entry_of, matching_of, AreInOrder, AreOfKind, EmptyBanTests, OtherPortsTest, PairTests, PortsTest};
 ghost use Rattle.account_check.specs.declared.reject.RecordStop.TheVariants as stop;
 ghost use Rattle.account_check.specs.declared.reject.Reject.{Reject as AnyReject};
 
@@ -19,7 +17,7 @@ use std::alloc::{AllocError, Global};
 
 /// What is wrong with the conclusion that there is no match since the circuits have other numbers of ports: that they have as many.
 pub(crate) fn test_ports(graphs: &Graphs) -> Option<Reject>
-    ensures { (given : AnyGiven) → ConclusionTests graphs.now given conclusion.NonePorts result }
+    ensures { OtherPortsTest graphs.now result }
 {
     if have_as_many(graphs) {
         return Some(Reject::Conclusion);
