@@ -49,7 +49,7 @@ use Rattle.account_check.specs.Rightness.{IsBeingShown, IsOpenFact, IsRight}
 use Rattle.account_check.specs.Tests.{Passed, Unless}
 use Rattle.account_check.specs.Accounts.{AreValid}
 use Rattle.account_check.proofs.LogLemmas.{log_begun, log_more, refuted_by}
-use Rattle.account_check.proofs.TestLemmas.{passed}
+use Rattle.account_check.proofs.TestLemmas.{through}
 use Rattle.account_check.proofs.AccountLemmas.{account_after-push, account_graphs}
 
 -- a claim whose ports are there, a swap's lesser input first, is one
@@ -67,18 +67,18 @@ claim_there graphs claim there lesser = record {
 -- what passes the tests of a claim is one, and passes those behind
 pub claim_passed : (graphs : Graphs) (claim : Claim) (Behind : Option Reject → Type 0) → ClaimTests graphs claim Behind None → IsClaim graphs claim × Behind None
 claim_passed graphs claim Behind tests =
-    let there = passed _ _ _ tests in
-    let lesser = passed _ _ Behind there.1 in
+    let there = through tests in
+    let lesser = through there.1 in
     (claim_there graphs claim there.0 lesser.0, lesser.1)
 
 -- what passes the tests of a ban is valid
 pub ban_passed : (graphs : Graphs) (given : Given) (ban : Ban) → BanTests graphs given ban None → IsValidBan graphs given ban
 ban_passed graphs given ban tests =
-    let known = passed _ _ _ tests in
-    let ordered = passed _ _ _ known.1 in
-    let names = passed _ _ _ ordered.1 in
-    let rule = passed _ _ _ names.1 in
-    let shown = passed _ _ _ rule.1 in
+    let known = through tests in
+    let ordered = through known.1 in
+    let names = through ordered.1 in
+    let rule = through names.1 in
+    let shown = through rule.1 in
     record { known = known.0; ordered = ordered.0; names = names.0; rule = rule.0; shown = shown.0 }
 
 -- a claim whose query is refuted holds
@@ -111,7 +111,7 @@ placed_anywhere account place right = record { given = right.given; fact = right
 right_fails : (account : Account) (claim : Claim) (bits : List Bool) → IsRight account → FactTests account.graphs (head.Fails claim bits) None → IsRight (behind account (entry_of.Fact (head.Fails claim bits)))
 right_fails account claim bits right tests =
     let here = claim_passed account.graphs claim _ tests in
-    let breaks = passed (Breaks account.graphs claim bits) _ Passed here.1 in
+    let breaks = through here.1 in
     record {
       given = fact_more account.graphs account.given claim false right.given (record { placed = here.0; says = (bits, breaks.0) });
       fact = right.fact;
@@ -190,16 +190,16 @@ other_verdict matching e = cc
 
 right_conclusion : (account : Account) (x : Conclusion) → IsRight account → ConclusionTests account.graphs account.given x None → IsRight (behind_conclusion account x)
 right_conclusion account conclusion.NonePorts right tests =
-    let differ = passed _ _ Passed tests in
+    let differ = through tests in
     record {
       given = right.given;
       fact = right.fact;
       refused = λ e. other_counts account.graphs.first account.graphs.second differ.0;
     }
 right_conclusion account (conclusion.NoneBan ban) right tests =
-    let ports = passed _ _ _ tests in
-    let there = passed (IsBanGiven account.given ban) _ _ ports.1 in
-    let none = passed (ban_at account.given ban ≡ []) _ Passed there.1 in
+    let ports = through tests in
+    let there = through ports.1 in
+    let none = through there.1 in
     record {
       given = right.given;
       fact = right.fact;
@@ -214,12 +214,12 @@ right_conclusion account (conclusion.Match pairs) right tests = record {
 right_behind : (account : Account) (entry : Record) → IsGraph account.graphs.first → IsGraph account.graphs.second → IsRight account → HasFault account entry None → IsRight (behind account entry)
 right_behind account entry_of.Header first second right fine = right
 right_behind account (entry_of.Fact (head.Fails claim bits)) first second right fine =
-    right_fails account claim bits right (passed _ _ (FactTests account.graphs (head.Fails claim bits)) fine).1
+    right_fails account claim bits right (through fine).1
 right_behind account (entry_of.Fact (head.Holds claim)) first second right fine =
-    right_holds account claim right (passed _ _ (FactTests account.graphs (head.Holds claim)) fine).1
+    right_holds account claim right (through fine).1
 right_behind account (entry_of.Line line) first second right fine = right_line account account.fact line first second right right.fact fine
 right_behind account (entry_of.Ban ban) first second right fine =
-    right_ban account ban first second right (passed _ _ (BanTests account.graphs account.given ban) fine).1
+    right_ban account ban first second right (through fine).1
 right_behind account (entry_of.Conclusion x) first second right fine = right_conclusion account x right fine
 right_behind account entry_of.End first second right fine = right
 

@@ -16,25 +16,7 @@ one_unless Test reject Behind one a b (inr first) (inr second) = one a b first.1
 some_none : {r : Reject} → None ≡ Some r → ⊥
 some_none {r} e = cc
 
-pub some_same : (r s : Reject) → Some r ≡ Some s → r ≡ s
-some_same r s e = cc
-
 -- where no fault is told, the test is passed, and so are those behind it
-pub passed : (Test : Type 0) (reject : Reject) (Behind : Option Reject → Type 0) → Unless Test reject Behind None → Test × Behind None
-passed Test reject Behind (inl failed) = absurd (some_none failed.1)
-passed Test reject Behind (inr through) = through
-
--- a test isn't passed, or it is
-pub fails : (Test : Type 0) (reject : Reject) (Behind : Option Reject → Type 0) → (Test → ⊥) → Unless Test reject Behind (Some reject)
-fails Test reject Behind not_passed = inl (not_passed, refl)
-
-pub goes_on : (Test : Type 0) (reject : Reject) (Behind : Option Reject → Type 0) (fault : Option Reject) → Test → Behind fault → Unless Test reject Behind fault
-goes_on Test reject Behind fault test behind = inr (test, behind)
-
--- a fault that tests tell is told also where more tests stand behind them
-pub no_pass : {r : Reject} → Passed (Some r) → ⊥
-no_pass {r} e = cc
-
-pub more_behind : (Test : Type 0) (reject : Reject) (Behind More : Option Reject → Type 0) (fault : Option Reject) → (Behind fault → More fault) → Unless Test reject Behind fault → Unless Test reject More fault
-more_behind Test reject Behind More fault more (inl failed) = inl failed
-more_behind Test reject Behind More fault more (inr through) = inr (through.0, more through.1)
+pub through : {A B : Type 0} {r : Reject} → (((A → ⊥) × (◌≡◌ {A = Option Reject} None (Some r))) ⊎ (A × B)) → A × B
+through {A} {B} {r} (inl failed) = absurd (some_none failed.1)
+through {A} {B} {r} (inr passed) = passed

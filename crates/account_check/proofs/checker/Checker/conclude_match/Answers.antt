@@ -16,5 +16,5 @@ returns-clause-after c =
     let x = entry.Conclusion (conclusion.Match pairs) in
     let logs = c.in_ok-new.field-0 in
     let may = subst (λ (v : Account). IsSome (place_behind v.place x)) (sym c.self.view_is) c.requires in
-    let leads = match_after graphs c.args.self.now.given inside.stage logs c.in_ok-matching.matching pairs may c.in_ok-new.ensures c.in_ok-matching.ensures.matching c.in_ok-matching.ensures.order in
-    ?
+    let leads = match_after graphs inside.given inside.stage logs c.in_ok-matching.matching pairs may c.in_ok-new.ensures c.in_ok-matching.ensures.matching c.in_ok-matching.ensures.order in
+    subst (λ (v : Account). kept graphs inside.given (stage.Proving logs) ≡ after v x) c.self.view_is leads
