@@ -37,6 +37,7 @@ use Rattle.account_file.specs.declared.place.Place.{Place}
 use Rattle.account_file.specs.declared.record.Record.{Record}
 use Rattle.account_file.specs.declared.record.Record.TheVariants as entry_of
 use Rattle.account_check.specs.declared.reject.Reject.{Reject}
+use Rattle.account_check.specs.declared.reject.Reject.TheVariants as reject
 use Rattle.account_check.specs.declared.verdict.Verdict.{Verdict}
 use Rattle.account_check.specs.declared.verdict.Verdict.TheVariants as verdict
 use Rattle.account_check.specs.Logs.{OpenFact, Proof, fact_reject, line_reject, refutation_of, with_ban, with_fact}
@@ -110,7 +111,7 @@ placed_anywhere account place right = record { given = right.given; fact = right
 -- a record that fails
 right_fails : (account : Account) (claim : Claim) (bits : List Bool) → IsRight account → FactTests account.graphs (head.Fails claim bits) None → IsRight (behind account (entry_of.Fact (head.Fails claim bits)))
 right_fails account claim bits right tests =
-    let here = claim_passed account.graphs claim _ tests in
+    let here = claim_passed account.graphs claim (Unless (Breaks account.graphs claim bits) reject.VectorFails Passed) tests in
     let breaks = through here.1 in
     record {
       given = fact_more account.graphs account.given claim false right.given (record { placed = here.0; says = (bits, breaks.0) });
