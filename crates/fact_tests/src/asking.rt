@@ -35,7 +35,8 @@ pub(crate) fn answer_to(
     ask(alloc, graphs, query, ledger)
 }
 
-/// Refutes a claim whose output reaches none of the shape's inputs. The clauses of the query's two outputs are opposites, and
+/// Refutes a claim whose output reaches none of the shape's inputs. The clauses of the query's two outputs are
+/// opposites, and
 /// the empty line follows from them. It costs one unit of the budget.
 pub(crate) fn refute_outside(
     alloc: Global,
@@ -67,7 +68,8 @@ pub(crate) fn refute_outside(
     }
 }
 
-/// The empty line, by the clauses of the two outputs, which are the last ones of a query of so many gates on either side.
+/// The empty line, by the clauses of the two outputs, which are the last ones of a query of so many gates on either
+/// side.
 fn line_of_outputs(alloc: Global, gates: u64) -> Result<LogLine, AllocError>
     requires { gates < 2 ^ 32 }
     ensures { IfOk result (λ line. line

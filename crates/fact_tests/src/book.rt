@@ -24,8 +24,10 @@ use query_core::{Claim, Ledger, Query, of_match};
 use std::alloc::{AllocError, Global};
 use std::marker::Model;
 
-/// Facts about two circuits. A claim is decided by structure where its output doesn't reach its inputs; then by a vector that
-/// simulation saw; and else it is asked. Each fact is kept, and so is each answer about a matching. Contracts see the book as
+/// Facts about two circuits. A claim is decided by structure where its output doesn't reach its inputs; then by a
+/// vector that
+/// simulation saw; and else it is asked. Each fact is kept, and so is each answer about a matching. Contracts see
+/// the book as
 /// what it knows.
 #[derive(Drop)]
 pub struct FactBook<'a> {

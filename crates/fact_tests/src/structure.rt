@@ -16,7 +16,8 @@ use std::marker::Model;
 /// How many inputs have a bit in one word.
 const INPUTS: u32 = 64;
 
-/// The inputs that each output of a circuit reaches through gates. Where it doesn't reach an input, it doesn't depend on it.
+/// The inputs that each output of a circuit reaches through gates. Where it doesn't reach an input, it doesn't
+/// depend on it.
 /// Contracts see it as the circuit.
 #[derive(Drop)]
 pub(crate) struct Supports<'a> {
