@@ -15,7 +15,7 @@ pub enum Feed {
 }
 
 /// An output of a circuit, with what each of the circuit's inputs gets.
-#[derive(Clone, Debug, Drop, PartialEq, Eq)]
+#[derive(Clone, Debug, Drop, PartialEq, Eq, Hash)]
 pub struct Cone {
     pub side: Side,
     pub output: u32,
@@ -24,7 +24,7 @@ pub struct Cone {
 }
 
 /// Whether there is a vector on which two cones have these values.
-#[derive(Clone, Debug, Drop, PartialEq, Eq)]
+#[derive(Clone, Debug, Drop, PartialEq, Eq, Hash)]
 pub struct Query {
     pub left: Cone,
     pub left_value: bool,
