@@ -1,7 +1,6 @@
 //! The claims that are hunted.
 
-ghost use Rattle.std.specs.Prelude.{ℕ, ◌<◌, ◌^◌, ◌⊎◌, [], length, IfOk, OnOk, true};
-ghost use Rattle.circuits.specs.Literals.{bit};
+ghost use Rattle.std.specs.Prelude.{ℕ, ◌<◌, ◌^◌, ◌⊎◌, [], length, IfOk, OnOk};
 ghost use Rattle.sim_signature.specs.Sightings.{Added, AreHunted, IsOfInput, IsOfPair, IsOfPairBelow};
 
 use query_core::Shape;

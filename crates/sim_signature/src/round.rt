@@ -1,6 +1,6 @@
 //! 64 vectors at once, and the claims that they break.
 
-ghost use Rattle.std.specs.Prelude.{◌≡◌, ◌<◌, ◌↔◌, ℕ, true, length, All, Contains, IfOk, OnOk, take};
+ghost use Rattle.std.specs.Prelude.{◌≡◌, ◌<◌, ◌↔◌, ℕ, true, length, All, Contains, IfOk, OnOk};
 ghost use Rattle.circuits.specs.Literals.{bit};
 ghost use Rattle.query_core.specs.Claims.{HasValues, IsPlaced};
 ghost use Rattle.word_sim.specs.Columns.{lane as lane_bits, word_bit};
