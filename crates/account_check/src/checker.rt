@@ -107,6 +107,7 @@ impl<'a> Checker<'a> {
     /// What the account proves: nothing before its end, and then that pairs are a match, or that there is no match.
     pub fn verdict(&self, alloc: Global) -> Result<Option<Verdict>, AllocError>
         ensures value { IfOk result (λ verdict. verdict ≡ verdict_of self.now) }
+        ensures ended { IfOk result (λ verdict. IsSome verdict ↔ (self.now.place ≡ place.Ended)) }
         ensures proved { (matching : Table) → verdict_of self.now ≡ Some (verdict.Match matching)
             → IsMatchOfFunctions self.now.graphs.first self.now.graphs.second matching.inputs matching.outputs }
     {
