@@ -1,3 +1,4 @@
 pub mod SearchLaws
 pub mod OrderLaws
 pub mod ExpandLaws
+pub mod ConeLemmas

@@ -4,6 +4,7 @@ pub mod PlainNets
 pub mod Search
 pub mod Orders
 pub mod Rows
+pub mod Cones
 pub mod Sides
 pub use Rattle.circuits.specs.Literals
 pub use Rattle.circuits.specs.Netlists

@@ -1,6 +1,7 @@
 //! Netlists in any order and in order, their evaluation, and port tables.
 #![tactic(auto)]
 
+mod cones;
 mod counting;
 mod expanding;
 mod graph;

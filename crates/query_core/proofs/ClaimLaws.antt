@@ -20,12 +20,12 @@ with_values-same (Up i) x has = set-here x i false has
 with_values-same (Down i) x has = set-here x i true has
 with_values-same (Swap i j a b) x has = ap (with_input j b) (set-here x i a has.0) ∙ set-here x j b has.1
 
-length-with_values : (shape : Shape) (x : List Bool) → length (with_values shape x) ≡ length x
+pub length-with_values : (shape : Shape) (x : List Bool) → length (with_values shape x) ≡ length x
 length-with_values (Up i) x = length-set x i false
 length-with_values (Down i) x = length-set x i true
 length-with_values (Swap i j a b) x = length-set (set x i a) j b ∙ length-set x i a
 
-length-with_opposites : (shape : Shape) (x : List Bool) → length (with_opposites shape x) ≡ length x
+pub length-with_opposites : (shape : Shape) (x : List Bool) → length (with_opposites shape x) ≡ length x
 length-with_opposites (Up i) x = length-set x i true
 length-with_opposites (Down i) x = length-set x i false
 length-with_opposites (Swap i j a b) x = length-set (set x i (not a)) j (not b) ∙ length-set x i (not a)
@@ -57,7 +57,7 @@ no_break net k shape holds (x, breaks) =
     false≢true (sym breaks.after ∙ holds x breaks.inputs before)
 
 -- a fall gives a vector that breaks the claim
-fall : (net : Net) (k : ℕ) (shape : Shape) (x : List Bool) → IsPlaced net.inputs shape → length x ≡ net.inputs → output_bit net k (with_values shape x) ≡ true → output_bit net k (with_opposites shape x) ≡ false → BreaksShape net k shape (with_values shape x)
+pub fall : (net : Net) (k : ℕ) (shape : Shape) (x : List Bool) → IsPlaced net.inputs shape → length x ≡ net.inputs → output_bit net k (with_values shape x) ≡ true → output_bit net k (with_opposites shape x) ≡ false → BreaksShape net k shape (with_values shape x)
 fall net k shape x placed len before after =
     let within : IsPlaced (length x) shape = subst (λ n. IsPlaced n shape) (sym len) placed in
     record {

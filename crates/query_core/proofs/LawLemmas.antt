@@ -68,7 +68,7 @@ pub signal_there : (a : List Bool) (literals : List SatLit) (s : ℕ) → bit a 
 signal_there a literals s first =
     ap (slice_index_or (map (literal_bit a) literals) s) (sym (false_there a first)) ∙ get_or_map_default (literal_bit a) literals s false_literal
 
-by_sign : (s y : Bool) → differ y s ≡ cond s (not y) y
+pub by_sign : (s y : Bool) → differ y s ≡ cond s (not y) y
 by_sign true true = refl
 by_sign true false = refl
 by_sign false true = refl
@@ -94,7 +94,7 @@ and_by false false b x y z = refl
 abbrev pub AreMet : List Bool → List (List SatLit) → Type 0
 AreMet a clauses = AllByRecursion (λ clause. is_met a clause ≡ true) clauses
 
-gate_met : (a : List Bool) (v l m : SatLit) → is_met a (opposite v ∷ l ∷ []) ≡ true → is_met a (opposite v ∷ m ∷ []) ≡ true → is_met a (v ∷ opposite l ∷ opposite m ∷ []) ≡ true → literal_bit a v ≡ (literal_bit a l && literal_bit a m)
+pub gate_met : (a : List Bool) (v l m : SatLit) → is_met a (opposite v ∷ l ∷ []) ≡ true → is_met a (opposite v ∷ m ∷ []) ≡ true → is_met a (v ∷ opposite l ∷ opposite m ∷ []) ≡ true → literal_bit a v ≡ (literal_bit a l && literal_bit a m)
 gate_met a v l m x y z =
     let p = literal_bit a v in
     let q = literal_bit a l in
@@ -134,7 +134,7 @@ valuation_there a n net feed variables first inputs feeds gates wired met =
     }
 
 -- the output has the value that its clause says
-value_there : (b value : Bool) (l : SatLit) (a : List Bool) → literal_bit a l ≡ b → is_met a (cond value l (opposite l) ∷ []) ≡ true → b ≡ value
+pub value_there : (b value : Bool) (l : SatLit) (a : List Bool) → literal_bit a l ≡ b → is_met a (cond value l (opposite l) ∷ []) ≡ true → b ≡ value
 value_there true true l a same met = refl
 value_there false false l a same met = refl
 value_there false true l a same met = absurd (false≢true (sym (ap (λ t. t || false) same) ∙ met))

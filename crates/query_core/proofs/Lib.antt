@@ -5,3 +5,8 @@ pub mod MatchLemmas
 pub mod RefutedLemmas
 pub mod LedgerLemmas
 pub mod ClaimLaws
+pub mod ClaimQueryLemmas
+pub mod ConeLaws
+pub mod ConeIdLemmas
+pub mod ImageLemmas
+pub mod ImageLaws

@@ -33,7 +33,7 @@ list_by_bits xs ys same bits =
     same_lists xs ys same (λ k d below. get_or_default xs k d false below ∙ (bits k below ∙ get_or_default ys k false d (subst (λ n. k < n) same below)))
 
 -- straight feeds give the vector itself
-straight_bits : (x : List Bool) (n : ℕ) → length x ≡ n → map (feed_bit x) (straight n) ≡ x
+pub straight_bits : (x : List Bool) (n : ℕ) → length x ≡ n → map (feed_bit x) (straight n) ≡ x
 straight_bits x n same =
     list_by_bits (map (feed_bit x) (straight n)) x (length-map (straight n) (feed_bit x) ∙ (straight_count n ∙ sym same)) (λ i below.
     let here : i < n = omega (arith, below, length-map (straight n) (feed_bit x), straight_count n) in

@@ -4,6 +4,10 @@ pub mod MatchQueries
 pub mod Ledgers
 pub mod Claims
 pub mod Facts
+pub mod Images
+pub mod ClaimQueries
+pub mod ConeClauses
 pub use Rattle.cnf_core.specs.Clauses
 pub use Rattle.cnf_core.specs.Derivations
 pub use Rattle.net_core.specs.Sides
+pub use Rattle.net_core.specs.Cones

@@ -5,9 +5,11 @@ ghost use Rattle.circuits.specs.Literals.{signal_of};
 ghost use Rattle.cnf_core.specs.Clauses.{clause_at, literals_of};
 ghost use Rattle.circuits.specs.Matches.{HavePorts};
 ghost use Rattle.query_core.specs.Queries.{IsQuery};
+ghost use Rattle.query_core.specs.ConeClauses.{AreConeIds};
 ghost use Rattle.query_core.specs.MatchQueries.{match_query, IsOfMatching};
 ghost use Rattle.query_core.specs.Formulas.{and_clauses, clauses_by, half_clauses, output_literal, stand_in, stands_for, IsHalf};
 
+use crate::cones::query_ids;
 use crate::literals::{left_literals, right_literals};
 use crate::query::Query;
 use cnf_core::{Base, Clause3, SatLit};
@@ -55,6 +57,14 @@ impl<'a> QueryBase<'a> {
             left,
             right,
         })
+    }
+
+    /// The numbers of the clauses that belong to the cones, ascending: that of variable 0, those of the gates that the output
+    /// of their cone reaches, and those of the two outputs.
+    pub(crate) fn cone_ids(&self, alloc: Global) -> Result<Vec<u64>, AllocError>
+        ensures { IfOk result (λ ids. AreConeIds self.now.graphs self.now.query ids.items) }
+    {
+        query_ids(alloc, self.graphs, &self.query)
     }
 
     /// Asks about another output and value of the same matching. Only the last two clauses become others, and it takes no

@@ -1,6 +1,6 @@
 //! What a query's clauses say together. Each function does nothing; its contract is the law.
 
-ghost use Rattle.std.specs.Prelude.{ℕ, ◌≡◌, ◌<◌, Bool, List, length};
+ghost use Rattle.std.specs.Prelude.{ℕ, ◌≡◌, ◌↔◌, ◌<◌, Bool, List, Some, length};
 ghost use Rattle.circuits.specs.Matches.{HavePorts, IsMatchOfFunctions};
 ghost use Rattle.cnf_core.specs.Clauses.{Meets};
 ghost use Rattle.net_core.specs.declared.graphs.Graphs.{Graphs as TwoGraphs};
@@ -8,6 +8,14 @@ ghost use Rattle.net_core.specs.declared.matching.Matching.{Matching as Table};
 ghost use Rattle.net_core.specs.Graph.{IsGraph};
 ghost use Rattle.query_core.specs.declared.query.Query.{Query as Question};
 ghost use Rattle.query_core.specs.Queries.{IsQuery, IsUnmet, MeetsQuery, bits_in, vector_in};
+ghost use Rattle.net_core.specs.Sides.{graph_of};
+ghost use Rattle.query_core.specs.declared.claims.Claim.{Claim as AnyClaim};
+ghost use Rattle.query_core.specs.Claims.{Breaks, Holds, IsClaim, with_values};
+ghost use Rattle.query_core.specs.ClaimQueries.{claim_query};
+ghost use Rattle.query_core.specs.Images.{Extends, image_of};
+ghost use Rattle.circuits.specs.declared.port.Pair.{Pair as AnyPair};
+ghost use Rattle.net_core.specs.declared.graphs.Side.TheVariants.{First};
+ghost use Rattle.query_core.specs.ConeClauses.{MeetsCones};
 ghost use Rattle.query_core.specs.Formulas.{IsRefuted, query_clauses};
 ghost use Rattle.query_core.specs.MatchQueries.{match_query, moved_feed, IsMovedFeed};
 ghost use Rattle.query_core.specs.declared.query.Feed.{Feed as Entry};
@@ -18,6 +26,14 @@ pub fn assignment_is_a_vector()
     ensures { (graphs : TwoGraphs) (query : Question) (assignment : List Bool)
         → IsGraph graphs.first → IsGraph graphs.second → IsQuery graphs query
         → Meets assignment (query_clauses graphs query)
+        → MeetsQuery graphs query (vector_in (bits_in graphs query) assignment) }
+{}
+
+/// The clauses of the cones are enough for it: each signal that an output reaches has its bit.
+pub fn cone_assignment_is_a_vector()
+    ensures { (graphs : TwoGraphs) (query : Question) (assignment : List Bool)
+        → IsGraph graphs.first → IsGraph graphs.second → IsQuery graphs query
+        → MeetsCones graphs query assignment
         → MeetsQuery graphs query (vector_in (bits_in graphs query) assignment) }
 {}
 
@@ -61,4 +77,35 @@ pub fn refuted_queries_are_a_match()
         → ((k : ℕ) (value : Bool) → k < length graphs.first.outputs
         → IsRefuted graphs (match_query graphs.first.inputs matching k value))
         → IsMatchOfFunctions graphs.first graphs.second matching.inputs matching.outputs }
+{}
+
+/// A claim holds exactly where no vector meets its query, and a vector that meets it breaks the claim once the shape's inputs
+/// have the shape's values.
+pub fn claims_by_queries()
+    ensures holds { (graphs : TwoGraphs) (claim : AnyClaim)
+        → (Holds graphs claim ↔ IsUnmet graphs (claim_query graphs claim)) }
+    ensures breaks { (graphs : TwoGraphs) (claim : AnyClaim) (x : List Bool)
+        → IsClaim graphs claim
+        → length x ≡ (graph_of graphs claim.side).inputs
+        → MeetsQuery graphs (claim_query graphs claim) x
+        → Breaks graphs claim (with_values claim.shape x) }
+{}
+
+/// Where a match has all pairs of a list, a claim of the first circuit holds exactly where its image holds; and the image is
+/// well placed where the claim is.
+pub fn images_by_matches()
+    ensures holds { (graphs : TwoGraphs) (p q : List (ℕ × Bool)) (pairs : List AnyPair) (claim image : AnyClaim)
+        → IsMatchOfFunctions graphs.first graphs.second p q
+        → Extends pairs p q
+        → claim.side ≡ First
+        → IsClaim graphs claim
+        → image_of pairs claim ≡ Some image
+        → (Holds graphs claim ↔ Holds graphs image) }
+    ensures placed { (graphs : TwoGraphs) (p q : List (ℕ × Bool)) (pairs : List AnyPair) (claim image : AnyClaim)
+        → IsMatchOfFunctions graphs.first graphs.second p q
+        → Extends pairs p q
+        → claim.side ≡ First
+        → IsClaim graphs claim
+        → image_of pairs claim ≡ Some image
+        → IsClaim graphs image }
 {}

@@ -2,8 +2,11 @@
 #![tactic(auto)]
 
 mod base;
+mod claim_queries;
 mod claims;
+mod cones;
 pub mod fact_laws;
+mod images;
 pub mod laws;
 mod ledger;
 mod literals;
@@ -11,7 +14,10 @@ mod matches;
 mod query;
 
 pub use base::QueryBase;
+pub use claim_queries::of_claim;
 pub use claims::{Claim, Shape};
+pub use cones::cone_ids;
+pub use images::image;
 pub use ledger::{Asked, Ledger};
 pub use matches::of_match;
 pub use query::{Cone, Feed, Query};

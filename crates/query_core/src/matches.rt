@@ -46,7 +46,7 @@ pub fn of_match(
 }
 
 // Each input gets its own bit.
-fn straight(alloc: Global, inputs: u32) -> Result<Items<Feed>, AllocError>
+pub(crate) fn straight(alloc: Global, inputs: u32) -> Result<Items<Feed>, AllocError>
     ensures { IfOk result (λ feed. feed ≡ straight inputs) }
 {
     let mut feed = Items::new(alloc);

@@ -1,0 +1,205 @@
+-- The numbers of the clauses that belong to the cones, in ascending order.
+use Rattle.std.proofs.Common.{◌≡◌, ◌⊎◌, ◌↔◌, ℕ, zero, suc, ◌+◌, ◌*◌, ◌-◌, ◌<◌, ◌≤◌, List, [], ◌∷◌, ◌++◌, length, All, AllPairs, Contains, inl, inr, refl, sym, ap, subst, ◌∙◌, arith}
+use Rattle.std.proofs.lemmas.List.Elements.{Contains-append_left, Contains-append_right, Contains-append_cases}
+use Rattle.std.proofs.lemmas.List.{append_assoc}
+use Rattle.circuits.specs.Netlists.{Net}
+use Rattle.net_core.specs.declared.graphs.Graphs.{Graphs}
+use Rattle.query_core.specs.declared.query.Query.{Query}
+use Rattle.query_core.specs.Queries.{circuit_of}
+use Rattle.query_core.specs.ConeClauses.{AreAdded, AreConeIds, AreReached, IsConeId, IsOfReachedGate, gate_ids, left_gates, right_gates}
+use Rattle.query_core.proofs.FormulaLemmas.{count_of}
+
+-- numbers from `low` on ascend, and stay below `high`
+abbrev Ascends : ℕ → ℕ → List ℕ → Type 0
+Ascends low high [] = low ≤ high
+Ascends low high (x ∷ xs) = (low ≤ x) × Ascends (x + 1) high xs
+
+lower : (less low high : ℕ) (xs : List ℕ) → less ≤ low → Ascends low high xs → Ascends less high xs
+lower less low high [] le ascends = omega (arith, le, ascends)
+lower less low high (x ∷ xs) le ascends = (omega (arith, le, ascends.0), ascends.1)
+
+joined : (low middle high : ℕ) (xs ys : List ℕ) → Ascends low middle xs → Ascends middle high ys → Ascends low high (xs ++ ys)
+joined low middle high [] ys first second = lower low middle high ys first second
+joined low middle high (x ∷ xs) ys first second = (first.0, joined (x + 1) middle high xs ys first.1 second)
+
+-- so do pairs, and all are within
+above : (low high : ℕ) (xs : List ℕ) → Ascends low high xs → All (λ x. low ≤ x) xs
+above low high [] ascends k d within = absurd (omega (arith, within))
+above low high (x ∷ xs) ascends zero d within = ascends.0
+above low high (x ∷ xs) ascends (suc k) d within =
+    omega (arith, ascends.0, above (x + 1) high xs ascends.1 k d (omega (arith, within)))
+
+bounded : (low high : ℕ) (xs : List ℕ) → Ascends low high xs → low ≤ high
+bounded low high [] ascends = ascends
+bounded low high (x ∷ xs) ascends = omega (arith, ascends.0, bounded (x + 1) high xs ascends.1)
+
+below : (low high : ℕ) (xs : List ℕ) → Ascends low high xs → All (λ x. x < high) xs
+below low high [] ascends k d within = absurd (omega (arith, within))
+below low high (x ∷ xs) ascends zero d within = omega (arith, bounded (x + 1) high xs ascends.1)
+below low high (x ∷ xs) ascends (suc k) d within = below (x + 1) high xs ascends.1 k d (omega (arith, within))
+
+in_pairs : (low high : ℕ) (xs : List ℕ) → Ascends low high xs → AllPairs (λ one other. one < other) xs
+in_pairs low high [] ascends i j d before within = absurd (omega (arith, within))
+in_pairs low high (x ∷ xs) ascends i zero d before within = absurd (omega (arith, before))
+in_pairs low high (x ∷ xs) ascends zero (suc j) d before within =
+    omega (arith, above (x + 1) high xs ascends.1 j d (omega (arith, within)))
+in_pairs low high (x ∷ xs) ascends (suc i) (suc j) d before within =
+    in_pairs (x + 1) high xs ascends.1 i j d (omega (arith, before)) (omega (arith, within))
+
+from_pairs : (low high : ℕ) (xs : List ℕ) → low ≤ high → AllPairs (λ one other. one < other) xs → All (λ x. low ≤ x) xs → All (λ x. x < high) xs → Ascends low high xs
+from_pairs low high [] le pairs least most = le
+from_pairs low high (x ∷ xs) le pairs least most =
+    let top : x < high = most 0 x (omega arith) in
+    let behind : All (λ y. x + 1 ≤ y) xs = λ k d within. omega (arith, pairs 0 (suc k) d (omega arith) (omega (arith, within))) in
+    (least 0 x (omega arith), from_pairs (x + 1) high xs (omega (arith, top)) (λ i j d before within. pairs (suc i) (suc j) d (omega (arith, before)) (omega (arith, within))) behind (λ k d within. most (suc k) d (omega (arith, within))))
+
+-- the numbers of the clauses of gates that ascend
+ids_ascend : (first low high : ℕ) (gates : List ℕ) → Ascends low high gates → Ascends (first + 3 * low) (first + 3 * high) (gate_ids first gates)
+ids_ascend first low high [] ascends = omega (arith, ascends)
+ids_ascend first low high (t ∷ gates) ascends =
+    let rest = ids_ascend first (t + 1) high gates ascends.1 in
+    (omega (arith, ascends.0), (omega arith, (omega arith, lower (first + 3 * t + 2 + 1) (first + 3 * (t + 1)) (first + 3 * high) (gate_ids first gates) (omega arith) rest)))
+
+-- a number is one of a gate's three
+record IsOfGate (first gate id : ℕ) : Type 0 where
+  from : first + 3 * gate ≤ id
+  to : id < first + 3 * gate + 3
+
+contains-head : (x : ℕ) (xs : List ℕ) (y : ℕ) → y ≡ x → Contains (x ∷ xs) y
+contains-head x xs y same = (0, omega arith, sym same)
+
+contains-tail : (x : ℕ) (xs : List ℕ) (y : ℕ) → Contains xs y → Contains (x ∷ xs) y
+contains-tail x xs y has = (suc has.0, omega (arith, has.1), has.2)
+
+contains-cases : (x : ℕ) (xs : List ℕ) (y : ℕ) → Contains (x ∷ xs) y → (y ≡ x) ⊎ Contains xs y
+contains-cases x xs y (zero, within, is) = inl (sym is)
+contains-cases x xs y (suc k, within, is) = inr (k, omega (arith, within), is)
+
+ids_of : (first : ℕ) (gates : List ℕ) (id : ℕ) → Contains (gate_ids first gates) id → (t : ℕ) × Contains gates t × IsOfGate first t id
+ids_of first [] id has = absurd (omega (arith, has.1))
+ids_of first (t ∷ gates) id has =
+    elim (contains-cases (first + 3 * t) ((first + 3 * t + 1) ∷ (first + 3 * t + 2) ∷ gate_ids first gates) id has) [
+      | inl e ↦ (t, contains-head t gates t refl, record { from = omega (arith, e); to = omega (arith, e) })
+      | inr second ↦
+          elim (contains-cases (first + 3 * t + 1) ((first + 3 * t + 2) ∷ gate_ids first gates) id second) [
+            | inl e ↦ (t, contains-head t gates t refl, record { from = omega (arith, e); to = omega (arith, e) })
+            | inr third ↦
+                elim (contains-cases (first + 3 * t + 2) (gate_ids first gates) id third) [
+                  | inl e ↦ (t, contains-head t gates t refl, record { from = omega (arith, e); to = omega (arith, e) })
+                  | inr rest ↦ let later = ids_of first gates id rest in (later.0, contains-tail t gates later.0 later.1, later.2)
+                ]
+          ]
+    ]
+
+ids_from : (first : ℕ) (gates : List ℕ) (t id : ℕ) → Contains gates t → IsOfGate first t id → Contains (gate_ids first gates) id
+ids_from first [] t id has is = absurd (omega (arith, has.1))
+ids_from first (u ∷ gates) t id has is =
+    elim (contains-cases u gates t has) [
+      | inl e ↦ one_of_three e
+      | inr rest ↦ contains-tail (first + 3 * u) ((first + 3 * u + 1) ∷ (first + 3 * u + 2) ∷ gate_ids first gates) id (contains-tail (first + 3 * u + 1) ((first + 3 * u + 2) ∷ gate_ids first gates) id (contains-tail (first + 3 * u + 2) (gate_ids first gates) id (ids_from first gates t id rest is)))
+    ]
+  where
+    by_part : (r : ℕ) → r < 3 → id ≡ first + 3 * u + r → Contains (gate_ids first (u ∷ gates)) id
+    by_part zero small e = contains-head (first + 3 * u) ((first + 3 * u + 1) ∷ (first + 3 * u + 2) ∷ gate_ids first gates) id (omega (arith, e))
+    by_part (suc zero) small e =
+        contains-tail (first + 3 * u) ((first + 3 * u + 1) ∷ (first + 3 * u + 2) ∷ gate_ids first gates) id (contains-head (first + 3 * u + 1) ((first + 3 * u + 2) ∷ gate_ids first gates) id (omega (arith, e)))
+    by_part (suc (suc zero)) small e =
+        contains-tail (first + 3 * u) ((first + 3 * u + 1) ∷ (first + 3 * u + 2) ∷ gate_ids first gates) id (contains-tail (first + 3 * u + 1) ((first + 3 * u + 2) ∷ gate_ids first gates) id (contains-head (first + 3 * u + 2) (gate_ids first gates) id (omega (arith, e))))
+    by_part (suc (suc (suc r))) small e = absurd (omega (arith, small))
+
+    one_of_three : t ≡ u → Contains (gate_ids first (u ∷ gates)) id
+    one_of_three e =
+        let from : first + 3 * u ≤ id = omega (arith, is.from, e) in
+        by_part (id - (first + 3 * u)) (omega (arith, is.to, e, from)) (omega (arith, from))
+
+-- the numbers of the clauses of the gates that an output reaches
+reached_ascend : (net : Net) (k first : ℕ) (gates : List ℕ) → AreReached net k gates → Ascends first (first + 3 * length net.gates) (gate_ids first gates)
+reached_ascend net k first gates are =
+    lower first (first + 3 * 0) (first + 3 * length net.gates) (gate_ids first gates) (omega arith) (ids_ascend first 0 (length net.gates) gates (from_pairs 0 (length net.gates) gates (omega arith) are.ascending (λ k d within. omega arith) are.there))
+
+reached_ids : (net : Net) (k first : ℕ) (gates : List ℕ) (id : ℕ) → AreReached net k gates → Contains (gate_ids first gates) id ↔ IsOfReachedGate net k first id
+reached_ids net k first gates id are = (
+  λ has. let of = ids_of first gates id has in record { gate = of.0; reached = (are.reached of.0).0 of.1; from = of.2.from; to = of.2.to },
+  λ of. ids_from first gates of.gate id ((are.reached of.gate).1 of.reached) (record { from = of.from; to = of.to }),
+)
+
+-- all numbers of the cones
+pub cone_ids_are : (graphs : Graphs) (query : Query) (left right : List ℕ) → AreReached (circuit_of graphs query.left) query.left.output left → AreReached (circuit_of graphs query.right) query.right.output right → AreConeIds graphs query (0 ∷ (gate_ids 1 left ++ (gate_ids (1 + 3 * left_gates graphs query) right ++ (1 + 3 * (left_gates graphs query + right_gates graphs query)) ∷ (2 + 3 * (left_gates graphs query + right_gates graphs query)) ∷ [])))
+cone_ids_are graphs query left right of_left of_right = record {
+  ascending = in_pairs 0 (3 + 3 * (l + r)) all ascends;
+  there = λ k d within. omega (arith, below 0 (3 + 3 * (l + r)) all ascends k d within, count_of graphs query);
+  cones = λ id. (to_cone id, from_cone id);
+}
+  where
+    l : ℕ
+    l = left_gates graphs query
+
+    r : ℕ
+    r = right_gates graphs query
+
+    outputs : List ℕ
+    outputs = (1 + 3 * (l + r)) ∷ (2 + 3 * (l + r)) ∷ []
+
+    lefts : List ℕ
+    lefts = gate_ids 1 left
+
+    rights : List ℕ
+    rights = gate_ids (1 + 3 * l) right
+
+    all : List ℕ
+    all = 0 ∷ (lefts ++ (rights ++ outputs))
+
+    ascends : Ascends 0 (3 + 3 * (l + r)) all
+    ascends =
+        let last : Ascends (1 + 3 * l + 3 * r) (3 + 3 * (l + r)) outputs = (omega arith, (omega arith, omega arith)) in
+        (omega arith, joined 1 (1 + 3 * l) (3 + 3 * (l + r)) lefts (rights ++ outputs) (reached_ascend (circuit_of graphs query.left) query.left.output 1 left of_left) (joined (1 + 3 * l) (1 + 3 * l + 3 * r) (3 + 3 * (l + r)) rights outputs (reached_ascend (circuit_of graphs query.right) query.right.output (1 + 3 * l) right of_right) last))
+
+    to_cone : (id : ℕ) → Contains all id → IsConeId graphs query id
+    to_cone id has =
+        elim (contains-cases 0 (lefts ++ (rights ++ outputs)) id has) [
+          | inl e ↦ inl e
+          | inr more ↦
+              elim (Contains-append_cases lefts (rights ++ outputs) id more) [
+                | inl in_left ↦ inr (inl ((reached_ids (circuit_of graphs query.left) query.left.output 1 left id of_left).0 in_left))
+                | inr behind ↦
+                    elim (Contains-append_cases rights outputs id behind) [
+                      | inl in_right ↦ inr (inr (inl ((reached_ids (circuit_of graphs query.right) query.right.output (1 + 3 * l) right id of_right).0 in_right)))
+                      | inr last ↦ inr (inr (inr (one_output id last)))
+                    ]
+              ]
+        ]
+      where
+        one_output : (id : ℕ) → Contains outputs id → (id ≡ 1 + 3 * (l + r)) ⊎ (id ≡ 2 + 3 * (l + r))
+        one_output id has =
+            elim (contains-cases (1 + 3 * (l + r)) ((2 + 3 * (l + r)) ∷ []) id has) [
+              | inl e ↦ inl e
+              | inr more ↦ elim (contains-cases (2 + 3 * (l + r)) [] id more) [ inl e ↦ inr e | inr none ↦ absurd (omega (arith, none.1)) ]
+            ]
+
+    from_cone : (id : ℕ) → IsConeId graphs query id → Contains all id
+    from_cone id (inl e) = contains-head 0 (lefts ++ (rights ++ outputs)) id e
+    from_cone id (inr (inl of)) =
+        contains-tail 0 (lefts ++ (rights ++ outputs)) id (Contains-append_left lefts (rights ++ outputs) id ((reached_ids (circuit_of graphs query.left) query.left.output 1 left id of_left).1 of))
+    from_cone id (inr (inr (inl of))) =
+        contains-tail 0 (lefts ++ (rights ++ outputs)) id (Contains-append_right lefts (rights ++ outputs) id (Contains-append_left rights outputs id ((reached_ids (circuit_of graphs query.right) query.right.output (1 + 3 * l) right id of_right).1 of)))
+    from_cone id (inr (inr (inr (inl e)))) =
+        contains-tail 0 (lefts ++ (rights ++ outputs)) id (Contains-append_right lefts (rights ++ outputs) id (Contains-append_right rights outputs id (contains-head (1 + 3 * (l + r)) ((2 + 3 * (l + r)) ∷ []) id e)))
+    from_cone id (inr (inr (inr (inr e)))) =
+        contains-tail 0 (lefts ++ (rights ++ outputs)) id (Contains-append_right lefts (rights ++ outputs) id (Contains-append_right rights outputs id (contains-tail (1 + 3 * (l + r)) ((2 + 3 * (l + r)) ∷ []) id (contains-head (2 + 3 * (l + r)) [] id e))))
+
+-- the same, as they are added one after the other
+pub built_are : (graphs : Graphs) (query : Query) (start left right one both : List ℕ) (first last : ℕ) → start ≡ 0 ∷ [] → AreAdded (circuit_of graphs query.left) query.left.output 1 start left → AreAdded (circuit_of graphs query.right) query.right.output first left right → first ≡ 1 + 3 * left_gates graphs query → last ≡ 1 + 3 * (left_gates graphs query + right_gates graphs query) → one ≡ right ++ last ∷ [] → both ≡ one ++ (last + 1) ∷ [] → AreConeIds graphs query both
+built_are graphs query start left right one both first last start_is of_left of_right first_is last_is one_is both_is =
+    let lefts = gate_ids 1 of_left.gates in
+    let rights = gate_ids first of_right.gates in
+    let next : last + 1 ≡ 2 + 3 * (left_gates graphs query + right_gates graphs query) = omega (arith, last_is) in
+    let left_is : left ≡ 0 ∷ lefts = of_left.added ∙ ap (λ ids. ids ++ lefts) start_is in
+    let right_is : right ≡ (0 ∷ lefts) ++ rights = of_right.added ∙ ap (λ ids. ids ++ rights) left_is in
+    let outputs_are : both ≡ right ++ last ∷ (last + 1) ∷ [] = both_is ∙ (ap (λ ids. ids ++ (last + 1) ∷ []) one_is ∙ append_assoc right (last ∷ []) ((last + 1) ∷ [])) in
+    let whole : both ≡ (0 ∷ lefts) ++ (rights ++ last ∷ (last + 1) ∷ []) =
+    outputs_are ∙ (ap (λ ids. ids ++ last ∷ (last + 1) ∷ []) right_is ∙ append_assoc (0 ∷ lefts) rights (last ∷ (last + 1) ∷ [])) in
+    let numbered : both ≡ 0 ∷ (lefts ++ (gate_ids (1 + 3 * left_gates graphs query) of_right.gates ++ (1 + 3 * (left_gates graphs query + right_gates graphs query)) ∷ (2 + 3 * (left_gates graphs query + right_gates graphs query)) ∷ [])) =
+    whole
+    ∙ (ap (λ n. 0 ∷ (lefts ++ (gate_ids n of_right.gates ++ last ∷ (last + 1) ∷ []))) first_is
+    ∙ (ap (λ n. 0 ∷ (lefts ++ (gate_ids (1 + 3 * left_gates graphs query) of_right.gates ++ n ∷ (last + 1) ∷ []))) last_is ∙ ap (λ n. 0 ∷ (lefts ++ (gate_ids (1 + 3 * left_gates graphs query) of_right.gates ++ (1 + 3 * (left_gates graphs query + right_gates graphs query)) ∷ n ∷ []))) next)) in
+    subst (AreConeIds graphs query) (sym numbered) (cone_ids_are graphs query of_left.gates of_right.gates of_left.are of_right.are)
