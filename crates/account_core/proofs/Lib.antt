@@ -1,0 +1,12 @@
+pub mod Pigeonhole
+pub mod Matched
+pub mod SentValues
+pub mod Listed
+pub mod CoverLemmas
+pub mod TallyLemmas
+pub mod Growing
+pub mod ImageLemmas
+pub mod StepLemmas
+pub mod OrderedPairs
+pub mod BanFaults
+pub mod SentOnly

@@ -4,6 +4,7 @@
 mod conclusion;
 mod fact;
 mod step;
+pub mod step_laws;
 
 pub use conclusion::Conclusion;
 pub use fact::{Evidence, Fact, FactHead};

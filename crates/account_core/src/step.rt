@@ -18,15 +18,30 @@ pub enum Tallied {
 pub enum Step {
     /// On these values of the first circuit's inputs its output has one value, and the second circuit's output that the
     /// ban pairs it with has the wrong one, whatever the inputs that the ban doesn't pair have.
-    Vector { output: u32, bits: Items<Tri> },
+    Vector {
+        output: u32,
+        bits: Items<Tri>,
+    },
     /// A claim of one circuit fails, and the claim of the other circuit that a match would carry it to holds.
-    Mismatch { fails: u64, holds: u64 },
+    Mismatch {
+        fails: u64,
+        holds: u64,
+    },
     /// Of two outputs that the ban pairs, one has more such inputs than the other one may have.
-    Tally { kind: Tallied, have: Items<u64>, lack: Items<u64> },
+    Tally {
+        kind: Tallied,
+        have: Items<u64>,
+        lack: Items<u64>,
+    },
     /// Some port of `from` goes to some port of `to`, and each way to pair two of them is impossible beside the ban, or
     /// is excluded by an earlier ban. For each port of `from`, in order, and each of `to`, in order, there are two
     /// references, for the plain pair and the negated one: none where the pair is impossible, else a ban's number.
-    Cover { kind: PortKind, from: Items<u32>, to: Items<u32>, refs: Items<Option<u64>> },
+    Cover {
+        kind: PortKind,
+        from: Items<u32>,
+        to: Items<u32>,
+        refs: Items<Option<u64>>,
+    },
 }
 
 /// Pairs of ports that no match has all of.

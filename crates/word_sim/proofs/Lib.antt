@@ -1,3 +1,3 @@
-mod Fillings
+pub mod Fillings
 pub mod Lanes
 pub mod Rows

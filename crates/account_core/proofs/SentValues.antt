@@ -1,0 +1,151 @@
+-- What the pairs make of values at the second circuit's inputs.
+use Rattle.std.proofs.Common.{◌≡◌, ◌≢◌, ◌⊎◌, ℕ, zero, suc, ◌<◌, ◌≤◌, ◌&&◌, not, Bool, true, false, cond, eqb, List, [], ◌∷◌, length, map, get_or, All, Some, refl, sym, ap, subst, ◌∙◌, inl, inr, arith, eqb-true}
+use Rattle.std.specs.Prelude.{Contains}
+use Rattle.std.specs.List.{range_with_len}
+use Rattle.std.proofs.lemmas.Bool.{cases_Bool, cases_lt, and_parts, cond-true, cond-false}
+use Rattle.std.proofs.lemmas.List.{length-map, get_or-map}
+use Rattle.std.proofs.lemmas.List.FromFn.{length-map-range_with_len, get_or-map-range_with_len}
+use Rattle.std.proofs.lemmas.List.Elements.{All-contains}
+use Rattle.circuits.specs.declared.port.Pair.{Pair}
+use Rattle.circuits.specs.declared.port.PortKind.TheVariants.{Input, Output}
+use Rattle.circuits.specs.Literals.{bit, differ}
+use Rattle.circuits.specs.Netlists.{Net, IsOrdered, function_of}
+use Rattle.circuits.specs.Bijections.{IsSignedBijection, Moves, moved, place_of, sign_of}
+use Rattle.circuits.specs.Matches.{IsMatchOfFunctions}
+use Rattle.circuits.proofs.Places.{moved-moves, length-moved}
+use Rattle.net_core.specs.declared.graphs.Graphs.{Graphs}
+use Rattle.net_core.specs.Graph.{IsGraph}
+use Rattle.query_core.specs.Images.{HasPair, Extends, entries_of, same_kind, pair_of}
+use Rattle.word_sim.specs.declared.tri.Tri.{Tri}
+use Rattle.word_sim.specs.declared.tri.Tri.TheVariants.{Zero, One, X}
+use Rattle.word_sim.specs.ThreeValues.{tri_not, tri_outputs, IsBitOf, FillsIn}
+use Rattle.word_sim.proofs.Fillings.{FillsIn-outputs}
+use Rattle.account_core.specs.Vectors.{value_at, signed, value_sent, values_sent, first_value, second_value, ShowsDifference}
+use Rattle.account_core.specs.Exclusions.{Excludes}
+use Rattle.account_core.proofs.Matched.{as_many, kind_is, pair_of-held, pair_place, pair_sign}
+
+-- each X filled in by 0
+abbrev pub is_one : Tri → Bool
+is_one Zero = false
+is_one One = true
+is_one X = false
+
+abbrev pub filled : List Tri → List Bool
+filled values = map is_one values
+
+is_one-bit : (value : Tri) → IsBitOf value (is_one value)
+is_one-bit Zero = refl
+is_one-bit One = refl
+is_one-bit X = tt
+
+filled-fills : (values : List Tri) → FillsIn values (filled values)
+filled-fills values = record {
+  places = length-map values is_one;
+  bits = λ k below. subst (λ b. IsBitOf (value_at values k) b) (sym (get_or-map is_one values k X false below)) (is_one-bit (value_at values k));
+}
+
+-- a value inverted stands for the bit inverted
+signed_bit : (flip : Bool) (value : Tri) (b : Bool) → IsBitOf value b → IsBitOf (signed flip value) (differ b flip)
+signed_bit false Zero true is = is
+signed_bit false Zero false is = is
+signed_bit false One true is = is
+signed_bit false One false is = is
+signed_bit false X b is = tt
+signed_bit true Zero true is = cc
+signed_bit true Zero false is = refl
+signed_bit true One true is = refl
+signed_bit true One false is = cc
+signed_bit true X b is = tt
+
+-- a value behind the end is X
+value_bit : (values : List Tri) (x : List Bool) (k : ℕ) → FillsIn values x → IsBitOf (value_at values k) (bit x k)
+value_bit values x k fills =
+    elim (cases_lt k (length values)) [
+      | inl below ↦ fills.bits k below
+      | inr past ↦ subst (λ v. IsBitOf v (bit x k)) (sym (behind values k past)) tt
+    ]
+  where
+    behind : (values : List Tri) (k : ℕ) → length values ≤ k → value_at values k ≡ X
+    behind [] k past = refl
+    behind (v ∷ values) zero past = absurd (omega arith)
+    behind (v ∷ values) (suc k) past = behind values k (omega arith)
+
+-- what a place gets is what the vector moved has there
+sent_bit : (p q : List (ℕ × Bool)) (pairs : List Pair) (values : List Tri) (x y : List Bool) (place : ℕ) → Moves p x y → FillsIn values x → Extends pairs p q → IsBitOf (value_sent pairs values place) (bit y place)
+sent_bit p q [] values x y place moves fills extends = tt
+sent_bit p q (pair ∷ pairs) values x y place moves fills extends =
+    elim (cases_Bool (same_kind pair.kind Input && eqb pair.to place)) [
+      | inl here ↦
+          let parts = and_parts (same_kind pair.kind Input) (eqb pair.to place) here in
+          subst (λ v. IsBitOf v (bit y place)) (sym (cond-true (same_kind pair.kind Input && eqb pair.to place) (signed pair.flip (value_at values pair.from)) (value_sent pairs values place) here)) (paired (kind_is pair.kind Input parts.0) (eqb-true pair.to place parts.1))
+      | inr other ↦
+          subst (λ v. IsBitOf v (bit y place)) (sym (cond-false (same_kind pair.kind Input && eqb pair.to place) (signed pair.flip (value_at values pair.from)) (value_sent pairs values place) other)) (sent_bit p q pairs values x y place moves fills (λ k d h. extends (suc k) d (omega arith)))
+    ]
+  where
+    has : HasPair p q pair
+    has = extends 0 pair (omega arith)
+
+    paired : pair.kind ≡ Input → pair.to ≡ place → IsBitOf (signed pair.flip (value_at values pair.from)) (bit y place)
+    paired kind to =
+        let there : pair.from < length p = subst (λ k. pair.from < length (entries_of k p q)) kind has.there in
+        let goes : place_of p pair.from ≡ place = subst (λ k. place_of (entries_of k p q) pair.from ≡ pair.to) kind (pair_place p q pair has) ∙ to in
+        let sign : sign_of p pair.from ≡ pair.flip = subst (λ k. sign_of (entries_of k p q) pair.from ≡ pair.flip) kind (pair_sign p q pair has) in
+        let moved_bit : bit y place ≡ differ (bit x pair.from) pair.flip = ap (λ k. bit y k) (sym goes) ∙ (moves.bits pair.from there ∙ ap (λ s. differ (bit x pair.from) s) sign) in
+        subst (λ b. IsBitOf (signed pair.flip (value_at values pair.from)) b) (sym moved_bit) (signed_bit pair.flip (value_at values pair.from) (bit x pair.from) (value_bit values x pair.from fills))
+
+sent_fills : (p q : List (ℕ × Bool)) (pairs : List Pair) (n : ℕ) (values : List Tri) (x y : List Bool) → Moves p x y → length y ≡ n → FillsIn values x → Extends pairs p q → FillsIn (values_sent pairs n values) y
+sent_fills p q pairs n values x y moves same fills extends = record {
+  places = same ∙ sym (length-map-range_with_len (value_sent pairs values) 0 n);
+  bits = λ k below.
+      let here : k < n = omega (arith, below, length-map-range_with_len (value_sent pairs values) 0 n) in
+      subst (λ v. IsBitOf v (bit y k)) (sym (get_or-map-range_with_len (value_sent pairs values) 0 n k k X here (omega arith))) (sent_bit p q pairs values x y k moves fills extends);
+}
+
+-- the value that a bit is
+abbrev pub of_bit : Bool → Tri
+of_bit true = One
+of_bit false = Zero
+
+definite : (value : Tri) (b : Bool) → value ≢ X → IsBitOf value b → value ≡ of_bit b
+definite Zero b apart is = ap of_bit (sym is)
+definite One b apart is = ap of_bit (sym is)
+definite X b apart is = absurd (apart refl)
+
+of_differ : (b flip : Bool) → of_bit (differ b flip) ≡ signed flip (of_bit b)
+of_differ true true = refl
+of_differ true false = refl
+of_differ false true = refl
+of_differ false false = refl
+
+-- the value of an output, where it is definite, is its bit
+value_is : (net : Net) (values : List Tri) (x : List Bool) (k : ℕ) → IsOrdered net → length values ≡ net.inputs → FillsIn values x → value_at (tri_outputs net values) k ≢ X → value_at (tri_outputs net values) k ≡ of_bit (bit (function_of net x) k)
+value_is net values x k ordered same fills apart =
+    definite (value_at (tri_outputs net values) k) (bit (function_of net x) k) apart (value_bit (tri_outputs net values) (function_of net x) k (FillsIn-outputs net values x ordered same fills))
+
+-- where an output's pair leads
+output_goes : (p q : List (ℕ × Bool)) (pair : Pair) (output : ℕ) → HasPair p q pair → pair.kind ≡ Output → pair.from ≡ output → (output < length q) × (place_of q output ≡ pair.to) × (sign_of q output ≡ pair.flip)
+output_goes p q pair output has kind port = (
+  subst (λ k. k < length q) port (subst (λ kind. pair.from < length (entries_of kind p q)) kind has.there),
+  ap (λ k. place_of q k) (sym port) ∙ subst (λ kind. place_of (entries_of kind p q) pair.from ≡ pair.to) kind (pair_place p q pair has),
+  ap (λ k. sign_of q k) (sym port) ∙ subst (λ kind. sign_of (entries_of kind p q) pair.from ≡ pair.flip) kind (pair_sign p q pair has),
+)
+
+-- A match gives both outputs, on the vector with each X filled in, the bits that the values stand for.
+pub vector_contradicts : (graphs : Graphs) (pairs : List Pair) (output : ℕ) (values : List Tri) → IsGraph graphs.first → IsGraph graphs.second → ShowsDifference graphs pairs output values → Excludes graphs pairs
+vector_contradicts graphs pairs output values first second shows p q match extends =
+    let pair = shows.pair in
+    let x = filled values in
+    let y = moved p x in
+    let n = graphs.second.inputs in
+    let as_long : length x ≡ graphs.first.inputs = length-map values is_one ∙ shows.places in
+    let shape : IsSignedBijection (length x) p = subst (λ n. IsSignedBijection n p) (sym as_long) match.inputs in
+    let y_long : length y ≡ n = length-moved p x ∙ (as_long ∙ sym match.same_inputs) in
+    let fills = filled-fills values in
+    let sent = sent_fills p q pairs n values x y (moved-moves p x shape) y_long fills extends in
+    let held = pair_of-held pairs Output output pair shows.paired in
+    let goes = output_goes p q pair output (All-contains (HasPair p q) pairs pair extends held.0) held.1 held.2 in
+    let c = bit (function_of graphs.second y) pair.to in
+    let one = value_is graphs.first values x output first.ordered shows.places fills shows.first_definite in
+    let other = value_is graphs.second (values_sent pairs n values) y pair.to second.ordered (length-map-range_with_len (value_sent pairs values) 0 n) sent shows.second_definite in
+    let agree : bit (function_of graphs.first x) output ≡ differ c pair.flip = match.agree x as_long output goes.0 ∙ (ap (λ k. differ (bit (function_of graphs.second y) k) (sign_of q output)) goes.1 ∙ ap (λ s. differ c s) goes.2) in
+    shows.differ (one ∙ (ap of_bit agree ∙ (of_differ c pair.flip ∙ ap (signed pair.flip) (sym other))))

@@ -1,0 +1,11 @@
+pub mod Ports
+pub mod Given
+pub mod Exclusions
+pub mod Vectors
+pub mod Mismatches
+pub mod Tallies
+pub mod Covers
+pub mod Steps
+pub use Rattle.query_core.specs.Claims
+pub use Rattle.query_core.specs.Images
+pub use Rattle.word_sim.specs.ThreeValues
