@@ -1,0 +1,40 @@
+-- Two claims are the same where the derived comparison says so.
+use Rattle.std.proofs.Common.{◌≡◌, ◌&&◌, ℕ, eqb, Bool, true, false, refl, sym, ap, ◌∙◌}
+use Rattle.std.specs.Bool.{Decides, beq}
+use Rattle.std.proofs.lemmas.Bool.Decides.{Decides-eqb, Decides-and, Decides-like}
+use Rattle.net_core.specs.declared.graphs.Side.{Side}
+use Rattle.net_core.specs.declared.graphs.Side.TheVariants.{First, Second}
+use Rattle.query_core.specs.declared.claims.Claim.{Claim}
+use Rattle.query_core.specs.declared.claims.Shape.{Shape}
+use Rattle.query_core.specs.declared.claims.Shape.TheVariants.{Up, Down, Swap}
+use Rattle.net_core.specs.contracts.graphs.SidePartialEq.TheImpl.{eq-value as side_eq}
+use Rattle.query_core.specs.contracts.claims.ShapePartialEq.TheImpl.{eq-value as shape_eq}
+use Rattle.query_core.specs.contracts.claims.ClaimPartialEq.TheImpl.{eq-value as claim_eq}
+
+side_decides : (x y : Side) → Decides (side_eq.it x y) (x ≡ y)
+side_decides First First = (λ e. refl, λ e. refl)
+side_decides First Second = (λ e. cc, λ e. cc)
+side_decides Second First = (λ e. cc, λ e. cc)
+side_decides Second Second = (λ e. refl, λ e. refl)
+
+bool_decides : (x y : Bool) → Decides (beq x y) (x ≡ y)
+bool_decides true true = (λ e. refl, λ e. refl)
+bool_decides true false = (λ e. cc, λ e. cc)
+bool_decides false true = (λ e. cc, λ e. cc)
+bool_decides false false = (λ e. refl, λ e. refl)
+
+pub shape_decides : (x y : Shape) → Decides (shape_eq.it x y) (x ≡ y)
+shape_decides (Up i) (Up j) = Decides-like (eqb i j) (λ e. ap Up e) (λ e. cc) (Decides-eqb i j)
+shape_decides (Up i) (Down j) = (λ e. cc, λ e. cc)
+shape_decides (Up i) (Swap j k a b) = (λ e. cc, λ e. cc)
+shape_decides (Down i) (Up j) = (λ e. cc, λ e. cc)
+shape_decides (Down i) (Down j) = Decides-like (eqb i j) (λ e. ap Down e) (λ e. cc) (Decides-eqb i j)
+shape_decides (Down i) (Swap j k a b) = (λ e. cc, λ e. cc)
+shape_decides (Swap j k a b) (Up i) = (λ e. cc, λ e. cc)
+shape_decides (Swap j k a b) (Down i) = (λ e. cc, λ e. cc)
+shape_decides (Swap i j a b) (Swap k l c d) =
+    Decides-like (eqb i k && (eqb j l && (beq a c && beq b d))) (λ e. let i_is = e.0 in let j_is = e.1.0 in let a_is = e.1.1.0 in let b_is = e.1.1.1 in cc) (λ e. (cc, (cc, (cc, cc)))) (Decides-and (eqb i k) (eqb j l && (beq a c && beq b d)) (Decides-eqb i k) (Decides-and (eqb j l) (beq a c && beq b d) (Decides-eqb j l) (Decides-and (beq a c) (beq b d) (bool_decides a c) (bool_decides b d))))
+
+pub claim_decides : (x y : Claim) → Decides (claim_eq.it x y) (x ≡ y)
+claim_decides x y =
+    Decides-like (claim_eq.it x y) (λ e i. record { side = e.0 i; output = e.1.0 i; shape = e.1.1 i }) (λ e. (ap (λ (c : Claim). c.side) e, (ap (λ (c : Claim). c.output) e, ap (λ (c : Claim). c.shape) e))) (Decides-and (side_eq.it x.side y.side) (eqb x.output y.output && shape_eq.it x.shape y.shape) (side_decides x.side y.side) (Decides-and (eqb x.output y.output) (shape_eq.it x.shape y.shape) (Decides-eqb x.output y.output) (shape_decides x.shape y.shape)))

@@ -1,0 +1,41 @@
+-- What stands in a list under a key, and the numbers of keys.
+use Rattle.std.proofs.Common.{◌≡◌, ◌≢◌, ℕ, ◌<◌, Bool, true, false, List, [], ◌∷◌, ◌++◌, length, map, cond, All, Option, None, Some, refl, sym, ap, subst, ◌∙◌, slice_index_or, arith, position}
+use Rattle.std.specs.Bool.{Decides}
+use Rattle.std.specs.List.{list_any}
+use Rattle.std.proofs.lemmas.Bool.{false≢true}
+use Rattle.std.proofs.lemmas.List.{get_or-map, length-map, map_push}
+use Rattle.std.proofs.lemmas.List.Quantifiers.{position-Some}
+use Rattle.std.proofs.lemmas.List.Folds.{Any-from_list_any, list_any-from_Any}
+use Rattle.indexmap.specs.IndexSet.{insert_key}
+
+module _ {K X : Type 0} (eq : K → K → Bool) (decides : (x y : K) → Decides (eq x y) (x ≡ y)) (key : X → K) where
+  -- the place that is found has the key
+  pub found : (xs : List X) (k : K) (i : ℕ) → position (eq k) (map key xs) ≡ Some i → (i < length xs) × ((d : X) → key (slice_index_or xs i d) ≡ k)
+  found xs k i at =
+      let p = position-Some (eq k) (map key xs) i k at in
+      let within : i < length xs = omega (arith, p.0, length-map xs key) in
+      (within, λ d. sym ((decides k (key (slice_index_or xs i d))).0 (ap (eq k) (sym (get_or-map key xs i d k within)) ∙ p.1)))
+
+  -- none of them has the key
+  pub none : (xs : List X) (k : K) → list_any (eq k) (map key xs) ≡ false → All (λ x. key x ≢ k) xs
+  none xs k missing i d below same =
+      let x = key (slice_index_or xs i d) in
+      let there : i < length (map key xs) = omega (arith, below, length-map xs key) in
+      let at = get_or-map key xs i d x below in
+      false≢true (sym missing ∙ list_any-from_Any (eq k) (map key xs) (i, x, there, at, (decides k x).1 (sym same)))
+
+  absent : (xs : List X) (x : X) → All (λ other. key other ≢ key x) xs → (b : Bool) → list_any (eq (key x)) (map key xs) ≡ b → list_any (eq (key x)) (map key xs) ≡ false
+  absent xs x apart false is = is
+  absent xs x apart true is =
+      let any = Any-from_list_any (eq (key x)) (map key xs) is in
+      let i = any.0 in
+      let y = any.1 in
+      let below : i < length xs = omega (arith, any.2, length-map xs key) in
+      let at : key (slice_index_or xs i x) ≡ y = sym (get_or-map key xs i x y below) ∙ any.3 in
+      absurd (apart i x below (at ∙ sym ((decides (key x) y).0 any.4)))
+
+  -- a key that none of them has comes last
+  pub added : (xs : List X) (x : X) → All (λ other. key other ≢ key x) xs → insert_key eq (map key xs) (key x) ≡ map key (xs ++ x ∷ [])
+  added xs x apart =
+      let missing = absent xs x apart (list_any (eq (key x)) (map key xs)) refl in
+      ap (λ b. cond b (map key xs) (map key xs ++ key x ∷ [])) missing ∙ sym (map_push key xs x)

@@ -1,0 +1,141 @@
+-- What asking one more query makes of a ledger.
+use Rattle.std.proofs.Common.{◌≡◌, ◌≢◌, ◌⊎◌, ℕ, zero, suc, ◌+◌, ◌-◌, ◌<◌, ◌≤◌, eqb, cond, Bool, true, false, List, [], ◌∷◌, ◌++◌, length, take, All, AllPairs, slice_index_or, slice_set, inl, inr, refl, sym, ap, subst, ◌∙◌, arith}
+use Rattle.std.specs.List.{Any}
+use Rattle.std.proofs.lemmas.Bool.Decides.{eqb_tells}
+use Rattle.std.proofs.lemmas.Bool.{cases_lt}
+use Rattle.std.proofs.lemmas.List.{get_or_default, get_or-take, get_or_append_left, get_or-append-add, length-append, length-take, take_all}
+use Rattle.std.proofs.lemmas.List.Elements.{All-push, All-take}
+use Rattle.std.proofs.lemmas.List.Quantifiers.{all_pairs_push}
+use Rattle.cnf_core.specs.declared.log.LogLine.{LogLine}
+use Rattle.net_core.specs.declared.graphs.Graphs.{Graphs}
+use Rattle.query_core.specs.declared.query.Query.{Query}
+use Rattle.query_core.specs.declared.ledger.Asked.{Asked}
+use Rattle.query_core.specs.Ledgers.{Ledgered, charged_front, entry_of, last_asked, nothing_asked, opened, with_lines}
+use Rattle.account_core.specs.Work.{AreApart, IsCharged, IsOfClaim, IsOfMatch, IsWork, IsWorkOn, IsWorkOfClaimsAndMatches}
+use Rattle.account_core.specs.Oracles.{Known, IsAnswered, IsAsBefore, Keeps, Suits, entry_at}
+
+-- the last one of a list with one more
+last_set : (asked : List Asked) (e f : Asked) → slice_set (asked ++ e ∷ []) (length (asked ++ e ∷ []) - 1) f ≡ asked ++ f ∷ []
+last_set [] e f = refl
+last_set (x ∷ asked) e f =
+    let n : length (x ∷ (asked ++ e ∷ [])) - 1 ≡ suc (length (asked ++ e ∷ []) - 1) = omega (arith, length-append asked (e ∷ [])) in
+    ap (slice_set (x ∷ (asked ++ e ∷ [])) _) refl ∙ (ap (λ k. slice_set (x ∷ (asked ++ e ∷ [])) k f) n ∙ ap (λ xs. x ∷ xs) (last_set asked e f))
+
+last_is : (asked : List Asked) (e : Asked) → last_asked (asked ++ e ∷ []) ≡ e
+last_is asked e =
+    let n : length (asked ++ e ∷ []) - 1 ≡ length asked + 0 = omega (arith, length-append asked (e ∷ [])) in
+    ap (λ k. slice_index_or (asked ++ e ∷ []) k nothing_asked) n ∙ get_or-append-add asked (e ∷ []) 0 nothing_asked
+
+-- the entry of a query with its lines
+abbrev pub asked_entry : Query → List LogLine → Asked
+asked_entry query lines = record { query = query; lemmas = 0; lines = lines }
+
+-- a query is asked: its entry stands behind those for which lines were learned
+pub asked_last : (query : Query) (lines : List LogLine) (asked : List Asked) → with_lines lines (opened query [] asked) ≡ charged_front asked ++ asked_entry query lines ∷ []
+asked_last query lines asked =
+    let front = charged_front asked in
+    let e = entry_of query [] in
+    last_set front e (record (last_asked (front ++ e ∷ [])) { lines = lines }) ∙ ap (λ (x : Asked). front ++ record x { lines = lines } ∷ []) (last_is front e)
+
+-- The first entries of a ledger, among them each one for which lines were learned.
+pub record IsFront (asked front : List Asked) : Type 0 where
+  pub count : ℕ
+  pub within : count ≤ length asked
+  pub is : front ≡ take count asked
+  pub charged : (k : ℕ) → k < length asked → IsCharged (entry_at asked k) → k < count
+
+pub front_is : (asked : List Asked) → IsFront asked (charged_front asked)
+front_is asked =
+    let e = last_asked asked in
+    elim (eqb_tells (length e.lines) e.lemmas) [
+      | inl (found, same) ↦ record {
+        count = length asked - 1;
+        within = omega arith;
+        is = ap (λ t. cond t (take (length asked - 1) asked) asked) found;
+        charged = λ k below charged. by_place k below charged same (cases_lt k (length asked - 1));
+      }
+      | inr (found, apart) ↦ record {
+        count = length asked;
+        within = omega arith;
+        is = ap (λ t. cond t (take (length asked - 1) asked) asked) found ∙ sym (take_all (length asked) asked (omega arith));
+        charged = λ k below charged. below;
+      }
+    ]
+  where
+    by_place : (k : ℕ) → k < length asked → IsCharged (entry_at asked k) → length (last_asked asked).lines ≡ (last_asked asked).lemmas → (k < length asked - 1) ⊎ (length asked - 1 ≤ k) → k < length asked - 1
+    by_place k below charged same (inl less) = less
+    by_place k below charged same (inr past) =
+        let n : k ≡ length asked - 1 = omega (arith, below, past) in
+        let last : IsCharged (last_asked asked) = subst (λ j. IsCharged (entry_at asked j)) n charged in
+        absurd (omega (arith, same, last))
+
+-- A query was asked that wasn't answered before: the ledger is that before with one entry more, behind those for which lines
+-- were learned.
+pub record IsAskedNew (known : Known) (query : Query) (before after : Ledgered) : Type 0 where
+  pub lines : List LogLine
+  pub unanswered : IsAnswered known query → ⊥
+  pub of_known : IsOfClaim known.graphs query ⊎ IsOfMatch known.graphs query
+  pub work : IsWorkOn known.graphs (asked_entry query lines)
+  pub budget : after.budget ≡ before.budget
+  pub asked : after.asked ≡ charged_front before.asked ++ asked_entry query lines ∷ []
+
+module _ (known : Known) (query : Query) (before after : Ledgered) (new : IsAskedNew known query before after) where
+  front_same : (front : IsFront before.asked (charged_front before.asked)) (k : ℕ) → k < front.count → IsAsBefore before.asked after.asked k
+  front_same front k below =
+      let size : length (take front.count before.asked) ≡ front.count = omega (arith, length-take front.count before.asked, front.within) in
+      let whole = new.asked ∙ ap (λ (xs : List Asked). xs ++ asked_entry query new.lines ∷ []) front.is in
+      let here : k < length before.asked = omega (arith, below, front.within) in
+      let there : k < length after.asked = omega (arith, ap length whole, length-append (take front.count before.asked) (asked_entry query new.lines ∷ []), size, below) in
+      (here, there, ap (λ (xs : List Asked). entry_at xs k) whole ∙ (get_or_append_left (take front.count before.asked) (asked_entry query new.lines ∷ []) nothing_asked k (omega (arith, size, below)) ∙ get_or-take front.count before.asked k nothing_asked below))
+
+  pub asked_keeps : Keeps known before after
+  asked_keeps =
+      let front = front_is before.asked in
+      record {
+        budget = new.budget;
+        charged = λ k below charged. front_same front k (front.charged k below charged);
+        opened = λ k below. by_place front k below (cases_lt k front.count);
+      }
+    where
+      by_place : (front : IsFront before.asked (charged_front before.asked)) (k : ℕ) → k < length after.asked → (k < front.count) ⊎ (front.count ≤ k) → IsAsBefore before.asked after.asked k ⊎ (IsAnswered known (entry_at after.asked k).query → ⊥)
+      by_place front k below (inl less) = inl (front_same front k less)
+      by_place front k below (inr past) =
+          let size : length (take front.count before.asked) ≡ front.count = omega (arith, length-take front.count before.asked, front.within) in
+          let whole = new.asked ∙ ap (λ (xs : List Asked). xs ++ asked_entry query new.lines ∷ []) front.is in
+          let n : k ≡ length (take front.count before.asked) + 0 = omega (arith, ap length whole, length-append (take front.count before.asked) (asked_entry query new.lines ∷ []), size, below, past) in
+          let e : entry_at after.asked k ≡ asked_entry query new.lines = ap (λ (xs : List Asked). entry_at xs k) whole ∙ (ap (entry_at (take front.count before.asked ++ asked_entry query new.lines ∷ [])) n ∙ get_or-append-add (take front.count before.asked) (asked_entry query new.lines ∷ []) 0 nothing_asked) in
+          inr (λ answered. new.unanswered (subst (IsAnswered known) (ap (λ (x : Asked). x.query) e) answered))
+
+  -- what holds of the entries before and of the new one holds of all
+  all_of : (P : Asked → Type 0) → All P before.asked → P (asked_entry query new.lines) → All P after.asked
+  all_of P each last =
+      let front = front_is before.asked in
+      subst (All P) (sym new.asked) (All-push P (charged_front before.asked) (asked_entry query new.lines) (subst (All P) (sym front.is) (All-take P front.count before.asked each)) last)
+
+  pub asked_work : Suits known before → IsWorkOfClaimsAndMatches known.graphs after
+  asked_work suits = record {
+    work = record {
+      entries = all_of (IsWorkOn known.graphs) suits.work.work.entries new.work;
+      once =
+          let front = front_is before.asked in
+          let e = asked_entry query new.lines in
+          let answered = subst (All (λ (x : Asked). IsCharged x → IsAnswered known x.query)) (sym front.is) (All-take (λ (x : Asked). IsCharged x → IsAnswered known x.query) front.count before.asked suits.answered) in
+          subst (AllPairs AreApart) (sym new.asked) (all_pairs_push AreApart (charged_front before.asked) e (subst (AllPairs AreApart) (sym front.is) (pairs_take front.count before.asked front.within suits.work.work.once)) (λ k d below one other same. new.unanswered (subst (IsAnswered known) same (answered k d below one))));
+    };
+    queries = all_of (λ (x : Asked). IsOfClaim known.graphs x.query ⊎ IsOfMatch known.graphs x.query) suits.work.queries new.of_known;
+  }
+    where
+      pairs_take : (n : ℕ) (xs : List Asked) → n ≤ length xs → AllPairs AreApart xs → AllPairs AreApart (take n xs)
+      pairs_take n xs within pairs i j d less below =
+          let size : length (take n xs) ≡ n = omega (arith, length-take n xs, within) in
+          let here : j < n = omega (arith, below, size) in
+          let first : i < n = omega (arith, less, here) in
+          subst (λ x. AreApart x (slice_index_or (take n xs) j d)) (sym (get_or-take n xs i d first)) (subst (AreApart (slice_index_or xs i d)) (sym (get_or-take n xs j d here)) (pairs i j d less (omega (arith, here, within))))
+
+  -- the query is answered now, and what was answered still is
+  pub asked_suits : (later : Known) → later.graphs ≡ known.graphs → ((q : Query) → IsAnswered known q → IsAnswered later q) → IsAnswered later query → after.spent ≡ false → Suits known before → Suits later after
+  asked_suits later graphs more answered unspent suits = record {
+    work = subst (λ (g : Graphs). IsWorkOfClaimsAndMatches g after) (sym graphs) (asked_work suits);
+    unspent = unspent;
+    answered = all_of (λ (x : Asked). IsCharged x → IsAnswered later x.query) (λ k d below charged. more (slice_index_or before.asked k d).query (suits.answered k d below charged)) (λ charged. answered);
+  }

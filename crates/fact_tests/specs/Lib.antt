@@ -1,0 +1,1 @@
+pub use Rattle.account_core.specs.Oracles
