@@ -1,0 +1,42 @@
+-- Outputs that are compared one after the other.
+use Rattle.std.proofs.Common.{◌≡◌, ◌⊎◌, ℕ, zero, suc, ◌+◌, ◌*◌, ◌<◌, ◌≤◌, List, [], ◌∷◌, ◌++◌, length, get_or, refl, sym, ap, subst, ◌∙◌, inl, inr, arith}
+use Rattle.std.proofs.lemmas.Bool.{cases_lt}
+use Rattle.std.proofs.lemmas.List.{get_or_append_left, get_or-append-add, length-append}
+use Rattle.cnf_core.specs.declared.log.Log.{Log}
+use Rattle.net_core.specs.declared.graphs.Graphs.{Graphs}
+use Rattle.net_core.specs.declared.matching.Matching.{Matching}
+use Rattle.query_core.specs.Ledgers.{Ledgered}
+use Rattle.account_core.specs.Oracles.{AreFacts, AreSame, Known, Suits}
+use Rattle.match_search.specs.Founds.{AddsLogs, AreLogsOf}
+use Rattle.match_search.specs.States.{HasServed}
+use Rattle.match_search.proofs.ServeLemmas.{served_same}
+
+-- So many outputs were compared, and agree with their partners.
+pub record IsComparing (graphs : Graphs) (matching : Matching) (old now : Known) (before after : Ledgered) (count : ℕ) (logs : List Log) : Type 0 where
+  pub served : HasServed old now before after
+  pub shown : AreLogsOf graphs matching count logs
+
+pub comparing_start : (graphs : Graphs) (matching : Matching) (known : Known) (ledger : Ledgered) (logs : List Log) → graphs ≡ known.graphs → AreFacts graphs known.facts → Suits known ledger → logs ≡ [] → IsComparing graphs matching known known ledger ledger 0 logs
+comparing_start graphs matching known ledger logs are lawful suits none = record {
+  served = served_same known ledger (subst (λ (g : Graphs). AreFacts g known.facts) are lawful) suits;
+  shown = record { number = ap length none; same = λ k d below. absurd (omega (arith, below)) };
+}
+
+pub logs_more : (graphs : Graphs) (matching : Matching) (count : ℕ) (logs after : List Log) → AreLogsOf graphs matching count logs → AddsLogs graphs matching count logs after → AreLogsOf graphs matching (count + 1) after
+logs_more graphs matching count logs after are adds = record {
+  number = omega (arith, ap length adds.after_is, length-append logs (adds.one ∷ adds.other ∷ []), are.number);
+  same = λ k d below. by_place k d below (cases_lt k count);
+}
+  where
+    read : (i : ℕ) (d : Log) → i < length logs → get_or after i d ≡ get_or logs i d
+    read i d below = ap (λ l. get_or l i d) adds.after_is ∙ get_or_append_left logs (adds.one ∷ adds.other ∷ []) d i below
+
+    read_new : (i j : ℕ) (d : Log) → j ≡ length logs + i → get_or after j d ≡ get_or (adds.one ∷ adds.other ∷ []) i d
+    read_new i j d is = ap (λ l. get_or l j d) adds.after_is ∙ (ap (λ n. get_or (logs ++ adds.one ∷ adds.other ∷ []) n d) is ∙ get_or-append-add logs (adds.one ∷ adds.other ∷ []) i d)
+
+    by_place : (k : ℕ) (d : Log) → k < count + 1 → (k < count) ⊎ (count ≤ k) → AreSame graphs matching k (get_or after (2 * k) d) (get_or after (2 * k + 1) d)
+    by_place k d below (inl less) =
+        subst (λ l. AreSame graphs matching k l (get_or after (2 * k + 1) d)) (sym (read (2 * k) d (omega (arith, less, are.number)))) (subst (AreSame graphs matching k (get_or logs (2 * k) d)) (sym (read (2 * k + 1) d (omega (arith, less, are.number)))) (are.same k d less))
+    by_place k d below (inr past) =
+        let e : k ≡ count = omega (arith, below, past) in
+        subst (λ l. AreSame graphs matching k l (get_or after (2 * k + 1) d)) (sym (read_new 0 (2 * k) d (omega (arith, e, are.number)))) (subst (AreSame graphs matching k adds.one) (sym (read_new 1 (2 * k + 1) d (omega (arith, e, are.number)))) (subst (λ n. AreSame graphs matching n adds.one adds.other) (sym e) adds.same))
