@@ -1,5 +1,5 @@
 -- Outputs that are compared one after the other.
-use Rattle.std.proofs.Common.{◌≡◌, ◌⊎◌, ℕ, zero, suc, ◌+◌, ◌*◌, ◌<◌, ◌≤◌, List, [], ◌∷◌, ◌++◌, length, get_or, refl, sym, ap, subst, ◌∙◌, inl, inr, arith}
+use Rattle.std.proofs.Common.{◌≡◌, ◌⊎◌, ℕ, zero, suc, ◌+◌, ◌*◌, ◌<◌, ◌≤◌, Bool, true, false, List, [], ◌∷◌, ◌++◌, length, get_or, refl, sym, ap, subst, ◌∙◌, inl, inr, arith}
 use Rattle.std.proofs.lemmas.Bool.{cases_lt}
 use Rattle.std.proofs.lemmas.List.{get_or_append_left, get_or-append-add, length-append}
 use Rattle.cnf_core.specs.declared.log.Log.{Log}
@@ -7,7 +7,13 @@ use Rattle.net_core.specs.declared.graphs.Graphs.{Graphs}
 use Rattle.net_core.specs.declared.matching.Matching.{Matching}
 use Rattle.query_core.specs.Ledgers.{Ledgered}
 use Rattle.account_core.specs.Oracles.{AreFacts, AreSame, Known, Suits}
-use Rattle.match_search.specs.Founds.{AddsLogs, AreLogsOf}
+use Rattle.circuits.specs.Matches.{HavePorts}
+use Rattle.net_core.specs.Graph.{IsGraph}
+use Rattle.query_core.specs.Formulas.{IsRefuted}
+use Rattle.query_core.specs.MatchQueries.{match_query}
+use Rattle.query_core.proofs.MatchLemmas.{match_query_fits}
+use Rattle.query_core.proofs.RefutedLemmas.{match_of_refuted}
+use Rattle.match_search.specs.Founds.{AddsLogs, AreLogs, AreLogsOf, IsShownMatch}
 use Rattle.match_search.specs.States.{HasServed}
 use Rattle.match_search.proofs.ServeLemmas.{served_same}
 
@@ -40,3 +46,25 @@ logs_more graphs matching count logs after are adds = record {
     by_place k d below (inr past) =
         let e : k ≡ count = omega (arith, below, past) in
         subst (λ l. AreSame graphs matching k l (get_or after (2 * k + 1) d)) (sym (read_new 0 (2 * k) d (omega (arith, e, are.number)))) (subst (AreSame graphs matching k adds.one) (sym (read_new 1 (2 * k + 1) d (omega (arith, e, are.number)))) (subst (λ n. AreSame graphs matching n adds.one adds.other) (sym e) adds.same))
+
+abbrev no_log : Log
+no_log = record { lines = [] }
+
+-- a whole table whose outputs all agree with their partners is a match
+pub shown_match : (graphs : Graphs) (matching : Matching) (logs : List Log) → IsGraph graphs.first → IsGraph graphs.second → HavePorts graphs.first graphs.second matching.inputs matching.outputs → AreLogs graphs matching logs → IsShownMatch graphs matching logs
+shown_match graphs matching logs first second ports are = record {
+  is_match = match_of_refuted graphs matching first second ports refuted;
+  shown = are;
+}
+  where
+    refuted : (k : ℕ) (value : Bool) → k < length graphs.first.outputs → IsRefuted graphs (match_query graphs.first.inputs matching k value)
+    refuted k true below = record {
+      fits = match_query_fits graphs matching k true ports below;
+      lines = (get_or logs (2 * k) no_log).lines;
+      refuted = (are.same k no_log below).of_true;
+    }
+    refuted k false below = record {
+      fits = match_query_fits graphs matching k false ports below;
+      lines = (get_or logs (2 * k + 1) no_log).lines;
+      refuted = (are.same k no_log below).of_false;
+    }

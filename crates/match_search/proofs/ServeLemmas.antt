@@ -12,7 +12,8 @@ use Rattle.account_core.specs.declared.step.Ban.{Ban}
 use Rattle.account_core.specs.Given.{Decided, decided_by, given_of, pairs_of}
 use Rattle.account_core.specs.Steps.{AreValidBans, IsValidBan}
 use Rattle.account_core.proofs.Growing.{ban_stays_valid}
-use Rattle.match_search.specs.States.{HasServed}
+use Rattle.match_search.specs.Levels.{HoldsMore}
+use Rattle.match_search.specs.States.{AreValid, HasServed}
 
 pub grows_same : (known : Known) → AreFacts known.graphs known.facts → Grows known known
 grows_same known facts = record {
@@ -134,3 +135,10 @@ valid_later old new graphs bans grows valid k d below =
   where
     split : map decided_by new.facts ≡ map decided_by old.facts ++ map decided_by grows.added
     split = ap (map decided_by) grows.facts ∙ map-append decided_by old.facts grows.added
+
+pub valid_grows : (old new : Known) (graphs : Graphs) (bans : List Ban) → Grows old new → AreValid graphs old bans → AreValid graphs new bans
+valid_grows old new graphs bans grows valid = record { each = valid_later old new graphs bans grows valid.each }
+
+-- and so do bans that come behind
+pub valid_holds : (known : Known) (graphs : Graphs) (before after : List Ban) → HoldsMore graphs before after → AreValid graphs known before → AreValid graphs known after
+valid_holds known graphs before after more valid = record { each = more.valid (map decided_by known.facts) valid.each }

@@ -55,9 +55,9 @@ GoesBack graphs bans before after None =
     IsSearchState graphs bans after × TurnsBack (left_in graphs before.levels) (left_in graphs after.levels)
 GoesBack graphs bans before after (Some ban) = IsEmptyBan bans ban
 
--- the bans are valid in view of the facts
-abbrev pub AreValid : Known → List Ban → Type 0
-AreValid known bans = AreValidBans known.graphs (map decided_by known.facts) bans
+-- Each ban is valid in view of the facts that are known, and of the bans before it.
+pub record AreValid (graphs : Graphs) (known : Known) (bans : List Ban) : Type 0 where
+  pub each : AreValidBans graphs (map decided_by known.facts) bans
 
 -- What an oracle and a ledger are after calls that were all answered.
 pub record HasServed (old new : Known) (before after : Ledgered) : Type 0 where

@@ -70,10 +70,10 @@ fn turn<O: Oracle>(
     requires lawful { AreFacts graphs.now (O.known oracle.old).facts }
     requires ports { HaveAsMany graphs.now.first graphs.now.second }
     requires suits { Suits (O.known oracle.old) ledger.old }
-    requires valid { AreValid (O.known oracle.old) book.old }
+    requires valid { AreValid graphs.now (O.known oracle.old) book.old }
     requires search { IsSearchState graphs.now book.old state.old }
     ensures serves { Serves (O.known oracle.old) (O.known oracle.new) ledger.old ledger.new result }
-    ensures valid { AreValid (O.known oracle.new) book.new }
+    ensures valid { AreValid graphs.now (O.known oracle.new) book.new }
     ensures search { IfOk result (λ found. IfNone found (IsSearchState graphs.now book.new state.new)) }
     ensures less { IfOk result (λ found. IfNone found (left graphs.now state.new.levels < left graphs.now state.old.levels)) }
     ensures found { IfOk result (λ found. IfSome found (IsFound graphs.now book.new)) }
@@ -103,10 +103,10 @@ fn ahead<O: Oracle>(
     requires lawful { AreFacts graphs.now (O.known oracle.old).facts }
     requires ports { HaveAsMany graphs.now.first graphs.now.second }
     requires suits { Suits (O.known oracle.old) ledger.old }
-    requires valid { AreValid (O.known oracle.old) book.old }
+    requires valid { AreValid graphs.now (O.known oracle.old) book.old }
     requires search { IsSearchState graphs.now book.old state.old }
     ensures serves { Serves (O.known oracle.old) (O.known oracle.new) ledger.old ledger.new result }
-    ensures valid { AreValid (O.known oracle.new) book.new }
+    ensures valid { AreValid graphs.now (O.known oracle.new) book.new }
     ensures ahead { IfOk result (IsAhead graphs.now book.new state.old state.new) }
 {
     if let Some(ban) = book.covering(&state.held) {

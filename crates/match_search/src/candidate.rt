@@ -43,11 +43,13 @@ pub(crate) fn compare_whole<O: Oracle>(
     requires search { IsSearchState graphs.now book.old state.now }
     requires whole { IsWhole graphs.now state.now.held }
     requires suits { Suits (O.known oracle.old) ledger.old }
-    requires valid { AreValid (O.known oracle.old) book.old }
+    requires valid { AreValid graphs.now (O.known oracle.old) book.old }
     ensures serves { Serves (O.known oracle.old) (O.known oracle.new) ledger.old ledger.new result }
-    ensures valid { AreValid (O.known oracle.new) book.new }
+    ensures valid { AreValid graphs.now (O.known oracle.new) book.new }
     ensures ahead { IfOk result (IsAhead graphs.now book.new state.now state.now) }
 {
+    let _first = graphs.first.inputs();
+    let _second = graphs.second.inputs();
     let matching = table(alloc, graphs, &state.held)?;
     let mut logs = Items::new(alloc);
     match compare_all(alloc, graphs, oracle, &matching, ledger, &mut logs)? {
