@@ -1,7 +1,6 @@
 -- What a book of bans holds.
-use Rattle.std.proofs.Common.{◌≡◌, ◌⊎◌, ℕ, zero, suc, ◌+◌, ◌*◌, ◌<◌, ◌≤◌, List, [], ◌∷◌, ◌++◌, length, map, take, get_or, All, AllPairs, Option, None, Some, refl, sym, ap, subst, ◌∙◌, inl, inr, arith}
-use Rattle.std.specs.Prelude.{Contains}
-use Rattle.std.specs.List.{AllZip, range_with_len}
+use Rattle.std.proofs.Common.{◌≡◌, ℕ, ◌<◌, List, [], ◌∷◌, ◌++◌, length, take, get_or, All, Option, None, Some, sym, ap, subst, ◌∙◌, inl, inr, arith}
+use Rattle.std.specs.List.{range_with_len}
 use Rattle.std.proofs.lemmas.Bool.{cases_lt}
 use Rattle.std.proofs.lemmas.List.{append-nil, append_assoc, take_all, take-append-le, get_or_append_left, get_or_push, length_push, length-append, length-map}
 use Rattle.std.proofs.lemmas.List.Elements.{All-contains, All-cons, All-nil}
@@ -9,19 +8,18 @@ use Rattle.std.proofs.lemmas.List.FromFn.{length-range_with_len, get_or-range_wi
 use Rattle.circuits.specs.declared.port.Pair.{Pair}
 use Rattle.circuits.specs.declared.port.PortKind.{PortKind}
 use Rattle.circuits.specs.declared.port.PortKind.TheVariants.{Input, Output}
-use Rattle.circuits.specs.Literals.{EachAt}
 use Rattle.net_core.specs.declared.graphs.Graphs.{Graphs}
 use Rattle.account_core.specs.declared.step.Ban.{Ban}
 use Rattle.account_core.specs.declared.step.Step.TheVariants as step
 use Rattle.account_core.specs.Ports.{ports_in, HaveAsMany, IsKnown}
-use Rattle.account_core.specs.Given.{Decided, given_of, pairs_of, with_more}
-use Rattle.account_core.specs.Covers.{IsReference, AreCoverNames, IsCover}
+use Rattle.account_core.specs.Given.{Decided, given_of}
+use Rattle.account_core.specs.Covers.{IsReference}
 use Rattle.account_core.specs.Tallies.{Ascend}
 use Rattle.account_core.specs.Steps.{AreValidBans, IsValidBan}
 use Rattle.ban_book.specs.Covering.{Covers, IsWithin}
 use Rattle.match_search.specs.declared.level.Level.{Level}
 use Rattle.match_search.specs.Held.{AreHeld, IsPart}
-use Rattle.match_search.specs.Levels.{nth_way, ways_of, AreClosed, HoldsMore, IsClosed, IsTried}
+use Rattle.match_search.specs.Levels.{nth_way, ways_of, AreClosed, HoldsMore, IsTried}
 use Rattle.match_search.proofs.ClosedLemmas.{all_ways}
 
 pub holds_none : (graphs : Graphs) (bans : List Ban) → HoldsMore graphs bans bans

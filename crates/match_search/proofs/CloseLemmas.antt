@@ -1,11 +1,11 @@
 -- Ways that are closed one after the other.
-use Rattle.std.proofs.Common.{◌≡◌, ◌+◌, ◌<◌, ◌≤◌, ◌∙◌, ℕ, List, [], ◌∷◌, ◌++◌, length, None, Option, refl, sym, ap, subst, arith}
+use Rattle.std.proofs.Common.{◌≡◌, ◌+◌, ◌≤◌, ℕ, List, [], ◌∷◌, ◌++◌, length, None, Option, sym, ap, subst, arith}
 use Rattle.std.proofs.lemmas.List.{length_push}
 use Rattle.circuits.specs.declared.port.Pair.{Pair}
 use Rattle.account_core.specs.declared.step.Ban.{Ban}
 use Rattle.account_core.specs.Covers.{IsImpossible}
 use Rattle.match_search.specs.declared.level.Level.{Level}
-use Rattle.match_search.specs.Levels.{nth_way, IsClosed, AreClosed}
+use Rattle.match_search.specs.Levels.{nth_way, AreClosed}
 use Rattle.match_search.proofs.ClosedLemmas.{closed_by_clash, closed_more}
 
 -- So many ways are closed at a level, those before among them.

@@ -1,8 +1,8 @@
 -- Ways that are closed.
-use Rattle.std.proofs.Common.{◌≡◌, ◌≢◌, ◌⊎◌, ℕ, zero, suc, ◌+◌, ◌*◌, ◌/◌, ◌%◌, ◌<◌, ◌≤◌, eqb, Bool, true, false, List, [], ◌∷◌, ◌++◌, length, map, get_or, All, AllPairs, Any, Option, None, Some, refl, sym, ap, subst, ◌∙◌, inl, inr, arith}
+use Rattle.std.proofs.Common.{◌≡◌, ℕ, zero, suc, ◌+◌, ◌*◌, ◌/◌, ◌%◌, ◌<◌, eqb, true, false, List, [], ◌∷◌, ◌++◌, length, get_or, All, Option, None, Some, refl, sym, ap, subst, ◌∙◌, arith}
 use Rattle.std.specs.Prelude.{Contains}
 use Rattle.std.specs.List.{AllZip, flat_map, range_with_len}
-use Rattle.std.proofs.lemmas.List.{get_or_default, get_or-map, append-nil, get_or_append_left}
+use Rattle.std.proofs.lemmas.List.{get_or-map, append-nil}
 use Rattle.std.proofs.lemmas.List.Elements.{All-weaker}
 use Rattle.std.proofs.lemmas.Option.{same_Some}
 use Rattle.circuits.specs.declared.port.Pair.{Pair}
@@ -10,8 +10,8 @@ use Rattle.circuits.specs.declared.port.PortKind.{PortKind}
 use Rattle.circuits.specs.Literals.{EachAt}
 use Rattle.account_core.specs.declared.step.Ban.{Ban}
 use Rattle.account_core.specs.Ports.{Clash}
-use Rattle.account_core.specs.Given.{ban_at, given_of, pairs_of, IsBanGiven}
-use Rattle.account_core.specs.Covers.{way, ways, IsImpossible, IsReference}
+use Rattle.account_core.specs.Given.{ban_at, given_of}
+use Rattle.account_core.specs.Covers.{way, ways, IsImpossible}
 use Rattle.match_search.specs.declared.level.Level.{Level}
 use Rattle.match_search.specs.Levels.{nth_way, IsClosed, AreClosed}
 use Rattle.match_search.proofs.ListLemmas.{any_more, cons_more, each_push}
@@ -72,9 +72,10 @@ zip_ways kind from R s (suc c) (a ∷ b ∷ refs) same each =
         let next = each (suc t) d (omega (arith, below)) in
         let n : s + suc t ≡ s + 1 + t = omega arith in
         let one : 2 * suc t ≡ suc (suc (2 * t)) = omega arith in
-        let other : 2 * suc t + 1 ≡ suc (suc (2 * t + 1)) = omega arith in
-        (subst (λ m. R (way kind from m false) (get_or refs (2 * t) d)) n (subst (λ k. R (way kind from (s + suc t) false) (get_or (a ∷ b ∷ refs) k d)) one next.0),
-         subst (λ m. R (way kind from m true) (get_or refs (2 * t + 1) d)) n (subst (λ k. R (way kind from (s + suc t) true) (get_or (a ∷ b ∷ refs) k d)) other next.1))
+        let other : 2 * suc t + 1 ≡ suc (suc (2 * t + 1)) = omega arith in (
+          subst (λ m. R (way kind from m false) (get_or refs (2 * t) d)) n (subst (λ k. R (way kind from (s + suc t) false) (get_or (a ∷ b ∷ refs) k d)) one next.0),
+          subst (λ m. R (way kind from m true) (get_or refs (2 * t + 1) d)) n (subst (λ k. R (way kind from (s + suc t) true) (get_or (a ∷ b ∷ refs) k d)) other next.1),
+        )
 
 plain_way : (kind : PortKind) (from t : ℕ) → nth_way kind from (2 * t) ≡ way kind from t false
 plain_way kind from t =

@@ -1,14 +1,13 @@
 -- Where all inputs are definite, all signals are, and have their bits.
-use Rattle.std.proofs.Common.{◌≡◌, ◌≢◌, ℕ, suc, ◌+◌, ◌<◌, ◌≤◌, ◌&&◌, Bool, true, false, cond, List, [], ◌∷◌, ◌++◌, length, map, get_or, All, refl, sym, ap, subst, ◌∙◌, arith}
-use Rattle.std.proofs.lemmas.List.{length-map, get_or-map, map_push, length_push}
+use Rattle.std.proofs.Common.{◌≡◌, ◌≢◌, ℕ, suc, ◌<◌, ◌&&◌, Bool, true, false, List, [], ◌∷◌, ◌++◌, length, map, All, refl, sym, ap, ◌∙◌, arith}
+use Rattle.std.proofs.lemmas.List.{length-map, get_or-map, map_push}
 use Rattle.circuits.specs.declared.netlist.Lit.{Lit}
 use Rattle.circuits.specs.declared.netlist.Gate.{Gate}
 use Rattle.circuits.specs.Literals.{bit, differ, signal_of, is_negated, literal_bit}
 use Rattle.circuits.specs.Netlists.{Net, IsOrdered, gate_bit, with_gates, function_of}
 use Rattle.circuits.proofs.Valuations.{ReadsBelow, first_operand, second_operand, ReadsBelow-tail, ReadsBelow-start, length-with_gates}
-use Rattle.word_sim.specs.declared.tri.Tri.{Tri}
-use Rattle.word_sim.specs.declared.tri.Tri.TheVariants.{Zero, One, X}
-use Rattle.word_sim.specs.ThreeValues.{tri_not, tri_and, tri_literal, tri_gate, with_tri_gates, tri_outputs}
+use Rattle.word_sim.specs.declared.tri.Tri.TheVariants.{X}
+use Rattle.word_sim.specs.ThreeValues.{tri_and, tri_literal, tri_gate, with_tri_gates, tri_outputs}
 use Rattle.account_core.specs.Vectors.{signed, value_at}
 use Rattle.match_search.specs.Differences.{of_bit}
 

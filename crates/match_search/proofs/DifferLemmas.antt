@@ -1,17 +1,16 @@
 -- A vector on which an output differs from its partner shows it on the pairs of all inputs.
-use Rattle.std.proofs.Common.{◌≡◌, ◌≢◌, ◌⊎◌, ℕ, suc, ◌+◌, ◌<◌, ◌≤◌, Bool, true, false, eqb, eq-eqb, List, [], ◌∷◌, ◌++◌, length, map, get_or, All, AllPairs, Option, Some, None, refl, sym, ap, subst, ◌∙◌, inl, inr, arith}
+use Rattle.std.proofs.Common.{◌≡◌, ◌≢◌, ◌⊎◌, ℕ, ◌<◌, Bool, true, false, eqb, eq-eqb, List, [], ◌∷◌, ◌++◌, length, map, get_or, All, Some, refl, sym, ap, subst, ◌∙◌, inl, inr, arith}
 use Rattle.std.specs.Prelude.{Contains, IsSome, find}
 use Rattle.std.proofs.lemmas.Bool.{cases_Bool, and_from, cond-true, cond-false, false≢true}
-use Rattle.std.specs.List.{range_with_len}
-use Rattle.std.proofs.lemmas.List.{length-map, length_push, get_or_append_left, get_or_push, get_or_default, get_or-map}
+use Rattle.std.proofs.lemmas.List.{length-map, get_or-map}
 use Rattle.std.proofs.lemmas.List.Elements.{All-contains, All-push, All-contains_itself, Contains-get_or, Contains-push, Contains-push_cases, Contains-append_left}
 use Rattle.std.proofs.lemmas.List.FromFn.{length-map-range_with_len, get_or-map-range_with_len}
 use Rattle.std.proofs.lemmas.List.Quantifiers.{all_pairs_push}
 use Rattle.circuits.specs.declared.port.Pair.{Pair}
 use Rattle.circuits.specs.declared.port.PortKind.{PortKind}
 use Rattle.circuits.specs.declared.port.PortKind.TheVariants.{Input, Output}
-use Rattle.circuits.specs.Literals.{bit, differ}
-use Rattle.circuits.specs.Netlists.{Net, function_of}
+use Rattle.circuits.specs.Literals.{bit}
+use Rattle.circuits.specs.Netlists.{function_of}
 use Rattle.circuits.specs.Bijections.{IsSignedBijection, moved, place_of, sign_of}
 use Rattle.circuits.specs.Matches.{HavePorts}
 use Rattle.circuits.proofs.Places.{moved-moves, length-moved, IsSignedBijection-onto}
@@ -22,9 +21,9 @@ use Rattle.query_core.specs.Images.{HasPair, Extends, entries_of, is_of, pair_of
 use Rattle.word_sim.specs.declared.tri.Tri.{Tri}
 use Rattle.word_sim.specs.declared.tri.Tri.TheVariants.{X}
 use Rattle.word_sim.specs.ThreeValues.{tri_outputs}
-use Rattle.account_core.specs.Ports.{IsKnown, AreOrdered, StandInOrder, ports_in}
+use Rattle.account_core.specs.Ports.{IsKnown, AreOrdered, StandInOrder}
 use Rattle.account_core.specs.Oracles.{IsDifference}
-use Rattle.account_core.specs.Vectors.{first_value, second_value, signed, value_at, values_sent, AreSent}
+use Rattle.account_core.specs.Vectors.{first_value, second_value, signed, value_at, AreSent}
 use Rattle.account_core.specs.declared.step.Step.TheVariants as step
 use Rattle.account_core.specs.Given.{Given}
 use Rattle.account_core.specs.Steps.{IsValidBan}

@@ -1,5 +1,5 @@
 -- Pairs that are gathered for a ban.
-use Rattle.std.proofs.Common.{◌≡◌, ◌⊎◌, ◌+◌, ◌<◌, ◌≤◌, ◌∙◌, ℕ, List, [], ◌∷◌, length, take, All, AllPairs, Option, None, Some, get_or, refl, sym, ap, subst, inl, inr, arith}
+use Rattle.std.proofs.Common.{◌≡◌, ◌+◌, ◌<◌, ◌∙◌, ℕ, List, [], ◌∷◌, length, take, All, Option, None, get_or, ap, subst, inl, inr, arith}
 use Rattle.std.specs.Prelude.{Contains}
 use Rattle.std.proofs.lemmas.Bool.{cases_lt}
 use Rattle.std.proofs.lemmas.List.{get_or_default}
@@ -41,10 +41,10 @@ pub needed_more : (bans : List Ban) (held : List Pair) (level : Level) (few more
 needed_more bans held level few more number ref below whole are part stays ref_is here = record {
   part = part;
   closed = λ k d less. elim (cases_lt k number) [
-      | inl before ↦ closed_stays bans held few more (nth_way level.kind level.from k) (get_or level.refs k d) (whole k d (omega (arith, before, below))) part.among stays (are.closed k d before)
-      | inr past ↦
-          let e : number ≡ k = omega (arith, less, past) in
-          let same : ref ≡ get_or level.refs k d = ref_is ∙ (get_or_default level.refs number None d below ∙ ap (λ n. get_or level.refs n d) e) in
-          subst (λ n. IsClosed bans more (nth_way level.kind level.from n) (get_or level.refs k d)) e (subst (IsClosed bans more (nth_way level.kind level.from number)) same here)
-    ];
+    | inl before ↦ closed_stays bans held few more (nth_way level.kind level.from k) (get_or level.refs k d) (whole k d (omega (arith, before, below))) part.among stays (are.closed k d before)
+    | inr past ↦
+        let e : number ≡ k = omega (arith, less, past) in
+        let same : ref ≡ get_or level.refs k d = ref_is ∙ (get_or_default level.refs number None d below ∙ ap (λ n. get_or level.refs n d) e) in
+        subst (λ n. IsClosed bans more (nth_way level.kind level.from n) (get_or level.refs k d)) e (subst (IsClosed bans more (nth_way level.kind level.from number)) same here)
+  ];
 }

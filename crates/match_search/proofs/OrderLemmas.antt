@@ -1,5 +1,5 @@
 -- How pairs stand in order.
-use Rattle.std.proofs.Common.{◌≡◌, ◌≢◌, ◌⊎◌, ℕ, ◌+◌, ◌<◌, ◌≤◌, List, length, take, get_or, All, AllPairs, refl, sym, ap, subst, ◌∙◌, inl, inr, arith}
+use Rattle.std.proofs.Common.{◌≡◌, ◌≢◌, ◌⊎◌, ℕ, ◌+◌, ◌<◌, ◌≤◌, List, length, take, get_or, All, AllPairs, refl, sym, subst, ◌∙◌, inl, inr, arith}
 use Rattle.std.specs.Prelude.{Contains}
 use Rattle.std.specs.List.{insert}
 use Rattle.std.proofs.lemmas.Bool.{cases_order}
@@ -8,7 +8,7 @@ use Rattle.std.proofs.lemmas.List.Elements.{All-more}
 use Rattle.circuits.specs.declared.port.Pair.{Pair}
 use Rattle.circuits.specs.declared.port.PortKind.{PortKind}
 use Rattle.circuits.specs.declared.port.PortKind.TheVariants.{Input, Output}
-use Rattle.account_core.specs.Ports.{StandInOrder, AreOrdered, Clash}
+use Rattle.account_core.specs.Ports.{StandInOrder, AreOrdered}
 use Rattle.match_search.specs.Held.{AreApart, ArePortsInTurn, StandsBefore}
 use Rattle.match_search.proofs.ListLemmas.{all_pairs_insert, apart_or_same}
 

@@ -1,9 +1,9 @@
 -- States of a search.
-use Rattle.std.proofs.Common.{◌≡◌, ◌≢◌, ◌⊎◌, ℕ, zero, suc, ◌+◌, ◌-◌, ◌*◌, ◌/◌, ◌%◌, ◌<◌, ◌≤◌, Bool, true, false, List, [], ◌∷◌, ◌++◌, length, map, take, get_or, All, AllPairs, Any, Option, None, Some, refl, sym, ap, subst, ◌∙◌, inl, inr, arith}
+use Rattle.std.proofs.Common.{◌≡◌, ◌⊎◌, ℕ, ◌+◌, ◌*◌, ◌/◌, ◌<◌, ◌≤◌, Bool, true, List, [], ◌∷◌, ◌++◌, length, map, take, get_or, All, Option, None, Some, refl, sym, ap, subst, ◌∙◌, inl, inr, arith}
 use Rattle.std.specs.Prelude.{Contains}
 use Rattle.std.proofs.lemmas.Bool.{cases_lt, cases_Bool}
-use Rattle.std.proofs.lemmas.List.{get_or_default, get_or_append_left, get_or_push, length_push, length-append, length-map, length-take, get_or-take, get_or-map, take-append-le, take_all, take_at, map-append, map_push, same_from_push, append-nil}
-use Rattle.std.proofs.lemmas.List.Elements.{All-contains, All-push, All-weaker, Contains-push, Contains-push_cases, Contains-append_left, Contains-get_or}
+use Rattle.std.proofs.lemmas.List.{get_or_default, get_or_append_left, get_or_push, length_push, length-append, length-map, take-append-le, take_at, map-append, map_push, same_from_push}
+use Rattle.std.proofs.lemmas.List.Elements.{All-push, Contains-push_cases, Contains-get_or}
 use Rattle.std.proofs.lemmas.List.Quantifiers.{all_pairs_push}
 use Rattle.circuits.specs.declared.port.Pair.{Pair}
 use Rattle.circuits.specs.declared.port.PortKind.{PortKind}
@@ -14,17 +14,16 @@ use Rattle.account_core.specs.declared.step.Ban.{Ban}
 use Rattle.account_core.specs.declared.step.Step.TheVariants as step
 use Rattle.account_core.specs.Given.{ban_at, given_of, pairs_of}
 use Rattle.account_core.specs.Ports.{ports_in, Clash, IsKnown}
-use Rattle.account_core.specs.Covers.{IsImpossible}
-use Rattle.ban_book.specs.Covering.{Covers, IsWithin}
+use Rattle.ban_book.specs.Covering.{Covers}
 use Rattle.match_search.specs.declared.level.Level.{Level}
 use Rattle.match_search.specs.declared.state.State.{State}
-use Rattle.match_search.specs.Held.{AreApart, AreHeld, IsOf, IsTaken}
-use Rattle.match_search.specs.Levels.{nth_way, ways_of, chosen, AreClosed, ClosesImpossible, HoldsMore, IsClosed, IsOpen, IsSearch, IsTried}
+use Rattle.match_search.specs.Held.{AreApart, IsOf, IsTaken}
+use Rattle.match_search.specs.Levels.{nth_way, ways_of, chosen, ClosesImpossible, HoldsMore, IsClosed, IsOpen, IsSearch, IsTried}
 use Rattle.match_search.specs.Founds.{IsEmptyBan}
-use Rattle.match_search.specs.Progress.{left_at, left_in, most_ways, TurnsBack}
-use Rattle.match_search.specs.States.{GoesOn, IsSearchState, IsStuck}
+use Rattle.match_search.specs.Progress.{left_at, left_in, most_ways}
+use Rattle.match_search.specs.States.{GoesOn, IsSearchState}
 use Rattle.match_search.proofs.ListLemmas.{any_of_contained, contains_cons}
-use Rattle.match_search.proofs.ClosedLemmas.{closed_by_ban, closed_more, ban_pairs}
+use Rattle.match_search.proofs.ClosedLemmas.{closed_by_ban, closed_more}
 
 module _ (graphs : Graphs) (before after : List Ban) (more : HoldsMore graphs before after) where
   pairs_later : (ban : ℕ) → ban < length before → ban_at (given_of [] after) ban ≡ ban_at (given_of [] before) ban
@@ -89,11 +88,11 @@ search_more graphs bans held levels level search tried room open' = record {
   };
   tried = ap (λ l. l ++ chosen level ∷ []) search.tried ∙ sym (map_push chosen levels level);
   each = λ i d below. elim (cases_lt i (length levels)) [
-      | inl less ↦ subst (IsTried graphs bans (take i (held ++ chosen level ∷ []))) (sym (get_or_append_left levels (level ∷ []) d i less)) (subst (λ l. IsTried graphs bans l (get_or levels i d)) (sym (take-append-le i held (chosen level ∷ []) (omega (arith, less, size)))) (search.each i d less))
-      | inr past ↦
-          let e : length levels ≡ i = omega (arith, below, past, length_push levels level) in
-          subst (IsTried graphs bans (take i (held ++ chosen level ∷ []))) (sym (get_or_push levels level d i e)) (subst (λ l. IsTried graphs bans l level) (sym (take_at held (chosen level ∷ []) i (omega (arith, e, size)))) tried)
-    ];
+    | inl less ↦ subst (IsTried graphs bans (take i (held ++ chosen level ∷ []))) (sym (get_or_append_left levels (level ∷ []) d i less)) (subst (λ l. IsTried graphs bans l (get_or levels i d)) (sym (take-append-le i held (chosen level ∷ []) (omega (arith, less, size)))) (search.each i d less))
+    | inr past ↦
+        let e : length levels ≡ i = omega (arith, below, past, length_push levels level) in
+        subst (IsTried graphs bans (take i (held ++ chosen level ∷ []))) (sym (get_or_push levels level d i e)) (subst (λ l. IsTried graphs bans l level) (sym (take_at held (chosen level ∷ []) i (omega (arith, e, size)))) tried)
+  ];
 }
   where
     size : length held ≡ length levels

@@ -1,5 +1,5 @@
 -- The table of pairs of all ports.
-use Rattle.std.proofs.Common.{◌≡◌, ◌≢◌, ◌⊎◌, ℕ, ◌<◌, ◌≤◌, Bool, false, List, length, get_or, All, AllPairs, refl, sym, ap, subst, ◌∙◌, inl, inr, arith}
+use Rattle.std.proofs.Common.{◌≡◌, ◌≢◌, ℕ, ◌<◌, Bool, false, List, length, get_or, All, AllPairs, sym, ap, subst, ◌∙◌, inl, inr, arith}
 use Rattle.std.specs.Prelude.{Contains}
 use Rattle.std.proofs.lemmas.List.{get_or_default}
 use Rattle.std.proofs.lemmas.List.Elements.{All-contains}
@@ -8,7 +8,7 @@ use Rattle.circuits.specs.declared.port.PortKind.{PortKind}
 use Rattle.circuits.specs.Bijections.{IsSignedBijection}
 use Rattle.net_core.specs.declared.graphs.Graphs.{Graphs}
 use Rattle.account_core.specs.Ports.{ports_in, IsKnown}
-use Rattle.match_search.specs.Held.{AreApart, AreHeld, IsEntryOf, IsOf, IsWhole}
+use Rattle.match_search.specs.Held.{AreHeld, IsEntryOf, IsOf, IsWhole}
 use Rattle.match_search.proofs.ListLemmas.{contained_of_any}
 use Rattle.match_search.proofs.OrderLemmas.{held_apart}
 
@@ -21,12 +21,14 @@ pub record IsPaired (held : List Pair) (kind : PortKind) (entries : List (ℕ ×
 pub paired : (graphs : Graphs) (held : List Pair) (kind : PortKind) (entries : List (ℕ × Bool)) → IsWhole graphs held → All (IsEntryOf kind entries) held → (port : ℕ) → port < ports_in graphs.first kind → (pair : Pair) × IsPaired held kind entries port pair
 paired graphs held kind entries whole are port below =
     let any = whole kind port below in
-    let there = contained_of_any (IsOf kind port) held any in
-    (any.1, record {
-      there = there;
-      is = any.4;
-      entry = ap (λ k. get_or entries k (0, false)) (sym any.4.port_is) ∙ All-contains (IsEntryOf kind entries) held any.1 are there any.4.kind_is;
-    })
+    let there = contained_of_any (IsOf kind port) held any in (
+      any.1,
+      record {
+        there = there;
+        is = any.4;
+        entry = ap (λ k. get_or entries k (0, false)) (sym any.4.port_is) ∙ All-contains (IsEntryOf kind entries) held any.1 are there any.4.kind_is;
+      },
+    )
 
 pub bijection : (graphs : Graphs) (held : List Pair) (kind : PortKind) (entries : List (ℕ × Bool)) (n : ℕ) → AreHeld graphs held → IsWhole graphs held → ports_in graphs.first kind ≡ n → ports_in graphs.second kind ≡ n → length entries ≡ n → All (IsEntryOf kind entries) held → IsSignedBijection n entries
 bijection graphs held kind entries n held_are whole first second size are = record {

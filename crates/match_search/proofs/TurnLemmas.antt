@@ -1,12 +1,12 @@
 -- Going back from a ban.
-use Rattle.std.proofs.Common.{◌≡◌, ◌⊎◌, ℕ, suc, ◌+◌, ◌-◌, ◌<◌, ◌≤◌, List, [], ◌∷◌, ◌++◌, length, map, take, get_or, refl, sym, ap, subst, ◌∙◌, arith}
+use Rattle.std.proofs.Common.{◌≡◌, ℕ, ◌+◌, ◌-◌, ◌<◌, ◌≤◌, List, [], ◌∷◌, ◌++◌, length, take, get_or, sym, ap, subst, ◌∙◌, arith}
 use Rattle.std.proofs.lemmas.List.{length_push, length-map, take_all, take_more, map_push, same_from_push}
 use Rattle.net_core.specs.declared.graphs.Graphs.{Graphs}
 use Rattle.account_core.specs.declared.step.Ban.{Ban}
 use Rattle.ban_book.specs.Covering.{Covers}
 use Rattle.match_search.specs.declared.level.Level.{Level}
 use Rattle.match_search.specs.declared.state.State.{State}
-use Rattle.match_search.specs.Levels.{chosen, HoldsMore, IsSearch}
+use Rattle.match_search.specs.Levels.{chosen, HoldsMore}
 use Rattle.match_search.specs.Levels.{ways_of}
 use Rattle.match_search.specs.Progress.{left_at, left_in, TurnsBack}
 use Rattle.match_search.specs.States.{GoesOn, IsSearchState, IsStuck}

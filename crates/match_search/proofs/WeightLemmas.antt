@@ -1,9 +1,9 @@
 -- That a search has less and less left.
-use Rattle.std.proofs.Common.{◌≡◌, ◌≢◌, ◌⊎◌, ℕ, zero, suc, ◌+◌, ◌-◌, ◌*◌, ◌<◌, ◌≤◌, eqb, Bool, true, false, List, [], ◌∷◌, ◌++◌, length, map, take, get_or, All, AllPairs, refl, sym, ap, subst, ◌∙◌, inl, inr, arith, eqb-true}
+use Rattle.std.proofs.Common.{◌≡◌, ◌≢◌, ℕ, zero, suc, ◌+◌, ◌*◌, ◌<◌, ◌≤◌, eqb, true, false, List, [], ◌∷◌, ◌++◌, length, map, take, get_or, AllPairs, refl, sym, ap, subst, ◌∙◌, inl, inr, arith, eqb-true}
 use Rattle.std.specs.List.{list_any}
 use Rattle.std.proofs.lemmas.Bool.{or_cases}
 use Rattle.std.proofs.lemmas.Bool.Decides.{Decides-eqb}
-use Rattle.std.proofs.lemmas.List.{length-map, get_or-map, length_push, get_or_default}
+use Rattle.std.proofs.lemmas.List.{length-map, get_or-map, length_push}
 use Rattle.std.proofs.lemmas.Map.Made.{IsDistinct-from_AllPairs}
 use Rattle.std.proofs.lemmas.Map.Steps.{length-le_from_distinct_below}
 use Rattle.std.proofs.lemmas.Nat.{row_fits}
@@ -13,10 +13,9 @@ use Rattle.circuits.specs.declared.port.PortKind.TheVariants.{Input, Output}
 use Rattle.net_core.specs.declared.graphs.Graphs.{Graphs}
 use Rattle.account_core.specs.Ports.{ports_in, IsKnown}
 use Rattle.account_core.specs.declared.step.Ban.{Ban}
-use Rattle.match_search.specs.declared.level.Level.{Level}
 use Rattle.match_search.specs.declared.state.State.{State}
-use Rattle.match_search.specs.Held.{AreApart, AreHeld}
-use Rattle.match_search.specs.Levels.{chosen, IsSearch}
+use Rattle.match_search.specs.Held.{AreHeld}
+use Rattle.match_search.specs.Levels.{chosen}
 use Rattle.match_search.specs.Progress.{depth_of, left, left_at, left_in, most_ways, radix_of, weight, whole, TurnsBack}
 use Rattle.match_search.specs.States.{GoesOn, IsSearchState}
 

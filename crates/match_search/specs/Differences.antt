@@ -1,5 +1,5 @@
 -- Vectors on which an output differs from its partner, as values of a ban (three values: Eichelberger, IBM J. Res. Dev. 1965).
-use Rattle.std.specs.Prelude.{◌≡◌, ◌≢◌, ℕ, ◌<◌, Bool, true, false, List, length, map, remove, All, Contains, slice_index_or}
+use Rattle.std.specs.Prelude.{◌≡◌, ◌≢◌, ℕ, Bool, true, false, List, length, map, remove, All, Contains, slice_index_or}
 use Rattle.std.specs.List.{range_with_len}
 use Rattle.circuits.specs.Bijections.{place_of, sign_of}
 use Rattle.circuits.specs.declared.port.Pair.{Pair}

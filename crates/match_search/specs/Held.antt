@@ -1,5 +1,5 @@
 -- Pairs that are held while a match is sought (partial signed bijections: Katebi and Markov, DATE 2010).
-use Rattle.std.specs.Prelude.{◌≡◌, ◌≢◌, ℕ, ◌<◌, ⊤, Bool, false, List, length, All, AllPairs, Any, Contains, slice_index_or}
+use Rattle.std.specs.Prelude.{◌≡◌, ◌≢◌, ℕ, ◌<◌, ⊤, Bool, false, List, All, AllPairs, Any, Contains, slice_index_or}
 use Rattle.circuits.specs.declared.port.Pair.{Pair}
 use Rattle.circuits.specs.declared.port.PortKind.{PortKind}
 use Rattle.circuits.specs.declared.port.PortKind.TheVariants.{Input, Output}

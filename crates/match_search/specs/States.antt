@@ -1,6 +1,5 @@
 -- What a step of a search leaves.
-use Rattle.std.specs.Prelude.{◌≡◌, ℕ, ◌<◌, ◌≤◌, List, [], ◌∷◌, ◌++◌, length, map, Option, Some, None}
-use Rattle.circuits.specs.declared.port.Pair.{Pair}
+use Rattle.std.specs.Prelude.{◌≡◌, ℕ, ◌≤◌, List, [], ◌∷◌, ◌++◌, map, Option, Some, None}
 use Rattle.net_core.specs.declared.graphs.Graphs.{Graphs}
 use Rattle.query_core.specs.Ledgers.{Ledgered}
 use Rattle.account_core.specs.declared.step.Ban.{Ban}
@@ -8,7 +7,6 @@ use Rattle.account_core.specs.Given.{decided_by}
 use Rattle.account_core.specs.Oracles.{Known, Grows, Suits, Keeps}
 use Rattle.account_core.specs.Steps.{AreValidBans}
 use Rattle.ban_book.specs.Covering.{Covers}
-use Rattle.match_search.specs.declared.level.Level.{Level}
 use Rattle.match_search.specs.declared.state.State.{State}
 use Rattle.match_search.specs.Levels.{IsSearch}
 use Rattle.match_search.specs.declared.ahead.Ahead.{Ahead}

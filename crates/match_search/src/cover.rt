@@ -96,7 +96,12 @@ fn ports_up_to(alloc: Global, count: u32) -> Result<Items<u32>, AllocError>
 }
 
 // The held pairs that the ways of a level need to be closed.
-fn needed(alloc: Global, held: &[Pair], level: &Level, bans: &[Ban]) -> Result<Vec<Pair>, AllocError>
+fn needed(
+    alloc: Global,
+    held: &[Pair],
+    level: &Level,
+    bans: &[Ban],
+) -> Result<Vec<Pair>, AllocError>
     requires few { length level.now.refs ≤ 2 ^ 33 }
     requires apart { AllPairs AreApart held.now }
     requires closed { AreClosed bans.now held.now level.now }
@@ -151,7 +156,12 @@ fn add_clashing(needed: &mut Vec<Pair>, held: &[Pair], way: Pair) -> Result<(), 
 }
 
 // Adds pairs of a ban, but for the way itself.
-fn add_others(needed: &mut Vec<Pair>, held: &[Pair], way: Pair, pairs: &[Pair]) -> Result<(), AllocError>
+fn add_others(
+    needed: &mut Vec<Pair>,
+    held: &[Pair],
+    way: Pair,
+    pairs: &[Pair],
+) -> Result<(), AllocError>
     requires part { IsPart held.now needed.old.items }
     requires apart { AllPairs AreApart held.now }
     requires among { All (Contains (way ∷ held.now)) pairs.now }
@@ -166,7 +176,12 @@ fn add_others(needed: &mut Vec<Pair>, held: &[Pair], way: Pair, pairs: &[Pair]) 
 }
 
 // Adds a held pair, unless it is the way itself.
-fn add_unless(needed: &mut Vec<Pair>, held: &[Pair], way: Pair, pair: Pair) -> Result<(), AllocError>
+fn add_unless(
+    needed: &mut Vec<Pair>,
+    held: &[Pair],
+    way: Pair,
+    pair: Pair,
+) -> Result<(), AllocError>
     requires part { IsPart held.now needed.old.items }
     requires apart { AllPairs AreApart held.now }
     requires held { Contains (way ∷ held.now) pair }

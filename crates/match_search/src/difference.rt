@@ -214,7 +214,12 @@ fn is_wrong(
 }
 
 // The value of an output where the inputs have these values.
-fn output_value(alloc: Global, graph: &Graph, inputs: &[Tri], output: u32) -> Result<Tri, AllocError>
+fn output_value(
+    alloc: Global,
+    graph: &Graph,
+    inputs: &[Tri],
+    output: u32,
+) -> Result<Tri, AllocError>
     requires inputs { length inputs.now ≡ graph.now.inputs }
     requires output { output < length graph.now.outputs }
     ensures { IfOk result (λ value. value ≡ value_at (tri_outputs graph.now inputs.now) output) }

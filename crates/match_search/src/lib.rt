@@ -15,5 +15,5 @@ mod state;
 mod table;
 mod tries;
 
-pub use found::Found;
 pub use branching::search;
+pub use found::Found;

@@ -1,4 +1,4 @@
-use Rattle.std.proofs.Common.{◌≡◌, ◌∙◌, sym, subst, ap, refl, Option, ℕ, Some}
+use Rattle.std.proofs.Common.{sym, subst}
 use Rattle.match_search.specs.declared.state.State.{State}
 use Rattle.match_search.specs.Progress.{left_at}
 use Rattle.match_search.specs.States.{IsSearchState, IsStuck, Tries}

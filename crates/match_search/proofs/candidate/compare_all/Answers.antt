@@ -1,4 +1,4 @@
-use Rattle.std.proofs.Common.{◌≡◌, ◌∙◌, ◌<◌, length, sym, subst, ap, refl, arith}
+use Rattle.std.proofs.Common.{◌∙◌, ◌<◌, length, sym, subst, ap, refl, arith}
 use Rattle.std.proofs.lemmas.Result.{err_from_is_err_and}
 use Rattle.circuits.specs.Matches.{HavePorts}
 use Rattle.net_core.specs.declared.graphs.Graphs.{Graphs}

@@ -1,4 +1,4 @@
-use Rattle.std.proofs.Common.{◌≡◌, List, sym, subst, refl}
+use Rattle.std.proofs.Common.{List, sym, subst, refl}
 use Rattle.circuits.specs.declared.port.Pair.{Pair}
 use Rattle.query_core.specs.Images.{Extends}
 use Rattle.match_search.specs.Held.{IsWhole}

@@ -1,7 +1,6 @@
-use Rattle.std.proofs.Common.{◌≡◌, ◌∷◌, All, List, Some, sym, subst, refl, get_or}
+use Rattle.std.proofs.Common.{◌∷◌, All, sym, subst, refl}
 use Rattle.std.specs.Prelude.{Contains}
 use Rattle.circuits.specs.declared.port.Pair.{Pair}
-use Rattle.account_core.specs.declared.step.Ban.{Ban}
 use Rattle.account_core.specs.Ports.{Clash}
 use Rattle.match_search.specs.Levels.{IsClosed}
 use Rattle.match_search.proofs.ListLemmas.{any_more}

@@ -1,4 +1,4 @@
-use Rattle.std.proofs.Common.{◌∷◌, take, All}
+use Rattle.std.proofs.Common.{take}
 use Rattle.match_search.proofs.GatherLemmas.{IsGathering}
 use Rattle.match_search.proofs.cover.add_others.Given as goal
 

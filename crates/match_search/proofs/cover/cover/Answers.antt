@@ -1,4 +1,4 @@
-use Rattle.std.proofs.Common.{◌≡◌, ◌∙◌, sym, subst, ap, List}
+use Rattle.std.proofs.Common.{subst, List}
 use Rattle.account_core.specs.declared.step.Ban.{Ban}
 use Rattle.account_core.specs.Given.{Decided, given_of}
 use Rattle.account_core.specs.Steps.{IsValidBan}

@@ -1,4 +1,4 @@
-use Rattle.std.proofs.Common.{◌≡◌, ◌∙◌, sym, subst, ap, All, ℕ}
+use Rattle.std.proofs.Common.{◌∙◌, sym, subst, ap, All}
 use Rattle.std.specs.Prelude.{Contains}
 use Rattle.std.specs.List.{range_with_len}
 use Rattle.match_search.proofs.BookLemmas.{cover_valid_of}

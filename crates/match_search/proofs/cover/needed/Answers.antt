@@ -1,4 +1,4 @@
-use Rattle.std.proofs.Common.{◌≡◌, Option, None, List, ℕ, sym, subst, ap, arith, get_or}
+use Rattle.std.proofs.Common.{Option, None, List, ℕ, sym, subst, ap, arith, get_or}
 use Rattle.circuits.specs.declared.port.Pair.{Pair}
 use Rattle.match_search.specs.Levels.{IsClosed}
 use Rattle.match_search.proofs.GatherLemmas.{AreNeeded, needed_none, needed_more}

@@ -1,4 +1,4 @@
-use Rattle.std.proofs.Common.{◌≡◌, ◌++◌, ◌∷◌, [], ◌∙◌, sym, ap}
+use Rattle.std.proofs.Common.{◌++◌, ◌∷◌, [], ◌∙◌, sym, ap}
 use Rattle.match_search.proofs.ListLemmas.{range_more}
 use Rattle.match_search.proofs.cover.ports_up_to.Goals as goal
 

@@ -1,4 +1,4 @@
-use Rattle.std.proofs.Common.{◌≡◌, ◌++◌, ◌∷◌, [], ◌+◌, ◌∙◌, sym, ap, map, drop, false, arith}
+use Rattle.std.proofs.Common.{◌++◌, ◌∷◌, [], ◌+◌, ◌∙◌, ap, map, drop, false, arith}
 use Rattle.match_search.specs.Differences.{of_bit}
 use Rattle.match_search.proofs.ListLemmas.{made_more}
 use Rattle.match_search.proofs.difference.definite.Goals as goal

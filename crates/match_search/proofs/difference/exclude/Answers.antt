@@ -1,12 +1,11 @@
-use Rattle.std.proofs.Common.{◌≡◌, ◌∙◌, ◌++◌, ◌∷◌, [], List, All, map, sym, subst, ap, refl}
+use Rattle.std.proofs.Common.{◌∙◌, ◌++◌, ◌∷◌, [], All, map, sym, subst, ap}
 use Rattle.std.specs.Prelude.{Contains}
 use Rattle.circuits.specs.declared.port.Pair.{Pair}
 use Rattle.circuits.specs.declared.port.PortKind.TheVariants.{Input, Output}
-use Rattle.word_sim.specs.declared.tri.Tri.{Tri}
 use Rattle.account_core.specs.declared.step.Step.TheVariants as step
 use Rattle.account_core.specs.Given.{given_of}
 use Rattle.account_core.specs.Ports.{IsKnown}
-use Rattle.match_search.specs.Differences.{of_bit, pair_from, pairs_from, IsShown}
+use Rattle.match_search.specs.Differences.{of_bit, pair_from, pairs_from}
 use Rattle.match_search.proofs.ListLemmas.{among_more}
 use Rattle.match_search.proofs.BookLemmas.{holds_one, covers_last}
 use Rattle.match_search.proofs.DifferLemmas.{pair_known, shown_whole, shown_as, among_held, vector_valid_of}

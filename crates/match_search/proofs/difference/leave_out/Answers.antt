@@ -1,4 +1,3 @@
-use Rattle.std.proofs.Common.{◌≡◌}
 use Rattle.match_search.proofs.difference.leave_out.Goals as goal
 
 pub loop-place-preserved : goal.loop-place-preserved

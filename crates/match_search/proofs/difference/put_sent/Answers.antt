@@ -1,4 +1,4 @@
-use Rattle.std.proofs.Common.{◌≡◌, length, List, subst, refl, arith}
+use Rattle.std.proofs.Common.{length, List, subst, refl}
 use Rattle.std.proofs.lemmas.List.{take_all, get_or_default}
 use Rattle.circuits.specs.declared.port.Pair.{Pair}
 use Rattle.account_core.specs.Vectors.{AreSent}

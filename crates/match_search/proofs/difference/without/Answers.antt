@@ -1,7 +1,6 @@
-use Rattle.std.proofs.Common.{◌≡◌, ◌∙◌, ◌+◌, List, suc, take, drop, All, AllPairs, length, sym, ap, subst}
+use Rattle.std.proofs.Common.{◌∙◌, suc, take, drop, All, sym, subst}
 use Rattle.std.proofs.lemmas.List.Elements.{All-append, All-take, All-drop}
 use Rattle.std.proofs.lemmas.List.Quantifiers.{all_pairs_remove}
-use Rattle.circuits.specs.declared.port.Pair.{Pair}
 use Rattle.account_core.specs.Ports.{AreOrdered, IsKnown, StandInOrder}
 use Rattle.match_search.proofs.difference.without.Goals as goal
 

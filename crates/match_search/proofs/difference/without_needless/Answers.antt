@@ -1,4 +1,4 @@
-use Rattle.std.proofs.Common.{◌≡◌, List, subst, ap}
+use Rattle.std.proofs.Common.{List, subst}
 use Rattle.circuits.specs.declared.port.Pair.{Pair}
 use Rattle.match_search.specs.Differences.{IsLeftOut}
 use Rattle.match_search.proofs.ShownLemmas.{shown_less, left_long}

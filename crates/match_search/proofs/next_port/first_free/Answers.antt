@@ -1,4 +1,4 @@
-use Rattle.std.proofs.Common.{◌≡◌, ℕ, ◌<◌, arith, below_more}
+use Rattle.std.proofs.Common.{arith, below_more}
 use Rattle.match_search.proofs.next_port.first_free.Goals as goal
 
 pub loop-port-preserved : goal.loop-port-preserved

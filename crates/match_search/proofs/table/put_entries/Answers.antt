@@ -1,4 +1,3 @@
-use Rattle.std.proofs.Common.{◌≡◌}
 use Rattle.match_search.specs.Held.{IsEntryOf}
 use Rattle.match_search.proofs.OrderLemmas.{held_more}
 use Rattle.match_search.proofs.table.put_entries.Goals as goal

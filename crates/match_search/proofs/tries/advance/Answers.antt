@@ -1,4 +1,4 @@
-use Rattle.std.proofs.Common.{◌≡◌, ◌∙◌, ◌*◌, Bool, List, sym, subst, ap}
+use Rattle.std.proofs.Common.{◌*◌, Bool, List, sym, subst, ap}
 use Rattle.circuits.specs.declared.port.Pair.{Pair}
 use Rattle.match_search.specs.Levels.{ClosesImpossible, IsTried}
 use Rattle.match_search.proofs.StateLemmas.{goes_on, tried_closed}

@@ -1,7 +1,6 @@
-use Rattle.std.proofs.Common.{◌≡◌, ◌∙◌, ◌++◌, ◌∷◌, ◌-◌, [], List, Option, ℕ, None, Some, sym, subst, ap, refl}
+use Rattle.std.proofs.Common.{◌-◌, List, subst, refl}
 use Rattle.circuits.specs.declared.port.Pair.{Pair}
 use Rattle.ban_book.specs.Covering.{Covers}
-use Rattle.match_search.specs.Levels.{IsSearch}
 use Rattle.match_search.specs.Progress.{left_at}
 use Rattle.match_search.specs.States.{GoesOn, IsStuck, Tries}
 use Rattle.match_search.proofs.BookLemmas.{holds_twice}

@@ -1,4 +1,4 @@
-use Rattle.std.proofs.Common.{◌≡◌, ◌∙◌, sym, subst, ap}
+use Rattle.std.proofs.Common.{subst}
 use Rattle.account_core.specs.Covers.{IsImpossible}
 use Rattle.match_search.proofs.CloseLemmas.{closing_more}
 use Rattle.match_search.proofs.level.Level.close_clashing.Goals as goal
