@@ -1,26 +1,23 @@
--- What a solver's answer over all clauses of a query says of the query.
-use Rattle.std.proofs.Common.{◌≡◌, ℕ, ◌+◌, ◌<◌, Bool, false, List, [], ◌∷◌, ◌++◌, length, map, take, All, slice_index_or, sym, ◌∙◌, ap, subst, arith}
-use Rattle.std.specs.List.{range_with_len}
-use Rattle.std.proofs.lemmas.List.{ext_get_or, map-id}
-use Rattle.std.proofs.lemmas.List.FromFn.{get_or-map-range_with_len, get_or-range_with_len, length-map-range_with_len, length-range_with_len, map-range_with_len_more}
+-- What a solver's answer over the clauses of a query's cones says of the query.
+use Rattle.std.proofs.Common.{◌≡◌, ◌↔◌, ℕ, ◌+◌, ◌<◌, Bool, true, false, List, [], ◌∷◌, ◌++◌, length, take, All, Contains, slice_index_or, sym, ◌∙◌, ap, subst, arith}
+use Rattle.std.proofs.lemmas.List.{get_or-map, get_or_append_left, get_or-append-add, length-append, length-map}
+use Rattle.std.proofs.lemmas.List.FromFn.{length-map-range_with_len, map-range_with_len_more}
 use Rattle.circuits.specs.Literals.{bit}
 use Rattle.cnf_core.specs.declared.literal.SatLit.{SatLit}
 use Rattle.cnf_core.specs.declared.stop.Stop.{Stop}
 use Rattle.cnf_core.specs.declared.stop.Stop.TheVariants.{Spent, Memory}
-use Rattle.cnf_core.specs.Clauses.{Meets, clause_at}
+use Rattle.cnf_core.specs.Clauses.{Formula, Meets, clause_at, is_met}
 use Rattle.cnf_core.specs.Derivations.{clauses_of, line_fault}
 use Rattle.net_core.specs.declared.graphs.Graphs.{Graphs}
 use Rattle.query_core.specs.declared.query.Query.{Query}
 use Rattle.query_core.specs.Queries.{vector_in}
-use Rattle.query_core.specs.Formulas.{formula_of, query_clauses}
+use Rattle.query_core.specs.Formulas.{Asking, formula_of}
+use Rattle.query_core.specs.ConeClauses.{AllOfCones, IsConeId, MeetsCones}
 use Rattle.query_core.specs.Ledgers.{Ledgered, opened, with_lines}
 use Rattle.learn_solver.specs.Analyses.{has_all}
 use Rattle.learn_solver.specs.Solvers.{IsExtended, Solving, wanted}
 use Rattle.learn_solver.specs.Solvers.{IsStopped as IsSolverStopped}
 use Rattle.ask_core.specs.Answers.{IsAskedIn, IsStopped}
-
-pub numbers_more : (n : ℕ) → range_with_len 0 (n + 1) ≡ range_with_len 0 n ++ n ∷ []
-numbers_more n = sym (map-id (range_with_len 0 (n + 1))) ∙ (map-range_with_len_more (λ (k : ℕ). k) 0 n n (omega arith) ∙ ap (λ (ks : List ℕ). ks ++ n ∷ []) (map-id (range_with_len 0 n)))
 
 pub vector_more : (n : ℕ) (values : List Bool) → vector_in (n + 1) values ≡ vector_in n values ++ bit values (1 + n) ∷ []
 vector_more n values = map-range_with_len_more (λ i. bit values (1 + i)) 0 n n (omega arith)
@@ -28,51 +25,67 @@ vector_more n values = map-range_with_len_more (λ i. bit values (1 + i)) 0 n n 
 pub vector_length : (n : ℕ) (values : List Bool) → length (vector_in n values) ≡ n
 vector_length n values = length-map-range_with_len (λ i. bit values (1 + i)) 0 n
 
--- each number is below the count
-pub number_below : (n : ℕ) (ids : List ℕ) → ids ≡ range_with_len 0 n → (k d : ℕ) → k < length ids → slice_index_or ids k d < n
-number_below n ids are k d within =
-    let inside : k < n = omega (arith, within, ap length are, length-range_with_len 0 n) in
-    omega (arith, ap (λ (ks : List ℕ). slice_index_or ks k d) are, get_or-range_with_len 0 n k d inside, inside)
+-- what holds of all clauses that are to be met holds of that of each number
+wanted-each : (P : List SatLit → Type 0) (formula : Formula) (ids : List ℕ) (id : ℕ) → All P (wanted formula ids) → Contains ids id → P (clause_at formula.clauses id)
+wanted-each P formula ids id all (k, within, is) =
+    let here : k < length (wanted formula ids) = omega (arith, within, length-map ids (clause_at formula.clauses)) in
+    subst (λ j. P (clause_at formula.clauses j)) is (subst P (get_or-map (clause_at formula.clauses) ids k id [] within) (all k [] here))
 
--- all numbers name all clauses
-pub all_wanted : (clauses : List (List SatLit)) → map (clause_at clauses) (range_with_len 0 (length clauses)) ≡ clauses
-all_wanted clauses =
-    let size = length-map-range_with_len (clause_at clauses) 0 (length clauses) in
-    ext_get_or [] (map (clause_at clauses) (range_with_len 0 (length clauses))) clauses size (λ i h. get_or-map-range_with_len (clause_at clauses) 0 (length clauses) i i [] (omega (arith, h, size)) (omega arith))
+-- what holds of all holds of those in front and of those behind
+front-all : (P : List SatLit → Type 0) (xs ys : List (List SatLit)) → All P (xs ++ ys) → All P xs
+front-all P xs ys all k d within =
+    subst P (get_or_append_left xs ys d k within) (all k d (omega (arith, within, length-append xs ys)))
 
--- A solver for all clauses of a query, without lemmas.
-pub record IsWhole (graphs : Graphs) (query : Query) (s : Solving) : Type 0 where
+behind-all : (P : List SatLit → Type 0) (xs ys : List (List SatLit)) → All P (xs ++ ys) → All P ys
+behind-all P xs ys all k d within =
+    subst P (get_or-append-add xs ys k d) (all (length xs + k) d (omega (arith, within, length-append xs ys)))
+
+-- A solver for the clauses of a query's cones, without lemmas.
+pub record IsOfCones (graphs : Graphs) (query : Query) (s : Solving) : Type 0 where
   pub formula : s.formula ≡ formula_of graphs query
-  pub ids : s.ids ≡ range_with_len 0 (length (query_clauses graphs query))
+  pub ids : (id : ℕ) → IsConeId graphs query id → Contains s.ids id
   pub lines : s.lines ≡ []
 
-wanted_is : (graphs : Graphs) (query : Query) (s : Solving) → IsWhole graphs query s → wanted s.formula s.ids ≡ query_clauses graphs query
-wanted_is graphs query s whole = ap (λ f. wanted f s.ids) whole.formula ∙ (ap (wanted (formula_of graphs query)) whole.ids ∙ all_wanted (query_clauses graphs query))
+-- what holds of all that are to be met holds of all clauses of the cones
+all-cones : (P : List SatLit → Type 0) (graphs : Graphs) (query : Query) (s : Solving) → IsOfCones graphs query s → All P (wanted s.formula s.ids) → AllOfCones graphs query P
+all-cones P graphs query s of all id cone =
+    subst (λ (f : Formula). P (clause_at f.clauses id)) of.formula (wanted-each P s.formula s.ids id all (of.ids id cone))
 
-pub meets_all : (graphs : Graphs) (query : Query) (s new : Solving) (first after : Ledgered) (values : List Bool) → IsWhole graphs query s → IsExtended s new first after → Meets values (wanted new.formula new.ids) → Meets values (query_clauses graphs query)
-meets_all graphs query s new first after values whole extended meets =
-    let same = ap (λ f. wanted f new.ids) extended.formula ∙ (ap (wanted s.formula) extended.ids ∙ wanted_is graphs query s whole) in
-    subst (λ (cs : List (List SatLit)). Meets values cs) same meets
+pub meets_cones : (graphs : Graphs) (query : Query) (s new : Solving) (first after : Ledgered) (values : List Bool) → IsOfCones graphs query s → IsExtended s new first after → Meets values (wanted new.formula new.ids) → MeetsCones graphs query values
+meets_cones graphs query s new first after values of extended meets =
+    let same = ap (λ f. wanted f new.ids) extended.formula ∙ ap (wanted s.formula) extended.ids in
+    all-cones (λ clause. is_met values clause ≡ true) graphs query s of (subst (λ (cs : List (List SatLit)). Meets values cs) same meets)
 
-pub asked_in : (graphs : Graphs) (query : Query) (s new : Solving) (old first after : Ledgered) → IsWhole graphs query s → first ≡ record old { asked = opened query [] old.asked } → IsExtended s new first after → IsAskedIn graphs query old after
-asked_in graphs query s new old first after whole opened_is extended = record {
+pub asked_in : (graphs : Graphs) (query : Query) (s new : Solving) (old first after : Ledgered) → IsOfCones graphs query s → first ≡ record old { asked = opened query [] old.asked } → IsExtended s new first after → IsAskedIn graphs query old after
+asked_in graphs query s new old first after of opened_is extended = record {
   lines = new.lines;
   learned = λ k d within.
-      let added = extended.added k d (omega (arith, ap length whole.lines)) within in
-      let clauses = ap (λ cs. cs ++ clauses_of (take k new.lines)) (wanted_is graphs query s whole) in
+      let added = extended.added k d (omega (arith, ap length of.lines)) within in
+      let P : List SatLit → Type 0 = λ c. has_all (slice_index_or new.lines k d).clause c ≡ false in
       record {
-        derived = ap (λ f. line_fault f (clauses_of (take k new.lines)) (slice_index_or new.lines k d)) (sym whole.formula) ∙ added.derived;
-        fresh = subst (λ (cs : List (List SatLit)). All (λ c. has_all (slice_index_or new.lines k d).clause c ≡ false) cs) clauses added.fresh;
+        derived = ap (λ f. line_fault f (clauses_of (take k new.lines)) (slice_index_or new.lines k d)) (sym of.formula) ∙ added.derived;
+        fresh = all-cones P graphs query s of (front-all P (wanted s.formula s.ids) (clauses_of (take k new.lines)) added.fresh);
+        unlike_earlier = behind-all P (wanted s.formula s.ids) (clauses_of (take k new.lines)) added.fresh;
       };
   budget = extended.budget ∙ ap (λ (l : Ledgered). l.budget) opened_is;
   asked = extended.asked ∙ ap (λ (l : Ledgered). with_lines new.lines l.asked) opened_is;
 }
 
-pub stopped_in : (graphs : Graphs) (query : Query) (s new : Solving) (old first after : Ledgered) (stop : Stop) → IsWhole graphs query s → first ≡ record old { asked = opened query [] old.asked } → IsSolverStopped s new first after stop → IsStopped graphs query old after stop
-stopped_in graphs query s new old first after Memory whole opened_is stopped = tt
-stopped_in graphs query s new old first after (Spent learned) whole opened_is stopped = record {
-  asked_in = asked_in graphs query s new old first after whole opened_is stopped.extended;
+pub stopped_in : (graphs : Graphs) (query : Query) (s new : Solving) (old first after : Ledgered) (stop : Stop) → IsOfCones graphs query s → first ≡ record old { asked = opened query [] old.asked } → IsSolverStopped s new first after stop → IsStopped graphs query old after stop
+stopped_in graphs query s new old first after Memory of opened_is stopped = tt
+stopped_in graphs query s new old first after (Spent learned) of opened_is stopped = record {
+  asked_in = asked_in graphs query s new old first after of opened_is stopped.extended;
   learned_is = stopped.learned_is ∙ ap (λ (l : Ledgered). l.budget) opened_is;
   used = stopped.used ∙ ap (λ (l : Ledgered). l.budget) opened_is;
   spent = stopped.spent;
+}
+
+-- the solver that is made for the numbers of the cones' clauses
+pub made_of_cones : (graphs : Graphs) (query : Query) (base : Asking) (listed ids : List ℕ) (s : Solving) → base ≡ record { graphs = graphs; query = query } → ids ≡ listed → ((id : ℕ) → (Contains listed id ↔ IsConeId base.graphs base.query id)) → s ≡ record { formula = formula_of base.graphs base.query; ids = ids; lines = [] } → IsOfCones graphs query s
+made_of_cones graphs query base listed ids s asking same cones is = record {
+  formula = ap (λ (x : Solving). x.formula) is ∙ ap (λ (a : Asking). formula_of a.graphs a.query) asking;
+  ids = λ id cone.
+      let own = (cones id).1 (subst (λ (a : Asking). IsConeId a.graphs a.query id) (sym asking) cone) in
+      subst (λ (xs : List ℕ). Contains xs id) (sym (ap (λ (x : Solving). x.ids) is ∙ same)) own;
+  lines = ap (λ (x : Solving). x.lines) is;
 }

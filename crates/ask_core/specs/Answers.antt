@@ -1,15 +1,15 @@
 -- What an answer to a query says, and what the ledger says of it.
-use Rattle.std.specs.Prelude.{◌≡◌, ℕ, ◌<◌, Bool, true, false, List, [], ◌++◌, length, take, All, None, slice_index_or}
+use Rattle.std.specs.Prelude.{◌≡◌, ℕ, ◌<◌, Bool, true, false, List, [], length, take, All, None, slice_index_or}
 use Rattle.cnf_core.specs.declared.log.LogLine.{LogLine}
 use Rattle.cnf_core.specs.declared.stop.Stop.{Stop}
 use Rattle.cnf_core.specs.declared.stop.Stop.TheVariants.{Spent, Memory}
-use Rattle.cnf_core.specs.Clauses.{Formula}
 use Rattle.cnf_core.specs.Derivations.{IsRefutation, clauses_of, line_fault}
 use Rattle.learn_solver.specs.Analyses.{has_all}
 use Rattle.net_core.specs.declared.graphs.Graphs.{Graphs}
 use Rattle.query_core.specs.declared.query.Query.{Query}
 use Rattle.query_core.specs.Queries.{MeetsQuery, bits_in}
 use Rattle.query_core.specs.Formulas.{formula_of}
+use Rattle.query_core.specs.ConeClauses.{AllOfCones}
 use Rattle.query_core.specs.Ledgers.{Ledgered, learned_in, opened, with_lines}
 use Rattle.ask_core.specs.declared.question.Answer.{Answer}
 use Rattle.ask_core.specs.declared.question.Answer.TheVariants.{Vector, Refuted}
@@ -24,10 +24,11 @@ abbrev pub IsAnswer : Graphs → Query → Answer → Type 0
 IsAnswer graphs query (Vector vector) = IsVector graphs query vector
 IsAnswer graphs query (Refuted log) = IsRefutation (formula_of graphs query) log.lines
 
--- A line that is derived, and that has all the literals of no clause of a formula and of no earlier line.
-pub record IsLearnedLine (formula : Formula) (earlier : List LogLine) (line : LogLine) : Type 0 where
-  pub derived : line_fault formula (clauses_of earlier) line ≡ None
-  pub fresh : All (λ clause. has_all line.clause clause ≡ false) (formula.clauses ++ clauses_of earlier)
+-- A line that is derived, and that has all the literals of no clause that belongs to the cones and of no earlier line.
+pub record IsLearnedLine (graphs : Graphs) (query : Query) (earlier : List LogLine) (line : LogLine) : Type 0 where
+  pub derived : line_fault (formula_of graphs query) (clauses_of earlier) line ≡ None
+  pub fresh : AllOfCones graphs query (λ clause. has_all line.clause clause ≡ false)
+  pub unlike_earlier : All (λ clause. has_all line.clause clause ≡ false) (clauses_of earlier)
 
 -- A query was asked: it stands last in the ledger, without lemmas and with lines that were learned for it. The entries
 -- before stay.
@@ -35,7 +36,7 @@ pub record IsAskedIn (graphs : Graphs) (query : Query) (old new : Ledgered) : Ty
   pub lines : List LogLine
   pub learned : (k : ℕ) (d : LogLine)
       → k < length lines
-      → IsLearnedLine (formula_of graphs query) (take k lines) (slice_index_or lines k d)
+      → IsLearnedLine graphs query (take k lines) (slice_index_or lines k d)
   pub budget : new.budget ≡ old.budget
   pub asked : new.asked ≡ with_lines lines (opened query [] old.asked)
 

@@ -1,17 +1,16 @@
 //! One question, asked.
 
 ghost use Rattle.std.specs.Prelude.{◌≡◌, false, IfOk, IfErr};
-ghost use Rattle.std.specs.List.{range_with_len};
 ghost use Rattle.query_core.specs.Queries.{IsQuery};
 ghost use Rattle.ask_core.specs.Answers.{IsAnswer, IsAskedIn, IsStopped};
 
 use crate::vector::vector_of;
-use cnf_core::{Base, Log, Stop};
+use cnf_core::{Log, Stop};
 use items::Items;
 use learn_solver::{Solver, Verdict, solve};
 use net_core::Graphs;
-use query_core::{Ledger, Query, QueryBase};
-use std::alloc::{AllocError, Global};
+use query_core::{Ledger, Query, QueryBase, cone_ids};
+use std::alloc::Global;
 
 /// An answer to a query.
 #[derive(Debug, Drop)]
@@ -22,9 +21,10 @@ pub enum Answer {
     Refuted(Log),
 }
 
-/// Answers a query that fits two circuits. The ledger gets an entry for it, in place of a last one for which nothing was
-/// learned, with one line for each conflict. Spent comes at a conflict that is met with the budget spent; its line is kept
-/// as the refused one. Where memory is wanting, nothing is said of the last entry.
+/// Answers a query that fits two circuits by the clauses of its two cones. The ledger gets an entry for it, in place
+/// of a last one for which nothing was learned, with one line for each conflict. Spent comes at a conflict that is met
+/// with the budget spent; its line is kept as the refused one. Where memory is wanting, nothing is said of the last
+/// entry.
 pub fn ask(
     alloc: Global,
     graphs: &Graphs,
@@ -39,7 +39,7 @@ pub fn ask(
     ensures stop { IfErr result (IsStopped graphs.now query.now ledger.old ledger.new) }
 {
     let base = QueryBase::new(alloc, graphs, query)?;
-    let ids = numbers(alloc, base.count())?;
+    let ids = cone_ids(alloc, &base)?;
     ledger.open(alloc, query, &[])?;
     let mut solver = Solver::new(alloc, &base, &ids, &[])?;
     match solve(alloc, &mut solver, ledger)? {
@@ -49,15 +49,4 @@ pub fn ask(
         }
         Verdict::Refuted(log) => Ok(Answer::Refuted(log)),
     }
-}
-
-// The numbers below a count.
-fn numbers(alloc: Global, count: u64) -> Result<Vec<u64>, AllocError>
-    ensures { IfOk result (λ numbers. numbers.items ≡ range_with_len 0 count) }
-{
-    let mut numbers = Vec::new(alloc);
-    for number in 0..count {
-        numbers.push(number)?;
-    }
-    Ok(numbers)
 }

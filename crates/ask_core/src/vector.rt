@@ -1,9 +1,9 @@
 //! The vector that a model has.
 
 ghost use Rattle.std.specs.Prelude.{◌≡◌, IfOk, length};
-ghost use Rattle.cnf_core.specs.Clauses.{Meets};
 ghost use Rattle.query_core.specs.Queries.{IsQuery, bits_in, vector_in};
-ghost use Rattle.query_core.specs.Formulas.{formula_of, query_clauses};
+ghost use Rattle.query_core.specs.Formulas.{formula_of};
+ghost use Rattle.query_core.specs.ConeClauses.{MeetsCones};
 ghost use Rattle.ask_core.specs.Answers.{IsVector};
 
 use items::Items;
@@ -11,7 +11,7 @@ use net_core::Graphs;
 use query_core::Query;
 use std::alloc::{AllocError, Global};
 
-/// The bits of the input variables, where the values meet a query's clauses.
+/// The bits of the input variables, where the values meet the clauses of a query's cones.
 pub(crate) fn vector_of(
     alloc: Global,
     graphs: &Graphs,
@@ -20,7 +20,7 @@ pub(crate) fn vector_of(
 ) -> Result<Items<bool>, AllocError>
     requires fits { IsQuery graphs.now query.now }
     requires variables { length values.now ≡ (formula_of graphs.now query.now).variables }
-    requires meets { Meets values.now (query_clauses graphs.now query.now) }
+    requires meets { MeetsCones graphs.now query.now values.now }
     ensures { IfOk result (IsVector graphs.now query.now) }
 {
     let _inputs = graphs.first.inputs();

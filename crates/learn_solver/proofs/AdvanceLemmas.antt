@@ -1,5 +1,5 @@
 -- A search that goes on: after a decision, and after going back with a learned line.
-use Rattle.std.proofs.Common.{◌≡◌, ℕ, suc, ◌+◌, ◌-◌, ◌*◌, ◌<◌, ◌≤◌, ◌||◌, false, List, [], ◌∷◌, ◌++◌, length, take, filter, All, Option, None, Some, nat_le, slice_index_or, inl, inr, refl, sym, ◌∙◌, ap, subst, arith}
+use Rattle.std.proofs.Common.{◌≡◌, ℕ, suc, ◌+◌, ◌-◌, ◌*◌, ◌<◌, ◌≤◌, ◌||◌, false, List, [], ◌∷◌, ◌++◌, length, take, filter, Option, None, Some, nat_le, slice_index_or, inl, inr, refl, sym, ◌∙◌, ap, subst, arith}
 use Rattle.std.specs.List.{list_any}
 use Rattle.std.proofs.Math.Nat.{mul-suc}
 use Rattle.std.proofs.lemmas.Bool.{cases_lt, leb-true, or_from}
@@ -17,7 +17,6 @@ use Rattle.trail_core.specs.Trails.{Trailing, entry_at, literals, nothing}
 use Rattle.query_core.specs.declared.ledger.Asked.{Asked}
 use Rattle.query_core.specs.Ledgers.{Ledgered, last_asked, learned_in, nothing_asked, with_line, with_lines}
 use Rattle.learn_solver.specs.Propagations.{IsJustified, IsQuiet, before}
-use Rattle.learn_solver.specs.Analyses.{has_all}
 use Rattle.learn_solver.specs.Searches.{IsDecided, IsLearnt, IsLesson, IsSearching, last_line, remaining}
 use Rattle.learn_solver.specs.Solvers.{IsAdded, IsAsking, IsExtended, IsStopped, Solving, active}
 use Rattle.learn_solver.proofs.WalkLemmas.{sound_more}

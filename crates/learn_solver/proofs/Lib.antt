@@ -11,3 +11,4 @@ pub mod SolverLemmas
 pub mod StepLemmas
 pub mod ModelLemmas
 pub mod AdvanceLemmas
+pub mod DecisionLemmas

@@ -4,6 +4,7 @@ use Rattle.std.specs.List.{list_any, list_all}
 use Rattle.std.proofs.lemmas.Bool.{and_from, cases_Bool, both_ways, or_parts, true_from_ne_false}
 use Rattle.std.proofs.lemmas.Bool.Decides.{eqb_tells}
 use Rattle.std.proofs.lemmas.List.{get_or_append_left, length-append}
+use Rattle.std.proofs.lemmas.List.Elements.{All-contains}
 use Rattle.circuits.specs.Literals.{bit, differ}
 use Rattle.cnf_core.specs.declared.literal.SatLit.{SatLit}
 use Rattle.cnf_core.specs.declared.effect.Effect.TheVariants.{Conflict, Neither}
@@ -11,8 +12,8 @@ use Rattle.cnf_core.specs.Clauses.{is_negated, literal_bit, literal_of, opposite
 use Rattle.cnf_core.specs.Derivations.{clauses_of, effect_of, is_false, is_true}
 use Rattle.trail_core.specs.Trails.{Trailing, literals, value_in}
 use Rattle.learn_solver.specs.Propagations.{AreKnown, IsQuiet}
-use Rattle.learn_solver.specs.Searches.{AreValues, IsSearching, IsTotal}
-use Rattle.learn_solver.specs.Solvers.{IsModel, IsSolver, Solving, active, wanted}
+use Rattle.learn_solver.specs.Searches.{AreValues, IsAssigned, IsSearching}
+use Rattle.learn_solver.specs.Solvers.{HaveVariables, IsDeciding, IsModel, Solving, active, wanted}
 use Rattle.learn_solver.proofs.EffectLemmas.{conflict_from}
 use Rattle.learn_solver.proofs.PlaceLemmas.{opposite_twice}
 
@@ -40,8 +41,8 @@ no_value : (made : List SatLit) (m : SatLit) → is_true made m ≡ false → is
 no_value made m t f = ap (λ b. cond b (Some true) (cond (is_false made m) (Some false) None)) t ∙ ap (λ b. cond b (Some false) None) f
 
 -- a literal that the values make false is false on the trail
-false_on : (t : Trailing) (values : List Bool) → IsTotal t → AreValues t values → (l : SatLit) → variable_of l < t.variables → literal_bit values l ≡ false → is_false (literals t.entries) l ≡ true
-false_on t values total are l known falsity =
+false_on : (t : Trailing) (values : List Bool) → AreValues t values → (l : SatLit) → IsAssigned t (variable_of l) → variable_of l < t.variables → literal_bit values l ≡ false → is_false (literals t.entries) l ≡ true
+false_on t values are l assigned known falsity =
     let made = literals t.entries in
     let v = variable_of l in
     let at : bit values v ≡ is_true made (literal_of v true) = are.each v false (omega (arith, known, are.count)) in
@@ -55,7 +56,7 @@ false_on t values total are l known falsity =
           true_from_ne_false (is_false made l) (λ free.
           let other = other_is l plain in
           let none : value_in made (literal_of v false) ≡ None = ap (value_in made) other ∙ no_value made (opposite l) free (ap (is_true made) (opposite_twice l) ∙ not_made) in
-          total v known none)
+          assigned none)
     ]
   where
     by_negated : (b : Bool) → differ b true ≡ false → b ≡ true
@@ -67,16 +68,22 @@ false_on t values total are l known falsity =
     by_plain false e = refl
 
 -- a clause that isn't met has false literals alone
-all_false : (t : Trailing) (values : List Bool) → IsTotal t → AreValues t values → (c : List SatLit) → ((k : ℕ) (d : SatLit) → k < length c → variable_of (slice_index_or c k d) < t.variables) → list_any (literal_bit values) c ≡ false → list_all (is_false (literals t.entries)) c ≡ true
-all_false t values total are [] known e = refl
-all_false t values total are (l ∷ c) known e =
+all_false : (t : Trailing) (values : List Bool) → AreValues t values → (c : List SatLit) → All (λ l. IsAssigned t (variable_of l)) c → ((k : ℕ) (d : SatLit) → k < length c → variable_of (slice_index_or c k d) < t.variables) → list_any (literal_bit values) c ≡ false → list_all (is_false (literals t.entries)) c ≡ true
+all_false t values are [] assigned known e = refl
+all_false t values are (l ∷ c) assigned known e =
     let parts = or_parts (literal_bit values l) (list_any (literal_bit values) c) e in
-    and_from (is_false (literals t.entries) l) (list_all (is_false (literals t.entries)) c) (false_on t values total are l (known 0 l (omega arith)) parts.0) (all_false t values total are c (λ k d h. known (suc k) d (omega (arith, h))) parts.1)
+    and_from (is_false (literals t.entries) l) (list_all (is_false (literals t.entries)) c) (false_on t values are l (assigned 0 l (omega arith)) (known 0 l (omega arith)) parts.0) (all_false t values are c (λ k d h. assigned (suc k) d (omega (arith, h))) (λ k d h. known (suc k) d (omega (arith, h))) parts.1)
 
-pub model_from : (s : Solving) (clauses : List (List SatLit)) (t : Trailing) (values : List Bool) → IsSolver s.formula s.ids s.lines clauses → IsSearching s t → IsQuiet (active s.formula s.ids s.lines) (literals t.entries) → IsTotal t → AreValues t values → IsModel s values
-model_from s clauses t values is searching quiet total are = record {
+-- the variables of wanted clauses are assigned, where all that are decided are
+wanted_assigned : (s : Solving) (t : Trailing) (occurring : List ℕ) → HaveVariables s.formula.variables (wanted s.formula s.ids) occurring → All (IsAssigned t) occurring → All (λ clause. All (λ l. IsAssigned t (variable_of l)) clause) (wanted s.formula s.ids)
+wanted_assigned s t occurring have assigned k d within j e inside =
+    All-contains (IsAssigned t) occurring (variable_of (slice_index_or (slice_index_or (wanted s.formula s.ids) k d) j e)) assigned (have.all k d within j e inside)
+
+pub model_from : (s : Solving) (clauses : List (List SatLit)) (occurring : List ℕ) (t : Trailing) (values : List Bool) → IsDeciding s.formula s.ids s.lines clauses occurring → IsSearching s t → IsQuiet (active s.formula s.ids s.lines) (literals t.entries) → All (IsAssigned t) occurring → AreValues t values → IsModel s values
+model_from s clauses occurring t values deciding searching quiet assigned are = record {
   variables = are.count ∙ searching.variables;
   meets = λ k d within.
+      let is = deciding.solver in
       let want = wanted s.formula s.ids in
       let c = slice_index_or want k d in
       let at = get_or_append_left want (clauses_of s.lines) d k within in
@@ -84,7 +91,7 @@ model_from s clauses t values is searching quiet total are = record {
       let known : AreKnown s.formula.variables c = subst (AreKnown s.formula.variables) at (subst (λ (cs : List (List SatLit)). All (AreKnown s.formula.variables) cs) is.stored is.known k d inside) in
       let open_one : effect_of (literals t.entries) c ≡ Neither = ap (effect_of (literals t.entries)) (sym at) ∙ quiet k d inside in
       true_from_ne_false (list_any (literal_bit values) c) (λ unmet.
-      let falsity = all_false t values total are c (λ j e h. omega (arith, known j e h, searching.variables)) unmet in
+      let falsity = all_false t values are c (wanted_assigned s t occurring deciding.variables assigned k d within) (λ j e h. omega (arith, known j e h, searching.variables)) unmet in
       let clash : Conflict ≡ Neither = sym (conflict_from (literals t.entries) c falsity) ∙ open_one in
       cc);
 }

@@ -16,7 +16,7 @@ use Rattle.trail_core.specs.Trails.{Trailing}
 use Rattle.query_core.specs.declared.ledger.Asked.{Asked}
 use Rattle.query_core.specs.Ledgers.{IsRefused, Ledgered, last_asked, nothing_asked, with_line, with_lines}
 use Rattle.learn_solver.specs.Analyses.{IsLearnedAs, has_all}
-use Rattle.learn_solver.specs.Solvers.{IsAdded, IsAsking, IsExtended, IsSolver, IsStopped, Solving, active, id_at, wanted}
+use Rattle.learn_solver.specs.Solvers.{IsAdded, IsAsking, IsExtended, IsSolver, IsStopped, Solving, id_at, wanted}
 use Rattle.learn_solver.specs.Searches.{IsLesson, IsSearching, last_line, no_line}
 use Rattle.learn_solver.proofs.SolverLemmas.{at_number, hints_follow, line_from}
 

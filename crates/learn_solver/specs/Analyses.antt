@@ -1,5 +1,5 @@
 -- What is learned from a conflict, and how far an analysis has come (Marques-Silva and Sakallah, GRASP, 1999).
-use Rattle.std.specs.Prelude.{◌≡◌, ℕ, ◌<◌, ◌≤◌, ◌==◌, ◌&&◌, Bool, true, false, List, [], length, map, take, filter, reverse, All, None, count_by, if◌then◌else◌}
+use Rattle.std.specs.Prelude.{◌≡◌, ℕ, ◌<◌, ◌≤◌, ◌==◌, ◌&&◌, Bool, true, false, List, [], length, map, take, filter, reverse, All, Contains, None, count_by, if◌then◌else◌}
 use Rattle.std.specs.List.{list_all}
 use Rattle.circuits.specs.Literals.{bit}
 use Rattle.cnf_core.specs.declared.literal.SatLit.{SatLit}
@@ -71,6 +71,11 @@ AreMarked marked clause = All (λ literal. bit marked (variable_of literal) ≡ 
 -- what was marked stays so
 abbrev pub StayMarked : List Bool → List Bool → Type 0
 StayMarked old new = (variable : ℕ) → bit old variable ≡ true → bit new variable ≡ true
+
+-- these are the marked ones of the first so many places
+pub record AreMarkedPlaces (marked : List Bool) (count : ℕ) (places : List ℕ) : Type 0 where
+  pub below : All (λ place. place < count) places
+  pub all : (place : ℕ) → place < count → bit marked place ≡ true → Contains places place
 
 -- these are true: the marked ones of the first so many literals, and at most all of the first so many
 pub record IsBetween (entries : List Assigned) (marked : List Bool) (place : ℕ) (made : List SatLit) : Type 0 where

@@ -11,9 +11,9 @@ use Rattle.learn_solver.specs.Propagations.{IsSound, before}
 use Rattle.learn_solver.specs.Analyses.{has_all}
 use Rattle.learn_solver.specs.Solvers.{IsAdded, Solving, active}
 
--- each variable is assigned
-abbrev pub IsTotal : Trailing → Type 0
-IsTotal trail = (v : ℕ) → v < trail.variables → value_in (literals trail.entries) (literal_of v false) ≢ None
+-- a variable is assigned
+abbrev pub IsAssigned : Trailing → ℕ → Type 0
+IsAssigned trail v = value_in (literals trail.entries) (literal_of v false) ≢ None
 
 -- the value of each variable
 pub record AreValues (trail : Trailing) (values : List Bool) : Type 0 where

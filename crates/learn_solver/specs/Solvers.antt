@@ -1,10 +1,10 @@
 -- What a solver is, and what its answers say.
-use Rattle.std.specs.Prelude.{◌≡◌, ℕ, ◌+◌, ◌-◌, ◌<◌, ◌≤◌, Bool, true, false, List, ◌++◌, length, map, take, All, None, nat_lt, slice_index_or, if◌then◌else◌}
+use Rattle.std.specs.Prelude.{◌≡◌, ℕ, ◌+◌, ◌-◌, ◌<◌, ◌≤◌, Bool, true, false, List, ◌++◌, length, map, take, All, Contains, None, nat_lt, slice_index_or, if◌then◌else◌}
 use Rattle.cnf_core.specs.declared.literal.SatLit.{SatLit}
 use Rattle.cnf_core.specs.declared.log.LogLine.{LogLine}
 use Rattle.cnf_core.specs.declared.stop.Stop.{Stop}
 use Rattle.cnf_core.specs.declared.stop.Stop.TheVariants.{Spent, Memory}
-use Rattle.cnf_core.specs.Clauses.{Formula, Meets, clause_at}
+use Rattle.cnf_core.specs.Clauses.{Formula, Meets, clause_at, variable_of}
 use Rattle.cnf_core.specs.Derivations.{AreDerived, IsRefutation, clauses_of, is_empty, line_fault}
 use Rattle.query_core.specs.Ledgers.{Ledgered, last_asked, learned_in, with_lines}
 use Rattle.learn_solver.specs.declared.verdict.Verdict.{Verdict}
@@ -39,6 +39,17 @@ pub record IsSolver (formula : Formula) (ids : List ℕ) (lines : List LogLine) 
   pub known : All (AreKnown formula.variables) clauses
   pub filled : All (λ clause. is_empty clause ≡ false) (wanted formula ids)
   pub derived : AreDerived formula lines
+
+-- These are known variables, and those of the clauses are among them.
+pub record HaveVariables (variables : ℕ) (clauses : List (List SatLit)) (occurring : List ℕ) : Type 0 where
+  pub known : All (λ v. v < variables) occurring
+  pub all : All (λ clause. All (λ literal. Contains occurring (variable_of literal)) clause) clauses
+
+-- What each solver keeps, with the variables that it decides.
+pub record IsDeciding (formula : Formula) (ids : List ℕ) (lines : List LogLine) (clauses : List (List SatLit))
+    (occurring : List ℕ) : Type 0 where
+  pub solver : IsSolver formula ids lines clauses
+  pub variables : HaveVariables formula.variables (wanted formula ids) occurring
 
 -- The ledger's last entry has these lines, and none of the ledger's lines is refused.
 pub record IsAsking (ledger : Ledgered) (lines : List LogLine) : Type 0 where

@@ -141,7 +141,8 @@ impl Analysis {
     }
 }
 
-fn no_marks(alloc: Global, count: usize) -> Result<Vec<bool>, AllocError>
+/// No variable of so many is marked.
+pub(crate) fn no_marks(alloc: Global, count: usize) -> Result<Vec<bool>, AllocError>
     ensures { IfOk result (λ marked. marked.items ≡ replicate count false) }
 {
     vec![in alloc; false; count]

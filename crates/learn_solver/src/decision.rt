@@ -1,29 +1,84 @@
 //! Decisions, and the model once there is nothing left to decide.
 
-ghost use Rattle.std.specs.Prelude.{◌≡◌, ◌≢◌, ◌<◌, None, IfOk, IfSome, IfNone, length};
+ghost use Rattle.std.specs.Prelude.{◌≡◌, ◌≢◌, ◌<◌, All, None, IfOk, IfSome, IfNone, length};
 ghost use Rattle.cnf_core.specs.Clauses.{literal_of};
 ghost use Rattle.trail_core.specs.Trails.{IsFree, IsTrail, literals, value_in};
-ghost use Rattle.learn_solver.specs.Searches.{IsTotal, AreValues};
+ghost use Rattle.learn_solver.specs.Propagations.{AreKnown};
+ghost use Rattle.learn_solver.specs.Analyses.{AreMarked, AreMarkedPlaces, StayMarked};
+ghost use Rattle.learn_solver.specs.Searches.{IsAssigned, AreValues};
+ghost use Rattle.learn_solver.specs.Solvers.{HaveVariables};
 
-use cnf_core::SatLit;
+use crate::conflict::no_marks;
+use cnf_core::{ClauseStore, SatLit};
 use items::Items;
 use std::alloc::{AllocError, Global};
 use trail_core::Trail;
 
-/// The negated literal of the lowest variable that is unassigned, if there is one.
-pub(crate) fn next_decision(trail: &Trail, variables: u64) -> Option<SatLit>
-    requires { variables ≡ trail.now.variables }
+/// The negated literal of the lowest of these variables that is unassigned, if there is one.
+pub(crate) fn next_decision(trail: &Trail, occurring: &[u64]) -> Option<SatLit>
+    requires { All (λ v. v < trail.now.variables) occurring.now }
     ensures free { IfSome result (IsFree trail.now) }
-    ensures none { IfNone result (IsTotal trail.now) }
+    ensures none { IfNone result (All (IsAssigned trail.now) occurring.now) }
 {
     let _len = trail.len();
-    for variable in 0..variables {
-        let literal = SatLit::of(variable, false);
+    for variable in occurring.iter() {
+        let literal = SatLit::of(*variable, false);
         if trail.value(literal).is_none() {
             return Some(literal);
         }
     }
     None
+}
+
+/// The variables of clauses, ascending. Each is found once, in one pass.
+pub(crate) fn variables_of(
+    alloc: Global,
+    clauses: &ClauseStore,
+    variables: u64,
+) -> Result<Vec<u64>, AllocError>
+    requires { All (AreKnown variables) clauses.now.clauses }
+    ensures { IfOk result (λ occurring. HaveVariables variables clauses.now.clauses occurring.items) }
+{
+    let mut marked = no_marks(alloc, variables as usize)?;
+    mark_all(clauses, &mut marked);
+    let occurring = marked_places(alloc, &marked)?;
+    Ok(occurring)
+}
+
+// Marks the variables of clauses.
+fn mark_all(clauses: &ClauseStore, marked: &mut [bool])
+    requires { All (AreKnown (length marked.old)) clauses.now.clauses }
+    ensures size { length marked.new ≡ length marked.old }
+    ensures marked { All (AreMarked marked.new) clauses.now.clauses }
+{
+    for id in 0..clauses.count() {
+        mark_clause(clauses.get(id), marked);
+    }
+}
+
+// Marks the variables of a clause.
+fn mark_clause(clause: &[SatLit], marked: &mut [bool])
+    requires { AreKnown (length marked.old) clause.now }
+    ensures size { length marked.new ≡ length marked.old }
+    ensures stay { StayMarked marked.old marked.new }
+    ensures marked { AreMarked marked.new clause.now }
+{
+    for literal in clause.iter() {
+        marked[literal.variable() as usize] = true;
+    }
+}
+
+// The places that are marked, ascending.
+fn marked_places(alloc: Global, marked: &[bool]) -> Result<Vec<u64>, AllocError>
+    ensures { IfOk result (λ places. AreMarkedPlaces marked.now (length marked.now) places.items) }
+{
+    let mut places = Vec::new(alloc);
+    for (place, is_marked) in marked.iter().enumerate() {
+        if *is_marked {
+            places.push(place as u64)?;
+        }
+    }
+    Ok(places)
 }
 
 /// The value of each variable.

@@ -11,3 +11,6 @@ mod verdict;
 
 pub use solver::{Solver, solve};
 pub use verdict::Verdict;
+
+#[cfg(test)]
+mod tests;

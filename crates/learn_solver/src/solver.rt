@@ -12,7 +12,7 @@ ghost use Rattle.learn_solver.specs.Searches.{IsAdvanced, IsDecided, IsLearnt, I
 ghost use Rattle.learn_solver.specs.Solvers.{IsAsking, IsExtended, IsModel, IsRefuted, IsStopped, IsVerdict, ArePut, active, id_at, wanted};
 
 use crate::conflict::{Learned, analyse};
-use crate::decision::{next_decision, values};
+use crate::decision::{next_decision, values, variables_of};
 use crate::propagation::propagate;
 use crate::verdict::Verdict;
 use cnf_core::{Base, ClauseStore, Log, LogLine, Stop};
@@ -31,16 +31,19 @@ pub struct Solver<'a, B: Base> {
     lines: Vec<LogLine>,
     /// The clauses that are looked at: those of the numbers, then those of the lines.
     clauses: ClauseStore,
+    /// The variables of the clauses of the numbers. No others are decided.
+    occurring: Vec<u64>,
 }
 
 impl<'a, B: Base> Model for Solver<'a, B> {
-    ghost use Rattle.learn_solver.specs.Solvers.{Solving, IsSolver};
+    ghost use Rattle.learn_solver.specs.Solvers.{Solving, IsDeciding};
 
     ghost Value = { Solving };
 
     ghost view = { λ a. record { formula = B.formula a.base.now; ids = a.ids.items; lines = a.lines.items } };
 
-    ghost invariant = { λ a. IsSolver (B.formula a.base.now) a.ids.items a.lines.items a.clauses.clauses };
+    ghost invariant = { λ a. IsDeciding (B.formula a.base.now) a.ids.items a.lines.items a.clauses.clauses
+        a.occurring.items };
 }
 
 impl<'a, B: Base> Solver<'a, B> {
@@ -59,6 +62,7 @@ impl<'a, B: Base> Solver<'a, B> {
     {
         let mut clauses = ClauseStore::new(alloc);
         put_wanted(base, ids, &mut clauses)?;
+        let occurring = variables_of(alloc, &clauses, base.variables())?;
         put_lines(lemmas, &mut clauses)?;
         let ids = Vec::from_slice(alloc, ids)?;
         let lines = copied(alloc, lemmas)?;
@@ -67,6 +71,7 @@ impl<'a, B: Base> Solver<'a, B> {
             ids,
             lines,
             clauses,
+            occurring,
         })
     }
 
@@ -137,7 +142,7 @@ impl<'a, B: Base> Solver<'a, B> {
         Ok(Some(level))
     }
 
-    // Decides the next variable, or answers the model where every variable is assigned.
+    // Decides the next variable that occurs, or answers a model where all of them are assigned.
     fn decide(&self, alloc: Global, trail: &mut Trail) -> Result<Option<Verdict>, AllocError>
         requires searching { IsSearching self.now trail.old }
         requires quiet { IsQuiet (active self.now.formula self.now.ids self.now.lines)
@@ -145,8 +150,8 @@ impl<'a, B: Base> Solver<'a, B> {
         ensures { IfOk result (λ answer. MatchOption answer
             (IsDecided self.now trail.old trail.new) (IsVerdict self.now)) }
     {
-        let variables = self.base.variables();
-        let Some(literal) = next_decision(trail, variables) else {
+        let Some(literal) = next_decision(trail, &self.occurring) else {
+            let variables = self.base.variables();
             let values = values(alloc, trail, variables)?;
             return Ok(Some(Verdict::Model(values)));
         };

@@ -103,3 +103,37 @@ fn copies_and_picks_sides(rt: HostRuntime) -> Result<(), Fail> {
     assert_eq!(rt; graphs.side(Side::Second).inputs(), 1);
     Ok(())
 }
+
+/// Gate 0 is the AND of the inputs, gate 1 reads it and input 0, and gate 2 reads input 1 alone.
+fn three_gates(rt: &HostRuntime) -> Result<Option<Graph>, Fail> {
+    let gates = vec![in rt.alloc();
+        Gate {
+            a: Lit(2),
+            b: Lit(4)
+        },
+        Gate {
+            a: Lit(7),
+            b: Lit(2)
+        },
+        Gate {
+            a: Lit(4),
+            b: Lit(4)
+        },
+    ]?;
+    let outputs = vec![in rt.alloc(); Lit(8), Lit(11), Lit(6), Lit(3), Lit(1)]?;
+    Ok(Graph::new(2, gates, outputs))
+}
+
+#[test]
+fn lists_cones(rt: HostRuntime) -> Result<(), Fail> {
+    let graph = three_gates(&rt)?.ok_or("no graph")?;
+    if graph.outputs().len() != 5 {
+        return Err("five outputs".into());
+    }
+    assert_eq!(rt; graph.cone(rt.alloc(), 0)?.as_slice(), [0, 1].as_slice());
+    assert_eq!(rt; graph.cone(rt.alloc(), 1)?.as_slice(), [2].as_slice());
+    assert_eq!(rt; graph.cone(rt.alloc(), 2)?.as_slice(), [0].as_slice());
+    assert_eq!(rt; graph.cone(rt.alloc(), 3)?.as_slice(), [].as_slice());
+    assert_eq!(rt; graph.cone(rt.alloc(), 4)?.as_slice(), [].as_slice());
+    Ok(())
+}

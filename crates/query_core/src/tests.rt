@@ -1,13 +1,12 @@
 //! Queries whose clauses are worked out by hand.
 
-ghost use Rattle.std.specs.Prelude.{◌≡◌, ◌<◌, All, IsTrue, length};
-ghost use Rattle.circuits.specs.Matches.{HavePorts};
-ghost use Rattle.query_core.specs.Queries.{IsCone, IsQuery, IsWired};
+ghost use Rattle.std.specs.Prelude.{IfOk, IfSome};
+ghost use Rattle.query_core.specs.Queries.{IsQuery};
 
-use crate::{Cone, Feed, Query, QueryBase, of_match};
+use crate::{Claim, Query, QueryBase, Shape, cone_ids, image, of_claim, of_match};
 use cnf_core::Base;
 use items::Items;
-use net_core::{Gate, Graph, Graphs, Lit, Matching, Side};
+use net_core::{Gate, Graph, Graphs, Lit, Matching, Pair, PortKind, Side};
 use std::alloc::{AllocError, Global};
 use std::test::Fail;
 
@@ -36,46 +35,6 @@ fn clauses_of(alloc: Global, base: &QueryBase<'_>) -> Result<Vec<u64>, AllocErro
         numbers.push(99)?;
     }
     Ok(numbers)
-}
-
-fn is_wired(inputs: u32, feed: Feed) -> bool
-    ensures { IsTrue result → IsWired inputs feed }
-{
-    match feed {
-        Feed::Fixed(_) => true,
-        Feed::Wire { place, flip: _ } => place < inputs,
-    }
-}
-
-fn are_wired(inputs: u32, feed: &[Feed]) -> bool
-    ensures { IsTrue result → All (IsWired inputs) feed.now }
-{
-    for entry in feed.iter() {
-        if !is_wired(inputs, *entry) {
-            return false;
-        }
-    }
-    true
-}
-
-fn is_cone(graphs: &Graphs, inputs: u32, cone: &Cone) -> bool
-    ensures { IsTrue result → IsCone graphs.now inputs cone.now }
-{
-    let graph = graphs.side(cone.side);
-    if graph.inputs() != inputs || cone.feed.len() != inputs as usize {
-        return false;
-    }
-    if cone.output as usize >= graph.outputs().len() {
-        return false;
-    }
-    are_wired(inputs, &cone.feed)
-}
-
-fn is_query(graphs: &Graphs, query: &Query) -> bool
-    ensures { IsTrue result → IsQuery graphs.now query.now }
-{
-    let inputs = graphs.side(query.left.side).inputs();
-    is_cone(graphs, inputs, &query.left) && is_cone(graphs, inputs, &query.right)
 }
 
 /// The AND of two inputs, and their OR.
@@ -138,41 +97,36 @@ fn asks_for_a_difference(rt: HostRuntime) -> Result<(), Fail> {
     Ok(())
 }
 
-/// Whether the output of the first circuit falls where input 0 rises.
-fn falls_with_input_0(alloc: Global, inputs: u32) -> Result<Query, AllocError> {
-    let mut low = Items::new(alloc);
-    let mut high = Items::new(alloc);
-    low.push(Feed::Fixed(false))?;
-    high.push(Feed::Fixed(true))?;
-    for place in 1..inputs {
-        low.push(Feed::Wire { place, flip: false })?;
-        high.push(Feed::Wire { place, flip: false })?;
+/// The query of whether the first circuit's output falls where input 0 rises. None where it has no input or no output.
+fn rise_query(alloc: Global, graphs: &Graphs) -> Result<Option<Query>, AllocError>
+    ensures { IfOk result (λ query. IfSome query (IsQuery graphs.now)) }
+{
+    let claim = Claim {
+        side: Side::First,
+        output: 0,
+        shape: Shape::Up(0),
+    };
+    if graphs.first.inputs() == 0 || graphs.first.outputs().is_empty() {
+        return Ok(None);
     }
-    let left = Cone {
-        side: Side::First,
-        output: 0,
-        feed: low,
-    };
-    let right = Cone {
-        side: Side::First,
-        output: 0,
-        feed: high,
-    };
-    Ok(Query {
-        left,
-        left_value: true,
-        right,
-        right_value: false,
-    })
+    let query = of_claim(alloc, graphs, &claim)?;
+    Ok(Some(query))
 }
 
 fn claim_clauses(alloc: Global, graphs: &Graphs) -> Result<Vec<u64>, AllocError> {
-    let query = falls_with_input_0(alloc, graphs.first.inputs())?;
-    if !is_query(graphs, &query) {
+    let Some(query) = rise_query(alloc, graphs)? else {
         return Ok(Vec::new(alloc));
-    }
+    };
     let base = QueryBase::new(alloc, graphs, &query)?;
     clauses_of(alloc, &base)
+}
+
+fn claim_ids(alloc: Global, graphs: &Graphs) -> Result<Vec<u64>, AllocError> {
+    let Some(query) = rise_query(alloc, graphs)? else {
+        return Ok(Vec::new(alloc));
+    };
+    let base = QueryBase::new(alloc, graphs, &query)?;
+    cone_ids(alloc, &base)
 }
 
 #[test]
@@ -199,5 +153,110 @@ fn shares_gates_that_reach_no_difference(rt: HostRuntime) -> Result<(), Fail> {
         ]
         .as_slice()
     );
+    Ok(())
+}
+
+#[test]
+fn numbers_the_clauses_of_cones(rt: HostRuntime) -> Result<(), Fail> {
+    let alloc = rt.alloc();
+    // of gates 0 and 1 the output reads gate 1 alone
+    let graphs = Graphs {
+        first: graph_of(alloc, 2, &[(2, 4), (3, 5)], 9)?,
+        second: graph_of(alloc, 0, &[], 0)?,
+    };
+    assert_eq!(rt;
+        claim_ids(alloc, &graphs)?.as_slice(),
+        [0, 4, 5, 6, 10, 11, 12, 13, 14].as_slice()
+    );
+    // gate 1 reads gate 0
+    let graphs = Graphs {
+        first: graph_of(alloc, 2, &[(2, 4), (3, 6)], 9)?,
+        second: graph_of(alloc, 0, &[], 0)?,
+    };
+    assert_eq!(rt;
+        claim_ids(alloc, &graphs)?.as_slice(),
+        [0, 1, 2, 3, 4, 5, 6, 7, 8, 9, 10, 11, 12, 13, 14].as_slice()
+    );
+    Ok(())
+}
+
+fn pair(kind: PortKind, from: u32, to: u32, flip: bool) -> Pair {
+    Pair {
+        kind,
+        from,
+        to,
+        flip,
+    }
+}
+
+fn claim(side: Side, output: u32, shape: Shape) -> Claim {
+    Claim {
+        side,
+        output,
+        shape,
+    }
+}
+
+#[test]
+fn moves_claims(rt: HostRuntime) -> Result<(), Fail> {
+    // output 1 is inverted at its place, output 0 isn't
+    let pairs = [
+        pair(PortKind::Input, 0, 1, false),
+        pair(PortKind::Input, 1, 0, true),
+        pair(PortKind::Output, 0, 2, false),
+        pair(PortKind::Output, 1, 0, true),
+    ];
+    let low = Shape::Swap {
+        i: 0,
+        j: 1,
+        a: false,
+        b: false,
+    };
+    let left_low = Shape::Swap {
+        i: 0,
+        j: 1,
+        a: false,
+        b: true,
+    };
+    let right_low = Shape::Swap {
+        i: 0,
+        j: 1,
+        a: true,
+        b: false,
+    };
+    for (output, shape, place, image_shape) in [
+        (0, Shape::Up(0), 2, Shape::Up(1)),
+        (0, Shape::Up(1), 2, Shape::Down(0)),
+        (0, Shape::Down(1), 2, Shape::Up(0)),
+        (0, low, 2, right_low),
+        (0, left_low, 2, low),
+        (1, Shape::Up(0), 0, Shape::Down(1)),
+        (1, Shape::Up(1), 0, Shape::Up(0)),
+        (1, low, 0, left_low),
+    ] {
+        assert_eq!(rt;
+            image(&claim(Side::First, output, shape), pairs.as_slice()),
+            Some(claim(Side::Second, place, image_shape)),
+            "at {output} {shape:?}"
+        );
+    }
+    for (output, shape) in [
+        (2, Shape::Up(0)),
+        (0, Shape::Up(2)),
+        (
+            0,
+            Shape::Swap {
+                i: 1,
+                j: 2,
+                a: true,
+                b: true,
+            },
+        ),
+    ] {
+        assert_eq!(rt;
+            image(&claim(Side::First, output, shape), pairs.as_slice()),
+            None
+        );
+    }
     Ok(())
 }

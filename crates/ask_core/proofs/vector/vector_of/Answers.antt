@@ -2,7 +2,7 @@
 use Rattle.std.proofs.Common.{◌≡◌, ◌+◌, Bool, List, length, [], ◌∷◌, ◌++◌, sym, subst, ap, ◌∙◌, arith}
 use Rattle.circuits.specs.Literals.{bit}
 use Rattle.query_core.specs.Queries.{MeetsQuery, bits_in, vector_in}
-use Rattle.query_core.proofs.LawLemmas.{vector_there}
+use Rattle.query_core.proofs.ConeLaws.{cone_vector_there}
 use Rattle.ask_core.proofs.AskLemmas.{vector_length, vector_more}
 use Rattle.ask_core.proofs.vector.vector_of.Goals as goal
 
@@ -21,5 +21,5 @@ returns c =
     let vector = c.loop-input.invariant ∙ ap (λ n. vector_in n values) all in
     record {
       bits = ap length vector ∙ vector_length (bits_in graphs query) values;
-      meets = subst (λ (bs : List Bool). MeetsQuery graphs query bs) (sym vector) (vector_there graphs query values c.inputs-inputs.ensures.graph c.inputs-inputs-2.ensures.graph c.requires.fits c.requires.meets);
+      meets = subst (λ (bs : List Bool). MeetsQuery graphs query bs) (sym vector) (cone_vector_there graphs query values c.inputs-inputs.ensures.graph c.inputs-inputs-2.ensures.graph c.requires.fits c.requires.meets);
     }

@@ -15,4 +15,7 @@ invariant_of-self-2 g c =
     let good = subst (λ (s : Solving). line_fault s.formula (clauses_of s.lines) line ≡ None) (sym c.self.view_is) c.requires in
     let lines = c.push_reserved.ensures.items ∙ ap (λ (ls : List LogLine). ls ++ line ∷ []) c.in_ok-reserve.ensures.items in
     let put = ap (λ (s : Stored). s.clauses) c.in_ok-put.ensures.put ∙ ap (λ (l : List SatLit). old.clauses.clauses ++ l ∷ []) c.deref.ensures.value in
-    solver_more (g.B.Base.formula old.base.now) old.ids.items old.lines.items c.push_reserved.new.self.items old.clauses.clauses c.put.new.self.clauses line c.self.invariant good lines put
+    record {
+      solver = solver_more (g.B.Base.formula old.base.now) old.ids.items old.lines.items c.push_reserved.new.self.items old.clauses.clauses c.put.new.self.clauses line c.self.invariant.solver good lines put;
+      variables = c.self.invariant.variables;
+    }

@@ -43,7 +43,7 @@ returns-clause-answer g c =
     let learnt = c.in_ok-level.ensures.learnt in
     let way = subst (λ (b : Option ℕ). IsWayBack old t learnt.line b) c.in-Some-2.is learnt.way in
     let grown = c.propagate.ensures.grown in
-    let stored = c.self.invariant.stored ∙ ap (λ (x : Solving). active x.formula x.ids x.lines) c.self.view_is in
+    let stored = c.self.invariant.solver.stored ∙ ap (λ (x : Solving). active x.formula x.ids x.lines) c.self.view_is in
     let searching : IsSearching old t = record { variables = grown.variables ∙ c.requires.searching.variables; unrefuted = c.requires.searching.unrefuted; sound = subst (λ (cs : List (List SatLit)). IsSound cs t) stored c.propagate.ensures.sound } in
     record {
       searching = gone_back old new learnt.line t back level searching way.1 way.0 learnt.added c.back_to.ensures.variables c.back_to.ensures.entries c.back_to.ensures.front;

@@ -1,8 +1,8 @@
 -- A model, or one decision more.
-use Rattle.std.proofs.Common.{subst, sym}
+use Rattle.std.proofs.Common.{ℕ, List, All, subst, sym}
 use Rattle.trail_core.specs.Trails.{literals}
 use Rattle.learn_solver.specs.Propagations.{IsQuiet}
-use Rattle.learn_solver.specs.Searches.{IsSearching}
+use Rattle.learn_solver.specs.Searches.{IsAssigned, IsSearching}
 use Rattle.learn_solver.specs.Solvers.{IsModel, Solving, active}
 use Rattle.learn_solver.proofs.AdvanceLemmas.{decided}
 use Rattle.learn_solver.proofs.ModelLemmas.{model_from}
@@ -16,7 +16,8 @@ returns-in_default g c =
     let values = c.in_ok-values.values in
     let searching = subst (λ (x : Solving). IsSearching x t) (sym c.self.view_is) c.requires.searching in
     let quiet = subst (λ (x : Solving). IsQuiet (active x.formula x.ids x.lines) (literals t.entries)) (sym c.self.view_is) c.requires.quiet in
-    subst (λ (x : Solving). IsModel x values) c.self.view_is (model_from s old.clauses.clauses t values c.self.invariant searching quiet c.in_default.ensures.none c.in_ok-values.ensures)
+    let assigned = subst (λ (vs : List ℕ). All (IsAssigned t) vs) c.deref.ensures.value c.in_default.ensures.none in
+    subst (λ (x : Solving). IsModel x values) c.self.view_is (model_from s old.clauses.clauses old.occurring.items t values c.self.invariant searching quiet assigned c.in_ok-values.ensures)
 
 pub returns : goal.returns
 returns g c = decided c.args.self.now c.args.trail.now c.decide.new.self c.in-Some.literal c.requires.searching c.requires.quiet c.decide.ensures.decided c.decide.ensures.most
