@@ -1,22 +1,21 @@
 -- That a valid step stays valid when more facts and bans come behind.
-use Rattle.std.proofs.Common.{◌≡◌, ◌⊎◌, ℕ, zero, suc, ◌+◌, ◌<◌, Bool, List, [], ◌∷◌, ◌++◌, length, map, get_or, slice_index_or, All, Option, None, Some, refl, sym, ap, subst, ◌∙◌, inl, inr, arith, length-append}
+use Rattle.std.proofs.Common.{◌≡◌, ◌⊎◌, ℕ, suc, Bool, List, [], ◌∷◌, slice_index_or, All, Option, None, Some, refl, sym, ap, subst, ◌∙◌, arith, length-append}
 use Rattle.std.specs.Prelude.{Contains}
 use Rattle.std.specs.List.{AllZip}
-use Rattle.std.proofs.lemmas.List.{same_lists, length-map, get_or-map, get_or_append_left}
+use Rattle.std.proofs.lemmas.List.{get_or_append_left}
 use Rattle.circuits.specs.declared.port.Pair.{Pair}
 use Rattle.net_core.specs.declared.graphs.Graphs.{Graphs}
 use Rattle.net_core.specs.declared.graphs.Side.{Side}
 use Rattle.query_core.specs.declared.claims.Shape.{Shape}
 use Rattle.account_core.specs.declared.step.Tallied.{Tallied}
-use Rattle.account_core.specs.declared.step.Tallied.TheVariants.{Support, Binate}
 use Rattle.account_core.specs.declared.step.Step.{Step}
 use Rattle.account_core.specs.declared.step.Step.TheVariants as step
 use Rattle.account_core.specs.declared.step.Ban.{Ban}
 use Rattle.account_core.specs.Given.{Decided, Given, no_fact, fact_at, ban_at, with_more, IsFactGiven, IsBanGiven}
 use Rattle.account_core.specs.Mismatches.{IsImage, IsMismatch}
 use Rattle.account_core.specs.Tallies.{shapes_of, SayOf, HaveShapes, LackShapes, IsTally}
-use Rattle.account_core.specs.Covers.{ways, IsImpossible, IsReference, AreCoverNames, IsCover}
-use Rattle.account_core.specs.Steps.{AreNamesKnown, KeepsRule, HasShown, IsValidBan}
+use Rattle.account_core.specs.Covers.{ways, IsReference}
+use Rattle.account_core.specs.Steps.{AreNamesKnown, KeepsRule, IsValidBan}
 
 module _ (given : Given) (facts : List Decided) (bans : List (List Pair)) where
   abbrev more : Given
@@ -82,9 +81,10 @@ module _ (given : Given) (facts : List Decided) (bans : List (List Pair)) where
   references_stay pairs [] [] known zip = zip
   references_stay pairs [] (ref ∷ refs) known zip = zip
   references_stay pairs (pair ∷ taken) [] known zip = zip
-  references_stay pairs (pair ∷ taken) (ref ∷ refs) known zip =
-      (reference_stays pairs pair ref (λ b is. known b (0, omega arith, is)) zip.0,
-       references_stay pairs taken refs (λ b held. known b (suc held.0, omega (arith, held.1), held.2)) zip.1)
+  references_stay pairs (pair ∷ taken) (ref ∷ refs) known zip = (
+    reference_stays pairs pair ref (λ b is. known b (0, omega arith, is)) zip.0,
+    references_stay pairs taken refs (λ b held. known b (suc held.0, omega (arith, held.1), held.2)) zip.1,
+  )
 
   names_stay : (graphs : Graphs) (taken : Step) → AreNamesKnown graphs given taken → AreNamesKnown graphs more taken
   names_stay graphs (step.Vector output values) known = known

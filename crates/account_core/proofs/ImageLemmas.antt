@@ -1,6 +1,6 @@
--- What the law of images says: that a mismatch excludes its ban's pairs, and that a match carries an output's inputs to its
+-- What follows from the law of images: that a mismatch excludes its ban's pairs, and that a match carries an output's inputs to its
 -- partner's.
-use Rattle.std.proofs.Common.{◌≡◌, ◌⊎◌, ◌↔◌, ℕ, ◌<◌, ◌&&◌, Bool, true, false, cond, eqb, List, [], ◌∷◌, length, All, Option, Some, refl, sym, ap, subst, ◌∙◌, inl, inr, arith, eq-eqb}
+use Rattle.std.proofs.Common.{◌≡◌, ◌↔◌, ℕ, ◌<◌, Bool, true, false, eqb, List, [], ◌∷◌, All, Some, refl, ap, subst, ◌∙◌, inl, inr, arith, eq-eqb}
 use Rattle.std.specs.Prelude.{option_and_then, option_map}
 use Rattle.std.proofs.lemmas.Bool.{cond-true}
 use Rattle.std.proofs.lemmas.List.Elements.{All-nil, All-cons}
@@ -10,29 +10,25 @@ use Rattle.circuits.specs.Literals.{differ}
 use Rattle.circuits.specs.Bijections.{place_of, sign_of}
 use Rattle.circuits.specs.Matches.{IsMatchOfFunctions}
 use Rattle.net_core.specs.declared.graphs.Graphs.{Graphs}
-use Rattle.net_core.specs.declared.graphs.Side.TheVariants.{First, Second}
+use Rattle.net_core.specs.declared.graphs.Side.TheVariants.{First}
 use Rattle.net_core.specs.Sides.{graph_of}
 use Rattle.query_core.specs.declared.claims.Claim.{Claim}
-use Rattle.query_core.specs.declared.claims.Shape.{Shape}
-use Rattle.query_core.specs.declared.claims.Shape.TheVariants.{Up, Down}
-use Rattle.query_core.specs.Claims.{IsClaim, IsPlaced, Holds, ShapeHolds}
+use Rattle.query_core.specs.Claims.{IsPlaced, ShapeHolds}
 use Rattle.query_core.specs.Images.{HasPair, Extends, image_of, pair_of, one_input, moved_value, moved_one, claim_of_second}
 use Rattle.query_core.proofs.ClaimLaws.{no_break}
-use Rattle.account_core.specs.Given.{Given, Decided, Says, fact_at, no_fact, IsFactGiven, IsTrueFact}
+use Rattle.query_core.proofs.ImageLaws.{image_holds}
+use Rattle.account_core.specs.Given.{Given, Says, fact_at, no_fact, IsFactGiven, IsTrueFact}
 use Rattle.account_core.specs.Exclusions.{Excludes}
-use Rattle.account_core.specs.Mismatches.{IsImage, IsMismatch}
+use Rattle.account_core.specs.Mismatches.{IsMismatch}
 use Rattle.account_core.proofs.TallyLemmas.{claim_of, Correspond, CorrespondsAt}
-
-abbrev pub ImageLaw : Graphs → Type 0
-ImageLaw graphs = (pairs : List Pair) (claim image : Claim) (p q : List (ℕ × Bool)) → IsMatchOfFunctions graphs.first graphs.second p q → Extends pairs p q → claim.side ≡ First → IsClaim graphs claim → image_of pairs claim ≡ Some image → Holds graphs claim ↔ Holds graphs image
 
 -- a claim doesn't hold that a vector breaks
 apart : (graphs : Graphs) (claim : Claim) → Says graphs claim false → Says graphs claim true → ⊥
 apart graphs claim fails holds = no_break (graph_of graphs claim.side) claim.output claim.shape holds fails
 
 -- one claim is the image of the other: both hold or neither does
-pub mismatch_contradicts : (graphs : Graphs) (given : Given) (pairs : List Pair) (fails holds : ℕ) → ImageLaw graphs → All (IsTrueFact graphs) given.facts → IsFactGiven given fails → IsFactGiven given holds → IsMismatch given pairs fails holds → Excludes graphs pairs
-mismatch_contradicts graphs given pairs fails holds law facts one other is p q match extends =
+pub mismatch_contradicts : (graphs : Graphs) (given : Given) (pairs : List Pair) (fails holds : ℕ) → All (IsTrueFact graphs) given.facts → IsFactGiven given fails → IsFactGiven given holds → IsMismatch given pairs fails holds → Excludes graphs pairs
+mismatch_contradicts graphs given pairs fails holds facts one other is p q match extends =
     let failing = fact_at given fails in
     let holding = fact_at given holds in
     let failing_true : IsTrueFact graphs failing = facts fails no_fact one in
@@ -40,8 +36,8 @@ mismatch_contradicts graphs given pairs fails holds law facts one other is p q m
     let broken : Says graphs failing.claim false = subst (Says graphs failing.claim) is.one_fails failing_true.says in
     let kept : Says graphs holding.claim true = subst (Says graphs holding.claim) is.other_holds holding_true.says in
     elim is.image [
-      | inl image ↦ apart graphs failing.claim broken ((law pairs failing.claim holding.claim p q match extends image.0 failing_true.placed image.1).1 kept)
-      | inr image ↦ apart graphs failing.claim broken ((law pairs holding.claim failing.claim p q match extends image.0 holding_true.placed image.1).0 kept)
+      | inl image ↦ apart graphs failing.claim broken ((image_holds graphs p q pairs failing.claim holding.claim match extends image.0 failing_true.placed image.1).1 kept)
+      | inr image ↦ apart graphs failing.claim broken ((image_holds graphs p q pairs holding.claim failing.claim match extends image.0 holding_true.placed image.1).0 kept)
     ]
 
 abbrev pub input_pair : ℕ → ℕ → Bool → Pair
@@ -81,8 +77,8 @@ is_placed n i false below = below
 is_placed n i true below = below
 
 -- a match carries an output's claims of one input to its partner's claims of one
-pub correspond : (graphs : Graphs) → ImageLaw graphs → (p q : List (ℕ × Bool)) → IsMatchOfFunctions graphs.first graphs.second p q → CorrespondsAt graphs p q
-correspond graphs law p q match k i below_k below_i =
+pub correspond : (graphs : Graphs) (p q : List (ℕ × Bool)) → IsMatchOfFunctions graphs.first graphs.second p q → CorrespondsAt graphs p q
+correspond graphs p q match k i below_k below_i =
     let j = place_of p i in
     let l = place_of q k in
     let s = sign_of p i in
@@ -90,4 +86,4 @@ correspond graphs law p q match k i below_k below_i =
     let input : HasPair p q (input_pair i j s) = record { there = omega (arith, below_i, match.inputs.entries); goes = refl } in
     let output : HasPair p q (output_pair k l t) = record { there = omega (arith, below_k, match.outputs.entries); goes = refl } in
     let extends : Extends (both_pairs i j s k l t) p q = All-cons (HasPair p q) (input_pair i j s) (output_pair k l t ∷ []) input (All-cons (HasPair p q) (output_pair k l t) [] output (All-nil (HasPair p q))) in
-    by_signs graphs i j k l s t (λ a. law (both_pairs i j s k l t) (claim_of First k (one_input i a)) (claim_of_second l (one_input j (moved_value t (input_pair i j s) a))) p q match extends refl (record { output = below_k; placed = is_placed graphs.first.inputs i a below_i }) (image_at i j s k l t a))
+    by_signs graphs i j k l s t (λ a. image_holds graphs p q (both_pairs i j s k l t) (claim_of First k (one_input i a)) (claim_of_second l (one_input j (moved_value t (input_pair i j s) a))) match extends refl (record { output = below_k; placed = is_placed graphs.first.inputs i a below_i }) (image_at i j s k l t a))

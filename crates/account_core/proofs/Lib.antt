@@ -8,5 +8,4 @@ pub mod Growing
 pub mod ImageLemmas
 pub mod StepLemmas
 pub mod OrderedPairs
-pub mod BanFaults
 pub mod SentOnly

@@ -1,5 +1,5 @@
 -- What a match that extends pairs says of them.
-use Rattle.std.proofs.Common.{◌≡◌, ◌≢◌, ◌⊎◌, ℕ, zero, suc, ◌<◌, ◌≤◌, ◌&&◌, Bool, true, false, cond, eqb, List, [], ◌∷◌, length, get_or, slice_index_or, All, AllPairs, Some, None, Option, refl, sym, ap, subst, ◌∙◌, inl, inr, arith, eqb-true}
+use Rattle.std.proofs.Common.{◌≡◌, ℕ, suc, ◌<◌, Bool, true, false, eqb, List, [], ◌∷◌, length, slice_index_or, Some, refl, sym, ap, subst, ◌∙◌, inl, inr, arith, eqb-true}
 use Rattle.std.specs.Prelude.{Contains, find}
 use Rattle.std.proofs.lemmas.Bool.{cases_Bool, cases_order, and_parts, cond-true, cond-false}
 use Rattle.std.proofs.lemmas.Option.{same_Some}
@@ -9,7 +9,7 @@ use Rattle.circuits.specs.declared.port.PortKind.TheVariants.{Input, Output}
 use Rattle.circuits.specs.Netlists.{Net}
 use Rattle.circuits.specs.Bijections.{IsSignedBijection, place_of, sign_of}
 use Rattle.circuits.specs.Matches.{IsMatchOfFunctions}
-use Rattle.query_core.specs.Images.{HasPair, Extends, entries_of, same_kind, is_of, pair_of}
+use Rattle.query_core.specs.Images.{HasPair, entries_of, same_kind, is_of, pair_of}
 use Rattle.account_core.specs.Ports.{ports_in, Clash}
 
 -- the ports of each kind are as many, and go to one another by a signed bijection

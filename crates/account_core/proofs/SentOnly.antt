@@ -1,13 +1,13 @@
 -- That the relation and the function say the same of what the pairs make of values.
-use Rattle.std.proofs.Common.{◌≡◌, ◌≢◌, ◌⊎◌, ℕ, zero, suc, ◌<◌, ◌&&◌, Bool, true, false, cond, eqb, List, [], ◌∷◌, length, map, get_or, slice_index_or, refl, sym, ap, subst, ◌∙◌, inl, inr, arith, eqb-true, eq-eqb, ext_get_or}
+use Rattle.std.proofs.Common.{◌≡◌, ◌≢◌, ◌⊎◌, ℕ, zero, suc, ◌<◌, ◌&&◌, Bool, true, false, eqb, List, [], ◌∷◌, length, get_or, refl, sym, ap, ◌∙◌, inl, inr, arith, eqb-true, eq-eqb, ext_get_or}
 use Rattle.std.specs.Prelude.{Contains, All}
-use Rattle.std.proofs.lemmas.Bool.{cases_Bool, and_parts, and_cases, and_from, cond-true, cond-false, false≢true}
+use Rattle.std.proofs.lemmas.Bool.{cases_Bool, and_parts, and_from, cond-true, cond-false, false≢true}
 use Rattle.std.proofs.lemmas.List.FromFn.{length-map-range_with_len, get_or-map-range_with_len}
 use Rattle.std.proofs.lemmas.List.Elements.{All-contains}
 use Rattle.circuits.specs.declared.port.Pair.{Pair}
 use Rattle.circuits.specs.declared.port.PortKind.{PortKind}
 use Rattle.circuits.specs.declared.port.PortKind.TheVariants.{Input, Output}
-use Rattle.query_core.specs.Images.{Agree, same_kind}
+use Rattle.query_core.specs.Images.{same_kind}
 use Rattle.word_sim.specs.declared.tri.Tri.{Tri}
 use Rattle.word_sim.specs.declared.tri.Tri.TheVariants.{X}
 use Rattle.account_core.specs.Ports.{AreOrdered}
@@ -43,12 +43,15 @@ source (one ∷ pairs) values place =
     elim (cases_Bool (goes_to place one)) [
       | inl here ↦
           let parts = and_parts (same_kind one.kind Input) (eqb one.to place) here in
-          inl (one, record {
-            held = (0, omega arith, refl);
-            of_input = kind_is one.kind Input parts.0;
-            goes = eqb-true one.to place parts.1;
-            value = cond-true (goes_to place one) (signed one.flip (value_at values one.from)) (value_sent pairs values place) here;
-          })
+          inl (
+            one,
+            record {
+              held = (0, omega arith, refl);
+              of_input = kind_is one.kind Input parts.0;
+              goes = eqb-true one.to place parts.1;
+              value = cond-true (goes_to place one) (signed one.flip (value_at values one.from)) (value_sent pairs values place) here;
+            },
+          )
       | inr other ↦
           let past = cond-false (goes_to place one) (signed one.flip (value_at values one.from)) (value_sent pairs values place) other in
           elim (source pairs values place) [

@@ -1,7 +1,5 @@
 -- What the pairs make of values at the second circuit's inputs.
-use Rattle.std.proofs.Common.{◌≡◌, ◌≢◌, ◌⊎◌, ℕ, zero, suc, ◌<◌, ◌≤◌, ◌&&◌, not, Bool, true, false, cond, eqb, List, [], ◌∷◌, length, map, get_or, All, Some, refl, sym, ap, subst, ◌∙◌, inl, inr, arith, eqb-true}
-use Rattle.std.specs.Prelude.{Contains}
-use Rattle.std.specs.List.{range_with_len}
+use Rattle.std.proofs.Common.{◌≡◌, ◌≢◌, ℕ, zero, suc, ◌<◌, ◌≤◌, ◌&&◌, Bool, true, false, eqb, List, [], ◌∷◌, length, map, refl, sym, ap, subst, ◌∙◌, inl, inr, arith, eqb-true}
 use Rattle.std.proofs.lemmas.Bool.{cases_Bool, cases_lt, and_parts, cond-true, cond-false}
 use Rattle.std.proofs.lemmas.List.{length-map, get_or-map}
 use Rattle.std.proofs.lemmas.List.FromFn.{length-map-range_with_len, get_or-map-range_with_len}
@@ -11,18 +9,17 @@ use Rattle.circuits.specs.declared.port.PortKind.TheVariants.{Input, Output}
 use Rattle.circuits.specs.Literals.{bit, differ}
 use Rattle.circuits.specs.Netlists.{Net, IsOrdered, function_of}
 use Rattle.circuits.specs.Bijections.{IsSignedBijection, Moves, moved, place_of, sign_of}
-use Rattle.circuits.specs.Matches.{IsMatchOfFunctions}
 use Rattle.circuits.proofs.Places.{moved-moves, length-moved}
 use Rattle.net_core.specs.declared.graphs.Graphs.{Graphs}
 use Rattle.net_core.specs.Graph.{IsGraph}
-use Rattle.query_core.specs.Images.{HasPair, Extends, entries_of, same_kind, pair_of}
+use Rattle.query_core.specs.Images.{HasPair, Extends, entries_of, same_kind}
 use Rattle.word_sim.specs.declared.tri.Tri.{Tri}
 use Rattle.word_sim.specs.declared.tri.Tri.TheVariants.{Zero, One, X}
-use Rattle.word_sim.specs.ThreeValues.{tri_not, tri_outputs, IsBitOf, FillsIn}
+use Rattle.word_sim.specs.ThreeValues.{tri_outputs, IsBitOf, FillsIn}
 use Rattle.word_sim.proofs.Fillings.{FillsIn-outputs}
-use Rattle.account_core.specs.Vectors.{value_at, signed, value_sent, values_sent, first_value, second_value, ShowsDifference}
+use Rattle.account_core.specs.Vectors.{value_at, signed, value_sent, values_sent, ShowsDifference}
 use Rattle.account_core.specs.Exclusions.{Excludes}
-use Rattle.account_core.proofs.Matched.{as_many, kind_is, pair_of-held, pair_place, pair_sign}
+use Rattle.account_core.proofs.Matched.{kind_is, pair_of-held, pair_place, pair_sign}
 
 -- each X filled in by 0
 abbrev pub is_one : Tri → Bool

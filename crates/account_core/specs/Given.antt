@@ -9,9 +9,7 @@ use Rattle.query_core.specs.Claims.{IsClaim, Holds, Breaks}
 use Rattle.account_core.specs.declared.fact.Evidence.{Evidence}
 use Rattle.account_core.specs.declared.fact.Evidence.TheVariants as evidence
 use Rattle.account_core.specs.declared.fact.Fact.{Fact}
-use Rattle.account_core.specs.declared.fact.FactHead.{FactHead}
 use Rattle.account_core.specs.declared.step.Ban.{Ban}
-use Rattle.account_core.specs.declared.fact.FactHead.TheVariants as head
 
 -- A claim that was decided: it holds, or it fails.
 pub record Decided : Type 0 where
@@ -20,11 +18,6 @@ pub record Decided : Type 0 where
 
 abbrev pub decided : Claim → Bool → Decided
 decided claim holds = record { claim = claim; holds = holds }
-
--- what the line of a fact decides
-abbrev pub told_by : FactHead → Decided
-told_by (head.Fails claim bits) = decided claim false
-told_by (head.Holds claim) = decided claim true
 
 -- what a fact decides
 abbrev pub shown_by : Claim → Evidence → Decided

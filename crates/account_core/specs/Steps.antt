@@ -1,5 +1,5 @@
 -- When a ban's step is valid in view of the facts and bans given before it (this project's format).
-use Rattle.std.specs.Prelude.{◌⊎◌, ◌<◌, List, length, take, All, IsSome}
+use Rattle.std.specs.Prelude.{◌<◌, List, length, take, All, IsSome}
 use Rattle.circuits.specs.declared.port.Pair.{Pair}
 use Rattle.circuits.specs.Literals.{EachAt}
 use Rattle.circuits.specs.declared.port.PortKind.TheVariants.{Output}
@@ -47,25 +47,3 @@ pub record IsValidBan (graphs : Graphs) (given : Given) (ban : Ban) : Type 0 whe
 -- each ban of a list is valid in view of the facts, and of the bans before it
 abbrev pub AreValidBans : Graphs → List Decided → List Ban → Type 0
 AreValidBans graphs facts bans = EachAt (λ k ban. IsValidBan graphs (given_of facts (take k bans)) ban) bans
-
--- All pairs' ports exist and the pairs are in order, so that the step is tested.
-pub record HasGoodPairs (graphs : Graphs) (ban : Ban) : Type 0 where
-  pub known : All (IsKnown graphs) ban.pairs
-  pub ordered : AreOrdered ban.pairs
-
--- Something that is named is not there: a port of the pairs; or, behind good pairs, what the step names.
-abbrev pub NamesUnknown : Graphs → Given → Ban → Type 0
-NamesUnknown graphs given ban = (All (IsKnown graphs) ban.pairs → ⊥)
-    ⊎ (HasGoodPairs graphs ban × (AreNamesKnown graphs given ban.step → ⊥))
-
--- All ports of the pairs exist, and they are out of order; or, behind good pairs and known names, the step's rule is broken.
-abbrev pub BreaksRule : Graphs → Given → Ban → Type 0
-BreaksRule graphs given ban = (All (IsKnown graphs) ban.pairs × (AreOrdered ban.pairs → ⊥))
-    ⊎ (HasGoodPairs graphs ban × AreNamesKnown graphs given ban.step × (KeepsRule graphs given ban.pairs ban.step → ⊥))
-
--- Nothing else is wrong, but the vector doesn't show what it is given for.
-abbrev pub ShowsNothing : Graphs → Given → Ban → Type 0
-ShowsNothing graphs given ban = HasGoodPairs graphs ban
-    × AreNamesKnown graphs given ban.step
-    × KeepsRule graphs given ban.pairs ban.step
-    × (HasShown graphs ban.pairs ban.step → ⊥)
