@@ -1,0 +1,2 @@
+pub mod Covering
+pub use Rattle.account_core.specs.Steps

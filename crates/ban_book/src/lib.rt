@@ -1,0 +1,9 @@
+//! Exclusions that are held while a match is sought.
+#![tactic(auto)]
+
+mod book;
+
+pub use book::BanBook;
+
+#[cfg(test)]
+mod tests;

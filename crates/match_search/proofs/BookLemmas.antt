@@ -1,0 +1,107 @@
+-- What a book of bans holds.
+use Rattle.std.proofs.Common.{◌≡◌, ℕ, ◌<◌, List, [], ◌∷◌, ◌++◌, length, take, get_or, All, Option, None, Some, sym, ap, subst, ◌∙◌, inl, inr, arith}
+use Rattle.std.specs.List.{range_with_len}
+use Rattle.std.proofs.lemmas.Bool.{cases_lt}
+use Rattle.std.proofs.lemmas.List.{append-nil, append_assoc, take_all, take-append-le, get_or_append_left, get_or_push, length_push, length-append, length-map}
+use Rattle.std.proofs.lemmas.List.Elements.{All-contains, All-cons, All-nil}
+use Rattle.std.proofs.lemmas.List.FromFn.{length-range_with_len, get_or-range_with_len}
+use Rattle.circuits.specs.declared.port.Pair.{Pair}
+use Rattle.circuits.specs.declared.port.PortKind.{PortKind}
+use Rattle.circuits.specs.declared.port.PortKind.TheVariants.{Input, Output}
+use Rattle.net_core.specs.declared.graphs.Graphs.{Graphs}
+use Rattle.account_core.specs.declared.step.Ban.{Ban}
+use Rattle.account_core.specs.declared.step.Step.TheVariants as step
+use Rattle.account_core.specs.Ports.{ports_in, HaveAsMany, IsKnown}
+use Rattle.account_core.specs.Given.{Decided, given_of}
+use Rattle.account_core.specs.Covers.{IsReference}
+use Rattle.account_core.specs.Tallies.{Ascend}
+use Rattle.account_core.specs.Steps.{AreValidBans, IsValidBan}
+use Rattle.ban_book.specs.Covering.{Covers, IsWithin}
+use Rattle.match_search.specs.declared.level.Level.{Level}
+use Rattle.match_search.specs.Held.{AreHeld, IsPart}
+use Rattle.match_search.specs.Levels.{nth_way, ways_of, AreClosed, HoldsMore, IsTried}
+use Rattle.match_search.proofs.ClosedLemmas.{all_ways}
+
+pub holds_none : (graphs : Graphs) (bans : List Ban) → HoldsMore graphs bans bans
+holds_none graphs bans = record { added = []; more = sym (append-nil bans); valid = λ facts valid. valid }
+
+valid_push : (graphs : Graphs) (facts : List Decided) (bans : List Ban) (ban : Ban) → AreValidBans graphs facts bans → IsValidBan graphs (given_of facts bans) ban → AreValidBans graphs facts (bans ++ ban ∷ [])
+valid_push graphs facts bans ban valid here k d below =
+    elim (cases_lt k (length bans)) [
+      | inl less ↦
+          subst (λ (b : Ban). IsValidBan graphs (given_of facts (take k (bans ++ ban ∷ []))) b) (sym (get_or_append_left bans (ban ∷ []) d k less)) (subst (λ (l : List Ban). IsValidBan graphs (given_of facts l) (get_or bans k d)) (sym (take-append-le k bans (ban ∷ []) (omega arith))) (valid k d less))
+      | inr past ↦
+          let e : length bans ≡ k = omega (arith, below, past, length_push bans ban) in
+          let front : take k (bans ++ ban ∷ []) ≡ bans = take-append-le k bans (ban ∷ []) (omega (arith, e)) ∙ take_all k bans (omega (arith, e)) in
+          subst (λ (b : Ban). IsValidBan graphs (given_of facts (take k (bans ++ ban ∷ []))) b) (sym (get_or_push bans ban d k e)) (subst (λ (l : List Ban). IsValidBan graphs (given_of facts l) ban) (sym front) here)
+    ]
+
+-- one more valid ban is held
+pub holds_one : (graphs : Graphs) (bans after : List Ban) (ban : Ban) → after ≡ bans ++ ban ∷ [] → ((facts : List Decided) → IsValidBan graphs (given_of facts bans) ban) → HoldsMore graphs bans after
+holds_one graphs bans after ban is valid = record {
+  added = ban ∷ [];
+  more = is;
+  valid = λ facts before. subst (AreValidBans graphs facts) (sym is) (valid_push graphs facts bans ban before (valid facts));
+}
+
+pub covers_last : (bans after : List Ban) (ban : Ban) (pairs : List Pair) (number : ℕ) → after ≡ bans ++ ban ∷ [] → number ≡ length bans → IsWithin pairs ban → Covers after pairs number
+covers_last bans after ban pairs number is last within = record {
+  held = omega (arith, ap length is, length_push bans ban, last);
+  within = λ d. subst (IsWithin pairs) (sym (ap (λ l. get_or l number d) is ∙ get_or_push bans ban d number (sym last))) within;
+}
+
+pub holds_twice : (graphs : Graphs) (first second third : List Ban) → HoldsMore graphs first second → HoldsMore graphs second third → HoldsMore graphs first third
+holds_twice graphs first second third one other = record {
+  added = one.added ++ other.added;
+  more = other.more ∙ (ap (λ l. l ++ other.added) one.more ∙ append_assoc first one.added other.added);
+  valid = λ facts valid. other.valid facts (one.valid facts valid);
+}
+
+pub covers_more : (graphs : Graphs) (before after : List Ban) (pairs : List Pair) (number : ℕ) → HoldsMore graphs before after → Covers before pairs number → Covers after pairs number
+covers_more graphs before after pairs number more is = record {
+  held = omega (arith, is.held, ap length more.more, length-append before more.added);
+  within = λ d. subst (IsWithin pairs) (sym (ap (λ l. get_or l number d) more.more ∙ get_or_append_left before more.added d number is.held)) (is.within d);
+}
+
+reference_facts : (facts : List Decided) (bans : List Ban) (pairs : List Pair) (pair : Pair) (ref : Option ℕ) → IsReference (given_of [] bans) pairs pair ref → IsReference (given_of facts bans) pairs pair ref
+reference_facts facts bans pairs pair None is = is
+reference_facts facts bans pairs pair (Some ban) is = is
+
+range_ascends : (n : ℕ) → Ascend (range_with_len 0 n)
+range_ascends n i j d less below =
+    let there : j < n = omega (arith, below, length-range_with_len 0 n) in
+    omega (arith, get_or-range_with_len 0 n i d (omega (arith, less, there)), get_or-range_with_len 0 n j d there, less)
+
+range_below : (n : ℕ) → All (λ port. port < n) (range_with_len 0 n)
+range_below n k d below =
+    let there : k < n = omega (arith, below, length-range_with_len 0 n) in
+    omega (arith, get_or-range_with_len 0 n k d there, there)
+
+as_many : (graphs : Graphs) (kind : PortKind) → HaveAsMany graphs.first graphs.second → ports_in graphs.first kind ≡ ports_in graphs.second kind
+as_many graphs Input many = many.inputs
+as_many graphs Output many = many.outputs
+
+abbrev pub cover_of : Graphs → List Pair → Level → Ban
+cover_of graphs pairs level = record { pairs = pairs; step = step.Cover level.kind (level.from ∷ []) (range_with_len 0 (ports_in graphs.second level.kind)) level.refs }
+
+pub cover_valid : (graphs : Graphs) (bans : List Ban) (held pairs : List Pair) (level : Level) (facts : List Decided) → HaveAsMany graphs.first graphs.second → AreHeld graphs held → IsTried graphs bans held level → length level.refs ≡ ways_of graphs level → IsPart held pairs → AreClosed bans pairs level → IsValidBan graphs (given_of facts bans) (cover_of graphs pairs level)
+cover_valid graphs bans held pairs level facts many are tried all part closed = record {
+  known = λ k d below. All-contains (IsKnown graphs) held (get_or pairs k d) are.known (part.among k d below);
+  ordered = part.ordered;
+  names = record {
+    first_ports = All-cons (λ port. port < ports_in graphs.first level.kind) level.from [] tried.port (All-nil (λ port. port < ports_in graphs.first level.kind));
+    second_ports = range_below (ports_in graphs.second level.kind);
+    given_bans = λ ban held_ref. omega (arith, (closed held_ref.0 (Some ban) held_ref.1).held ban held_ref.2, length-map bans (λ (b : Ban). b.pairs));
+  };
+  rule = record {
+    from_ascends = λ i j d less below. absurd (omega (arith, less, below));
+    to_ascends = range_ascends (ports_in graphs.second level.kind);
+    too_many = omega (arith, as_many graphs level.kind many, length-range_with_len 0 (ports_in graphs.second level.kind));
+    referred = all_ways level.kind level.from (ports_in graphs.second level.kind) (IsReference (given_of facts bans) pairs) level.refs all (λ number ref below. reference_facts facts bans pairs (nth_way level.kind level.from number) (get_or level.refs number ref) ((closed number ref below).refers));
+  };
+  shown = tt;
+}
+
+pub cover_valid_of : (graphs : Graphs) (bans : List Ban) (held pairs : List Pair) (level : Level) → HaveAsMany graphs.first graphs.second → AreHeld graphs held → IsTried graphs bans held level → length level.refs ≡ ways_of graphs level → IsPart held pairs → AreClosed bans pairs level → (ps : List Pair) (from to : List ℕ) → ps ≡ pairs → from ≡ level.from ∷ [] → to ≡ range_with_len 0 (ports_in graphs.second level.kind) → (facts : List Decided) → IsValidBan graphs (given_of facts bans) (record { pairs = ps; step = step.Cover level.kind from to level.refs })
+cover_valid_of graphs bans held pairs level many are tried all part closed ps from to ps_is from_is to_is facts =
+    subst (λ l. IsValidBan graphs (given_of facts bans) (record { pairs = l; step = step.Cover level.kind from to level.refs })) (sym ps_is) (subst (λ l. IsValidBan graphs (given_of facts bans) (record { pairs = pairs; step = step.Cover level.kind l to level.refs })) (sym from_is) (subst (λ l. IsValidBan graphs (given_of facts bans) (record { pairs = pairs; step = step.Cover level.kind (level.from ∷ []) l level.refs })) (sym to_is) (cover_valid graphs bans held pairs level facts many are tried all part closed)))

@@ -1,0 +1,17 @@
+pub mod ListLemmas
+pub mod OrderLemmas
+pub mod ClosedLemmas
+pub mod GatherLemmas
+pub mod CloseLemmas
+pub mod BookLemmas
+pub mod TableLemmas
+pub mod SentLemmas
+pub mod StateLemmas
+pub mod TurnLemmas
+pub mod ShownLemmas
+pub mod DefiniteLemmas
+pub mod DifferLemmas
+pub mod WeightLemmas
+pub mod ServeLemmas
+pub mod CompareLemmas
+pub mod SearchLemmas

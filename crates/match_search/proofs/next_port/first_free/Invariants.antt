@@ -1,0 +1,6 @@
+use Rattle.std.proofs.Common.{ℕ, ◌<◌}
+use Rattle.match_search.specs.Held.{IsTaken}
+use Rattle.match_search.proofs.next_port.first_free.Given as goal
+
+abbrev pub invariant-loop-port : goal.invariant-loop-port
+invariant-loop-port l = (q : ℕ) → q < l.port → IsTaken l.held l.kind q

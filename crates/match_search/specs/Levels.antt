@@ -1,0 +1,68 @@
+-- How far the ways of a port were tried (backtracking with conflict-directed backjumping: Prosser, Comput. Intell. 1993).
+use Rattle.std.specs.Prelude.{◌≡◌, ℕ, ◌*◌, ◌/◌, ◌%◌, ◌<◌, ◌≤◌, ◌==◌, Bool, true, false, List, [], ◌++◌, length, map, take, Option, Some}
+use Rattle.circuits.specs.declared.port.Pair.{Pair}
+use Rattle.circuits.specs.declared.port.PortKind.{PortKind}
+use Rattle.circuits.specs.Literals.{EachAt}
+use Rattle.net_core.specs.declared.graphs.Graphs.{Graphs}
+use Rattle.account_core.specs.declared.step.Ban.{Ban}
+use Rattle.account_core.specs.Ports.{ports_in}
+use Rattle.account_core.specs.Given.{Decided, given_of}
+use Rattle.account_core.specs.Covers.{way, IsImpossible, IsReference}
+use Rattle.account_core.specs.Steps.{AreValidBans}
+use Rattle.match_search.specs.declared.level.Level.{Level}
+use Rattle.match_search.specs.Held.{AreHeld, IsTaken}
+
+-- the ways of a port, numbered: to port 0, plain and then negated, to port 1, and so on
+abbrev pub nth_way : PortKind → ℕ → ℕ → Pair
+nth_way kind from number = way kind from (number / 2) (number % 2 == 1)
+
+-- A way is closed beside pairs: it is impossible, or it leads into a ban that is held.
+pub record IsClosed (bans : List Ban) (pairs : List Pair) (pair : Pair) (ref : Option ℕ) : Type 0 where
+  pub refers : IsReference (given_of [] bans) pairs pair ref
+  pub held : (ban : ℕ) → ref ≡ Some ban → ban < length bans
+
+-- the first ways of a port are closed beside pairs
+abbrev pub AreClosed : List Ban → List Pair → Level → Type 0
+AreClosed bans pairs level =
+    EachAt (λ number ref. IsClosed bans pairs (nth_way level.kind level.from number) ref) level.refs
+
+-- how many ways the port of a level has
+abbrev pub ways_of : Graphs → Level → ℕ
+ways_of graphs level = 2 * ports_in graphs.second level.kind
+
+-- A port that is in no pair, and whose first ways are closed.
+pub record IsTried (graphs : Graphs) (bans : List Ban) (pairs : List Pair) (level : Level) : Type 0 where
+  pub port : level.from < ports_in graphs.first level.kind
+  pub free : IsTaken pairs level.kind level.from → ⊥
+  pub room : length level.refs ≤ ways_of graphs level
+  pub closed : AreClosed bans pairs level
+
+-- the way that is tried: the first that isn't closed
+abbrev pub chosen : Level → Pair
+chosen level = nth_way level.kind level.from (length level.refs)
+
+-- The pairs that are held are the ways that are tried, and what is closed at a level is closed beside the pairs of the levels
+-- before it.
+pub record IsSearch (graphs : Graphs) (bans : List Ban) (held : List Pair) (levels : List Level) : Type 0 where
+  pub pairs : AreHeld graphs held
+  pub tried : held ≡ map chosen levels
+  pub each : EachAt (λ i level. IsTried graphs bans (take i held) level) levels
+
+-- the last way that is tried is open: it isn't impossible beside the pairs before it, so it shares no port with them
+abbrev pub IsOpen : List Pair → Pair → Type 0
+IsOpen pairs pair = IsImpossible pairs pair → ⊥
+
+-- Of the ways behind those that were closed, the ones that are impossible are closed until the first that isn't.
+pub record ClosesImpossible (held : List Pair) (ways : ℕ) (before after : Level) (open' : Bool) : Type 0 where
+  pub kind_is : after.kind ≡ before.kind
+  pub from_is : after.from ≡ before.from
+  pub more : length before.refs ≤ length after.refs
+  pub closed : (bans : List Ban) → AreClosed bans held before → AreClosed bans held after
+  pub found : open' ≡ true → (length after.refs < ways) × IsOpen held (chosen after)
+  pub none : open' ≡ false → length after.refs ≡ ways
+
+-- Bans came behind those that were held, and where those were valid all are, in view of any facts.
+pub record HoldsMore (graphs : Graphs) (before after : List Ban) : Type 0 where
+  pub added : List Ban
+  pub more : after ≡ before ++ added
+  pub valid : (facts : List Decided) → AreValidBans graphs facts before → AreValidBans graphs facts after

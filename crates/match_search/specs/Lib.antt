@@ -1,0 +1,9 @@
+pub mod Held
+pub mod Levels
+pub mod Progress
+pub mod States
+pub mod Founds
+pub mod Differences
+pub use Rattle.account_core.specs.Oracles
+pub use Rattle.account_core.specs.Steps
+pub use Rattle.ban_book.specs.Covering

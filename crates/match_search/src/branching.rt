@@ -1,0 +1,140 @@
+//! The search.
+
+ghost use Rattle.std.specs.Prelude.{◌≡◌, ◌<◌, [], IfNone, IfOk, IfSome, map};
+ghost use Rattle.account_core.specs.Given.{decided_by};
+ghost use Rattle.account_core.specs.Oracles.{AreFacts, Serves, Suits};
+ghost use Rattle.account_core.specs.Ports.{HaveAsMany};
+ghost use Rattle.account_core.specs.Steps.{AreValidBans};
+ghost use Rattle.match_search.specs.Founds.{IsFound};
+ghost use Rattle.match_search.specs.Levels.{HoldsMore, IsTried};
+ghost use Rattle.match_search.specs.Progress.{left};
+ghost use Rattle.match_search.specs.States.{AreValid, IsAhead, IsSearchState};
+
+use crate::ahead::Ahead;
+use crate::candidate::compare_whole;
+use crate::found::Found;
+use crate::level::Level;
+use crate::next_port::next_port;
+use crate::state::State;
+use crate::tries::{advance, turn_back};
+use account_core::Oracle;
+use ban_book::BanBook;
+use cnf_core::Stop;
+use net_core::Graphs;
+use query_core::Ledger;
+use std::alloc::{AllocError, Global};
+
+/// Looks for a match of two circuits with as many ports: decides the first circuit's ports one by one, compares the outputs
+/// of whole tables, and holds a ban for each table that is no match and for each port that has no way left. From a ban it
+/// goes back to the last port that the ban needs.
+///
+/// The book's bans are valid in view of the oracle's facts, whatever is answered.
+///
+/// # Errors
+///
+/// `Spent` where a line had to be learned and the ledger's budget was spent. `Memory` for want of memory.
+pub fn search<O: Oracle>(
+    alloc: Global,
+    graphs: &Graphs,
+    oracle: &mut O,
+    book: &mut BanBook,
+    ledger: &mut Ledger,
+) -> Result<Found, Stop>
+    requires graphs { graphs.now ≡ (O.known oracle.old).graphs }
+    requires ports { HaveAsMany graphs.now.first graphs.now.second }
+    requires book { book.old ≡ [] }
+    requires suits { Suits (O.known oracle.old) ledger.old }
+    ensures serves { Serves (O.known oracle.old) (O.known oracle.new) ledger.old ledger.new result }
+    ensures bans { AreValidBans graphs.now (map decided_by (O.known oracle.new).facts) book.new }
+    ensures found { IfOk result (IsFound graphs.now book.new) }
+{
+    let _facts = oracle.facts();
+    let mut state = State::new(alloc);
+    loop {
+        if let Some(found) = turn(alloc, graphs, oracle, &mut state, book, ledger)? {
+            return Ok(found);
+        }
+    }
+}
+
+// One step ahead, and back from a ban where it runs into one. It answers None where a way is held that wasn't tried before.
+fn turn<O: Oracle>(
+    alloc: Global,
+    graphs: &Graphs,
+    oracle: &mut O,
+    state: &mut State,
+    book: &mut BanBook,
+    ledger: &mut Ledger,
+) -> Result<Option<Found>, Stop>
+    requires graphs { graphs.now ≡ (O.known oracle.old).graphs }
+    requires lawful { AreFacts graphs.now (O.known oracle.old).facts }
+    requires ports { HaveAsMany graphs.now.first graphs.now.second }
+    requires suits { Suits (O.known oracle.old) ledger.old }
+    requires valid { AreValid graphs.now (O.known oracle.old) book.old }
+    requires search { IsSearchState graphs.now book.old state.old }
+    ensures serves { Serves (O.known oracle.old) (O.known oracle.new) ledger.old ledger.new result }
+    ensures valid { AreValid graphs.now (O.known oracle.new) book.new }
+    ensures search { IfOk result (λ found. IfNone found (IsSearchState graphs.now book.new state.new)) }
+    ensures less { IfOk result (λ found. IfNone found (left graphs.now state.new.levels < left graphs.now state.old.levels)) }
+    ensures found { IfOk result (λ found. IfSome found (IsFound graphs.now book.new)) }
+{
+    let ban = match ahead(alloc, graphs, oracle, state, book, ledger)? {
+        Ahead::Deeper => return Ok(None),
+        Ahead::Match(matching, logs) => return Ok(Some(Found::Match(matching, logs))),
+        Ahead::Ban(ban) => ban,
+    };
+    match turn_back(alloc, graphs, state, ban, book)? {
+        None => Ok(None),
+        Some(ban) => Ok(Some(Found::None(ban))),
+    }
+}
+
+// One step ahead: unless the pairs that are held run into a ban, the next port's ways are tried, and where no port is left
+// the outputs are compared.
+fn ahead<O: Oracle>(
+    alloc: Global,
+    graphs: &Graphs,
+    oracle: &mut O,
+    state: &mut State,
+    book: &mut BanBook,
+    ledger: &mut Ledger,
+) -> Result<Ahead, Stop>
+    requires graphs { graphs.now ≡ (O.known oracle.old).graphs }
+    requires lawful { AreFacts graphs.now (O.known oracle.old).facts }
+    requires ports { HaveAsMany graphs.now.first graphs.now.second }
+    requires suits { Suits (O.known oracle.old) ledger.old }
+    requires valid { AreValid graphs.now (O.known oracle.old) book.old }
+    requires search { IsSearchState graphs.now book.old state.old }
+    ensures serves { Serves (O.known oracle.old) (O.known oracle.new) ledger.old ledger.new result }
+    ensures valid { AreValid graphs.now (O.known oracle.new) book.new }
+    ensures ahead { IfOk result (IsAhead graphs.now book.new state.old state.new) }
+{
+    if let Some(ban) = book.covering(&state.held) {
+        return Ok(Ahead::Ban(ban));
+    }
+    let Some((kind, from)) = next_port(graphs, &state.held) else {
+        return compare_whole(alloc, graphs, oracle, state, book, ledger);
+    };
+    let ahead = descend(alloc, graphs, state, Level::new(alloc, kind, from), book)?;
+    Ok(ahead)
+}
+
+// Tries the ways of a port.
+fn descend(
+    alloc: Global,
+    graphs: &Graphs,
+    state: &mut State,
+    level: Level,
+    book: &mut BanBook,
+) -> Result<Ahead, AllocError>
+    requires ports { HaveAsMany graphs.now.first graphs.now.second }
+    requires search { IsSearchState graphs.now book.old state.old }
+    requires tried { IsTried graphs.now book.old state.old.held level }
+    ensures more { HoldsMore graphs.now book.old book.new }
+    ensures ahead { IfOk result (IsAhead graphs.now book.new state.old state.new) }
+{
+    match advance(alloc, graphs, state, level, book)? {
+        None => Ok(Ahead::Deeper),
+        Some(ban) => Ok(Ahead::Ban(ban)),
+    }
+}

@@ -1,0 +1,117 @@
+//! Whole tables, which are compared output by output.
+
+ghost use Rattle.std.specs.Prelude.{◌≡◌, ◌<◌, [], IfNone, IfOk, IfSome, length};
+ghost use Rattle.account_core.specs.Oracles.{AreFacts, IsDifference, Serves, Suits};
+ghost use Rattle.account_core.specs.Ports.{HaveAsMany};
+ghost use Rattle.circuits.specs.Matches.{HavePorts};
+ghost use Rattle.match_search.specs.Founds.{AreLogs, IsComparison};
+ghost use Rattle.match_search.specs.Held.{IsWhole};
+ghost use Rattle.match_search.specs.States.{AreValid, IsAhead, IsSearchState};
+
+use crate::ahead::Ahead;
+use crate::difference::exclude;
+use crate::state::State;
+use crate::table::table;
+use account_core::{Compared, Oracle};
+use ban_book::BanBook;
+use bit_list::Bits;
+use cnf_core::{Log, Stop};
+use items::Items;
+use net_core::{Graphs, Matching};
+use query_core::Ledger;
+use std::alloc::Global;
+
+/// An output that differs from its partner, and a vector on which it does.
+#[derive(Debug, Drop)]
+pub(crate) struct Difference {
+    pub(crate) output: u32,
+    pub(crate) vector: Bits,
+}
+
+/// Compares all outputs under the pairs that are held, one of each port. Where one differs, it holds a ban that says so.
+pub(crate) fn compare_whole<O: Oracle>(
+    alloc: Global,
+    graphs: &Graphs,
+    oracle: &mut O,
+    state: &State,
+    book: &mut BanBook,
+    ledger: &mut Ledger,
+) -> Result<Ahead, Stop>
+    requires graphs { graphs.now ≡ (O.known oracle.old).graphs }
+    requires lawful { AreFacts graphs.now (O.known oracle.old).facts }
+    requires ports { HaveAsMany graphs.now.first graphs.now.second }
+    requires search { IsSearchState graphs.now book.old state.now }
+    requires whole { IsWhole graphs.now state.now.held }
+    requires suits { Suits (O.known oracle.old) ledger.old }
+    requires valid { AreValid graphs.now (O.known oracle.old) book.old }
+    ensures serves { Serves (O.known oracle.old) (O.known oracle.new) ledger.old ledger.new result }
+    ensures valid { AreValid graphs.now (O.known oracle.new) book.new }
+    ensures ahead { IfOk result (IsAhead graphs.now book.new state.now state.now) }
+{
+    let _first = graphs.first.inputs();
+    let _second = graphs.second.inputs();
+    let matching = table(alloc, graphs, &state.held)?;
+    let mut logs = Items::new(alloc);
+    match compare_all(alloc, graphs, oracle, &matching, ledger, &mut logs)? {
+        None => Ok(Ahead::Match(matching, logs)),
+        Some(found) => {
+            let ban = exclude(alloc, graphs, &matching, found.output, &found.vector, book)?;
+            Ok(Ahead::Ban(ban))
+        }
+    }
+}
+
+// Compares the outputs in order, until one differs. The logs of those that agree come behind those given.
+fn compare_all<O: Oracle>(
+    alloc: Global,
+    graphs: &Graphs,
+    oracle: &mut O,
+    matching: &Matching,
+    ledger: &mut Ledger,
+    logs: &mut Items<Log>,
+) -> Result<Option<Difference>, Stop>
+    requires graphs { graphs.now ≡ (O.known oracle.old).graphs }
+    requires lawful { AreFacts graphs.now (O.known oracle.old).facts }
+    requires ports { HavePorts graphs.now.first graphs.now.second matching.now.inputs matching.now.outputs }
+    requires suits { Suits (O.known oracle.old) ledger.old }
+    requires none { logs.old ≡ [] }
+    ensures serves { Serves (O.known oracle.old) (O.known oracle.new) ledger.old ledger.new result }
+    ensures same { IfOk result (λ found. IfNone found (AreLogs graphs.now matching.now logs.new)) }
+    ensures differs { IfOk result (λ found. IfSome found (λ difference. difference.output < length graphs.now.first.outputs)) }
+    ensures vector { IfOk result (λ found. IfSome found
+        (λ difference. IsDifference graphs.now matching.now difference.output difference.vector)) }
+{
+    let outputs = graphs.first.outputs().len() as u32;
+    for output in 0..outputs {
+        if let Some(vector) = compare_one(alloc, oracle, matching, output, ledger, logs)? {
+            return Ok(Some(Difference { output, vector }));
+        }
+    }
+    Ok(None)
+}
+
+// Compares one output, and adds its logs where it agrees with its partner.
+fn compare_one<O: Oracle>(
+    alloc: Global,
+    oracle: &mut O,
+    matching: &Matching,
+    output: u32,
+    ledger: &mut Ledger,
+    logs: &mut Items<Log>,
+) -> Result<Option<Bits>, Stop>
+    requires ports { HavePorts (O.known oracle.old).graphs.first (O.known oracle.old).graphs.second
+        matching.now.inputs matching.now.outputs }
+    requires output { output < length (O.known oracle.old).graphs.first.outputs }
+    requires suits { Suits (O.known oracle.old) ledger.old }
+    ensures serves { Serves (O.known oracle.old) (O.known oracle.new) ledger.old ledger.new result }
+    ensures compared { IfOk result (IsComparison (O.known oracle.old).graphs matching.now output logs.old logs.new) }
+{
+    match oracle.compare(alloc, matching, output, ledger)? {
+        Compared::Differs(vector) => Ok(Some(vector)),
+        Compared::Same(one, other) => {
+            logs.push(one)?;
+            logs.push(other)?;
+            Ok(None)
+        }
+    }
+}

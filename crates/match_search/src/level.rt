@@ -1,0 +1,70 @@
+//! A port of the first circuit whose ways are tried.
+
+ghost use Rattle.std.specs.Prelude.{◌≡◌, ◌^◌, ◌<◌, ◌≤◌, [], IfOk, length};
+ghost use Rattle.match_search.specs.Levels.{chosen, nth_way, ClosesImpossible};
+
+use crate::clash::is_impossible;
+use circuits::{Pair, PortKind};
+use items::Items;
+use std::alloc::{AllocError, Global};
+
+/// A port of the first circuit whose ways are tried one after the other: to port 0 of the second circuit, plain and then
+/// negated, to port 1, and so on.
+#[derive(Debug, Drop)]
+pub(crate) struct Level {
+    pub(crate) kind: PortKind,
+    pub(crate) from: u32,
+    /// For each way that was closed, in order: None where it clashes with a pair that is held, else a ban that it leads into.
+    pub(crate) refs: Items<Option<u64>>,
+}
+
+impl Level {
+    /// No way was closed.
+    pub(crate) fn new(alloc: Global, kind: PortKind, from: u32) -> Level
+        ensures { result ≡ record { kind = kind; from = from; refs = [] } }
+    {
+        Level {
+            kind,
+            from,
+            refs: Items::new(alloc),
+        }
+    }
+
+    /// The way that is tried: the first that isn't closed.
+    pub(crate) fn chosen(&self) -> Pair
+        requires { length self.now.refs < 2 ^ 33 }
+        ensures { result ≡ chosen self.now }
+    {
+        nth_way(self.kind, self.from, self.refs.len() as u64)
+    }
+
+    /// Closes ways that clash with held pairs, until the first that doesn't, and answers whether there is one among so many
+    /// ways.
+    pub(crate) fn close_clashing(&mut self, held: &[Pair], ways: u64) -> Result<bool, AllocError>
+        requires few { ways ≤ 2 ^ 33 }
+        requires room { length self.old.refs ≤ ways }
+        ensures { IfOk result (ClosesImpossible held.now ways self.old self.new) }
+    {
+        for number in self.refs.len() as u64..ways {
+            let way = nth_way(self.kind, self.from, number);
+            if !is_impossible(held, way) {
+                return Ok(true);
+            }
+            self.refs.push(None)?;
+        }
+        Ok(false)
+    }
+}
+
+/// Way number `number` of a port.
+pub(crate) fn nth_way(kind: PortKind, from: u32, number: u64) -> Pair
+    requires { number < 2 ^ 33 }
+    ensures { result ≡ nth_way kind from number }
+{
+    Pair {
+        kind,
+        from,
+        to: (number / 2) as u32,
+        flip: number % 2 == 1,
+    }
+}

@@ -1,0 +1,19 @@
+//! Looks for a match of two circuits, by branching and jumping back.
+#![tactic(auto)]
+
+mod ahead;
+mod branching;
+mod candidate;
+mod clash;
+mod cover;
+mod difference;
+mod found;
+mod level;
+mod needed;
+mod next_port;
+mod state;
+mod table;
+mod tries;
+
+pub use branching::search;
+pub use found::Found;
