@@ -1,10 +1,11 @@
 //! The book of facts.
 
-ghost use Rattle.std.specs.Prelude.{◌≡◌, ◌≢◌, ◌<◌, [], true, All, IfOk, length};
+ghost use Rattle.std.specs.Prelude.{◌≡◌, ◌≢◌, ◌<◌, [], false, true, All, IfOk, length};
 ghost use Rattle.circuits.specs.Matches.{HavePorts};
 ghost use Rattle.cnf_core.specs.Derivations.{IsRefutation};
 ghost use Rattle.query_core.specs.Claims.{IsClaim};
 ghost use Rattle.query_core.specs.Formulas.{formula_of};
+ghost use Rattle.query_core.specs.Ledgers.{Ledgered};
 ghost use Rattle.query_core.specs.MatchQueries.{match_query};
 ghost use Rattle.query_core.specs.Queries.{IsQuery};
 ghost use Rattle.account_core.specs.Oracles.{Claims, Compares, IsAnswered, Serves, Suits};
@@ -52,13 +53,18 @@ impl<'a> Model for FactBook<'a> {
 }
 
 impl<'a> FactBook<'a> {
-    /// An empty book. The seed chooses the vectors that are simulated.
+    /// An empty book, which every ledger suits in which nothing was asked. The seed chooses the vectors that are
+    /// simulated.
     ///
     /// # Errors
     ///
     /// For want of memory alone.
     pub fn new(alloc: Global, graphs: &'a Graphs, seed: u64) -> Result<FactBook<'a>, AllocError>
-        ensures { IfOk result (λ book. book ≡ record { graphs = graphs.now; facts = []; answered = [] }) }
+        ensures empty { IfOk result (λ book. book ≡ record { graphs = graphs.now; facts = []; answered = [] }) }
+        ensures suits { IfOk result (λ book. (ledger : Ledgered)
+            → ledger.asked ≡ []
+            → ledger.spent ≡ false
+            → Suits book ledger) }
     {
         let first = Source::new(alloc, &graphs.first, seed)?;
         let second = Source::new(alloc, &graphs.second, seed)?;

@@ -10,3 +10,6 @@ mod sightings;
 mod structure;
 
 pub use book::FactBook;
+
+#[cfg(test)]
+mod tests;
