@@ -103,11 +103,22 @@ pub record Judges (tells : Bool) (first second : Named) (name : List ℕ) (old n
 pub record Decides (tells : Bool) (first_name second_name account_name : List ℕ) (old new : ShelfState) (result : Result Ending Outcome) : Type 0 where
   pub files : (n : List ℕ) → new.held n ≡ old.held n
   -- what is decided is what the files say, for words that name them
-  pub right : IsTrue tells → (words : List (List ℕ)) → AsksCheck words first_name second_name account_name → IfOk result (λ ending. IsRight old.held words ending.outcome)
-  pub ended : IsTrue tells → (words : List (List ℕ)) → AsksCheck words first_name second_name account_name → IfErr result (IsRight old.held words)
+  pub right : IsTrue tells
+      → (words : List (List ℕ))
+      → AsksCheck words first_name second_name account_name
+      → IfOk result (λ ending. IsRight old.held words ending.outcome)
+  pub ended : IsTrue tells
+      → (words : List (List ℕ))
+      → AsksCheck words first_name second_name account_name
+      → IfErr result (IsRight old.held words)
   -- an accepted table is a match of the files' netlists
-  pub sound : IsTrue tells → (words : List (List ℕ)) → AsksCheck words first_name second_name account_name → IfOk result (λ ending. IsSound old.held words ending.outcome)
-  pub report : (words : List (List ℕ)) → AsksCheck words first_name second_name account_name → IfOk result (λ ending. IsReport tells old.held words ending.outcome ending.report.items)
+  pub sound : IsTrue tells
+      → (words : List (List ℕ))
+      → AsksCheck words first_name second_name account_name
+      → IfOk result (λ ending. IsSound old.held words ending.outcome)
+  pub report : (words : List (List ℕ))
+      → AsksCheck words first_name second_name account_name
+      → IfOk result (λ ending. IsReport tells old.held words ending.outcome ending.report.items)
   pub judged : IfOk result (λ ending. IsJudged ending.outcome)
   pub reading : IfErr result IsOfReading
   pub failed : result ≡ Err ReadFault → Rose old.faults new.faults

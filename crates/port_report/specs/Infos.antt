@@ -56,7 +56,10 @@ output_texts names port (row ∷ rows) = output_text names port row ++ output_te
 -- the numbers of inputs, outputs and gates, each on a line, then each output
 abbrev pub info_text : Named → List OutputInfo → List ℕ
 info_text named rows =
-    count_line (codes "inputs") named.graph.inputs ++ count_line (codes "outputs") (length named.graph.outputs) ++ count_line (codes "gates") (length named.graph.gates) ++ output_texts (names_of named) 0 rows
+    count_line (codes "inputs") named.graph.inputs
+    ++ count_line (codes "outputs") (length named.graph.outputs)
+    ++ count_line (codes "gates") (length named.graph.gates)
+    ++ output_texts (names_of named) 0 rows
 
 -- the row's inputs are inputs of the circuit
 abbrev pub IsInRange : ℕ → OutputInfo → Type 0

@@ -117,7 +117,7 @@ const FILES: [FileRow; 16] = [
 /// A file, its first fault, and where that stands.
 type FaultRow = (&'static [u8], NetKind, u64);
 
-const FAULTS: [FaultRow; 34] = [
+const FAULTS: [FaultRow; 42] = [
     (b"", NetKind::NoPortLine, 0),
     (b".inputs a\n", NetKind::NoPortLine, 10),
     (b".outputs", NetKind::NoPortLine, 8),
@@ -193,6 +193,26 @@ const FAULTS: [FaultRow; 34] = [
         b".inputs a\n.outputs y\n.names a y y\n1- 1\n",
         NetKind::CoverCycle,
         21,
+    ),
+    (b".inputs a\n .gate and\n", NetKind::Directive, 11),
+    (b".names # y\n", NetKind::Directive, 0),
+    (b".inputs\n.end\n1 1\n", NetKind::Directive, 13),
+    (b"# nothing\n.exdc\n", NetKind::DontCare, 10),
+    (
+        b".outputs y\n.inputs a b\n.inputs c a\n",
+        NetKind::DuplicatePort,
+        33,
+    ),
+    (b".outputs y y\n.inputs a\n", NetKind::DuplicatePort, 11),
+    (
+        b".names a\n.names b\n.outputs\n.inputs a\n",
+        NetKind::NameRedefined,
+        7,
+    ),
+    (
+        b".inputs\n.outputs\n.names y\n.names y\n",
+        NetKind::NameRedefined,
+        33,
     ),
 ];
 
