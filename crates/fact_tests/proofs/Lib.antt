@@ -7,3 +7,7 @@ mod ConeLemmas
 mod AskingLemmas
 mod BookLemmas
 mod MatchBits
+pub mod Serving
+pub mod ClaimFacts
+pub mod RowLemmas
+pub mod OneRow
