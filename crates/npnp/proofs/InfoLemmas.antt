@@ -1,8 +1,5 @@
 -- What is known of a netlist, and what a budget was spent on.
-use Rattle.std.proofs.Common.{◌≡◌, ℕ, inr, false, Bool, IsTrue, List, [], length, All, Option, Result, Ok, Err, IfOk, IfErr, refl, sym, ◌∙◌, ap, subst, arith}
-use Rattle.circuits.specs.Functions.{Computes}
-use Rattle.circuits.specs.Circuits.{Circuit}
-use Rattle.circuits.specs.Levels.{IsOrderOf}
+use Rattle.std.proofs.Common.{◌≡◌, ℕ, inr, false, Bool, List, [], All, Option, Result, Ok, Err, IfOk, IfErr, refl, sym, ◌∙◌, ap, subst, arith}
 use Rattle.circuits.specs.Netlists.{Net}
 use Rattle.net_core.specs.declared.graphs.Graphs.{Graphs}
 use Rattle.net_core.specs.declared.matching.Matching.{Matching}
@@ -16,8 +13,8 @@ use Rattle.fact_tests.proofs.RowLemmas.{rows_of}
 use Rattle.port_report.specs.declared.info.OutputInfo.{OutputInfo}
 use Rattle.port_report.specs.Infos.{IsInRange, info_text}
 use Rattle.npnp.specs.Check.{HoldsGraph, IsRight}
-use Rattle.npnp.specs.Info.{IsInfoText, IsSpentOf, with_itself}
-use Rattle.npnp.specs.Steps.{Ask, Decides, InformsOf, IsEnding, IsOfReading, IsReadFrom, IsStopOfInfo, asked_info, netlist_of}
+use Rattle.npnp.specs.Info.{IsSpentOf, with_itself}
+use Rattle.npnp.specs.Steps.{Decides, InformsOf, IsEnding, IsOfReading, IsReadFrom, IsStopOfInfo, asked_info, netlist_of}
 use Rattle.npnp.specs.Words.{AsksInfo}
 use Rattle.npnp.specs.declared.words.Info.{Info as InfoWords}
 use Rattle.npnp.specs.declared.run.Ending.{Ending}

@@ -71,7 +71,7 @@ pub record IsInfoReport (tells : Bool) (held : List ℕ → Option (List ℕ)) (
   pub named : Named
   pub there : IsTrue tells
       → HoldsNetlist (held file_name)
-        (record { circuit = circuit; input_names = named.input_names; output_names = named.output_names })
+      (record { circuit = circuit; input_names = named.input_names; output_names = named.output_names })
   pub is : IsInfoText circuit named text
 
 -- The text is the report of an outcome: the line of one that has no more, a report with the names of two files, or what is

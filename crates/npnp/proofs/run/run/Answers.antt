@@ -2,7 +2,7 @@
 use Rattle.std.proofs.Common.{inl, inr, refl, sym, subst, ◌∙◌}
 use Rattle.npnp.specs.Check.{IsRight, IsTold}
 use Rattle.npnp.specs.Report.{line_of}
-use Rattle.npnp.specs.declared.outcome.Outcome.TheVariants.{AcceptedMatch, Rejected, Spent, Absent, TooLarge, Malformed, Memory}
+use Rattle.npnp.specs.declared.outcome.Outcome.TheVariants.{AcceptedMatch, Rejected, Absent, TooLarge, Malformed, Memory}
 use Rattle.npnp.proofs.CheckLemmas.{exactly, exactly_of_one, decided_spent, report_of_same, decided_accepted, decided_rejected, decided_absent, decided_too_large, decided_malformed}
 use Rattle.npnp.proofs.run.run.Goals as goal
 
