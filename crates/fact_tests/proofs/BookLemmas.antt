@@ -33,7 +33,7 @@ use Rattle.account_core.specs.Oracles.{AreFacts, Claims, Grows, IsAnswered, IsEv
 use Rattle.ask_core.specs.declared.question.Answer.{Answer}
 use Rattle.ask_core.specs.declared.question.Answer.TheVariants.{Vector}
 use Rattle.ask_core.specs.Answers.{IsAnswer}
-use Rattle.fact_tests.specs.declared.answers.Kept.{Kept}
+use Rattle.fact_tests.specs.Kept.{Kept}
 use Rattle.fact_tests.specs.Asking.{IsAsked, IsDecided, IsHalted}
 use Rattle.fact_tests.specs.Books.{IsKept, known_by}
 use Rattle.fact_tests.proofs.StructureLemmas.{first_of, second_of, apart_from, own_bit}
@@ -450,6 +450,14 @@ module _ (graphs : Graphs) (facts : List Fact) (kept : List Kept) (query : Query
 
   missing_there : IsAnswered (known_by graphs facts kept) query → ⊥
   missing_there answered = missing (subst (λ (k : Known). IsAnswered k query) is answered)
+
+  pub missing_kept : All (λ entry. entry.query ≢ query) kept
+  missing_kept i d below same =
+      let of_kept : Kept → Query = λ (entry : Kept). entry.query in
+      let of_fact : Fact → Query = λ (fact : Fact). claim_query graphs fact.claim in
+      let x = of_kept (slice_index_or kept i d) in
+      let there : i < length (map of_kept kept) = omega (arith, below, length-map kept of_kept) in
+      missing_there (any_right (λ other. other ≡ query) (map of_fact facts) (map of_kept kept) (i, x, there, get_or-map of_kept kept i d x below, same))
 
   pub kept_more : (answer : Answer) (later : List Kept) → All (IsKept graphs) kept → IsAnswer graphs query answer → later ≡ kept ++ record { query = query; answer = answer } ∷ [] → All (IsKept graphs) later
   kept_more answer later keeps answer_is more =

@@ -1,3 +1,4 @@
+mod AnswerLemmas
 mod NumberLemmas
 mod EqualLemmas
 mod WorkLemmas

@@ -7,7 +7,7 @@ use Rattle.account_core.specs.declared.fact.Fact.{Fact}
 use Rattle.account_core.specs.Work.{IsOfMatch}
 use Rattle.account_core.specs.Oracles.{AreFacts, Known}
 use Rattle.ask_core.specs.Answers.{IsAnswer}
-use Rattle.fact_tests.specs.declared.answers.Kept.{Kept}
+use Rattle.fact_tests.specs.Kept.{Kept}
 use Rattle.fact_tests.specs.declared.deciding.Source.{Source}
 
 -- what is known without asking is of this circuit

@@ -1,6 +1,7 @@
 pub mod Supports
 pub mod Asking
 pub mod Hunting
+pub mod Kept
 pub mod Books
 pub mod Functions
 pub mod Rows

@@ -1,38 +1,57 @@
 //! Queries of matches that were answered.
 
-ghost use Rattle.std.specs.Prelude.{◌≡◌, ◌≢◌, All, Contains, IfOk, IfSome, IfNone};
-ghost use Rattle.std.specs.Bool.{Decides};
+ghost use Rattle.std.specs.Prelude.{◌≡◌, ◌≢◌, ◌++◌, ◌∷◌, [], All, Contains, IfOk, IfSome, IfNone, OnOk, OnErr};
 
 use ask_core::Answer;
+use indexmap::IndexMap;
 use items::Items;
 use query_core::Query;
 use std::alloc::{AllocError, Global};
+use std::marker::Model;
 
-/// A query with its answer.
+/// Queries with their answers, found by the query. Contracts see it as the list of both, in the order of their answering.
 #[derive(Drop)]
-pub(crate) struct Kept {
-    pub(crate) query: Query,
-    pub(crate) answer: Answer,
+pub(crate) struct AnswerMap {
+    answers: IndexMap<Query, Answer>,
 }
 
-/// The answer of a query, where it is among those that were answered.
-pub(crate) fn answer_of<'b>(kept: &'b [Kept], query: &Query) -> Option<&'b Answer>
-    ensures found { IfSome result (λ answer.
-        Contains kept.now (record { query = query.now; answer = answer.now })) }
-    ensures none { IfNone result (All (λ entry. entry.query ≢ query.now) kept.now) }
-{
-    for entry in kept.iter() {
-        if is_same(&entry.query, query) {
-            return Some(&entry.answer);
+impl Model for AnswerMap {
+    ghost use Rattle.std.specs.Prelude.{List, map};
+    ghost use Rattle.fact_tests.specs.Kept.{Kept, kept_of};
+
+    ghost Value = { List Kept };
+
+    ghost view = { λ a. map kept_of a.answers.entries };
+}
+
+impl AnswerMap {
+    /// No answers.
+    pub(crate) fn new(alloc: Global) -> AnswerMap
+        ensures { result ≡ [] }
+    {
+        AnswerMap {
+            answers: IndexMap::new(alloc),
         }
     }
-    None
-}
 
-fn is_same(one: &Query, other: &Query) -> bool
-    ensures { Decides result (one.now ≡ other.now) }
-{
-    *one == *other
+    /// The answer of a query, where it is among those that were answered.
+    pub(crate) fn get(&self, query: &Query) -> Option<&Answer>
+        ensures found { IfSome result (λ answer.
+            Contains self.now (record { query = query.now; answer = answer.now })) }
+        ensures none { IfNone result (All (λ entry. entry.query ≢ query.now) self.now) }
+    {
+        self.answers.get(query)
+    }
+
+    /// Adds the answer of a query that has none. A refusal changes nothing.
+    pub(crate) fn add(&mut self, query: Query, answer: Answer) -> Result<(), AllocError>
+        requires { All (λ entry. entry.query ≢ query) self.old }
+        ensures added { OnOk result (self.new ≡ self.old ++ record { query = query; answer = answer } ∷ []) }
+        ensures refused { OnErr result (self.new ≡ self.old) }
+    {
+        self.answers.insert(query, answer)?;
+        Ok(())
+    }
 }
 
 /// An equal answer.

@@ -12,7 +12,7 @@ ghost use Rattle.account_core.specs.Oracles.{Claims, Compares, IsAnswered, Serve
 ghost use Rattle.account_core.specs.Work.{IsOfMatch};
 ghost use Rattle.ask_core.specs.Answers.{IsAnswer};
 
-use crate::answers::{Kept, answer_of, copied};
+use crate::answers::{AnswerMap, copied};
 use crate::asking::answer_to;
 use crate::deciding::{Source, decide_of_side};
 use crate::facts::FactList;
@@ -35,7 +35,7 @@ pub struct FactBook<'a> {
     graphs: &'a Graphs,
     facts: FactList,
     /// The answered queries of matchings.
-    kept: Vec<Kept>,
+    kept: AnswerMap,
     first: Source<'a>,
     second: Source<'a>,
 }
@@ -47,9 +47,9 @@ impl<'a> Model for FactBook<'a> {
 
     ghost use Rattle.fact_tests.specs.Books.{IsBook, known_by};
 
-    ghost view = { λ a. known_by a.graphs.now a.facts a.kept.items };
+    ghost view = { λ a. known_by a.graphs.now a.facts a.kept };
 
-    ghost invariant = { λ a. IsBook a.graphs.now a.facts a.kept.items a.first a.second };
+    ghost invariant = { λ a. IsBook a.graphs.now a.facts a.kept a.first a.second };
 }
 
 impl<'a> FactBook<'a> {
@@ -71,7 +71,7 @@ impl<'a> FactBook<'a> {
         Ok(FactBook {
             graphs,
             facts: FactList::new(alloc),
-            kept: Vec::new(alloc),
+            kept: AnswerMap::new(alloc),
             first,
             second,
         })
@@ -119,7 +119,7 @@ impl<'a> FactBook<'a> {
             (IsAnswer self.old.graphs (match_query self.old.graphs.first.inputs matching.now output value)) }
     {
         let query = of_match(alloc, self.graphs, matching, output, value)?;
-        match answer_of(&self.kept, &query) {
+        match self.kept.get(&query) {
             Some(answer) => Ok(copied(alloc, answer)?),
             None => self.ask_anew(alloc, query, ledger),
         }
@@ -161,7 +161,7 @@ impl<'a> FactBook<'a> {
         match answer_to(alloc, self.graphs, &query, ledger) {
             Ok(answer) => {
                 let copy = copied(alloc, &answer)?;
-                self.kept.push(Kept { query, answer })?;
+                self.kept.add(query, answer)?;
                 Ok(copy)
             }
             Err(stop) => Err(stop),
