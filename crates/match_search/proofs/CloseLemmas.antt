@@ -1,11 +1,14 @@
 -- Ways that are closed one after the other.
-use Rattle.std.proofs.Common.{◌≡◌, ◌+◌, ◌≤◌, ℕ, List, [], ◌∷◌, ◌++◌, length, None, Option, sym, ap, subst, arith}
+use Rattle.std.proofs.Common.{◌<◌, ◌≡◌, ◌+◌, ◌≤◌, ℕ, List, [], ◌∷◌, ◌++◌, length, None, Option, sym, ap, subst, arith, ◌/◌, Bool, true, false, get_or}
+use Rattle.std.proofs.lemmas.Bool.{false≢true}
+use Rattle.match_search.specs.Held.{AreMarks, IsTaken}
+use Rattle.match_search.proofs.MarkLemmas.{marked_impossible, unmarked_open}
 use Rattle.std.proofs.lemmas.List.{length_push}
 use Rattle.circuits.specs.declared.port.Pair.{Pair}
 use Rattle.account_core.specs.declared.step.Ban.{Ban}
 use Rattle.account_core.specs.Covers.{IsImpossible}
 use Rattle.match_search.specs.declared.level.Level.{Level}
-use Rattle.match_search.specs.Levels.{nth_way, AreClosed}
+use Rattle.match_search.specs.Levels.{nth_way, AreClosed, ClosesImpossible, IsOpen}
 use Rattle.match_search.proofs.ClosedLemmas.{closed_by_clash, closed_more}
 
 -- So many ways are closed at a level, those before among them.
@@ -23,4 +26,20 @@ closing_more held before now number refs is impossible refs_is = record {
   count = omega (arith, ap length refs_is, length_push now.refs None, is.count);
   more = omega (arith, is.more);
   closed = λ bans are. subst (λ l. AreClosed bans held (record now { refs = l })) (sym refs_is) (closed_more bans held now None (is.closed bans are) (closed_by_clash bans held _ (subst (λ n. IsImpossible held (nth_way now.kind now.from n)) (sym is.count) impossible)));
+}
+
+-- an impossible way more, by the marks
+pub closing_marked : (held : List Pair) (before now : Level) (number : ℕ) (refs : List (Option ℕ)) (marks : List Bool) → IsClosing held before now number → (IsTaken held before.kind before.from → ⊥) → AreMarks held before.kind marks → number / 2 < length marks → get_or marks (number / 2) false ≡ true → refs ≡ now.refs ++ None ∷ [] → IsClosing held before (record now { refs = refs }) (number + 1)
+closing_marked held before now number refs marks is free are below on refs_is =
+    closing_more held before now number refs is (subst (λ k. IsImpossible held (nth_way k now.from number)) (sym is.kind_is) (subst (λ n. IsImpossible held (nth_way before.kind n number)) (sym is.from_is) (marked_impossible held before.kind before.from number marks free are below on))) refs_is
+
+-- the first way that is open
+pub closing_found : (held : List Pair) (before now : Level) (number ways : ℕ) (marks : List Bool) → IsClosing held before now number → (IsTaken held before.kind before.from → ⊥) → AreMarks held before.kind marks → number < ways → number / 2 < length marks → get_or marks (number / 2) false ≡ false → ClosesImpossible held ways before now true
+closing_found held before now number ways marks is free are some below off = record {
+  kind_is = is.kind_is;
+  from_is = is.from_is;
+  more = omega (arith, is.more, is.count);
+  closed = is.closed;
+  found = λ e. (omega (arith, is.count, some), subst (λ n. IsOpen held (nth_way now.kind now.from n)) (sym is.count) (subst (λ k. IsOpen held (nth_way k now.from number)) (sym is.kind_is) (subst (λ n. IsOpen held (nth_way before.kind n number)) (sym is.from_is) (unmarked_open held before.kind before.from number marks free are below off))));
+  none = λ e. absurd (false≢true (sym e));
 }

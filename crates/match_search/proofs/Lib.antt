@@ -15,3 +15,4 @@ pub mod WeightLemmas
 pub mod ServeLemmas
 pub mod CompareLemmas
 pub mod SearchLemmas
+pub mod MarkLemmas

@@ -1,5 +1,5 @@
 -- Pairs that are held while a match is sought (partial signed bijections: Katebi and Markov, DATE 2010).
-use Rattle.std.specs.Prelude.{◌≡◌, ◌≢◌, ℕ, ◌<◌, ⊤, Bool, false, List, All, AllPairs, Any, Contains, slice_index_or}
+use Rattle.std.specs.Prelude.{◌≡◌, ◌≢◌, ℕ, ◌<◌, ⊤, Bool, true, false, List, length, All, AllPairs, Any, Contains, slice_index_or}
 use Rattle.circuits.specs.declared.port.Pair.{Pair}
 use Rattle.circuits.specs.declared.port.PortKind.{PortKind}
 use Rattle.circuits.specs.declared.port.PortKind.TheVariants.{Input, Output}
@@ -47,3 +47,17 @@ StandsBefore one other = ArePortsInTurn one.kind other.kind one.from other.from
 -- where a pair is of this kind, its first port's entry says where it goes
 abbrev pub IsEntryOf : PortKind → List (ℕ × Bool) → Pair → Type 0
 IsEntryOf kind entries pair = pair.kind ≡ kind → slice_index_or entries pair.from (0, false) ≡ (pair.to, pair.flip)
+
+-- a pair goes to a port of the second circuit
+pub record GoesTo (kind : PortKind) (place : ℕ) (pair : Pair) : Type 0 where
+  pub kind_is : pair.kind ≡ kind
+  pub place_is : pair.to ≡ place
+
+-- a port of the second circuit is in a pair
+abbrev pub IsReached : List Pair → PortKind → ℕ → Type 0
+IsReached pairs kind place = Any (GoesTo kind place) pairs
+
+-- Marks on the second circuit's ports of a kind, that say which are in a pair.
+pub record AreMarks (pairs : List Pair) (kind : PortKind) (marks : List Bool) : Type 0 where
+  pub marked : (place : ℕ) → place < length marks → slice_index_or marks place false ≡ true → IsReached pairs kind place
+  pub unmarked : (place : ℕ) → place < length marks → slice_index_or marks place false ≡ false → IsReached pairs kind place → ⊥

@@ -13,13 +13,6 @@ fn clash(one: Pair, other: Pair) -> bool
     (one.kind == other.kind) & (one != other) & ((one.from == other.from) | (one.to == other.to))
 }
 
-/// Whether a way clashes with a held pair.
-pub(crate) fn is_impossible(held: &[Pair], way: Pair) -> bool
-    ensures { IsTrue result ↔ IsImpossible held.now way }
-{
-    held.iter().any(|pair| clash(*pair, way))
-}
-
 /// A held pair that the way clashes with, if there is one.
 pub(crate) fn clashing(held: &[Pair], way: Pair) -> Option<Pair>
     ensures found { IfSome result (Contains held.now) }

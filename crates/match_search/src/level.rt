@@ -1,9 +1,9 @@
 //! A port of the first circuit whose ways are tried.
 
-ghost use Rattle.std.specs.Prelude.{◌≡◌, ◌^◌, ◌<◌, ◌≤◌, [], IfOk, length};
+ghost use Rattle.std.specs.Prelude.{◌≡◌, ◌*◌, ◌^◌, ◌<◌, ◌≤◌, [], IfOk, length};
+ghost use Rattle.match_search.specs.Held.{AreMarks, IsTaken};
 ghost use Rattle.match_search.specs.Levels.{chosen, nth_way, ClosesImpossible};
 
-use crate::clash::is_impossible;
 use circuits::{Pair, PortKind};
 use items::Items;
 use std::alloc::{AllocError, Global};
@@ -38,16 +38,22 @@ impl Level {
         nth_way(self.kind, self.from, self.refs.len() as u64)
     }
 
-    /// Closes ways that clash with held pairs, until the first that doesn't, and answers whether there is one among so many
-    /// ways.
-    pub(crate) fn close_clashing(&mut self, held: &[Pair], ways: u64) -> Result<bool, AllocError>
-        requires few { ways ≤ 2 ^ 33 }
-        requires room { length self.old.refs ≤ ways }
-        ensures { IfOk result (ClosesImpossible held.now ways self.old self.new) }
+    /// Closes ways that clash with held pairs, until the first that doesn't, and answers whether there is one. Those ports of
+    /// the second circuit are marked that are in a held pair; the level's port is in none.
+    pub(crate) fn close_clashing(
+        &mut self,
+        held: &[Pair],
+        marks: &[bool],
+    ) -> Result<bool, AllocError>
+        requires few { length marks.now < 2 ^ 32 }
+        requires room { length self.old.refs ≤ 2 * length marks.now }
+        requires free { IsTaken held.now self.old.kind self.old.from → ⊥ }
+        requires marks { AreMarks held.now self.old.kind marks.now }
+        ensures { IfOk result (ClosesImpossible held.now (2 * length marks.now) self.old self.new) }
     {
-        for number in self.refs.len() as u64..ways {
-            let way = nth_way(self.kind, self.from, number);
-            if !is_impossible(held, way) {
+        let _ = held;
+        for number in self.refs.len() as u64..2 * marks.len() as u64 {
+            if !marks[(number / 2) as usize] {
                 return Ok(true);
             }
             self.refs.push(None)?;

@@ -9,6 +9,7 @@ mod cover;
 mod difference;
 mod found;
 mod level;
+mod marks;
 mod needed;
 mod next_port;
 mod state;

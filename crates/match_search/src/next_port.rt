@@ -16,14 +16,43 @@ pub(crate) fn next_port(graphs: &Graphs, held: &[Pair]) -> Option<(PortKind, u32
     ensures none { IfNone result (IsWhole graphs.now held.now) }
 {
     let outputs = ports_in(&graphs.first, PortKind::Output);
-    if let Some(output) = first_free(held, PortKind::Output, outputs) {
+    if let Some(output) = free_port(held, PortKind::Output, outputs) {
         return Some((PortKind::Output, output));
     }
     let inputs = ports_in(&graphs.first, PortKind::Input);
-    match first_free(held, PortKind::Input, inputs) {
+    match free_port(held, PortKind::Input, inputs) {
         Some(input) => Some((PortKind::Input, input)),
         None => None,
     }
+}
+
+// One of so many ports of a kind that is in no pair: the port behind that of the last pair, which it mostly is where ports are
+// decided in order, and else the first.
+fn free_port(held: &[Pair], kind: PortKind, count: u32) -> Option<u32>
+    ensures port { IfSome result (λ port. port < count) }
+    ensures free { IfSome result (λ port. IsTaken held.now kind port → ⊥) }
+    ensures none { IfNone result ((port : ℕ) → port < count → IsTaken held.now kind port) }
+{
+    let behind = behind_last(held);
+    if is_free(held, kind, behind, count) {
+        return Some(behind);
+    }
+    first_free(held, kind, count)
+}
+
+// The number behind that of the last pair's first port.
+fn behind_last(held: &[Pair]) -> u32 {
+    match held.last() {
+        Some(pair) => pair.from.saturating_add(1),
+        None => 0,
+    }
+}
+
+// Whether a port is one of so many, and in no pair.
+fn is_free(held: &[Pair], kind: PortKind, port: u32, count: u32) -> bool
+    ensures { IsTrue result → (port < count) × (IsTaken held.now kind port → ⊥) }
+{
+    (port < count) & !is_taken(held, kind, port)
 }
 
 // The first of so many ports of a kind that is in no pair.

@@ -10,6 +10,7 @@ ghost use Rattle.match_search.specs.States.{GoesBack, IsSearchState, Tries};
 
 use crate::cover::{cover, ports_in};
 use crate::level::Level;
+use crate::marks::marks;
 use crate::state::State;
 use ban_book::BanBook;
 use circuits::Pair;
@@ -32,8 +33,9 @@ pub(crate) fn advance(
     ensures tries { IfOk result (Tries graphs.now book.new state.old state.new (left_at graphs.now level)) }
 {
     let mut level = level;
-    let ways = 2 * ports_in(&graphs.second, level.kind) as u64;
-    if level.close_clashing(&state.held, ways)? {
+    let count = ports_in(&graphs.second, level.kind);
+    let marks = marks(alloc, &state.held, level.kind, count)?;
+    if level.close_clashing(&state.held, &marks)? {
         state.hold(level)?;
         return Ok(None);
     }

@@ -1,8 +1,11 @@
-use Rattle.std.proofs.Common.{subst}
-use Rattle.account_core.specs.Covers.{IsImpossible}
-use Rattle.match_search.proofs.CloseLemmas.{closing_more}
+use Rattle.std.proofs.Common.{arith}
+use Rattle.match_search.proofs.CloseLemmas.{closing_marked, closing_found}
 use Rattle.match_search.proofs.level.Level.close_clashing.Goals as goal
 
 pub loop-number-preserved : goal.loop-number-preserved
 loop-number-preserved c =
-    closing_more c.args.held.now c.args.self.now c.loop-number.self c.loop-number.number _ c.loop-number.invariant (subst (IsImpossible c.args.held.now) c.nth_way-way.ensures (c.is_impossible.ensures.0 c.if-not-is_impossible.false)) c.in_ok-push.ensures.ok
+    closing_marked c.args.held.now c.args.self.now c.loop-number.self c.loop-number.number _ c.args.marks.now c.loop-number.invariant c.requires.free c.requires.marks (omega (arith, c.loop-number-test.true)) c.if-not-marks-number.false c.in_ok-push.ensures.ok
+
+pub returns-then-not-marks-number : goal.returns-then-not-marks-number
+returns-then-not-marks-number c =
+    closing_found c.args.held.now c.args.self.now c.loop-number.self c.loop-number.number _ c.args.marks.now c.loop-number.invariant c.requires.free c.requires.marks c.loop-number-test.true (omega (arith, c.loop-number-test.true)) c.if-not-marks-number.true
