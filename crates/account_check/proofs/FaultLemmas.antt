@@ -1,55 +1,47 @@
 -- A record has one fault at most, so that an answer tells exactly it.
-use Rattle.std.proofs.Common.{◌≡◌, ◌≢◌, ◌⊎◌, List, Option, None, Some, Result, Ok, Err, IsOk, OnOk, inl, inr, refl, sym, ap, ◌∙◌}
-use Rattle.circuits.specs.declared.port.Pair.{Pair}
+use Rattle.std.proofs.Common.{◌≡◌, ◌≢◌, Option, None, Some, Result, Ok, Err, IsOk, OnOk, refl, sym, ap, ◌∙◌}
 use Rattle.net_core.specs.declared.graphs.Graphs.{Graphs}
+use Rattle.query_core.specs.declared.claims.Claim.{Claim}
+use Rattle.account_core.specs.declared.conclusion.Conclusion.{Conclusion}
 use Rattle.account_core.specs.declared.conclusion.Conclusion.TheVariants as conclusion
+use Rattle.account_core.specs.declared.fact.FactHead.{FactHead}
+use Rattle.account_core.specs.declared.fact.FactHead.TheVariants as fact
+use Rattle.account_core.specs.declared.step.Ban.{Ban}
+use Rattle.account_core.specs.Given.{Given}
 use Rattle.account_file.specs.declared.record.Record.{Record}
 use Rattle.account_file.specs.declared.record.Record.TheVariants as entry
 use Rattle.account_check.specs.declared.reject.Reject.{Reject}
-use Rattle.account_check.specs.declared.reject.Reject.TheVariants as reject
 use Rattle.account_check.specs.declared.reject.RecordStop.{RecordStop}
 use Rattle.account_check.specs.declared.reject.RecordStop.TheVariants as stop
 use Rattle.account_check.specs.Accounts.{Account, HasFault}
-use Rattle.account_check.specs.Conclusions.{ArePairs, AreNoPairs, HasPairFault, NameUnknown}
+use Rattle.account_check.specs.Bans.{BanTests}
+use Rattle.account_check.specs.Conclusions.{ConclusionTests}
+use Rattle.account_check.specs.Facts.{ClaimTests, FactTests}
+use Rattle.account_check.proofs.TestLemmas.{one_passed, one_unless}
 
--- the three answers to pairs
-abbrev Found : Graphs → List Pair → Option Reject → Type 0
-Found graphs pairs fault = ((fault ≡ None) × ArePairs graphs pairs) ⊎ (((fault ≡ Some reject.UnknownId) × NameUnknown graphs pairs) ⊎ ((fault ≡ Some reject.Conclusion) × AreNoPairs graphs pairs))
+one_claim_fault : (graphs : Graphs) (claim : Claim) (Behind : Option Reject → Type 0) → ((a b : Option Reject) → Behind a → Behind b → a ≡ b) → (a b : Option Reject) → ClaimTests graphs claim Behind a → ClaimTests graphs claim Behind b → a ≡ b
+one_claim_fault graphs claim Behind one = one_unless _ _ _ (one_unless _ _ Behind one)
 
-found : (graphs : Graphs) (pairs : List Pair) (fault : Option Reject) → HasPairFault graphs pairs fault → Found graphs pairs fault
-found graphs pairs None has = inl (refl, has)
-found graphs pairs (Some reject.UnknownId) has = inr (inl (refl, has))
-found graphs pairs (Some reject.VectorFails) has = absurd has
-found graphs pairs (Some (reject.Refutation fault)) has = absurd has
-found graphs pairs (Some reject.Rule) has = absurd has
-found graphs pairs (Some reject.Conclusion) has = inr (inr (refl, has))
+one_fact_fault : (graphs : Graphs) (head : FactHead) (a b : Option Reject) → FactTests graphs head a → FactTests graphs head b → a ≡ b
+one_fact_fault graphs (fact.Fails claim bits) = one_claim_fault graphs claim _ (one_unless _ _ _ one_passed)
+one_fact_fault graphs (fact.Holds claim) = one_claim_fault graphs claim _ one_passed
 
-known_and_unknown : (graphs : Graphs) (pairs : List Pair) → ArePairs graphs pairs → NameUnknown graphs pairs → ⊥
-known_and_unknown graphs pairs are unknown = unknown.unknown are.known
+one_ban_fault : (graphs : Graphs) (given : Given) (ban : Ban) (a b : Option Reject) → BanTests graphs given ban a → BanTests graphs given ban b → a ≡ b
+one_ban_fault graphs given ban =
+    one_unless _ _ _ (one_unless _ _ _ (one_unless _ _ _ (one_unless _ _ _ (one_unless _ _ _ one_passed))))
 
-whole_and_not : (graphs : Graphs) (pairs : List Pair) → ArePairs graphs pairs → AreNoPairs graphs pairs → ⊥
-whole_and_not graphs pairs are none = none.not_whole are.ports are.whole
-
-unknown_and_known : (graphs : Graphs) (pairs : List Pair) → NameUnknown graphs pairs → AreNoPairs graphs pairs → ⊥
-unknown_and_known graphs pairs unknown none = unknown.unknown (none.known unknown.ports)
-
-one_pair_fault : (graphs : Graphs) (pairs : List Pair) (a b : Option Reject) → Found graphs pairs a → Found graphs pairs b → a ≡ b
-one_pair_fault graphs pairs a b (inl one) (inl other) = one.0 ∙ sym other.0
-one_pair_fault graphs pairs a b (inl one) (inr (inl other)) = absurd (known_and_unknown graphs pairs one.1 other.1)
-one_pair_fault graphs pairs a b (inl one) (inr (inr other)) = absurd (whole_and_not graphs pairs one.1 other.1)
-one_pair_fault graphs pairs a b (inr (inl one)) (inl other) = absurd (known_and_unknown graphs pairs other.1 one.1)
-one_pair_fault graphs pairs a b (inr (inl one)) (inr (inl other)) = one.0 ∙ sym other.0
-one_pair_fault graphs pairs a b (inr (inl one)) (inr (inr other)) = absurd (unknown_and_known graphs pairs one.1 other.1)
-one_pair_fault graphs pairs a b (inr (inr one)) (inl other) = absurd (whole_and_not graphs pairs other.1 one.1)
-one_pair_fault graphs pairs a b (inr (inr one)) (inr (inl other)) = absurd (unknown_and_known graphs pairs other.1 one.1)
-one_pair_fault graphs pairs a b (inr (inr one)) (inr (inr other)) = one.0 ∙ sym other.0
+one_conclusion_fault : (graphs : Graphs) (given : Given) (x : Conclusion) (a b : Option Reject) → ConclusionTests graphs given x a → ConclusionTests graphs given x b → a ≡ b
+one_conclusion_fault graphs given conclusion.NonePorts = one_unless _ _ _ one_passed
+one_conclusion_fault graphs given (conclusion.NoneBan ban) = one_unless _ _ _ (one_unless _ _ _ (one_unless _ _ _ one_passed))
+one_conclusion_fault graphs given (conclusion.Match pairs) = one_unless _ _ _ (one_unless _ _ _ (one_unless _ _ _ one_passed))
 
 pub one_fault : (account : Account) (record_ : Record) (a b : Option Reject) → HasFault account record_ a → HasFault account record_ b → a ≡ b
-one_fault account entry.Header a b one other = one ∙ sym other
-one_fault account (entry.Line line) a b one other = one ∙ sym other
-one_fault account (entry.Conclusion (conclusion.Match pairs)) a b one other =
-    one_pair_fault account.graphs pairs a b (found account.graphs pairs a one) (found account.graphs pairs b other)
-one_fault account entry.End a b one other = one ∙ sym other
+one_fault account entry.Header = one_passed
+one_fault account (entry.Fact head) = one_unless _ _ _ (one_fact_fault account.graphs head)
+one_fault account (entry.Line line) = λ a b one other. one ∙ sym other
+one_fault account (entry.Ban ban) = one_unless _ _ _ (one_ban_fault account.graphs account.given ban)
+one_fault account (entry.Conclusion x) = one_conclusion_fault account.graphs account.given x
+one_fault account entry.End = one_passed
 
 -- the fault that an answer tells is the record's, and the record's fault is told
 pub refused_exactly : (account : Account) (record_ : Record) (result : Result (Unit {0}) RecordStop) (reject : Reject) → ((r : Reject) → result ≡ Err (stop.Reject r) → HasFault account record_ (Some r)) → OnOk result (HasFault account record_ None) → result ≢ Err stop.Memory → HasFault account record_ (Some reject) → result ≡ Err (stop.Reject reject)

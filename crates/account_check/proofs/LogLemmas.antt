@@ -25,7 +25,7 @@ use Rattle.account_check.specs.declared.reject.Reject.{Reject}
 use Rattle.account_check.specs.declared.reject.Reject.TheVariants as reject_of
 use Rattle.account_check.specs.declared.reject.RecordStop.{RecordStop}
 use Rattle.account_check.specs.declared.reject.RecordStop.TheVariants as stop
-use Rattle.account_check.specs.Accounts.{Proof, line_reject, log_count, log_query, refutation_of}
+use Rattle.account_check.specs.Logs.{Proof, match_reject, log_count, log_query, refutation_of}
 use Rattle.account_check.specs.Proofs.{AreRefuted, IsLogSoFar, IsOpen, LogSoFar}
 
 -- one more line that is derived
@@ -114,7 +114,7 @@ log_begun graphs query fits = record {
 }
 
 -- what is wrong with a line of the open log, as its number tells
-pub same_reject : (graphs : Graphs) (proof : Proof) (log : LogSoFar) (line : LogLine) → IsOpen graphs proof.matching proof.closed log → log.taken ≡ proof.taken → refutation_of (line_fault (formula_of log.graphs log.query) log.taken line) ≡ line_reject graphs proof line
+pub same_reject : (graphs : Graphs) (proof : Proof) (log : LogSoFar) (line : LogLine) → IsOpen graphs proof.matching proof.closed log → log.taken ≡ proof.taken → refutation_of (line_fault (formula_of log.graphs log.query) log.taken line) ≡ match_reject graphs proof line
 same_reject graphs proof log line open_log taken =
     ap (λ g. refutation_of (line_fault (formula_of g log.query) log.taken line)) open_log.graphs_are
     ∙ (ap (λ q. refutation_of (line_fault (formula_of graphs q) log.taken line)) open_log.asks ∙ ap (λ t. refutation_of (line_fault (formula_of graphs (log_query graphs proof.matching proof.closed)) t line)) taken)

@@ -5,10 +5,8 @@ use Rattle.std.specs.List.{AllZip}
 use Rattle.std.specs.Result.{IsErrAnd}
 use Rattle.std.proofs.lemmas.Bool.{cases_lt}
 use Rattle.std.proofs.lemmas.List.{append-nil, get_or_append_left, get_or-append-add, take-append-le}
-use Rattle.std.proofs.lemmas.List.Sums.{fold_push}
 use Rattle.std.proofs.Math.Seq.{take-length}
 use Rattle.net_core.specs.declared.graphs.Graphs.{Graphs}
-use Rattle.net_core.specs.declared.matching.Matching.{Matching}
 use Rattle.account_file.specs.declared.record.Record.{Record}
 use Rattle.account_file.specs.declared.record.Record.TheVariants as record_of
 use Rattle.account_file.specs.declared.fault.RecordFault.{RecordFault}
@@ -27,53 +25,16 @@ use Rattle.account_check.specs.declared.reject.Reject.{Reject}
 use Rattle.account_check.specs.declared.reject.RecordStop.{RecordStop}
 use Rattle.account_check.specs.declared.reject.RecordStop.TheVariants as stop
 use Rattle.account_check.specs.declared.verdict.Verdict.{Verdict}
-use Rattle.account_check.specs.declared.verdict.Verdict.TheVariants as verdict
 use Rattle.account_check.specs.declared.verdict.Why.{Why}
 use Rattle.account_check.specs.declared.verdict.Why.TheVariants as why
 use Rattle.account_check.specs.declared.verdict.CheckStop.{CheckStop}
 use Rattle.account_check.specs.declared.verdict.CheckStop.TheVariants.{Rejected, Memory}
 use Rattle.account_check.specs.Accounts.{Account, account_after, after, empty_account, verdict_of, HasFault}
-use Rattle.account_check.specs.Verdicts.{AreValid, IsAccepted, IsBad, IsRejected, IsVerdict}
+use Rattle.account_check.specs.Accounts.{AreValid}
+use Rattle.account_check.specs.Verdicts.{IsAccepted, IsBad, IsRejected, IsVerdict}
 use Rattle.account_check.specs.Checking.{refused, unread, Goes, IsChecking, IsDone}
+use Rattle.account_check.proofs.AccountLemmas.{account_after-push, account_graphs, account_place}
 use Rattle.account_check.proofs.FaultLemmas.{one_fault}
-
--- one record more
-pub account_after-push : (graphs : Graphs) (records : List Record) (entry : Record) → account_after graphs (records ++ entry ∷ []) ≡ after (account_after graphs records) entry
-account_after-push graphs records entry = fold_push after (empty_account graphs) records entry
-
--- the circuits stay
-graphs_stay : (account : Account) (records : List Record) → (fold after account records).graphs ≡ account.graphs
-graphs_stay account [] = refl
-graphs_stay account (entry ∷ records) = graphs_stay (after account entry) records
-
-pub account_graphs : (graphs : Graphs) (records : List Record) → (account_after graphs records).graphs ≡ graphs
-account_graphs graphs records = graphs_stay (empty_account graphs) records
-
--- the account stands where its records lead
-none_stays : (records : List Record) → fold place_after_one None records ≡ None
-none_stays [] = refl
-none_stays (entry ∷ records) = none_stays records
-
-some_place : (p q : Place) → Some p ≡ Some q → p ≡ q
-some_place p q e = cc
-
-no_place : (p : Place) → None ≡ Some p → ⊥
-no_place p e = cc
-
-places_follow : (account : Account) (records : List Record) (place : Place) → fold place_after_one (Some account.place) records ≡ Some place → (fold after account records).place ≡ place
-places_follow account [] place e = some_place account.place place e
-places_follow account (entry ∷ records) place e =
-    by (place_behind account.place entry) refl (places_follow (after account entry) records place)
-  where
-    by : (o : Option Place) → place_behind account.place entry ≡ o → (fold place_after_one (Some (after account entry).place) records ≡ Some place → (fold after account (entry ∷ records)).place ≡ place) → (fold after account (entry ∷ records)).place ≡ place
-    by None is go =
-        absurd (no_place place (sym (none_stays records) ∙ (ap (λ o. fold place_after_one o records) (sym is) ∙ e)))
-    by (Some p) is go =
-        let there : (after account entry).place ≡ p = ap (λ o. unwrap_or o account.place) is in
-        go (ap (λ q. fold place_after_one (Some q) records) there ∙ (ap (λ o. fold place_after_one o records) (sym is) ∙ e))
-
-pub account_place : (graphs : Graphs) (records : List Record) (place : Place) → place_after records ≡ Some place → (account_after graphs records).place ≡ place
-account_place graphs records place e = places_follow (empty_account graphs) records place e
 
 -- one valid record more
 pub valid_more : (graphs : Graphs) (records : List Record) (entry : Record) → AreValid graphs records → HasFault (account_after graphs records) entry None → AreValid graphs (records ++ entry ∷ [])
@@ -177,16 +138,16 @@ one_rejection graphs bytes line other first second f s = elim (cases_lt (length 
   ]
 ]
 
--- and one matching
-pub one_matching : (graphs : Graphs) (bytes : List ℕ) (first second : Matching) → IsAccepted graphs bytes first → IsAccepted graphs bytes second → first ≡ second
-one_matching graphs bytes first second f s =
+-- and it proves one verdict
+pub one_proved : (graphs : Graphs) (bytes : List ℕ) (first second : Verdict) → IsAccepted graphs bytes first → IsAccepted graphs bytes second → first ≡ second
+one_proved graphs bytes first second f s =
     let same : f.records ≡ s.records = same_records (whole_lines bytes) f.records s.records f.account.records_are.form s.account.records_are.form in
-    let e : Some (verdict.Match first) ≡ Some (verdict.Match second) = sym f.verdict ∙ (ap (λ r. verdict_of (account_after graphs r)) same ∙ s.verdict) in
+    let e : Some first ≡ Some second = sym f.verdict_is ∙ (ap (λ r. verdict_of (account_after graphs r)) same ∙ s.verdict_is) in
     cc
 
 -- what is accepted has no bad line
-pub never_both : (graphs : Graphs) (bytes : List ℕ) (matching : Matching) (line : ℕ) (reason : Why) → IsAccepted graphs bytes matching → IsRejected graphs bytes line reason → ⊥
-never_both graphs bytes matching line reason accepted rejected =
+pub never_both : (graphs : Graphs) (bytes : List ℕ) (told : Verdict) (line : ℕ) (reason : Why) → IsAccepted graphs bytes told → IsRejected graphs bytes line reason → ⊥
+never_both graphs bytes told line reason accepted rejected =
     let lines = whole_lines bytes in
     let records = accepted.records in
     let before = rejected.before in
@@ -212,20 +173,19 @@ never_both graphs bytes matching line reason accepted rejected =
         cc
 
 -- an answer that is the verdict tells it exactly
-pub accepted_told : (graphs : Graphs) (bytes : List ℕ) (result : Result Verdict CheckStop) (matching : Matching) → IsVerdict graphs bytes result → result ≡ Ok (verdict.Match matching) → IsAccepted graphs bytes matching
-accepted_told graphs bytes result matching is e = subst (IsVerdict graphs bytes) e is
+pub accepted_told : (graphs : Graphs) (bytes : List ℕ) (result : Result Verdict CheckStop) (told : Verdict) → IsVerdict graphs bytes result → result ≡ Ok told → IsAccepted graphs bytes told
+accepted_told graphs bytes result told is e = subst (IsVerdict graphs bytes) e is
 
 pub rejected_told : (graphs : Graphs) (bytes : List ℕ) (result : Result Verdict CheckStop) (line : ℕ) (reason : Why) → IsVerdict graphs bytes result → result ≡ Err (Rejected line reason) → IsRejected graphs bytes line reason
 rejected_told graphs bytes result line reason is e = subst (IsVerdict graphs bytes) e is
 
-pub accepted_exactly : (graphs : Graphs) (bytes : List ℕ) (result : Result Verdict CheckStop) (matching : Matching) → IsVerdict graphs bytes result → result ≢ Err Memory → IsAccepted graphs bytes matching → result ≡ Ok (verdict.Match matching)
-accepted_exactly graphs bytes (Ok (verdict.Match other)) matching is memory accepted =
-    ap (λ m. Ok (verdict.Match m)) (one_matching graphs bytes other matching is accepted)
-accepted_exactly graphs bytes (Err (Rejected line reason)) matching is memory accepted = absurd (never_both graphs bytes matching line reason accepted is)
-accepted_exactly graphs bytes (Err Memory) matching is memory accepted = absurd (memory refl)
+pub accepted_exactly : (graphs : Graphs) (bytes : List ℕ) (result : Result Verdict CheckStop) (told : Verdict) → IsVerdict graphs bytes result → result ≢ Err Memory → IsAccepted graphs bytes told → result ≡ Ok told
+accepted_exactly graphs bytes (Ok other) told is memory accepted = ap (λ (v : Verdict). Ok v) (one_proved graphs bytes other told is accepted)
+accepted_exactly graphs bytes (Err (Rejected line reason)) told is memory accepted = absurd (never_both graphs bytes told line reason accepted is)
+accepted_exactly graphs bytes (Err Memory) told is memory accepted = absurd (memory refl)
 
 pub rejected_exactly : (graphs : Graphs) (bytes : List ℕ) (result : Result Verdict CheckStop) (line : ℕ) (reason : Why) → IsVerdict graphs bytes result → result ≢ Err Memory → IsRejected graphs bytes line reason → result ≡ Err (Rejected line reason)
-rejected_exactly graphs bytes (Ok (verdict.Match other)) line reason is memory rejected = absurd (never_both graphs bytes other line reason is rejected)
+rejected_exactly graphs bytes (Ok other) line reason is memory rejected = absurd (never_both graphs bytes other line reason is rejected)
 rejected_exactly graphs bytes (Err (Rejected at because)) line reason is memory rejected =
     let same = one_rejection graphs bytes at line because reason is rejected in
     ap (λ n. Err (Rejected n because)) same.0 ∙ ap (λ w. Err (Rejected line w)) same.1
@@ -290,11 +250,11 @@ ended_place graphs bytes account is =
 
 -- and its verdict is that of the bytes
 pub verdict_there : (graphs : Graphs) (bytes : List ℕ) (account : Account) (told : Verdict) → IsDone graphs bytes account → Some told ≡ verdict_of account → IsVerdict graphs bytes (Ok told)
-verdict_there graphs bytes account (verdict.Match matching) is told = record {
+verdict_there graphs bytes account told_ is told = record {
   records = is.records;
   account = is.are;
   valid = is.valid;
-  verdict = ap (λ (a : Account). verdict_of a) (sym is.account_is) ∙ sym told;
+  verdict_is = ap (λ (a : Account). verdict_of a) (sym is.account_is) ∙ sym told;
 }
 
 pub done_graphs : (graphs : Graphs) (bytes : List ℕ) (account : Account) → IsDone graphs bytes account → account.graphs ≡ graphs

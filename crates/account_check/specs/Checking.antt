@@ -12,7 +12,8 @@ use Rattle.account_check.specs.declared.verdict.Why.TheVariants as why
 use Rattle.account_check.specs.declared.verdict.CheckStop.{CheckStop}
 use Rattle.account_check.specs.declared.verdict.CheckStop.TheVariants.{Rejected, Memory}
 use Rattle.account_check.specs.Accounts.{Account, account_after}
-use Rattle.account_check.specs.Verdicts.{AreValid, IsRejected}
+use Rattle.account_check.specs.Accounts.{AreValid}
+use Rattle.account_check.specs.Verdicts.{IsRejected}
 
 -- Some records of a whole text were read and taken, without a fault.
 pub record IsChecking (graphs : Graphs) (bytes : List ℕ) (reading : Reading) (account : Account) : Type 0 where

@@ -1,5 +1,5 @@
--- The pairs that an account concludes in, and when they are refused.
-use Rattle.std.specs.Prelude.{◌≡◌, ℕ, ◌+◌, ◌<◌, Bool, List, length, map, take, drop, All, Option, None, Some}
+-- What an account concludes in, and what is wrong with a conclusion (this project's format).
+use Rattle.std.specs.Prelude.{◌≡◌, ℕ, ◌+◌, Bool, List, [], length, map, take, drop, All, Option}
 use Rattle.circuits.specs.declared.port.Pair.{Pair}
 use Rattle.circuits.specs.declared.port.PortKind.{PortKind}
 use Rattle.circuits.specs.declared.port.PortKind.TheVariants.{Input, Output}
@@ -8,23 +8,13 @@ use Rattle.circuits.specs.Literals.{EachAt}
 use Rattle.circuits.specs.Netlists.{Net}
 use Rattle.net_core.specs.declared.graphs.Graphs.{Graphs}
 use Rattle.net_core.specs.declared.matching.Matching.{Matching}
+use Rattle.account_core.specs.declared.conclusion.Conclusion.{Conclusion}
+use Rattle.account_core.specs.declared.conclusion.Conclusion.TheVariants as conclusion
+use Rattle.account_core.specs.Ports.{HaveAsMany, IsKnown}
+use Rattle.account_core.specs.Given.{Given, ban_at, IsBanGiven}
 use Rattle.account_check.specs.declared.reject.Reject.{Reject}
 use Rattle.account_check.specs.declared.reject.Reject.TheVariants as reject
-
--- how many ports of a kind a circuit has
-abbrev pub ports_in : Net → PortKind → ℕ
-ports_in net Input = net.inputs
-ports_in net Output = length net.outputs
-
--- Two circuits have as many inputs, and as many outputs.
-pub record HaveAsMany (first second : Net) : Type 0 where
-  pub inputs : first.inputs ≡ second.inputs
-  pub outputs : length first.outputs ≡ length second.outputs
-
--- The ports that a pair names exist.
-pub record IsKnown (graphs : Graphs) (pair : Pair) : Type 0 where
-  pub from : pair.from < ports_in graphs.first pair.kind
-  pub to : pair.to < ports_in graphs.second pair.kind
+use Rattle.account_check.specs.Tests.{Passed, Unless}
 
 -- pair k is of port k of a kind
 abbrev pub AreOfKind : PortKind → List Pair → Type 0
@@ -53,27 +43,26 @@ pub record AreWhole (graphs : Graphs) (pairs : List Pair) : Type 0 where
   pub inputs : IsSignedBijection graphs.first.inputs (matching_of graphs.first.inputs pairs).inputs
   pub outputs : IsSignedBijection (length graphs.first.outputs) (matching_of graphs.first.inputs pairs).outputs
 
--- All ports that the pairs name exist, and each is named once, in order.
-pub record ArePairs (graphs : Graphs) (pairs : List Pair) : Type 0 where
-  pub ports : HaveAsMany graphs.first graphs.second
-  pub known : All (IsKnown graphs) pairs
-  pub whole : AreWhole graphs pairs
+-- the test that stands before each but those of the header, of the end and of the conclusion that the numbers of ports differ
+abbrev pub PortsTest : Graphs → (Option Reject → Type 0) → Option Reject → Type 0
+PortsTest graphs Behind fault = Unless (HaveAsMany graphs.first graphs.second) reject.Conclusion Behind fault
 
--- The circuits have as many ports, and some pair names a port that doesn't exist.
-pub record NameUnknown (graphs : Graphs) (pairs : List Pair) : Type 0 where
-  pub ports : HaveAsMany graphs.first graphs.second
-  pub unknown : All (IsKnown graphs) pairs → ⊥
+-- the test of the conclusion that they differ
+abbrev pub OtherPortsTest : Graphs → Option Reject → Type 0
+OtherPortsTest graphs fault = Unless (HaveAsMany graphs.first graphs.second → ⊥) reject.Conclusion Passed fault
 
--- The circuits have other numbers of ports; or all ports exist, but not each is named once, in order.
-pub record AreNoPairs (graphs : Graphs) (pairs : List Pair) : Type 0 where
-  pub known : HaveAsMany graphs.first graphs.second → All (IsKnown graphs) pairs
-  pub not_whole : HaveAsMany graphs.first graphs.second → AreWhole graphs pairs → ⊥
+-- the tests of a match's pairs
+abbrev pub PairTests : Graphs → List Pair → Option Reject → Type 0
+PairTests graphs pairs fault =
+    Unless (All (IsKnown graphs) pairs) reject.UnknownId (Unless (AreWhole graphs pairs) reject.Conclusion Passed) fault
 
--- what is wrong with pairs
-abbrev pub HasPairFault : Graphs → List Pair → Option Reject → Type 0
-HasPairFault graphs pairs None = ArePairs graphs pairs
-HasPairFault graphs pairs (Some reject.UnknownId) = NameUnknown graphs pairs
-HasPairFault graphs pairs (Some reject.VectorFails) = ⊥
-HasPairFault graphs pairs (Some (reject.Refutation fault)) = ⊥
-HasPairFault graphs pairs (Some reject.Rule) = ⊥
-HasPairFault graphs pairs (Some reject.Conclusion) = AreNoPairs graphs pairs
+-- the tests of a ban without pairs that shows that there is no match
+abbrev pub EmptyBanTests : Given → ℕ → Option Reject → Type 0
+EmptyBanTests given ban fault =
+    Unless (IsBanGiven given ban) reject.UnknownId (Unless (ban_at given ban ≡ []) reject.Conclusion Passed) fault
+
+-- the tests of a conclusion
+abbrev pub ConclusionTests : Graphs → Given → Conclusion → Option Reject → Type 0
+ConclusionTests graphs given conclusion.NonePorts fault = OtherPortsTest graphs fault
+ConclusionTests graphs given (conclusion.NoneBan ban) fault = PortsTest graphs (EmptyBanTests given ban) fault
+ConclusionTests graphs given (conclusion.Match pairs) fault = PortsTest graphs (PairTests graphs pairs) fault

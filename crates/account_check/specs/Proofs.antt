@@ -1,4 +1,4 @@
--- What a checker keeps of a match whose logs it checks.
+-- What a checker keeps of a fact or a match whose logs it checks.
 use Rattle.std.specs.Prelude.{◌≡◌, ℕ, ◌<◌, ◌^◌, false, List, [], length, Option, None, Some}
 use Rattle.std.specs.List.{list_any}
 use Rattle.circuits.specs.Matches.{HavePorts}
@@ -7,10 +7,12 @@ use Rattle.cnf_core.specs.declared.log.LogLine.{LogLine}
 use Rattle.cnf_core.specs.Derivations.{is_empty, clauses_of, AreDerived}
 use Rattle.net_core.specs.declared.graphs.Graphs.{Graphs}
 use Rattle.net_core.specs.declared.matching.Matching.{Matching}
+use Rattle.query_core.specs.declared.claims.Claim.{Claim}
 use Rattle.query_core.specs.declared.query.Query.{Query}
+use Rattle.query_core.specs.ClaimQueries.{claim_query}
 use Rattle.query_core.specs.Queries.{IsQuery}
 use Rattle.query_core.specs.Formulas.{formula_of, IsRefuted}
-use Rattle.account_check.specs.Accounts.{Proof, log_count, log_query}
+use Rattle.account_check.specs.Logs.{OpenFact, Proof, log_count, log_query}
 
 -- A log of a query of two circuits, as far as its lines were taken.
 pub record LogSoFar : Type 0 where
@@ -24,6 +26,15 @@ pub record IsLogSoFar (graphs : Graphs) (query : Query) (taken : List (List SatL
   pub lines : List LogLine
   pub lines_are : taken ≡ clauses_of lines
   pub derived : AreDerived (formula_of graphs query) lines
+
+-- A claim about two circuits and its log.
+pub record FactProof : Type 0 where
+  pub graphs : Graphs
+  pub fact : OpenFact
+
+-- a log is of a claim
+abbrev pub IsFactLog : Claim → LogSoFar → Type 0
+IsFactLog claim log = log.query ≡ claim_query log.graphs claim
 
 -- A match of two circuits and its logs.
 pub record MatchLogs : Type 0 where

@@ -1,29 +1,60 @@
 -- What a checker keeps of an account.
-use Rattle.std.specs.Prelude.{◌≡◌, ◌-◌}
+use Rattle.std.specs.Prelude.{◌≡◌, ◌-◌, Option, None, Some}
 use Rattle.net_core.specs.declared.graphs.Graphs.{Graphs}
 use Rattle.account_file.specs.declared.place.Place.{Place}
 use Rattle.account_file.specs.declared.place.Place.TheVariants as place
 use Rattle.account_check.specs.declared.checker.Stage.{Stage}
 use Rattle.account_check.specs.declared.checker.Stage.TheVariants as stage
-use Rattle.account_check.specs.Accounts.{Proof, log_count, nothing}
+use Rattle.account_check.specs.declared.verdict.Verdict.{Verdict}
+use Rattle.account_check.specs.declared.verdict.Verdict.TheVariants as verdict
+use Rattle.account_check.specs.Logs.{OpenFact, Proof, log_count, nothing}
 
 -- what may stand next
 abbrev pub place_of : Stage → Place
 place_of stage.Empty = place.Start
 place_of stage.Begun = place.Headed
+place_of (stage.Showing log) = place.FactLog
 place_of (stage.Proving logs) = place.Logs (log_count logs.proof.matching - logs.proof.closed)
-place_of (stage.Ended logs) = place.Ended
+place_of stage.Refusing = place.Logs 0
+place_of (stage.Proved logs) = place.Ended
+place_of stage.Refused = place.Ended
+
+-- the fact whose log is open
+abbrev pub fact_of : Stage → Option OpenFact
+fact_of stage.Empty = None
+fact_of stage.Begun = None
+fact_of (stage.Showing log) = Some log.fact
+fact_of (stage.Proving logs) = None
+fact_of stage.Refusing = None
+fact_of (stage.Proved logs) = None
+fact_of stage.Refused = None
 
 -- the match that the account concludes in
 abbrev pub proof_of : Stage → Proof
 proof_of stage.Empty = nothing
 proof_of stage.Begun = nothing
+proof_of (stage.Showing log) = nothing
 proof_of (stage.Proving logs) = logs.proof
-proof_of (stage.Ended logs) = logs.proof
+proof_of stage.Refusing = nothing
+proof_of (stage.Proved logs) = logs.proof
+proof_of stage.Refused = nothing
 
--- What is kept of an account: a match is of its two circuits, and at the end all its logs are closed.
+-- the conclusion
+abbrev pub concluded_of : Stage → Option Verdict
+concluded_of stage.Empty = None
+concluded_of stage.Begun = None
+concluded_of (stage.Showing log) = None
+concluded_of (stage.Proving logs) = Some (verdict.Match logs.proof.matching)
+concluded_of stage.Refusing = Some verdict.None
+concluded_of (stage.Proved logs) = Some (verdict.Match logs.proof.matching)
+concluded_of stage.Refused = Some verdict.None
+
+-- What is kept of an account: logs are of its two circuits, and at the end all logs of a match are closed.
 abbrev pub IsStage : Graphs → Stage → Type 0
 IsStage graphs stage.Empty = Unit {0}
 IsStage graphs stage.Begun = Unit {0}
+IsStage graphs (stage.Showing log) = log.graphs ≡ graphs
 IsStage graphs (stage.Proving logs) = logs.graphs ≡ graphs
-IsStage graphs (stage.Ended logs) = (logs.graphs ≡ graphs) × (logs.proof.closed ≡ log_count logs.proof.matching)
+IsStage graphs stage.Refusing = Unit {0}
+IsStage graphs (stage.Proved logs) = (logs.graphs ≡ graphs) × (logs.proof.closed ≡ log_count logs.proof.matching)
+IsStage graphs stage.Refused = Unit {0}

@@ -1,21 +1,14 @@
--- The verdict of an account's whole bytes (this project's format): the matching that it proves, or its first bad line.
-use Rattle.std.specs.Prelude.{◌≡◌, ℕ, ◌+◌, List, length, take, None, Some, Result, Ok, Err}
-use Rattle.circuits.specs.Literals.{EachAt}
+-- The verdict of an account's whole bytes (this project's format): what it proves, or its first bad line.
+use Rattle.std.specs.Prelude.{◌≡◌, ℕ, ◌+◌, List, length, Some, Result, Ok, Err}
 use Rattle.net_core.specs.declared.graphs.Graphs.{Graphs}
-use Rattle.net_core.specs.declared.matching.Matching.{Matching}
 use Rattle.account_file.specs.declared.record.Record.{Record}
 use Rattle.account_file.specs.Accounts.{HasFormFault, IsAccountOf, IsNextRecord}
 use Rattle.account_check.specs.declared.verdict.Verdict.{Verdict}
-use Rattle.account_check.specs.declared.verdict.Verdict.TheVariants.{Match}
 use Rattle.account_check.specs.declared.verdict.Why.{Why}
 use Rattle.account_check.specs.declared.verdict.Why.TheVariants as why
 use Rattle.account_check.specs.declared.verdict.CheckStop.{CheckStop}
 use Rattle.account_check.specs.declared.verdict.CheckStop.TheVariants.{Rejected, Memory}
-use Rattle.account_check.specs.Accounts.{account_after, verdict_of, HasFault}
-
--- nothing is wrong with any of the records, in view of those before it
-abbrev pub AreValid : Graphs → List Record → Type 0
-AreValid graphs records = EachAt (λ k entry. HasFault (account_after graphs (take k records)) entry None) records
+use Rattle.account_check.specs.Accounts.{account_after, verdict_of, AreValid, HasFault}
 
 -- What is wrong with the line behind these records: its form; or it is a record that may stand there, and that has this fault.
 abbrev pub IsBad : Graphs → List ℕ → List Record → Why → Type 0
@@ -30,15 +23,15 @@ pub record IsRejected (graphs : Graphs) (bytes : List ℕ) (line : ℕ) (reason 
   pub line_is : line ≡ length before + 1
   pub bad : IsBad graphs bytes before reason
 
--- An account proves that a matching is a match: all its lines are valid records, up to the end, and nothing stands behind.
-pub record IsAccepted (graphs : Graphs) (bytes : List ℕ) (matching : Matching) : Type 0 where
+-- An account proves its verdict: all its lines are valid records, up to the end, and nothing stands behind.
+pub record IsAccepted (graphs : Graphs) (bytes : List ℕ) (verdict : Verdict) : Type 0 where
   pub records : List Record
   pub account : IsAccountOf bytes records
   pub valid : AreValid graphs records
-  pub verdict : verdict_of (account_after graphs records) ≡ Some (Match matching)
+  pub verdict_is : verdict_of (account_after graphs records) ≡ Some verdict
 
 -- an answer is the verdict, or memory is wanting
 abbrev pub IsVerdict : Graphs → List ℕ → Result Verdict CheckStop → Type 0
-IsVerdict graphs bytes (Ok (Match matching)) = IsAccepted graphs bytes matching
+IsVerdict graphs bytes (Ok verdict) = IsAccepted graphs bytes verdict
 IsVerdict graphs bytes (Err (Rejected line reason)) = IsRejected graphs bytes line reason
 IsVerdict graphs bytes (Err Memory) = Unit {0}

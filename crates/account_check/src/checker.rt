@@ -1,24 +1,34 @@
 //! The checker of an account.
 
 ghost use Rattle.std.specs.Prelude.{◌≡◌, ◌≢◌, ◌↔◌, IsOk, IsSome, IfOk, OnOk, OnErr, Ok, Err, None, Some};
-ghost use Rattle.circuits.specs.Matches.{IsMatchOfFunctions};
+ghost use Rattle.circuits.specs.Matches.{HaveNpnpEqualFunctions, IsMatchOfFunctions};
+ghost use Rattle.account_core.specs.declared.conclusion.Conclusion.TheVariants as conclusion;
+ghost use Rattle.account_core.specs.declared.fact.FactHead.TheVariants as head;
 ghost use Rattle.account_file.specs.Order.{place_behind};
 ghost use Rattle.account_check.specs.Accounts.{after, empty_account, verdict_of, HasFault};
+ghost use Rattle.account_file.specs.declared.place.Place.TheVariants as place;
 ghost use Rattle.account_file.specs.declared.record.Record.TheVariants as entry;
 ghost use Rattle.account_check.specs.declared.reject.RecordStop.TheVariants as stop;
 ghost use Rattle.account_check.specs.declared.reject.Reject.{Reject as AnyReject};
 ghost use Rattle.account_check.specs.declared.verdict.Verdict.TheVariants as verdict;
 ghost use Rattle.net_core.specs.declared.matching.Matching.{Matching as Table};
 
+use crate::bans::test_ban;
+use crate::fact_log::FactLog;
+use crate::facts::{test_fails, test_holds};
+use crate::given::Given;
 use crate::logs::Logs;
-use crate::pairs::matching;
+use crate::pairs::{matching, test_empty_ban, test_ports};
 use crate::reject::RecordStop;
 use crate::verdict::Verdict;
-use account_core::Conclusion;
+use account_core::{Ban, Conclusion, FactHead};
 use account_file::Record;
+use bit_list::Bits;
+use circuits::Pair;
 use cnf_core::LogLine;
 use items::Items;
 use net_core::{Graphs, Matching};
+use query_core::Claim;
 use std::alloc::{AllocError, Global};
 use std::marker::Model;
 use std::mem;
@@ -26,26 +36,45 @@ use std::mem;
 /// How far an account has come.
 #[derive(Drop)]
 pub(crate) enum Stage<'a> {
+    /// No record was taken.
     Empty,
+    /// Facts and bans are taken.
     Begun,
+    /// The log of a fact that holds is taken.
+    Showing(FactLog<'a>),
+    /// The account concludes in a match, whose logs are taken.
     Proving(Logs<'a>),
-    Ended(Logs<'a>),
+    /// The account concludes that there is no match.
+    Refusing,
+    /// It has ended with a match.
+    Proved(Logs<'a>),
+    /// It has ended with no match.
+    Refused,
 }
 
-/// Takes an account of two circuits record by record: the header, a match, two logs for each of its outputs, the end.
+/// Takes an account of two circuits record by record: the header; facts, each that holds with its log, and bans; a conclusion,
+/// which for a match has two logs for each of its outputs; the end.
 #[derive(Drop)]
 pub struct Checker<'a> {
     graphs: &'a Graphs,
+    given: Given,
     stage: Stage<'a>,
 }
 
 impl<'a> Model for Checker<'a> {
     ghost use Rattle.account_check.specs.Accounts.{Account};
-    ghost use Rattle.account_check.specs.Stages.{place_of, proof_of, IsStage};
+    ghost use Rattle.account_check.specs.Stages.{concluded_of, fact_of, place_of, proof_of, IsStage};
 
     ghost Value = { Account };
 
-    ghost view = { λ a. record { graphs = a.graphs.now; place = place_of a.stage; proof = proof_of a.stage } };
+    ghost view = { λ a. record {
+      graphs = a.graphs.now;
+      place = place_of a.stage;
+      given = a.given;
+      fact = fact_of a.stage;
+      proof = proof_of a.stage;
+      concluded = concluded_of a.stage;
+    } };
 
     ghost invariant = { λ a. IsStage a.graphs.now a.stage };
 }
@@ -55,9 +84,9 @@ impl<'a> Checker<'a> {
     pub fn new(alloc: Global, graphs: &'a Graphs) -> Result<Checker<'a>, AllocError>
         ensures { IfOk result (λ checker. checker ≡ empty_account graphs.now) }
     {
-        let _ = alloc;
         Ok(Checker {
             graphs,
+            given: Given::new(alloc),
             stage: Stage::Empty,
         })
     }
@@ -75,14 +104,15 @@ impl<'a> Checker<'a> {
         self.take(alloc, entry)
     }
 
-    /// What the account proves: nothing before its end, and then that the pairs are a match.
+    /// What the account proves: nothing before its end, and then that pairs are a match, or that there is no match.
     pub fn verdict(&self, alloc: Global) -> Result<Option<Verdict>, AllocError>
         ensures value { IfOk result (λ verdict. verdict ≡ verdict_of self.now) }
         ensures proved { (matching : Table) → verdict_of self.now ≡ Some (verdict.Match matching)
             → IsMatchOfFunctions self.now.graphs.first self.now.graphs.second matching.inputs matching.outputs }
     {
         match &self.stage {
-            Stage::Ended(logs) => Ok(Some(Verdict::Match(copy(alloc, logs.matching())?))),
+            Stage::Proved(logs) => Ok(Some(Verdict::Match(copy(alloc, logs.matching())?))),
+            Stage::Refused => Ok(Some(Verdict::None)),
             _ => Ok(None),
         }
     }
@@ -101,7 +131,9 @@ impl<'a> Checker<'a> {
                 self.stage = Stage::Begun;
                 Ok(())
             }
+            Record::Fact(head) => self.fact(alloc, head),
             Record::Line(line) => self.line(alloc, line),
+            Record::Ban(ban) => self.ban(alloc, ban),
             Record::Conclusion(conclusion) => self.conclude(alloc, conclusion),
             Record::End => {
                 self.end();
@@ -110,18 +142,50 @@ impl<'a> Checker<'a> {
         }
     }
 
-    // Takes a conclusion, whose logs follow.
-    fn conclude(&mut self, alloc: Global, conclusion: &Conclusion) -> Result<(), RecordStop>
-        requires { IsSome (place_behind self.old.place (entry.Conclusion conclusion.now)) }
+    // Takes a fact.
+    fn fact(&mut self, alloc: Global, head: &FactHead) -> Result<(), RecordStop>
+        requires { IsSome (place_behind self.old.place (entry.Fact head.now)) }
         ensures refused { (reject : AnyReject) → result ≡ Err (stop.Reject reject)
-            → HasFault self.old (entry.Conclusion conclusion.now) (Some reject) }
-        ensures taken { OnOk result (HasFault self.old (entry.Conclusion conclusion.now) None) }
-        ensures after { OnOk result (self.new ≡ after self.old (entry.Conclusion conclusion.now)) }
+            → HasFault self.old (entry.Fact head.now) (Some reject) }
+        ensures taken { OnOk result (HasFault self.old (entry.Fact head.now) None) }
+        ensures after { OnOk result (self.new ≡ after self.old (entry.Fact head.now)) }
         ensures unchanged { OnErr result (self.new ≡ self.old) }
     {
-        let Conclusion::Match(pairs) = conclusion;
-        let matching = matching(alloc, self.graphs, pairs)?;
-        self.stage = Stage::Proving(Logs::new(alloc, self.graphs, matching)?);
+        match head {
+            FactHead::Fails { claim, bits } => self.fails(alloc, claim, bits),
+            FactHead::Holds { claim } => self.holds(alloc, claim),
+        }
+    }
+
+    // Takes a claim that fails.
+    fn fails(&mut self, alloc: Global, claim: &Claim, bits: &Bits) -> Result<(), RecordStop>
+        requires { IsSome (place_behind self.old.place (entry.Fact (head.Fails claim.now bits.now))) }
+        ensures refused { (reject : AnyReject) → result ≡ Err (stop.Reject reject)
+            → HasFault self.old (entry.Fact (head.Fails claim.now bits.now)) (Some reject) }
+        ensures taken { OnOk result (HasFault self.old (entry.Fact (head.Fails claim.now bits.now)) None) }
+        ensures after { OnOk result (self.new ≡ after self.old (entry.Fact (head.Fails claim.now bits.now))) }
+        ensures unchanged { OnErr result (self.new ≡ self.old) }
+    {
+        if let Some(reject) = test_fails(alloc, self.graphs, claim, bits)? {
+            return Err(RecordStop::Reject(reject));
+        }
+        self.given.add_fact(*claim, false)?;
+        Ok(())
+    }
+
+    // Takes a claim that holds, whose log follows.
+    fn holds(&mut self, alloc: Global, claim: &Claim) -> Result<(), RecordStop>
+        requires { IsSome (place_behind self.old.place (entry.Fact (head.Holds claim.now))) }
+        ensures refused { (reject : AnyReject) → result ≡ Err (stop.Reject reject)
+            → HasFault self.old (entry.Fact (head.Holds claim.now)) (Some reject) }
+        ensures taken { OnOk result (HasFault self.old (entry.Fact (head.Holds claim.now)) None) }
+        ensures after { OnOk result (self.new ≡ after self.old (entry.Fact (head.Holds claim.now))) }
+        ensures unchanged { OnErr result (self.new ≡ self.old) }
+    {
+        if let Some(reject) = test_holds(self.graphs, claim) {
+            return Err(RecordStop::Reject(reject));
+        }
+        self.stage = Stage::Showing(FactLog::new(alloc, self.graphs, claim)?);
         Ok(())
     }
 
@@ -134,10 +198,128 @@ impl<'a> Checker<'a> {
         ensures after { OnOk result (self.new ≡ after self.old (entry.Line line.now)) }
         ensures unchanged { OnErr result (self.new ≡ self.old) }
     {
+        if let Stage::Showing(_) = &self.stage {
+            return self.fact_line(line);
+        }
+        self.match_line(alloc, line)
+    }
+
+    // Takes a line of a fact's log. Behind the empty line the fact is given.
+    fn fact_line(&mut self, line: &LogLine) -> Result<(), RecordStop>
+        requires { self.old.place ≡ place.FactLog }
+        ensures refused { (reject : AnyReject) → result ≡ Err (stop.Reject reject)
+            → HasFault self.old (entry.Line line.now) (Some reject) }
+        ensures taken { OnOk result (HasFault self.old (entry.Line line.now) None) }
+        ensures after { OnOk result (self.new ≡ after self.old (entry.Line line.now)) }
+        ensures unchanged { OnErr result (self.new ≡ self.old) }
+    {
+        let Stage::Showing(log) = &mut self.stage else {
+            unreachable!()
+        };
+        if !line.clause.is_empty() {
+            return log.line(line);
+        }
+        self.given.add_fact(log.claim(), true)?;
+        if let Err(stop) = log.line(line) {
+            self.given.forget_fact();
+            return Err(stop);
+        }
+        self.stage = Stage::Begun;
+        Ok(())
+    }
+
+    // Takes a line of a match's logs.
+    fn match_line(&mut self, alloc: Global, line: &LogLine) -> Result<(), RecordStop>
+        requires place { IsSome (place_behind self.old.place (entry.Line line.now)) }
+        requires other { self.old.place ≢ place.FactLog }
+        ensures refused { (reject : AnyReject) → result ≡ Err (stop.Reject reject)
+            → HasFault self.old (entry.Line line.now) (Some reject) }
+        ensures taken { OnOk result (HasFault self.old (entry.Line line.now) None) }
+        ensures after { OnOk result (self.new ≡ after self.old (entry.Line line.now)) }
+        ensures unchanged { OnErr result (self.new ≡ self.old) }
+    {
         let Stage::Proving(logs) = &mut self.stage else {
             unreachable!()
         };
         logs.line(alloc, line)
+    }
+
+    // Takes a ban.
+    fn ban(&mut self, alloc: Global, ban: &Ban) -> Result<(), RecordStop>
+        requires { IsSome (place_behind self.old.place (entry.Ban ban.now)) }
+        ensures refused { (reject : AnyReject) → result ≡ Err (stop.Reject reject)
+            → HasFault self.old (entry.Ban ban.now) (Some reject) }
+        ensures taken { OnOk result (HasFault self.old (entry.Ban ban.now) None) }
+        ensures after { OnOk result (self.new ≡ after self.old (entry.Ban ban.now)) }
+        ensures unchanged { OnErr result (self.new ≡ self.old) }
+    {
+        if let Some(reject) = test_ban(alloc, self.graphs, &self.given, ban)? {
+            return Err(RecordStop::Reject(reject));
+        }
+        self.given.add_ban(alloc, &ban.pairs)?;
+        Ok(())
+    }
+
+    // Takes a conclusion. Of a match the logs follow.
+    fn conclude(&mut self, alloc: Global, conclusion: &Conclusion) -> Result<(), RecordStop>
+        requires { IsSome (place_behind self.old.place (entry.Conclusion conclusion.now)) }
+        ensures refused { (reject : AnyReject) → result ≡ Err (stop.Reject reject)
+            → HasFault self.old (entry.Conclusion conclusion.now) (Some reject) }
+        ensures taken { OnOk result (HasFault self.old (entry.Conclusion conclusion.now) None) }
+        ensures after { OnOk result (self.new ≡ after self.old (entry.Conclusion conclusion.now)) }
+        ensures unchanged { OnErr result (self.new ≡ self.old) }
+    {
+        match conclusion {
+            Conclusion::NonePorts => self.conclude_by_ports(),
+            Conclusion::NoneBan(ban) => self.conclude_by_ban(*ban),
+            Conclusion::Match(pairs) => self.conclude_match(alloc, pairs),
+        }
+    }
+
+    // Takes the conclusion that there is no match since the circuits have other numbers of ports.
+    fn conclude_by_ports(&mut self) -> Result<(), RecordStop>
+        requires { IsSome (place_behind self.old.place (entry.Conclusion conclusion.NonePorts)) }
+        ensures refused { (reject : AnyReject) → result ≡ Err (stop.Reject reject)
+            → HasFault self.old (entry.Conclusion conclusion.NonePorts) (Some reject) }
+        ensures taken { OnOk result (HasFault self.old (entry.Conclusion conclusion.NonePorts) None) }
+        ensures after { OnOk result (self.new ≡ after self.old (entry.Conclusion conclusion.NonePorts)) }
+        ensures unchanged { OnErr result (self.new ≡ self.old) }
+    {
+        if let Some(reject) = test_ports(self.graphs) {
+            return Err(RecordStop::Reject(reject));
+        }
+        self.stage = Stage::Refusing;
+        Ok(())
+    }
+
+    // Takes the conclusion that there is no match since a ban has no pairs.
+    fn conclude_by_ban(&mut self, ban: u64) -> Result<(), RecordStop>
+        requires { IsSome (place_behind self.old.place (entry.Conclusion (conclusion.NoneBan ban))) }
+        ensures refused { (reject : AnyReject) → result ≡ Err (stop.Reject reject)
+            → HasFault self.old (entry.Conclusion (conclusion.NoneBan ban)) (Some reject) }
+        ensures taken { OnOk result (HasFault self.old (entry.Conclusion (conclusion.NoneBan ban)) None) }
+        ensures after { OnOk result (self.new ≡ after self.old (entry.Conclusion (conclusion.NoneBan ban))) }
+        ensures unchanged { OnErr result (self.new ≡ self.old) }
+    {
+        if let Some(reject) = test_empty_ban(self.graphs, &self.given, ban) {
+            return Err(RecordStop::Reject(reject));
+        }
+        self.stage = Stage::Refusing;
+        Ok(())
+    }
+
+    // Takes a match, whose logs follow.
+    fn conclude_match(&mut self, alloc: Global, pairs: &[Pair]) -> Result<(), RecordStop>
+        requires { IsSome (place_behind self.old.place (entry.Conclusion (conclusion.Match pairs.now))) }
+        ensures refused { (reject : AnyReject) → result ≡ Err (stop.Reject reject)
+            → HasFault self.old (entry.Conclusion (conclusion.Match pairs.now)) (Some reject) }
+        ensures taken { OnOk result (HasFault self.old (entry.Conclusion (conclusion.Match pairs.now)) None) }
+        ensures after { OnOk result (self.new ≡ after self.old (entry.Conclusion (conclusion.Match pairs.now))) }
+        ensures unchanged { OnErr result (self.new ≡ self.old) }
+    {
+        let matching = matching(alloc, self.graphs, pairs)?;
+        self.stage = Stage::Proving(Logs::new(alloc, self.graphs, matching)?);
+        Ok(())
     }
 
     // Ends an account whose logs are all closed.
@@ -145,10 +327,11 @@ impl<'a> Checker<'a> {
         requires { IsSome (place_behind self.old.place entry.End) }
         ensures { self.new ≡ after self.old entry.End }
     {
-        let Stage::Proving(logs) = mem::replace(&mut self.stage, Stage::Empty) else {
-            unreachable!()
-        };
-        self.stage = Stage::Ended(logs);
+        match mem::replace(&mut self.stage, Stage::Empty) {
+            Stage::Proving(logs) => self.stage = Stage::Proved(logs),
+            Stage::Refusing => self.stage = Stage::Refused,
+            _ => unreachable!(),
+        }
     }
 }
 

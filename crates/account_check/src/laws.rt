@@ -1,12 +1,17 @@
 //! What the definitions of this crate say together. Each function does nothing; its contract is the law.
 
 ghost use Rattle.std.specs.Prelude.{ℕ, ◌≡◌, List, Option};
+ghost use Rattle.circuits.specs.Matches.{HaveNpnpEqualFunctions};
+ghost use Rattle.net_core.specs.Graph.{IsGraph};
+ghost use Rattle.account_core.specs.Exclusions.{AreRight};
 ghost use Rattle.net_core.specs.declared.graphs.Graphs.{Graphs as TwoGraphs};
-ghost use Rattle.net_core.specs.declared.matching.Matching.{Matching as Table};
 ghost use Rattle.account_file.specs.declared.record.Record.{Record as Entry};
 ghost use Rattle.account_check.specs.declared.reject.Reject.{Reject as AnyReject};
+ghost use Rattle.account_check.specs.declared.verdict.Verdict.{Verdict as AnyVerdict};
+ghost use Rattle.account_check.specs.declared.verdict.Verdict.TheVariants.{None as NoMatch};
 ghost use Rattle.account_check.specs.declared.verdict.Why.{Why as Reason};
-ghost use Rattle.account_check.specs.Accounts.{Account, HasFault};
+ghost use Rattle.account_check.specs.Accounts.{account_after, Account, HasFault};
+ghost use Rattle.account_check.specs.Accounts.{AreValid};
 ghost use Rattle.account_check.specs.Verdicts.{IsAccepted, IsRejected};
 
 /// A record has one fault at most.
@@ -15,13 +20,32 @@ pub fn one_fault_of_a_record()
         → HasFault account entry first → HasFault account entry second → first ≡ second }
 {}
 
-/// An account has one verdict at most: one first bad line, with one reason; or one matching; never both.
+/// An account has one verdict at most: one first bad line, with one reason; or one that it proves; never both.
 pub fn one_verdict()
     ensures rejected { (graphs : TwoGraphs) (bytes : List ℕ) (line other : ℕ) (first second : Reason)
         → IsRejected graphs bytes line first → IsRejected graphs bytes other second
         → (line ≡ other) × (first ≡ second) }
-    ensures accepted { (graphs : TwoGraphs) (bytes : List ℕ) (first second : Table)
+    ensures accepted { (graphs : TwoGraphs) (bytes : List ℕ) (first second : AnyVerdict)
         → IsAccepted graphs bytes first → IsAccepted graphs bytes second → first ≡ second }
-    ensures never_both { (graphs : TwoGraphs) (bytes : List ℕ) (matching : Table) (line : ℕ) (why : Reason)
-        → IsAccepted graphs bytes matching → IsRejected graphs bytes line why → ⊥ }
+    ensures never_both { (graphs : TwoGraphs) (bytes : List ℕ) (verdict : AnyVerdict) (line : ℕ) (why : Reason)
+        → IsAccepted graphs bytes verdict → IsRejected graphs bytes line why → ⊥ }
+{}
+
+/// Behind valid records, whoever wrote them, each fact given is true, where one that holds counts only behind the last line of its
+/// log, and no match has all pairs of any ban given.
+pub fn every_prefix_is_right()
+    ensures { (graphs : TwoGraphs) (records : List Entry)
+        → IsGraph graphs.first → IsGraph graphs.second
+        → AreValid graphs records
+        → AreRight graphs (account_after graphs records).given }
+{}
+
+/// Where an account that says that there is no match is accepted, whoever wrote it, no signed bijections make the circuits' functions
+/// equal.
+pub fn accepted_refusal_is_right()
+    ensures { (graphs : TwoGraphs) (bytes : List ℕ)
+        → IsGraph graphs.first → IsGraph graphs.second
+        → IsAccepted graphs bytes NoMatch
+        → HaveNpnpEqualFunctions graphs.first graphs.second
+        → ⊥ }
 {}

@@ -1,20 +1,34 @@
-//! Checks accounts record by record. An account concludes that pairs of ports are a match, and two logs for each output
-//! prove it.
+//! Checks accounts record by record. An account gives facts about the outputs of two circuits, each with its evidence, and bans,
+//! pairs of ports that no match has all of, each with its reason. It concludes that pairs of ports are a match, and two logs for
+//! each output prove it; or that there is no match, since a ban has no pairs or the circuits have other numbers of ports.
 #![tactic(auto)]
 
+mod ascent;
+mod bans;
+mod breaking;
 mod checker;
+mod covers;
+mod fact_log;
+mod facts;
+mod given;
 mod laws;
 mod logs;
+mod mismatches;
 mod open_log;
 mod pairs;
+mod ports;
 mod reject;
+mod tallies;
+mod vectors;
 mod verdict;
 mod whole_account;
 
 pub use account_core::Conclusion;
 pub use account_file::Record;
 pub use checker::Checker;
-pub use laws::{one_fault_of_a_record, one_verdict};
+pub use laws::{
+    accepted_refusal_is_right, every_prefix_is_right, one_fault_of_a_record, one_verdict,
+};
 pub use reject::{RecordStop, Reject};
 pub use verdict::{CheckStop, Verdict, Why};
 pub use whole_account::check;

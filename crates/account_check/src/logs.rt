@@ -3,7 +3,7 @@
 ghost use Rattle.std.specs.Prelude.{◌≡◌, [], true, false, ◌<◌, ◌≤◌, ◌^◌, IfOk, OnOk, OnErr, Err, None, Some, length};
 ghost use Rattle.circuits.specs.Matches.{HavePorts, IsMatchOfFunctions};
 ghost use Rattle.query_core.specs.MatchQueries.{IsOfMatching};
-ghost use Rattle.account_check.specs.Accounts.{line_reject, log_count, unproved, with_line};
+ghost use Rattle.account_check.specs.Logs.{match_reject, log_count, unproved, with_line};
 ghost use Rattle.account_check.specs.Proofs.{IsLog, lines_in};
 ghost use Rattle.account_check.specs.declared.reject.RecordStop.TheVariants as stop;
 ghost use Rattle.account_check.specs.declared.reject.Reject.{Reject as AnyReject};
@@ -66,8 +66,8 @@ impl<'a> Logs<'a> {
     pub(crate) fn line(&mut self, alloc: Global, line: &LogLine) -> Result<(), RecordStop>
         requires { self.old.proof.closed < log_count self.old.proof.matching }
         ensures refused { (reject : AnyReject) → result ≡ Err (stop.Reject reject)
-            → Some reject ≡ line_reject self.old.graphs self.old.proof line.now }
-        ensures taken { OnOk result (None ≡ line_reject self.old.graphs self.old.proof line.now) }
+            → Some reject ≡ match_reject self.old.graphs self.old.proof line.now }
+        ensures taken { OnOk result (None ≡ match_reject self.old.graphs self.old.proof line.now) }
         ensures graphs { self.new.graphs ≡ self.old.graphs }
         ensures proof { OnOk result (self.new.proof ≡ with_line self.old.proof line.now) }
         ensures unchanged { OnErr result (self.new ≡ self.old) }

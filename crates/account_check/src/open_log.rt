@@ -6,7 +6,7 @@ ghost use Rattle.cnf_core.specs.Derivations.{is_empty, line_fault};
 ghost use Rattle.query_core.specs.Formulas.{formula_of, IsRefuted};
 ghost use Rattle.query_core.specs.MatchQueries.{match_query, IsOfMatching};
 ghost use Rattle.query_core.specs.Queries.{IsQuery};
-ghost use Rattle.account_check.specs.Accounts.{refutation_of};
+ghost use Rattle.account_check.specs.Logs.{refutation_of};
 ghost use Rattle.account_check.specs.declared.reject.RecordStop.TheVariants as stop;
 ghost use Rattle.account_check.specs.declared.reject.Reject.{Reject as AnyReject};
 

@@ -1,17 +1,46 @@
-//! The pairs that an account concludes in.
+//! The tests of a conclusion, and the matching of its pairs.
 
-ghost use Rattle.std.specs.Prelude.{◌≡◌, ◌+◌, ◌≤◌, ◌↔◌, All, IsTrue, IfOk, OnOk, Err, None, Some, length, map};
+ghost use Rattle.std.specs.Prelude.{◌≡◌, ◌+◌, ◌≤◌, ◌↔◌, IsTrue, IfOk, OnOk, Err, None, Some, length, map};
 ghost use Rattle.circuits.specs.Matches.{HavePorts};
 ghost use Rattle.net_core.specs.Graph.{IsGraph};
-ghost use Rattle.account_check.specs.Conclusions.{entry_of, matching_of, ports_in, AreInOrder, AreOfKind, HasPairFault, HaveAsMany, IsKnown};
+ghost use Rattle.account_check.specs.Conclusions.{entry_of, matching_of, AreInOrder, AreOfKind, EmptyBanTests, OtherPortsTest, PairTests, PortsTest};
 ghost use Rattle.account_check.specs.declared.reject.RecordStop.TheVariants as stop;
 ghost use Rattle.account_check.specs.declared.reject.Reject.{Reject as AnyReject};
 
+use crate::given::Given;
+use crate::ports::{are_known, have_as_many};
 use crate::reject::{RecordStop, Reject};
 use circuits::{Pair, PortKind};
 use items::Items;
 use net_core::{Graph, Graphs, Matching};
 use std::alloc::{AllocError, Global};
+
+/// What is wrong with the conclusion that there is no match since the circuits have other numbers of ports: that they have as many.
+pub(crate) fn test_ports(graphs: &Graphs) -> Option<Reject>
+    ensures { OtherPortsTest graphs.now result }
+{
+    if have_as_many(graphs) {
+        return Some(Reject::Conclusion);
+    }
+    None
+}
+
+/// What is wrong with the conclusion that there is no match since a ban has no pairs: the circuits have other numbers of ports; the
+/// ban wasn't given; it has pairs.
+pub(crate) fn test_empty_ban(graphs: &Graphs, given: &Given, ban: u64) -> Option<Reject>
+    ensures { PortsTest graphs.now (EmptyBanTests given.now ban) result }
+{
+    if !have_as_many(graphs) {
+        return Some(Reject::Conclusion);
+    }
+    if !given.has_ban(ban) {
+        return Some(Reject::UnknownId);
+    }
+    if !given.ban(ban).is_empty() {
+        return Some(Reject::Conclusion);
+    }
+    None
+}
 
 /// The matching of pairs. They are refused as a conclusion where the circuits have other numbers of ports; else as unknown
 /// where one names a port that doesn't exist; else as a conclusion unless they name each input of the first circuit and
@@ -22,12 +51,13 @@ pub(crate) fn matching(
     pairs: &[Pair],
 ) -> Result<Matching, RecordStop>
     ensures refused { (reject : AnyReject) → result ≡ Err (stop.Reject reject)
-        → HasPairFault graphs.now pairs.now (Some reject) }
-    ensures taken { OnOk result (HasPairFault graphs.now pairs.now None) }
+        → PortsTest graphs.now (PairTests graphs.now pairs.now) (Some reject) }
+    ensures taken { OnOk result (PortsTest graphs.now (PairTests graphs.now pairs.now) None) }
+    ensures order { OnOk result (AreInOrder graphs.now.first pairs.now) }
     ensures matching { IfOk result (λ matching. matching ≡ matching_of graphs.now.first.inputs pairs.now) }
     ensures ports { IfOk result (λ matching. HavePorts graphs.now.first graphs.now.second matching.inputs matching.outputs) }
 {
-    if !have_as_many(&graphs.first, &graphs.second) {
+    if !have_as_many(graphs) {
         return Err(RecordStop::Reject(Reject::Conclusion));
     }
     if !are_known(graphs, pairs) {
@@ -43,38 +73,6 @@ pub(crate) fn matching(
         return Err(RecordStop::Reject(Reject::Conclusion));
     }
     Ok(matching)
-}
-
-// Whether two circuits have as many inputs, and as many outputs.
-fn have_as_many(first: &Graph, second: &Graph) -> bool
-    ensures { IsTrue result ↔ HaveAsMany first.now second.now }
-{
-    (first.inputs() == second.inputs()) & (first.outputs().len() == second.outputs().len())
-}
-
-// Whether the ports exist that the pairs name.
-fn are_known(graphs: &Graphs, pairs: &[Pair]) -> bool
-    ensures { IsTrue result ↔ All (IsKnown graphs.now) pairs.now }
-{
-    pairs.iter().all(|pair| is_known(graphs, *pair))
-}
-
-fn is_known(graphs: &Graphs, pair: Pair) -> bool
-    ensures { IsTrue result ↔ IsKnown graphs.now pair }
-{
-    let from = pair.from as usize;
-    let to = pair.to as usize;
-    (from < ports_in(&graphs.first, pair.kind)) & (to < ports_in(&graphs.second, pair.kind))
-}
-
-// How many ports of a kind a circuit has.
-fn ports_in(graph: &Graph, kind: PortKind) -> usize
-    ensures { result ≡ ports_in graph.now kind }
-{
-    match kind {
-        PortKind::Input => graph.inputs() as usize,
-        PortKind::Output => graph.outputs().len(),
-    }
 }
 
 // Whether there is a pair for each input of a circuit and then for each output, in order.

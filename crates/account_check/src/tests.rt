@@ -1,8 +1,9 @@
-//! Accounts of the AND and the OR of two inputs, whose logs are worked out by hand.
+//! Small accounts, whose logs are worked out by hand.
 
 use crate::{CheckStop, Verdict, check};
+use items::Text;
 use net_core::{Gate, Graph, Graphs, Lit};
-use std::alloc::Global;
+use std::alloc::{AllocError, Global};
 use std::test::Fail;
 
 fn graph_of(alloc: Global, gate: Gate, output: u32) -> Result<Graph, Fail> {
@@ -45,7 +46,7 @@ fn accepts_a_match(rt: HostRuntime) -> Result<(), Fail> {
             assert!(rt; matching.outputs.as_slice() == [(0, true)].as_slice());
             Ok(())
         }
-        Err(_) => Err("not accepted".into()),
+        _ => Err("not accepted".into()),
     }
 }
 
@@ -91,6 +92,92 @@ fn finds_the_first_bad_line(rt: HostRuntime) -> Result<(), Fail> {
     ];
     for (account, line, word) in rows {
         assert_eq!(rt; bad_line(alloc, &graphs, account)?, (line, word));
+    }
+    Ok(())
+}
+
+/// A circuit of one input, whose output is 0 or the input.
+fn wire(alloc: Global, output: u32) -> Result<Graph, Fail> {
+    let gates = vec![in alloc; Gate { a: Lit(0), b: Lit(0) }; 0]?;
+    let outputs = vec![in alloc; Lit(output); 1]?;
+    Ok(Graph::new(1, gates, outputs).ok_or("no graph")?)
+}
+
+/// Constant 0, and the one input: no match exists.
+fn zero_wire(alloc: Global) -> Result<Graphs, Fail> {
+    Ok(Graphs {
+        first: wire(alloc, 0)?,
+        second: wire(alloc, 2)?,
+    })
+}
+
+/// The second output falls where its input goes from 1 to 0, and the first one never does; so the input can go neither plain
+/// nor inverted.
+const REFUSAL: [&str; 13] = [
+    "npnp 1",
+    "fails b 0 down 0 =1",
+    "holds a 0 down 0",
+    "l : 0 1",
+    "ban i0+0 o0+0 : mismatch 0 1",
+    "ban i0-0 o0+0 : vector 0 =0",
+    "ban i0+0 o0-0 : vector 0 =0",
+    "ban i0-0 o0-0 : mismatch 0 1",
+    "ban o0+0 : cover in 0 / 0 / 0 1",
+    "ban o0-0 : cover in 0 / 0 / 2 3",
+    "ban : cover out 0 / 0 / 4 5",
+    "none ban 6",
+    "end",
+];
+
+/// The refusal with another line in the place of one, counted from 1; with none for 0.
+fn refusal_with(alloc: Global, line: usize, text: &str) -> Result<Text, AllocError> {
+    let mut account = Text::new(alloc);
+    for (k, old) in REFUSAL.iter().enumerate() {
+        if k + 1 == line {
+            account.push_str(text)?;
+        } else {
+            account.push_str(old)?;
+        }
+        account.push_str("\n")?;
+    }
+    Ok(account)
+}
+
+#[test]
+fn accepts_a_refusal(rt: HostRuntime) -> Result<(), Fail> {
+    let alloc = rt.alloc();
+    let account = refusal_with(alloc, 0, "")?;
+    match check(alloc, &zero_wire(alloc)?, account.as_bytes()) {
+        Ok(Verdict::None) => Ok(()),
+        _ => Err("not accepted".into()),
+    }
+}
+
+#[test]
+fn finds_the_bad_line_of_a_refusal(rt: HostRuntime) -> Result<(), Fail> {
+    let alloc = rt.alloc();
+    let graphs = zero_wire(alloc)?;
+    let rows = [
+        (2, "fails b 0 down 0 =0", "vector"),
+        (2, "fails b 0 down 1 =1", "id"),
+        (3, "holds a 0 swap 0 0 01", "rule"),
+        (4, "l : 0", "refutation"),
+        (5, "ban i0+0 o0+0 : mismatch 1 0", "rule"),
+        (5, "ban i0+0 o0+0 : mismatch 0 2", "id"),
+        (6, "ban i0-0 o0+0 : vector 0 =x", "vector"),
+        (6, "ban o0+0 i0-0 : vector 0 =0", "rule"),
+        // where the output is inverted, its rises and falls are exchanged
+        (7, "ban i0+0 o0-0 : mismatch 0 1", "rule"),
+        (9, "ban o0+0 : cover in 0 / 0 / 0", "rule"),
+        (9, "ban o0+0 : cover in 0 / / ", "word"),
+        (9, "ban o0+0 : cover in 0 / 0 / 0 4", "id"),
+        (12, "none ban 5", "conclusion"),
+        (12, "none ports", "conclusion"),
+    ];
+    for (line, text, word) in rows {
+        let account = refusal_with(alloc, line, text)?;
+        let found = bad_line(alloc, &graphs, account.as_str())?;
+        assert_eq!(rt; found, (line as u64, word), "at {text}");
     }
     Ok(())
 }

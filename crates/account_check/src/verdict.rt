@@ -14,6 +14,8 @@ use thiserror::Error;
 pub enum Verdict {
     /// Each port of the first circuit goes to this port of the second: a match.
     Match(Matching),
+    /// No match exists.
+    None,
 }
 
 /// What is wrong with a line of an account.

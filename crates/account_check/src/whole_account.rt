@@ -1,11 +1,12 @@
 //! The check of an account's whole bytes.
 
 ghost use Rattle.std.specs.Prelude.{ℕ, List, ◌≡◌, ◌≢◌, ◌<◌, ◌↔◌, true, IfOk, Ok, Err, Some, length};
-ghost use Rattle.circuits.specs.Matches.{IsMatchOfFunctions};
+ghost use Rattle.circuits.specs.Matches.{HaveNpnpEqualFunctions, IsMatchOfFunctions};
 ghost use Rattle.net_core.specs.declared.graphs.Graphs.{Graphs as TwoGraphs};
 ghost use Rattle.net_core.specs.declared.matching.Matching.{Matching as Table};
 ghost use Rattle.account_file.specs.declared.place.Place.TheVariants.{Ended};
 ghost use Rattle.account_check.specs.declared.verdict.CheckStop.TheVariants as stop;
+ghost use Rattle.account_check.specs.declared.verdict.Verdict.{Verdict as AnyVerdict};
 ghost use Rattle.account_check.specs.declared.verdict.Verdict.TheVariants as verdict;
 ghost use Rattle.account_check.specs.declared.verdict.Why.{Why as Reason};
 ghost use Rattle.account_check.specs.Accounts.{verdict_of};
@@ -19,16 +20,21 @@ use account_file::{FileStop, Reader};
 use net_core::Graphs;
 use std::alloc::{AllocError, Global};
 
-/// The verdict of an account: the matching that it proves to be a match of the two circuits, or its first bad line and what
-/// is wrong with it, each exactly so unless memory is wanting.
+/// The verdict of an account: that a matching is a match of the two circuits, or that there is no match; or its first bad line and
+/// what is wrong with it. Each comes exactly where it is so unless memory is wanting, and what is proved is so, whoever wrote the
+/// account.
 pub fn check(alloc: Global, graphs: &Graphs, account: &[u8]) -> Result<Verdict, CheckStop>
-    ensures accepted { (matching : Table) → result ≢ Err stop.Memory
-        → ((result ≡ Ok (verdict.Match matching)) ↔ IsAccepted graphs.now account.now matching) }
+    ensures accepted { (verdict : AnyVerdict) → result ≢ Err stop.Memory
+        → ((result ≡ Ok verdict) ↔ IsAccepted graphs.now account.now verdict) }
     ensures rejected { (line : ℕ) (why : Reason) → result ≢ Err stop.Memory
         → ((result ≡ Err (stop.Rejected line why)) ↔ IsRejected graphs.now account.now line why) }
     ensures proved { (matching : Table) → result ≡ Ok (verdict.Match matching)
         → IsMatchOfFunctions graphs.now.first graphs.now.second matching.inputs matching.outputs }
+    ensures refused { result ≡ Ok verdict.None
+        → HaveNpnpEqualFunctions graphs.now.first graphs.now.second → ⊥ }
 {
+    let _first = graphs.first.inputs();
+    let _second = graphs.second.inputs();
     verdict_on(alloc, graphs, account)
 }
 

@@ -10,7 +10,7 @@ use Rattle.account_file.specs.declared.record.Record.TheVariants as record_of
 use Rattle.account_file.specs.declared.fault.RecordFault.{RecordFault}
 use Rattle.account_file.specs.declared.fault.RecordFault.TheVariants as fault
 use Rattle.account_file.specs.declared.place.Place.{Place}
-use Rattle.account_file.specs.declared.place.Place.TheVariants.{Start, Headed, Logs, Ended}
+use Rattle.account_file.specs.declared.place.Place.TheVariants.{Start, Headed, FactLog, Logs, Ended}
 use Rattle.account_file.specs.declared.step.Step.{Step}
 use Rattle.account_file.specs.declared.step.Step.TheVariants.{Wait, Read, Refuse}
 use Rattle.account_file.specs.Forms.{record_in}
@@ -18,13 +18,12 @@ use Rattle.account_file.specs.Words.{words_of}
 use Rattle.account_file.specs.Lines.{whole_lines, behind_lines}
 use Rattle.account_file.specs.Order.{place_behind, place_after}
 use Rattle.account_file.specs.Accounts.{HasForm, AreUnderWay, LineFault}
-use Rattle.account_file.specs.Spelling.{IsWritable, record_line}
+use Rattle.account_file.specs.Spelling.{IsWritable, line_text, record_line}
 use Rattle.account_file.specs.Steps.{in_place, placed, step_by, step_at_line}
-use Rattle.account_file.proofs.BadWordLemmas.{bad_number_found, bad_number_read, bad_word_found, bad_word_read}
-use Rattle.account_file.proofs.FaultLemmas.{bad_words}
+use Rattle.account_file.proofs.BadWordLemmas.{bad_number_found, bad_number_read, bad_word_found, bad_word_read, bad_words}
 use Rattle.account_file.proofs.LineLemmas.{lines_first, behind_first}
 use Rattle.account_file.proofs.OrderLemmas.{place_behind_last, at_start}
-use Rattle.account_file.proofs.RecordLemmas.{line_text, line_text_is_line, line_spaced, read_is_written}
+use Rattle.account_file.proofs.RecordLemmas.{line_text_is_line, read_is_written}
 
 -- the lines of records, without their line feeds
 abbrev pub texts_of : List Record → List (List ℕ)
@@ -32,7 +31,7 @@ texts_of records = map line_text records
 
 text_first : (entry : Record) (rest left : List ℕ) → (record_line entry ++ rest) ++ left ≡ line_text entry ++ 10 ∷ (rest ++ left)
 text_first entry rest left =
-    ap (λ l. (l ++ rest) ++ left) (line_spaced entry) ∙ ap (λ l. l ++ left) (append_assoc (line_text entry) (10 ∷ []) rest)
+    ap (λ l. l ++ left) (append_assoc (line_text entry) (10 ∷ []) rest)
     ∙ append_assoc (line_text entry) (10 ∷ rest) left
 
 pub lines_of_records : (records : List Record) (left : List ℕ) → All IsWritable records → whole_lines (flat_map record_line records ++ left) ≡ texts_of records ++ whole_lines left
@@ -51,7 +50,7 @@ behind_records (entry ∷ records) left w =
 
 pub have_forms : (records : List Record) → All IsWritable records → AllZip HasForm (texts_of records) records
 have_forms [] w = tt
-have_forms (entry ∷ records) w = ((All-head IsWritable entry records w, line_spaced entry), have_forms records (All-tail IsWritable entry records w))
+have_forms (entry ∷ records) w = ((All-head IsWritable entry records w, refl), have_forms records (All-tail IsWritable entry records w))
 
 pub length_texts : (records : List Record) → length (texts_of records) ≡ length records
 length_texts [] = refl
@@ -87,7 +86,7 @@ later_says place line later open' (Err fault) e = elim (bad_words (words_of line
 later_says place line later open' (Ok entry) e = by (place_behind place entry) refl
   where
     form : HasForm line entry
-    form = let found = read_is_written (words_of line) line entry refl e in (found.1, found.0)
+    form = let found = read_is_written line entry e in (found.1, found.0)
 
     by : (p : Option Place) → place_behind place entry ≡ p → StepSays place line (step_by (length line + 1) (placed entry p))
     by None is = (later, open', (entry, form, is))
@@ -96,6 +95,7 @@ later_says place line later open' (Ok entry) e = by (place_behind place entry) r
 pub step_says : (place : Place) (line : List ℕ) → StepSays place line (step_at_line place line)
 step_says Start line = header_says line
 step_says Headed line = later_says Headed line (λ e. cc) (λ e. cc) (record_in (words_of line)) refl
+step_says FactLog line = later_says FactLog line (λ e. cc) (λ e. cc) (record_in (words_of line)) refl
 step_says (Logs logs) line = later_says (Logs logs) line (λ e. cc) (λ e. cc) (record_in (words_of line)) refl
 step_says Ended line = refl
 

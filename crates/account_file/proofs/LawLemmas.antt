@@ -6,12 +6,13 @@ use Rattle.std.proofs.Math.Seq.{get_or-append_seam, take-append_seam}
 use Rattle.std.proofs.lemmas.Bool.{cases_lt, false≢true}
 use Rattle.std.proofs.lemmas.Slice.Zip.{all_zipped_more}
 use Rattle.std.proofs.lemmas.Slice.Eq.{bytes_eq-Decides}
+use Rattle.account_core.specs.declared.fact.FactHead.TheVariants.{Fails, Holds}
 use Rattle.account_file.specs.declared.record.Record.{Record}
 use Rattle.account_file.specs.declared.record.Record.TheVariants as record_of
 use Rattle.account_file.specs.declared.fault.RecordFault.{RecordFault}
 use Rattle.account_file.specs.declared.fault.RecordFault.TheVariants as fault
 use Rattle.account_file.specs.declared.place.Place.{Place}
-use Rattle.account_file.specs.declared.place.Place.TheVariants.{Start, Headed, Logs, Ended}
+use Rattle.account_file.specs.declared.place.Place.TheVariants.{Start, Headed, FactLog, Logs, Ended}
 use Rattle.account_file.specs.declared.step.Step.{Step}
 use Rattle.account_file.specs.declared.step.Step.TheVariants.{Wait, Read, Refuse}
 use Rattle.account_file.specs.Forms.{record_in}
@@ -63,7 +64,10 @@ forms_of_front (line ∷ lines) (e ∷ es) (suc k) z = (z.0, forms_of_front line
 
 nothing_behind_end : (entry : Record) (behind : Place) → place_behind Ended entry ≡ Some behind → ⊥
 nothing_behind_end record_of.Header behind e = cc
+nothing_behind_end (record_of.Fact (Fails claim bits)) behind e = cc
+nothing_behind_end (record_of.Fact (Holds claim)) behind e = cc
 nothing_behind_end (record_of.Line line) behind e = cc
+nothing_behind_end (record_of.Ban ban) behind e = cc
 nothing_behind_end (record_of.Conclusion conclusion) behind e = cc
 nothing_behind_end record_of.End behind e = cc
 
@@ -84,11 +88,16 @@ said_record Start line record_of.Header behind form e =
     let headed : Headed ≡ behind = cc in
     ap (λ b. step_by (length line + 1) (cond b (Ok (record_of.Header, Headed)) (Err fault.Header))) (header_line line same)
     ∙ ap (λ p. Read record_of.Header p (length line + 1)) headed
+said_record Start line (record_of.Fact (Fails claim bits)) behind form e = cc
+said_record Start line (record_of.Fact (Holds claim)) behind form e = cc
 said_record Start line (record_of.Line l) behind form e = cc
+said_record Start line (record_of.Ban ban) behind form e = cc
 said_record Start line (record_of.Conclusion c) behind form e = cc
 said_record Start line record_of.End behind form e = cc
 said_record Headed line entry behind form e =
     ap (λ r. step_by (length line + 1) (in_place Headed r)) (form_is_read line entry form) ∙ ap (λ p. step_by (length line + 1) (placed entry p)) e
+said_record FactLog line entry behind form e =
+    ap (λ r. step_by (length line + 1) (in_place FactLog r)) (form_is_read line entry form) ∙ ap (λ p. step_by (length line + 1) (placed entry p)) e
 said_record (Logs logs) line entry behind form e =
     ap (λ r. step_by (length line + 1) (in_place (Logs logs) r)) (form_is_read line entry form) ∙ ap (λ p. step_by (length line + 1) (placed entry p)) e
 said_record Ended line entry behind form e = absurd (nothing_behind_end entry behind e)
@@ -107,6 +116,13 @@ said_fault Headed line fault.Order h =
     ap (λ r. step_by (length line + 1) (in_place Headed r)) (form_is_read line h.2.0 h.2.1) ∙ ap (λ p. step_by (length line + 1) (placed h.2.0 p)) h.2.2
 said_fault Headed line fault.Truncated h = absurd h
 said_fault Headed line fault.Trailing h = cc
+said_fault FactLog line fault.Header h = let e = h.0 in cc
+said_fault FactLog line fault.Word h = ap (λ r. step_by (length line + 1) (in_place FactLog r)) h.2
+said_fault FactLog line fault.Number h = ap (λ r. step_by (length line + 1) (in_place FactLog r)) h.2
+said_fault FactLog line fault.Order h =
+    ap (λ r. step_by (length line + 1) (in_place FactLog r)) (form_is_read line h.2.0 h.2.1) ∙ ap (λ p. step_by (length line + 1) (placed h.2.0 p)) h.2.2
+said_fault FactLog line fault.Truncated h = absurd h
+said_fault FactLog line fault.Trailing h = cc
 said_fault (Logs logs) line fault.Header h = let e = h.0 in cc
 said_fault (Logs logs) line fault.Word h = ap (λ r. step_by (length line + 1) (in_place (Logs logs) r)) h.2
 said_fault (Logs logs) line fault.Number h = ap (λ r. step_by (length line + 1) (in_place (Logs logs) r)) h.2
@@ -334,6 +350,7 @@ module _ (bytes : List ℕ) (done left : List (List ℕ)) (before : List Record)
 end_says : (bytes : List ℕ) (done : List (List ℕ)) (before : List Record) (place : Place) → whole_lines bytes ≡ done ++ [] → AllZip HasForm done before → place_after before ≡ Some place → SaysSomething bytes
 end_says bytes done before Start lines form at' = cut_off bytes done [] before Start lines form at' refl (λ e. cc)
 end_says bytes done before Headed lines form at' = cut_off bytes done [] before Headed lines form at' refl (λ e. cc)
+end_says bytes done before FactLog lines form at' = cut_off bytes done [] before FactLog lines form at' refl (λ e. cc)
 end_says bytes done before (Logs logs) lines form at' = cut_off bytes done [] before (Logs logs) lines form at' refl (λ e. cc)
 end_says bytes done before Ended lines form at' = by (behind_lines bytes) refl
   where

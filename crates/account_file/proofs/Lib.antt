@@ -1,13 +1,15 @@
 pub mod AccountLemmas
 pub mod BadWordLemmas
-pub mod ColonLemmas
-pub mod FaultLemmas
+pub mod GrammarLemmas
 pub mod LawLemmas
 pub mod LineLemmas
+pub mod NameLemmas
 pub mod NumberLemmas
 pub mod OrderLemmas
+pub mod ReadLemmas
 pub mod ReadingLemmas
 pub mod RecordLemmas
 pub mod SpellingLemmas
 pub mod StepLemmas
+pub mod ValueLemmas
 pub mod WordLemmas

@@ -1,17 +1,15 @@
 -- Numbers as they are written are those that are read.
-use Rattle.std.proofs.Common.{◌≡◌, ℕ, zero, suc, ◌<◌, ◌≤◌, ◌^◌, ◌&&◌, ◌||◌, not, eqb, ltb, Bool, true, false, cond, List, [], ◌∷◌, length, get_or, map, All, Option, Some, None, Result, Ok, Err, refl, sym, ap, ◌∙◌, subst, arith, inl, inr}
+use Rattle.std.proofs.Common.{◌≡◌, ℕ, zero, suc, ◌<◌, ◌≤◌, ◌^◌, ◌&&◌, ◌||◌, not, eqb, ltb, Bool, true, false, cond, List, [], ◌∷◌, length, get_or, Some, None, refl, sym, ap, ◌∙◌, arith, inl, inr}
 use Rattle.std.specs.Fmt.{decimal}
 use Rattle.std.specs.Str.{all_ascii_digits}
 use Rattle.std.specs.Str.Parse.{digits_value}
 use Rattle.std.proofs.lemmas.Bool.{and_parts, cases_Bool, ltb-true, lt-ltb}
 use Rattle.std.proofs.lemmas.Bool.Decides.{nat_tests}
 use Rattle.std.proofs.lemmas.Fmt.{decimal_nonempty, first_decimal, digits_decimal, digits_value-decimal, decimal-digits_value}
-use Rattle.std.proofs.lemmas.List.Elements.{All-nil, All-cons, All-head, All-tail}
 use Rattle.std.proofs.lemmas.Str.Parse.{IsNumeralModel, numerals_by_value, tells_all_ascii_digits}
 use Rattle.text_core.specs.Words.{is_not_empty}
 use Rattle.text_core.specs.Numbers.{is_numeral}
-use Rattle.account_file.specs.declared.fault.RecordFault.{RecordFault}
-use Rattle.account_file.specs.Forms.{is_plain, number_below, with_number, numbers_of}
+use Rattle.account_file.specs.Forms.{is_plain, number_below}
 
 numerals : IsNumeralModel (λ ds. all_ascii_digits ds ≡ true) (digits_value 10)
 numerals = numerals_by_value (λ ds. all_ascii_digits ds ≡ true) tells_all_ascii_digits
@@ -68,33 +66,5 @@ number_written bound word n small e =
       | inr fails ↦ let none : None ≡ Some n = sym (ap (λ b. cond b (Some (digits_value 10 word)) None) fails) ∙ e in cc
     ]
 
-pub numbers_read : (numbers : List ℕ) → All (λ n. n < 2 ^ 64) numbers → numbers_of (map decimal numbers) ≡ Ok numbers
-numbers_read [] small = refl
-numbers_read (n ∷ numbers) small =
-    let first = number_read (2 ^ 64) n (All-head (λ m. m < 2 ^ 64) n numbers small) (omega arith) in
-    let rest = numbers_read numbers (All-tail (λ m. m < 2 ^ 64) n numbers small) in
-    rw (first, rest) refl
-
--- the numbers that are read are what is written of them, each of 64 bits
-pub record AreWritten (words : List (List ℕ)) (numbers : List ℕ) : Type 0 where
-  pub words_are : words ≡ map decimal numbers
-  pub small : All (λ n. n < 2 ^ 64) numbers
-
-front_written : (word : List ℕ) (words : List (List ℕ)) (first : Option ℕ) (rest : Result (List ℕ) RecordFault) (numbers : List ℕ)
-    → ((n : ℕ) → first ≡ Some n → (word ≡ decimal n) × (n < 2 ^ 64)) → ((ns : List ℕ) → rest ≡ Ok ns → AreWritten words ns)
-    → with_number first word rest ≡ Ok numbers → AreWritten (word ∷ words) numbers
-front_written word words None rest numbers one more e = cc
-front_written word words (Some n) (Err fault) numbers one more e = cc
-front_written word words (Some n) (Ok ns) numbers one more e =
-    let is : n ∷ ns ≡ numbers = cc in
-    let first = one n refl in
-    let rest = more ns refl in
-    subst (AreWritten (word ∷ words)) is (record {
-      words_are = ap (λ w. w ∷ words) first.0 ∙ ap (λ ws. decimal n ∷ ws) rest.words_are;
-      small = All-cons (λ m. m < 2 ^ 64) n ns first.1 rest.small;
-    })
-
-pub numbers_written : (words : List (List ℕ)) (numbers : List ℕ) → numbers_of words ≡ Ok numbers → AreWritten words numbers
-numbers_written [] numbers e = let is : [] ≡ numbers = cc in subst (AreWritten []) is (record { words_are = refl; small = All-nil (λ m. m < 2 ^ 64) })
-numbers_written (word ∷ words) numbers e =
-    front_written word words (number_below (2 ^ 64) word) (numbers_of words) numbers (λ n is. number_written (2 ^ 64) word n (omega arith) is) (λ ns is. numbers_written words ns is) e
+pub decimal_numeral : (n : ℕ) → n < 2 ^ 64 → is_numeral (decimal n) ≡ true
+decimal_numeral n small = (and_parts (is_numeral (decimal n)) (eqb (length (decimal n)) 1 || not (eqb (get_or (decimal n) 0 0) 48)) (decimal_is_plain n small)).0

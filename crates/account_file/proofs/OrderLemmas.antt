@@ -2,11 +2,13 @@
 use Rattle.std.proofs.Common.{◌≡◌, ℕ, eqb, Bool, true, false, cond, List, [], ◌∷◌, ◌++◌, take, drop, fold, Option, Some, None, IsSome, refl, sym, ap, subst, ◌∙◌, take-append-drop}
 use Rattle.std.proofs.lemmas.Bool.{false≢true}
 use Rattle.std.proofs.lemmas.List.Sums.{fold_push, fold-append}
+use Rattle.cnf_core.specs.declared.literal.SatLit.{SatLit}
+use Rattle.account_core.specs.declared.fact.FactHead.TheVariants.{Fails, Holds}
 use Rattle.account_file.specs.declared.record.Record.{Record}
 use Rattle.account_file.specs.declared.record.Record.TheVariants as record_of
 use Rattle.account_file.specs.declared.place.Place.{Place}
-use Rattle.account_file.specs.declared.place.Place.TheVariants.{Start, Headed, Logs, Ended}
-use Rattle.account_file.specs.Order.{logs_behind, place_behind, place_after_one, place_after, AreInOrder}
+use Rattle.account_file.specs.declared.place.Place.TheVariants.{Start, Headed, FactLog, Logs, Ended}
+use Rattle.account_file.specs.Order.{logs_behind, place_in_log, place_behind, place_after_one, place_after, AreInOrder}
 
 pub place_after-push : (records : List Record) (entry : Record) → place_after (records ++ entry ∷ []) ≡ place_after_one (place_after records) entry
 place_after-push records entry = fold_push place_after_one (Some Start) records entry
@@ -53,17 +55,40 @@ not_start (Logs logs) record_of.End e = by (eqb logs 0) e
     by true e = cc
     by false e = cc
 not_start Start record_of.Header e = cc
+not_start Start (record_of.Fact (Fails claim bits)) e = cc
+not_start Start (record_of.Fact (Holds claim)) e = cc
 not_start Start (record_of.Line line) e = cc
+not_start Start (record_of.Ban ban) e = cc
 not_start Start (record_of.Conclusion conclusion) e = cc
 not_start Start record_of.End e = cc
 not_start Headed record_of.Header e = cc
+not_start Headed (record_of.Fact (Fails claim bits)) e = cc
+not_start Headed (record_of.Fact (Holds claim)) e = cc
 not_start Headed (record_of.Line line) e = cc
+not_start Headed (record_of.Ban ban) e = cc
 not_start Headed (record_of.Conclusion conclusion) e = cc
 not_start Headed record_of.End e = cc
+not_start FactLog record_of.Header e = cc
+not_start FactLog (record_of.Fact (Fails claim bits)) e = cc
+not_start FactLog (record_of.Fact (Holds claim)) e = cc
+not_start FactLog (record_of.Line line) e = by line.clause e
+  where
+    by : (clause : List SatLit) → Some (place_in_log clause) ≡ Some Start → ⊥
+    by [] e = cc
+    by (literal ∷ clause) e = cc
+not_start FactLog (record_of.Ban ban) e = cc
+not_start FactLog (record_of.Conclusion conclusion) e = cc
+not_start FactLog record_of.End e = cc
 not_start (Logs logs) record_of.Header e = cc
+not_start (Logs logs) (record_of.Fact (Fails claim bits)) e = cc
+not_start (Logs logs) (record_of.Fact (Holds claim)) e = cc
+not_start (Logs logs) (record_of.Ban ban) e = cc
 not_start (Logs logs) (record_of.Conclusion conclusion) e = cc
 not_start Ended record_of.Header e = cc
+not_start Ended (record_of.Fact (Fails claim bits)) e = cc
+not_start Ended (record_of.Fact (Holds claim)) e = cc
 not_start Ended (record_of.Line line) e = cc
+not_start Ended (record_of.Ban ban) e = cc
 not_start Ended (record_of.Conclusion conclusion) e = cc
 not_start Ended record_of.End e = cc
 

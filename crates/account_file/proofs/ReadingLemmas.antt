@@ -15,7 +15,7 @@ use Rattle.account_file.specs.declared.fault.RecordFault.TheVariants as fault
 use Rattle.account_file.specs.declared.fault.FileStop.{FileStop}
 use Rattle.account_file.specs.declared.fault.FileStop.TheVariants.{Fault, Memory}
 use Rattle.account_file.specs.declared.place.Place.{Place}
-use Rattle.account_file.specs.declared.place.Place.TheVariants.{Start, Headed, Logs, Ended}
+use Rattle.account_file.specs.declared.place.Place.TheVariants.{Start, Headed, FactLog, Logs, Ended}
 use Rattle.account_file.specs.declared.step.Step.{Step}
 use Rattle.account_file.specs.declared.step.Step.TheVariants.{Wait, Read, Refuse}
 use Rattle.account_file.specs.Lines.{whole_lines, behind_lines}
@@ -106,6 +106,7 @@ end_says : (bytes left : List ℕ) (records : List Record) (place : Place) → b
     → IsLine left → SaysNext bytes true records (answer_by (step_at_end place left))
 end_says bytes left records Start text w at' none = cut_off bytes left records Start text w at' none (λ e. cc)
 end_says bytes left records Headed text w at' none = cut_off bytes left records Headed text w at' none (λ e. cc)
+end_says bytes left records FactLog text w at' none = cut_off bytes left records FactLog text w at' none (λ e. cc)
 end_says bytes left records (Logs logs) text w at' none = cut_off bytes left records (Logs logs) text w at' none (λ e. cc)
 end_says bytes [] records Ended text w at' none = record {
   records_are = all_are bytes [] records Ended text w at' none;
@@ -246,6 +247,7 @@ step_leaves place left finished = by (has_line left) refl
     ended : (p : Place) (l : List ℕ) → Leaves p l (step_at_end p l)
     ended Start l = tt
     ended Headed l = tt
+    ended FactLog l = tt
     ended (Logs logs) l = tt
     ended Ended [] = tt
     ended Ended (byte ∷ l) = tt

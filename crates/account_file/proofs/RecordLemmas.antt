@@ -1,194 +1,484 @@
 -- Records as they are written are those that are read.
-use Rattle.std.proofs.Common.{◌≡◌, ℕ, ◌<◌, ◌^◌, eqb, ltb, Bool, true, false, cond, List, [], ◌∷◌, ◌++◌, length, map, take, drop, All, codes, Option, Some, None, Result, Ok, Err, refl, sym, ap, ◌∙◌, subst, arith, append_assoc, take-append-drop, take_at, drop_at, length-append, get_or}
-use Rattle.std.specs.Char.{is_ascii_digit}
+use Rattle.std.proofs.Common.{◌≡◌, ℕ, Bool, true, false, cond, List, [], ◌∷◌, ◌++◌, length, map, drop, All, codes, Result, Ok, Err, refl, sym, ap, ◌∙◌, subst, arith, append_assoc, append-nil, length-append, get_or}
 use Rattle.std.specs.Fmt.{decimal}
-use Rattle.std.specs.List.{list_all, prefix_len}
-use Rattle.std.specs.Str.{all_ascii_digits, bytes_eq}
-use Rattle.std.proofs.lemmas.Bool.{eqb-true, ltb-true}
-use Rattle.std.proofs.lemmas.List.Elements.{All-nil, All-cons, All-head, All-tail, All-append, All-weaker}
-use Rattle.std.proofs.lemmas.List.Sums.{AllPass-from_list_all}
-use Rattle.std.proofs.lemmas.Slice.Eq.{bytes_eq-Decides}
+use Rattle.std.proofs.lemmas.List.Elements.{All-nil, All-cons, All-head, All-tail, All-append}
 use Rattle.text_core.specs.Lines.{IsLine}
-use Rattle.circuits.specs.declared.port.Pair.{Pair}
-use Rattle.circuits.specs.declared.port.PortKind.{PortKind}
-use Rattle.circuits.specs.declared.port.PortKind.TheVariants.{Input, Output}
-use Rattle.cnf_core.specs.declared.literal.SatLit.{SatLit}
-use Rattle.account_core.specs.declared.conclusion.Conclusion.TheVariants.{Match}
+use Rattle.query_core.specs.declared.claims.Shape.{Shape}
+use Rattle.query_core.specs.declared.claims.Shape.TheVariants.{Up, Down, Swap}
+use Rattle.query_core.specs.declared.claims.Claim.{Claim}
+use Rattle.account_core.specs.declared.conclusion.Conclusion.TheVariants.{NonePorts, NoneBan, Match}
+use Rattle.account_core.specs.declared.fact.FactHead.TheVariants.{Fails, Holds}
+use Rattle.account_core.specs.declared.step.Step.{Step}
+use Rattle.account_core.specs.declared.step.Step.TheVariants.{Vector, Mismatch, Tally, Cover}
 use Rattle.account_file.specs.declared.record.Record.{Record}
 use Rattle.account_file.specs.declared.record.Record.TheVariants as record_of
 use Rattle.account_file.specs.declared.fault.RecordFault.{RecordFault}
-use Rattle.account_file.specs.declared.fault.RecordFault.TheVariants.{Word}
-use Rattle.account_file.specs.Forms.{kind_of_letter, flip_of_sign, port_of, pair_of, pair_by, pair_behind, with_pair, pairs_of, match_record, numbers_of, before_colon, behind_colon, hints_of, line_of, log_line, log_record, literals_of, alone, header_record, record_by, record_in}
+use Rattle.account_file.specs.declared.names.RecordName.{RecordName}
+use Rattle.account_file.specs.declared.names.RecordName.TheVariants as record_name
+use Rattle.account_file.specs.declared.names.ShapeName.{ShapeName}
+use Rattle.account_file.specs.declared.names.ShapeName.TheVariants as shape_name
+use Rattle.account_file.specs.declared.names.StepName.{StepName}
+use Rattle.account_file.specs.declared.names.StepName.TheVariants as step_name
+use Rattle.account_file.specs.declared.names.NoneName.{NoneName}
+use Rattle.account_file.specs.declared.names.NoneName.TheVariants as none_name
+use Rattle.account_file.specs.Forms.{Parsed, followed, with_words, next_by, is_separator, with_item, list_by, last_part, named, number_of, port_of, literal_of, reference_of, pair_of, bits_of, tris_of, two_bits_of, side_of, kind_of, tallied_of, shape_name_of, step_name_of, none_name_of, record_name_of, shape_by, shape_of, claim_of, step_by, step_of, none_by, record_by, record_in_front, record_in}
 use Rattle.account_file.specs.Words.{words_of}
-use Rattle.account_file.specs.Spelling.{kind_letter, sign_of, numbers_text, record_line, HasPorts, IsWritable}
-use Rattle.account_file.proofs.NumberLemmas.{decimal_digits, number_read, number_written, numbers_read, numbers_written}
-use Rattle.account_file.proofs.SpellingLemmas.{spaced, spaced_words, IsVisible, words_spaced, line_spaced_words, spaced-map, spaced-append, digits_visible, digits_front}
+use Rattle.account_file.specs.Spelling.{pair_word, side_word, bits_word, tris_word, tallied_word, kind_word, reference_word, shape_words, claim_words, step_words, first_word, other_words, line_text, record_line, IsPort, IsNumber, HasPorts, ShapeHasPorts, ClaimHasPorts, IsReference, StepHasNumbers, IsWritable}
+use Rattle.account_file.proofs.NameLemmas.{Any, named_written, side_spelled, kind_spelled, tallied_spelled, shape_word, shape_name_spelled, step_word, step_name_spelled, none_word, none_name_spelled, record_word, record_name_spelled, bits_spelled, tris_spelled, two_bits_word, two_bits_spelled}
+use Rattle.account_file.proofs.ReadLemmas.{stops, list_stops}
+use Rattle.account_file.proofs.SpellingLemmas.{IsVisible, shown, words_spaced, line_spaced_words, spaced_words}
+use Rattle.account_file.proofs.ValueLemmas.{IsSpelled, AreItems, port_spelled, port_items, number_is_spelled, number_is_item, literal_word, literal_spelled, literal_items, reference_spelled, reference_items, pair_spelled, pair_items}
 
--- the words of a record
+-- what is read is written
 
-abbrev pub pair_word : Pair → List ℕ
-pair_word pair = kind_letter pair.kind ∷ decimal pair.from ++ sign_of pair.flip ∷ decimal pair.to
+-- a part was read in front of the words behind it
+pub record Taken {X Y : Type 0} (print : X → List (List ℕ)) (IsFit : X → Type 0) (words : List (List ℕ)) (k : X → List (List ℕ) → Result Y RecordFault) (y : Y) : Type 0 where
+  pub value : X
+  pub behind : List (List ℕ)
+  pub words_are : words ≡ print value ++ behind
+  pub fit : IsFit value
+  pub rest : k value behind ≡ Ok y
 
-abbrev pub first_word : Record → List ℕ
-first_word record_of.Header = codes "npnp"
-first_word (record_of.Conclusion (Match pairs)) = codes "match"
-first_word (record_of.Line line) = codes "l"
-first_word record_of.End = codes "end"
+abbrev IsPart : {X : Type 0} → (List (List ℕ) → Parsed X) → (X → List (List ℕ)) → (X → Type 0) → Type 0
+IsPart {X} p print IsFit = (words : List (List ℕ)) (part : X × List (List ℕ)) → p words ≡ Ok part → (words ≡ print part.0 ++ part.1) × IsFit part.0
 
-abbrev pub literal_words : List SatLit → List (List ℕ)
-literal_words literals = map decimal (map (λ literal. literal.0) literals)
+take_part : {X Y : Type 0} (p : List (List ℕ) → Parsed X) (print : X → List (List ℕ)) (IsFit : X → Type 0) → IsPart p print IsFit
+    → (words : List (List ℕ)) (k : X → List (List ℕ) → Result Y RecordFault) (y : Y) → followed (p words) k ≡ Ok y → Taken print IsFit words k y
+take_part {X} {Y} p print IsFit is_part words k y e = by (p words) refl e
+  where
+    by : (a : Parsed X) → p words ≡ a → followed a k ≡ Ok y → Taken print IsFit words k y
+    by (Ok part) is e = let w = is_part words part is in record { value = part.0; behind = part.1; words_are = w.0; fit = w.1; rest = e }
+    by (Err fault) is e = absurd (let clash : ⊥ = cc in clash)
 
-abbrev pub other_words : Record → List (List ℕ)
-other_words record_of.Header = codes "1" ∷ []
-other_words (record_of.Conclusion (Match pairs)) = map pair_word pairs
-other_words (record_of.Line line) = literal_words line.clause ++ codes ":" ∷ map decimal line.hints
-other_words record_of.End = []
+module _ {X : Type 0} (read : List ℕ → Result X RecordFault) (spell : X → List ℕ) (IsFit : X → Type 0) (s : IsSpelled read spell IsFit) where
+  word_part : IsPart (next_by read) (λ x. spell x ∷ []) IsFit
+  word_part [] part e = absurd (let clash : ⊥ = cc in clash)
+  word_part (word ∷ words) part e = by (read word) refl e
+    where
+      by : (a : Result X RecordFault) → read word ≡ a → with_words a words ≡ Ok part → (word ∷ words ≡ spell part.0 ∷ part.1) × IsFit part.0
+      by (Ok x) is e =
+          let same : (x, words) ≡ part = cc in
+          let w = s.written word x is in
+          subst (λ (p : X × List (List ℕ)). (word ∷ words ≡ spell p.0 ∷ p.1) × IsFit p.0) same (ap (λ l. l ∷ words) w.0, w.1)
+      by (Err fault) is e = absurd (let clash : ⊥ = cc in clash)
 
-ends : (literals hints : List (List ℕ)) → spaced literals ++ codes " :" ++ spaced hints ++ 10 ∷ [] ≡ spaced (literals ++ codes ":" ∷ hints) ++ 10 ∷ []
-ends literals hints =
-    ap (λ l. l ++ 10 ∷ []) (append_assoc (spaced literals) (codes " :") (spaced hints) ∙ sym (spaced-append literals (codes ":" ∷ hints)))
+  list_part : IsPart (list_by read) (λ xs. map spell xs) (All IsFit)
+  list_part [] part e =
+      let same : ([], []) ≡ part = cc in
+      subst (λ (p : List X × List (List ℕ)). ([] ≡ map spell p.0 ++ p.1) × All IsFit p.0) same (refl, All-nil IsFit)
+  list_part (word ∷ words) part e = by (is_separator word) (read word) refl (list_by read words) refl e (λ rest is. list_part words rest is)
+    where
+      by : (b : Bool) (a : Result X RecordFault) → read word ≡ a → (r : Parsed (List X)) → list_by read words ≡ r → cond b (Ok ([], word ∷ words)) (with_item a r) ≡ Ok part
+          → ((rest : List X × List (List ℕ)) → list_by read words ≡ Ok rest → (words ≡ map spell rest.0 ++ rest.1) × All IsFit rest.0) → (word ∷ words ≡ map spell part.0 ++ part.1) × All IsFit part.0
+      by true a ra r er e more =
+          let same : ([], word ∷ words) ≡ part = cc in
+          subst (λ (p : List X × List (List ℕ)). (word ∷ words ≡ map spell p.0 ++ p.1) × All IsFit p.0) same (refl, All-nil IsFit)
+      by false (Err f) ra r er e more = absurd (let clash : ⊥ = cc in clash)
+      by false (Ok x) ra (Err f) er e more = absurd (let clash : ⊥ = cc in clash)
+      by false (Ok x) ra (Ok rest) er e more =
+          let same : (x ∷ rest.0, rest.1) ≡ part = cc in
+          let w = s.written word x ra in
+          let m = more rest er in
+          subst (λ (p : List X × List (List ℕ)). (word ∷ words ≡ map spell p.0 ++ p.1) × All IsFit p.0) same
+          (ap (λ l. l ∷ words) w.0 ∙ ap (λ l. spell x ∷ l) m.0, All-cons IsFit x rest.0 w.1 m.1)
 
-pub line_spaced : (entry : Record) → record_line entry ≡ (first_word entry ++ spaced (other_words entry)) ++ 10 ∷ []
-line_spaced record_of.Header = refl
-line_spaced (record_of.Conclusion (Match pairs)) =
-    ap (λ l. codes "match" ++ l ++ 10 ∷ []) (spaced-map pair_word pairs) ∙ sym (append_assoc (codes "match") (spaced (map pair_word pairs)) (10 ∷ []))
-line_spaced (record_of.Line line) =
-    let literals = literal_words line.clause in
-    let hints = map decimal line.hints in
-    let numbers = spaced-map decimal (map (λ literal. literal.0) line.clause) in
-    let others = spaced-map decimal line.hints in
-    ap (λ l. codes "l" ++ l ++ codes " :" ++ numbers_text line.hints ++ 10 ∷ []) numbers
-    ∙ ap (λ l. codes "l" ++ spaced literals ++ codes " :" ++ l ++ 10 ∷ []) others
-    ∙ ap (λ l. codes "l" ++ l) (ends literals hints)
-line_spaced record_of.End = refl
+  take_word : {Y : Type 0} (words : List (List ℕ)) (k : X → List (List ℕ) → Result Y RecordFault) (y : Y) → followed (next_by read words) k ≡ Ok y → Taken (λ x. spell x ∷ []) IsFit words k y
+  take_word {Y} words k y e = take_part (next_by read) (λ x. spell x ∷ []) IsFit word_part words k y e
+
+  take_list : {Y : Type 0} (words : List (List ℕ)) (k : List X → List (List ℕ) → Result Y RecordFault) (y : Y) → followed (list_by read words) k ≡ Ok y → Taken (λ xs. map spell xs) (All IsFit) words k y
+  take_list {Y} words k y e = take_part (list_by read) (λ xs. map spell xs) (All IsFit) list_part words k y e
+
+name_part : (name : List ℕ) → IsPart (next_by (named name)) (λ x. name ∷ []) Any
+name_part name [] part e = absurd (let clash : ⊥ = cc in clash)
+name_part name (word ∷ words) part e = by (named name word) refl e
+  where
+    by : (a : Result Bool RecordFault) → named name word ≡ a → with_words a words ≡ Ok part → (word ∷ words ≡ name ∷ part.1) × Any part.0
+    by (Ok x) is e =
+        let same : (x, words) ≡ part = cc in
+        (ap (λ l. l ∷ words) (named_written name word x is) ∙ ap (λ (p : Bool × List (List ℕ)). name ∷ p.1) same, tt)
+    by (Err fault) is e = absurd (let clash : ⊥ = cc in clash)
+
+take_name : {Y : Type 0} (name : List ℕ) (words : List (List ℕ)) (k : Bool → List (List ℕ) → Result Y RecordFault) (y : Y) → followed (next_by (named name) words) k ≡ Ok y → Taken (λ x. name ∷ []) Any words k y
+take_name {Y} name words k y e = take_part (next_by (named name)) (λ x. name ∷ []) Any (name_part name) words k y e
+
+abbrev port : {Y : Type 0} (words : List (List ℕ)) (k : ℕ → List (List ℕ) → Result Y RecordFault) (y : Y) → followed (next_by port_of words) k ≡ Ok y → Taken (λ n. decimal n ∷ []) IsPort words k y
+port {Y} words k y e = take_word port_of decimal IsPort port_spelled words k y e
+
+abbrev number : {Y : Type 0} (words : List (List ℕ)) (k : ℕ → List (List ℕ) → Result Y RecordFault) (y : Y) → followed (next_by number_of words) k ≡ Ok y → Taken (λ n. decimal n ∷ []) IsNumber words k y
+number {Y} words k y e = take_word number_of decimal IsNumber number_is_spelled words k y e
+
+-- claims
+
+abbrev ShapeIs : List (List ℕ) → Shape × List (List ℕ) → Type 0
+ShapeIs words part = (words ≡ shape_words part.0 ++ part.1) × ShapeHasPorts part.0
+
+shape_named : (name : ShapeName) (words : List (List ℕ)) (part : Shape × List (List ℕ)) → shape_by name words ≡ Ok part → ShapeIs (shape_word name ∷ words) part
+shape_named shape_name.Up words part e =
+    let i = port words _ part e in
+    let same : (Up i.value, i.behind) ≡ part = let last = i.rest in cc in
+    subst (ShapeIs (codes "up" ∷ words)) same (ap (λ l. codes "up" ∷ l) i.words_are, i.fit)
+shape_named shape_name.Down words part e =
+    let i = port words _ part e in
+    let same : (Down i.value, i.behind) ≡ part = let last = i.rest in cc in
+    subst (ShapeIs (codes "down" ∷ words)) same (ap (λ l. codes "down" ∷ l) i.words_are, i.fit)
+shape_named shape_name.Swap words part e =
+    let i = port words _ part e in
+    let j = port i.behind _ part i.rest in
+    let bits = take_word two_bits_of two_bits_word Any two_bits_spelled j.behind _ part j.rest in
+    let same : (Swap i.value j.value bits.value.0 bits.value.1, bits.behind) ≡ part = let last = bits.rest in cc in
+    subst (ShapeIs (codes "swap" ∷ words)) same (
+      ap (λ l. codes "swap" ∷ l) i.words_are ∙ ap (λ l. codes "swap" ∷ decimal i.value ∷ l) j.words_are
+          ∙ ap (λ l. codes "swap" ∷ decimal i.value ∷ decimal j.value ∷ l) bits.words_are,
+      (i.fit, j.fit),
+    )
+
+shape_part : IsPart shape_of shape_words ShapeHasPorts
+shape_part words part e =
+    let name = take_word shape_name_of shape_word Any shape_name_spelled words _ part e in
+    let is = shape_named name.value name.behind part name.rest in
+    (name.words_are ∙ is.0, is.1)
+
+claim_part : IsPart claim_of claim_words ClaimHasPorts
+claim_part words part e =
+    let side = take_word side_of side_word Any side_spelled words _ part e in
+    let output = port side.behind _ part side.rest in
+    let shape = take_part shape_of shape_words ShapeHasPorts shape_part output.behind _ part output.rest in
+    let claim : Claim = record { side = side.value; output = output.value; shape = shape.value } in
+    let same : (claim, shape.behind) ≡ part = let last = shape.rest in cc in
+    subst (λ (p : Claim × List (List ℕ)). (words ≡ claim_words p.0 ++ p.1) × ClaimHasPorts p.0) same (
+      side.words_are ∙ ap (λ l. side_word side.value ∷ l) output.words_are ∙ ap (λ l. side_word side.value ∷ decimal output.value ∷ l) shape.words_are,
+      record { output = output.fit; shape = shape.fit },
+    )
+
+-- steps
+
+abbrev StepIs : List (List ℕ) → Step × List (List ℕ) → Type 0
+StepIs words part = (words ≡ step_words part.0 ++ part.1) × StepHasNumbers part.0
+
+step_vector : (words : List (List ℕ)) (part : Step × List (List ℕ)) → step_by step_name.Vector words ≡ Ok part → StepIs (codes "vector" ∷ words) part
+step_vector words part e =
+    let output = port words _ part e in
+    let tris = take_word tris_of tris_word Any tris_spelled output.behind _ part output.rest in
+    let same : (Vector output.value tris.value, tris.behind) ≡ part = let last = tris.rest in cc in
+    subst (StepIs (codes "vector" ∷ words)) same (ap (λ l. codes "vector" ∷ l) output.words_are ∙ ap (λ l. codes "vector" ∷ decimal output.value ∷ l) tris.words_are, output.fit)
+
+step_mismatch : (words : List (List ℕ)) (part : Step × List (List ℕ)) → step_by step_name.Mismatch words ≡ Ok part → StepIs (codes "mismatch" ∷ words) part
+step_mismatch words part e =
+    let fails = number words _ part e in
+    let holds = number fails.behind _ part fails.rest in
+    let same : (Mismatch fails.value holds.value, holds.behind) ≡ part = let last = holds.rest in cc in
+    subst (StepIs (codes "mismatch" ∷ words)) same
+    (ap (λ l. codes "mismatch" ∷ l) fails.words_are ∙ ap (λ l. codes "mismatch" ∷ decimal fails.value ∷ l) holds.words_are, (fails.fit, holds.fit))
+
+step_tally : (words : List (List ℕ)) (part : Step × List (List ℕ)) → step_by step_name.Tally words ≡ Ok part → StepIs (codes "tally" ∷ words) part
+step_tally words part e =
+    let kind = take_word tallied_of tallied_word Any tallied_spelled words _ part e in
+    let have = take_list number_of decimal IsNumber number_is_spelled kind.behind _ part kind.rest in
+    let slash = take_name (codes "/") have.behind _ part have.rest in
+    let lack = take_list number_of decimal IsNumber number_is_spelled slash.behind _ part slash.rest in
+    let same : (Tally kind.value have.value lack.value, lack.behind) ≡ part = let last = lack.rest in cc in
+    let front : List (List ℕ) → List (List ℕ) = λ l. codes "tally" ∷ tallied_word kind.value ∷ l in
+    subst (StepIs (codes "tally" ∷ words)) same (
+      ap (λ l. codes "tally" ∷ l) kind.words_are ∙ ap front have.words_are
+          ∙ ap (λ l. front (map decimal have.value ++ l)) (slash.words_are ∙ ap (λ l. codes "/" ∷ l) lack.words_are)
+          ∙ ap front (sym (append_assoc (map decimal have.value) (codes "/" ∷ map decimal lack.value) lack.behind)),
+      (have.fit, lack.fit),
+    )
+
+step_cover : (words : List (List ℕ)) (part : Step × List (List ℕ)) → step_by step_name.Cover words ≡ Ok part → StepIs (codes "cover" ∷ words) part
+step_cover words part e =
+    let kind = take_word kind_of kind_word Any kind_spelled words _ part e in
+    let from = take_list port_of decimal IsPort port_spelled kind.behind _ part kind.rest in
+    let slash = take_name (codes "/") from.behind _ part from.rest in
+    let to = take_list port_of decimal IsPort port_spelled slash.behind _ part slash.rest in
+    let second = take_name (codes "/") to.behind _ part to.rest in
+    let refs = take_list reference_of reference_word IsReference reference_spelled second.behind _ part second.rest in
+    let same : (Cover kind.value from.value to.value refs.value, refs.behind) ≡ part = let last = refs.rest in cc in
+    let front : List (List ℕ) → List (List ℕ) = λ l. codes "cover" ∷ kind_word kind.value ∷ l in
+    let tail : slash.behind ≡ (map decimal to.value ++ codes "/" ∷ map reference_word refs.value) ++ refs.behind =
+    to.words_are ∙ ap (λ l. map decimal to.value ++ l) (second.words_are ∙ ap (λ l. codes "/" ∷ l) refs.words_are)
+    ∙ sym (append_assoc (map decimal to.value) (codes "/" ∷ map reference_word refs.value) refs.behind) in
+    subst (StepIs (codes "cover" ∷ words)) same (
+      ap (λ l. codes "cover" ∷ l) kind.words_are ∙ ap front from.words_are
+          ∙ ap (λ l. front (map decimal from.value ++ l)) (slash.words_are ∙ ap (λ l. codes "/" ∷ l) tail)
+          ∙ ap front (sym (append_assoc (map decimal from.value) (codes "/" ∷ (map decimal to.value ++ codes "/" ∷ map reference_word refs.value)) refs.behind)),
+      (from.fit, (to.fit, refs.fit)),
+    )
+
+step_named : (name : StepName) (words : List (List ℕ)) (part : Step × List (List ℕ)) → step_by name words ≡ Ok part → StepIs (step_word name ∷ words) part
+step_named step_name.Vector words part e = step_vector words part e
+step_named step_name.Mismatch words part e = step_mismatch words part e
+step_named step_name.Tally words part e = step_tally words part e
+step_named step_name.Cover words part e = step_cover words part e
+
+step_part : IsPart step_of step_words StepHasNumbers
+step_part words part e =
+    let name = take_word step_name_of step_word Any step_name_spelled words _ part e in
+    let is = step_named name.value name.behind part name.rest in
+    (name.words_are ∙ is.0, is.1)
+
+-- records
+
+abbrev record_words : Record → List (List ℕ)
+record_words entry = first_word entry ∷ other_words entry
+
+abbrev RecordIs : List (List ℕ) → Record × List (List ℕ) → Type 0
+RecordIs words part = (words ≡ record_words part.0 ++ part.1) × IsWritable part.0
+
+record_fails : (words : List (List ℕ)) (part : Record × List (List ℕ)) → record_by record_name.Fails words ≡ Ok part → RecordIs (codes "fails" ∷ words) part
+record_fails words part e =
+    let claim = take_part claim_of claim_words ClaimHasPorts claim_part words _ part e in
+    let bits = take_word bits_of bits_word Any bits_spelled claim.behind _ part claim.rest in
+    let same : (record_of.Fact (Fails claim.value bits.value), bits.behind) ≡ part = let last = bits.rest in cc in
+    subst (RecordIs (codes "fails" ∷ words)) same (
+      ap (λ l. codes "fails" ∷ l) claim.words_are ∙ ap (λ l. codes "fails" ∷ claim_words claim.value ++ l) bits.words_are
+          ∙ ap (λ l. codes "fails" ∷ l) (sym (append_assoc (claim_words claim.value) (bits_word bits.value ∷ []) bits.behind)),
+      claim.fit,
+    )
+
+record_holds : (words : List (List ℕ)) (part : Record × List (List ℕ)) → record_by record_name.Holds words ≡ Ok part → RecordIs (codes "holds" ∷ words) part
+record_holds words part e =
+    let claim = take_part claim_of claim_words ClaimHasPorts claim_part words _ part e in
+    let same : (record_of.Fact (Holds claim.value), claim.behind) ≡ part = let last = claim.rest in cc in
+    subst (RecordIs (codes "holds" ∷ words)) same (ap (λ l. codes "holds" ∷ l) claim.words_are, claim.fit)
+
+record_log : (words : List (List ℕ)) (part : Record × List (List ℕ)) → record_by record_name.Line words ≡ Ok part → RecordIs (codes "l" ∷ words) part
+record_log words part e =
+    let clause = take_list literal_of literal_word (λ literal. IsNumber literal.0) literal_spelled words _ part e in
+    let colon = take_name (codes ":") clause.behind _ part clause.rest in
+    let hints = take_list number_of decimal IsNumber number_is_spelled colon.behind _ part colon.rest in
+    let same : (record_of.Line (record { clause = clause.value; hints = hints.value }), hints.behind) ≡ part = let last = hints.rest in cc in
+    subst (RecordIs (codes "l" ∷ words)) same (
+      ap (λ l. codes "l" ∷ l) clause.words_are
+          ∙ ap (λ l. codes "l" ∷ map literal_word clause.value ++ l) (colon.words_are ∙ ap (λ l. codes ":" ∷ l) hints.words_are)
+          ∙ ap (λ l. codes "l" ∷ l) (sym (append_assoc (map literal_word clause.value) (codes ":" ∷ map decimal hints.value) hints.behind)),
+      record { literals = clause.fit; hints = hints.fit },
+    )
+
+record_ban : (words : List (List ℕ)) (part : Record × List (List ℕ)) → record_by record_name.Ban words ≡ Ok part → RecordIs (codes "ban" ∷ words) part
+record_ban words part e =
+    let pairs = take_list pair_of pair_word HasPorts pair_spelled words _ part e in
+    let colon = take_name (codes ":") pairs.behind _ part pairs.rest in
+    let step = take_part step_of step_words StepHasNumbers step_part colon.behind _ part colon.rest in
+    let same : (record_of.Ban (record { pairs = pairs.value; step = step.value }), step.behind) ≡ part = let last = step.rest in cc in
+    subst (RecordIs (codes "ban" ∷ words)) same (
+      ap (λ l. codes "ban" ∷ l) pairs.words_are
+          ∙ ap (λ l. codes "ban" ∷ map pair_word pairs.value ++ l) (colon.words_are ∙ ap (λ l. codes ":" ∷ l) step.words_are)
+          ∙ ap (λ l. codes "ban" ∷ l) (sym (append_assoc (map pair_word pairs.value) (codes ":" ∷ step_words step.value) step.behind)),
+      record { pairs = pairs.fit; step = step.fit },
+    )
+
+record_none : (name : NoneName) (words : List (List ℕ)) (part : Record × List (List ℕ)) → none_by name words ≡ Ok part → RecordIs (codes "none" ∷ none_word name ∷ words) part
+record_none none_name.Ports words part e =
+    let same : (record_of.Conclusion NonePorts, words) ≡ part = cc in
+    subst (RecordIs (codes "none" ∷ codes "ports" ∷ words)) same (refl, tt)
+record_none none_name.Ban words part e =
+    let ban = number words _ part e in
+    let same : (record_of.Conclusion (NoneBan ban.value), ban.behind) ≡ part = let last = ban.rest in cc in
+    subst (RecordIs (codes "none" ∷ codes "ban" ∷ words)) same (ap (λ l. codes "none" ∷ codes "ban" ∷ l) ban.words_are, ban.fit)
+
+record_named : (name : RecordName) (words : List (List ℕ)) (part : Record × List (List ℕ)) → record_by name words ≡ Ok part → RecordIs (record_word name ∷ words) part
+record_named record_name.Header words part e =
+    let version = take_name (codes "1") words _ part e in
+    let same : (record_of.Header, version.behind) ≡ part = let last = version.rest in cc in
+    subst (RecordIs (codes "npnp" ∷ words)) same (ap (λ l. codes "npnp" ∷ l) version.words_are, tt)
+record_named record_name.Fails words part e = record_fails words part e
+record_named record_name.Holds words part e = record_holds words part e
+record_named record_name.Line words part e = record_log words part e
+record_named record_name.Ban words part e = record_ban words part e
+record_named record_name.None words part e =
+    let name = take_word none_name_of none_word Any none_name_spelled words _ part e in
+    let is = record_none name.value name.behind part name.rest in
+    (ap (λ l. codes "none" ∷ l) name.words_are ∙ is.0, is.1)
+record_named record_name.Match words part e =
+    let pairs = take_list pair_of pair_word HasPorts pair_spelled words _ part e in
+    let same : (record_of.Conclusion (Match pairs.value), pairs.behind) ≡ part = let last = pairs.rest in cc in
+    subst (RecordIs (codes "match" ∷ words)) same (ap (λ l. codes "match" ∷ l) pairs.words_are, pairs.fit)
+record_named record_name.End words part e =
+    let same : (record_of.End, words) ≡ part = cc in
+    subst (RecordIs (codes "end" ∷ words)) same (refl, tt)
+
+record_part : IsPart record_in_front record_words IsWritable
+record_part words part e =
+    let name = take_word record_name_of record_word Any record_name_spelled words _ part e in
+    let is = record_named name.value name.behind part name.rest in
+    (name.words_are ∙ is.0, is.1)
+
+-- the words that are read are those of the record, and it can be written
+pub words_written : (words : List (List ℕ)) (entry : Record) → record_in words ≡ Ok entry → (words ≡ record_words entry) × IsWritable entry
+words_written words entry e =
+    let part = take_part record_in_front record_words IsWritable record_part words _ entry e in
+    by part.behind part.value part.words_are part.fit part.rest
+  where
+    by : (behind : List (List ℕ)) (found : Record) → words ≡ record_words found ++ behind → IsWritable found → last_part found behind ≡ Ok entry → (words ≡ record_words entry) × IsWritable entry
+    by [] found is fit last =
+        let same : found ≡ entry = cc in
+        subst (λ e. (words ≡ record_words e) × IsWritable e) same (is ∙ append-nil (record_words found), fit)
+    by (word ∷ behind) found is fit last = absurd (let clash : ⊥ = cc in clash)
+
+-- what is written is read
+
+module _ {X : Type 0} (read : List ℕ → Result X RecordFault) (spell : X → List ℕ) (IsFit : X → Type 0) (s : IsSpelled read spell IsFit) where
+  give : {Y : Type 0} (x : X) (behind : List (List ℕ)) (k : X → List (List ℕ) → Result Y RecordFault) → IsFit x → followed (next_by read (spell x ∷ behind)) k ≡ k x behind
+  give {Y} x behind k fit = ap (λ a. followed (with_words a behind) k) (s.back x fit)
+
+  list_back : AreItems spell IsFit → (xs : List X) (behind : List (List ℕ)) → All IsFit xs → stops behind ≡ true → list_by read (map spell xs ++ behind) ≡ Ok (xs, behind)
+  list_back items [] behind fit ends = list_stops read behind ends
+  list_back items (x ∷ xs) behind fit ends =
+      let first = All-head IsFit x xs fit in
+      let rest : List (List ℕ) = map spell xs ++ behind in
+      ap (λ b. cond b (Ok ([], spell x ∷ rest)) (with_item (read (spell x)) (list_by read rest))) (items x first)
+      ∙ ap (λ a. with_item a (list_by read rest)) (s.back x first)
+      ∙ ap (λ r. with_item (Ok x) r) (list_back items xs behind (All-tail IsFit x xs fit) ends)
+
+  give_list : {Y : Type 0} → AreItems spell IsFit → (xs : List X) (behind : List (List ℕ)) (k : List X → List (List ℕ) → Result Y RecordFault) → All IsFit xs → stops behind ≡ true
+      → followed (list_by read (map spell xs ++ behind)) k ≡ k xs behind
+  give_list {Y} items xs behind k fit ends = ap (λ a. followed a k) (list_back items xs behind fit ends)
+
+  give_last : {Y : Type 0} → AreItems spell IsFit → (xs : List X) (k : List X → List (List ℕ) → Result Y RecordFault) → All IsFit xs → followed (list_by read (map spell xs)) k ≡ k xs []
+  give_last {Y} items xs k fit = ap (λ l. followed (list_by read l) k) (sym (append-nil (map spell xs))) ∙ give_list items xs [] k fit refl
+
+shape_back : (shape : Shape) (behind : List (List ℕ)) → ShapeHasPorts shape → shape_of (shape_words shape ++ behind) ≡ Ok (shape, behind)
+shape_back (Up i) behind fit = give port_of decimal IsPort port_spelled i behind _ fit
+shape_back (Down i) behind fit = give port_of decimal IsPort port_spelled i behind _ fit
+shape_back (Swap i j a b) behind fit =
+    give port_of decimal IsPort port_spelled i (decimal j ∷ two_bits_word (a, b) ∷ behind) _ fit.0
+    ∙ give port_of decimal IsPort port_spelled j (two_bits_word (a, b) ∷ behind) _ fit.1
+    ∙ give two_bits_of two_bits_word Any two_bits_spelled (a, b) behind _ tt
+
+claim_back : (claim : Claim) (behind : List (List ℕ)) → ClaimHasPorts claim → claim_of (claim_words claim ++ behind) ≡ Ok (claim, behind)
+claim_back claim behind fit =
+    give side_of side_word Any side_spelled claim.side (decimal claim.output ∷ shape_words claim.shape ++ behind) _ tt
+    ∙ give port_of decimal IsPort port_spelled claim.output (shape_words claim.shape ++ behind) _ fit.output
+    ∙ ap (λ (a : Parsed Shape). followed a (λ shape words. Ok (record { side = claim.side; output = claim.output; shape = shape }, words))) (shape_back claim.shape behind fit.shape)
+
+step_back : (step : Step) → StepHasNumbers step → step_of (step_words step) ≡ Ok (step, [])
+step_back (Vector output tris) fit =
+    give port_of decimal IsPort port_spelled output (tris_word tris ∷ []) _ fit ∙ give tris_of tris_word Any tris_spelled tris [] _ tt
+step_back (Mismatch fails holds) fit =
+    give number_of decimal IsNumber number_is_spelled fails (decimal holds ∷ []) _ fit.0 ∙ give number_of decimal IsNumber number_is_spelled holds [] _ fit.1
+step_back (Tally kind have lack) fit =
+    give tallied_of tallied_word Any tallied_spelled kind (map decimal have ++ codes "/" ∷ map decimal lack) _ tt
+    ∙ give_list number_of decimal IsNumber number_is_spelled number_is_item have (codes "/" ∷ map decimal lack) _ fit.0 refl
+    ∙ give_last number_of decimal IsNumber number_is_spelled number_is_item lack _ fit.1
+step_back (Cover kind from to refs) fit =
+    give kind_of kind_word Any kind_spelled kind (map decimal from ++ codes "/" ∷ (map decimal to ++ codes "/" ∷ map reference_word refs)) _ tt
+    ∙ give_list port_of decimal IsPort port_spelled port_items from (codes "/" ∷ (map decimal to ++ codes "/" ∷ map reference_word refs)) _ fit.0 refl
+    ∙ give_list port_of decimal IsPort port_spelled port_items to (codes "/" ∷ map reference_word refs) _ fit.1.0 refl
+    ∙ give_last reference_of reference_word IsReference reference_spelled reference_items refs _ fit.1.1
+
+front_back : (entry : Record) → IsWritable entry → record_in_front (record_words entry) ≡ Ok (entry, [])
+front_back record_of.Header w = refl
+front_back (record_of.Fact (Fails claim bits)) w =
+    ap (λ (a : Parsed Claim). followed a (λ claim words. followed (next_by bits_of words) (λ bits words. Ok (record_of.Fact (Fails claim bits), words)))) (claim_back claim (bits_word bits ∷ []) w)
+    ∙ give bits_of bits_word Any bits_spelled bits [] _ tt
+front_back (record_of.Fact (Holds claim)) w =
+    ap (λ l. followed (claim_of l) (λ claim words. Ok (record_of.Fact (Holds claim), words))) (sym (append-nil (claim_words claim)))
+    ∙ ap (λ (a : Parsed Claim). followed a (λ claim words. Ok (record_of.Fact (Holds claim), words))) (claim_back claim [] w)
+front_back (record_of.Line line) w =
+    give_list literal_of literal_word (λ literal. IsNumber literal.0) literal_spelled literal_items line.clause (codes ":" ∷ map decimal line.hints) _ w.literals refl
+    ∙ give_last number_of decimal IsNumber number_is_spelled number_is_item line.hints _ w.hints
+front_back (record_of.Ban ban) w =
+    give_list pair_of pair_word HasPorts pair_spelled pair_items ban.pairs (codes ":" ∷ step_words ban.step) _ w.pairs refl
+    ∙ ap (λ (a : Parsed Step). followed a (λ step words. Ok (record_of.Ban (record { pairs = ban.pairs; step = step }), words))) (step_back ban.step w.step)
+front_back (record_of.Conclusion NonePorts) w = refl
+front_back (record_of.Conclusion (NoneBan ban)) w = give number_of decimal IsNumber number_is_spelled ban [] _ w
+front_back (record_of.Conclusion (Match pairs)) w = give_last pair_of pair_word HasPorts pair_spelled pair_items pairs _ w
+front_back record_of.End w = refl
+
+pub record_read : (entry : Record) → IsWritable entry → record_in (record_words entry) ≡ Ok entry
+record_read entry w = ap (λ (a : Parsed Record). followed a (λ entry words. last_part entry words)) (front_back entry w)
 
 -- no word has a blank or a control
 
-shown : (word : List ℕ) → list_all (λ byte. ltb 32 byte) word ≡ true → IsVisible word
-shown word e = All-weaker (λ byte. ltb 32 byte ≡ true) (λ byte. 32 < byte) (λ byte above. ltb-true 32 byte above) word (AllPass-from_list_all (λ byte. ltb 32 byte) word e)
+shown_list : {X : Type 0} (read : List ℕ → Result X RecordFault) (spell : X → List ℕ) (IsFit : X → Type 0) → IsSpelled read spell IsFit → (xs : List X) → All IsFit xs → All IsVisible (map spell xs)
+shown_list {X} read spell IsFit s [] fit = All-nil IsVisible
+shown_list {X} read spell IsFit s (x ∷ xs) fit =
+    All-cons IsVisible (spell x) (map spell xs) (s.visible x (All-head IsFit x xs fit)) (shown_list read spell IsFit s xs (All-tail IsFit x xs fit))
 
-decimals_visible : (numbers : List ℕ) → All (λ n. n < 2 ^ 64) numbers → All IsVisible (map decimal numbers)
-decimals_visible [] small = All-nil IsVisible
-decimals_visible (n ∷ numbers) small =
-    All-cons IsVisible (decimal n) (map decimal numbers) (digits_visible (decimal n) (decimal_digits n (All-head (λ m. m < 2 ^ 64) n numbers small)))
-    (decimals_visible numbers (All-tail (λ m. m < 2 ^ 64) n numbers small))
+one : (word : List ℕ) (words : List (List ℕ)) → IsVisible word → All IsVisible words → All IsVisible (word ∷ words)
+one word words shows more = All-cons IsVisible word words shows more
 
-letter_shows : (kind : PortKind) → 32 < kind_letter kind
-letter_shows Input = omega arith
-letter_shows Output = omega arith
+none : All IsVisible []
+none = All-nil IsVisible
 
-sign_shows : (flip : Bool) → 32 < sign_of flip
-sign_shows true = omega arith
-sign_shows false = omega arith
+shape_visible : (shape : Shape) → ShapeHasPorts shape → All IsVisible (shape_words shape)
+shape_visible (Up i) fit = one (codes "up") (decimal i ∷ []) (shown (codes "up") refl) (one (decimal i) [] (port_spelled.visible i fit) none)
+shape_visible (Down i) fit = one (codes "down") (decimal i ∷ []) (shown (codes "down") refl) (one (decimal i) [] (port_spelled.visible i fit) none)
+shape_visible (Swap i j a b) fit =
+    one (codes "swap") (decimal i ∷ decimal j ∷ two_bits_word (a, b) ∷ []) (shown (codes "swap") refl)
+    (one (decimal i) (decimal j ∷ two_bits_word (a, b) ∷ []) (port_spelled.visible i fit.0)
+    (one (decimal j) (two_bits_word (a, b) ∷ []) (port_spelled.visible j fit.1)
+    (one (two_bits_word (a, b)) [] (two_bits_spelled.visible (a, b) tt) none)))
 
-pair_visible : (pair : Pair) → HasPorts pair → IsVisible (pair_word pair)
-pair_visible pair ports =
-    let shows : ℕ → Type 0 = λ byte. 32 < byte in
-    let from = digits_visible (decimal pair.from) (decimal_digits pair.from (omega (arith, ports.from))) in
-    let to = digits_visible (decimal pair.to) (decimal_digits pair.to (omega (arith, ports.to))) in
-    All-cons shows (kind_letter pair.kind) (decimal pair.from ++ sign_of pair.flip ∷ decimal pair.to) (letter_shows pair.kind)
-    (All-append shows (decimal pair.from) (sign_of pair.flip ∷ decimal pair.to) from (All-cons shows (sign_of pair.flip) (decimal pair.to) (sign_shows pair.flip) to))
+claim_visible : (claim : Claim) → ClaimHasPorts claim → All IsVisible (claim_words claim)
+claim_visible claim fit =
+    one (side_word claim.side) (decimal claim.output ∷ shape_words claim.shape) (side_spelled.visible claim.side tt)
+    (one (decimal claim.output) (shape_words claim.shape) (port_spelled.visible claim.output fit.output) (shape_visible claim.shape fit.shape))
 
-pairs_visible : (pairs : List Pair) → All HasPorts pairs → All IsVisible (map pair_word pairs)
-pairs_visible [] ports = All-nil IsVisible
-pairs_visible (pair ∷ pairs) ports =
-    All-cons IsVisible (pair_word pair) (map pair_word pairs) (pair_visible pair (All-head HasPorts pair pairs ports))
-    (pairs_visible pairs (All-tail HasPorts pair pairs ports))
+parts_visible : (words : List (List ℕ)) (name : List ℕ) (more : List (List ℕ)) → All IsVisible words → IsVisible name → All IsVisible more → All IsVisible (words ++ name ∷ more)
+parts_visible words name more shows named' rest = All-append IsVisible words (name ∷ more) shows (one name more named' rest)
+
+numbers_visible : (xs : List ℕ) → All IsNumber xs → All IsVisible (map decimal xs)
+numbers_visible xs fit = shown_list number_of decimal IsNumber number_is_spelled xs fit
+
+ports_visible : (xs : List ℕ) → All IsPort xs → All IsVisible (map decimal xs)
+ports_visible xs fit = shown_list port_of decimal IsPort port_spelled xs fit
+
+step_visible : (step : Step) → StepHasNumbers step → All IsVisible (step_words step)
+step_visible (Vector output tris) fit =
+    one (codes "vector") (decimal output ∷ tris_word tris ∷ []) (shown (codes "vector") refl)
+    (one (decimal output) (tris_word tris ∷ []) (port_spelled.visible output fit) (one (tris_word tris) [] (tris_spelled.visible tris tt) none))
+step_visible (Mismatch fails holds) fit =
+    one (codes "mismatch") (decimal fails ∷ decimal holds ∷ []) (shown (codes "mismatch") refl)
+    (one (decimal fails) (decimal holds ∷ []) (number_is_spelled.visible fails fit.0) (one (decimal holds) [] (number_is_spelled.visible holds fit.1) none))
+step_visible (Tally kind have lack) fit =
+    let rest : List (List ℕ) = map decimal have ++ codes "/" ∷ map decimal lack in
+    one (codes "tally") (tallied_word kind ∷ rest) (shown (codes "tally") refl)
+    (one (tallied_word kind) rest (tallied_spelled.visible kind tt)
+    (parts_visible (map decimal have) (codes "/") (map decimal lack) (numbers_visible have fit.0) (shown (codes "/") refl) (numbers_visible lack fit.1)))
+step_visible (Cover kind from to refs) fit =
+    let tail : List (List ℕ) = map decimal to ++ codes "/" ∷ map reference_word refs in
+    let rest : List (List ℕ) = map decimal from ++ codes "/" ∷ tail in
+    one (codes "cover") (kind_word kind ∷ rest) (shown (codes "cover") refl)
+    (one (kind_word kind) rest (kind_spelled.visible kind tt)
+    (parts_visible (map decimal from) (codes "/") tail (ports_visible from fit.0) (shown (codes "/") refl)
+    (parts_visible (map decimal to) (codes "/") (map reference_word refs) (ports_visible to fit.1.0) (shown (codes "/") refl)
+    (shown_list reference_of reference_word IsReference reference_spelled refs fit.1.1))))
 
 pub first_visible : (entry : Record) → IsVisible (first_word entry)
 first_visible record_of.Header = shown (codes "npnp") refl
-first_visible (record_of.Conclusion (Match pairs)) = shown (codes "match") refl
+first_visible (record_of.Fact (Fails claim bits)) = shown (codes "fails") refl
+first_visible (record_of.Fact (Holds claim)) = shown (codes "holds") refl
 first_visible (record_of.Line line) = shown (codes "l") refl
+first_visible (record_of.Ban ban) = shown (codes "ban") refl
+first_visible (record_of.Conclusion NonePorts) = shown (codes "none") refl
+first_visible (record_of.Conclusion (NoneBan ban)) = shown (codes "none") refl
+first_visible (record_of.Conclusion (Match pairs)) = shown (codes "match") refl
 first_visible record_of.End = shown (codes "end") refl
 
 pub others_visible : (entry : Record) → IsWritable entry → All IsVisible (other_words entry)
-others_visible record_of.Header w = All-cons IsVisible (codes "1") [] (shown (codes "1") refl) (All-nil IsVisible)
-others_visible (record_of.Conclusion (Match pairs)) w = pairs_visible pairs w
+others_visible record_of.Header w = one (codes "1") [] (shown (codes "1") refl) none
+others_visible (record_of.Fact (Fails claim bits)) w = parts_visible (claim_words claim) (bits_word bits) [] (claim_visible claim w) (bits_spelled.visible bits tt) none
+others_visible (record_of.Fact (Holds claim)) w = claim_visible claim w
 others_visible (record_of.Line line) w =
-    All-append IsVisible (literal_words line.clause) (codes ":" ∷ map decimal line.hints)
-    (decimals_visible (map (λ literal. literal.0) line.clause) w.literals)
-    (All-cons IsVisible (codes ":") (map decimal line.hints) (shown (codes ":") refl) (decimals_visible line.hints w.hints))
-others_visible record_of.End w = All-nil IsVisible
+    parts_visible (map literal_word line.clause) (codes ":") (map decimal line.hints)
+    (shown_list literal_of literal_word (λ literal. IsNumber literal.0) literal_spelled line.clause w.literals) (shown (codes ":") refl) (numbers_visible line.hints w.hints)
+others_visible (record_of.Ban ban) w =
+    parts_visible (map pair_word ban.pairs) (codes ":") (step_words ban.step)
+    (shown_list pair_of pair_word HasPorts pair_spelled ban.pairs w.pairs) (shown (codes ":") refl) (step_visible ban.step w.step)
+others_visible (record_of.Conclusion NonePorts) w = one (codes "ports") [] (shown (codes "ports") refl) none
+others_visible (record_of.Conclusion (NoneBan ban)) w = one (codes "ban") (decimal ban ∷ []) (shown (codes "ban") refl) (one (decimal ban) [] (number_is_spelled.visible ban w) none)
+others_visible (record_of.Conclusion (Match pairs)) w = shown_list pair_of pair_word HasPorts pair_spelled pairs w
+others_visible record_of.End w = none
 
--- the line of a record, without its line feed, and that it is one line
-abbrev pub line_text : Record → List ℕ
-line_text entry = first_word entry ++ spaced (other_words entry)
+-- lines
 
 pub line_text_is_line : (entry : Record) → IsWritable entry → IsLine (line_text entry)
 line_text_is_line entry w = line_spaced_words (first_word entry) (other_words entry) (first_visible entry) (others_visible entry w)
 
--- the words are read
-
-kind_read : (kind : PortKind) → kind_of_letter (kind_letter kind) ≡ Some kind
-kind_read Input = refl
-kind_read Output = refl
-
-flip_read : (flip : Bool) → flip_of_sign (sign_of flip) ≡ Some flip
-flip_read true = refl
-flip_read false = refl
-
-sign_ends : (flip : Bool) → is_ascii_digit (sign_of flip) ≡ false
-sign_ends true = refl
-sign_ends false = refl
-
-pair_read : (pair : Pair) → HasPorts pair → pair_of (pair_word pair) ≡ Some pair
-pair_read pair ports =
-    let from = decimal pair.from in
-    let behind : List ℕ = sign_of pair.flip ∷ decimal pair.to in
-    let digits = digits_front from (sign_of pair.flip) (decimal pair.to) (decimal_digits pair.from (omega (arith, ports.from))) (sign_ends pair.flip) in
-    let cut : ℕ → Option Pair = λ n. pair_behind (kind_of_letter (kind_letter pair.kind)) (take n (from ++ behind)) (drop n (from ++ behind)) in
-    let first = number_read (2 ^ 32) pair.from ports.from (omega arith) in
-    let second = number_read (2 ^ 32) pair.to ports.to (omega arith) in
-    ap cut digits
-    ∙ ap (λ l. pair_behind (kind_of_letter (kind_letter pair.kind)) l (drop (length from) (from ++ behind))) (take_at from behind (length from) refl)
-    ∙ ap (λ l. pair_behind (kind_of_letter (kind_letter pair.kind)) from l) (drop_at from behind (length from) refl)
-    ∙ ap (λ k. pair_by k (port_of from) (flip_of_sign (sign_of pair.flip)) (port_of (decimal pair.to))) (kind_read pair.kind)
-    ∙ ap (λ n. pair_by (Some pair.kind) n (flip_of_sign (sign_of pair.flip)) (port_of (decimal pair.to))) first
-    ∙ ap (λ f. pair_by (Some pair.kind) (Some pair.from) f (port_of (decimal pair.to))) (flip_read pair.flip)
-    ∙ ap (λ n. pair_by (Some pair.kind) (Some pair.from) (Some pair.flip) n) second
-
-pairs_read : (pairs : List Pair) → All HasPorts pairs → pairs_of (map pair_word pairs) ≡ Ok pairs
-pairs_read [] ports = refl
-pairs_read (pair ∷ pairs) ports =
-    ap (λ p. with_pair p (pairs_of (map pair_word pairs))) (pair_read pair (All-head HasPorts pair pairs ports))
-    ∙ ap (λ ps. with_pair (Some pair) ps) (pairs_read pairs (All-tail HasPorts pair pairs ports))
-
--- a number is no colon
-pub no_colon : (n : ℕ) → n < 2 ^ 64 → bytes_eq (decimal n) (codes ":") ≡ false
-no_colon n small = other (bytes_eq (decimal n) (codes ":")) refl
-  where
-    other : (b : Bool) → bytes_eq (decimal n) (codes ":") ≡ b → b ≡ false
-    other true e =
-        let same : decimal n ≡ codes ":" = (bytes_eq-Decides (decimal n) (codes ":")).0 e in
-        let digits : false ≡ true = sym (ap all_ascii_digits same) ∙ decimal_digits n small in
-        sym digits
-    other false e = refl
-
-colon_read : (numbers : List ℕ) (hints : List (List ℕ)) → All (λ n. n < 2 ^ 64) numbers
-    → (before_colon (map decimal numbers ++ codes ":" ∷ hints) ≡ map decimal numbers) × (behind_colon (map decimal numbers ++ codes ":" ∷ hints) ≡ Some hints)
-colon_read [] hints small = (refl, refl)
-colon_read (n ∷ numbers) hints small =
-    let none = no_colon n (All-head (λ m. m < 2 ^ 64) n numbers small) in
-    let more = colon_read numbers hints (All-tail (λ m. m < 2 ^ 64) n numbers small) in
-    let rest = map decimal numbers ++ codes ":" ∷ hints in
-    (ap (λ b. cond b [] (decimal n ∷ before_colon rest)) none ∙ ap (λ ws. decimal n ∷ ws) more.0, ap (λ b. cond b (Some rest) (behind_colon rest)) none ∙ more.1)
-
-literals_back : (literals : List SatLit) → literals_of (map (λ literal. literal.0) literals) ≡ literals
-literals_back [] = refl
-literals_back (literal ∷ literals) = ap (λ l. literal ∷ l) (literals_back literals)
-
-pub record_read : (entry : Record) → IsWritable entry → record_in (first_word entry ∷ other_words entry) ≡ Ok entry
-record_read record_of.Header w = refl
-record_read (record_of.Conclusion (Match pairs)) w = ap match_record (pairs_read pairs w)
-record_read (record_of.Line line) w =
-    let numbers = map (λ literal. literal.0) line.clause in
-    let parts = colon_read numbers (map decimal line.hints) w.literals in
-    ap (λ ws. line_of (numbers_of ws) (hints_of (behind_colon (map decimal numbers ++ codes ":" ∷ map decimal line.hints)))) parts.0
-    ∙ ap (λ ws. line_of (numbers_of (map decimal numbers)) (hints_of ws)) parts.1
-    ∙ ap (λ ns. line_of ns (Some (numbers_of (map decimal line.hints)))) (numbers_read numbers w.literals)
-    ∙ ap (λ ns. line_of (Ok numbers) (Some ns)) (numbers_read line.hints w.hints)
-    ∙ ap (λ literals. Ok (record_of.Line (record { clause = literals; hints = line.hints }))) (literals_back line.clause)
-record_read record_of.End w = refl
+pub text_words : (entry : Record) → IsWritable entry → words_of (line_text entry) ≡ first_word entry ∷ other_words entry
+text_words entry w = words_spaced (first_word entry) (other_words entry) (first_visible entry) (others_visible entry w)
 
 pub cancel_last : (xs ys : List ℕ) (z : ℕ) → xs ++ z ∷ [] ≡ ys ++ z ∷ [] → xs ≡ ys
 cancel_last [] [] z e = refl
@@ -201,165 +491,10 @@ cancel_last (x ∷ xs) (y ∷ ys) z e =
 -- a line that is written is read
 pub written_is_read : (entry : Record) (line : List ℕ) → IsWritable entry → record_line entry ≡ line ++ 10 ∷ [] → record_in (words_of line) ≡ Ok entry
 written_is_read entry line w e =
-    let same = cancel_last line (first_word entry ++ spaced (other_words entry)) 10 (sym e ∙ line_spaced entry) in
-    ap (λ l. record_in (words_of l)) same
-    ∙ ap record_in (words_spaced (first_word entry) (other_words entry) (first_visible entry) (others_visible entry w))
-    ∙ record_read entry w
-
--- what is read is written
-
-kind_written : (letter : ℕ) (kind : PortKind) → kind_of_letter letter ≡ Some kind → letter ≡ kind_letter kind
-kind_written letter kind e = by (eqb letter 105) (eqb letter 111) refl refl e
-  where
-    by : (i o : Bool) → eqb letter 105 ≡ i → eqb letter 111 ≡ o → cond i (Some Input) (cond o (Some Output) None) ≡ Some kind → letter ≡ kind_letter kind
-    by true o is other e = let k : Input ≡ kind = cc in eqb-true letter 105 is ∙ ap kind_letter k
-    by false true is other e = let k : Output ≡ kind = cc in eqb-true letter 111 other ∙ ap kind_letter k
-    by false false is other e = cc
-
-flip_written : (sign : ℕ) (flip : Bool) → flip_of_sign sign ≡ Some flip → sign ≡ sign_of flip
-flip_written sign flip e = by (eqb sign 43) (eqb sign 45) refl refl e
-  where
-    by : (plain turned : Bool) → eqb sign 43 ≡ plain → eqb sign 45 ≡ turned → cond plain (Some false) (cond turned (Some true) None) ≡ Some flip → sign ≡ sign_of flip
-    by true turned is other e = let f : false ≡ flip = cc in eqb-true sign 43 is ∙ ap sign_of f
-    by false true is other e = let f : true ≡ flip = cc in eqb-true sign 45 other ∙ ap sign_of f
-    by false false is other e = cc
-
--- a word is what is written of a pair, whose ports have 32 bits
-record IsPairWord (word : List ℕ) (pair : Pair) : Type 0 where
-  pub word_is : word ≡ pair_word pair
-  pub ports : HasPorts pair
-
-by_fields : (letter : ℕ) (front : List ℕ) (sign : ℕ) (back : List ℕ) (k : Option PortKind) (m : Option ℕ) (f : Option Bool) (n : Option ℕ) (pair : Pair)
-    → kind_of_letter letter ≡ k → port_of front ≡ m → flip_of_sign sign ≡ f → port_of back ≡ n → pair_by k m f n ≡ Some pair → IsPairWord (letter ∷ front ++ sign ∷ back) pair
-by_fields letter front sign back (Some kind) (Some from) (Some flip) (Some to) pair ek em ef en e =
-    let is : record { kind = kind; from = from; to = to; flip = flip } ≡ pair = cc in
-    let first = number_written (2 ^ 32) front from (omega arith) em in
-    let second = number_written (2 ^ 32) back to (omega arith) en in
-    subst (IsPairWord (letter ∷ front ++ sign ∷ back)) is (record {
-      word_is = ap (λ l. l ∷ front ++ sign ∷ back) (kind_written letter kind ek) ∙ ap (λ l. kind_letter kind ∷ l ++ sign ∷ back) first.0
-          ∙ ap (λ s. kind_letter kind ∷ decimal from ++ s ∷ back) (flip_written sign flip ef) ∙ ap (λ l. kind_letter kind ∷ decimal from ++ sign_of flip ∷ l) second.0;
-      ports = record { from = first.1; to = second.1 };
-    })
-by_fields letter front sign back None m f n pair ek em ef en e = cc
-by_fields letter front sign back (Some kind) None f n pair ek em ef en e = cc
-by_fields letter front sign back (Some kind) (Some from) None n pair ek em ef en e = cc
-by_fields letter front sign back (Some kind) (Some from) (Some flip) None pair ek em ef en e = cc
-
-by_parts : (letter : ℕ) (front behind : List ℕ) (pair : Pair) → pair_behind (kind_of_letter letter) front behind ≡ Some pair → IsPairWord (letter ∷ front ++ behind) pair
-by_parts letter front [] pair e = cc
-by_parts letter front (sign ∷ back) pair e = by_fields letter front sign back (kind_of_letter letter) (port_of front) (flip_of_sign sign) (port_of back) pair refl refl refl refl e
-
-pair_written : (word : List ℕ) (pair : Pair) → pair_of word ≡ Some pair → IsPairWord word pair
-pair_written [] pair e = cc
-pair_written (letter ∷ rest) pair e =
-    let n = prefix_len is_ascii_digit rest in
-    subst (λ l. IsPairWord (letter ∷ l) pair) (take-append-drop n rest) (by_parts letter (take n rest) (drop n rest) pair e)
-
-record ArePairWords (words : List (List ℕ)) (pairs : List Pair) : Type 0 where
-  pub words_are : words ≡ map pair_word pairs
-  pub ports : All HasPorts pairs
-
-front_pair : (word : List ℕ) (words : List (List ℕ)) (first : Option Pair) (rest : Result (List Pair) RecordFault) (pairs : List Pair)
-    → ((p : Pair) → first ≡ Some p → IsPairWord word p) → ((ps : List Pair) → rest ≡ Ok ps → ArePairWords words ps)
-    → with_pair first rest ≡ Ok pairs → ArePairWords (word ∷ words) pairs
-front_pair word words None rest pairs one more e = cc
-front_pair word words (Some p) (Err fault) pairs one more e = cc
-front_pair word words (Some p) (Ok ps) pairs one more e =
-    let is : p ∷ ps ≡ pairs = cc in
-    let first = one p refl in
-    let rest = more ps refl in
-    subst (ArePairWords (word ∷ words)) is (record {
-      words_are = ap (λ w. w ∷ words) first.word_is ∙ ap (λ ws. pair_word p ∷ ws) rest.words_are;
-      ports = All-cons HasPorts p ps first.ports rest.ports;
-    })
-
-pairs_written : (words : List (List ℕ)) (pairs : List Pair) → pairs_of words ≡ Ok pairs → ArePairWords words pairs
-pairs_written [] pairs e = let is : [] ≡ pairs = cc in subst (ArePairWords []) is (record { words_are = refl; ports = All-nil HasPorts })
-pairs_written (word ∷ words) pairs e = front_pair word words (pair_of word) (pairs_of words) pairs (λ p is. pair_written word p is) (λ ps is. pairs_written words ps is) e
-
-same_bytes : (xs ys : List ℕ) → bytes_eq xs ys ≡ true → xs ≡ ys
-same_bytes xs ys e = (bytes_eq-Decides xs ys).0 e
-
-pub colon_written : (words hints : List (List ℕ)) → behind_colon words ≡ Some hints → words ≡ before_colon words ++ codes ":" ∷ hints
-colon_written [] hints e = cc
-colon_written (word ∷ words) hints e = by (bytes_eq word (codes ":")) (λ there. colon_written words hints there) refl e
-  where
-    by : (b : Bool) → (behind_colon words ≡ Some hints → words ≡ before_colon words ++ codes ":" ∷ hints) → bytes_eq word (codes ":") ≡ b → cond b (Some words) (behind_colon words) ≡ Some hints → word ∷ words ≡ cond b [] (word ∷ before_colon words) ++ codes ":" ∷ hints
-    by true more is e = let rest : words ≡ hints = cc in ap (λ w. w ∷ words) (same_bytes word (codes ":") is) ∙ ap (λ ws. codes ":" ∷ ws) rest
-    by false more is e = ap (λ ws. word ∷ ws) (more e)
-
-numbers_back : (numbers : List ℕ) → map (λ literal. literal.0) (literals_of numbers) ≡ numbers
-numbers_back [] = refl
-numbers_back (n ∷ numbers) = ap (λ ns. n ∷ ns) (numbers_back numbers)
-
--- words are those of a record that can be written
-pub record IsRecordWords (first : List ℕ) (rest : List (List ℕ)) (entry : Record) : Type 0 where
-  pub first_is : first ≡ first_word entry
-  pub rest_is : rest ≡ other_words entry
-  pub writable : IsWritable entry
-
-module _ (words : List (List ℕ)) (entry : Record) where
-  by_hints : (numbers : List ℕ) (behind : List (List ℕ)) (hints : Result (List ℕ) RecordFault) → numbers_of (before_colon words) ≡ Ok numbers → behind_colon words ≡ Some behind
-      → numbers_of behind ≡ hints → line_of (Ok numbers) (Some hints) ≡ Ok entry → IsRecordWords (codes "l") words entry
-  by_hints numbers behind (Err fault) front parted eh e = cc
-  by_hints numbers behind (Ok hints) front parted eh e =
-      let is : record_of.Line (log_line numbers hints) ≡ entry = cc in
-      let literals = numbers_written (before_colon words) numbers front in
-      let others = numbers_written behind hints eh in
-      let back = numbers_back numbers in
-      subst (IsRecordWords (codes "l") words) is (record {
-        first_is = refl;
-        rest_is = colon_written words behind parted ∙ ap (λ ws. ws ++ codes ":" ∷ behind) literals.words_are
-            ∙ ap (λ ws. map decimal numbers ++ codes ":" ∷ ws) others.words_are ∙ ap (λ ns. map decimal ns ++ codes ":" ∷ map decimal hints) (sym back);
-        writable = record { literals = subst (All (λ n. n < 2 ^ 64)) (sym back) literals.small; hints = others.small };
-      })
-
-  by_literals : (literals : Result (List ℕ) RecordFault) (behind : Option (List (List ℕ))) → numbers_of (before_colon words) ≡ literals → behind_colon words ≡ behind
-      → line_of literals (hints_of behind) ≡ Ok entry → IsRecordWords (codes "l") words entry
-  by_literals (Err fault) behind front parted e = cc
-  by_literals (Ok numbers) None front parted e = cc
-  by_literals (Ok numbers) (Some behind) front parted e = by_hints numbers behind (numbers_of behind) front parted refl e
-
-  by_pairs : (pairs : Result (List Pair) RecordFault) → pairs_of words ≡ pairs → match_record pairs ≡ Ok entry → IsRecordWords (codes "match") words entry
-  by_pairs (Err fault) ep e = cc
-  by_pairs (Ok pairs) ep e =
-      let is : record_of.Conclusion (Match pairs) ≡ entry = cc in
-      let written = pairs_written words pairs ep in
-      subst (IsRecordWords (codes "match") words) is (record { first_is = refl; rest_is = written.words_are; writable = written.ports })
-
-ended : (words : List (List ℕ)) (entry : Record) → alone record_of.End words ≡ Ok entry → IsRecordWords (codes "end") words entry
-ended [] entry e = let is : record_of.End ≡ entry = cc in subst (IsRecordWords (codes "end") []) is (record { first_is = refl; rest_is = refl; writable = tt })
-ended (word ∷ words) entry e = cc
-
-headed : (words : List (List ℕ)) (entry : Record) → header_record words ≡ Ok entry → IsRecordWords (codes "npnp") words entry
-headed [] entry e = cc
-headed (word ∷ words) entry e = by (bytes_eq word (codes "1")) words refl e
-  where
-    by : (b : Bool) (rest : List (List ℕ)) → bytes_eq word (codes "1") ≡ b → cond b (alone record_of.Header rest) (Err Word) ≡ Ok entry → IsRecordWords (codes "npnp") (word ∷ rest) entry
-    by true [] is e =
-        let header : record_of.Header ≡ entry = cc in
-        subst (IsRecordWords (codes "npnp") (word ∷ [])) header (record { first_is = refl; rest_is = ap (λ w. w ∷ []) (same_bytes word (codes "1") is); writable = tt })
-    by true (next ∷ rest) is e = cc
-    by false rest is e = cc
-
-pub record_written : (first : List ℕ) (words : List (List ℕ)) (entry : Record) → record_by first words ≡ Ok entry → IsRecordWords first words entry
-record_written first words entry e = by (bytes_eq first (codes "l")) (bytes_eq first (codes "match")) (bytes_eq first (codes "end")) (bytes_eq first (codes "npnp")) refl refl refl refl e
-  where
-    named : (name : List ℕ) → bytes_eq first name ≡ true → IsRecordWords name words entry → IsRecordWords first words entry
-    named name is found = subst (λ f. IsRecordWords f words entry) (sym (same_bytes first name is)) found
-
-    by : (l m d h : Bool) → bytes_eq first (codes "l") ≡ l → bytes_eq first (codes "match") ≡ m → bytes_eq first (codes "end") ≡ d → bytes_eq first (codes "npnp") ≡ h
-        → cond l (log_record words) (cond m (match_record (pairs_of words)) (cond d (alone record_of.End words) (cond h (header_record words) (Err Word)))) ≡ Ok entry → IsRecordWords first words entry
-    by true m d h el em ed eh e = named (codes "l") el (by_literals words entry (numbers_of (before_colon words)) (behind_colon words) refl refl e)
-    by false true d h el em ed eh e = named (codes "match") em (by_pairs words entry (pairs_of words) refl e)
-    by false false true h el em ed eh e = named (codes "end") ed (ended words entry e)
-    by false false false true el em ed eh e = named (codes "npnp") eh (headed words entry e)
-    by false false false false el em ed eh e = cc
+    ap (λ l. record_in (words_of l)) (cancel_last line (line_text entry) 10 (sym e)) ∙ ap record_in (text_words entry w) ∙ record_read entry w
 
 -- what is read is written as the line, and can be written
-pub read_is_written : (words : List (List ℕ)) (line : List ℕ) (entry : Record) → words_of line ≡ words → record_in words ≡ Ok entry → (record_line entry ≡ line ++ 10 ∷ []) × IsWritable entry
-read_is_written [] line entry parted e = cc
-read_is_written (first ∷ rest) line entry parted e =
-    let found = record_written first rest entry e in
-    let text = spaced_words line first rest parted in
-    (line_spaced entry ∙ ap (λ l. l ++ 10 ∷ []) (sym (text ∙ ap (λ w. w ++ spaced rest) found.first_is ∙ ap (λ ws. first_word entry ++ spaced ws) found.rest_is)), found.writable)
+pub read_is_written : (line : List ℕ) (entry : Record) → record_in (words_of line) ≡ Ok entry → (record_line entry ≡ line ++ 10 ∷ []) × IsWritable entry
+read_is_written line entry e =
+    let found = words_written (words_of line) entry e in
+    (ap (λ l. l ++ 10 ∷ []) (sym (spaced_words line (first_word entry) (other_words entry) found.0)), found.1)

@@ -1,20 +1,18 @@
 -- Lines as they are written are those that are read.
-use Rattle.std.proofs.Common.{◌≡◌, ℕ, ◌+◌, ◌<◌, ◌≤◌, eqb, true, false, cond, List, [], ◌∷◌, ◌++◌, length, map, All, refl, sym, ap, ◌∙◌, arith, append_assoc, append-nil}
+use Rattle.std.proofs.Common.{◌≡◌, ℕ, ◌+◌, ◌<◌, ◌≤◌, eqb, ltb, true, false, cond, List, [], ◌∷◌, ◌++◌, length, All, refl, sym, ap, ◌∙◌, arith, append-nil}
 use Rattle.std.specs.Char.{is_ascii_digit}
-use Rattle.std.specs.List.{flat_map, join_with_byte, prefix_len}
+use Rattle.std.specs.List.{join_with_byte, list_all, prefix_len}
 use Rattle.std.specs.Str.{all_ascii_digits}
-use Rattle.std.proofs.lemmas.Bool.{and_parts}
+use Rattle.std.proofs.lemmas.Bool.{and_parts, ltb-true}
 use Rattle.std.proofs.lemmas.Bool.Decides.{nat_tests}
 use Rattle.std.proofs.lemmas.List.Elements.{All-nil, All-cons, All-head, All-tail, All-append, All-weaker}
 use Rattle.std.proofs.lemmas.List.Splits.{slice_split_at, slice_split_none, join_with_byte-slice_split}
+use Rattle.std.proofs.lemmas.List.Sums.{AllPass-from_list_all}
 use Rattle.std.proofs.lemmas.Str.Parse.{tells_all_ascii_digits}
 use Rattle.text_core.specs.Bytes.{is_line_feed}
 use Rattle.text_core.specs.Lines.{IsLine}
+use Rattle.account_file.specs.Spelling.{spaced}
 use Rattle.account_file.specs.Words.{is_space, words_of}
-
--- words behind a first one, a blank in front of each
-abbrev pub spaced : List (List ℕ) → List ℕ
-spaced words = flat_map (λ word. 32 ∷ word) words
 
 -- no byte is a blank, a line feed or another control
 abbrev pub IsVisible : List ℕ → Type 0
@@ -56,13 +54,8 @@ joined first (next ∷ rest) = ap (λ l. first ++ 32 ∷ l) (joined next rest)
 pub spaced_words : (line first : List ℕ) (rest : List (List ℕ)) → words_of line ≡ first ∷ rest → line ≡ first ++ spaced rest
 spaced_words line first rest e = sym (join_with_byte-slice_split 32 line) ∙ ap (join_with_byte 32) e ∙ joined first rest
 
-pub spaced-map : {X : Type 0} (f : X → List ℕ) (xs : List X) → flat_map (λ x. 32 ∷ f x) xs ≡ spaced (map f xs)
-spaced-map f [] = refl
-spaced-map f (x ∷ xs) = ap (λ l. 32 ∷ f x ++ l) (spaced-map f xs)
-
-pub spaced-append : (us vs : List (List ℕ)) → spaced (us ++ vs) ≡ spaced us ++ spaced vs
-spaced-append [] vs = refl
-spaced-append (u ∷ us) vs = ap (λ l. 32 ∷ u ++ l) (spaced-append us vs) ∙ ap (λ l. 32 ∷ l) (sym (append_assoc u (spaced us) (spaced vs)))
+pub shown : (word : List ℕ) → list_all (λ byte. ltb 32 byte) word ≡ true → IsVisible word
+shown word e = All-weaker (λ byte. ltb 32 byte ≡ true) (λ byte. 32 < byte) (λ byte above. ltb-true 32 byte above) word (AllPass-from_list_all (λ byte. ltb 32 byte) word e)
 
 pub digits_visible : (ds : List ℕ) → all_ascii_digits ds ≡ true → IsVisible ds
 digits_visible [] e = All-nil (λ byte. 32 < byte)

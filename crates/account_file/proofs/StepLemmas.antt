@@ -9,11 +9,13 @@ use Rattle.text_core.specs.Bytes.{is_line_feed}
 use Rattle.account_file.specs.declared.record.Record.{Record}
 use Rattle.account_file.specs.declared.fault.RecordFault.{RecordFault}
 use Rattle.account_file.specs.declared.place.Place.{Place}
-use Rattle.account_file.specs.declared.place.Place.TheVariants.{Start, Headed, Logs, Ended}
+use Rattle.account_file.specs.declared.place.Place.TheVariants.{Start, Headed, FactLog, Logs, Ended}
 use Rattle.account_file.specs.declared.step.Step.{Step}
 use Rattle.account_file.specs.declared.step.Step.TheVariants.{Wait, Read}
+use Rattle.account_file.specs.Forms.{record_in}
+use Rattle.account_file.specs.Words.{words_of}
 use Rattle.account_file.specs.Reading.{IsCounted, IsReader}
-use Rattle.account_file.specs.Steps.{has_line, line_at, step_by, step_at_line, step_at_end, step_of}
+use Rattle.account_file.specs.Steps.{has_line, in_place, line_at, step_by, step_at_line, step_at_end, step_of}
 
 by_used : (used : ℕ) (found : Result (Record × Place) RecordFault) (entry : Record) (place : Place) (n : ℕ) → step_by used found ≡ Read entry place n → used ≡ n
 by_used used (Ok found) entry place n e = cc
@@ -22,15 +24,18 @@ by_used used (Err fault) entry place n e = cc
 at_line : (place : Place) (line : List ℕ) (entry : Record) (behind : Place) (n : ℕ) → step_at_line place line ≡ Read entry behind n → (2 ≤ n) × (n ≡ length line + 1)
 at_line Start [] entry behind n e = cc
 at_line Headed [] entry behind n e = cc
+at_line FactLog [] entry behind n e = cc
 at_line (Logs logs) [] entry behind n e = cc
 at_line Ended line entry behind n e = cc
 at_line Start (b ∷ line) entry behind n e = let u = by_used (length (b ∷ line) + 1) (line_at Start (b ∷ line)) entry behind n e in (omega (arith, u), sym u)
 at_line Headed (b ∷ line) entry behind n e = let u = by_used (length (b ∷ line) + 1) (line_at Headed (b ∷ line)) entry behind n e in (omega (arith, u), sym u)
+at_line FactLog (b ∷ line) entry behind n e = let u = by_used (length (b ∷ line) + 1) (line_at FactLog (b ∷ line)) entry behind n e in (omega (arith, u), sym u)
 at_line (Logs logs) (b ∷ line) entry behind n e = let u = by_used (length (b ∷ line) + 1) (line_at (Logs logs) (b ∷ line)) entry behind n e in (omega (arith, u), sym u)
 
 at_end : (place : Place) (left : List ℕ) (entry : Record) (behind : Place) (n : ℕ) → step_at_end place left ≡ Read entry behind n → ⊥
 at_end Start left entry behind n e = cc
 at_end Headed left entry behind n e = cc
+at_end FactLog left entry behind n e = cc
 at_end (Logs logs) left entry behind n e = cc
 at_end Ended [] entry behind n e = cc
 at_end Ended (b ∷ left) entry behind n e = cc
@@ -95,3 +100,11 @@ reader_fed bytes piece start looked line given total reader =
       no_line_feed = subst (λ l. looked ≤ position_or_len is_line_feed l) (sym (drop-append-le start bytes piece reader.within)) (later_line_end (drop start bytes) piece looked reader.no_line_feed);
       counted = subst (λ n. IsCounted given line n (total + length piece)) (sym left) (counted_feed given line (length bytes - start) total (length piece) reader.counted);
     }
+
+-- what a line is where one record was read at least
+pub later_line : (place : Place) (line : List ℕ) → (place ≡ Start → ⊥) → line_at place line ≡ in_place place (record_in (words_of line))
+later_line Start line later = absurd (later refl)
+later_line Headed line later = refl
+later_line FactLog line later = refl
+later_line (Logs logs) line later = refl
+later_line Ended line later = refl

@@ -1,6 +1,6 @@
 -- The steps of the reader's code at the words of a line, which contracts of private functions cite; what they come to is
 -- said in `Accounts`.
-use Rattle.std.specs.Prelude.{ℕ, ◌^◌, ◌==◌, ◌&&◌, ◌||◌, not, Bool, true, false, List, [], ◌∷◌, codes, length, map, drop, take, Option, None, Some, Result, Ok, Err, nat_lt, slice_index_or, if◌then◌else◌}
+use Rattle.std.specs.Prelude.{ℕ, ◌^◌, ◌==◌, ◌&&◌, ◌||◌, not, Bool, true, false, List, [], ◌∷◌, codes, length, drop, take, Option, None, Some, Result, Ok, Err, nat_lt, slice_index_or, if◌then◌else◌}
 use Rattle.std.specs.Char.{is_ascii_digit}
 use Rattle.std.specs.List.{prefix_len}
 use Rattle.std.specs.Str.{bytes_eq}
@@ -9,13 +9,32 @@ use Rattle.text_core.specs.Numbers.{is_numeral}
 use Rattle.circuits.specs.declared.port.Pair.{Pair}
 use Rattle.circuits.specs.declared.port.PortKind.{PortKind}
 use Rattle.circuits.specs.declared.port.PortKind.TheVariants.{Input, Output}
+use Rattle.net_core.specs.declared.graphs.Side.{Side}
+use Rattle.net_core.specs.declared.graphs.Side.TheVariants.{First, Second}
+use Rattle.word_sim.specs.declared.tri.Tri.{Tri}
+use Rattle.word_sim.specs.declared.tri.Tri.TheVariants as tri
 use Rattle.cnf_core.specs.declared.literal.SatLit.{SatLit}
-use Rattle.cnf_core.specs.declared.log.LogLine.{LogLine}
-use Rattle.account_core.specs.declared.conclusion.Conclusion.TheVariants.{Match}
+use Rattle.query_core.specs.declared.claims.Shape.{Shape}
+use Rattle.query_core.specs.declared.claims.Shape.TheVariants.{Up, Down, Swap}
+use Rattle.query_core.specs.declared.claims.Claim.{Claim}
+use Rattle.account_core.specs.declared.conclusion.Conclusion.TheVariants.{NonePorts, NoneBan, Match}
+use Rattle.account_core.specs.declared.fact.FactHead.TheVariants.{Fails, Holds}
+use Rattle.account_core.specs.declared.step.Step.{Step}
+use Rattle.account_core.specs.declared.step.Step.TheVariants.{Vector, Mismatch, Tally, Cover}
+use Rattle.account_core.specs.declared.step.Tallied.{Tallied}
+use Rattle.account_core.specs.declared.step.Tallied.TheVariants.{Support, Binate}
 use Rattle.account_file.specs.declared.record.Record.{Record}
 use Rattle.account_file.specs.declared.record.Record.TheVariants as record_of
 use Rattle.account_file.specs.declared.fault.RecordFault.{RecordFault}
 use Rattle.account_file.specs.declared.fault.RecordFault.TheVariants as fault
+use Rattle.account_file.specs.declared.names.RecordName.{RecordName}
+use Rattle.account_file.specs.declared.names.RecordName.TheVariants as record_name
+use Rattle.account_file.specs.declared.names.ShapeName.{ShapeName}
+use Rattle.account_file.specs.declared.names.ShapeName.TheVariants as shape_name
+use Rattle.account_file.specs.declared.names.StepName.{StepName}
+use Rattle.account_file.specs.declared.names.StepName.TheVariants as step_name
+use Rattle.account_file.specs.declared.names.NoneName.{NoneName}
+use Rattle.account_file.specs.declared.names.NoneName.TheVariants as none_name
 
 -- digits without a leading zero
 abbrev pub is_plain : List ℕ → Bool
@@ -30,46 +49,35 @@ number_below bound word =
 abbrev pub bad_number : List ℕ → RecordFault
 bad_number word = if is_numeral word then fault.Number else fault.Word
 
--- a number in front of others
-abbrev pub with_number : Option ℕ → List ℕ → Result (List ℕ) RecordFault → Result (List ℕ) RecordFault
-with_number None word rest = Err (bad_number word)
-with_number (Some number) word (Ok numbers) = Ok (number ∷ numbers)
-with_number (Some number) word (Err fault) = Err fault
+-- what a word is, or else this fault
+abbrev pub or_fault : {X : Type 0} → Option X → RecordFault → Result X RecordFault
+or_fault {X} (Some x) fault = Ok x
+or_fault {X} None fault = Err fault
 
--- the numbers that words write
-abbrev pub numbers_of : List (List ℕ) → Result (List ℕ) RecordFault
-numbers_of [] = Ok []
-numbers_of (word ∷ words) = with_number (number_below (2 ^ 64) word) word (numbers_of words)
+-- numbers of 64 bits, and of 32
+abbrev pub number_of : List ℕ → Result ℕ RecordFault
+number_of word = or_fault (number_below (2 ^ 64) word) (bad_number word)
 
--- a line of a log: its literals, `:`, and its hints
-abbrev pub literals_of : List ℕ → List SatLit
-literals_of numbers = map (λ number. record { 0 = number }) numbers
+abbrev pub port_of : List ℕ → Result ℕ RecordFault
+port_of word = or_fault (number_below (2 ^ 32) word) (bad_number word)
 
-abbrev pub log_line : List ℕ → List ℕ → LogLine
-log_line literals hints = record { clause = literals_of literals; hints = hints }
+-- the same value in another form
+abbrev pub mapped : {X Y : Type 0} → (X → Y) → Result X RecordFault → Result Y RecordFault
+mapped {X} {Y} form (Ok x) = Ok (form x)
+mapped {X} {Y} form (Err fault) = Err fault
 
--- the words before `:`, and those behind it, if it stands among them
-abbrev pub before_colon : List (List ℕ) → List (List ℕ)
-before_colon [] = []
-before_colon (word ∷ words) = if bytes_eq word (codes ":") then [] else word ∷ before_colon words
+abbrev pub literal_with : ℕ → SatLit
+literal_with number = record { 0 = number }
 
-abbrev pub behind_colon : List (List ℕ) → Option (List (List ℕ))
-behind_colon [] = None
-behind_colon (word ∷ words) = if bytes_eq word (codes ":") then Some words else behind_colon words
+abbrev pub literal_of : List ℕ → Result SatLit RecordFault
+literal_of word = mapped literal_with (number_of word)
 
--- the first word that doesn't fit decides: among the literals, then `:` that is missing, then among the hints
-abbrev pub line_of : Result (List ℕ) RecordFault → Option (Result (List ℕ) RecordFault) → Result Record RecordFault
-line_of (Err fault) hints = Err fault
-line_of (Ok literals) None = Err fault.Word
-line_of (Ok literals) (Some (Err fault)) = Err fault
-line_of (Ok literals) (Some (Ok hints)) = Ok (record_of.Line (log_line literals hints))
+-- a ban's number, or `-`
+abbrev pub numbered : ℕ → Option ℕ
+numbered ban = Some ban
 
-abbrev pub hints_of : Option (List (List ℕ)) → Option (Result (List ℕ) RecordFault)
-hints_of None = None
-hints_of (Some words) = Some (numbers_of words)
-
-abbrev pub log_record : List (List ℕ) → Result Record RecordFault
-log_record words = line_of (numbers_of (before_colon words)) (hints_of (behind_colon words))
+abbrev pub reference_of : List ℕ → Result (Option ℕ) RecordFault
+reference_of word = if bytes_eq word (codes "-") then Ok None else mapped numbered (number_of word)
 
 -- a pair of ports: a letter, a number, a sign, a number; both numbers of 32 bits
 abbrev pub kind_of_letter : ℕ → Option PortKind
@@ -78,9 +86,6 @@ kind_of_letter letter = if letter == 105 then Some Input else if letter == 111 t
 abbrev pub flip_of_sign : ℕ → Option Bool
 flip_of_sign sign = if sign == 43 then Some false else if sign == 45 then Some true else None
 
-abbrev pub port_of : List ℕ → Option ℕ
-port_of word = number_below (2 ^ 32) word
-
 abbrev pub pair_by : Option PortKind → Option ℕ → Option Bool → Option ℕ → Option Pair
 pair_by (Some kind) (Some from) (Some flip) (Some to) = Some (record { kind = kind; from = from; to = to; flip = flip })
 pair_by kind from flip to = None
@@ -88,44 +93,233 @@ pair_by kind from flip to = None
 -- by the digits in front, and by what stands behind them: the sign, and the second number
 abbrev pub pair_behind : Option PortKind → List ℕ → List ℕ → Option Pair
 pair_behind kind from [] = None
-pair_behind kind from (sign ∷ to) = pair_by kind (port_of from) (flip_of_sign sign) (port_of to)
+pair_behind kind from (sign ∷ to) =
+    pair_by kind (number_below (2 ^ 32) from) (flip_of_sign sign) (number_below (2 ^ 32) to)
 
-abbrev pub pair_of : List ℕ → Option Pair
-pair_of [] = None
-pair_of (letter ∷ rest) =
+abbrev pub pair_in : List ℕ → Option Pair
+pair_in [] = None
+pair_in (letter ∷ rest) =
     let n = prefix_len is_ascii_digit rest in pair_behind (kind_of_letter letter) (take n rest) (drop n rest)
 
-abbrev pub with_pair : Option Pair → Result (List Pair) RecordFault → Result (List Pair) RecordFault
-with_pair None rest = Err fault.Word
-with_pair (Some pair) (Ok pairs) = Ok (pair ∷ pairs)
-with_pair (Some pair) (Err fault) = Err fault
+abbrev pub pair_of : List ℕ → Result Pair RecordFault
+pair_of word = or_fault (pair_in word) fault.Word
 
-abbrev pub pairs_of : List (List ℕ) → Result (List Pair) RecordFault
-pairs_of [] = Ok []
-pairs_of (word ∷ words) = with_pair (pair_of word) (pairs_of words)
+-- bits, and bits that may be either
+abbrev pub bit_of : ℕ → Result Bool RecordFault
+bit_of digit = if digit == 48 then Ok false else if digit == 49 then Ok true else Err fault.Word
 
-abbrev pub match_record : Result (List Pair) RecordFault → Result Record RecordFault
-match_record (Ok pairs) = Ok (record_of.Conclusion (Match pairs))
-match_record (Err fault) = Err fault
+abbrev pub tri_of : ℕ → Result Tri RecordFault
+tri_of digit =
+    if digit == 48 then Ok tri.Zero
+    else if digit == 49 then Ok tri.One
+    else if digit == 120 then Ok tri.X else Err fault.Word
 
--- a record whose words are all there are
-abbrev pub alone : Record → List (List ℕ) → Result Record RecordFault
-alone entry [] = Ok entry
-alone entry (word ∷ words) = Err fault.Word
+abbrev pub with_digit : {X : Type 0} → Result X RecordFault → Result (List X) RecordFault → Result (List X) RecordFault
+with_digit {X} (Err fault) rest = Err fault
+with_digit {X} (Ok x) (Ok xs) = Ok (x ∷ xs)
+with_digit {X} (Ok x) (Err fault) = Err fault
 
-abbrev pub header_record : List (List ℕ) → Result Record RecordFault
-header_record [] = Err fault.Word
-header_record (word ∷ words) = if bytes_eq word (codes "1") then alone record_of.Header words else Err fault.Word
+abbrev pub digits_by : {X : Type 0} → (ℕ → Result X RecordFault) → List ℕ → Result (List X) RecordFault
+digits_by {X} read [] = Ok []
+digits_by {X} read (digit ∷ digits) = with_digit (read digit) (digits_by read digits)
 
--- the record that words write, or what is wrong with the first word that doesn't fit
-abbrev pub record_by : List ℕ → List (List ℕ) → Result Record RecordFault
-record_by first words =
-    if bytes_eq first (codes "l") then log_record words
-    else if bytes_eq first (codes "match") then match_record (pairs_of words)
-    else if bytes_eq first (codes "end") then alone record_of.End words
-    else if bytes_eq first (codes "npnp") then header_record words
-    else Err fault.Word
+-- the digits behind `=`
+abbrev pub digits_behind : List ℕ → Result (List ℕ) RecordFault
+digits_behind [] = Err fault.Word
+digits_behind (sign ∷ digits) = if sign == 61 then Ok digits else Err fault.Word
+
+abbrev pub values_in : {X : Type 0} → (ℕ → Result X RecordFault) → Result (List ℕ) RecordFault → Result (List X) RecordFault
+values_in {X} read (Ok digits) = digits_by read digits
+values_in {X} read (Err fault) = Err fault
+
+abbrev pub bits_of : List ℕ → Result (List Bool) RecordFault
+bits_of word = values_in bit_of (digits_behind word)
+
+abbrev pub tris_of : List ℕ → Result (List Tri) RecordFault
+tris_of word = values_in tri_of (digits_behind word)
+
+-- the two bits of a swap
+abbrev pub both_bits : Result Bool RecordFault → Result Bool RecordFault → Result (Bool × Bool) RecordFault
+both_bits (Ok a) (Ok b) = Ok (a, b)
+both_bits (Ok a) (Err fault) = Err fault
+both_bits (Err fault) b = Err fault
+
+abbrev pub second_bit : Result Bool RecordFault → List ℕ → Result (Bool × Bool) RecordFault
+second_bit a [] = Err fault.Word
+second_bit a (b ∷ []) = both_bits a (bit_of b)
+second_bit a (b ∷ c ∷ behind) = Err fault.Word
+
+abbrev pub two_bits_of : List ℕ → Result (Bool × Bool) RecordFault
+two_bits_of [] = Err fault.Word
+two_bits_of (a ∷ behind) = second_bit (bit_of a) behind
+
+-- words that are names
+abbrev pub side_of : List ℕ → Result Side RecordFault
+side_of word =
+    if bytes_eq word (codes "a") then Ok First
+    else if bytes_eq word (codes "b") then Ok Second else Err fault.Word
+
+abbrev pub kind_of : List ℕ → Result PortKind RecordFault
+kind_of word =
+    if bytes_eq word (codes "in") then Ok Input
+    else if bytes_eq word (codes "out") then Ok Output else Err fault.Word
+
+abbrev pub tallied_of : List ℕ → Result Tallied RecordFault
+tallied_of word =
+    if bytes_eq word (codes "support") then Ok Support
+    else if bytes_eq word (codes "binate") then Ok Binate else Err fault.Word
+
+abbrev pub shape_name_of : List ℕ → Result ShapeName RecordFault
+shape_name_of word =
+    if bytes_eq word (codes "up") then Ok shape_name.Up
+    else if bytes_eq word (codes "down") then Ok shape_name.Down
+    else if bytes_eq word (codes "swap") then Ok shape_name.Swap else Err fault.Word
+
+abbrev pub step_name_of : List ℕ → Result StepName RecordFault
+step_name_of word =
+    if bytes_eq word (codes "vector") then Ok step_name.Vector
+    else if bytes_eq word (codes "mismatch") then Ok step_name.Mismatch
+    else if bytes_eq word (codes "tally") then Ok step_name.Tally
+    else if bytes_eq word (codes "cover") then Ok step_name.Cover else Err fault.Word
+
+abbrev pub none_name_of : List ℕ → Result NoneName RecordFault
+none_name_of word =
+    if bytes_eq word (codes "ports") then Ok none_name.Ports
+    else if bytes_eq word (codes "ban") then Ok none_name.Ban else Err fault.Word
+
+abbrev pub record_name_of : List ℕ → Result RecordName RecordFault
+record_name_of word =
+    if bytes_eq word (codes "l") then Ok record_name.Line
+    else if bytes_eq word (codes "fails") then Ok record_name.Fails
+    else if bytes_eq word (codes "holds") then Ok record_name.Holds
+    else if bytes_eq word (codes "ban") then Ok record_name.Ban
+    else if bytes_eq word (codes "match") then Ok record_name.Match
+    else if bytes_eq word (codes "none") then Ok record_name.None
+    else if bytes_eq word (codes "end") then Ok record_name.End
+    else if bytes_eq word (codes "npnp") then Ok record_name.Header else Err fault.Word
+
+-- this very word
+abbrev pub named : List ℕ → List ℕ → Result Bool RecordFault
+named name word = if bytes_eq word name then Ok true else Err fault.Word
+
+-- A part of a line with the words behind it, or what is wrong with the first word that doesn't fit.
+abbrev pub Parsed : Type 0 → Type 0
+Parsed X = Result (X × List (List ℕ)) RecordFault
+
+-- a part, and then what follows
+abbrev pub followed : {X Y : Type 0} → Parsed X → (X → List (List ℕ) → Result Y RecordFault) → Result Y RecordFault
+followed {X} {Y} (Ok part) behind = behind part.0 part.1
+followed {X} {Y} (Err fault) behind = Err fault
+
+abbrev pub with_words : {X : Type 0} → Result X RecordFault → List (List ℕ) → Parsed X
+with_words {X} (Ok x) words = Ok (x, words)
+with_words {X} (Err fault) words = Err fault
+
+-- one word
+abbrev pub next_by : {X : Type 0} → (List ℕ → Result X RecordFault) → List (List ℕ) → Parsed X
+next_by {X} read [] = Err fault.Word
+next_by {X} read (word ∷ words) = with_words (read word) words
+
+-- words up to `:`, `/` or the end
+abbrev pub is_separator : List ℕ → Bool
+is_separator word = bytes_eq word (codes ":") || bytes_eq word (codes "/")
+
+abbrev pub with_item : {X : Type 0} → Result X RecordFault → Parsed (List X) → Parsed (List X)
+with_item {X} (Err fault) rest = Err fault
+with_item {X} (Ok x) (Ok part) = Ok (x ∷ part.0, part.1)
+with_item {X} (Ok x) (Err fault) = Err fault
+
+abbrev pub list_by : {X : Type 0} → (List ℕ → Result X RecordFault) → List (List ℕ) → Parsed (List X)
+list_by {X} read [] = Ok ([], [])
+list_by {X} read (word ∷ words) =
+    if is_separator word then Ok ([], word ∷ words) else with_item (read word) (list_by read words)
+
+-- the last part of a line, behind which no word stands
+abbrev pub last_part : {X : Type 0} → X → List (List ℕ) → Result X RecordFault
+last_part {X} x [] = Ok x
+last_part {X} x (word ∷ words) = Err fault.Word
+
+-- claims
+abbrev pub shape_by : ShapeName → List (List ℕ) → Parsed Shape
+shape_by shape_name.Up words = followed (next_by port_of words) (λ i words. Ok (Up i, words))
+shape_by shape_name.Down words = followed (next_by port_of words) (λ i words. Ok (Down i, words))
+shape_by shape_name.Swap words =
+    followed (next_by port_of words)
+    (λ i words. followed (next_by port_of words)
+    (λ j words. followed (next_by two_bits_of words)
+    (λ bits words. Ok (Swap i j bits.0 bits.1, words))))
+
+abbrev pub shape_of : List (List ℕ) → Parsed Shape
+shape_of words = followed (next_by shape_name_of words) (λ name words. shape_by name words)
+
+abbrev pub claim_of : List (List ℕ) → Parsed Claim
+claim_of words =
+    followed (next_by side_of words)
+    (λ side words. followed (next_by port_of words)
+    (λ output words. followed (shape_of words)
+    (λ shape words. Ok (record { side = side; output = output; shape = shape }, words))))
+
+-- steps
+abbrev pub step_by : StepName → List (List ℕ) → Parsed Step
+step_by step_name.Vector words =
+    followed (next_by port_of words)
+    (λ output words. followed (next_by tris_of words)
+    (λ tris words. Ok (Vector output tris, words)))
+step_by step_name.Mismatch words =
+    followed (next_by number_of words)
+    (λ fails words. followed (next_by number_of words)
+    (λ holds words. Ok (Mismatch fails holds, words)))
+step_by step_name.Tally words =
+    followed (next_by tallied_of words)
+    (λ kind words. followed (list_by number_of words)
+    (λ have words. followed (next_by (named (codes "/")) words)
+    (λ slash words. followed (list_by number_of words)
+    (λ lack words. Ok (Tally kind have lack, words)))))
+step_by step_name.Cover words =
+    followed (next_by kind_of words)
+    (λ kind words. followed (list_by port_of words)
+    (λ from words. followed (next_by (named (codes "/")) words)
+    (λ slash words. followed (list_by port_of words)
+    (λ to words. followed (next_by (named (codes "/")) words)
+    (λ second words. followed (list_by reference_of words)
+    (λ refs words. Ok (Cover kind from to refs, words)))))))
+
+abbrev pub step_of : List (List ℕ) → Parsed Step
+step_of words = followed (next_by step_name_of words) (λ name words. step_by name words)
+
+-- records, by the words behind the first
+abbrev pub none_by : NoneName → List (List ℕ) → Parsed Record
+none_by none_name.Ports words = Ok (record_of.Conclusion NonePorts, words)
+none_by none_name.Ban words =
+    followed (next_by number_of words) (λ ban words. Ok (record_of.Conclusion (NoneBan ban), words))
+
+abbrev pub record_by : RecordName → List (List ℕ) → Parsed Record
+record_by record_name.Header words =
+    followed (next_by (named (codes "1")) words) (λ version words. Ok (record_of.Header, words))
+record_by record_name.Fails words =
+    followed (claim_of words)
+    (λ claim words. followed (next_by bits_of words)
+    (λ bits words. Ok (record_of.Fact (Fails claim bits), words)))
+record_by record_name.Holds words =
+    followed (claim_of words) (λ claim words. Ok (record_of.Fact (Holds claim), words))
+record_by record_name.Line words =
+    followed (list_by literal_of words)
+    (λ clause words. followed (next_by (named (codes ":")) words)
+    (λ colon words. followed (list_by number_of words)
+    (λ hints words. Ok (record_of.Line (record { clause = clause; hints = hints }), words))))
+record_by record_name.Ban words =
+    followed (list_by pair_of words)
+    (λ pairs words. followed (next_by (named (codes ":")) words)
+    (λ colon words. followed (step_of words)
+    (λ step words. Ok (record_of.Ban (record { pairs = pairs; step = step }), words))))
+record_by record_name.None words = followed (next_by none_name_of words) (λ name words. none_by name words)
+record_by record_name.Match words =
+    followed (list_by pair_of words) (λ pairs words. Ok (record_of.Conclusion (Match pairs), words))
+record_by record_name.End words = Ok (record_of.End, words)
+
+-- the record that words begin with, and the one that they write
+abbrev pub record_in_front : List (List ℕ) → Parsed Record
+record_in_front words = followed (next_by record_name_of words) (λ name words. record_by name words)
 
 abbrev pub record_in : List (List ℕ) → Result Record RecordFault
-record_in [] = Err fault.Word
-record_in (first ∷ words) = record_by first words
+record_in words = followed (record_in_front words) (λ entry words. last_part entry words)

@@ -1,15 +1,16 @@
--- What may stand after what in an account (this project's format): the header, a conclusion, the logs that prove it, the
--- end.
+-- What may stand after what in an account (this project's format): the header; facts and bans in any order, behind a fact
+-- that holds the lines of its log; a conclusion; the logs that prove it; the end.
 use Rattle.std.specs.Prelude.{◌≡◌, ℕ, ◌-◌, ◌*◌, ◌==◌, Bool, true, false, List, [], ◌∷◌, ◌++◌, count_by, fold, Option, None, Some, IsSome, option_and_then, if◌then◌else◌}
 use Rattle.circuits.specs.declared.port.Pair.{Pair}
 use Rattle.circuits.specs.declared.port.PortKind.{PortKind}
 use Rattle.circuits.specs.declared.port.PortKind.TheVariants.{Input, Output}
 use Rattle.account_core.specs.declared.conclusion.Conclusion.{Conclusion}
-use Rattle.account_core.specs.declared.conclusion.Conclusion.TheVariants.{Match}
+use Rattle.account_core.specs.declared.conclusion.Conclusion.TheVariants.{NonePorts, NoneBan, Match}
+use Rattle.account_core.specs.declared.fact.FactHead.TheVariants.{Fails, Holds}
 use Rattle.account_file.specs.declared.record.Record.{Record}
 use Rattle.account_file.specs.declared.record.Record.TheVariants as record_of
 use Rattle.account_file.specs.declared.place.Place.{Place}
-use Rattle.account_file.specs.declared.place.Place.TheVariants.{Start, Headed, Logs, Ended}
+use Rattle.account_file.specs.declared.place.Place.TheVariants.{Start, Headed, FactLog, Logs, Ended}
 
 abbrev pub is_output_kind : PortKind → Bool
 is_output_kind Input = false
@@ -20,6 +21,8 @@ is_output pair = is_output_kind pair.kind
 
 -- how many logs a conclusion asks for: a match two for each pair of outputs, one for either value of the output
 abbrev pub logs_asked : Conclusion → ℕ
+logs_asked NonePorts = 0
+logs_asked (NoneBan ban) = 0
 logs_asked (Match pairs) = 2 * count_by is_output pairs
 
 -- how many logs are left behind a line of a log: the empty clause ends a log
@@ -27,10 +30,19 @@ abbrev pub logs_behind : {X : Type 0} → ℕ → List X → ℕ
 logs_behind {X} logs [] = logs - 1
 logs_behind {X} logs (literal ∷ clause) = logs
 
+-- the same where the log is that of a fact
+abbrev pub place_in_log : {X : Type 0} → List X → Place
+place_in_log {X} [] = Headed
+place_in_log {X} (literal ∷ clause) = FactLog
+
 -- where an account stands behind a record that may stand there
 abbrev pub place_behind : Place → Record → Option Place
 place_behind Start record_of.Header = Some Headed
+place_behind Headed (record_of.Fact (Fails claim bits)) = Some Headed
+place_behind Headed (record_of.Fact (Holds claim)) = Some FactLog
+place_behind Headed (record_of.Ban ban) = Some Headed
 place_behind Headed (record_of.Conclusion conclusion) = Some (Logs (logs_asked conclusion))
+place_behind FactLog (record_of.Line line) = Some (place_in_log line.clause)
 place_behind (Logs logs) (record_of.Line line) = if logs == 0 then None else Some (Logs (logs_behind logs line.clause))
 place_behind (Logs logs) record_of.End = if logs == 0 then Some Ended else None
 place_behind place entry = None

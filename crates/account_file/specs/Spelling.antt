@@ -1,12 +1,25 @@
 -- An account as text: the one line of each record (this project's format).
-use Rattle.std.specs.Prelude.{ℕ, ◌<◌, ◌^◌, All, Bool, List, [], ◌∷◌, ◌++◌, codes, map, if◌then◌else◌}
+use Rattle.std.specs.Prelude.{ℕ, ◌<◌, ◌^◌, All, Bool, List, [], ◌∷◌, ◌++◌, codes, map, Option, None, Some, if◌then◌else◌}
 use Rattle.std.specs.Fmt.{decimal}
 use Rattle.std.specs.List.{flat_map}
 use Rattle.circuits.specs.declared.port.Pair.{Pair}
 use Rattle.circuits.specs.declared.port.PortKind.{PortKind}
 use Rattle.circuits.specs.declared.port.PortKind.TheVariants.{Input, Output}
+use Rattle.net_core.specs.declared.graphs.Side.{Side}
+use Rattle.net_core.specs.declared.graphs.Side.TheVariants.{First, Second}
+use Rattle.word_sim.specs.declared.tri.Tri.{Tri}
+use Rattle.word_sim.specs.declared.tri.Tri.TheVariants as tri
 use Rattle.cnf_core.specs.declared.log.LogLine.{LogLine}
-use Rattle.account_core.specs.declared.conclusion.Conclusion.TheVariants.{Match}
+use Rattle.query_core.specs.declared.claims.Shape.{Shape}
+use Rattle.query_core.specs.declared.claims.Shape.TheVariants.{Up, Down, Swap}
+use Rattle.query_core.specs.declared.claims.Claim.{Claim}
+use Rattle.account_core.specs.declared.conclusion.Conclusion.TheVariants.{NonePorts, NoneBan, Match}
+use Rattle.account_core.specs.declared.fact.FactHead.TheVariants.{Fails, Holds}
+use Rattle.account_core.specs.declared.step.Ban.{Ban}
+use Rattle.account_core.specs.declared.step.Step.{Step}
+use Rattle.account_core.specs.declared.step.Step.TheVariants.{Vector, Mismatch, Tally, Cover}
+use Rattle.account_core.specs.declared.step.Tallied.{Tallied}
+use Rattle.account_core.specs.declared.step.Tallied.TheVariants.{Support, Binate}
 use Rattle.account_file.specs.declared.record.Record.{Record}
 use Rattle.account_file.specs.declared.record.Record.TheVariants as record_of
 
@@ -19,34 +32,145 @@ kind_letter Output = 111
 abbrev pub sign_of : Bool → ℕ
 sign_of flip = if flip then 45 else 43
 
--- a blank, and where a port goes: ` i3-5`, where input 3 goes to input 5 inverted
-abbrev pub pair_text : Pair → List ℕ
-pair_text pair = 32 ∷ kind_letter pair.kind ∷ decimal pair.from ++ sign_of pair.flip ∷ decimal pair.to
+-- where a port goes: `i3-5`, where input 3 goes to input 5 inverted
+abbrev pub pair_word : Pair → List ℕ
+pair_word pair = kind_letter pair.kind ∷ decimal pair.from ++ sign_of pair.flip ∷ decimal pair.to
 
--- a blank and a number, for each number
-abbrev pub numbers_text : List ℕ → List ℕ
-numbers_text numbers = flat_map (λ number. 32 ∷ decimal number) numbers
+-- `a` for the first circuit, `b` for the second
+abbrev pub side_word : Side → List ℕ
+side_word First = codes "a"
+side_word Second = codes "b"
 
--- the line of a record, with its line feed: `npnp 1`; `match` and the pairs; `l`, the literals, `:` and the hints;
--- `end`
+abbrev pub bit_digit : Bool → ℕ
+bit_digit bit = if bit then 49 else 48
+
+abbrev pub tri_digit : Tri → ℕ
+tri_digit tri.Zero = 48
+tri_digit tri.One = 49
+tri_digit tri.X = 120
+
+-- `=` and a digit for each input: `=01`, and with values that may be either, `=0x1`
+abbrev pub bits_word : List Bool → List ℕ
+bits_word bits = 61 ∷ map bit_digit bits
+
+abbrev pub tris_word : List Tri → List ℕ
+tris_word tris = 61 ∷ map tri_digit tris
+
+-- the inputs and values of a claim: `up 3`, `down 3`, `swap 2 5 01`
+abbrev pub shape_words : Shape → List (List ℕ)
+shape_words (Up i) = codes "up" ∷ decimal i ∷ []
+shape_words (Down i) = codes "down" ∷ decimal i ∷ []
+shape_words (Swap i j a b) = codes "swap" ∷ decimal i ∷ decimal j ∷ (bit_digit a ∷ bit_digit b ∷ []) ∷ []
+
+-- a claim: circuit, output, shape
+abbrev pub claim_words : Claim → List (List ℕ)
+claim_words claim = side_word claim.side ∷ decimal claim.output ∷ shape_words claim.shape
+
+abbrev pub tallied_word : Tallied → List ℕ
+tallied_word Support = codes "support"
+tallied_word Binate = codes "binate"
+
+abbrev pub kind_word : PortKind → List ℕ
+kind_word Input = codes "in"
+kind_word Output = codes "out"
+
+-- a ban's number, or `-`
+abbrev pub reference_word : Option ℕ → List ℕ
+reference_word (Some ban) = decimal ban
+reference_word None = codes "-"
+
+-- why no match has a ban's pairs: `vector 0 =0x`, `mismatch 4 7`, `tally support 0 3 / 5 6`, `cover in 0 / 0 1 / 2 - 3 4`
+abbrev pub step_words : Step → List (List ℕ)
+step_words (Vector output tris) = codes "vector" ∷ decimal output ∷ tris_word tris ∷ []
+step_words (Mismatch fails holds) = codes "mismatch" ∷ decimal fails ∷ decimal holds ∷ []
+step_words (Tally kind have lack) =
+    codes "tally" ∷ tallied_word kind ∷ map decimal have ++ codes "/" ∷ map decimal lack
+step_words (Cover kind from to refs) =
+    codes "cover" ∷ kind_word kind
+    ∷ (map decimal from ++ codes "/" ∷ (map decimal to ++ codes "/" ∷ map reference_word refs))
+
+-- the first word of a record's line
+abbrev pub first_word : Record → List ℕ
+first_word record_of.Header = codes "npnp"
+first_word (record_of.Fact (Fails claim bits)) = codes "fails"
+first_word (record_of.Fact (Holds claim)) = codes "holds"
+first_word (record_of.Line line) = codes "l"
+first_word (record_of.Ban ban) = codes "ban"
+first_word (record_of.Conclusion NonePorts) = codes "none"
+first_word (record_of.Conclusion (NoneBan ban)) = codes "none"
+first_word (record_of.Conclusion (Match pairs)) = codes "match"
+first_word record_of.End = codes "end"
+
+-- the words behind it
+abbrev pub other_words : Record → List (List ℕ)
+other_words record_of.Header = codes "1" ∷ []
+other_words (record_of.Fact (Fails claim bits)) = claim_words claim ++ bits_word bits ∷ []
+other_words (record_of.Fact (Holds claim)) = claim_words claim
+other_words (record_of.Line line) =
+    map (λ literal. decimal literal.0) line.clause ++ codes ":" ∷ map decimal line.hints
+other_words (record_of.Ban ban) = map pair_word ban.pairs ++ codes ":" ∷ step_words ban.step
+other_words (record_of.Conclusion NonePorts) = codes "ports" ∷ []
+other_words (record_of.Conclusion (NoneBan ban)) = codes "ban" ∷ decimal ban ∷ []
+other_words (record_of.Conclusion (Match pairs)) = map pair_word pairs
+other_words record_of.End = []
+
+-- words with a blank in front of each
+abbrev pub spaced : List (List ℕ) → List ℕ
+spaced words = flat_map (λ word. 32 ∷ word) words
+
+-- the line of a record: its words with one blank between two
+abbrev pub line_text : Record → List ℕ
+line_text entry = first_word entry ++ spaced (other_words entry)
+
+-- and its line feed
 abbrev pub record_line : Record → List ℕ
-record_line record_of.Header = codes "npnp 1" ++ 10 ∷ []
-record_line (record_of.Conclusion (Match pairs)) = codes "match" ++ flat_map pair_text pairs ++ 10 ∷ []
-record_line (record_of.Line line) =
-    codes "l" ++ numbers_text (map (λ literal. literal.0) line.clause) ++ codes " :" ++ numbers_text line.hints ++ 10 ∷ []
-record_line record_of.End = codes "end" ++ 10 ∷ []
+record_line entry = line_text entry ++ 10 ∷ []
 
--- Each port of a table has 32 bits, each number of a log 64.
+-- Ports and outputs have 32 bits, all other numbers 64.
+abbrev pub IsPort : ℕ → Type 0
+IsPort number = number < 2 ^ 32
+
+abbrev pub IsNumber : ℕ → Type 0
+IsNumber number = number < 2 ^ 64
+
 pub record HasPorts (pair : Pair) : Type 0 where
-  pub from : pair.from < 2 ^ 32
-  pub to : pair.to < 2 ^ 32
+  pub from : IsPort pair.from
+  pub to : IsPort pair.to
+
+abbrev pub ShapeHasPorts : Shape → Type 0
+ShapeHasPorts (Up i) = IsPort i
+ShapeHasPorts (Down i) = IsPort i
+ShapeHasPorts (Swap i j a b) = IsPort i × IsPort j
+
+pub record ClaimHasPorts (claim : Claim) : Type 0 where
+  pub output : IsPort claim.output
+  pub shape : ShapeHasPorts claim.shape
 
 pub record HasNumbers (line : LogLine) : Type 0 where
-  pub literals : All (λ number. number < 2 ^ 64) (map (λ literal. literal.0) line.clause)
-  pub hints : All (λ number. number < 2 ^ 64) line.hints
+  pub literals : All (λ literal. IsNumber literal.0) line.clause
+  pub hints : All IsNumber line.hints
+
+abbrev pub IsReference : Option ℕ → Type 0
+IsReference (Some ban) = IsNumber ban
+IsReference None = Unit {0}
+
+abbrev pub StepHasNumbers : Step → Type 0
+StepHasNumbers (Vector output tris) = IsPort output
+StepHasNumbers (Mismatch fails holds) = IsNumber fails × IsNumber holds
+StepHasNumbers (Tally kind have lack) = All IsNumber have × All IsNumber lack
+StepHasNumbers (Cover kind from to refs) = All IsPort from × (All IsPort to × All IsReference refs)
+
+pub record BanHasNumbers (ban : Ban) : Type 0 where
+  pub pairs : All HasPorts ban.pairs
+  pub step : StepHasNumbers ban.step
 
 abbrev pub IsWritable : Record → Type 0
 IsWritable record_of.Header = Unit {0}
-IsWritable (record_of.Conclusion (Match pairs)) = All HasPorts pairs
+IsWritable (record_of.Fact (Fails claim bits)) = ClaimHasPorts claim
+IsWritable (record_of.Fact (Holds claim)) = ClaimHasPorts claim
 IsWritable (record_of.Line line) = HasNumbers line
+IsWritable (record_of.Ban ban) = BanHasNumbers ban
+IsWritable (record_of.Conclusion NonePorts) = Unit {0}
+IsWritable (record_of.Conclusion (NoneBan ban)) = IsNumber ban
+IsWritable (record_of.Conclusion (Match pairs)) = All HasPorts pairs
 IsWritable record_of.End = Unit {0}

@@ -1,14 +1,11 @@
--- Words as they are lent, and answers that may want memory.
-use Rattle.std.specs.Prelude.{◌≡◌, ℕ, List, ◌++◌, map, Option, None, Some, Result, Ok, Err}
+-- Answers that may want memory.
+use Rattle.std.specs.Prelude.{◌≡◌, ℕ, ◌<◌, List, [], ◌++◌, length, Option, None, Some, Result, Ok, Err}
 use Rattle.std.specs.Borrow.{Bor}
 use Rattle.account_file.specs.declared.fault.RecordFault.{RecordFault}
 use Rattle.account_file.specs.declared.step.Step.{Step}
 use Rattle.account_file.specs.declared.fault.FileStop.{FileStop}
 use Rattle.account_file.specs.declared.fault.FileStop.TheVariants.{Fault, Memory}
-
--- the bytes of words
-abbrev pub texts : List (Bor (List ℕ)) → List (List ℕ)
-texts words = map (λ word. word.now) words
+use Rattle.account_file.specs.Forms.{Parsed, digits_behind, list_by, with_item}
 
 -- the answer is what is meant, or memory is wanting
 abbrev pub Answers : {X Y : Type 0} → (X → Y) → Result X FileStop → Result Y RecordFault → Type 0
@@ -16,24 +13,48 @@ Answers {X} {Y} view (Ok x) meant = meant ≡ Ok (view x)
 Answers {X} {Y} view (Err (Fault fault)) meant = meant ≡ Err fault
 Answers {X} {Y} view (Err Memory) meant = Unit {0}
 
+-- the part of a line is what is meant, with these words behind it
+abbrev pub Gives : {X : Type 0} → Result X RecordFault → List (List ℕ) → Parsed X → Type 0
+Gives {X} (Ok x) words meant = meant ≡ Ok (x, words)
+Gives {X} (Err fault) words meant = meant ≡ Err fault
+
+-- the same, or memory is wanting
+abbrev pub GivesOrStops : {X : Type 0} → Result X FileStop → List (List ℕ) → Parsed X → Type 0
+GivesOrStops {X} (Ok x) words meant = meant ≡ Ok (x, words)
+GivesOrStops {X} (Err (Fault fault)) words meant = meant ≡ Err fault
+GivesOrStops {X} (Err Memory) words meant = Unit {0}
+
+-- what the next word of a list leaves of the list
+abbrev pub GivesItem : {X : Type 0} → (List ℕ → Result X RecordFault)
+    → Result (Option X) RecordFault → List (List ℕ) → List (List ℕ) → Type 0
+GivesItem {X} read (Ok None) old new = list_by read old ≡ Ok ([], new)
+GivesItem {X} read (Ok (Some x)) old new =
+    (list_by read old ≡ with_item (Ok x) (list_by read new)) × (length new < length old)
+GivesItem {X} read (Err fault) old new = list_by read old ≡ Err fault
+
+-- the digits behind `=`
+abbrev pub GivesDigits : Result (Bor (List ℕ)) RecordFault → List ℕ → Type 0
+GivesDigits (Ok digits) word = digits_behind word ≡ Ok digits.now
+GivesDigits (Err fault) word = digits_behind word ≡ Err fault
+
+-- what was read, in front of the rest of a list
+abbrev pub in_front : {X : Type 0} → List X → Parsed (List X) → Parsed (List X)
+in_front {X} front (Ok rest) = Ok (front ++ rest.0, rest.1)
+in_front {X} front (Err fault) = Err fault
+
 -- the step is what is meant, or memory is wanting
 abbrev pub AnswersStep : Result Step FileStop → Step → Type 0
 AnswersStep (Ok step) meant = step ≡ meant
 AnswersStep (Err (Fault fault)) meant = ⊥
 AnswersStep (Err Memory) meant = Unit {0}
 
--- what was read, in front of what is meant by the rest
-abbrev pub in_front : {X : Type 0} → List X → Result (List X) RecordFault → Result (List X) RecordFault
-in_front {X} front (Ok rest) = Ok (front ++ rest)
-in_front {X} front (Err fault) = Err fault
-
--- the words behind, if they are there
-abbrev pub texts_behind : Option (Bor (List (Bor (List ℕ)))) → Option (List (List ℕ))
-texts_behind None = None
-texts_behind (Some words) = Some (texts words.now)
-
 -- the answer is what is said, or memory is wanting
 abbrev pub Says : {X : Type 0} → Result X FileStop → (Result X RecordFault → Type 0) → Type 0
 Says {X} (Ok x) IsSaid = IsSaid (Ok x)
 Says {X} (Err (Fault fault)) IsSaid = IsSaid (Err fault)
 Says {X} (Err Memory) IsSaid = Unit {0}
+
+-- what was read of digits, in front of the rest of them
+abbrev pub digits_in_front : {X : Type 0} → List X → Result (List X) RecordFault → Result (List X) RecordFault
+digits_in_front {X} front (Ok rest) = Ok (front ++ rest)
+digits_in_front {X} front (Err fault) = Err fault

@@ -4,11 +4,13 @@
 mod fault;
 mod forms;
 mod laws;
+mod names;
 mod place;
 mod reader;
 mod record;
 mod spelling;
 mod step;
+mod words;
 
 pub use fault::{FileStop, RecordFault};
 pub use laws::{account_or_fault, one_answer, one_fault, one_list_of_records, one_record};

@@ -5,8 +5,10 @@
 pub enum Place {
     /// The header.
     Start,
-    /// A conclusion.
+    /// A fact, a ban or the conclusion.
     Headed,
+    /// A line of the log of a fact that holds.
+    FactLog,
     /// So many logs, and then the end.
     Logs(u64),
     /// Nothing.

@@ -1,6 +1,6 @@
 //! The records of an account.
 
-use account_core::Conclusion;
+use account_core::{Ban, Conclusion, FactHead};
 use cnf_core::LogLine;
 
 /// One line of an account.
@@ -8,8 +8,12 @@ use cnf_core::LogLine;
 pub enum Record {
     /// The first line, which names the format.
     Header,
+    /// A claim that fails, or one that holds, whose log follows.
+    Fact(FactHead),
     /// A line of a log.
     Line(LogLine),
+    /// Pairs of ports that no match has all of, and why.
+    Ban(Ban),
     /// What the account comes to.
     Conclusion(Conclusion),
     /// The last line.

@@ -2,52 +2,285 @@
 
 ghost use Rattle.std.specs.Prelude.{◌≡◌, [], ◌∷◌, ◌++◌, codes, OnOk, OnErr, map};
 ghost use Rattle.std.specs.Fmt.{decimal as digits_of_number};
-ghost use Rattle.std.specs.List.{flat_map};
-ghost use Rattle.account_file.specs.Spelling.{kind_letter, numbers_text, pair_text, record_line, sign_of};
+ghost use Rattle.account_file.specs.Spelling.{bit_digit, bits_word, claim_words, kind_letter, kind_word, line_text, pair_word, record_line, reference_word, shape_words, side_word, sign_of, spaced, step_words, tallied_word, tri_digit, tris_word};
 
 use crate::record::Record;
-use account_core::Conclusion;
+use account_core::{Ban, Conclusion, FactHead, Step, Tallied};
+use bit_list::Bits;
 use circuits::{Pair, PortKind};
 use cnf_core::{LogLine, SatLit};
+use net_core::Side;
+use query_core::{Claim, Shape};
 use std::alloc::AllocError;
 use text_core::put_decimal;
+use word_sim::Tri;
 
-/// Writes the one line of a record at the end of `out`: `npnp 1` for the header, `match` and the pairs of ports for a
-/// conclusion, `l`, the literals, `:` and the hints for a line of a log, and `end`. A pair is `i3+5` where input 3 goes
-/// to input 5, and `o0-1` where output 0 goes to output 1 inverted. Numbers have no leading zeros, one space stands
-/// between two words, and the line ends with a line feed. Want of memory leaves `out` as it was.
+/// Writes the one line of a record at the end of `out`: its words with one space between two, and a line feed. The
+/// header is `npnp 1`. A fact is `fails` or `holds`, the claim, and the bits of the vector that breaks it, as in
+/// `fails b 0 swap 1 4 01 =01101`. A line of a log is `l`, the literals, `:` and the hints. A ban is `ban`, its pairs,
+/// `:` and its step. A conclusion is `none ports`, `none ban` and a ban's number, or `match` and the pairs of ports. The
+/// last line is `end`. A pair is `i3+5` where input 3 goes to input 5, and `o0-1` where output 0 goes to output 1
+/// inverted. Numbers have no leading zeros. Want of memory leaves `out` as it was.
 pub fn put_record(entry: &Record, out: &mut Vec<u8>) -> Result<(), AllocError>
     ensures line { OnOk result (out.new.items ≡ out.old.items ++ record_line entry.now) }
     ensures refused { OnErr result (out.new.items ≡ out.old.items) }
 {
     let mut line = Vec::new(*out.allocator());
-    put_line_of(entry, &mut line)?;
+    put_text(entry, &mut line)?;
+    line.extend_from_slice(b"\n")?;
     out.extend_from_slice(&line)
 }
 
-// Writes the line of a record; a first part of it may stand in `out` where memory is wanting.
-fn put_line_of(entry: &Record, out: &mut Vec<u8>) -> Result<(), AllocError>
-    ensures { OnOk result (out.new.items ≡ out.old.items ++ record_line entry.now) }
+// Writes the line of a record without its line feed; a first part of it may stand in `out` where memory is wanting, here
+// and below.
+fn put_text(entry: &Record, out: &mut Vec<u8>) -> Result<(), AllocError>
+    ensures { OnOk result (out.new.items ≡ out.old.items ++ line_text entry.now) }
 {
     match entry {
-        Record::Header => out.extend_from_slice(b"npnp 1\n"),
-        Record::Conclusion(Conclusion::Match(pairs)) => put_match(pairs, out),
+        Record::Header => out.extend_from_slice(b"npnp 1"),
+        Record::Fact(fact) => put_fact(fact, out),
         Record::Line(line) => put_log_line(line, out),
-        Record::End => out.extend_from_slice(b"end\n"),
+        Record::Ban(ban) => put_ban(ban, out),
+        Record::Conclusion(conclusion) => put_conclusion(conclusion, out),
+        Record::End => out.extend_from_slice(b"end"),
     }
 }
 
-// Writes the line of a match.
-fn put_match(pairs: &[Pair], out: &mut Vec<u8>) -> Result<(), AllocError>
-    ensures { OnOk result (out.new.items ≡ out.old.items ++ codes "match" ++ flat_map pair_text pairs.now ++ 10 ∷ []) }
+fn put_fact(fact: &FactHead, out: &mut Vec<u8>) -> Result<(), AllocError>
+    ensures { OnOk result (out.new.items ≡ out.old.items ++ line_text (Record.Fact fact.now)) }
 {
-    out.extend_from_slice(b"match")?;
-    put_pairs(pairs, out)?;
-    out.extend_from_slice(b"\n")
+    match fact {
+        FactHead::Fails { claim, bits } => {
+            out.extend_from_slice(b"fails")?;
+            put_claim(*claim, out)?;
+            put_bits(bits, out)
+        }
+        FactHead::Holds { claim } => {
+            out.extend_from_slice(b"holds")?;
+            put_claim(*claim, out)
+        }
+    }
+}
+
+fn put_claim(claim: Claim, out: &mut Vec<u8>) -> Result<(), AllocError>
+    ensures { OnOk result (out.new.items ≡ out.old.items ++ spaced (claim_words claim)) }
+{
+    put_side(claim.side, out)?;
+    put_number(u64::from(claim.output), out)?;
+    put_shape(claim.shape, out)
+}
+
+fn put_side(side: Side, out: &mut Vec<u8>) -> Result<(), AllocError>
+    ensures { OnOk result (out.new.items ≡ out.old.items ++ 32 ∷ side_word side) }
+{
+    match side {
+        Side::First => out.extend_from_slice(b" a"),
+        Side::Second => out.extend_from_slice(b" b"),
+    }
+}
+
+fn put_shape(shape: Shape, out: &mut Vec<u8>) -> Result<(), AllocError>
+    ensures { OnOk result (out.new.items ≡ out.old.items ++ spaced (shape_words shape)) }
+{
+    match shape {
+        Shape::Up(i) => {
+            out.extend_from_slice(b" up")?;
+            put_number(u64::from(i), out)
+        }
+        Shape::Down(i) => {
+            out.extend_from_slice(b" down")?;
+            put_number(u64::from(i), out)
+        }
+        Shape::Swap { i, j, a, b } => {
+            out.extend_from_slice(b" swap")?;
+            put_number(u64::from(i), out)?;
+            put_number(u64::from(j), out)?;
+            out.extend_from_slice(&[b' ', bit_digit(a), bit_digit(b)])
+        }
+    }
+}
+
+fn bit_digit(bit: bool) -> u8
+    ensures { result ≡ bit_digit bit }
+{
+    if bit { b'1' } else { b'0' }
+}
+
+fn tri_digit(tri: Tri) -> u8
+    ensures { result ≡ tri_digit tri }
+{
+    match tri {
+        Tri::Zero => b'0',
+        Tri::One => b'1',
+        Tri::X => b'x',
+    }
+}
+
+fn put_bits(bits: &Bits, out: &mut Vec<u8>) -> Result<(), AllocError>
+    ensures { OnOk result (out.new.items ≡ out.old.items ++ 32 ∷ bits_word bits.now) }
+{
+    out.extend_from_slice(b" =")?;
+    for k in 0..bits.len() {
+        out.push(bit_digit(bits.get(k)))?;
+    }
+    Ok(())
+}
+
+fn put_tris(tris: &[Tri], out: &mut Vec<u8>) -> Result<(), AllocError>
+    ensures { OnOk result (out.new.items ≡ out.old.items ++ 32 ∷ tris_word tris.now) }
+{
+    out.extend_from_slice(b" =")?;
+    for tri in tris.iter() {
+        out.push(tri_digit(*tri))?;
+    }
+    Ok(())
+}
+
+// Writes a line of a log.
+fn put_log_line(line: &LogLine, out: &mut Vec<u8>) -> Result<(), AllocError>
+    ensures { OnOk result (out.new.items ≡ out.old.items ++ line_text (Record.Line line.now)) }
+{
+    out.extend_from_slice(b"l")?;
+    put_literals(&line.clause, out)?;
+    out.extend_from_slice(b" :")?;
+    put_numbers(&line.hints, out)
+}
+
+fn put_literals(literals: &[SatLit], out: &mut Vec<u8>) -> Result<(), AllocError>
+    ensures { OnOk result (out.new.items ≡ out.old.items ++ spaced (map (λ literal. digits_of_number literal.0) literals.now)) }
+{
+    for literal in literals.iter() {
+        put_number(literal.0, out)?;
+    }
+    Ok(())
+}
+
+fn put_numbers(numbers: &[u64], out: &mut Vec<u8>) -> Result<(), AllocError>
+    ensures { OnOk result (out.new.items ≡ out.old.items ++ spaced (map digits_of_number numbers.now)) }
+{
+    for number in numbers.iter() {
+        put_number(*number, out)?;
+    }
+    Ok(())
+}
+
+fn put_ports(ports: &[u32], out: &mut Vec<u8>) -> Result<(), AllocError>
+    ensures { OnOk result (out.new.items ≡ out.old.items ++ spaced (map digits_of_number ports.now)) }
+{
+    for port in ports.iter() {
+        put_number(u64::from(*port), out)?;
+    }
+    Ok(())
+}
+
+fn put_number(number: u64, out: &mut Vec<u8>) -> Result<(), AllocError>
+    ensures { OnOk result (out.new.items ≡ out.old.items ++ 32 ∷ digits_of_number number) }
+{
+    out.extend_from_slice(b" ")?;
+    put_decimal(number, out)
+}
+
+fn put_ban(ban: &Ban, out: &mut Vec<u8>) -> Result<(), AllocError>
+    ensures { OnOk result (out.new.items ≡ out.old.items ++ line_text (Record.Ban ban.now)) }
+{
+    out.extend_from_slice(b"ban")?;
+    put_pairs(&ban.pairs, out)?;
+    out.extend_from_slice(b" :")?;
+    put_step(&ban.step, out)
+}
+
+fn put_step(step: &Step, out: &mut Vec<u8>) -> Result<(), AllocError>
+    ensures { OnOk result (out.new.items ≡ out.old.items ++ spaced (step_words step.now)) }
+{
+    match step {
+        Step::Vector { output, bits } => {
+            out.extend_from_slice(b" vector")?;
+            put_number(u64::from(*output), out)?;
+            put_tris(bits, out)
+        }
+        Step::Mismatch { fails, holds } => {
+            out.extend_from_slice(b" mismatch")?;
+            put_number(*fails, out)?;
+            put_number(*holds, out)
+        }
+        Step::Tally { kind, have, lack } => {
+            out.extend_from_slice(b" tally")?;
+            put_tallied(*kind, out)?;
+            put_numbers(have, out)?;
+            out.extend_from_slice(b" /")?;
+            put_numbers(lack, out)
+        }
+        Step::Cover {
+            kind,
+            from,
+            to,
+            refs,
+        } => {
+            out.extend_from_slice(b" cover")?;
+            put_port_kind(*kind, out)?;
+            put_ports(from, out)?;
+            out.extend_from_slice(b" /")?;
+            put_ports(to, out)?;
+            out.extend_from_slice(b" /")?;
+            put_references(refs, out)
+        }
+    }
+}
+
+fn put_tallied(kind: Tallied, out: &mut Vec<u8>) -> Result<(), AllocError>
+    ensures { OnOk result (out.new.items ≡ out.old.items ++ 32 ∷ tallied_word kind) }
+{
+    match kind {
+        Tallied::Support => out.extend_from_slice(b" support"),
+        Tallied::Binate => out.extend_from_slice(b" binate"),
+    }
+}
+
+fn put_port_kind(kind: PortKind, out: &mut Vec<u8>) -> Result<(), AllocError>
+    ensures { OnOk result (out.new.items ≡ out.old.items ++ 32 ∷ kind_word kind) }
+{
+    match kind {
+        PortKind::Input => out.extend_from_slice(b" in"),
+        PortKind::Output => out.extend_from_slice(b" out"),
+    }
+}
+
+fn put_references(references: &[Option<u64>], out: &mut Vec<u8>) -> Result<(), AllocError>
+    ensures { OnOk result (out.new.items ≡ out.old.items ++ spaced (map reference_word references.now)) }
+{
+    for reference in references.iter() {
+        put_reference(*reference, out)?;
+    }
+    Ok(())
+}
+
+fn put_reference(reference: Option<u64>, out: &mut Vec<u8>) -> Result<(), AllocError>
+    ensures { OnOk result (out.new.items ≡ out.old.items ++ 32 ∷ reference_word reference) }
+{
+    match reference {
+        Some(ban) => put_number(ban, out),
+        None => out.extend_from_slice(b" -"),
+    }
+}
+
+fn put_conclusion(conclusion: &Conclusion, out: &mut Vec<u8>) -> Result<(), AllocError>
+    ensures { OnOk result (out.new.items ≡ out.old.items ++ line_text (Record.Conclusion conclusion.now)) }
+{
+    match conclusion {
+        Conclusion::NonePorts => out.extend_from_slice(b"none ports"),
+        Conclusion::NoneBan(ban) => {
+            out.extend_from_slice(b"none ban")?;
+            put_number(*ban, out)
+        }
+        Conclusion::Match(pairs) => {
+            out.extend_from_slice(b"match")?;
+            put_pairs(pairs, out)
+        }
+    }
 }
 
 fn put_pairs(pairs: &[Pair], out: &mut Vec<u8>) -> Result<(), AllocError>
-    ensures { OnOk result (out.new.items ≡ out.old.items ++ flat_map pair_text pairs.now) }
+    ensures { OnOk result (out.new.items ≡ out.old.items ++ spaced (map pair_word pairs.now)) }
 {
     for pair in pairs.iter() {
         put_pair(*pair, out)?;
@@ -56,7 +289,7 @@ fn put_pairs(pairs: &[Pair], out: &mut Vec<u8>) -> Result<(), AllocError>
 }
 
 fn put_pair(pair: Pair, out: &mut Vec<u8>) -> Result<(), AllocError>
-    ensures { OnOk result (out.new.items ≡ out.old.items ++ pair_text pair) }
+    ensures { OnOk result (out.new.items ≡ out.old.items ++ 32 ∷ pair_word pair) }
 {
     out.extend_from_slice(b" ")?;
     put_kind(pair.kind, out)?;
@@ -82,40 +315,4 @@ fn put_sign(flip: bool, out: &mut Vec<u8>) -> Result<(), AllocError>
     } else {
         out.extend_from_slice(b"+")
     }
-}
-
-// Writes a line of a log.
-fn put_log_line(line: &LogLine, out: &mut Vec<u8>) -> Result<(), AllocError>
-    ensures { OnOk result (out.new.items ≡ out.old.items ++ record_line (Record.Line line.now)) }
-{
-    out.extend_from_slice(b"l")?;
-    put_literals(&line.clause, out)?;
-    out.extend_from_slice(b" :")?;
-    put_numbers(&line.hints, out)?;
-    out.extend_from_slice(b"\n")
-}
-
-fn put_literals(literals: &[SatLit], out: &mut Vec<u8>) -> Result<(), AllocError>
-    ensures { OnOk result (out.new.items ≡ out.old.items ++ numbers_text (map (λ literal. literal.0) literals.now)) }
-{
-    for literal in literals.iter() {
-        put_number(literal.0, out)?;
-    }
-    Ok(())
-}
-
-fn put_numbers(numbers: &[u64], out: &mut Vec<u8>) -> Result<(), AllocError>
-    ensures { OnOk result (out.new.items ≡ out.old.items ++ numbers_text numbers.now) }
-{
-    for number in numbers.iter() {
-        put_number(*number, out)?;
-    }
-    Ok(())
-}
-
-fn put_number(number: u64, out: &mut Vec<u8>) -> Result<(), AllocError>
-    ensures { OnOk result (out.new.items ≡ out.old.items ++ 32 ∷ digits_of_number number) }
-{
-    out.extend_from_slice(b" ")?;
-    put_decimal(number, out)
 }

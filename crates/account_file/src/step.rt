@@ -3,7 +3,7 @@
 ghost use Rattle.std.specs.Prelude.{◌≡◌, ◌≤◌, length, count_by};
 ghost use Rattle.std.specs.List.{position_or_len};
 ghost use Rattle.text_core.specs.Bytes.{is_line_feed};
-ghost use Rattle.account_file.specs.Order.{is_output, logs_asked, place_behind};
+ghost use Rattle.account_file.specs.Order.{is_output, logs_asked, place_behind, place_in_log};
 ghost use Rattle.account_file.specs.Steps.{line_at, placed, step_of, step_at_end, step_at_line};
 ghost use Rattle.account_file.specs.Texts.{Answers, AnswersStep};
 
@@ -11,8 +11,9 @@ use crate::fault::{FileStop, RecordFault};
 use crate::forms::read_line;
 use crate::place::Place;
 use crate::record::Record;
-use account_core::Conclusion;
+use account_core::{Conclusion, FactHead};
 use circuits::{Pair, PortKind};
+use cnf_core::LogLine;
 use std::alloc::Global;
 use text_core::line_length;
 
@@ -134,29 +135,51 @@ fn place_behind(place: Place, entry: &Record) -> Option<Place>
 {
     match (place, entry) {
         (Place::Start, Record::Header) => Some(Place::Headed),
+        (Place::Headed, Record::Fact(FactHead::Fails { .. })) => Some(Place::Headed),
+        (Place::Headed, Record::Fact(FactHead::Holds { .. })) => Some(Place::FactLog),
+        (Place::Headed, Record::Ban(_)) => Some(Place::Headed),
         (Place::Headed, Record::Conclusion(conclusion)) => {
             Some(Place::Logs(logs_asked(conclusion)))
         }
-        (Place::Logs(logs), Record::Line(line)) => {
-            if logs == 0 {
-                return None;
-            }
-            if line.clause.is_empty() {
-                return Some(Place::Logs(logs - 1));
-            }
-            Some(Place::Logs(logs))
-        }
+        (Place::FactLog, Record::Line(line)) => Some(place_in_log(line)),
+        (Place::Logs(logs), Record::Line(line)) => place_in_logs(logs, line),
         (Place::Logs(0), Record::End) => Some(Place::Ended),
         _ => None,
     }
+}
+
+// Where the account stands behind a line of a fact's log, which the empty clause ends.
+fn place_in_log(line: &LogLine) -> Place
+    ensures { result ≡ place_in_log line.now.clause }
+{
+    if line.clause.is_empty() {
+        Place::Headed
+    } else {
+        Place::FactLog
+    }
+}
+
+// Where the account stands behind a line of a conclusion's logs, of which so many are left.
+fn place_in_logs(logs: u64, line: &LogLine) -> Option<Place>
+    ensures { result ≡ place_behind (Place.Logs logs) (Record.Line line.now) }
+{
+    if logs == 0 {
+        return None;
+    }
+    if line.clause.is_empty() {
+        return Some(Place::Logs(logs - 1));
+    }
+    Some(Place::Logs(logs))
 }
 
 // How many logs a conclusion asks for.
 fn logs_asked(conclusion: &Conclusion) -> u64
     ensures { result ≡ logs_asked conclusion.now }
 {
-    let Conclusion::Match(pairs) = conclusion;
-    2 * outputs_in(pairs) as u64
+    match conclusion {
+        Conclusion::NonePorts | Conclusion::NoneBan(_) => 0,
+        Conclusion::Match(pairs) => 2 * outputs_in(pairs) as u64,
+    }
 }
 
 // How many pairs are of outputs.

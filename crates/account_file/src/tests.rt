@@ -3,50 +3,131 @@
 ghost use Rattle.std.specs.Prelude.{◌≡◌};
 
 use crate::{FileStop, Reader, Record, RecordFault, put_record};
-use account_core::Conclusion;
+use account_core::{Ban, Conclusion, FactHead, Step, Tallied};
+use bit_list::Bits;
 use circuits::{Pair, PortKind};
 use cnf_core::{LogLine, SatLit};
-use items::Items;
+use items::{Few, Items};
+use net_core::Side;
+use query_core::{Claim, Shape};
 use std::alloc::{AllocError, Global};
 use std::test::Fail;
+use word_sim::Tri;
+
+const PAIRS: [Pair; 2] = [
+    Pair {
+        kind: PortKind::Input,
+        from: 0,
+        to: 12,
+        flip: true,
+    },
+    Pair {
+        kind: PortKind::Output,
+        from: 3,
+        to: 0,
+        flip: false,
+    },
+];
+
+/// The line of a record.
+fn written(alloc: Global, entry: &Record) -> Result<Vec<u8>, AllocError> {
+    let mut out = b">".to_vec(alloc)?;
+    put_record(entry, &mut out)?;
+    Ok(out)
+}
+
+/// A ban of the two pairs.
+fn ban(alloc: Global, step: Step) -> Result<Record, AllocError> {
+    let pairs = Few::from_slice(alloc, &PAIRS)?;
+    Ok(Record::Ban(Ban { pairs, step }))
+}
 
 #[test]
-fn writes_an_account(rt: HostRuntime) -> Result<(), Fail> {
+fn writes_facts(rt: HostRuntime) -> Result<(), Fail> {
     let alloc = rt.alloc();
-    let pairs = Items::from_slice(
-        alloc,
-        &[
-            Pair {
-                kind: PortKind::Input,
-                from: 0,
-                to: 12,
-                flip: true,
-            },
-            Pair {
-                kind: PortKind::Output,
-                from: 3,
-                to: 0,
-                flip: false,
-            },
-        ],
-    )?;
-    let line = LogLine {
+    let claim = Claim {
+        side: Side::Second,
+        output: 2,
+        shape: Shape::Swap {
+            i: 1,
+            j: 4,
+            a: false,
+            b: true,
+        },
+    };
+    let bits = Bits::from_slice(alloc, &[false, false, true, true, true])?;
+    let fails = Record::Fact(FactHead::Fails { claim, bits });
+    assert_eq!(rt;
+        written(alloc, &fails)?.as_slice(),
+        b">fails b 2 swap 1 4 01 =00111\n".as_slice()
+    );
+    let claim = Claim {
+        side: Side::First,
+        output: 0,
+        shape: Shape::Down(10),
+    };
+    let holds = Record::Fact(FactHead::Holds { claim });
+    assert_eq!(rt;
+        written(alloc, &holds)?.as_slice(),
+        b">holds a 0 down 10\n".as_slice()
+    );
+    Ok(())
+}
+
+#[test]
+fn writes_bans(rt: HostRuntime) -> Result<(), Fail> {
+    let alloc = rt.alloc();
+    let bits = Items::from_slice(alloc, &[Tri::Zero, Tri::X, Tri::One])?;
+    let vector = ban(alloc, Step::Vector { output: 3, bits })?;
+    assert_eq!(rt;
+        written(alloc, &vector)?.as_slice(),
+        b">ban i0-12 o3+0 : vector 3 =0x1\n".as_slice()
+    );
+    let tally = Step::Tally {
+        kind: Tallied::Binate,
+        have: Items::from_slice(alloc, &[0, 1])?,
+        lack: Items::new(alloc),
+    };
+    let tally = ban(alloc, tally)?;
+    assert_eq!(rt;
+        written(alloc, &tally)?.as_slice(),
+        b">ban i0-12 o3+0 : tally binate 0 1 /\n".as_slice()
+    );
+    let cover = Step::Cover {
+        kind: PortKind::Output,
+        from: Items::from_slice(alloc, &[7])?,
+        to: Items::from_slice(alloc, &[0])?,
+        refs: Items::from_slice(alloc, &[None, Some(5)])?,
+    };
+    let cover = ban(alloc, cover)?;
+    assert_eq!(rt;
+        written(alloc, &cover)?.as_slice(),
+        b">ban i0-12 o3+0 : cover out 7 / 0 / - 5\n".as_slice()
+    );
+    Ok(())
+}
+
+#[test]
+fn writes_conclusions_and_logs(rt: HostRuntime) -> Result<(), Fail> {
+    let alloc = rt.alloc();
+    let pairs = Items::from_slice(alloc, &PAIRS)?;
+    let found = Record::Conclusion(Conclusion::Match(pairs));
+    assert_eq!(rt;
+        written(alloc, &found)?.as_slice(),
+        b">match i0-12 o3+0\n".as_slice()
+    );
+    let none = Record::Conclusion(Conclusion::NoneBan(40));
+    assert_eq!(rt;
+        written(alloc, &none)?.as_slice(),
+        b">none ban 40\n".as_slice()
+    );
+    let line = Record::Line(LogLine {
         clause: Items::from_slice(alloc, &[SatLit(7), SatLit(10)])?,
         hints: Items::from_slice(alloc, &[4])?,
-    };
-    let last = LogLine {
-        clause: Items::new(alloc),
-        hints: Items::from_slice(alloc, &[0, 7, 1])?,
-    };
-    let mut out = b">".to_vec(alloc)?;
-    put_record(&Record::Header, &mut out)?;
-    put_record(&Record::Conclusion(Conclusion::Match(pairs)), &mut out)?;
-    put_record(&Record::Line(line), &mut out)?;
-    put_record(&Record::Line(last), &mut out)?;
-    put_record(&Record::End, &mut out)?;
+    });
     assert_eq!(rt;
-        out.as_slice(),
-        b">npnp 1\nmatch i0-12 o3+0\nl 7 10 : 4\nl : 0 7 1\nend\n".as_slice()
+        written(alloc, &line)?.as_slice(),
+        b">l 7 10 : 4\n".as_slice()
     );
     Ok(())
 }
@@ -119,8 +200,22 @@ fn read_bytes(alloc: Global, account: &[u8]) -> Result<Given, AllocError> {
     })
 }
 
-const ACCOUNT: &[u8] =
-    b"npnp 1\nmatch i0-0 i1-1 o0-0\nl : 7 8 1 2 6\nl 5 : 4\nl : 7 8 4 5 3\nend\n";
+// A refusal with each kind of record and step.
+const ACCOUNT: &[u8] = b"npnp 1
+fails b 0 up 0 =01
+holds a 0 swap 0 1 10
+l 7 10 : 4
+l : 0 7 1
+fails a 1 swap 0 1 00 =
+ban o0+0 : tally binate 0 1 / 2
+ban i0-1 o0-0 : mismatch 0 1
+ban : vector 0 =0x1
+ban i4294967295+0 : tally support / 18446744073709551615
+ban : cover out 0 / 0 1 / 0 - 1 2
+ban : cover in / /
+none ban 4
+end
+";
 
 #[test]
 fn reads_what_was_written_wherever_it_is_cut(rt: HostRuntime) -> Result<(), Fail> {
@@ -128,61 +223,151 @@ fn reads_what_was_written_wherever_it_is_cut(rt: HostRuntime) -> Result<(), Fail
         let given = read_cut(rt.alloc(), ACCOUNT, cut)?;
         assert_eq!(rt; given.text.as_slice(), ACCOUNT, "cut at {cut}");
         assert_eq!(rt; given.fault, None);
-        assert_eq!(rt; given.line, 6);
+        assert_eq!(rt; given.line, 14);
     }
     Ok(())
 }
 
+// A match with the two logs of its output.
+const MATCH: &[u8] = b"npnp 1\nmatch i0-0 i1-1 o0-0\nl : 7 8 1 2 6\nl 5 : 4\nl : 7 8 4 5 3\nend\n";
+
 #[test]
 fn reads_what_was_written_byte_by_byte(rt: HostRuntime) -> Result<(), Fail> {
-    let given = read_bytes(rt.alloc(), ACCOUNT)?;
-    assert_eq!(rt; given.text.as_slice(), ACCOUNT);
+    let given = read_bytes(rt.alloc(), MATCH)?;
+    assert_eq!(rt; given.text.as_slice(), MATCH);
     assert_eq!(rt; given.fault, None);
     assert_eq!(rt; given.line, 6);
     Ok(())
 }
 
-const FAULTS: [(&[u8], RecordFault, u64); 24] = [
-    (b"", RecordFault::Truncated, 1),
-    (b"npnp 1", RecordFault::Truncated, 1),
-    (b"npnp 9\n", RecordFault::Header, 1),
-    (b"\nnpnp 1\n", RecordFault::Header, 1),
-    (b"npnp 1\nfoils b 0\n", RecordFault::Word, 2),
-    (b"npnp 1\n\n", RecordFault::Word, 2),
-    (b"npnp 1\nnpnp 1\n", RecordFault::Order, 2),
-    (b"npnp 1\nnpnp 7\n", RecordFault::Word, 2),
-    (b"npnp 1\nend\n", RecordFault::Order, 2),
-    (b"npnp 1\nl : 0\n", RecordFault::Order, 2),
-    (b"npnp 1\nmatch\ti0+0\n", RecordFault::Word, 2),
-    (b"npnp 1\nmatch i0+0 \n", RecordFault::Word, 2),
-    (b"npnp 1\nmatch i00+0\n", RecordFault::Word, 2),
-    (b"npnp 1\nmatch i4294967296+0\n", RecordFault::Word, 2),
-    (b"npnp 1\nmatch 7\n", RecordFault::Word, 2),
-    (
-        b"npnp 1\nmatch i0-0 i1-1 o0-0\nend\n",
-        RecordFault::Order,
-        3,
-    ),
-    (b"npnp 1\nmatch\nl : 0\n", RecordFault::Order, 3),
-    (b"npnp 1\nmatch o0+0\nl 07 : 1\n", RecordFault::Number, 3),
-    (
-        b"npnp 1\nmatch o0+0\nl 7 : 18446744073709551616\n",
-        RecordFault::Number,
-        3,
-    ),
-    (b"npnp 1\nmatch o0+0\nl 7 1\n", RecordFault::Word, 3),
-    (b"npnp 1\nmatch o0+0\nl 7  : 1\n", RecordFault::Word, 3),
-    (b"npnp 1\nmatch\nend", RecordFault::Truncated, 3),
-    (b"npnp 1\nmatch\nend\nx", RecordFault::Trailing, 4),
-    (b"npnp 1\nmatch\nend\n\n", RecordFault::Trailing, 4),
+#[test]
+fn reads_other_port_counts(rt: HostRuntime) -> Result<(), Fail> {
+    let account = b"npnp 1\nnone ports\nend\n".as_slice();
+    let given = read_cut(rt.alloc(), account, 9)?;
+    assert_eq!(rt; given.text.as_slice(), account);
+    assert_eq!(rt; given.fault, None);
+    Ok(())
+}
+
+/// Reads the header and these lines, and gives the fault and its line.
+fn fault_in(alloc: Global, lines: &[u8]) -> Result<(Option<RecordFault>, u64), AllocError> {
+    let mut account = b"npnp 1\n".to_vec(alloc)?;
+    account.extend_from_slice(lines)?;
+    let given = read_cut(alloc, &account, account.len() / 2)?;
+    Ok((given.fault, given.line))
+}
+
+const NO_HEADERS: [(&[u8], RecordFault); 5] = [
+    (b"", RecordFault::Truncated),
+    (b"npnp 1", RecordFault::Truncated),
+    (b"npnp 9\n", RecordFault::Header),
+    (b"\nnpnp 1\n", RecordFault::Header),
+    (b"end\n", RecordFault::Header),
 ];
 
 #[test]
-fn names_the_first_fault(rt: HostRuntime) -> Result<(), Fail> {
-    for (account, fault, line) in FAULTS {
+fn wants_a_header(rt: HostRuntime) -> Result<(), Fail> {
+    for (account, fault) in NO_HEADERS {
         let given = read_cut(rt.alloc(), account, account.len() / 2)?;
         assert_eq!(rt; given.fault, Some(fault), "at {account:?}");
-        assert_eq!(rt; given.line, line, "at {account:?}");
+        assert_eq!(rt; given.line, 1);
+    }
+    Ok(())
+}
+
+// Second lines in which a word doesn't fit.
+const BAD_WORDS: [&[u8]; 22] = [
+    b"foils b 0 up 0 =01\n",
+    b"\n",
+    b"npnp 7\n",
+    b"none\tports\n",
+    b"match\ti0+0\n",
+    b"match i0+0 \n",
+    b"match i00+0\n",
+    b"match i4294967296+0\n",
+    b"match 7\n",
+    b"l 7 1\n",
+    b"l 7  : 1\n",
+    b"fails c 0 up 0 =01\n",
+    b"fails 7 0 up 0 =01\n",
+    b"fails a 0 up 0 01\n",
+    b"fails a 0 up 0 =x\n",
+    b"fails a 0 swap 0 1 2 =01\n",
+    b"holds a 0 swap 0 1\n",
+    b"holds a 0 up 0 =01\n",
+    b"ban i0+0 7 : mismatch 0 1\n",
+    b"ban : cover in 0 / 0\n",
+    b"ban : cover in 0 / 0 / 1 -0\n",
+    b"none ban\n",
+];
+
+#[test]
+fn names_a_bad_word(rt: HostRuntime) -> Result<(), Fail> {
+    for lines in BAD_WORDS {
+        let given = fault_in(rt.alloc(), lines)?;
+        assert_eq!(rt; given, (Some(RecordFault::Word), 2), "at {lines:?}");
+    }
+    Ok(())
+}
+
+// Second lines in which a number is too large or has a leading zero.
+const BAD_NUMBERS: [&[u8]; 9] = [
+    b"l 07 : 1\n",
+    b"l 7 : 18446744073709551616\n",
+    b"fails a 4294967296 up 0 =01\n",
+    b"fails a 007\n",
+    b"holds b 0 swap 0 4294967296 01\n",
+    b"ban : mismatch 0 01\n",
+    b"ban : tally support 0 / 18446744073709551616\n",
+    b"ban : cover out 0 / 0 / - 00\n",
+    b"none ban 02\n",
+];
+
+#[test]
+fn names_a_bad_number(rt: HostRuntime) -> Result<(), Fail> {
+    for lines in BAD_NUMBERS {
+        let given = fault_in(rt.alloc(), lines)?;
+        assert_eq!(rt; given, (Some(RecordFault::Number), 2), "at {lines:?}");
+    }
+    Ok(())
+}
+
+// Lines behind the header of which the last is out of order, with its number.
+const OUT_OF_ORDER: [(&[u8], u64); 9] = [
+    (b"npnp 1\n", 2),
+    (b"end\n", 2),
+    (b"l : 0\n", 2),
+    (b"match i0-0 i1-1 o0-0\nend\n", 3),
+    (b"match\nl : 0\n", 3),
+    (b"holds a 0 up 0\nnone ports\n", 3),
+    (b"holds a 0 up 0\nl 7 : 1\nban : mismatch 0 1\n", 4),
+    (b"fails a 0 up 0 =0\nl : 0\n", 3),
+    (b"none ports\nban : mismatch 0 1\n", 3),
+];
+
+#[test]
+fn names_a_line_out_of_order(rt: HostRuntime) -> Result<(), Fail> {
+    for (lines, line) in OUT_OF_ORDER {
+        let given = fault_in(rt.alloc(), lines)?;
+        assert_eq!(rt; given, (Some(RecordFault::Order), line), "at {lines:?}");
+    }
+    Ok(())
+}
+
+// Lines behind the header that end too early or too late.
+const BAD_ENDS: [(&[u8], RecordFault, u64); 5] = [
+    (b"match\nend", RecordFault::Truncated, 3),
+    (b"holds a 0 up 0\nl : 0\n", RecordFault::Truncated, 4),
+    (b"none ports\n", RecordFault::Truncated, 3),
+    (b"match\nend\nx", RecordFault::Trailing, 4),
+    (b"none ban 0\nend\n\n", RecordFault::Trailing, 4),
+];
+
+#[test]
+fn names_a_bad_end(rt: HostRuntime) -> Result<(), Fail> {
+    for (lines, fault, line) in BAD_ENDS {
+        let given = fault_in(rt.alloc(), lines)?;
+        assert_eq!(rt; given, (Some(fault), line), "at {lines:?}");
     }
     Ok(())
 }

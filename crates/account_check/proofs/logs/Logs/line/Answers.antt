@@ -3,7 +3,7 @@ use Rattle.std.proofs.Common.{◌≡◌, ◌+◌, Ok, Some, None, sym, ap, subst
 use Rattle.net_core.specs.declared.graphs.Graphs.{Graphs}
 use Rattle.query_core.specs.Formulas.{IsRefuted}
 use Rattle.account_check.specs.declared.reject.RecordStop.TheVariants as stop
-use Rattle.account_check.specs.Accounts.{Proof, line_reject, refutation_of}
+use Rattle.account_check.specs.Logs.{Proof, match_reject, refutation_of}
 use Rattle.account_check.specs.Proofs.{MatchLogs, IsLog, lines_in}
 use Rattle.account_check.proofs.LogLemmas.{failed, handed_on, refuted_more, same_reject}
 use Rattle.account_check.proofs.logs.Logs.line.Goals as goal
@@ -17,7 +17,7 @@ returns-in_err-line-clause-refused c reject is =
     let proof : Proof = record { matching = inside.matching; closed = inside.closed; taken = lines_in inside.log } in
     let error = handed_on c.from_residual.result c.in_err-line.field-0.0 reject is c.from_residual.ensures.1 in
     let refused = c.in_err-line.ensures.refused reject (failed c.in_err-line.field-0.0 (stop.Reject reject) error) in
-    subst (λ (v : MatchLogs). Some reject ≡ line_reject v.graphs v.proof line) c.self.view_is (refused ∙ same_reject inside.graphs.now proof c.in-Some.log line open_log (sym (ap lines_in c.in-Some.is)))
+    subst (λ (v : MatchLogs). Some reject ≡ match_reject v.graphs v.proof line) c.self.view_is (refused ∙ same_reject inside.graphs.now proof c.in-Some.log line open_log (sym (ap lines_in c.in-Some.is)))
 
 pub returns-then-not-branch-clause-taken : goal.returns-then-not-branch-clause-taken
 returns-then-not-branch-clause-taken c =
@@ -26,7 +26,7 @@ returns-then-not-branch-clause-taken c =
     let line = c.args.line.now in
     let open_log = subst (IsLog inside.graphs.now inside.matching inside.closed) c.in-Some.is kept.log_is in
     let proof : Proof = record { matching = inside.matching; closed = inside.closed; taken = lines_in inside.log } in
-    subst (λ (v : MatchLogs). None ≡ line_reject v.graphs v.proof line) c.self.view_is (ap refutation_of (sym c.in_ok-line.ensures.derived) ∙ same_reject inside.graphs.now proof c.in-Some.log line open_log (sym (ap lines_in c.in-Some.is)))
+    subst (λ (v : MatchLogs). None ≡ match_reject v.graphs v.proof line) c.self.view_is (ap refutation_of (sym c.in_ok-line.ensures.derived) ∙ same_reject inside.graphs.now proof c.in-Some.log line open_log (sym (ap lines_in c.in-Some.is)))
 
 pub invariant_of-self-2 : goal.invariant_of-self-2
 invariant_of-self-2 c =
@@ -52,4 +52,4 @@ returns-clause-taken c =
     let line = c.args.line.now in
     let open_log = subst (IsLog inside.graphs.now inside.matching inside.closed) c.in-Some.is kept.log_is in
     let proof : Proof = record { matching = inside.matching; closed = inside.closed; taken = lines_in inside.log } in
-    subst (λ (v : MatchLogs). None ≡ line_reject v.graphs v.proof line) c.self.view_is (ap refutation_of (sym c.in_ok-line.ensures.derived) ∙ same_reject inside.graphs.now proof c.in-Some.log line open_log (sym (ap lines_in c.in-Some.is)))
+    subst (λ (v : MatchLogs). None ≡ match_reject v.graphs v.proof line) c.self.view_is (ap refutation_of (sym c.in_ok-line.ensures.derived) ∙ same_reject inside.graphs.now proof c.in-Some.log line open_log (sym (ap lines_in c.in-Some.is)))

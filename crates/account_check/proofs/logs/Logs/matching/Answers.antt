@@ -1,7 +1,7 @@
 -- Where all logs are closed, their match is one.
 use Rattle.std.proofs.Common.{◌≡◌, ap, sym, subst, ◌∙◌}
 use Rattle.circuits.specs.Matches.{IsMatchOfFunctions}
-use Rattle.account_check.specs.Accounts.{log_count}
+use Rattle.account_check.specs.Logs.{log_count}
 use Rattle.account_check.specs.Proofs.{MatchLogs, AreRefuted}
 use Rattle.account_check.proofs.LogLemmas.{proved}
 use Rattle.account_check.proofs.logs.Logs.matching.Goals as goal

@@ -1,0 +1,22 @@
+-- Tests in their order: they tell one fault, and where they tell none, all are passed.
+use Rattle.std.proofs.Common.{◌≡◌, ◌⊎◌, Option, None, Some, inl, inr, refl, sym, ◌∙◌}
+use Rattle.account_check.specs.declared.reject.Reject.{Reject}
+use Rattle.account_check.specs.Tests.{Passed, Unless}
+
+
+pub one_passed : (a b : Option Reject) → Passed a → Passed b → a ≡ b
+one_passed a b first second = first ∙ sym second
+
+pub one_unless : (Test : Type 0) (reject : Reject) (Behind : Option Reject → Type 0) → ((a b : Option Reject) → Behind a → Behind b → a ≡ b) → (a b : Option Reject) → Unless Test reject Behind a → Unless Test reject Behind b → a ≡ b
+one_unless Test reject Behind one a b (inl first) (inl second) = first.1 ∙ sym second.1
+one_unless Test reject Behind one a b (inl first) (inr second) = absurd (first.0 second.0)
+one_unless Test reject Behind one a b (inr first) (inl second) = absurd (second.0 first.0)
+one_unless Test reject Behind one a b (inr first) (inr second) = one a b first.1 second.1
+
+some_none : {r : Reject} → None ≡ Some r → ⊥
+some_none {r} e = cc
+
+-- where no fault is told, the test is passed, and so are those behind it
+pub through : {A B : Type 0} {r : Reject} → (((A → ⊥) × (◌≡◌ {A = Option Reject} None (Some r))) ⊎ (A × B)) → A × B
+through {A} {B} {r} (inl failed) = absurd (some_none failed.1)
+through {A} {B} {r} (inr passed) = passed

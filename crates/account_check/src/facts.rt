@@ -1,0 +1,77 @@
+//! The tests of a fact's line.
+
+ghost use Rattle.std.specs.Prelude.{◌↔◌, IsTrue, IfOk};
+ghost use Rattle.account_core.specs.declared.fact.FactHead.TheVariants as head;
+ghost use Rattle.account_check.specs.Conclusions.{PortsTest};
+ghost use Rattle.account_check.specs.Facts.{AreInputs, ArePortsThere, FactTests, IsLesserFirst};
+
+use crate::breaking::breaks;
+use crate::ports::have_as_many;
+use crate::reject::Reject;
+use bit_list::Bits;
+use net_core::Graphs;
+use query_core::{Claim, Shape};
+use std::alloc::{AllocError, Global};
+
+/// What is wrong with the line of a claim that fails: what would be wrong with it where it holds; or that its vector doesn't break it.
+pub(crate) fn test_fails(
+    alloc: Global,
+    graphs: &Graphs,
+    claim: &Claim,
+    bits: &Bits,
+) -> Result<Option<Reject>, AllocError>
+    ensures { IfOk result (PortsTest graphs.now (FactTests graphs.now (head.Fails claim.now bits.now))) }
+{
+    if let Some(reject) = test_holds(graphs, claim) {
+        return Ok(Some(reject));
+    }
+    if !breaks(alloc, graphs, claim, bits)? {
+        return Ok(Some(Reject::VectorFails));
+    }
+    Ok(None)
+}
+
+/// What is wrong with the line of a claim that holds: the circuits have other numbers of ports; the claim names an output or an input
+/// that doesn't exist, or a swap's greater input first.
+pub(crate) fn test_holds(graphs: &Graphs, claim: &Claim) -> Option<Reject>
+    ensures { PortsTest graphs.now (FactTests graphs.now (head.Holds claim.now)) result }
+{
+    if !have_as_many(graphs) {
+        return Some(Reject::Conclusion);
+    }
+    if !are_ports_there(graphs, claim) {
+        return Some(Reject::UnknownId);
+    }
+    if !is_lesser_first(claim.shape) {
+        return Some(Reject::Rule);
+    }
+    None
+}
+
+// Whether a claim's output and inputs exist.
+fn are_ports_there(graphs: &Graphs, claim: &Claim) -> bool
+    ensures { IsTrue result ↔ ArePortsThere graphs.now claim.now }
+{
+    let graph = graphs.side(claim.side);
+    ((claim.output as usize) < graph.outputs().len()) & are_inputs(graph.inputs(), claim.shape)
+}
+
+// Whether a shape's inputs are some of so many.
+fn are_inputs(inputs: u32, shape: Shape) -> bool
+    ensures { IsTrue result ↔ AreInputs inputs shape }
+{
+    match shape {
+        Shape::Up(i) | Shape::Down(i) => i < inputs,
+        Shape::Swap { i, j, .. } => (i < inputs) & (j < inputs),
+    }
+}
+
+// Whether a swap has its lesser input first.
+fn is_lesser_first(shape: Shape) -> bool
+    ensures { IsTrue result ↔ IsLesserFirst shape }
+{
+    match shape {
+        Shape::Up(_) | Shape::Down(_) => true,
+        Shape::Swap { i, j, .. } => i < j,
+    }
+}
