@@ -9,7 +9,7 @@ use Rattle.npnp.specs.Check.{Netlist, IsAsked}
 use Rattle.npnp.specs.declared.outcome.Which.{Which}
 use Rattle.npnp.specs.declared.outcome.Which.TheVariants.{First, Second, Account}
 use Rattle.npnp.specs.declared.outcome.Outcome.{Outcome}
-use Rattle.npnp.specs.declared.outcome.Outcome.TheVariants.{AcceptedMatch, Rejected, Usage, Absent, TooLarge, Malformed, ReadFault, WriteFault, Memory}
+use Rattle.npnp.specs.declared.outcome.Outcome.TheVariants.{AcceptedMatch, AcceptedRefusal, Rejected, Usage, Absent, TooLarge, Malformed, ReadFault, WriteFault, Memory}
 
 -- the word for a file
 abbrev pub file_word : Which → List ℕ
@@ -20,6 +20,7 @@ file_word Account = codes "account"
 -- the line that names an outcome; a failed write has none
 abbrev pub line_of : Outcome → List ℕ
 line_of (AcceptedMatch table) = codes "accepted match" ++ 10 ∷ []
+line_of AcceptedRefusal = codes "accepted refusal" ++ 10 ∷ []
 line_of (Rejected line why) = rejected_text line (word_of why)
 line_of Usage = codes "usage" ++ 10 ∷ []
 line_of (Absent file) = codes "absent " ++ file_word file ++ 10 ∷ []

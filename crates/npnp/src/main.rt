@@ -1,5 +1,5 @@
 //! `npnp`: checks that a port table is a match of two combinational netlists, up to the order and the
-//! negation of their inputs and outputs.
+//! negation of their inputs and outputs, or that there is none.
 #![tactic(auto)]
 
 mod files;

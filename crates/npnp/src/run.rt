@@ -9,9 +9,9 @@ ghost use Rattle.account_check.specs.declared.verdict.Why.{Why as Reason};
 ghost use Rattle.npnp.specs.declared.outcome.Outcome.{Outcome as AnyOutcome};
 ghost use Rattle.npnp.specs.declared.outcome.Which.{Which as AnyFile};
 ghost use Rattle.npnp.specs.Words.{AskNothing};
-ghost use Rattle.npnp.specs.Check.{IsRight, IsSound, IsAccepted, IsRejected, IsMatchOfFiles, IsAbsent, EndsEarly, IsDecided, IsTold};
+ghost use Rattle.npnp.specs.Check.{IsRight, IsSound, IsAccepted, IsRejected, IsMatchOfFiles, LacksMatch, IsAbsent, EndsEarly, IsDecided, IsTold};
 ghost use Rattle.npnp.specs.Report.{IsReport, line_of};
-ghost use Rattle.npnp.specs.Steps.{IsVerdict, IsMatchIfAccepted, IsJudged, Judges, Decides, TellsLine, PutsText, WritesPart, graphs_of};
+ghost use Rattle.npnp.specs.Steps.{IsVerdict, IsMatchIfAccepted, IsUnequalIfRefused, IsJudged, Judges, Decides, TellsLine, PutsText, WritesPart, graphs_of};
 
 use crate::files::{File, Stop, read_file};
 use crate::netlists::read_netlist;
@@ -36,7 +36,8 @@ pub struct Ending {
 
 /// Runs the program on the words of its command line: reads the files that they name, decides, and puts one
 /// report. The words that it knows are `check FIRST SECOND ACCOUNT`: FIRST and SECOND are netlists, each in BLIF or in
-/// the AIGER format, and ACCOUNT is a text that claims a port table and proves, by refutations, that it is a match of the two.
+/// the AIGER format, and ACCOUNT is a text that claims a port table and proves, by refutations, that it is a match of the
+/// two, or that proves by exclusions that no port table is one.
 ///
 /// The files are opened in this order, each read and closed before the next. A netlist of more than 67,108,864
 /// bytes is closed unread.
@@ -51,7 +52,10 @@ pub fn run<S: Shelf, K: Sink>(
     // Where no fault and no want of memory came between, the words and the files decide the outcome.
     ensures accepted { IsTrue S.tells → IsDecided result → (table : Table)
         → ((result ≡ Outcome.AcceptedMatch table)
-        ↔ IsAccepted (S.state shelf.old).held (map string_bytes words.now) table) }
+        ↔ IsAccepted (S.state shelf.old).held (map string_bytes words.now) (Verdict.Match table)) }
+    ensures accepted_refusal { IsTrue S.tells → IsDecided result
+        → ((result ≡ Outcome.AcceptedRefusal)
+        ↔ IsAccepted (S.state shelf.old).held (map string_bytes words.now) Verdict.None) }
     ensures rejected { IsTrue S.tells → IsDecided result → (line : ℕ) (why : Reason)
         → ((result ≡ Outcome.Rejected line why)
         ↔ IsRejected (S.state shelf.old).held (map string_bytes words.now) line why) }
@@ -70,6 +74,10 @@ pub fn run<S: Shelf, K: Sink>(
     // A table is accepted only where it is a match of the two files' netlists, whoever wrote the account.
     ensures sound { IsTrue S.tells → (table : Table) → result ≡ Outcome.AcceptedMatch table
         → IsMatchOfFiles (S.state shelf.old).held (map string_bytes words.now) table }
+
+    // A refusal is accepted only where no signed bijections make the two files' netlists equal, whoever wrote it.
+    ensures sound_refusal { IsTrue S.tells → result ≡ Outcome.AcceptedRefusal
+        → LacksMatch (S.state shelf.old).held (map string_bytes words.now) }
 
     // Words of no known form are answered so, and make no call of the shelf.
     ensures usage { IsTold result
@@ -191,11 +199,13 @@ fn copy_graphs(alloc: Global, first: &Named, second: &Named) -> Result<Graphs, A
 fn settle(alloc: Global, graphs: &Graphs, account: &[u8]) -> Result<Outcome, Stop>
     ensures verdict { IfOk result (IsVerdict graphs.now (Some account.now)) }
     ensures matches { IfOk result (IsMatchIfAccepted graphs.now.first graphs.now.second) }
+    ensures refuses { IfOk result (IsUnequalIfRefused graphs.now.first graphs.now.second) }
     ensures judged { IfOk result IsJudged }
     ensures no_fault { result ≢ Err Stop.ReadFault }
 {
     match check(alloc, graphs, account) {
         Ok(Verdict::Match(table)) => Ok(Outcome::AcceptedMatch(table)),
+        Ok(Verdict::None) => Ok(Outcome::AcceptedRefusal),
         Err(CheckStop::Rejected { line, why }) => Ok(Outcome::Rejected { line, why }),
         Err(CheckStop::Memory) => Err(Stop::Memory),
     }
