@@ -22,7 +22,8 @@ pub enum Compared {
 }
 
 /// Decides claims about two circuits, and compares their outputs. What is decided is kept as a fact, with evidence that
-/// others can check. What has to be refuted is asked in a ledger, and each line that is learned costs a unit of its budget.
+/// others can check. What has to be refuted is asked in a ledger, and each line that is learned costs a unit of its
+/// budget.
 ///
 /// The facts stay, each under its number, and no two are of one claim. A query that was answered is not asked again.
 pub trait Oracle {
@@ -33,7 +34,8 @@ pub trait Oracle {
     ///
     /// # Errors
     ///
-    /// `Spent` where a line had to be learned and the budget was spent; the ledger keeps it as the refused line. `Memory`
+    /// `Spent` where a line had to be learned and the budget was spent; the ledger keeps it as the refused line.
+    /// `Memory`
     /// where memory is wanting; nothing is said of the ledger then.
     fn claim(&mut self, alloc: Global, claim: Claim, ledger: &mut Ledger) -> Result<u64, Stop>
         requires placed { IsClaim (known self.old).graphs claim }

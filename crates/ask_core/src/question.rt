@@ -21,9 +21,10 @@ pub enum Answer {
     Refuted(Log),
 }
 
-/// Answers a query that fits two circuits by the clauses of its two cones. The ledger gets an entry for it, in place of a last one for which nothing was
-/// learned, with one line for each conflict. Spent comes at a conflict that is met with the budget spent; its line is kept
-/// as the refused one. Where memory is wanting, nothing is said of the last entry.
+/// Answers a query that fits two circuits by the clauses of its two cones. The ledger gets an entry for it, in place
+/// of a last one for which nothing was learned, with one line for each conflict. Spent comes at a conflict that is met
+/// with the budget spent; its line is kept as the refused one. Where memory is wanting, nothing is said of the last
+/// entry.
 pub fn ask(
     alloc: Global,
     graphs: &Graphs,

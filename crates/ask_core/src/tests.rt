@@ -216,6 +216,17 @@ fn asks_of_small_circuits(rt: HostRuntime) -> Result<(), Fail> {
             budget: 1,
             outcome: Outcome::Refuted(1),
         },
+        // gate 0 is outside of both cones
+        Row {
+            inputs: 2,
+            first: &[(3, 5), (2, 4)],
+            first_output: 8,
+            second: AND,
+            second_output: 6,
+            falls: true,
+            budget: 9,
+            outcome: Outcome::Refuted(1),
+        },
         // the exclusive or falls where input 1 is 1
         Row {
             inputs: 2,

@@ -1,12 +1,21 @@
--- Two claims are the same where the derived comparison says so.
-use Rattle.std.proofs.Common.{◌≡◌, ◌&&◌, ℕ, eqb, Bool, true, false, refl, sym, ap, ◌∙◌}
+-- Claims, and queries, are the same where the derived comparison says so.
+use Rattle.std.proofs.Common.{◌≡◌, ◌&&◌, eqb, List, Bool, true, false, refl, ap}
 use Rattle.std.specs.Bool.{Decides, beq}
 use Rattle.std.proofs.lemmas.Bool.Decides.{Decides-eqb, Decides-and, Decides-like}
+use Rattle.std.specs.Cmp.Lexicographic.{pointwise}
+use Rattle.std.proofs.lemmas.Slice.Eq.{slice_eq-Decides}
 use Rattle.net_core.specs.declared.graphs.Side.{Side}
 use Rattle.net_core.specs.declared.graphs.Side.TheVariants.{First, Second}
 use Rattle.query_core.specs.declared.claims.Claim.{Claim}
 use Rattle.query_core.specs.declared.claims.Shape.{Shape}
 use Rattle.query_core.specs.declared.claims.Shape.TheVariants.{Up, Down, Swap}
+use Rattle.query_core.specs.declared.query.Feed.{Feed}
+use Rattle.query_core.specs.declared.query.Feed.TheVariants.{Fixed, Wire}
+use Rattle.query_core.specs.declared.query.Cone.{Cone}
+use Rattle.query_core.specs.declared.query.Query.{Query}
+use Rattle.query_core.specs.contracts.query.FeedPartialEq.TheImpl.{eq-value as feed_eq}
+use Rattle.query_core.specs.contracts.query.ConePartialEq.TheImpl.{eq-value as cone_eq}
+use Rattle.query_core.specs.contracts.query.QueryPartialEq.TheImpl.{eq-value as query_eq}
 use Rattle.net_core.specs.contracts.graphs.SidePartialEq.TheImpl.{eq-value as side_eq}
 use Rattle.query_core.specs.contracts.claims.ShapePartialEq.TheImpl.{eq-value as shape_eq}
 use Rattle.query_core.specs.contracts.claims.ClaimPartialEq.TheImpl.{eq-value as claim_eq}
@@ -38,3 +47,21 @@ shape_decides (Swap i j a b) (Swap k l c d) =
 pub claim_decides : (x y : Claim) → Decides (claim_eq.it x y) (x ≡ y)
 claim_decides x y =
     Decides-like (claim_eq.it x y) (λ e i. record { side = e.0 i; output = e.1.0 i; shape = e.1.1 i }) (λ e. (ap (λ (c : Claim). c.side) e, (ap (λ (c : Claim). c.output) e, ap (λ (c : Claim). c.shape) e))) (Decides-and (side_eq.it x.side y.side) (eqb x.output y.output && shape_eq.it x.shape y.shape) (side_decides x.side y.side) (Decides-and (eqb x.output y.output) (shape_eq.it x.shape y.shape) (Decides-eqb x.output y.output) (shape_decides x.shape y.shape)))
+
+feed_decides : (x y : Feed) → Decides (feed_eq.it x y) (x ≡ y)
+feed_decides (Fixed b) (Fixed c) = Decides-like (beq b c) (λ e. ap Fixed e) (λ e. cc) (bool_decides b c)
+feed_decides (Fixed b) (Wire place flip) = (λ e. cc, λ e. cc)
+feed_decides (Wire place flip) (Fixed b) = (λ e. cc, λ e. cc)
+feed_decides (Wire place flip) (Wire other sign) =
+    Decides-like (eqb place other && beq flip sign) (λ e. let p = e.0 in let q = e.1 in cc) (λ e. (cc, cc)) (Decides-and (eqb place other) (beq flip sign) (Decides-eqb place other) (bool_decides flip sign))
+
+feeds_decide : (xs ys : List Feed) → Decides (pointwise feed_eq.it xs ys) (xs ≡ ys)
+feeds_decide xs ys = slice_eq-Decides feed_decides xs ys (pointwise feed_eq.it xs ys) refl
+
+cone_decides : (x y : Cone) → Decides (cone_eq.it x y) (x ≡ y)
+cone_decides x y =
+    Decides-like (cone_eq.it x y) (λ e i. record { side = e.0 i; output = e.1.0 i; feed = e.1.1 i }) (λ e. (ap (λ (c : Cone). c.side) e, (ap (λ (c : Cone). c.output) e, ap (λ (c : Cone). c.feed) e))) (Decides-and (side_eq.it x.side y.side) (eqb x.output y.output && pointwise feed_eq.it x.feed y.feed) (side_decides x.side y.side) (Decides-and (eqb x.output y.output) (pointwise feed_eq.it x.feed y.feed) (Decides-eqb x.output y.output) (feeds_decide x.feed y.feed)))
+
+pub query_decides : (x y : Query) → Decides (query_eq.it x y) (x ≡ y)
+query_decides x y =
+    Decides-like (query_eq.it x y) (λ e i. record { left = e.0 i; left_value = e.1.0 i; right = e.1.1.0 i; right_value = e.1.1.1 i }) (λ e. (ap (λ (q : Query). q.left) e, (ap (λ (q : Query). q.left_value) e, (ap (λ (q : Query). q.right) e, ap (λ (q : Query). q.right_value) e)))) (Decides-and (cone_eq.it x.left y.left) (beq x.left_value y.left_value && (cone_eq.it x.right y.right && beq x.right_value y.right_value)) (cone_decides x.left y.left) (Decides-and (beq x.left_value y.left_value) (cone_eq.it x.right y.right && beq x.right_value y.right_value) (bool_decides x.left_value y.left_value) (Decides-and (cone_eq.it x.right y.right) (beq x.right_value y.right_value) (cone_decides x.right y.right) (bool_decides x.right_value y.right_value))))

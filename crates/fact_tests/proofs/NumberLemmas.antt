@@ -1,5 +1,5 @@
 -- What stands in a list under a key, and the numbers of keys.
-use Rattle.std.proofs.Common.{◌≡◌, ◌≢◌, ℕ, ◌<◌, Bool, true, false, List, [], ◌∷◌, ◌++◌, length, map, cond, All, Option, None, Some, refl, sym, ap, subst, ◌∙◌, slice_index_or, arith, position}
+use Rattle.std.proofs.Common.{◌≡◌, ◌≢◌, ℕ, ◌<◌, Bool, true, false, List, [], ◌∷◌, ◌++◌, length, map, cond, All, Some, refl, sym, ap, ◌∙◌, slice_index_or, arith, position}
 use Rattle.std.specs.Bool.{Decides}
 use Rattle.std.specs.List.{list_any}
 use Rattle.std.proofs.lemmas.Bool.{false≢true}

@@ -1,2 +1,11 @@
 pub mod Supports
+pub mod Asking
+pub mod Hunting
+pub mod Books
+pub mod Functions
+pub mod Rows
+pub mod Outputs
 pub use Rattle.account_core.specs.Oracles
+pub use Rattle.account_core.specs.Work
+pub use Rattle.query_core.specs.Claims
+pub use Rattle.query_core.specs.Facts

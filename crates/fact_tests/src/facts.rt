@@ -9,7 +9,8 @@ use query_core::Claim;
 use std::alloc::{AllocError, Global};
 use std::marker::Model;
 
-/// Facts, in the order of their numbers, and the number of each fact's claim. Contracts see it as the list of the facts.
+/// Facts, in the order of their numbers, and the number of each fact's claim. Contracts see it as the list of the
+/// facts.
 #[derive(Drop)]
 pub(crate) struct FactList {
     facts: Vec<Fact>,

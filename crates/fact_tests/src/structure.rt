@@ -1,6 +1,6 @@
 //! Which inputs an output reaches through gates.
 
-ghost use Rattle.std.specs.Prelude.{◌≡◌, ◌+◌, ◌/◌, ◌%◌, ◌*◌, ◌^◌, ◌<◌, ◌==◌, ◌++◌, ℕ, All, IfOk, OnOk, length, map, slice_index_or};
+ghost use Rattle.std.specs.Prelude.{◌≡◌, ◌+◌, ◌/◌, ◌%◌, ◌*◌, ◌^◌, ◌<◌, ◌==◌, [], ◌++◌, ℕ, All, IfOk, OnOk, length, map, slice_index_or};
 ghost use Rattle.std.specs.List.{range_with_len};
 ghost use Rattle.circuits.specs.Literals.{signal_of};
 ghost use Rattle.net_core.specs.Graph.{AreInOrder};
@@ -16,7 +16,8 @@ use std::marker::Model;
 /// How many inputs have a bit in one word.
 const INPUTS: u32 = 64;
 
-/// The inputs that each output of a circuit reaches through gates. Where it doesn't reach an input, it doesn't depend on it.
+/// The inputs that each output of a circuit reaches through gates. Where it doesn't reach an input, it doesn't
+/// depend on it.
 /// Contracts see it as the circuit.
 #[derive(Drop)]
 pub(crate) struct Supports<'a> {

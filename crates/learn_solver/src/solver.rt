@@ -42,7 +42,8 @@ impl<'a, B: Base> Model for Solver<'a, B> {
 
     ghost view = { λ a. record { formula = B.formula a.base.now; ids = a.ids.items; lines = a.lines.items } };
 
-    ghost invariant = { λ a. IsDeciding (B.formula a.base.now) a.ids.items a.lines.items a.clauses.clauses a.occurring.items };
+    ghost invariant = { λ a. IsDeciding (B.formula a.base.now) a.ids.items a.lines.items a.clauses.clauses
+        a.occurring.items };
 }
 
 impl<'a, B: Base> Solver<'a, B> {

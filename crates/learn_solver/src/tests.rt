@@ -137,7 +137,8 @@ fn outcome_of(
     }
 }
 
-/// Three pigeons sit in two holes, no two in one (Cook's formulas). Pigeon i sits in hole h where variable 3i + h is true.
+/// Three pigeons sit in two holes, no two in one (Cook's formulas). Pigeon i sits in hole h where variable 3i + h is
+/// true.
 const THREE_PIGEONS: [(u64, u64, u64); 9] = [
     (0, 2, 2),
     (6, 8, 8),

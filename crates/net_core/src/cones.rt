@@ -10,8 +10,8 @@ use circuits::Gate;
 use std::alloc::{AllocError, Global};
 
 impl Graph {
-    /// The numbers of the gates that an output reaches, ascending: its own gate, the gates of that one's operands, and so
-    /// on (its transitive fan-in). It takes one pass over the gates.
+    /// The numbers of the gates that an output reaches, ascending: its own gate, the gates of that one's operands, and
+    /// so on (its transitive fan-in). It takes one pass over the gates.
     ///
     /// # Errors
     ///
@@ -51,8 +51,8 @@ fn reached(
     Ok(marks)
 }
 
-/// Marks the operands of marked gates, from the last gate to the first. A gate's operands stand before it, so that one pass
-/// is enough.
+/// Marks the operands of marked gates, from the last gate to the first. A gate's operands stand before it, so that one
+/// pass is enough.
 fn mark_operands(gates: &[Gate], first: usize, marks: &mut [bool])
     requires order { AreInOrder first gates.now }
     requires room { length marks.old ≡ first + length gates.now }

@@ -1,4 +1,4 @@
--- The words and the files determine what `check` answers.
+-- The words and the files determine what is answered.
 use Rattle.std.proofs.Common.{◌≡◌, ◌≢◌, ℕ, ◌-◌, ◌^◌, ◌<◌, ◌≤◌, ◌↔◌, ◌⊎◌, ◌==◌, inl, inr, Bool, false, true, IsTrue, List, [], ◌∷◌, length, Option, None, Some, Result, Ok, Err, IfOk, IfErr, get_or, refl, sym, ◌∙◌, ap, subst, arith}
 use Rattle.std.proofs.lemmas.Bool.{false≢true, cases_lt}
 use Rattle.shelf_core.specs.Fault.{Rose}
@@ -14,12 +14,15 @@ use Rattle.account_check.specs.declared.verdict.Verdict.TheVariants as verdict
 use Rattle.account_check.specs.declared.verdict.Why.{Why}
 use Rattle.account_check.proofs.VerdictLemmas.{one_rejection, one_proved, never_both}
 use Rattle.npnp.specs.Circuits.{IsCircuit, IsCircuitFault}
-use Rattle.npnp.specs.Words.{AsksCheck, AskNothing}
-use Rattle.npnp.specs.Check.{Netlist, HoldsNetlist, HoldsGraph, HoldsFault, HoldsTooMuch, EndsAt, EndsEarly, IsAsked, HasAccount, LacksAccount, IsRight, IsDecided, IsTold}
+use Rattle.query_core.specs.Ledgers.{Ledgered}
+use Rattle.npnp.specs.Words.{AsksCheck, AsksInfo, AskNothing}
+use Rattle.npnp.specs.Check.{Netlist, HoldsNetlist, HoldsGraph, HoldsFault, HoldsTooMuch, EndsAt, EndsEarly, IsAsked, HasAccount, LacksAccount, IsAskedOf, IsSpentOn, IsOfOne, IsRight, IsDecided, IsTold}
 use Rattle.net_core.specs.declared.named.Named.{Named}
 use Rattle.shelf_core.specs.State.{ShelfState, Closed}
 use Rattle.npnp.specs.Report.{IsReport}
-use Rattle.npnp.specs.Steps.{ReadAs, IsVerdict, IsOfReading, IsStopOf, ReadsNetlist, Decides}
+use Rattle.npnp.specs.Steps.{Ask, ReadAs, IsVerdict, IsOfReading, IsStopOf, ReadsNetlist, Decides}
+use Rattle.npnp.specs.declared.words.Command.{Command}
+use Rattle.npnp.specs.declared.words.Command.TheVariants.{Check, Info}
 use Rattle.npnp.specs.Stops.{outcome_of}
 use Rattle.npnp.specs.declared.run.Ending.{Ending}
 use Rattle.npnp.specs.declared.files.Stop.{Stop}
@@ -31,7 +34,7 @@ use Rattle.npnp.proofs.CircuitLemmas.{one_circuit, circuit_or_fault, one_circuit
 use Rattle.npnp.specs.declared.outcome.Which.{Which}
 use Rattle.npnp.specs.declared.outcome.Which.TheVariants.{First, Second, Account}
 use Rattle.npnp.specs.declared.outcome.Outcome.{Outcome}
-use Rattle.npnp.specs.declared.outcome.Outcome.TheVariants.{AcceptedMatch, AcceptedRefusal, Rejected, Usage, Absent, TooLarge, Malformed, ReadFault, WriteFault, Memory}
+use Rattle.npnp.specs.declared.outcome.Outcome.TheVariants.{AcceptedMatch, AcceptedRefusal, Rejected, Spent, Usage, Absent, TooLarge, Malformed, Informed, ReadFault, WriteFault, Memory}
 
 -- a count that rose in the last of several calls
 pub rose_later : (a b c : ℕ) → a ≤ b → b ≤ c → Rose b c → Rose a c
@@ -84,6 +87,8 @@ end_of : (file : Which) (content : Option (List ℕ)) (o : Outcome) → IsDecide
 end_of file content (AcceptedMatch table) decided fact = absurd fact
 end_of file content AcceptedRefusal decided fact = absurd fact
 end_of file content (Rejected line why) decided fact = absurd fact
+end_of file content (Spent ledger) decided fact = absurd fact
+end_of file content Informed decided fact = absurd fact
 end_of file content Usage decided fact = absurd fact
 end_of file content (Absent which) decided fact = inl (ap Absent fact.0, fact.1)
 end_of file content (TooLarge which) decided fact = inr (inl (ap TooLarge fact.0, fact.1))
@@ -177,8 +182,18 @@ SaysSecond held first second account o = IsEnd Second (held second) o ⊎ ((g : 
 abbrev pub SaysFirst : (List ℕ → Option (List ℕ)) → List ℕ → List ℕ → List ℕ → Outcome → Type 0
 SaysFirst held first second account o = IsEnd First (held first) o ⊎ ((f : Netlist) × HoldsNetlist (held first) f × SaysSecond held first second account o)
 
+abbrev pub SaysOnly : (List ℕ → Option (List ℕ)) → List ℕ → Outcome → Type 0
+SaysOnly held file o = IsEnd First (held file) o ⊎ ((f : Netlist) × HoldsNetlist (held file) f × IsOfOne o)
+
 abbrev pub Says : (List ℕ → Option (List ℕ)) → List (List ℕ) → Outcome → Type 0
-Says held words o = ((o ≡ Usage) × AskNothing words) ⊎ ((first : List ℕ) × (second : List ℕ) × (account : List ℕ) × AsksCheck words first second account × SaysFirst held first second account o)
+Says held words o =
+    ((o ≡ Usage) × AskNothing words)
+    ⊎ ((first : List ℕ) × (second : List ℕ) × (account : List ℕ) × AsksCheck words first second account × SaysFirst held first second account o)
+    ⊎ ((file : List ℕ) × (budget : ℕ) × AsksInfo words file budget × SaysOnly held file o)
+
+-- one outcome, or both are of one netlist
+abbrev pub AreAlike : Outcome → Outcome → Type 0
+AreAlike a b = (a ≡ b) ⊎ (IsOfOne a × IsOfOne b)
 
 graphs_same : (a b : Graphs) → a.first ≡ b.first → a.second ≡ b.second → a ≡ b
 graphs_same a b e f = λ i. record { first = e i; second = f i }
@@ -225,22 +240,60 @@ first_one held first second account a b one other =
       ]
     ]
 
+only_one : (held : List ℕ → Option (List ℕ)) (file : List ℕ) (a b : Outcome) → SaysOnly held file a → SaysOnly held file b → AreAlike a b
+only_one held file a b one other =
+    elim one [
+      | inl end ↦ elim other [
+        | inl end' ↦ inl (end_one First (held file) a b end end')
+        | inr (f, there, fact) ↦ absurd (end_or_netlist First (held file) a f end there)
+      ]
+      | inr (f, there, fact) ↦ elim other [
+        | inl end' ↦ absurd (end_or_netlist First (held file) b f end' there)
+        | inr (f', there', fact') ↦ inr (fact, fact')
+      ]
+    ]
+
 names_one : (words : List (List ℕ)) (f g t f' g' t' : List ℕ) → AsksCheck words f g t → AsksCheck words f' g' t' → (f' ≡ f) × (g' ≡ g) × (t' ≡ t)
 names_one words f g t f' g' t' one other = let e = one.form in let e' = other.form in (cc, cc, cc)
 
-says_one : (held : List ℕ → Option (List ℕ)) (words : List (List ℕ)) (a b : Outcome) → Says held words a → Says held words b → a ≡ b
+-- the second word is the file's name
+file_named : (words : List (List ℕ)) (file : List ℕ) (budget : ℕ) → AsksInfo words file budget → get_or words 1 [] ≡ file
+file_named words file budget asks =
+    elim asks.form [
+      | inl (form, is) ↦ ap (λ (words : List (List ℕ)). get_or words 1 []) form
+      | inr (word, form, is) ↦ ap (λ (words : List (List ℕ)). get_or words 1 []) form
+    ]
+
+-- words of both forms have two lengths
+never_both_forms : (words : List (List ℕ)) (f g t file : List ℕ) (budget : ℕ) → AsksCheck words f g t → AsksInfo words file budget → ⊥
+never_both_forms words f g t file budget check info =
+    elim info.form [
+      | inl (form, is) ↦ omega (arith, ap length check.form, ap length form)
+      | inr (word, form, is) ↦ omega (arith, ap length check.form, ap length form)
+    ]
+
+says_one : (held : List ℕ → Option (List ℕ)) (words : List (List ℕ)) (a b : Outcome) → Says held words a → Says held words b → AreAlike a b
 says_one held words a b one other =
     elim one [
       | inl (e, nothing) ↦ elim other [
-        | inl (e', nothing') ↦ e ∙ sym e'
-        | inr (f, g, t, asks, says) ↦ absurd (nothing f g t asks)
+        | inl (e', nothing') ↦ inl (e ∙ sym e')
+        | inr (inl (f, g, t, asks, says)) ↦ absurd (nothing.no_check f g t asks)
+        | inr (inr (file, budget, asks, says)) ↦ absurd (nothing.no_info file budget asks)
       ]
-      | inr (f, g, t, asks, says) ↦ elim other [
-        | inl (e', nothing) ↦ absurd (nothing f g t asks)
-        | inr (f', g', t', asks', says') ↦
+      | inr (inl (f, g, t, asks, says)) ↦ elim other [
+        | inl (e', nothing) ↦ absurd (nothing.no_check f g t asks)
+        | inr (inl (f', g', t', asks', says')) ↦
             let e = names_one words f g t f' g' t' asks asks' in
             let moved : SaysFirst held f g t b = subst (λ n. SaysFirst held n g t b) e.0 (subst (λ n. SaysFirst held f' n t b) e.1 (subst (λ n. SaysFirst held f' g' n b) e.2 says')) in
-            first_one held f g t a b says moved
+            inl (first_one held f g t a b says moved)
+        | inr (inr (file, budget, asks', says')) ↦ absurd (never_both_forms words f g t file budget asks asks')
+      ]
+      | inr (inr (file, budget, asks, says)) ↦ elim other [
+        | inl (e', nothing) ↦ absurd (nothing.no_info file budget asks)
+        | inr (inl (f, g, t, asks', says')) ↦ absurd (never_both_forms words f g t file budget asks' asks)
+        | inr (inr (file', budget', asks', says')) ↦
+            let e = sym (file_named words file' budget' asks') ∙ file_named words file budget asks in
+            only_one held file a b says (subst (λ n. SaysOnly held n b) e says')
       ]
     ]
 
@@ -249,22 +302,38 @@ says_one held words a b one other =
 says_early : (held : List ℕ → Option (List ℕ)) (words : List (List ℕ)) (o : Outcome) → IsDecided o → EndsEarly held words o → Says held words o
 says_early held words o decided early =
     elim early [
-      | inl at ↦ inr (at.first_name, at.second_name, at.account_name, at.asks, inl (end_of First (held at.first_name) o decided at.ends))
-      | inr at ↦ inr (at.first_name, at.second_name, at.account_name, at.asks, inr (at.first, at.first_held, inl (end_of Second (held at.second_name) o decided at.ends)))
+      | inl at ↦ inr (inl (at.first_name, at.second_name, at.account_name, at.asks, inl (end_of First (held at.first_name) o decided at.ends)))
+      | inr (inl at) ↦ inr (inl (at.first_name, at.second_name, at.account_name, at.asks, inr (at.first, at.first_held, inl (end_of Second (held at.second_name) o decided at.ends))))
+      | inr (inr at) ↦ inr (inr (at.file_name, at.budget, at.asks, inl (end_of First (held at.file_name) o decided at.ends)))
     ]
 
 says_answer : (held : List ℕ → Option (List ℕ)) (words : List (List ℕ)) (graphs : Graphs) (bytes : List ℕ) (o : Outcome) → HasAccount held words graphs bytes → IsAnswer graphs bytes o → Says held words o
 says_answer held words graphs bytes o has answer =
-    inr (has.first_name, has.second_name, has.account_name, has.asks, inr (has.first_held.netlist, has.first_held.holds, inr (has.second_held.netlist, has.second_held.holds, inr (graphs, has.first_held, has.second_held, bytes, has.there, answer))))
+    inr (inl (has.first_name, has.second_name, has.account_name, has.asks, inr (has.first_held.netlist, has.first_held.holds, inr (has.second_held.netlist, has.second_held.holds, inr (graphs, has.first_held, has.second_held, bytes, has.there, answer)))))
 
 says_absent : (held : List ℕ → Option (List ℕ)) (words : List (List ℕ)) (which : Which) → which ≡ Account → LacksAccount held words → Says held words (Absent which)
 says_absent held words which e lacks =
-    inr (lacks.asked.first_name, lacks.asked.second_name, lacks.account_name, lacks.asked.asks, inr (lacks.first, lacks.asked.first_held, inr (lacks.second, lacks.asked.second_held, inl (ap Absent e, lacks.absent))))
+    inr (inl (lacks.asked.first_name, lacks.asked.second_name, lacks.account_name, lacks.asked.asks, inr (lacks.first, lacks.asked.first_held, inr (lacks.second, lacks.asked.second_held, inl (ap Absent e, lacks.absent)))))
+
+says_of : (held : List ℕ → Option (List ℕ)) (words : List (List ℕ)) (o : Outcome) → IsAskedOf held words → IsOfOne o → Says held words o
+says_of held words o asked one = inr (inr (asked.file_name, asked.budget, asked.asks, inr (asked.netlist, asked.there, one)))
+
+-- a budget is spent on a file that is a netlist
+pub asked_of_spent : (held : List ℕ → Option (List ℕ)) (words : List (List ℕ)) (ledger : Ledgered) → IsSpentOn held words ledger → IsAskedOf held words
+asked_of_spent held words ledger spent = record {
+  file_name = spent.file_name;
+  budget = spent.budget;
+  asks = spent.asks;
+  netlist = spent.there.netlist;
+  there = spent.there.holds;
+}
 
 says : (held : List ℕ → Option (List ℕ)) (words : List (List ℕ)) (o : Outcome) → IsDecided o → IsRight held words o → Says held words o
 says held words (AcceptedMatch table) decided right = says_answer held words right.graphs right.account (AcceptedMatch table) right.has (inl (verdict.Match table, refl, right.accepted))
 says held words AcceptedRefusal decided right = says_answer held words right.graphs right.account AcceptedRefusal right.has (inl (verdict.None, refl, right.accepted))
 says held words (Rejected line why) decided right = says_answer held words right.graphs right.account (Rejected line why) right.has (inr (line, why, refl, right.rejected))
+says held words (Spent ledger) decided right = says_of held words (Spent ledger) (asked_of_spent held words ledger right) (inr (ledger, refl))
+says held words Informed decided right = says_of held words Informed right (inl refl)
 says held words Usage decided right = inl (refl, right)
 says held words (Absent which) decided right = elim right [ inl early ↦ says_early held words (Absent which) decided early | inr (e, lacks) ↦ says_absent held words which e lacks ]
 says held words (TooLarge which) decided right = says_early held words (TooLarge which) decided right
@@ -279,6 +348,8 @@ pub right_at_first : (held : List ℕ → Option (List ℕ)) (words : List (List
 right_at_first held words f g t asks (AcceptedMatch table) ends = absurd ends
 right_at_first held words f g t asks AcceptedRefusal ends = absurd ends
 right_at_first held words f g t asks (Rejected line why) ends = absurd ends
+right_at_first held words f g t asks (Spent ledger) ends = absurd ends
+right_at_first held words f g t asks Informed ends = absurd ends
 right_at_first held words f g t asks Usage ends = absurd ends
 right_at_first held words f g t asks (Absent which) ends = inl (inl (record { first_name = f; second_name = g; account_name = t; asks = asks; ends = ends }))
 right_at_first held words f g t asks (TooLarge which) ends = inl (record { first_name = f; second_name = g; account_name = t; asks = asks; ends = ends })
@@ -291,18 +362,36 @@ pub right_at_second : (held : List ℕ → Option (List ℕ)) (words : List (Lis
 right_at_second held words f g t first asks there (AcceptedMatch table) ends = absurd ends
 right_at_second held words f g t first asks there AcceptedRefusal ends = absurd ends
 right_at_second held words f g t first asks there (Rejected line why) ends = absurd ends
+right_at_second held words f g t first asks there (Spent ledger) ends = absurd ends
+right_at_second held words f g t first asks there Informed ends = absurd ends
 right_at_second held words f g t first asks there Usage ends = absurd ends
-right_at_second held words f g t first asks there (Absent which) ends = inl (inr (record { first_name = f; second_name = g; account_name = t; asks = asks; first = first; first_held = there; ends = ends }))
-right_at_second held words f g t first asks there (TooLarge which) ends = inr (record { first_name = f; second_name = g; account_name = t; asks = asks; first = first; first_held = there; ends = ends })
-right_at_second held words f g t first asks there (Malformed which kind at) ends = inr (record { first_name = f; second_name = g; account_name = t; asks = asks; first = first; first_held = there; ends = ends })
+right_at_second held words f g t first asks there (Absent which) ends = inl (inr (inl (record { first_name = f; second_name = g; account_name = t; asks = asks; first = first; first_held = there; ends = ends })))
+right_at_second held words f g t first asks there (TooLarge which) ends = inr (inl (record { first_name = f; second_name = g; account_name = t; asks = asks; first = first; first_held = there; ends = ends }))
+right_at_second held words f g t first asks there (Malformed which kind at) ends = inr (inl (record { first_name = f; second_name = g; account_name = t; asks = asks; first = first; first_held = there; ends = ends }))
 right_at_second held words f g t first asks there ReadFault ends = tt
 right_at_second held words f g t first asks there WriteFault ends = absurd ends
 right_at_second held words f g t first asks there Memory ends = tt
+
+pub right_at_only : (held : List ℕ → Option (List ℕ)) (words : List (List ℕ)) (file : List ℕ) (budget : ℕ) → AsksInfo words file budget → (o : Outcome) → EndsAt First (held file) o → IsRight held words o
+right_at_only held words file budget asks (AcceptedMatch table) ends = absurd ends
+right_at_only held words file budget asks AcceptedRefusal ends = absurd ends
+right_at_only held words file budget asks (Rejected line why) ends = absurd ends
+right_at_only held words file budget asks (Spent ledger) ends = absurd ends
+right_at_only held words file budget asks Informed ends = absurd ends
+right_at_only held words file budget asks Usage ends = absurd ends
+right_at_only held words file budget asks (Absent which) ends = inl (inr (inr (record { file_name = file; budget = budget; asks = asks; ends = ends })))
+right_at_only held words file budget asks (TooLarge which) ends = inr (inr (record { file_name = file; budget = budget; asks = asks; ends = ends }))
+right_at_only held words file budget asks (Malformed which kind at) ends = inr (inr (record { file_name = file; budget = budget; asks = asks; ends = ends }))
+right_at_only held words file budget asks ReadFault ends = tt
+right_at_only held words file budget asks WriteFault ends = absurd ends
+right_at_only held words file budget asks Memory ends = tt
 
 pub right_by_verdict : (held : List ℕ → Option (List ℕ)) (words : List (List ℕ)) (f g t : List ℕ) (graphs : Graphs) → AsksCheck words f g t → HoldsGraph (held f) graphs.first → HoldsGraph (held g) graphs.second → (o : Outcome) → IsVerdict graphs (held t) o → IsRight held words o
 right_by_verdict held words f g t graphs asks first second (AcceptedMatch table) fact = record { graphs = graphs; account = fact.0; has = record { first_name = f; second_name = g; account_name = t; asks = asks; first_held = first; second_held = second; there = fact.1 }; accepted = fact.2 }
 right_by_verdict held words f g t graphs asks first second AcceptedRefusal fact = record { graphs = graphs; account = fact.0; has = record { first_name = f; second_name = g; account_name = t; asks = asks; first_held = first; second_held = second; there = fact.1 }; accepted = fact.2 }
 right_by_verdict held words f g t graphs asks first second (Rejected line why) fact = record { graphs = graphs; account = fact.0; has = record { first_name = f; second_name = g; account_name = t; asks = asks; first_held = first; second_held = second; there = fact.1 }; rejected = fact.2 }
+right_by_verdict held words f g t graphs asks first second (Spent ledger) fact = absurd fact
+right_by_verdict held words f g t graphs asks first second Informed fact = absurd fact
 right_by_verdict held words f g t graphs asks first second Usage fact = absurd fact
 right_by_verdict held words f g t graphs asks first second (Absent which) fact = inr (fact.0, record { first = first.netlist; second = second.netlist; account_name = t; asked = record { first_name = f; second_name = g; asks = asks; first_held = first.holds; second_held = second.holds }; absent = fact.1 })
 right_by_verdict held words f g t graphs asks first second (TooLarge which) fact = absurd fact
@@ -311,13 +400,36 @@ right_by_verdict held words f g t graphs asks first second ReadFault fact = absu
 right_by_verdict held words f g t graphs asks first second WriteFault fact = absurd fact
 right_by_verdict held words f g t graphs asks first second Memory fact = absurd fact
 
+-- words that ask for a command are of a known form
+pub known_form : (words : List (List ℕ)) (command : Command) → Ask words command → AskNothing words → ⊥
+known_form words (Check check) asks nothing = nothing.no_check check.first.now check.second.now check.account.now asks
+known_form words (Info info) asks nothing = nothing.no_info info.file.now info.budget asks
+
 -- The outcome of a run that was asked to tell a right one is exactly what the words and the files say.
 module _ (held : List ℕ → Option (List ℕ)) (words : List (List ℕ)) (asked answer : Outcome) (right : IsRight held words asked) (same : IsTold answer → answer ≡ asked) (decided : IsDecided answer) where
   stays_right : IsRight held words answer
   stays_right = subst (IsRight held words) (sym (same decided.told)) right
 
-  pub exactly : (o : Outcome) → IsDecided o → (answer ≡ o) ↔ IsRight held words o
-  exactly o known = (λ is. subst (IsRight held words) is stays_right, λ fact. says_one held words answer o (says held words answer decided stays_right) (says held words o known fact))
+  pub exactly : (o : Outcome) → IsDecided o → (IsOfOne o → ⊥) → (answer ≡ o) ↔ IsRight held words o
+  exactly o known two = (
+    λ is. subst (IsRight held words) is stays_right,
+    λ fact. elim (says_one held words answer o (says held words answer decided stays_right) (says held words o known fact)) [
+      | inl same ↦ same
+      | inr both ↦ absurd (two both.1)
+    ],
+  )
+
+  pub exactly_of_one : IsOfOne answer ↔ IsAskedOf held words
+  exactly_of_one = (
+    λ one. elim one [
+      | inl is ↦ subst (IsRight held words) is stays_right
+      | inr (ledger, is) ↦ asked_of_spent held words ledger (subst (IsRight held words) is stays_right)
+    ],
+    λ asked. elim (says_one held words answer Informed (says held words answer decided stays_right) (says_of held words Informed asked (inl refl))) [
+      | inl same ↦ inl same
+      | inr both ↦ both.0
+    ],
+  )
 
 -- outcomes between which and the words no fault and no want of memory came
 
@@ -329,6 +441,9 @@ decided_refusal = record { read = λ e. cc; told = record { written = λ e. cc; 
 
 pub decided_rejected : (line : ℕ) (why : Why) → IsDecided (Rejected line why)
 decided_rejected line why = record { read = λ e. cc; told = record { written = λ e. cc; room = λ e. cc } }
+
+pub decided_spent : (ledger : Ledgered) → IsDecided (Spent ledger)
+decided_spent ledger = record { read = λ e. cc; told = record { written = λ e. cc; room = λ e. cc } }
 
 pub decided_absent : (which : Which) → IsDecided (Absent which)
 decided_absent which = record { read = λ e. cc; told = record { written = λ e. cc; room = λ e. cc } }
@@ -346,23 +461,23 @@ stop_right held words stop.ReadFault = tt
 stop_right held words stop.Memory = tt
 
 pub stop_reading : (s : Stop) → IsOfReading (outcome_of s)
-stop_reading stop.ReadFault = record { no_table = λ table e. cc; no_refusal = λ e. cc; asked = λ e. cc; unwritten = λ e. cc }
-stop_reading stop.Memory = record { no_table = λ table e. cc; no_refusal = λ e. cc; asked = λ e. cc; unwritten = λ e. cc }
+stop_reading stop.ReadFault = record { line = record { no_table = λ table e. cc; no_rows = λ e. cc }; no_refusal = λ e. cc; asked = λ e. cc; unwritten = λ e. cc }
+stop_reading stop.Memory = record { line = record { no_table = λ table e. cc; no_rows = λ e. cc }; no_refusal = λ e. cc; asked = λ e. cc; unwritten = λ e. cc }
 
 pub stop_is : (s : Stop) → outcome_of s ≡ ReadFault → s ≡ stop.ReadFault
 stop_is stop.ReadFault e = refl
 stop_is stop.Memory e = cc
 
 -- the files were read up to an outcome that ends the run
-pub stopped : (tells : Bool) (first second account : List ℕ) (old new : ShelfState) (result : Result Ending Outcome) (o : Outcome) → result ≡ Err o → ((n : List ℕ) → new.held n ≡ old.held n) → (IsTrue tells → (words : List (List ℕ)) → AsksCheck words first second account → IsRight old.held words o) → IsOfReading o → (o ≡ ReadFault → Rose old.faults new.faults) → Decides tells first second account old new result
-stopped tells first second account old new result o same files ended reading failed =
-    subst (λ r. Decides tells first second account old new r) (sym same) (record {
+pub stopped : (tells : Bool) (command : Command) (old new : ShelfState) (result : Result Ending Outcome) (o : Outcome) → result ≡ Err o → ((n : List ℕ) → new.held n ≡ old.held n) → (IsTrue tells → (words : List (List ℕ)) → Ask words command → IsRight old.held words o) → IsOfReading o → (o ≡ ReadFault → Rose old.faults new.faults) → Decides tells command old new result
+stopped tells command old new result o same files ended reading failed =
+    subst (λ r. Decides tells command old new r) (sym same) (record {
       files = files;
       right = λ t words asks. tt;
       ended = ended;
       sound = λ t words asks. tt;
       report = λ words asks. tt;
-      judged = tt;
+      ending = tt;
       reading = reading;
       failed = λ e. failed (cc e);
     })
@@ -385,6 +500,8 @@ stop_ends : (file : Which) (content : Option (List ℕ)) (bytes : List ℕ) → 
 stop_ends file content bytes there short (AcceptedMatch table) fact = absurd fact
 stop_ends file content bytes there short AcceptedRefusal fact = absurd fact
 stop_ends file content bytes there short (Rejected line why) fact = absurd fact
+stop_ends file content bytes there short (Spent ledger) fact = absurd fact
+stop_ends file content bytes there short Informed fact = absurd fact
 stop_ends file content bytes there short Usage fact = absurd fact
 stop_ends file content bytes there short (Absent which) fact = absurd fact
 stop_ends file content bytes there short (TooLarge which) fact = absurd fact
@@ -397,13 +514,15 @@ stop_is_of_reading : (file : Which) (bytes : List ℕ) (o : Outcome) → IsStopO
 stop_is_of_reading file bytes (AcceptedMatch table) fact = absurd fact
 stop_is_of_reading file bytes AcceptedRefusal fact = absurd fact
 stop_is_of_reading file bytes (Rejected line why) fact = absurd fact
+stop_is_of_reading file bytes (Spent ledger) fact = absurd fact
+stop_is_of_reading file bytes Informed fact = absurd fact
 stop_is_of_reading file bytes Usage fact = absurd fact
 stop_is_of_reading file bytes (Absent which) fact = absurd fact
 stop_is_of_reading file bytes (TooLarge which) fact = absurd fact
-stop_is_of_reading file bytes (Malformed which kind at) fact = record { no_table = λ table e. cc; no_refusal = λ e. cc; asked = λ e. cc; unwritten = λ e. cc }
+stop_is_of_reading file bytes (Malformed which kind at) fact = record { line = record { no_table = λ table e. cc; no_rows = λ e. cc }; no_refusal = λ e. cc; asked = λ e. cc; unwritten = λ e. cc }
 stop_is_of_reading file bytes ReadFault fact = absurd fact
 stop_is_of_reading file bytes WriteFault fact = absurd fact
-stop_is_of_reading file bytes Memory fact = record { no_table = λ table e. cc; no_refusal = λ e. cc; asked = λ e. cc; unwritten = λ e. cc }
+stop_is_of_reading file bytes Memory fact = record { line = record { no_table = λ table e. cc; no_rows = λ e. cc }; no_refusal = λ e. cc; asked = λ e. cc; unwritten = λ e. cc }
 
 -- a file of few bytes was read
 reads_same : (tells : Bool) (file : Which) (name : List ℕ) (old new : ShelfState) (bytes : List ℕ) (result : Result Named Outcome) → ((n : List ℕ) → new.held n ≡ old.held n) → new.mode ≡ Closed → old.faults ≤ new.faults → (IsTrue tells → (old.held name ≡ Some bytes) × (length bytes ≤ 67108864)) → IfOk result (λ named. ReadAs bytes named.graph named.input_names named.output_names) → IfErr result (IsStopOf file bytes) → ReadsNetlist tells file name old new result

@@ -1,4 +1,4 @@
--- What `check` answers, said of the words and of the files that are held.
+-- What the program answers, said of the words and of the files that are held.
 use Rattle.std.specs.Prelude.{◌≡◌, ◌≢◌, ℕ, ◌<◌, ◌≤◌, ◌⊎◌, List, length, Option, None, Some}
 use Rattle.circuits.specs.Circuits.{Circuit}
 use Rattle.circuits.specs.Levels.{IsOrderOf}
@@ -12,11 +12,13 @@ use Rattle.npnp.specs.Circuits.{IsCircuit, IsCircuitFault}
 use Rattle.net_core.specs.declared.graphs.Graphs.{Graphs}
 use Rattle.net_core.specs.declared.matching.Matching.{Matching}
 use Rattle.net_core.specs.declared.named.NetKind.{NetKind}
-use Rattle.npnp.specs.Words.{AsksCheck, AskNothing}
+use Rattle.query_core.specs.Ledgers.{Ledgered}
+use Rattle.npnp.specs.Info.{IsSpentOf}
+use Rattle.npnp.specs.Words.{AsksCheck, AsksInfo, AskNothing}
 use Rattle.npnp.specs.declared.outcome.Which.{Which}
 use Rattle.npnp.specs.declared.outcome.Which.TheVariants.{First, Second, Account}
 use Rattle.npnp.specs.declared.outcome.Outcome.{Outcome}
-use Rattle.npnp.specs.declared.outcome.Outcome.TheVariants.{AcceptedMatch, AcceptedRefusal, Rejected, Usage, Absent, TooLarge, Malformed, ReadFault, WriteFault, Memory}
+use Rattle.npnp.specs.declared.outcome.Outcome.TheVariants.{AcceptedMatch, AcceptedRefusal, Rejected, Spent, Usage, Absent, TooLarge, Malformed, Informed, ReadFault, WriteFault, Memory}
 
 -- A netlist as its file has it, with the names of its ports.
 pub record Netlist : Type 0 where
@@ -72,8 +74,15 @@ pub record EndsAtSecond (held : List ℕ → Option (List ℕ)) (words : List (L
   pub first_held : HoldsNetlist (held first_name) first
   pub ends : EndsAt Second (held second_name) outcome
 
+-- The words ask for what is known of a file, which ends the run.
+pub record EndsAtOnly (held : List ℕ → Option (List ℕ)) (words : List (List ℕ)) (outcome : Outcome) : Type 0 where
+  pub file_name : List ℕ
+  pub budget : ℕ
+  pub asks : AsksInfo words file_name budget
+  pub ends : EndsAt First (held file_name) outcome
+
 abbrev pub EndsEarly : (List ℕ → Option (List ℕ)) → List (List ℕ) → Outcome → Type 0
-EndsEarly held words outcome = EndsAtFirst held words outcome ⊎ EndsAtSecond held words outcome
+EndsEarly held words outcome = EndsAtFirst held words outcome ⊎ EndsAtSecond held words outcome ⊎ EndsAtOnly held words outcome
 
 -- The words ask for a check of two files that are netlists, and of the account under a name.
 pub record IsAsked (held : List ℕ → Option (List ℕ)) (words : List (List ℕ)) (first second : Netlist) (account_name : List ℕ) : Type 0 where
@@ -138,6 +147,27 @@ pub record LacksMatch (held : List ℕ → Option (List ℕ)) (words : List (Lis
   pub asked : IsAsked held words first second account_name
   pub unequal : AreNpnpEqual first.circuit second.circuit → ⊥
 
+-- The words ask for what is known of a file that is a netlist.
+pub record IsAskedOf (held : List ℕ → Option (List ℕ)) (words : List (List ℕ)) : Type 0 where
+  pub file_name : List ℕ
+  pub budget : ℕ
+  pub asks : AsksInfo words file_name budget
+  pub netlist : Netlist
+  pub there : HoldsNetlist (held file_name) netlist
+
+-- The words ask for what is known of a file, within a budget that was spent on its graph.
+pub record IsSpentOn (held : List ℕ → Option (List ℕ)) (words : List (List ℕ)) (ledger : Ledgered) : Type 0 where
+  pub file_name : List ℕ
+  pub budget : ℕ
+  pub asks : AsksInfo words file_name budget
+  pub graph : Net
+  pub there : HoldsGraph (held file_name) graph
+  pub spent : IsSpentOf graph budget ledger
+
+-- the outcome is one of a netlist by itself
+abbrev pub IsOfOne : Outcome → Type 0
+IsOfOne outcome = (outcome ≡ Informed) ⊎ ((ledger : Ledgered) × (outcome ≡ Spent ledger))
+
 -- there is no such file when its turn comes
 abbrev pub IsAbsent : (List ℕ → Option (List ℕ)) → List (List ℕ) → Which → Type 0
 IsAbsent held words which = EndsEarly held words (Absent which) ⊎ ((which ≡ Account) × LacksAccount held words)
@@ -147,6 +177,8 @@ abbrev pub IsRight : (List ℕ → Option (List ℕ)) → List (List ℕ) → Ou
 IsRight held words (AcceptedMatch table) = IsAccepted held words (verdict.Match table)
 IsRight held words AcceptedRefusal = IsAccepted held words verdict.None
 IsRight held words (Rejected line why) = IsRejected held words line why
+IsRight held words Informed = IsAskedOf held words
+IsRight held words (Spent ledger) = IsSpentOn held words ledger
 IsRight held words Usage = AskNothing words
 IsRight held words (Absent which) = IsAbsent held words which
 IsRight held words (TooLarge which) = EndsEarly held words (TooLarge which)

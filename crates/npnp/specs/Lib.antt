@@ -1,6 +1,7 @@
 pub mod Check
 pub mod Circuits
 pub mod Files
+pub mod Info
 pub mod Report
 pub mod Status
 pub mod Steps
@@ -8,3 +9,8 @@ pub mod Stops
 pub mod Words
 pub use Rattle.account_check.specs.Verdicts
 pub use Rattle.port_report.specs.Reports
+pub use Rattle.port_report.specs.Infos
+pub use Rattle.text_core.specs.Numbers
+pub use Rattle.query_core.specs.Ledgers
+pub use Rattle.account_core.specs.Work
+pub use Rattle.fact_tests.specs.Rows

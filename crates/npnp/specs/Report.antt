@@ -1,15 +1,20 @@
 -- What the program prints.
 use Rattle.std.specs.Prelude.{◌≡◌, ◌≢◌, ℕ, ◌⊎◌, Bool, IsTrue, List, [], ◌∷◌, ◌++◌, codes, Option}
+use Rattle.circuits.specs.Circuits.{Circuit}
 use Rattle.std.specs.Fmt.{decimal}
 use Rattle.net_core.specs.Kinds.{kind_number}
 use Rattle.net_core.specs.declared.matching.Matching.{Matching}
+use Rattle.net_core.specs.declared.named.Named.{Named}
+use Rattle.query_core.specs.Ledgers.{learned_in}
 use Rattle.port_report.specs.Reports.{PortNames, match_text, rejected_text}
 use Rattle.account_check.specs.Words.{word_of}
-use Rattle.npnp.specs.Check.{Netlist, IsAsked}
+use Rattle.npnp.specs.Check.{Netlist, HoldsNetlist, IsAsked}
+use Rattle.npnp.specs.Info.{IsInfoText}
+use Rattle.npnp.specs.Words.{AsksInfo}
 use Rattle.npnp.specs.declared.outcome.Which.{Which}
 use Rattle.npnp.specs.declared.outcome.Which.TheVariants.{First, Second, Account}
 use Rattle.npnp.specs.declared.outcome.Outcome.{Outcome}
-use Rattle.npnp.specs.declared.outcome.Outcome.TheVariants.{AcceptedMatch, AcceptedRefusal, Rejected, Usage, Absent, TooLarge, Malformed, ReadFault, WriteFault, Memory}
+use Rattle.npnp.specs.declared.outcome.Outcome.TheVariants.{AcceptedMatch, AcceptedRefusal, Rejected, Spent, Usage, Absent, TooLarge, Malformed, Informed, ReadFault, WriteFault, Memory}
 
 -- the word for a file
 abbrev pub file_word : Which → List ℕ
@@ -17,11 +22,13 @@ file_word First = codes "first"
 file_word Second = codes "second"
 file_word Account = codes "account"
 
--- the line that names an outcome; a failed write has none
+-- the line that names an outcome; a failed write has none, and what is known of a netlist is more than a line
 abbrev pub line_of : Outcome → List ℕ
 line_of (AcceptedMatch table) = codes "accepted match" ++ 10 ∷ []
 line_of AcceptedRefusal = codes "accepted refusal" ++ 10 ∷ []
 line_of (Rejected line why) = rejected_text line (word_of why)
+line_of (Spent ledger) = codes "spent " ++ decimal (learned_in ledger) ++ 10 ∷ []
+line_of Informed = []
 line_of Usage = codes "usage" ++ 10 ∷ []
 line_of (Absent file) = codes "absent " ++ file_word file ++ 10 ∷ []
 line_of (TooLarge file) = codes "too large " ++ file_word file ++ 10 ∷ []
@@ -33,6 +40,11 @@ line_of Memory = codes "out of memory" ++ 10 ∷ []
 -- the outcome is no accepted match
 abbrev pub HasNoTable : Outcome → Type 0
 HasNoTable outcome = (table : Matching) → outcome ≢ AcceptedMatch table
+
+-- The report of the outcome is its line.
+pub record IsOneLine (outcome : Outcome) : Type 0 where
+  pub no_table : HasNoTable outcome
+  pub no_rows : outcome ≢ Informed
 
 -- the report of an outcome of two netlists: its line, and after an accepted match the port table
 abbrev pub report_on : PortNames → PortNames → Outcome → List ℕ
@@ -47,9 +59,26 @@ pub record IsNamedReport (tells : Bool) (held : List ℕ → Option (List ℕ)) 
   pub first : Netlist
   pub second : Netlist
   pub account_name : List ℕ
+  pub no_rows : outcome ≢ Informed
   pub of_files : IsTrue tells → IsAsked held words first second account_name
   pub same : text ≡ report_on (port_names first) (port_names second) outcome
 
--- The text is the report of an outcome: the line of one that has no table, or a report with the names of the two files.
+-- The text is what is known of the file that the words name.
+pub record IsInfoReport (tells : Bool) (held : List ℕ → Option (List ℕ)) (words : List (List ℕ)) (text : List ℕ) : Type 0 where
+  pub file_name : List ℕ
+  pub budget : ℕ
+  pub asks : AsksInfo words file_name budget
+  pub circuit : Circuit
+  pub named : Named
+  pub there : IsTrue tells
+      → HoldsNetlist (held file_name)
+      (record { circuit = circuit; input_names = named.input_names; output_names = named.output_names })
+  pub is : IsInfoText circuit named text
+
+-- The text is the report of an outcome: the line of one that has no more, a report with the names of two files, or what is
+-- known of one file.
 abbrev pub IsReport : Bool → (List ℕ → Option (List ℕ)) → List (List ℕ) → Outcome → List ℕ → Type 0
-IsReport tells held words outcome text = (HasNoTable outcome × (text ≡ line_of outcome)) ⊎ IsNamedReport tells held words outcome text
+IsReport tells held words outcome text =
+    (IsOneLine outcome × (text ≡ line_of outcome))
+    ⊎ IsNamedReport tells held words outcome text
+    ⊎ ((outcome ≡ Informed) × IsInfoReport tells held words text)

@@ -1,4 +1,4 @@
--- What the steps of a check do.
+-- What the steps of a run do.
 use Rattle.std.specs.Prelude.{◌≡◌, ◌≢◌, ℕ, ◌⊎◌, ◌≤◌, Bool, IsTrue, List, ◌++◌, length, take, Option, None, Some, Result, Err, IfOk, IfErr, OnOk}
 use Rattle.circuits.specs.Circuits.{Circuit}
 use Rattle.circuits.specs.Functions.{Computes}
@@ -13,20 +13,25 @@ use Rattle.net_core.specs.declared.named.Named.{Named}
 use Rattle.account_check.specs.Verdicts.{IsAccepted as Proves, IsRejected as IsBadAt}
 use Rattle.account_check.specs.declared.verdict.Verdict.TheVariants as verdict
 use Rattle.npnp.specs.Circuits.{IsCircuit, IsCircuitFault}
-use Rattle.npnp.specs.Words.{AsksCheck}
+use Rattle.npnp.specs.Info.{IsInfoText, IsSpentOf}
+use Rattle.npnp.specs.Words.{AsksCheck, AsksInfo}
 use Rattle.npnp.specs.Check.{Netlist, HoldsNetlist, EndsAt, IsRight, IsSound, IsTold}
-use Rattle.npnp.specs.Report.{HasNoTable, IsReport, line_of}
+use Rattle.npnp.specs.Report.{IsOneLine, IsReport, line_of}
 use Rattle.npnp.specs.declared.outcome.Which.{Which}
 use Rattle.npnp.specs.declared.outcome.Which.TheVariants.{Account}
 use Rattle.npnp.specs.declared.outcome.Outcome.{Outcome}
-use Rattle.npnp.specs.declared.outcome.Outcome.TheVariants.{AcceptedMatch, AcceptedRefusal, Rejected, Usage, Absent, Malformed, ReadFault, WriteFault, Memory}
+use Rattle.npnp.specs.declared.outcome.Outcome.TheVariants.{AcceptedMatch, AcceptedRefusal, Rejected, Spent, Usage, Absent, Malformed, Informed, ReadFault, WriteFault, Memory}
+use Rattle.npnp.specs.declared.words.Check.{Check as CheckWords}
+use Rattle.npnp.specs.declared.words.Info.{Info as InfoWords}
+use Rattle.npnp.specs.declared.words.Command.{Command}
+use Rattle.npnp.specs.declared.words.Command.TheVariants.{Check, Info}
 use Rattle.npnp.specs.declared.files.Stop.{Stop}
 use Rattle.npnp.specs.declared.files.Stop.TheVariants as stop
 use Rattle.npnp.specs.declared.run.Ending.{Ending}
 
 -- an outcome that comes of the words alone, or of a write, is none of a netlist that is read
 pub record IsOfReading (outcome : Outcome) : Type 0 where
-  pub no_table : HasNoTable outcome
+  pub line : IsOneLine outcome
   pub no_refusal : outcome ≢ AcceptedRefusal
   pub asked : outcome ≢ Usage
   pub unwritten : outcome ≢ WriteFault
@@ -68,6 +73,21 @@ pub record ReadsNetlist (tells : Bool) (file : Which) (name : List ℕ) (old new
   pub faults : old.faults ≤ new.faults
   pub failed : result ≡ Err ReadFault → Rose old.faults new.faults
 
+-- what ends a run that asks what is known of a graph: the budget is spent on it, or memory is wanting
+abbrev pub IsStopOfInfo : Net → ℕ → Outcome → Type 0
+IsStopOfInfo graph budget (Spent ledger) = IsSpentOf graph budget ledger
+IsStopOfInfo graph budget Memory = Unit {0}
+IsStopOfInfo graph budget other = ⊥
+
+-- An ending of one netlist: its report, within the budget.
+pub record InformsOf (named : Named) (budget : ℕ) (result : Result Ending Outcome) : Type 0 where
+  pub rows : IfOk result (λ ending. (ending.outcome ≡ Informed)
+      × ((circuit : Circuit)
+      → Computes named.graph circuit
+      → IsOrderOf circuit named.graph
+      → IsInfoText circuit named ending.report.items))
+  pub stopped : IfErr result (IsStopOfInfo named.graph budget)
+
 -- the graphs of two netlists
 abbrev pub graphs_of : Named → Named → Graphs
 graphs_of first second = record { first = first.graph; second = second.graph }
@@ -95,6 +115,7 @@ IsUnequalIfRefused f g outcome = outcome ≡ AcceptedRefusal → HaveNpnpEqualFu
 -- an outcome that two netlists and an account were judged by
 pub record IsJudged (outcome : Outcome) : Type 0 where
   pub asked : outcome ≢ Usage
+  pub no_rows : outcome ≢ Informed
   pub read : outcome ≢ ReadFault
   pub unwritten : outcome ≢ WriteFault
 
@@ -108,27 +129,44 @@ pub record Judges (tells : Bool) (first second : Named) (name : List ℕ) (old n
   pub faults : old.faults ≤ new.faults
   pub failed : result ≡ Err stop.ReadFault → Rose old.faults new.faults
 
--- Deciding by the files under three names.
-pub record Decides (tells : Bool) (first_name second_name account_name : List ℕ) (old new : ShelfState) (result : Result Ending Outcome) : Type 0 where
+-- the words ask for what a command says
+abbrev pub Ask : List (List ℕ) → Command → Type 0
+Ask words (Check check) = AsksCheck words check.first.now check.second.now check.account.now
+Ask words (Info info) = AsksInfo words info.file.now info.budget
+
+abbrev pub asked_check : CheckWords → Command
+asked_check check = Check check
+
+abbrev pub asked_info : InfoWords → Command
+asked_info info = Info info
+
+-- an ending that is of what was judged, or of one netlist
+pub record IsEnding (outcome : Outcome) : Type 0 where
+  pub asked : outcome ≢ Usage
+  pub read : outcome ≢ ReadFault
+  pub unwritten : outcome ≢ WriteFault
+
+-- Deciding by the files that a command names.
+pub record Decides (tells : Bool) (command : Command) (old new : ShelfState) (result : Result Ending Outcome) : Type 0 where
   pub files : (n : List ℕ) → new.held n ≡ old.held n
   -- what is decided is what the files say, for words that name them
   pub right : IsTrue tells
       → (words : List (List ℕ))
-      → AsksCheck words first_name second_name account_name
+      → Ask words command
       → IfOk result (λ ending. IsRight old.held words ending.outcome)
   pub ended : IsTrue tells
       → (words : List (List ℕ))
-      → AsksCheck words first_name second_name account_name
+      → Ask words command
       → IfErr result (IsRight old.held words)
   -- an accepted table is a match of the files' netlists, and an accepted refusal is right
   pub sound : IsTrue tells
       → (words : List (List ℕ))
-      → AsksCheck words first_name second_name account_name
+      → Ask words command
       → IfOk result (λ ending. IsSound old.held words ending.outcome)
   pub report : (words : List (List ℕ))
-      → AsksCheck words first_name second_name account_name
+      → Ask words command
       → IfOk result (λ ending. IsReport tells old.held words ending.outcome ending.report.items)
-  pub judged : IfOk result (λ ending. IsJudged ending.outcome)
+  pub ending : IfOk result (λ ending. IsEnding ending.outcome)
   pub reading : IfErr result IsOfReading
   pub failed : result ≡ Err ReadFault → Rose old.faults new.faults
 

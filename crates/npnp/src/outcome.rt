@@ -6,6 +6,7 @@ ghost use Rattle.npnp.specs.Status.{status_of};
 use crate::files::Stop;
 use account_check::Why;
 use net_core::{Matching, NetKind};
+use query_core::Ledger;
 use std::alloc::AllocError;
 
 /// A file of the command line.
@@ -32,6 +33,10 @@ pub enum Outcome {
         line: u64,
         why: Why,
     },
+    /// What each output of the netlist depends on, and how, was reported.
+    Informed,
+    /// The budget of learned clauses was spent before the answer: everything that was asked, and the clauses.
+    Spent(Ledger),
     /// The words are of no form that the program knows.
     Usage,
     /// There is no such file.
@@ -53,8 +58,8 @@ pub enum Outcome {
 }
 
 impl Outcome {
-    /// The exit status of the program: 0 a match accepted, 1 a refusal accepted, 2 rejected, 4 words of no known form,
-    /// 5 a file that isn't there or isn't a netlist, 6 a fault of the outside, 7 no memory.
+    /// The exit status of the program: 0 a match accepted or a report, 1 a refusal accepted, 2 rejected, 3 a spent budget,
+    /// 4 words of no known form, 5 a file that isn't there or isn't a netlist, 6 a fault of the outside, 7 no memory.
     pub fn status(&self) -> u8
         ensures { result ≡ status_of self.now }
     {
@@ -62,6 +67,8 @@ impl Outcome {
             Outcome::AcceptedMatch(_) => 0,
             Outcome::AcceptedRefusal => 1,
             Outcome::Rejected { .. } => 2,
+            Outcome::Informed => 0,
+            Outcome::Spent(_) => 3,
             Outcome::Usage => 4,
             Outcome::Absent(_) => 5,
             Outcome::TooLarge(_) => 5,

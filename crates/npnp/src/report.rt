@@ -1,6 +1,7 @@
 //! The report of a run: what the program prints on its standard output.
 
-ghost use Rattle.std.specs.Prelude.{◌≡◌, [], ◌∷◌, ◌++◌, OnOk, IfOk};
+ghost use Rattle.std.specs.Prelude.{◌≡◌, [], ◌∷◌, ◌++◌, OnOk, IfOk, codes};
+ghost use Rattle.std.specs.Fmt.{decimal};
 ghost use Rattle.port_report.specs.Reports.{names_of};
 ghost use Rattle.npnp.specs.Report.{file_word, line_of, report_on};
 ghost use Rattle.npnp.specs.Steps.{IsMatchIfAccepted};
@@ -46,6 +47,8 @@ fn put_line(outcome: &Outcome, out: &mut Vec<u8>) -> Result<(), AllocError>
         Outcome::AcceptedMatch(_) => out.extend_from_slice(b"accepted match\n"),
         Outcome::AcceptedRefusal => out.extend_from_slice(b"accepted refusal\n"),
         Outcome::Rejected { line, why } => put_rejected(*line, why.word(), out),
+        Outcome::Spent(ledger) => put_spent(ledger.learned(), out),
+        Outcome::Informed => Ok(()),
         Outcome::Usage => out.extend_from_slice(b"usage\n"),
         Outcome::Absent(which) => put_file(b"absent ", *which, out),
         Outcome::TooLarge(which) => put_file(b"too large ", *which, out),
@@ -54,6 +57,15 @@ fn put_line(outcome: &Outcome, out: &mut Vec<u8>) -> Result<(), AllocError>
         Outcome::WriteFault => Ok(()),
         Outcome::Memory => out.extend_from_slice(b"out of memory\n"),
     }
+}
+
+// Writes the line of a spent budget: how many clauses were learned.
+fn put_spent(learned: u64, out: &mut Vec<u8>) -> Result<(), AllocError>
+    ensures { OnOk result (out.new.items ≡ out.old.items ++ codes "spent " ++ decimal learned ++ 10 ∷ []) }
+{
+    out.extend_from_slice(b"spent ")?;
+    put_decimal(learned, out)?;
+    out.extend_from_slice(b"\n")
 }
 
 // Writes a line that ends in the word for a file.

@@ -9,15 +9,17 @@ ghost use Rattle.account_check.specs.declared.verdict.Why.{Why as Reason};
 ghost use Rattle.npnp.specs.declared.outcome.Outcome.{Outcome as AnyOutcome};
 ghost use Rattle.npnp.specs.declared.outcome.Which.{Which as AnyFile};
 ghost use Rattle.npnp.specs.Words.{AskNothing};
-ghost use Rattle.npnp.specs.Check.{IsRight, IsSound, IsAccepted, IsRejected, IsMatchOfFiles, LacksMatch, IsAbsent, EndsEarly, IsDecided, IsTold};
+ghost use Rattle.query_core.specs.Ledgers.{Ledgered};
+ghost use Rattle.npnp.specs.Check.{IsRight, IsSound, IsAccepted, IsRejected, IsMatchOfFiles, LacksMatch, IsAskedOf, IsOfOne, IsSpentOn, IsAbsent, EndsEarly, IsDecided, IsTold};
 ghost use Rattle.npnp.specs.Report.{IsReport, line_of};
-ghost use Rattle.npnp.specs.Steps.{IsVerdict, IsMatchIfAccepted, IsUnequalIfRefused, IsJudged, Judges, Decides, TellsLine, PutsText, WritesPart, graphs_of};
+ghost use Rattle.npnp.specs.Steps.{IsVerdict, IsMatchIfAccepted, IsUnequalIfRefused, IsJudged, Judges, Decides, asked_check, TellsLine, PutsText, WritesPart, graphs_of};
 
 use crate::files::{File, Stop, read_file};
+use crate::info::inform;
 use crate::netlists::read_netlist;
 use crate::outcome::{Outcome, Which};
 use crate::report::{report_line, report_named};
-use crate::words::{Check, check_asked};
+use crate::words::{Check, Command, command_asked};
 use account_check::{CheckStop, Verdict, check};
 use net_core::{Graphs, Named};
 use shelf_core::{Shelf, ShelfStop, Sink};
@@ -35,9 +37,12 @@ pub struct Ending {
 }
 
 /// Runs the program on the words of its command line: reads the files that they name, decides, and puts one
-/// report. The words that it knows are `check FIRST SECOND ACCOUNT`: FIRST and SECOND are netlists, each in BLIF or in
-/// the AIGER format, and ACCOUNT is a text that claims a port table and proves, by refutations, that it is a match of the
-/// two, or that proves by exclusions that no port table is one.
+/// report. It knows these words, where each netlist is in BLIF or in the AIGER format:
+///
+/// - `check FIRST SECOND ACCOUNT`: FIRST and SECOND are netlists, and ACCOUNT is a text that claims a port table and
+///   proves, by refutations, that it is a match of the two, or that proves by exclusions that no port table is one.
+/// - `info FILE [BUDGET]`: FILE is a netlist. Its supports, unateness and symmetries are decided; at most BUDGET clauses
+///   are learned for that, by default 1,000,000,000.
 ///
 /// The files are opened in this order, each read and closed before the next. A netlist of more than 67,108,864
 /// bytes is closed unread.
@@ -78,6 +83,12 @@ pub fn run<S: Shelf, K: Sink>(
     // A refusal is accepted only where no signed bijections make the two files' netlists equal, whoever wrote it.
     ensures sound_refusal { IsTrue S.tells → result ≡ Outcome.AcceptedRefusal
         → LacksMatch (S.state shelf.old).held (map string_bytes words.now) }
+
+    // What is known of a netlist is reported where no budget was spent, and by rows that are right for its circuit.
+    ensures of_one { IsTrue S.tells → IsDecided result
+        → (IsOfOne result ↔ IsAskedOf (S.state shelf.old).held (map string_bytes words.now)) }
+    ensures spent { IsTrue S.tells → (ledger : Ledgered) → result ≡ Outcome.Spent ledger
+        → IsSpentOn (S.state shelf.old).held (map string_bytes words.now) ledger }
 
     // Words of no known form are answered so, and make no call of the shelf.
     ensures usage { IsTold result
@@ -128,12 +139,23 @@ fn answer<S: Shelf>(alloc: Global, words: &[String], shelf: &mut S) -> Ending
     ensures no_form { AskNothing (map string_bytes words.now)
         → (shelf.new ≡ shelf.old) × ((result.outcome ≡ Outcome.Usage) ⊎ (result.outcome ≡ Outcome.Memory)) }
 {
-    let Some(check) = check_asked(words) else {
+    let Some(command) = command_asked(words) else {
         return end_by_line(alloc, Outcome::Usage);
     };
-    match decide(alloc, &check, shelf) {
+    match follow(alloc, &command, shelf) {
         Ok(ending) => ending,
         Err(outcome) => end_by_line(alloc, outcome),
+    }
+}
+
+/// How the files that a command names end the run. The error is an outcome whose report is one line.
+fn follow<S: Shelf>(alloc: Global, command: &Command<'_>, shelf: &mut S) -> Result<Ending, Outcome>
+    requires { (S.state shelf.old).mode ≡ Closed }
+    ensures { Decides S.tells command.now (S.state shelf.old) (S.state shelf.new) result }
+{
+    match command {
+        Command::Check(check) => decide(alloc, check, shelf),
+        Command::Info(info) => inform(alloc, info, shelf),
     }
 }
 
@@ -154,8 +176,7 @@ fn end_by_line(alloc: Global, outcome: Outcome) -> Ending
 /// a fault.
 fn decide<S: Shelf>(alloc: Global, check: &Check<'_>, shelf: &mut S) -> Result<Ending, Outcome>
     requires { (S.state shelf.old).mode ≡ Closed }
-    ensures { Decides S.tells check.now.first.now check.now.second.now check.now.account.now
-        (S.state shelf.old) (S.state shelf.new) result }
+    ensures { Decides S.tells (asked_check check.now) (S.state shelf.old) (S.state shelf.new) result }
 {
     let first = read_netlist(alloc, shelf, Which::First, check.first)?;
     let second = read_netlist(alloc, shelf, Which::Second, check.second)?;
@@ -186,7 +207,11 @@ fn judge<S: Shelf>(
 }
 
 /// The graphs of two netlists, side by side.
-fn copy_graphs(alloc: Global, first: &Named, second: &Named) -> Result<Graphs, AllocError>
+pub(crate) fn copy_graphs(
+    alloc: Global,
+    first: &Named,
+    second: &Named,
+) -> Result<Graphs, AllocError>
     ensures { IfOk result (λ graphs. graphs ≡ graphs_of first.now second.now) }
 {
     Ok(Graphs {

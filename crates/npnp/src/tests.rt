@@ -312,6 +312,83 @@ fn names_what_is_missing(rt: HostRuntime) -> Result<(), Fail> {
     Ok(())
 }
 
+/// Words that ask what is known of a netlist, named `A`, with the netlist, the status and the report.
+const INFOS: [(&[&str], &[u8], u8, &[u8]); 8] = [
+    (
+        &["info", "A"],
+        MIXED,
+        0,
+        b"inputs 2\noutputs 3\ngates 1\noutput 0 y support 2\ninput 0 a negative\ninput 1 b negative\npair 0 1 symmetric\noutput 1 one support 0\noutput 2 zero support 0\n",
+    ),
+    // exclusive or
+    (
+        &["info", "A", "18446744073709551615"],
+        b"aag 5 2 0 1 3\n2\n4\n10\n6 2 4\n8 3 5\n10 7 9\n",
+        0,
+        b"inputs 2\noutputs 1\ngates 3\noutput 0 o0 support 2\ninput 0 i0 binate\ninput 1 i1 binate\npair 0 1 both\n",
+    ),
+    // the first input without the second
+    (
+        &["info", "A", "00000000000000001000"],
+        b"aag 3 2 0 1 1\n2\n4\n6\n6 2 5\n",
+        0,
+        b"inputs 2\noutputs 1\ngates 1\noutput 0 o0 support 2\ninput 0 i0 positive\ninput 1 i1 negative\npair 0 1 skew\n",
+    ),
+    // an input that is read by gates, and that the output doesn't depend on
+    (
+        &["info", "A"],
+        b"aag 5 2 0 1 3\n2\n4\n11\n6 2 4\n8 2 5\n10 7 9\n",
+        0,
+        b"inputs 2\noutputs 1\ngates 3\noutput 0 o0 support 1\ninput 0 i0 positive\n",
+    ),
+    (&["info", "A", "0"], MIXED, 3, b"spent 0\n"),
+    (
+        &["info", "A", "00000000000000000000"],
+        MIXED,
+        3,
+        b"spent 0\n",
+    ),
+    (&["info", "z"], MIXED, 5, b"absent first\n"),
+    (
+        &["info", "A"],
+        b"aag 1 1 0 1 0\n2\n",
+        5,
+        b"malformed first 14 16\n",
+    ),
+];
+
+#[test]
+fn reports_what_is_known_of_a_netlist(rt: HostRuntime) -> Result<(), Fail> {
+    for (words, netlist, status, report) in INFOS {
+        let (ended, printed) = answer(rt.alloc(), words, [netlist, B, TABLE])?;
+        assert_eq!(rt; printed.as_slice(), report);
+        assert_eq!(rt; ended, status);
+    }
+    Ok(())
+}
+
+/// Words that are like those for a netlist, and of no form.
+const NO_INFO: [&[&str]; 8] = [
+    &["info"],
+    &["info", ""],
+    &["info", "A", ""],
+    &["info", "A", "1x"],
+    &["info", "A", "-1"],
+    &["info", "A", "18446744073709551616"],
+    &["info", "A", "000000000000000000001"],
+    &["info", "A", "1", "2"],
+];
+
+#[test]
+fn refuses_words_of_no_form(rt: HostRuntime) -> Result<(), Fail> {
+    for words in NO_INFO {
+        let (ended, printed) = answer(rt.alloc(), words, [MIXED, B, TABLE])?;
+        assert_eq!(rt; printed.as_slice(), b"usage\n".as_slice());
+        assert_eq!(rt; ended, 4);
+    }
+    Ok(())
+}
+
 const MALFORMED_AIGER: [(&[u8], &[u8]); 18] = [
     (b"aag 4294967295 0 0 0 0\n", b"malformed first 6 0\n"),
     (b"aag 4294967296 0 0 0 0\n", b"malformed first 1 0\n"),

@@ -1,7 +1,16 @@
 //! The words of the command line.
 
-ghost use Rattle.std.specs.Prelude.{◌≡◌, ℕ, List, map, IfSome, IfNone, string_bytes};
-ghost use Rattle.npnp.specs.Words.{AsksCheck};
+ghost use Rattle.std.specs.Prelude.{◌≡◌, ◌≢◌, ◌⊎◌, ℕ, [], List, map, IfSome, IfNone, string_bytes};
+ghost use Rattle.npnp.specs.Steps.{Ask};
+ghost use Rattle.npnp.specs.Words.{AskNothing, AsksCheck, AsksInfo, IsNumber};
+
+use text_core::{Cursor, decimal};
+
+/// The budget of `info` where the words give none.
+const DEFAULT_BUDGET: u64 = 1_000_000_000;
+
+/// The most digits that a number on the command line has.
+const MOST_DIGITS: usize = 20;
 
 /// The files that a check names.
 #[derive(Clone, Copy, Debug)]
@@ -14,8 +23,37 @@ pub struct Check<'a> {
     pub account: &'a str,
 }
 
+/// The file of which is asked what is known.
+#[derive(Clone, Copy, Debug)]
+pub struct Info<'a> {
+    /// The netlist.
+    pub file: &'a str,
+    /// How many clauses may be learned.
+    pub budget: u64,
+}
+
+/// What the words ask for.
+#[derive(Clone, Copy, Debug)]
+pub enum Command<'a> {
+    /// Whether an account proves that two netlists match.
+    Check(Check<'a>),
+    /// What each output of a netlist depends on, and how.
+    Info(Info<'a>),
+}
+
+/// What the words ask for, if they are of a form that is known.
+pub fn command_asked(words: &[String]) -> Option<Command<'_>>
+    ensures asked { IfSome result (Ask (map string_bytes words.now)) }
+    ensures not_asked { IfNone result (AskNothing (map string_bytes words.now)) }
+{
+    match check_asked(words) {
+        Some(check) => Some(Command::Check(check)),
+        None => Some(Command::Info(info_asked(words)?)),
+    }
+}
+
 /// The check that the words ask for: `check`, and three names that aren't empty.
-pub fn check_asked(words: &[String]) -> Option<Check<'_>>
+fn check_asked(words: &[String]) -> Option<Check<'_>>
     ensures asked { IfSome result
         (λ check. AsksCheck (map string_bytes words.now) check.first.now check.second.now check.account.now) }
     ensures not_asked { IfNone result
@@ -37,4 +75,42 @@ pub fn check_asked(words: &[String]) -> Option<Check<'_>>
         }
         _ => None,
     }
+}
+
+/// What the words ask of one netlist: `info`, a name that isn't empty, and perhaps a number.
+fn info_asked(words: &[String]) -> Option<Info<'_>>
+    ensures asked { IfSome result (λ info. AsksInfo (map string_bytes words.now) info.file.now info.budget) }
+    ensures not_asked { IfNone result
+        ((file : List ℕ) (budget : ℕ) → AsksInfo (map string_bytes words.now) file budget → ⊥) }
+{
+    match words {
+        [command, file] if command.as_str() == "info" => info_of(file.as_str(), DEFAULT_BUDGET),
+        [command, file, budget] if command.as_str() == "info" => {
+            info_of(file.as_str(), number_of(budget.as_str())?)
+        }
+        _ => None,
+    }
+}
+
+/// The question about the file of a name that isn't empty.
+fn info_of(file: &str, budget: u64) -> Option<Info<'_>>
+    ensures some { IfSome result (λ info. (info.file.now ≡ file.now) × (info.budget ≡ budget) × (file.now ≢ [])) }
+    ensures none { IfNone result (file.now ≡ []) }
+{
+    if file.is_empty() {
+        return None;
+    }
+    Some(Info { file, budget })
+}
+
+/// The number of 64 bits that a word of 1 to 20 digits writes.
+fn number_of(word: &str) -> Option<u64>
+    ensures some { IfSome result (IsNumber word.now) }
+    ensures none { IfNone result ((value : ℕ) → IsNumber word.now value → ⊥) }
+{
+    if word.len() > MOST_DIGITS {
+        return None;
+    }
+    let digits = Cursor::new(word.as_bytes()).take(word.len())?;
+    decimal(digits).ok()
 }

@@ -17,8 +17,8 @@ use net_core::{Graph, Graphs, Lit, Matching};
 use std::alloc::{AllocError, Global};
 use std::marker::Model;
 
-/// The clauses of a query. An assignment that meets them has, as the bits of its variables 1 to n, a vector that is asked
-/// for, and each such vector is that of an assignment.
+/// The clauses of a query. An assignment that meets them has, as the bits of its variables 1 to n, a vector that is
+/// asked for, and each such vector is that of an assignment.
 #[derive(Drop)]
 pub struct QueryBase<'a> {
     graphs: &'a Graphs,
@@ -59,16 +59,16 @@ impl<'a> QueryBase<'a> {
         })
     }
 
-    /// The numbers of the clauses that belong to the cones, ascending: that of variable 0, those of the gates that the output
-    /// of their cone reaches, and those of the two outputs.
+    /// The numbers of the clauses that belong to the cones, ascending: that of variable 0, those of the gates that the
+    /// output of their cone reaches, and those of the two outputs.
     pub(crate) fn cone_ids(&self, alloc: Global) -> Result<Vec<u64>, AllocError>
         ensures { IfOk result (λ ids. AreConeIds self.now.graphs self.now.query ids.items) }
     {
         query_ids(alloc, self.graphs, &self.query)
     }
 
-    /// Asks about another output and value of the same matching. Only the last two clauses become others, and it takes no
-    /// memory.
+    /// Asks about another output and value of the same matching. Only the last two clauses become others, and it takes
+    /// no memory.
     pub fn turn_to(&mut self, matching: &Matching, output: u32, value: bool)
         requires ports { HavePorts self.old.graphs.first self.old.graphs.second
             matching.now.inputs matching.now.outputs }

@@ -12,8 +12,8 @@ use items::Items;
 use net_core::Graphs;
 use std::alloc::{AllocError, Global};
 
-/// Whether the claim's output can be 1 where its shape's inputs have the shape's values, and 0 where they have the opposite
-/// ones. The claim holds exactly where no vector meets the query.
+/// Whether the claim's output can be 1 where its shape's inputs have the shape's values, and 0 where they have the
+/// opposite ones. The claim holds exactly where no vector meets the query.
 ///
 /// # Errors
 ///

@@ -10,8 +10,8 @@ use crate::query::Query;
 use net_core::{Graph, Graphs};
 use std::alloc::{AllocError, Global};
 
-/// The numbers of the clauses that belong to the cones, ascending: that of variable 0, those of the gates that the output of
-/// their cone reaches, and those of the two outputs. What meets these clauses has a vector that is asked for.
+/// The numbers of the clauses that belong to the cones, ascending: that of variable 0, those of the gates that the
+/// output of their cone reaches, and those of the two outputs. What meets these clauses has a vector that is asked for.
 ///
 /// # Errors
 ///

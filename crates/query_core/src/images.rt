@@ -7,10 +7,10 @@ ghost use Rattle.query_core.specs.Images.{Lacks, LacksInput, image_of, is_of, mo
 use crate::claims::{Claim, Shape};
 use net_core::{Pair, PortKind, Side};
 
-/// The claim of the second circuit that a claim of the first becomes where ports go as the pairs say. Its output and inputs go
-/// to their partners, an input's value with the pair's sign. Where the output's pair is inverted, the values are
-/// exchanged for the opposite ones: a rise of the one output is a fall of the other. It is None exactly where no pair is of
-/// the output, or of an input of the shape. It takes no memory.
+/// The claim of the second circuit that a claim of the first becomes where ports go as the pairs say. Its output and
+/// inputs go to their partners, an input's value with the pair's sign. Where the output's pair is inverted, the values
+/// are exchanged for the opposite ones: a rise of the one output is a fall of the other. It is None exactly where no
+/// pair is of the output, or of an input of the shape. It takes no memory.
 ///
 /// Pairs are meant to agree with one another: of two that share their first port the earlier one counts.
 pub fn image(claim: &Claim, pairs: &[Pair]) -> Option<Claim>

@@ -46,8 +46,8 @@ pub fn vector_has_an_assignment()
         × (vector_in (bits_in graphs query) assignment ≡ x) }
 {}
 
-/// The place that each input of a signed bijection goes to gets the input's bit, inverted where the sign says so; no other
-/// feed is like this.
+/// The place that each input of a signed bijection goes to gets the input's bit, inverted where the sign says so; no
+/// other feed is like this.
 pub fn wires_of_a_bijection()
     ensures wires { (entries : List (ℕ × Bool)) → IsSignedBijection (length entries) entries
         → IsMovedFeed entries (moved_feed entries) }
@@ -55,8 +55,8 @@ pub fn wires_of_a_bijection()
         → IsMovedFeed entries feed → feed ≡ moved_feed entries }
 {}
 
-/// Signed bijections of the ports are a match exactly where no vector meets the queries of a matching: of each output, for
-/// either of its values.
+/// Signed bijections of the ports are a match exactly where no vector meets the queries of a matching: of each output,
+/// for either of its values.
 pub fn match_by_queries()
     ensures matches { (graphs : TwoGraphs) (matching : Table) → IsGraph graphs.first → IsGraph graphs.second
         → HavePorts graphs.first graphs.second matching.inputs matching.outputs
@@ -69,8 +69,8 @@ pub fn match_by_queries()
         → IsUnmet graphs (match_query graphs.first.inputs matching k value) }
 {}
 
-/// Signed bijections of the ports are a match where logs refute the queries of a matching: of each output, for either of its
-/// values.
+/// Signed bijections of the ports are a match where logs refute the queries of a matching: of each output, for either
+/// of its values.
 pub fn refuted_queries_are_a_match()
     ensures { (graphs : TwoGraphs) (matching : Table) → IsGraph graphs.first → IsGraph graphs.second
         → HavePorts graphs.first graphs.second matching.inputs matching.outputs
@@ -79,8 +79,8 @@ pub fn refuted_queries_are_a_match()
         → IsMatchOfFunctions graphs.first graphs.second matching.inputs matching.outputs }
 {}
 
-/// A claim holds exactly where no vector meets its query, and a vector that meets it breaks the claim once the shape's inputs
-/// have the shape's values.
+/// A claim holds exactly where no vector meets its query, and a vector that meets it breaks the claim once the shape's
+/// inputs have the shape's values.
 pub fn claims_by_queries()
     ensures holds { (graphs : TwoGraphs) (claim : AnyClaim)
         → (Holds graphs claim ↔ IsUnmet graphs (claim_query graphs claim)) }
@@ -91,8 +91,8 @@ pub fn claims_by_queries()
         → Breaks graphs claim (with_values claim.shape x) }
 {}
 
-/// Where a match has all pairs of a list, a claim of the first circuit holds exactly where its image holds; and the image is
-/// well placed where the claim is.
+/// Where a match has all pairs of a list, a claim of the first circuit holds exactly where its image holds; and the
+/// image is well placed where the claim is.
 pub fn images_by_matches()
     ensures holds { (graphs : TwoGraphs) (p q : List (ℕ × Bool)) (pairs : List AnyPair) (claim image : AnyClaim)
         → IsMatchOfFunctions graphs.first graphs.second p q

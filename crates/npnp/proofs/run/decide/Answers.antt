@@ -1,5 +1,5 @@
 -- What the files decide, one after the other: no call changes what is held.
-use Rattle.std.proofs.Common.{inr, ◌∙◌, subst, arith}
+use Rattle.std.proofs.Common.{inl, inr, ◌∙◌, subst, arith}
 use Rattle.std.proofs.lemmas.Result.{err_from_is_err_and}
 use Rattle.npnp.specs.Check.{EndsAt, HoldsGraph}
 use Rattle.npnp.specs.Steps.{IsVerdict, graphs_of, netlist_of}
@@ -15,7 +15,7 @@ pub returns-in_err-second : goal.returns-in_err-second
 returns-in_err-second g c =
     let p = err_from_is_err_and c.from_residual-in_err-second.result c.from_residual-in_err-second.ensures.1 in
     let o = c.in_err-second.field-0.0 in
-    stopped _ _ _ _ _ _ _ o (cc (p.1, p.2)) (λ n. c.read_netlist-2.ensures.files n ∙ c.read_netlist.ensures.files n)
+    stopped _ _ _ _ _ o (cc (p.1, p.2)) (λ n. c.read_netlist-2.ensures.files n ∙ c.read_netlist.ensures.files n)
     (λ tells words asks. right_at_second _ words _ _ _ (netlist_of c.in_ok-first.ensures.found.circuit c.in_ok-first.first) asks (c.in_ok-first.ensures.found.held tells) o (subst (λ content. EndsAt Second content o) (c.read_netlist.ensures.files _) (c.in_err-second.ensures.ended tells)))
     c.in_err-second.ensures.reading
     (λ e. rose_later _ _ _ c.read_netlist.ensures.faults c.read_netlist-2.ensures.faults (c.read_netlist-2.ensures.failed (cc (e, c.in_err-second.was))))
@@ -24,7 +24,7 @@ pub returns-in_err-outcome : goal.returns-in_err-outcome
 returns-in_err-outcome g c =
     let p = err_from_is_err_and c.from_residual-in_err-outcome.result c.from_residual-in_err-outcome.ensures.1 in
     let s = c.in_err-outcome.field-0.0 in
-    stopped _ _ _ _ _ _ _ (outcome_of s) (cc (p.1, p.2)) (λ n. c.judge.ensures.files n ∙ c.read_netlist-2.ensures.files n ∙ c.read_netlist.ensures.files n)
+    stopped _ _ _ _ _ (outcome_of s) (cc (p.1, p.2)) (λ n. c.judge.ensures.files n ∙ c.read_netlist-2.ensures.files n ∙ c.read_netlist.ensures.files n)
     (λ tells words asks. stop_right _ words s)
     (stop_reading s)
     (λ e. let is = stop_is s e in rose_later _ _ _ (omega (arith, c.read_netlist.ensures.faults, c.read_netlist-2.ensures.faults)) c.judge.ensures.faults (c.judge.ensures.failed (cc (is, c.in_err-outcome.was))))
@@ -32,7 +32,7 @@ returns-in_err-outcome g c =
 pub returns-in_err-report : goal.returns-in_err-report
 returns-in_err-report g c =
     let p = err_from_is_err_and c.from_residual-in_err-report.result c.from_residual-in_err-report.ensures.1 in
-    stopped _ _ _ _ _ _ _ Memory (cc (p.1, p.2)) (λ n. c.judge.ensures.files n ∙ c.read_netlist-2.ensures.files n ∙ c.read_netlist.ensures.files n)
+    stopped _ _ _ _ _ Memory (cc (p.1, p.2)) (λ n. c.judge.ensures.files n ∙ c.read_netlist-2.ensures.files n ∙ c.read_netlist.ensures.files n)
     (λ tells words asks. tt)
     (stop_reading stop.Memory)
     (λ e. cc)
@@ -55,14 +55,15 @@ returns g c =
       ended = λ tells words asks. tt;
       sound = λ tells words asks. sound _ _ words _ _ c.in_ok-first.first c.in_ok-second.second c.args.check.now.account.now outcome first_read second_read
           (asks_both _ _ words _ _ _ first second same asks (first_read.held tells) (second_read.held tells)) c.in_ok-outcome.ensures.matches c.in_ok-outcome.ensures.refuses;
-      report = λ words asks. inr (record {
+      report = λ words asks. inr (inl (record {
         first = first;
         second = second;
         account_name = c.args.check.now.account.now;
+        no_rows = c.in_ok-outcome.ensures.judged.no_rows;
         of_files = λ tells. asks_both _ _ words _ _ _ first second same asks (first_read.held tells) (second_read.held tells);
         same = c.in_ok-report.ensures;
-      });
-      judged = c.in_ok-outcome.ensures.judged;
+      }));
+      ending = let judged = c.in_ok-outcome.ensures.judged in record { asked = judged.asked; read = judged.read; unwritten = judged.unwritten };
       reading = tt;
       failed = λ e. cc;
     }

@@ -1,0 +1,114 @@
+-- What an answered query, and one refuted by its outputs, make of a ledger.
+use Rattle.std.proofs.Common.{◌≡◌, ℕ, zero, suc, ◌<◌, [], ◌∷◌, take, slice_index_or, ap, ◌∙◌, arith}
+use Rattle.circuits.specs.Netlists.{signals_of}
+use Rattle.cnf_core.specs.declared.log.LogLine.{LogLine}
+use Rattle.cnf_core.specs.declared.stop.Stop.{Stop}
+use Rattle.cnf_core.specs.declared.stop.Stop.TheVariants.{Spent, Memory}
+use Rattle.cnf_core.specs.Derivations.{IsRefutation, clauses_of}
+use Rattle.net_core.specs.declared.graphs.Graphs.{Graphs}
+use Rattle.net_core.specs.Cones.{output_signal}
+use Rattle.net_core.specs.Graph.{IsGraph}
+use Rattle.net_core.specs.Sides.{graph_of}
+use Rattle.query_core.specs.declared.claims.Claim.{Claim}
+use Rattle.query_core.specs.declared.query.Query.{Query}
+use Rattle.query_core.specs.Claims.{IsClaim}
+use Rattle.query_core.specs.ClaimQueries.{claim_query}
+use Rattle.query_core.specs.Formulas.{formula_of}
+use Rattle.query_core.specs.Ledgers.{Ledgered, opened, with_line, IsRefused}
+use Rattle.query_core.specs.Queries.{IsQuery}
+use Rattle.query_core.proofs.ClaimQueryLemmas.{claim_query_fits}
+use Rattle.account_core.specs.Work.{IsLearned, IsWorkOn}
+use Rattle.ask_core.specs.Answers.{IsAskedIn, IsStopped}
+use Rattle.fact_tests.specs.Asking.{IsAsked, IsHalted, entry_with}
+use Rattle.fact_tests.specs.Supports.{IsOutside, closing_line}
+use Rattle.fact_tests.proofs.ConeLemmas.{empty_is_new, graph_is}
+use Rattle.fact_tests.proofs.StructureLemmas.{outside_refuted}
+use Rattle.fact_tests.proofs.WorkLemmas.{asked_last, line_last}
+
+pub asked_of : (graphs : Graphs) (query : Query) (before after : Ledgered) → IsQuery graphs query → IsAskedIn graphs query before after → IsAsked graphs query before after
+asked_of graphs query before after fits is = record {
+  lines = is.lines;
+  work = record {
+    fits = fits;
+    lemmas = omega arith;
+    derived = λ k d below. (is.learned k d below).derived;
+    learned = λ k d below behind.
+        let line = slice_index_or is.lines k d in
+        let earlier = clauses_of (take k is.lines) in
+        let learned = is.learned k d below in
+        record {
+          derived = learned.derived;
+          beside_cones = learned.fresh;
+          beside_lines = learned.unlike_earlier;
+        };
+  };
+  budget = is.budget;
+  asked = is.asked ∙ asked_last query is.lines before.asked;
+}
+
+pub halted_of : (graphs : Graphs) (query : Query) (before after : Ledgered) (stop : Stop) → IsQuery graphs query → IsStopped graphs query before after stop → IsHalted graphs query before after stop
+halted_of graphs query before after Memory fits stopped = tt
+halted_of graphs query before after (Spent learned) fits stopped = record {
+  asked = asked_of graphs query before after fits stopped.asked_in;
+  learned_is = stopped.learned_is;
+  used = stopped.used;
+  refused = stopped.spent;
+}
+
+-- the output of a claim is a signal
+output_there : (graphs : Graphs) (claim : Claim) → IsGraph graphs.first → IsGraph graphs.second → IsClaim graphs claim → output_signal (graph_of graphs claim.side) claim.output < signals_of (graph_of graphs claim.side)
+output_there graphs claim first second placed =
+    (graph_is graphs claim.side first second).ordered.outputs claim.output (record { 0 = 0 }) placed.output
+
+-- The log of a claim whose inputs the output doesn't reach, and its entry.
+pub record IsClosed (graphs : Graphs) (claim : Claim) : Type 0 where
+  pub refuted : IsRefutation (formula_of graphs (claim_query graphs claim)) (closing_line graphs claim ∷ [])
+  pub work : IsWorkOn graphs (entry_with (claim_query graphs claim) (closing_line graphs claim ∷ []))
+
+pub outside_closed : (graphs : Graphs) (claim : Claim) → IsGraph graphs.first → IsGraph graphs.second → IsClaim graphs claim → IsOutside (graph_of graphs claim.side) claim.output claim.shape → IsClosed graphs claim
+outside_closed graphs claim first second placed outside =
+    let query = claim_query graphs claim in
+    let line = closing_line graphs claim in
+    let there = output_there graphs claim first second placed in
+    let refuted = outside_refuted graphs claim (omega (arith, there)) outside in
+    let fits = claim_query_fits graphs claim placed in
+    record {
+      refuted = refuted;
+      work = record {
+        fits = fits;
+        lemmas = omega arith;
+        derived = refuted.derived;
+        learned = λ k d below behind. at_line query line fits refuted k d below;
+      };
+    }
+  where
+    at_line : (query : Query) (line : LogLine) → IsQuery graphs query → IsRefutation (formula_of graphs query) (record line { clause = [] } ∷ []) → (k : ℕ) (d : LogLine) → k < 1 → IsLearned graphs query (take k (record line { clause = [] } ∷ [])) (slice_index_or (record line { clause = [] } ∷ []) k d)
+    at_line query line fits refuted zero d below = record {
+      derived = refuted.derived zero d below;
+      beside_cones = empty_is_new graphs query first second fits;
+      beside_lines = λ i e none. absurd (omega (arith, none));
+    }
+    at_line query line fits refuted (suc k) d below = absurd (omega (arith, below))
+
+pub closed_asked : (graphs : Graphs) (claim : Claim) (query : Query) (line : LogLine) (before mid after : Ledgered) → IsClosed graphs claim → query ≡ claim_query graphs claim → line ≡ closing_line graphs claim → mid ≡ record before { asked = opened query [] before.asked } → after.asked ≡ with_line line mid.asked → after.budget ≡ mid.budget → IsAsked graphs (claim_query graphs claim) before after
+closed_asked graphs claim query line before mid after closed query_is line_is open_is asked_is budget_is = record {
+  lines = closing_line graphs claim ∷ [];
+  work = closed.work;
+  budget = budget_is ∙ ap (λ (l : Ledgered). l.budget) open_is;
+  asked = asked_is
+      ∙ (ap (λ (l : Ledgered). with_line line l.asked) open_is
+      ∙ (ap (λ q. with_line line (opened q [] before.asked)) query_is
+      ∙ (ap (λ l. with_line l (opened (claim_query graphs claim) [] before.asked)) line_is
+      ∙ line_last (claim_query graphs claim) (closing_line graphs claim) before.asked)));
+}
+
+pub closed_halted : (graphs : Graphs) (claim : Claim) (query : Query) (line : LogLine) (before mid after : Ledgered) (stop : Stop) → IsClosed graphs claim → query ≡ claim_query graphs claim → line ≡ closing_line graphs claim → mid ≡ record before { asked = opened query [] before.asked } → IsRefused mid line after stop → IsHalted graphs (claim_query graphs claim) before after stop
+closed_halted graphs claim query line before mid after Memory closed query_is line_is open_is refused = tt
+closed_halted graphs claim query line before mid after (Spent learned) closed query_is line_is open_is refused =
+    let budget = ap (λ (l : Ledgered). l.budget) open_is in
+    record {
+      asked = closed_asked graphs claim query line before mid after closed query_is line_is open_is (ap (λ (l : Ledgered). l.asked) refused.refused) (ap (λ (l : Ledgered). l.budget) refused.refused);
+      learned_is = refused.learned_is ∙ budget;
+      used = refused.counted ∙ budget;
+      refused = ap (λ (l : Ledgered). l.spent) refused.refused;
+    }

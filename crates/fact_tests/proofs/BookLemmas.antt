@@ -1,0 +1,477 @@
+-- What a book knows, and what it knows once a claim was decided or a query answered.
+use Rattle.std.proofs.Common.{◌≡◌, ◌≢◌, ◌⊎◌, ℕ, ◌+◌, ◌-◌, ◌<◌, ◌≤◌, Bool, true, false, Result, Ok, Err, List, [], ◌∷◌, ◌++◌, length, map, All, slice_index_or, inl, inr, refl, sym, ap, subst, ◌∙◌, arith}
+use Rattle.std.specs.List.{Any}
+use Rattle.std.specs.Result.{IsErr, IsErrAnd}
+use Rattle.std.proofs.lemmas.Bool.{cases_eq, cases_lt, false≢true}
+use Rattle.std.proofs.lemmas.List.{get_or_append_left, get_or-append-add, get_or-map, get_or-set_same, get_or-set_other, length-append, length-map, length-set, map_push, append-nil, append_assoc}
+use Rattle.std.proofs.lemmas.List.FromFn.{get_or-map-range_with_len}
+use Rattle.std.proofs.lemmas.Result.{IfOk-weaker, IfErr-weaker}
+use Rattle.std.proofs.lemmas.List.Elements.{All-push}
+use Rattle.std.proofs.lemmas.List.Quantifiers.{all_pairs_push}
+use Rattle.cnf_core.specs.declared.stop.Stop.{Stop}
+use Rattle.cnf_core.specs.declared.stop.Stop.TheVariants.{Spent, Memory}
+use Rattle.net_core.specs.declared.graphs.Graphs.{Graphs}
+use Rattle.net_core.specs.declared.graphs.Side.TheVariants.{First, Second}
+use Rattle.net_core.specs.Sides.{graph_of}
+use Rattle.query_core.specs.declared.claims.Claim.{Claim}
+use Rattle.query_core.specs.declared.claims.Shape.{Shape}
+use Rattle.query_core.specs.declared.claims.Shape.TheVariants.{Up, Down, Swap}
+use Rattle.query_core.specs.declared.query.Feed.{Feed}
+use Rattle.query_core.specs.declared.query.Feed.TheVariants.{Fixed, Wire}
+use Rattle.query_core.specs.declared.query.Query.{Query}
+use Rattle.query_core.specs.declared.ledger.Asked.{Asked}
+use Rattle.query_core.specs.Claims.{IsClaim, IsPlaced}
+use Rattle.query_core.specs.ClaimQueries.{claim_query, values_feed, with_fixed}
+use Rattle.query_core.specs.MatchQueries.{straight}
+use Rattle.query_core.specs.Ledgers.{Ledgered}
+use Rattle.query_core.proofs.MatchLemmas.{straight_count}
+use Rattle.account_core.specs.declared.fact.Evidence.{Evidence}
+use Rattle.account_core.specs.declared.fact.Evidence.TheVariants.{Fails}
+use Rattle.account_core.specs.declared.fact.Fact.{Fact}
+use Rattle.account_core.specs.Work.{IsCharged, IsOfClaim, IsOfMatch, IsWorkOfClaimsAndMatches}
+use Rattle.account_core.specs.Oracles.{AreFacts, Claims, Grows, IsAnswered, IsEvidence, IsFact, IsNumberOf, IsStopped, Keeps, Known, Serves, Suits, entry_at}
+use Rattle.ask_core.specs.declared.question.Answer.{Answer}
+use Rattle.ask_core.specs.declared.question.Answer.TheVariants.{Vector}
+use Rattle.ask_core.specs.Answers.{IsAnswer}
+use Rattle.fact_tests.specs.declared.answers.Kept.{Kept}
+use Rattle.fact_tests.specs.Asking.{IsAsked, IsDecided, IsHalted}
+use Rattle.fact_tests.specs.Books.{IsKept, known_by}
+use Rattle.fact_tests.proofs.StructureLemmas.{first_of, second_of, apart_from, own_bit}
+use Rattle.fact_tests.proofs.WorkLemmas.{IsAskedNew, asked_keeps, asked_suits, asked_work}
+
+-- ---- different claims ask different queries
+
+straight_at : (n k : ℕ) (d : Feed) → k < n → slice_index_or (straight n) k d ≡ Wire k false
+straight_at n k d below = get_or-map-range_with_len (λ i. Wire i false) 0 n k k d below (omega arith)
+
+abbrev first_value : Shape → Bool
+first_value (Up i) = false
+first_value (Down i) = true
+first_value (Swap i j a b) = a
+
+abbrev second_value : Shape → Bool
+second_value (Up i) = false
+second_value (Down i) = true
+second_value (Swap i j a b) = b
+
+first_below : (n : ℕ) (shape : Shape) → IsPlaced n shape → first_of shape < n
+first_below n (Up i) placed = placed
+first_below n (Down i) placed = placed
+first_below n (Swap i j a b) placed = omega (arith, placed.0, placed.1)
+
+second_below : (n : ℕ) (shape : Shape) → IsPlaced n shape → second_of shape < n
+second_below n (Up i) placed = placed
+second_below n (Down i) placed = placed
+second_below n (Swap i j a b) placed = placed.1
+
+first_second : (n : ℕ) (shape : Shape) → IsPlaced n shape → first_of shape ≤ second_of shape
+first_second n (Up i) placed = omega arith
+first_second n (Down i) placed = omega arith
+first_second n (Swap i j a b) placed = omega (arith, placed.0)
+
+first_fixed : (n : ℕ) (shape : Shape) (d : Feed) → IsPlaced n shape → slice_index_or (values_feed n shape) (first_of shape) d ≡ Fixed (first_value shape)
+first_fixed n (Up i) d placed = get_or-set_same (straight n) i (Fixed false) d (omega (arith, placed, straight_count n))
+first_fixed n (Down i) d placed = get_or-set_same (straight n) i (Fixed true) d (omega (arith, placed, straight_count n))
+first_fixed n (Swap i j a b) d placed =
+    let apart : i ≢ j = omega (arith, placed.0) in
+    get_or-set_other (with_fixed i a (straight n)) j i (Fixed b) d apart ∙ get_or-set_same (straight n) i (Fixed a) d (omega (arith, placed.0, placed.1, straight_count n))
+
+second_fixed : (n : ℕ) (shape : Shape) (d : Feed) → IsPlaced n shape → slice_index_or (values_feed n shape) (second_of shape) d ≡ Fixed (second_value shape)
+second_fixed n (Up i) d placed = first_fixed n (Up i) d placed
+second_fixed n (Down i) d placed = first_fixed n (Down i) d placed
+second_fixed n (Swap i j a b) d placed =
+    get_or-set_same (with_fixed i a (straight n)) j (Fixed b) d (omega (arith, placed.1, length-set (straight n) i (Fixed a), straight_count n))
+
+-- a fixed input is one of the shape's
+among : (n k : ℕ) (shape : Shape) (d : Feed) (b : Bool) → k < n → slice_index_or (values_feed n shape) k d ≡ Fixed b → (k ≡ first_of shape) ⊎ (k ≡ second_of shape)
+among n k shape d b below is =
+    elim (cases_eq k (first_of shape)) [
+      | inl one ↦ inl one
+      | inr not_one ↦
+          elim (cases_eq k (second_of shape)) [
+            | inl other ↦ inr other
+            | inr not_other ↦
+                let wire : Wire k false ≡ Fixed b = sym (straight_at n k d below) ∙ (sym (own_bit n k shape d (apart_from k shape not_one not_other)) ∙ is) in
+                absurd (clash k b wire)
+          ]
+    ]
+  where
+    clash : (k : ℕ) (b : Bool) → Wire k false ≡ Fixed b → ⊥
+    clash k b e = cc
+
+pick : (a b c d : ℕ) → a ≤ b → c ≤ d → (a ≡ c) ⊎ (a ≡ d) → (b ≡ c) ⊎ (b ≡ d) → (c ≡ a) ⊎ (c ≡ b) → (d ≡ a) ⊎ (d ≡ b) → (a ≡ c) × (b ≡ d)
+pick a b c d l m (inl p) (inr q) u w = (p, q)
+pick a b c d l m (inl p) (inl q) u (inl w) = (p, omega (arith, p, q, w))
+pick a b c d l m (inl p) (inl q) u (inr w) = (p, omega (arith, p, q, w))
+pick a b c d l m (inr p) (inr q) (inl u) w = (omega (arith, p, q, u), q)
+pick a b c d l m (inr p) (inr q) (inr u) w = (omega (arith, p, q, u), q)
+pick a b c d l m (inr p) (inl q) u w = (omega (arith, p, q, l, m), omega (arith, p, q, l, m))
+
+module _ (n : ℕ) (s t : Shape) (placed : IsPlaced n s) (other : IsPlaced n t) (same : values_feed n s ≡ values_feed n t) where
+  none : Feed
+  none = Fixed false
+
+  same_places : (first_of s ≡ first_of t) × (second_of s ≡ second_of t)
+  same_places =
+      pick (first_of s) (second_of s) (first_of t) (second_of t) (first_second n s placed) (first_second n t other) (among n (first_of s) t none (first_value s) (first_below n s placed) (ap (λ f. slice_index_or f (first_of s) none) (sym same) ∙ first_fixed n s none placed)) (among n (second_of s) t none (second_value s) (second_below n s placed) (ap (λ f. slice_index_or f (second_of s) none) (sym same) ∙ second_fixed n s none placed)) (among n (first_of t) s none (first_value t) (first_below n t other) (ap (λ f. slice_index_or f (first_of t) none) same ∙ first_fixed n t none other)) (among n (second_of t) s none (second_value t) (second_below n t other) (ap (λ f. slice_index_or f (second_of t) none) same ∙ second_fixed n t none other))
+
+  first_same : Fixed (first_value s) ≡ Fixed (first_value t)
+  first_same = sym (first_fixed n s none placed) ∙ (ap (λ f. slice_index_or f (first_of s) none) same ∙ (ap (λ k. slice_index_or (values_feed n t) k none) same_places.0 ∙ first_fixed n t none other))
+
+  second_same : Fixed (second_value s) ≡ Fixed (second_value t)
+  second_same = sym (second_fixed n s none placed) ∙ (ap (λ f. slice_index_or f (second_of s) none) same ∙ (ap (λ k. slice_index_or (values_feed n t) k none) same_places.1 ∙ second_fixed n t none other))
+
+by_parts : (n : ℕ) (s t : Shape) → IsPlaced n s → IsPlaced n t → first_of s ≡ first_of t → second_of s ≡ second_of t → Fixed (first_value s) ≡ Fixed (first_value t) → Fixed (second_value s) ≡ Fixed (second_value t) → s ≡ t
+by_parts n (Up i) (Up j) p q f g v w = ap Up f
+by_parts n (Up i) (Down j) p q f g v w = cc
+by_parts n (Up i) (Swap k l a b) p q f g v w = absurd (omega (arith, f, g, q.0))
+by_parts n (Down i) (Up j) p q f g v w = cc
+by_parts n (Down i) (Down j) p q f g v w = ap Down f
+by_parts n (Down i) (Swap k l a b) p q f g v w = absurd (omega (arith, f, g, q.0))
+by_parts n (Swap k l a b) (Up i) p q f g v w = absurd (omega (arith, f, g, p.0))
+by_parts n (Swap k l a b) (Down i) p q f g v w = absurd (omega (arith, f, g, p.0))
+by_parts n (Swap i j a b) (Swap k l c d) p q f g v w = cc
+
+pub claim_same : (graphs : Graphs) (c d : Claim) → IsClaim graphs c → IsClaim graphs d → claim_query graphs c ≡ claim_query graphs d → c ≡ d
+claim_same graphs c d placed other same =
+    let side : c.side ≡ d.side = ap (λ (q : Query). q.left.side) same in
+    let output : c.output ≡ d.output = ap (λ (q : Query). q.left.output) same in
+    let n = (graph_of graphs c.side).inputs in
+    let inputs : (graph_of graphs d.side).inputs ≡ n = ap (λ s. (graph_of graphs s).inputs) (sym side) in
+    let feeds : values_feed n c.shape ≡ values_feed n d.shape = ap (λ (q : Query). q.left.feed) same ∙ ap (λ m. values_feed m d.shape) inputs in
+    let there : IsPlaced n d.shape = subst (λ m. IsPlaced m d.shape) inputs other.placed in
+    let places = same_places n c.shape d.shape placed.placed there feeds in
+    let shape : c.shape ≡ d.shape = by_parts n c.shape d.shape placed.placed there places.0 places.1 (first_same n c.shape d.shape placed.placed there feeds) (second_same n c.shape d.shape placed.placed there feeds) in
+    λ i. record { side = side i; output = output i; shape = shape i }
+
+-- a claim's query isn't one of a match
+pub not_of_match : (graphs : Graphs) (claim : Claim) (query : Query) → IsOfMatch graphs query → query ≡ claim_query graphs claim → ⊥
+not_of_match graphs claim query of_match is =
+    let left : First ≡ claim.side = sym (ap (λ (q : Query). q.left.side) of_match.query_is) ∙ ap (λ (q : Query). q.left.side) is in
+    let right : Second ≡ claim.side = sym (ap (λ (q : Query). q.right.side) of_match.query_is) ∙ ap (λ (q : Query). q.right.side) is in
+    clash (left ∙ sym right)
+  where
+    clash : First ≡ Second → ⊥
+    clash e = cc
+
+-- ---- what is among the answered queries
+
+any_left : {X : Type 0} (P : X → Type 0) (xs ys : List X) → Any P xs → Any P (xs ++ ys)
+any_left {X} P xs ys (k, x, below, at, p) =
+    (k, x, omega (arith, below, length-append xs ys), get_or_append_left xs ys x k below ∙ at, p)
+
+any_right : {X : Type 0} (P : X → Type 0) (xs ys : List X) → Any P ys → Any P (xs ++ ys)
+any_right {X} P xs ys (k, x, below, at, p) =
+    (length xs + k, x, omega (arith, below, length-append xs ys), get_or-append-add xs ys k x ∙ at, p)
+
+any_split : {X : Type 0} (P : X → Type 0) (xs ys : List X) → Any P (xs ++ ys) → Any P xs ⊎ Any P ys
+any_split {X} P xs ys (k, x, below, at, p) =
+    elim (cases_lt k (length xs)) [
+      | inl less ↦ inl (k, x, less, sym (get_or_append_left xs ys x k less) ∙ at, p)
+      | inr past ↦
+          let j = k - length xs in
+          let n : k ≡ length xs + j = omega (arith, past) in
+          inr (j, x, omega (arith, n, below, length-append xs ys), sym (get_or-append-add xs ys j x) ∙ (ap (λ i. slice_index_or (xs ++ ys) i x) (sym n) ∙ at), p)
+    ]
+
+any_last : {X : Type 0} (P : X → Type 0) (xs : List X) (x : X) → P x → Any P (xs ++ x ∷ [])
+any_last {X} P xs x p = any_right P xs (x ∷ []) (0, x, omega arith, refl, p)
+
+-- some element of a list is mapped there
+any_map : {X Y : Type 0} (f : X → Y) (y : Y) (e : X) (xs : List X) → Any (λ other. other ≡ y) (map f xs) → (k : ℕ) × (k < length xs) × (f (slice_index_or xs k e) ≡ y)
+any_map {X} {Y} f y e xs (k, x, below, at, p) =
+    let within : k < length xs = omega (arith, below, length-map xs f) in
+    (k, within, sym (get_or-map f xs k e x within) ∙ (at ∙ p))
+
+module _ (graphs : Graphs) (facts : List Fact) (kept : List Kept) where
+  abbrev of_fact : Fact → Query
+  of_fact fact = claim_query graphs fact.claim
+
+  abbrev of_kept : Kept → Query
+  of_kept entry = entry.query
+
+  pub unanswered_claim : (claim : Claim) → All (IsFact graphs) facts → All (IsKept graphs) kept → IsClaim graphs claim → All (λ fact. fact.claim ≢ claim) facts → IsAnswered (known_by graphs facts kept) (claim_query graphs claim) → ⊥
+  unanswered_claim claim each keeps placed missing answered =
+      elim (any_split (λ other. other ≡ claim_query graphs claim) (map of_fact facts) (map of_kept kept) answered) [
+        | inl any ↦
+            let e : Fact = record { claim = claim; evidence = Fails [] } in
+            let at = any_map of_fact (claim_query graphs claim) e facts any in
+            missing at.0 e at.1 (claim_same graphs (slice_index_or facts at.0 e).claim claim (each at.0 e at.1).placed placed at.2)
+        | inr any ↦
+            let e : Kept = record { query = claim_query graphs claim; answer = Vector [] } in
+            let at = any_map of_kept (claim_query graphs claim) e kept any in
+            not_of_match graphs claim (slice_index_or kept at.0 e).query (keeps at.0 e at.1).of_match at.2
+      ]
+
+  pub unanswered_match : (query : Query) → IsOfMatch graphs query → All (λ entry. entry.query ≢ query) kept → IsAnswered (known_by graphs facts kept) query → ⊥
+  unanswered_match query of_match missing answered =
+      elim (any_split (λ other. other ≡ query) (map of_fact facts) (map of_kept kept) answered) [
+        | inl any ↦
+            let e : Fact = record { claim = record { side = First; output = 0; shape = Up 0 }; evidence = Fails [] } in
+            let at = any_map of_fact query e facts any in
+            not_of_match graphs (slice_index_or facts at.0 e).claim query of_match (sym at.2)
+        | inr any ↦
+            let e : Kept = record { query = query; answer = Vector [] } in
+            let at = any_map of_kept query e kept any in
+            missing at.0 e at.1 at.2
+      ]
+
+  -- a fact more
+  pub more_facts : (fact : Fact) (query : Query) → IsAnswered (known_by graphs facts kept) query → IsAnswered (known_by graphs (facts ++ fact ∷ []) kept) query
+  more_facts fact query answered =
+      let P : Query → Type 0 = λ other. other ≡ query in
+      let now : Any P ((map of_fact facts ++ of_fact fact ∷ []) ++ map of_kept kept) = elim (any_split P (map of_fact facts) (map of_kept kept) answered) [
+        | inl any ↦ any_left P (map of_fact facts ++ of_fact fact ∷ []) (map of_kept kept) (any_left P (map of_fact facts) (of_fact fact ∷ []) any)
+        | inr any ↦ any_right P (map of_fact facts ++ of_fact fact ∷ []) (map of_kept kept) any
+      ] in
+      subst (λ qs. Any P (qs ++ map of_kept kept)) (sym (map_push of_fact facts fact)) now
+
+  pub new_fact : (fact : Fact) → IsAnswered (known_by graphs (facts ++ fact ∷ []) kept) (of_fact fact)
+  new_fact fact =
+      let P : Query → Type 0 = λ other. other ≡ of_fact fact in
+      subst (λ qs. Any P (qs ++ map of_kept kept)) (sym (map_push of_fact facts fact)) (any_left P (map of_fact facts ++ of_fact fact ∷ []) (map of_kept kept) (any_last P (map of_fact facts) (of_fact fact) refl))
+
+  -- an answer more
+  pub more_kept : (entry : Kept) (query : Query) → IsAnswered (known_by graphs facts kept) query → IsAnswered (known_by graphs facts (kept ++ entry ∷ [])) query
+  more_kept entry query answered =
+      let P : Query → Type 0 = λ other. other ≡ query in
+      let now : Any P (map of_fact facts ++ (map of_kept kept ++ of_kept entry ∷ [])) = elim (any_split P (map of_fact facts) (map of_kept kept) answered) [
+        | inl any ↦ any_left P (map of_fact facts) (map of_kept kept ++ of_kept entry ∷ []) any
+        | inr any ↦ any_right P (map of_fact facts) (map of_kept kept ++ of_kept entry ∷ []) (any_left P (map of_kept kept) (of_kept entry ∷ []) any)
+      ] in
+      subst (λ qs. Any P (map of_fact facts ++ qs)) (sym (map_push of_kept kept entry)) now
+
+  pub new_kept : (entry : Kept) → IsAnswered (known_by graphs facts (kept ++ entry ∷ [])) entry.query
+  new_kept entry =
+      let P : Query → Type 0 = λ other. other ≡ entry.query in
+      subst (λ qs. Any P (map of_fact facts ++ qs)) (sym (map_push of_kept kept entry)) (any_right P (map of_fact facts) (map of_kept kept ++ of_kept entry ∷ []) (any_last P (map of_kept kept) (of_kept entry) refl))
+
+-- ---- what a call does
+
+facts_more : (graphs : Graphs) (facts : List Fact) (fact : Fact) → AreFacts graphs facts → All (λ other. other.claim ≢ fact.claim) facts → IsFact graphs fact → AreFacts graphs (facts ++ fact ∷ [])
+facts_more graphs facts fact are missing is = record {
+  each = All-push (IsFact graphs) facts fact are.each is;
+  distinct = all_pairs_push (λ (one other : Fact). one.claim ≢ other.claim) facts fact are.distinct missing;
+}
+
+grows_same : (known : Known) → AreFacts known.graphs known.facts → Grows known known
+grows_same known lawful = record {
+  graphs = refl;
+  added = [];
+  facts = sym (append-nil known.facts);
+  lawful = lawful;
+  answered = λ query answered. answered;
+}
+
+keeps_same : (known : Known) (ledger : Ledgered) → Keeps known ledger ledger
+keeps_same known ledger = record {
+  budget = refl;
+  charged = λ k below charged. (below, below, refl);
+  opened = λ k below. inl (below, below, refl);
+}
+
+asked_new : (known : Known) (query : Query) (before after : Ledgered) → (IsAnswered known query → ⊥) → IsOfClaim known.graphs query ⊎ IsOfMatch known.graphs query → IsAsked known.graphs query before after → IsAskedNew known query before after
+asked_new known query before after unanswered kind asked = record {
+  lines = asked.lines;
+  unanswered = unanswered;
+  of_known = kind;
+  work = asked.work;
+  budget = asked.budget;
+  asked = asked.asked;
+}
+
+decided_keeps : (known : Known) (query : Query) (before after : Ledgered) → (IsAnswered known query → ⊥) → IsOfClaim known.graphs query ⊎ IsOfMatch known.graphs query → IsDecided known.graphs query before after → Keeps known before after
+decided_keeps known query before after unanswered kind (inl same) = subst (Keeps known before) (sym same) (keeps_same known before)
+decided_keeps known query before after unanswered kind (inr asked) = asked_keeps known query before after (asked_new known query before after unanswered kind asked)
+
+same_suits : (known later : Known) (ledger : Ledgered) → later.graphs ≡ known.graphs → ((q : Query) → IsAnswered known q → IsAnswered later q) → Suits known ledger → Suits later ledger
+same_suits known later ledger graphs more suits = record {
+  work = subst (λ (g : Graphs). IsWorkOfClaimsAndMatches g ledger) (sym graphs) suits.work;
+  unspent = suits.unspent;
+  answered = λ k d below charged. more (slice_index_or ledger.asked k d).query (suits.answered k d below charged);
+}
+
+decided_suits : (known later : Known) (query : Query) (before after : Ledgered) → Grows known later → IsAnswered later query → (IsAnswered known query → ⊥) → IsOfClaim known.graphs query ⊎ IsOfMatch known.graphs query → IsDecided known.graphs query before after → after.spent ≡ false → Suits known before → Suits later after
+decided_suits known later query before after grows answered unanswered kind (inl same) unspent suits =
+    subst (Suits later) (sym same) (same_suits known later before grows.graphs grows.answered suits)
+decided_suits known later query before after grows answered unanswered kind (inr asked) unspent suits =
+    asked_suits known query before after (asked_new known query before after unanswered kind asked) later grows.graphs grows.answered answered unspent suits
+
+pub serves_decided : {X : Type 0} (known later : Known) (query : Query) (before after : Ledgered) (answer : X) → Grows known later → IsAnswered later query → (IsAnswered known query → ⊥) → IsOfClaim known.graphs query ⊎ IsOfMatch known.graphs query → IsDecided known.graphs query before after → after.spent ≡ false → Suits known before → Serves {X = X} known later before after (Ok answer)
+serves_decided {X} known later query before after answer grows answered unanswered kind decided unspent suits = record {
+  grows = grows;
+  suits = decided_suits known later query before after grows answered unanswered kind decided unspent suits;
+  keeps = decided_keeps known query before after unanswered kind decided;
+  stopped = tt;
+}
+
+halted_stopped : (known : Known) (query : Query) (before after : Ledgered) (stop : Stop) → (IsAnswered known query → ⊥) → IsOfClaim known.graphs query ⊎ IsOfMatch known.graphs query → IsHalted known.graphs query before after stop → Suits known before → IsStopped known before after stop
+halted_stopped known query before after Memory unanswered kind halted suits = tt
+halted_stopped known query before after (Spent learned) unanswered kind halted suits =
+    let new = asked_new known query before after unanswered kind halted.asked in
+    record {
+      learned_is = halted.learned_is;
+      used = halted.used;
+      refused = halted.refused;
+      work = asked_work known query before after new suits;
+      keeps = asked_keeps known query before after new;
+    }
+
+pub serves_halted : {X : Type 0} (known : Known) (query : Query) (before after : Ledgered) (stop : Stop) → AreFacts known.graphs known.facts → (IsAnswered known query → ⊥) → IsOfClaim known.graphs query ⊎ IsOfMatch known.graphs query → IsHalted known.graphs query before after stop → Suits known before → Serves {X = X} known known before after (Err stop)
+serves_halted {X} known query before after stop lawful unanswered kind halted suits = record {
+  grows = grows_same known lawful;
+  suits = tt;
+  keeps = tt;
+  stopped = halted_stopped known query before after stop unanswered kind halted suits;
+}
+
+-- another answer in the place of one
+pub serves_ok : {X Y : Type 0} (old new : Known) (before after : Ledgered) (r : Result X Stop) (x : X) (y : Y) → r ≡ Ok x → Serves {X = X} old new before after r → Serves {X = Y} old new before after (Ok y)
+serves_ok {X} {Y} old new before after r x y is serves =
+    let s : Serves {X = X} old new before after (Ok x) = subst (λ (q : Result X Stop). Serves {X = X} old new before after q) is serves in
+    record { grows = s.grows; suits = s.suits; keeps = s.keeps; stopped = tt }
+
+-- ---- one call behind another
+
+keeps_then : (old mid : Known) (before between after : Ledgered) → Grows old mid → Keeps old before between → Keeps mid between after → Keeps old before after
+keeps_then old mid before between after grows one other = record {
+  budget = other.budget ∙ one.budget;
+  charged = λ k below charged.
+      let first = one.charged k below charged in
+      let still : IsCharged (entry_at between.asked k) = subst IsCharged (sym first.2) charged in
+      let second = other.charged k first.1 still in
+      (first.0, second.1, second.2 ∙ first.2);
+  opened = λ k below. elim (other.opened k below) [
+    | inr new ↦ inr (λ answered. new (grows.answered (entry_at after.asked k).query answered))
+    | inl same ↦
+        elim (one.opened k same.0) [
+          | inl before_too ↦ inl (before_too.0, same.1, same.2 ∙ before_too.2)
+          | inr new ↦ inr (λ answered. new (subst (λ (e : Asked). IsAnswered old e.query) same.2 answered))
+        ]
+  ];
+}
+
+stopped_then : (old mid : Known) (before between after : Ledgered) (stop : Stop) → Grows old mid → Keeps old before between → IsStopped mid between after stop → IsStopped old before after stop
+stopped_then old mid before between after Memory grows keeps stopped = tt
+stopped_then old mid before between after (Spent learned) grows keeps stopped = record {
+  learned_is = stopped.learned_is ∙ keeps.budget;
+  used = stopped.used ∙ keeps.budget;
+  refused = stopped.refused;
+  work = subst (λ (g : Graphs). IsWorkOfClaimsAndMatches g after) grows.graphs stopped.work;
+  keeps = keeps_then old mid before between after grows keeps stopped.keeps;
+}
+
+pub serves_then : {X Y : Type 0} (old mid new : Known) (before between after : Ledgered) (r : Result X Stop) (x : X) (s : Result Y Stop) → r ≡ Ok x → Serves {X = X} old mid before between r → Serves {X = Y} mid new between after s → Serves {X = Y} old new before after s
+serves_then {X} {Y} old mid new before between after r x s is one other =
+    let first : Serves {X = X} old mid before between (Ok x) = subst (λ (q : Result X Stop). Serves {X = X} old mid before between q) is one in
+    let keeps : Keeps old before between = first.keeps in
+    record {
+      grows = record {
+        graphs = other.grows.graphs ∙ first.grows.graphs;
+        added = first.grows.added ++ other.grows.added;
+        facts = other.grows.facts ∙ (ap (λ (fs : List Fact). fs ++ other.grows.added) first.grows.facts ∙ append_assoc old.facts first.grows.added other.grows.added);
+        lawful = other.grows.lawful;
+        answered = λ query answered. other.grows.answered query (first.grows.answered query answered);
+      };
+      suits = other.suits;
+      keeps = IfOk-weaker s (λ (y : Y). Keeps mid between after) (λ (y : Y). Keeps old before after) (λ y later. keeps_then old mid before between after first.grows keeps later) other.keeps;
+      stopped = IfErr-weaker s (IsStopped mid between after) (IsStopped old before after) (λ stop stopped. stopped_then old mid before between after stop first.grows keeps stopped) other.stopped;
+    }
+
+-- ---- a claim is decided
+
+module _ (graphs : Graphs) (facts : List Fact) (kept : List Kept) (claim : Claim) (known : Known) (is : known_by graphs facts kept ≡ known) (are : AreFacts graphs facts) (keeps : All (IsKept graphs) kept) (placed : IsClaim known.graphs claim) (missing : All (λ fact. fact.claim ≢ claim) known.facts) where
+  here : Known
+  here = known_by graphs facts kept
+
+  placed_here : IsClaim graphs claim
+  placed_here = subst (λ (k : Known). IsClaim k.graphs claim) (sym is) placed
+
+  missing_here : All (λ fact. fact.claim ≢ claim) facts
+  missing_here = subst (λ (k : Known). All (λ fact. fact.claim ≢ claim) k.facts) (sym is) missing
+
+  unanswered_here : IsAnswered (known_by graphs facts kept) (claim_query graphs claim) → ⊥
+  unanswered_here = unanswered_claim graphs facts kept claim are.each keeps placed_here missing_here
+
+  not_held : {T : Type 0} (number : ℕ) → IsNumberOf known.facts claim number → T
+  not_held {T} number number_is =
+      let e : Fact = record { claim = claim; evidence = Fails [] } in
+      absurd (missing number e number_is.within (number_is.claim_is e))
+
+  pub claim_lawful : (evidence : Evidence) (later : List Fact) → IsEvidence graphs claim evidence → later ≡ facts ++ record { claim = claim; evidence = evidence } ∷ [] → AreFacts graphs later
+  claim_lawful evidence later evident more =
+      subst (AreFacts graphs) (sym more) (facts_more graphs facts (record { claim = claim; evidence = evidence }) are missing_here (record { placed = placed_here; evidence = evident }))
+
+  pub claims_ok : (before after : Ledgered) (evidence : Evidence) (later : List Fact) (number : ℕ) → IsEvidence graphs claim evidence → IsDecided graphs (claim_query graphs claim) before after → after.spent ≡ false → Suits known before → later ≡ facts ++ record { claim = claim; evidence = evidence } ∷ [] → number ≡ length facts → Claims claim known (known_by graphs later kept) before after (Ok number)
+  claims_ok before after evidence later number evident decided unspent suits more number_is =
+      let fact : Fact = record { claim = claim; evidence = evidence } in
+      let grows : Grows (known_by graphs facts kept) (known_by graphs later kept) = record {
+        graphs = refl;
+        added = fact ∷ [];
+        facts = more;
+        lawful = claim_lawful evidence later evident more;
+        answered = λ query answered. subst (λ (fs : List Fact). IsAnswered (known_by graphs fs kept) query) (sym more) (more_facts graphs facts kept fact query answered);
+      } in
+      let answered : IsAnswered (known_by graphs later kept) (claim_query graphs claim) = subst (λ (fs : List Fact). IsAnswered (known_by graphs fs kept) (claim_query graphs claim)) (sym more) (new_fact graphs facts kept fact) in
+      let suits_here = subst (λ (k : Known). Suits k before) (sym is) suits in
+      let serves = serves_decided {X = ℕ} (known_by graphs facts kept) (known_by graphs later kept) (claim_query graphs claim) before after number grows answered unanswered_here (inl (claim, placed_here, refl)) decided unspent suits_here in
+      let n : number ≡ length facts + 0 = omega (arith, number_is) in
+      record {
+        serves = subst (λ (k : Known). Serves {X = ℕ} k (known_by graphs later kept) before after (Ok number)) is serves;
+        number = record {
+          within = omega (arith, number_is, ap length more, length-append facts (fact ∷ []));
+          claim_is = λ d. ap (λ (f : Fact). f.claim) (ap (λ (fs : List Fact). slice_index_or fs number d) more ∙ (ap (λ k. slice_index_or (facts ++ fact ∷ []) k d) n ∙ get_or-append-add facts (fact ∷ []) 0 d));
+        };
+        held = λ number number_is. not_held number number_is;
+      }
+
+  pub claims_stopped : (before after : Ledgered) (stop : Stop) → Suits known before → IsHalted graphs (claim_query graphs claim) before after stop → Claims claim known (known_by graphs facts kept) before after (Err stop)
+  claims_stopped before after stop suits halted =
+      let suits_here = subst (λ (k : Known). Suits k before) (sym is) suits in
+      let serves = serves_halted {X = ℕ} (known_by graphs facts kept) (claim_query graphs claim) before after stop are unanswered_here (inl (claim, placed_here, refl)) halted suits_here in
+      record {
+        serves = subst (λ (k : Known). Serves {X = ℕ} k (known_by graphs facts kept) before after (Err stop)) is serves;
+        number = tt;
+        held = λ number number_is. not_held number number_is;
+      }
+
+  -- there is no memory to note the fact
+  pub claims_refused : (before after : Ledgered) (later : List Fact) (r : Result ℕ Stop) → later ≡ facts → IsErr r → IsErrAnd r (λ stop. stop ≡ Memory) → Suits known before → Claims claim known (known_by graphs later kept) before after r
+  claims_refused before after later (Ok number) same err and suits = absurd (false≢true err)
+  claims_refused before after later (Err stop) same err and suits =
+      let halted : IsHalted graphs (claim_query graphs claim) before after stop = subst (IsHalted graphs (claim_query graphs claim) before after) (sym and) tt in
+      subst (λ (fs : List Fact). Claims claim known (known_by graphs fs kept) before after (Err stop)) (sym same) (claims_stopped before after stop suits halted)
+
+-- ---- a query of a match is answered
+
+module _ (graphs : Graphs) (facts : List Fact) (kept : List Kept) (query : Query) (known : Known) (is : known_by graphs facts kept ≡ known) (are : AreFacts graphs facts) (of_match : IsOfMatch known.graphs query) (missing : IsAnswered known query → ⊥) where
+  match_here : IsOfMatch graphs query
+  match_here = subst (λ (k : Known). IsOfMatch k.graphs query) (sym is) of_match
+
+  missing_there : IsAnswered (known_by graphs facts kept) query → ⊥
+  missing_there answered = missing (subst (λ (k : Known). IsAnswered k query) is answered)
+
+  pub kept_more : (answer : Answer) (later : List Kept) → All (IsKept graphs) kept → IsAnswer graphs query answer → later ≡ kept ++ record { query = query; answer = answer } ∷ [] → All (IsKept graphs) later
+  kept_more answer later keeps answer_is more =
+      subst (All (IsKept graphs)) (sym more) (All-push (IsKept graphs) kept (record { query = query; answer = answer }) keeps (record { of_match = match_here; answer = answer_is }))
+
+  pub answer_ok : {X : Type 0} (before after : Ledgered) (answer : Answer) (later : List Kept) (x : X) → IsAsked graphs query before after → after.spent ≡ false → Suits known before → later ≡ kept ++ record { query = query; answer = answer } ∷ [] → Serves {X = X} known (known_by graphs facts later) before after (Ok x)
+  answer_ok {X} before after answer later x asked unspent suits more =
+      let entry : Kept = record { query = query; answer = answer } in
+      let grows : Grows (known_by graphs facts kept) (known_by graphs facts later) = record {
+        graphs = refl;
+        added = [];
+        facts = sym (append-nil facts);
+        lawful = are;
+        answered = λ q answered. subst (λ (ks : List Kept). IsAnswered (known_by graphs facts ks) q) (sym more) (more_kept graphs facts kept entry q answered);
+      } in
+      let answered : IsAnswered (known_by graphs facts later) query = subst (λ (ks : List Kept). IsAnswered (known_by graphs facts ks) query) (sym more) (new_kept graphs facts kept entry) in
+      let suits_here = subst (λ (k : Known). Suits k before) (sym is) suits in
+      let serves = serves_decided {X = X} (known_by graphs facts kept) (known_by graphs facts later) query before after x grows answered missing_there (inr match_here) (inr asked) unspent suits_here in
+      subst (λ (k : Known). Serves {X = X} k (known_by graphs facts later) before after (Ok x)) is serves
+
+  pub answer_stopped : {X : Type 0} (before after : Ledgered) (stop : Stop) → Suits known before → IsHalted graphs query before after stop → Serves {X = X} known known before after (Err stop)
+  answer_stopped {X} before after stop suits halted =
+      let suits_here = subst (λ (k : Known). Suits k before) (sym is) suits in
+      let serves = serves_halted {X = X} (known_by graphs facts kept) query before after stop are missing_there (inr match_here) halted suits_here in
+      subst (λ (k : Known). Serves {X = X} k k before after (Err stop)) is serves

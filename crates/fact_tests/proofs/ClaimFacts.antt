@@ -1,0 +1,113 @@
+-- What claims that hold or fail say of an output.
+use Rattle.std.proofs.Common.{◌≡◌, ℕ, ◌<◌, Bool, true, false, not, List, get_or, refl, sym, subst, ap, ◌∙◌, inl, inr}
+use Rattle.std.proofs.lemmas.Bool.{false≢true}
+use Rattle.std.specs.Bool.{Decides}
+use Rattle.circuits.specs.Netlists.{Net}
+use Rattle.net_core.specs.declared.graphs.Graphs.{Graphs}
+use Rattle.query_core.specs.declared.claims.Claim.{Claim}
+use Rattle.query_core.specs.declared.claims.Shape.{Shape}
+use Rattle.query_core.specs.declared.claims.Shape.TheVariants.{Up, Down, Swap}
+use Rattle.cnf_core.proofs.DerivationLaws.{refuted_unmet}
+use Rattle.net_core.specs.Graph.{IsGraph}
+use Rattle.net_core.specs.Sides.{graph_of}
+use Rattle.account_core.specs.declared.fact.Evidence.{Evidence}
+use Rattle.account_core.specs.declared.fact.Evidence.TheVariants.{Fails, Holds as HoldsBy}
+use Rattle.account_core.specs.declared.fact.Fact.{Fact}
+use Rattle.account_core.specs.Oracles.{AreFacts, IsEvidence, IsFact, IsNumberOf}
+use Rattle.query_core.specs.ClaimQueries.{claim_query}
+use Rattle.query_core.specs.Claims.{output_bit, Holds, IsClaim, IsPlaced, ShapeHolds, ShapeFails}
+use Rattle.query_core.specs.Formulas.{formula_of}
+use Rattle.query_core.specs.Queries.{IsQuery, IsUnmet}
+use Rattle.query_core.proofs.AssignmentLemmas.{assignment_there}
+use Rattle.query_core.proofs.ClaimQueryLemmas.{claim_query_fits, holds-unmet}
+use Rattle.query_core.proofs.ClaimLaws.{no_break, inside-fails, holds_or_fails, symmetric-swaps, skew-swaps}
+use Rattle.fact_tests.specs.Outputs.{IsAlike, IsDependence, IsSymmetry, dependence, is_for, symmetry}
+use Rattle.fact_tests.specs.Functions.{InSupport, IsSymmetric, IsSkew}
+
+-- an input is outside the support where both claims hold, and inside where one of them doesn't
+outside : (net : Net) (k i : ℕ) → i < net.inputs → ShapeHolds net k (Up i) → ShapeHolds net k (Down i) → InSupport net.inputs (output_bit net k) i → ⊥
+outside net k i there up down inside =
+    elim ((inside-fails net k i there).0 inside) [
+      | inl fails ↦ no_break net k (Up i) up fails
+      | inr fails ↦ no_break net k (Down i) down fails
+    ]
+
+failing : (net : Net) (k : ℕ) (shape : Shape) → IsPlaced net.inputs shape → (ShapeHolds net k shape → ⊥) → ShapeFails net k shape
+failing net k shape placed never = elim (holds_or_fails net k shape placed) [ inl holds ↦ absurd (never holds) | inr fails ↦ fails ]
+
+-- what isn't answered true is false
+refuted : {P : Type 0} → Decides false P → P → ⊥
+refuted decides p = false≢true (decides.1 p)
+
+pub dependence_is : (net : Net) (k i : ℕ) (never_falls never_rises : Bool) → i < net.inputs
+    → Decides never_falls (ShapeHolds net k (Up i))
+    → Decides never_rises (ShapeHolds net k (Down i))
+    → IsDependence net.inputs (output_bit net k) i (dependence never_falls never_rises)
+dependence_is net k i true true there up down = outside net k i there (up.0 refl) (down.0 refl)
+dependence_is net k i true false there up down =
+    ((inside-fails net k i there).1 (inr (failing net k (Down i) there (refuted down))), up.0 refl)
+dependence_is net k i false true there up down =
+    ((inside-fails net k i there).1 (inl (failing net k (Up i) there (refuted up))), down.0 refl)
+dependence_is net k i false false there up down =
+    ((inside-fails net k i there).1 (inl (failing net k (Up i) there (refuted up))), (refuted up, refuted down))
+
+-- two inputs may be exchanged where both swaps hold
+pub alike_both : (net : Net) (k i j : ℕ) (inverted second : Bool)
+    → ShapeHolds net k (Swap i j false (not inverted))
+    → Decides second (ShapeHolds net k (Swap i j true inverted))
+    → Decides second (IsAlike net.inputs (output_bit net k) i j inverted)
+alike_both net k i j false second holds decides =
+    (λ is. (symmetric-swaps net k i j).1 (holds, decides.0 is), λ alike. decides.1 ((symmetric-swaps net k i j).0 alike).1)
+alike_both net k i j true second holds decides =
+    (λ is. (skew-swaps net k i j).1 (holds, decides.0 is), λ alike. decides.1 ((skew-swaps net k i j).0 alike).1)
+
+-- the same of shapes that are these swaps
+pub alike_then : (net : Net) (k i j : ℕ) (inverted second : Bool) (one other : Shape)
+    → one ≡ Swap i j false (not inverted)
+    → other ≡ Swap i j true inverted
+    → ShapeHolds net k one
+    → Decides second (ShapeHolds net k other)
+    → Decides second (IsAlike net.inputs (output_bit net k) i j inverted)
+alike_then net k i j inverted second one other is also holds decides =
+    alike_both net k i j inverted second (subst (ShapeHolds net k) is holds) (subst (λ shape. Decides second (ShapeHolds net k shape)) also decides)
+
+-- and not where the first of them doesn't
+pub alike_never : (net : Net) (k i j : ℕ) (inverted : Bool)
+    → (ShapeHolds net k (Swap i j false (not inverted)) → ⊥)
+    → Decides false (IsAlike net.inputs (output_bit net k) i j inverted)
+alike_never net k i j false never = (λ is. absurd (false≢true is), λ alike. absurd (never ((symmetric-swaps net k i j).0 alike).0))
+alike_never net k i j true never = (λ is. absurd (false≢true is), λ alike. absurd (never ((skew-swaps net k i j).0 alike).0))
+
+pub symmetry_is : (n : ℕ) (f : List Bool → Bool) (i j : ℕ) (symmetric skew : Bool)
+    → Decides symmetric (IsSymmetric n f i j)
+    → Decides skew (IsSkew n f i j)
+    → IsSymmetry n f i j (symmetry symmetric skew)
+symmetry_is n f i j true true one other = (one.0 refl, other.0 refl)
+symmetry_is n f i j true false one other = (one.0 refl, refuted other)
+symmetry_is n f i j false true one other = (refuted one, other.0 refl)
+symmetry_is n f i j false false one other = (refuted one, refuted other)
+
+-- what a fact's evidence says of its claim
+pub told_by : (graphs : Graphs) (claim : Claim) (evidence : Evidence) → IsGraph graphs.first → IsGraph graphs.second → IsClaim graphs claim
+    → IsEvidence graphs claim evidence
+    → Decides (is_for evidence) (Holds graphs claim)
+told_by graphs claim (Fails vector) first second placed breaks =
+    (λ is. absurd (false≢true is), λ holds. absurd (no_break (graph_of graphs claim.side) claim.output claim.shape holds (vector, breaks)))
+told_by graphs claim (HoldsBy log) first second placed refutes =
+    (λ is. (holds-unmet graphs claim).1 (unmet (claim_query_fits graphs claim placed)), λ holds. refl)
+  where
+    unmet : IsQuery graphs (claim_query graphs claim) → IsUnmet graphs (claim_query graphs claim)
+    unmet fits x same meets =
+        let there = assignment_there graphs (claim_query graphs claim) x first second fits same meets in
+        refuted_unmet (formula_of graphs (claim_query graphs claim)) log.lines there.0 refutes there.1
+
+-- what the fact of a number says of its claim
+pub told : (graphs : Graphs) (facts : List Fact) (claim : Claim) (number : ℕ) (fact : Fact) → IsGraph graphs.first → IsGraph graphs.second
+    → AreFacts graphs facts
+    → IsNumberOf facts claim number
+    → fact ≡ get_or facts number fact
+    → Decides (is_for fact.evidence) (Holds graphs claim)
+told graphs facts claim number fact first second lawful is same =
+    let here : IsFact graphs fact = subst (IsFact graphs) (sym same) (lawful.each number fact is.within) in
+    let of : fact.claim ≡ claim = ap (λ (fact : Fact). fact.claim) same ∙ is.claim_is fact in
+    subst (λ claim. Decides (is_for fact.evidence) (Holds graphs claim)) of (told_by graphs fact.claim fact.evidence first second here.placed here.evidence)

@@ -1,0 +1,366 @@
+-- Rows that grow entry by entry.
+use Rattle.std.proofs.Common.{◌≡◌, ◌⊎◌, ℕ, ◌+◌, ◌-◌, ◌<◌, ◌≤◌, Bool, List, [], ◌∷◌, ◌++◌, length, take, drop, Option, None, Some, Any, get_or, refl, sym, subst, ap, ◌∙◌, inl, inr, arith}
+use Rattle.std.proofs.lemmas.Bool.{cases_lt}
+use Rattle.std.proofs.lemmas.List.{append-nil, get_or_append_left, get_or_default, get_or_past, get_or_push, get_or-drop, length-drop, length_push, take_all}
+use Rattle.std.proofs.lemmas.List.Elements.{All-drop, All-push}
+use Rattle.std.proofs.lemmas.List.Quantifiers.{Any-push, all_pairs_push}
+use Rattle.circuits.specs.Circuits.{Circuit}
+use Rattle.circuits.specs.Functions.{Computes}
+use Rattle.circuits.specs.Literals.{EachAt, bit}
+use Rattle.circuits.specs.Netlists.{Net}
+use Rattle.query_core.specs.Claims.{output_bit}
+use Rattle.port_report.specs.declared.info.OutputInfo.{OutputInfo}
+use Rattle.port_report.specs.declared.info.Unate.{Unate}
+use Rattle.port_report.specs.declared.info.Unate.TheVariants.{Positive}
+use Rattle.port_report.specs.declared.info.Sym.{Sym}
+use Rattle.fact_tests.specs.Functions.{InSupport, IsSymmetric, IsSkew}
+use Rattle.fact_tests.specs.Rows.{IsEntry, ListsSupport, IsPair, IsBefore, ListsPairs, IsRow, AreRows, AreRowsOf}
+use Rattle.fact_tests.specs.Outputs.{IsDependence, IsSymmetry, entry_of, pair_of}
+
+-- what is among the first entries is among more
+any_more : {X : Type 0} (P : X → Type 0) (xs : List X) (x : X) → Any P xs → Any P (xs ++ x ∷ [])
+any_more P xs x (k, found, h, at, is) = (k, found, omega (arith, h, length_push xs x), get_or_append_left xs (x ∷ []) found k h ∙ at, is)
+
+pub support_none : (n : ℕ) (f : List Bool → Bool) → ListsSupport n f 0 0 []
+support_none n f = record {
+  right = λ k d h. absurd (omega (arith, h));
+  within = λ k d h. absurd (omega (arith, h));
+  ascending = λ i j d less h. absurd (omega (arith, h));
+  whole = λ i low high. absurd (omega (arith, high));
+}
+
+-- the next input is decided
+pub support_more : (n : ℕ) (f : List Bool → Bool) (start end : ℕ) (entries : List (ℕ × Unate)) (unate : Option Unate)
+    → ListsSupport n f start end entries
+    → start ≤ end
+    → end < n
+    → IsDependence n f end unate
+    → ListsSupport n f start (end + 1) (entries ++ entry_of end unate)
+support_more n f start end entries None lists low there outside =
+    subst (ListsSupport n f start (end + 1)) (sym (append-nil entries)) (record {
+      right = lists.right;
+      within = λ k d h. let is = lists.within k d h in (is.0, omega (arith, is.1));
+      ascending = lists.ascending;
+      whole = λ i from below inside.
+          elim (cases_lt i end) [
+            | inl less ↦ lists.whole i from less inside
+            | inr past ↦ let same : i ≡ end = omega (arith, below) in absurd (outside (subst (InSupport n f) same inside))
+          ];
+    })
+support_more n f start end entries (Some unate) lists low there depends =
+    let entry : ℕ × Unate = (end, unate) in
+    record {
+      right = All-push (IsEntry n f) entries entry lists.right (record { there = there; inside = depends.0; unate = depends.1 });
+      within = All-push (λ (entry : ℕ × Unate). (start ≤ entry.0) × (entry.0 < end + 1)) entries entry
+          (λ k d h. let is = lists.within k d h in (is.0, omega (arith, is.1))) (low, omega arith);
+      ascending = all_pairs_push (λ (one other : ℕ × Unate). one.0 < other.0) entries entry lists.ascending (λ k d h. (lists.within k d h).1);
+      whole = λ i from below inside.
+          elim (cases_lt i end) [
+            | inl less ↦ any_more (λ (entry : ℕ × Unate). entry.0 ≡ i) entries entry (lists.whole i from less inside)
+            | inr past ↦ Any-push (λ (entry : ℕ × Unate). entry.0 ≡ i) entries entry (omega (arith, below))
+          ];
+    }
+
+-- the input at a place of the support; behind the last one, the number of inputs
+abbrev pub input_at : ℕ → List (ℕ × Unate) → ℕ → ℕ
+input_at n entries t = (get_or entries t (n, Positive)).0
+
+pub input_at-le : (n : ℕ) (f : List Bool → Bool) (start : ℕ) (entries : List (ℕ × Unate)) (t : ℕ) → ListsSupport n f start n entries → input_at n entries t ≤ n
+input_at-le n f start entries t lists =
+    elim (cases_lt t (length entries)) [
+      | inl less ↦ omega (arith, (lists.within t (n, Positive) less).1)
+      | inr past ↦ omega (arith, ap (λ (entry : ℕ × Unate). entry.0) (get_or_past entries t (n, Positive) past))
+    ]
+
+-- an entry, whatever the default
+same_entry : (entries : List (ℕ × Unate)) (k : ℕ) (d e : ℕ × Unate) → k < length entries → (get_or entries k d).0 ≡ (get_or entries k e).0
+same_entry entries k d e h = ap (λ (entry : ℕ × Unate). entry.0) (get_or_default entries k d e h)
+
+ascending_at : (n : ℕ) (f : List Bool → Bool) (start : ℕ) (entries : List (ℕ × Unate)) (i j : ℕ) → ListsSupport n f start n entries → i ≤ j → j < length entries → input_at n entries i ≤ input_at n entries j
+ascending_at n f start entries i j lists le h =
+    elim (cases_lt i j) [
+      | inl less ↦ omega (arith, lists.ascending i j (n, Positive) less h)
+      | inr past ↦ let same : i ≡ j = omega (arith, le) in omega (arith, ap (input_at n entries) same)
+    ]
+
+-- no input of the support lies before the one at a place and behind those in front of it
+pub support_gap : (n : ℕ) (f : List Bool → Bool) (start : ℕ) (entries : List (ℕ × Unate)) (t b : ℕ)
+    → ListsSupport n f start n entries
+    → start ≤ b
+    → ((k : ℕ) → k < t → k < length entries → input_at n entries k < b)
+    → b < input_at n entries t
+    → InSupport n f b
+    → ⊥
+support_gap n f start entries t b lists from behind before inside =
+    let found = lists.whole b from (omega (arith, before, input_at-le n f start entries t lists)) inside in
+    at found.0 found.1 found.2 found.3 found.4
+  where
+    at : (k : ℕ) (entry : ℕ × Unate) → k < length entries → get_or entries k entry ≡ entry → entry.0 ≡ b → ⊥
+    at k entry h is same =
+        let here : input_at n entries k ≡ b = same_entry entries k (n, Positive) entry h ∙ (ap (λ (entry : ℕ × Unate). entry.0) is ∙ same) in
+        elim (cases_lt k t) [
+          | inl less ↦ omega (arith, behind k less h, here)
+          | inr past ↦ omega (arith, ascending_at n f start entries t k lists past h, here, before)
+        ]
+
+-- none before the first one
+pub support_first : (n : ℕ) (f : List Bool → Bool) (start : ℕ) (entries : List (ℕ × Unate)) (b : ℕ) → ListsSupport n f start n entries → start ≤ b → b < input_at n entries 0 → InSupport n f b → ⊥
+support_first n f start entries b lists from before inside =
+    support_gap n f start entries 0 b lists from (λ k less h. absurd (omega (arith, less))) before inside
+
+-- none between one and the next
+pub support_next : (n : ℕ) (f : List Bool → Bool) (start : ℕ) (entries : List (ℕ × Unate)) (t b : ℕ) → ListsSupport n f start n entries → t < length entries → input_at n entries t < b → b < input_at n entries (t + 1) → InSupport n f b → ⊥
+support_next n f start entries t b lists there behind before inside =
+    support_gap n f start entries (t + 1) b lists (omega (arith, (lists.within t (n, Positive) there).0, behind))
+    (λ k less h. omega (arith, ascending_at n f start entries k t lists (omega (arith, less)) there, behind)) before inside
+
+-- what stands behind an entry is the rest of the support
+pub support_behind : (n : ℕ) (f : List Bool → Bool) (entries : List (ℕ × Unate)) (t : ℕ) → ListsSupport n f 0 n entries → t < length entries → ListsSupport n f (input_at n entries t + 1) n (drop (t + 1) entries)
+support_behind n f entries t lists there =
+    let P : ℕ × Unate → Type 0 = λ entry. (input_at n entries t + 1 ≤ entry.0) × (entry.0 < n) in
+    record {
+      right = All-drop (IsEntry n f) (t + 1) entries lists.right;
+      within = λ k d h.
+          let there' : t + 1 + k < length entries = omega (arith, h, length-drop (t + 1) entries) in
+          subst P (sym (get_or-drop (t + 1) entries k d)) (
+            omega (arith, lists.ascending t (t + 1 + k) (n, Positive) (omega arith) there', same_entry entries (t + 1 + k) d (n, Positive) there'),
+            (lists.within (t + 1 + k) d there').1,
+          );
+      ascending = λ i j d less h.
+          let last : t + 1 + j < length entries = omega (arith, h, length-drop (t + 1) entries) in
+          omega (
+            arith,
+            lists.ascending (t + 1 + i) (t + 1 + j) d (omega (arith, less)) last,
+            ap (λ (entry : ℕ × Unate). entry.0) (get_or-drop (t + 1) entries i d),
+            ap (λ (entry : ℕ × Unate). entry.0) (get_or-drop (t + 1) entries j d),
+          );
+      whole = λ b from below inside.
+          let found = lists.whole b (omega arith) below inside in
+          at b from found.0 found.1 found.2 found.3 found.4;
+    }
+  where
+    at : (b : ℕ) → input_at n entries t + 1 ≤ b → (k : ℕ) (entry : ℕ × Unate) → k < length entries → get_or entries k entry ≡ entry → entry.0 ≡ b → Any (λ (entry : ℕ × Unate). entry.0 ≡ b) (drop (t + 1) entries)
+    at b from k entry h is same =
+        elim (cases_lt t k) [
+          | inl less ↦
+              let back : t + 1 + (k - (t + 1)) ≡ k = omega (arith, less) in
+              (k - (t + 1), entry, omega (arith, h, less, length-drop (t + 1) entries), get_or-drop (t + 1) entries (k - (t + 1)) entry ∙ (ap (λ k. get_or entries k entry) back ∙ is), same)
+          | inr past ↦
+              let here : input_at n entries k ≡ b = same_entry entries k (n, Positive) entry h ∙ (ap (λ (entry : ℕ × Unate). entry.0) is ∙ same) in
+              absurd (omega (arith, ascending_at n f 0 entries k t lists past there, here, from))
+        ]
+
+-- pairs
+
+pub pairs_none : (n : ℕ) (f : List Bool → Bool) → ListsPairs n f 0 0 []
+pairs_none n f = record {
+  right = λ k d h. absurd (omega (arith, h));
+  below = λ k d h. absurd (omega (arith, h));
+  ascending = λ i j d less h. absurd (omega (arith, h));
+  whole = λ a b before. elim before [ inl less ↦ absurd (omega (arith, less)) | inr same ↦ absurd (omega (arith, same.1)) ];
+}
+
+before_more : (a b i j k : ℕ) → j ≤ k → IsBefore a b i j → IsBefore a b i k
+before_more a b i j k le before = elim before [ inl less ↦ inl less | inr same ↦ inr (same.0, omega (arith, same.1, le)) ]
+
+before_later : (a b i j k m : ℕ) → i < k → IsBefore a b i j → IsBefore a b k m
+before_later a b i j k m lt before = elim before [ inl less ↦ inl (omega (arith, less, lt)) | inr same ↦ inl (omega (arith, same.0, lt)) ]
+
+-- no input of the support lies between
+pub pairs_skip : (n : ℕ) (f : List Bool → Bool) (i j k : ℕ) (pairs : List (ℕ × ℕ × Sym))
+    → ListsPairs n f i j pairs
+    → j ≤ k
+    → ((b : ℕ) → i < b → j ≤ b → b < k → InSupport n f b → ⊥)
+    → ListsPairs n f i k pairs
+pairs_skip n f i j k pairs lists le none = record {
+  right = lists.right;
+  below = λ t d h. before_more (get_or pairs t d).0 (get_or pairs t d).1 i j k le (lists.below t d h);
+  ascending = lists.ascending;
+  whole = λ a b before order there first second alike.
+      elim before [
+        | inl less ↦ lists.whole a b (inl less) order there first second alike
+        | inr same ↦ elim (cases_lt b j) [
+          | inl less ↦ lists.whole a b (inr (same.0, less)) order there first second alike
+          | inr past ↦ absurd (none b (omega (arith, same.0, order)) past same.1 second)
+        ]
+      ];
+}
+
+-- all pairs of an input
+pub pairs_next : (n : ℕ) (f : List Bool → Bool) (i : ℕ) (pairs : List (ℕ × ℕ × Sym)) → ListsPairs n f i n pairs → ListsPairs n f (i + 1) 0 pairs
+pairs_next n f i pairs lists = record {
+  right = lists.right;
+  below = λ t d h. before_later (get_or pairs t d).0 (get_or pairs t d).1 i n (i + 1) 0 (omega arith) (lists.below t d h);
+  ascending = lists.ascending;
+  whole = λ a b before order there.
+      elim before [
+        | inl less ↦ elim (cases_lt a i) [
+          | inl lower ↦ lists.whole a b (inl lower) order there
+          | inr past ↦ lists.whole a b (inr (omega (arith, less, past), there)) order there
+        ]
+        | inr same ↦ absurd (omega (arith, same.1))
+      ];
+}
+
+-- no input of the support lies between
+pub pairs_jump : (n : ℕ) (f : List Bool → Bool) (i k : ℕ) (pairs : List (ℕ × ℕ × Sym))
+    → ListsPairs n f i 0 pairs
+    → i ≤ k
+    → ((a : ℕ) → i ≤ a → a < k → InSupport n f a → ⊥)
+    → ListsPairs n f k 0 pairs
+pairs_jump n f i k pairs lists le none = record {
+  right = lists.right;
+  below = λ t d h.
+      elim (lists.below t d h) [
+        | inl less ↦ inl (omega (arith, less, le))
+        | inr same ↦ absurd (omega (arith, same.1))
+      ];
+  ascending = lists.ascending;
+  whole = λ a b before order there first second alike.
+      elim before [
+        | inl less ↦ elim (cases_lt a i) [
+          | inl lower ↦ lists.whole a b (inl lower) order there first second alike
+          | inr past ↦ absurd (none a past less first)
+        ]
+        | inr same ↦ absurd (omega (arith, same.1))
+      ];
+}
+
+-- how two inputs may be exchanged says that they may
+apart : (n : ℕ) (f : List Bool → Bool) (i j : ℕ) → (IsSymmetric n f i j → ⊥) × (IsSkew n f i j → ⊥) → IsSymmetric n f i j ⊎ IsSkew n f i j → ⊥
+apart n f i j never alike = elim alike [ inl is ↦ never.0 is | inr is ↦ never.1 is ]
+
+-- the next pair is decided
+pub pairs_more : (n : ℕ) (f : List Bool → Bool) (i j : ℕ) (pairs : List (ℕ × ℕ × Sym)) (way : Option Sym)
+    → ListsPairs n f i j pairs
+    → i < j
+    → j < n
+    → InSupport n f i
+    → InSupport n f j
+    → IsSymmetry n f i j way
+    → ListsPairs n f i (j + 1) (pairs ++ pair_of i j way)
+pairs_more n f i j pairs None lists order there first second never =
+    subst (ListsPairs n f i (j + 1)) (sym (append-nil pairs)) (record {
+      right = lists.right;
+      below = λ t d h. before_more (get_or pairs t d).0 (get_or pairs t d).1 i j (j + 1) (omega arith) (lists.below t d h);
+      ascending = lists.ascending;
+      whole = λ a b before order' there' first' second' alike.
+          elim before [
+            | inl less ↦ lists.whole a b (inl less) order' there' first' second' alike
+            | inr same ↦ elim (cases_lt b j) [
+              | inl less ↦ lists.whole a b (inr (same.0, less)) order' there' first' second' alike
+              | inr past ↦
+                  let is : b ≡ j = omega (arith, past, same.1) in
+                  absurd (apart n f i j never (subst (λ a. IsSymmetric n f a j ⊎ IsSkew n f a j) same.0 (subst (λ b. IsSymmetric n f a b ⊎ IsSkew n f a b) is alike)))
+            ]
+          ];
+    })
+pairs_more n f i j pairs (Some way) lists order there first second is =
+    let pair : ℕ × ℕ × Sym = (i, j, way) in
+    record {
+      right = All-push (IsPair n f) pairs pair lists.right (record { order = order; there = there; first = first; second = second; sym = is });
+      below = All-push (λ (pair : ℕ × ℕ × Sym). IsBefore pair.0 pair.1 i (j + 1)) pairs pair
+          (λ t d h. before_more (get_or pairs t d).0 (get_or pairs t d).1 i j (j + 1) (omega arith) (lists.below t d h)) (inr (refl, omega arith));
+      ascending = all_pairs_push (λ (one other : ℕ × ℕ × Sym). IsBefore one.0 one.1 other.0 other.1) pairs pair lists.ascending lists.below;
+      whole = λ a b before order' there' first' second' alike.
+          let Q : ℕ × ℕ × Sym → Type 0 = λ pair. (pair.0 ≡ a) × (pair.1 ≡ b) in
+          elim before [
+            | inl less ↦ any_more Q pairs pair (lists.whole a b (inl less) order' there' first' second' alike)
+            | inr same ↦ elim (cases_lt b j) [
+              | inl less ↦ any_more Q pairs pair (lists.whole a b (inr (same.0, less)) order' there' first' second' alike)
+              | inr past ↦ Any-push Q pairs pair (omega (arith, same.0), omega (arith, past, same.1))
+            ]
+          ];
+    }
+
+-- the rows of a netlist in order are those of the circuit that it computes
+pub rows_of : (net : Net) (circuit : Circuit) (rows : List OutputInfo) → Computes net circuit → AreRows net rows → AreRowsOf circuit rows
+rows_of net circuit rows computes are = record {
+  outputs = are.outputs ∙ computes.outputs;
+  each = λ k d h. record {
+    function = output_bit net k;
+    computed = λ x v len fits. ap (λ bits. bit bits k) (computes.function x v len fits);
+    is = subst (λ n. IsRow n (output_bit net k) (get_or rows k d)) computes.inputs (are.each k d h);
+  };
+}
+
+-- the steps of the loops
+
+-- the input at a place, read at another default
+read_at : (n : ℕ) (entries : List (ℕ × Unate)) (t : ℕ) → t < length entries → (get_or entries t (0, Positive)).0 ≡ input_at n entries t
+read_at n entries t h = same_entry entries t (0, Positive) (n, Positive) h
+
+-- the next input is above
+support_above : (n : ℕ) (f : List Bool → Bool) (start : ℕ) (entries : List (ℕ × Unate)) (t : ℕ) → ListsSupport n f start n entries → t < length entries → input_at n entries t + 1 ≤ input_at n entries (t + 1)
+support_above n f start entries t lists there =
+    elim (cases_lt (t + 1) (length entries)) [
+      | inl less ↦ omega (arith, lists.ascending t (t + 1) (n, Positive) (omega arith) less)
+      | inr past ↦ omega (arith, (lists.within t (n, Positive) there).1, ap (λ (entry : ℕ × Unate). entry.0) (get_or_past entries (t + 1) (n, Positive) past))
+    ]
+
+-- one pair more is decided, and no input of the support lies before the next
+pub pair_step : (n : ℕ) (f : List Bool → Bool) (first : ℕ) (others : List (ℕ × Unate)) (t second : ℕ) (pairs new : List (ℕ × ℕ × Sym)) (way : Option Sym)
+    → ListsSupport n f (first + 1) n others
+    → t < length others
+    → second ≡ (get_or others t (0, Positive)).0
+    → InSupport n f first
+    → ListsPairs n f first (input_at n others t) pairs
+    → IsSymmetry n f first second way
+    → new ≡ pairs ++ pair_of first second way
+    → ListsPairs n f first (input_at n others (t + 1)) new
+pair_step n f first others t second pairs new way lists there read inside so_far decided is =
+    let here : second ≡ input_at n others t = read ∙ read_at n others t there in
+    let entry : IsEntry n f (get_or others t (n, Positive)) = lists.right t (n, Positive) there in
+    let order : first < second = omega (arith, (lists.within t (n, Positive) there).0, here) in
+    let also : InSupport n f second = subst (InSupport n f) (sym here) entry.inside in
+    let more = pairs_more n f first second pairs way (subst (λ j. ListsPairs n f first j pairs) (sym here) so_far) order (omega (arith, entry.there, here)) inside also decided in
+    pairs_skip n f first (second + 1) (input_at n others (t + 1)) new (subst (ListsPairs n f first (second + 1)) (sym is) more)
+    (omega (arith, here, support_above n f (first + 1) others t lists there))
+    (λ b after low before. support_next n f (first + 1) others t b lists there (omega (arith, low, here)) before)
+
+-- all pairs of an input were decided
+pub pairs_end : (n : ℕ) (f : List Bool → Bool) (first : ℕ) (others : List (ℕ × Unate)) (t : ℕ) (pairs : List (ℕ × ℕ × Sym)) → length others ≤ t → ListsPairs n f first (input_at n others t) pairs → ListsPairs n f (first + 1) 0 pairs
+pairs_end n f first others t pairs past so_far =
+    pairs_next n f first pairs (subst (λ j. ListsPairs n f first j pairs) (ap (λ (entry : ℕ × Unate). entry.0) (get_or_past others t (n, Positive) past)) so_far)
+
+-- no pairs before those of the first input
+pub first_step : (n : ℕ) (f : List Bool → Bool) (support : List (ℕ × Unate)) (pairs : List (ℕ × ℕ × Sym)) → ListsSupport n f 0 n support → pairs ≡ [] → ListsPairs n f (input_at n support 0) 0 pairs
+first_step n f support pairs lists none =
+    subst (ListsPairs n f (input_at n support 0) 0) (sym none) (pairs_jump n f 0 (input_at n support 0) [] (pairs_none n f) (omega arith) (λ a low before. support_first n f 0 support a lists low before))
+
+-- the pairs of an input were added, and no input of the support lies before the next
+pub input_step : (n : ℕ) (f : List Bool → Bool) (support : List (ℕ × Unate)) (t : ℕ) (pairs : List (ℕ × ℕ × Sym)) → ListsSupport n f 0 n support → t < length support → ListsPairs n f ((get_or support t (0, Positive)).0 + 1) 0 pairs → ListsPairs n f (input_at n support (t + 1)) 0 pairs
+input_step n f support t pairs lists there so_far =
+    let here = read_at n support t there in
+    pairs_jump n f ((get_or support t (0, Positive)).0 + 1) (input_at n support (t + 1)) pairs so_far
+    (omega (arith, here, support_above n f 0 support t lists there))
+    (λ a low before. support_next n f 0 support t a lists there (omega (arith, low, here)) before)
+
+-- all inputs have their pairs
+pub inputs_end : (n : ℕ) (f : List Bool → Bool) (support : List (ℕ × Unate)) (t : ℕ) (pairs : List (ℕ × ℕ × Sym)) → length support ≤ t → ListsPairs n f (input_at n support t) 0 pairs → ListsPairs n f n 0 pairs
+inputs_end n f support t pairs past so_far = subst (λ i. ListsPairs n f i 0 pairs) (ap (λ (entry : ℕ × Unate). entry.0) (get_or_past support t (n, Positive) past)) so_far
+
+-- what is behind an entry, as a slice of the support
+pub behind_slice : (n : ℕ) (f : List Bool → Bool) (support : List (ℕ × Unate)) (t : ℕ) → ListsSupport n f 0 n support → t < length support → ListsSupport n f ((get_or support t (0, Positive)).0 + 1) n (take (length support - (t + 1)) (drop (t + 1) support))
+behind_slice n f support t lists there =
+    let here = read_at n support t there in
+    let all : take (length support - (t + 1)) (drop (t + 1) support) ≡ drop (t + 1) support = take_all (length support - (t + 1)) (drop (t + 1) support) (omega (arith, length-drop (t + 1) support)) in
+    subst (λ i. ListsSupport n f (i + 1) n (take (length support - (t + 1)) (drop (t + 1) support))) (sym here)
+    (subst (ListsSupport n f (input_at n support t + 1) n) (sym all) (support_behind n f support t lists there))
+
+-- one input more is decided
+pub support_step : (n : ℕ) (f : List Bool → Bool) (i : ℕ) (entries new : List (ℕ × Unate)) (unate : Option Unate) → ListsSupport n f 0 i entries → i < n → IsDependence n f i unate → new ≡ entries ++ entry_of i unate → ListsSupport n f 0 (i + 1) new
+support_step n f i entries new unate lists there decided is =
+    subst (ListsSupport n f 0 (i + 1)) (sym is) (support_more n f 0 i entries unate lists (omega arith) there decided)
+
+-- one row more
+pub rows_step : (P : ℕ → OutputInfo → Type 0) (rows new : List OutputInfo) (row : OutputInfo) (k : ℕ) → length rows ≡ k → EachAt P rows → P k row → new ≡ rows ++ row ∷ [] → (length new ≡ k + 1) × EachAt P new
+rows_step P rows new row k count each here is =
+    subst (λ (new : List OutputInfo). (length new ≡ k + 1) × EachAt P new) (sym is) (omega (arith, length_push rows row, count), λ j d h. at j d h (cases_lt j (length rows)))
+  where
+    at : (j : ℕ) (d : OutputInfo) → j < length (rows ++ row ∷ []) → (j < length rows) ⊎ (length rows ≤ j) → P j (get_or (rows ++ row ∷ []) j d)
+    at j d h (inl less) = subst (P j) (sym (get_or_append_left rows (row ∷ []) d j less)) (each j d less)
+    at j d h (inr past) =
+        let last : j ≡ length rows = omega (arith, h, length_push rows row, past) in
+        let same : j ≡ k = last ∙ count in
+        subst (P j) (sym (get_or_push rows row d j (sym last))) (subst (λ k. P k row) (sym same) here)

@@ -1,0 +1,22 @@
+-- Both claims were decided.
+use Rattle.std.proofs.Common.{refl, sym, subst}
+use Rattle.std.proofs.lemmas.Result.{err_from_is_err_and}
+use Rattle.fact_tests.specs.Outputs.{IsDependence, function_at, inputs_in}
+use Rattle.fact_tests.proofs.ClaimFacts.{dependence_is}
+use Rattle.fact_tests.proofs.Serving.{served_one, served_then, serves_err, serves_ok}
+use Rattle.fact_tests.proofs.unate_test.unateness.Goals as goal
+
+pub returns-in_err-never_rises-clause-serves : goal.returns-in_err-never_rises-clause-serves
+returns-in_err-never_rises-clause-serves g c =
+    let p = err_from_is_err_and c.from_residual-in_err-never_rises.result c.from_residual-in_err-never_rises.ensures.1 in
+    serves_err _ _ _ _ _ _ _ c.in_err-never_rises.field-0.0 (cc (p.1, p.2)) (served_one _ _ _ _ _ c.in_ok-never_falls.ensures.serves) c.in_err-never_rises.ensures.serves
+
+pub returns-clause-serves : goal.returns-clause-serves
+returns-clause-serves g c =
+    serves_ok _ _ _ _ _ _ refl (served_then _ _ _ _ _ _ (served_one _ _ _ _ _ c.in_ok-never_falls.ensures.serves) (served_one _ _ _ _ _ c.in_ok-never_rises.ensures.serves))
+
+pub returns-clause-unate : goal.returns-clause-unate
+returns-clause-unate g c =
+    let graphs = c.args.output.now.graphs.now in
+    let k = c.args.output.now.number in
+    subst (IsDependence (inputs_in graphs) (function_at graphs k) c.args.input) (sym c.by_claims.ensures) (dependence_is graphs.first k c.args.input c.in_ok-never_falls.never_falls c.in_ok-never_rises.never_rises c.requires.input c.in_ok-never_falls.ensures.told c.in_ok-never_rises.ensures.told)

@@ -1,0 +1,37 @@
+-- What deciding a query makes of a ledger.
+use Rattle.std.specs.Prelude.{◌≡◌, ◌⊎◌, ℕ, true, List, [], ◌∷◌, ◌++◌}
+use Rattle.cnf_core.specs.declared.log.LogLine.{LogLine}
+use Rattle.cnf_core.specs.declared.stop.Stop.{Stop}
+use Rattle.cnf_core.specs.declared.stop.Stop.TheVariants.{Spent, Memory}
+use Rattle.net_core.specs.declared.graphs.Graphs.{Graphs}
+use Rattle.query_core.specs.declared.query.Query.{Query}
+use Rattle.query_core.specs.declared.ledger.Asked.{Asked}
+use Rattle.query_core.specs.Ledgers.{Ledgered, charged_front, learned_in}
+use Rattle.account_core.specs.Work.{IsWorkOn}
+
+-- the entry of a query with lines that were learned for it
+abbrev pub entry_with : Query → List LogLine → Asked
+entry_with query lines = record { query = query; lemmas = 0; lines = lines }
+
+-- A query was asked: its entry, which is work, stands behind those for which lines were learned.
+pub record IsAsked (graphs : Graphs) (query : Query) (before after : Ledgered) : Type 0 where
+  pub lines : List LogLine
+  pub work : IsWorkOn graphs (entry_with query lines)
+  pub budget : after.budget ≡ before.budget
+  pub asked : after.asked ≡ charged_front before.asked ++ entry_with query lines ∷ []
+
+-- The budget is spent, and the query's last line is the refused one.
+pub record IsSpent (graphs : Graphs) (query : Query) (before after : Ledgered) (learned : ℕ) : Type 0 where
+  pub asked : IsAsked graphs query before after
+  pub learned_is : learned ≡ before.budget
+  pub used : learned_in after ≡ before.budget
+  pub refused : after.spent ≡ true
+
+-- no answer: the budget is spent, or memory is wanting
+abbrev pub IsHalted : Graphs → Query → Ledgered → Ledgered → Stop → Type 0
+IsHalted graphs query before after (Spent learned) = IsSpent graphs query before after learned
+IsHalted graphs query before after Memory = Unit {0}
+
+-- a query was decided, and asked where that was needed
+abbrev pub IsDecided : Graphs → Query → Ledgered → Ledgered → Type 0
+IsDecided graphs query before after = (after ≡ before) ⊎ IsAsked graphs query before after

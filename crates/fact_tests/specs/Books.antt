@@ -1,0 +1,35 @@
+-- A book of facts about two circuits: what it means, and what it keeps.
+use Rattle.std.specs.Prelude.{◌≡◌, List, ◌++◌, map, All}
+use Rattle.circuits.specs.Netlists.{Net}
+use Rattle.net_core.specs.declared.graphs.Graphs.{Graphs}
+use Rattle.query_core.specs.ClaimQueries.{claim_query}
+use Rattle.account_core.specs.declared.fact.Fact.{Fact}
+use Rattle.account_core.specs.Work.{IsOfMatch}
+use Rattle.account_core.specs.Oracles.{AreFacts, Known}
+use Rattle.ask_core.specs.Answers.{IsAnswer}
+use Rattle.fact_tests.specs.declared.answers.Kept.{Kept}
+use Rattle.fact_tests.specs.declared.deciding.Source.{Source}
+
+-- what is known without asking is of this circuit
+abbrev pub IsSource : Net → Source → Type 0
+IsSource net source = (source.supports ≡ net) × (source.sightings ≡ net)
+
+-- The answer of a query of a match.
+pub record IsKept (graphs : Graphs) (kept : Kept) : Type 0 where
+  pub of_match : IsOfMatch graphs kept.query
+  pub answer : IsAnswer graphs kept.query kept.answer
+
+-- what a book knows: the queries of its facts' claims were answered, and those of matches whose answers it keeps
+abbrev pub known_by : Graphs → List Fact → List Kept → Known
+known_by graphs facts kept = record {
+  graphs = graphs;
+  facts = facts;
+  answered = map (λ fact. claim_query graphs fact.claim) facts ++ map (λ entry. entry.query) kept;
+}
+
+-- What each book keeps.
+pub record IsBook (graphs : Graphs) (facts : List Fact) (kept : List Kept) (first second : Source) : Type 0 where
+  pub facts_are : AreFacts graphs facts
+  pub kept_are : All (IsKept graphs) kept
+  pub first_is : IsSource graphs.first first
+  pub second_is : IsSource graphs.second second

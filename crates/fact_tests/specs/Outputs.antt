@@ -1,0 +1,80 @@
+-- What an oracle is asked about an output of the first of its two circuits.
+use Rattle.std.specs.Prelude.{◌≡◌, ℕ, Bool, true, false, List, [], ◌∷◌, Option, None, Some}
+use Rattle.net_core.specs.Graph.{IsGraph}
+use Rattle.net_core.specs.declared.graphs.Graphs.{Graphs}
+use Rattle.query_core.specs.Ledgers.{Ledgered}
+use Rattle.account_core.specs.Oracles.{AreFacts, Grows, Keeps, Known, Suits}
+use Rattle.account_core.specs.declared.fact.Evidence.{Evidence}
+use Rattle.account_core.specs.declared.fact.Evidence.TheVariants.{Fails, Holds}
+use Rattle.query_core.specs.Claims.{output_bit}
+use Rattle.port_report.specs.declared.info.Unate.{Unate}
+use Rattle.port_report.specs.declared.info.Unate.TheVariants.{Positive, Negative, Binate}
+use Rattle.port_report.specs.declared.info.Sym.{Sym}
+use Rattle.port_report.specs.declared.info.Sym.TheVariants.{Symmetric, Skew, Both}
+use Rattle.fact_tests.specs.Functions.{InSupport, IsSymmetric, IsSkew}
+use Rattle.fact_tests.specs.Rows.{IsUnate, IsSym}
+
+-- An oracle of these circuits, which may be asked in this ledger.
+pub record MayAsk (graphs : Graphs) (known : Known) (ledger : Ledgered) : Type 0 where
+  pub graphs_are : known.graphs ≡ graphs
+  pub first : IsGraph graphs.first
+  pub second : IsGraph graphs.second
+  pub facts : AreFacts known.graphs known.facts
+  pub suits : Suits known ledger
+
+-- What calls did that were all answered.
+pub record Served (old new : Known) (before after : Ledgered) : Type 0 where
+  pub grows : Grows old new
+  pub suits : Suits new after
+  pub keeps : Keeps old before after
+
+-- how many inputs the first circuit has, and the function of its output k
+abbrev pub inputs_in : Graphs → ℕ
+inputs_in graphs = graphs.first.inputs
+
+abbrev pub function_at : Graphs → ℕ → List Bool → Bool
+function_at graphs k = output_bit graphs.first k
+
+-- whether evidence is for its claim
+abbrev pub is_for : Evidence → Bool
+is_for (Fails vector) = false
+is_for (Holds log) = true
+
+-- how a function depends on an input: None where it doesn't
+abbrev pub IsDependence : ℕ → (List Bool → Bool) → ℕ → Option Unate → Type 0
+IsDependence n f i None = InSupport n f i → ⊥
+IsDependence n f i (Some unate) = InSupport n f i × IsUnate n f i unate
+
+-- in which ways two inputs may be exchanged: None where they may not
+abbrev pub IsSymmetry : ℕ → (List Bool → Bool) → ℕ → ℕ → Option Sym → Type 0
+IsSymmetry n f i j None = (IsSymmetric n f i j → ⊥) × (IsSkew n f i j → ⊥)
+IsSymmetry n f i j (Some sym) = IsSym n f i j sym
+
+-- the two inputs may be exchanged, as they are or each inverted
+abbrev pub IsAlike : ℕ → (List Bool → Bool) → ℕ → ℕ → Bool → Type 0
+IsAlike n f i j false = IsSymmetric n f i j
+IsAlike n f i j true = IsSkew n f i j
+
+-- the dependence on an input, by whether the function never falls, and whether it never rises, where the input rises
+abbrev pub dependence : Bool → Bool → Option Unate
+dependence true true = None
+dependence true false = Some Positive
+dependence false true = Some Negative
+dependence false false = Some Binate
+
+-- the ways in which two inputs may be exchanged, by whether they are symmetric, and whether they are skew symmetric
+abbrev pub symmetry : Bool → Bool → Option Sym
+symmetry true true = Some Both
+symmetry true false = Some Symmetric
+symmetry false true = Some Skew
+symmetry false false = None
+
+-- the entry of an input, where the function depends on it
+abbrev pub entry_of : ℕ → Option Unate → List (ℕ × Unate)
+entry_of i None = []
+entry_of i (Some unate) = (i, unate) ∷ []
+
+-- the entry of two inputs that may be exchanged
+abbrev pub pair_of : ℕ → ℕ → Option Sym → List (ℕ × ℕ × Sym)
+pair_of i j None = []
+pair_of i j (Some sym) = (i, j, sym) ∷ []

@@ -1,0 +1,95 @@
+//! Queries, decided at the cost of a ledger.
+
+ghost use Rattle.std.specs.Prelude.{◌≡◌, ◌+◌, ◌*◌, ◌^◌, ◌<◌, [], ◌∷◌, false, IfOk, IfErr};
+ghost use Rattle.cnf_core.specs.Derivations.{IsRefutation};
+ghost use Rattle.net_core.specs.Sides.{graph_of};
+ghost use Rattle.query_core.specs.Claims.{IsClaim};
+ghost use Rattle.query_core.specs.ClaimQueries.{claim_query};
+ghost use Rattle.query_core.specs.Formulas.{formula_of};
+ghost use Rattle.query_core.specs.Queries.{IsQuery};
+ghost use Rattle.ask_core.specs.Answers.{IsAnswer};
+ghost use Rattle.fact_tests.specs.Asking.{IsAsked, IsHalted};
+ghost use Rattle.fact_tests.specs.Supports.{IsOutside};
+
+use ask_core::{Answer, ask};
+use cnf_core::{Log, LogLine, Stop};
+use items::Items;
+use net_core::Graphs;
+use query_core::{Claim, Ledger, Query, of_claim};
+use std::alloc::{AllocError, Global};
+
+/// Finds a vector that meets a query, or a log that refutes it.
+pub(crate) fn answer_to(
+    alloc: Global,
+    graphs: &Graphs,
+    query: &Query,
+    ledger: &mut Ledger,
+) -> Result<Answer, Stop>
+    requires fits { IsQuery graphs.now query.now }
+    requires unspent { ledger.old.spent ≡ false }
+    ensures answer { IfOk result (IsAnswer graphs.now query.now) }
+    ensures asked { IfOk result (λ _. IsAsked graphs.now query.now ledger.old ledger.new) }
+    ensures unspent { IfOk result (λ _. ledger.new.spent ≡ false) }
+    ensures stop { IfErr result (IsHalted graphs.now query.now ledger.old ledger.new) }
+{
+    ask(alloc, graphs, query, ledger)
+}
+
+/// Refutes a claim whose output reaches none of the shape's inputs. The clauses of the query's two outputs are
+/// opposites, and
+/// the empty line follows from them. It costs one unit of the budget.
+pub(crate) fn refute_outside(
+    alloc: Global,
+    graphs: &Graphs,
+    claim: &Claim,
+    ledger: &mut Ledger,
+) -> Result<Log, Stop>
+    requires placed { IsClaim graphs.now claim.now }
+    requires outside { IsOutside (graph_of graphs.now claim.now.side) claim.now.output claim.now.shape }
+    requires unspent { ledger.old.spent ≡ false }
+    ensures log { IfOk result
+        (λ log. IsRefutation (formula_of graphs.now (claim_query graphs.now claim.now)) log.lines) }
+    ensures asked { IfOk result (λ _. IsAsked graphs.now (claim_query graphs.now claim.now) ledger.old ledger.new) }
+    ensures unspent { IfOk result (λ _. ledger.new.spent ≡ false) }
+    ensures stop { IfErr result (IsHalted graphs.now (claim_query graphs.now claim.now) ledger.old ledger.new) }
+{
+    let _first = graphs.first.inputs();
+    let _second = graphs.second.inputs();
+    let query = of_claim(alloc, graphs, claim)?;
+    let gates = graphs.side(claim.side).gates().len() as u64;
+    let line = line_of_outputs(alloc, gates)?;
+    ledger.open(alloc, &query, &[])?;
+    match ledger.charge(&line) {
+        Ok(()) => {
+            let log = log_of(alloc, line)?;
+            Ok(log)
+        }
+        Err(stop) => Err(stop),
+    }
+}
+
+/// The empty line, by the clauses of the two outputs, which are the last ones of a query of so many gates on either
+/// side.
+fn line_of_outputs(alloc: Global, gates: u64) -> Result<LogLine, AllocError>
+    requires { gates < 2 ^ 32 }
+    ensures { IfOk result (λ line. line
+        ≡ record { clause = []; hints = (1 + 6 * gates) ∷ (1 + 6 * gates + 1) ∷ [] }) }
+{
+    let first = 1 + 6 * gates;
+    let mut hints = Items::new(alloc);
+    hints.push(first)?;
+    hints.push(first + 1)?;
+    Ok(LogLine {
+        clause: Items::new(alloc),
+        hints,
+    })
+}
+
+/// A log of one line.
+fn log_of(alloc: Global, line: LogLine) -> Result<Log, AllocError>
+    ensures { IfOk result (λ log. log.lines ≡ line ∷ []) }
+{
+    let mut lines = Items::new(alloc);
+    lines.push(line)?;
+    Ok(Log { lines })
+}

@@ -1,0 +1,34 @@
+//! What is known of the outputs of one circuit.
+
+ghost use Rattle.std.specs.Prelude.{◌≡◌, IfOk};
+ghost use Rattle.account_core.specs.Oracles.{Serves, Suits};
+ghost use Rattle.fact_tests.specs.Rows.{AreRows};
+
+use crate::book::FactBook;
+use crate::rows::rows_by;
+use cnf_core::Stop;
+use net_core::Graphs;
+use port_report::OutputInfo;
+use query_core::Ledger;
+use std::alloc::Global;
+
+/// Of each output of the first circuit the inputs that it depends on, and how, and the pairs of these inputs that may be
+/// exchanged. Each is decided by claims; of two swaps that make a symmetry the second is asked only where the first holds.
+///
+/// # Errors
+///
+/// `Spent` where a line had to be learned and the budget was spent; the ledger keeps it as the refused line. `Memory`
+/// where memory is wanting; nothing is said of the ledger then.
+pub fn info(
+    alloc: Global,
+    graphs: &Graphs,
+    book: &mut FactBook<'_>,
+    ledger: &mut Ledger,
+) -> Result<Vec<OutputInfo>, Stop>
+    requires graphs { book.old.graphs ≡ graphs.now }
+    requires suits { Suits book.old ledger.old }
+    ensures serves { Serves book.old book.new ledger.old ledger.new result }
+    ensures rows { IfOk result (λ rows. AreRows graphs.now.first rows.items) }
+{
+    rows_by(alloc, graphs, book, ledger)
+}

@@ -1,0 +1,181 @@
+//! Claims, decided by structure, by vectors that were seen, and by asking.
+
+ghost use Rattle.std.specs.Prelude.{◌≡◌, ◌<◌, false, IsTrue, IfOk, IfErr, length};
+ghost use Rattle.net_core.specs.Sides.{graph_of};
+ghost use Rattle.query_core.specs.Claims.{IsClaim, IsPlaced, with_values};
+ghost use Rattle.query_core.specs.ClaimQueries.{claim_query};
+ghost use Rattle.account_core.specs.Oracles.{IsEvidence};
+ghost use Rattle.fact_tests.specs.Asking.{IsDecided, IsHalted};
+ghost use Rattle.fact_tests.specs.Books.{IsSource};
+ghost use Rattle.fact_tests.specs.Supports.{IsOutside};
+
+use crate::asking::{answer_to, refute_outside};
+use crate::sightings::Sightings;
+use crate::structure::Supports;
+use account_core::Evidence;
+use ask_core::Answer;
+use bit_list::Bits;
+use cnf_core::Stop;
+use items::Items;
+use net_core::{Graph, Graphs, Side};
+use query_core::{Claim, Ledger, Shape, of_claim};
+use std::alloc::{AllocError, Global};
+
+/// What is known of a circuit without asking.
+#[derive(Drop)]
+pub(crate) struct Source<'a> {
+    supports: Supports<'a>,
+    sightings: Sightings<'a>,
+}
+
+impl<'a> Source<'a> {
+    /// The supports of a circuit's outputs; nothing was hunted.
+    pub(crate) fn new(alloc: Global, graph: &'a Graph, seed: u64) -> Result<Source<'a>, AllocError>
+        ensures { IfOk result (IsSource graph.now) }
+    {
+        Ok(Source {
+            supports: Supports::new(alloc, graph)?,
+            sightings: Sightings::new(alloc, graph, seed)?,
+        })
+    }
+}
+
+/// Decides a claim of either circuit.
+pub(crate) fn decide_of_side(
+    alloc: Global,
+    graphs: &Graphs,
+    first: &mut Source<'_>,
+    second: &mut Source<'_>,
+    claim: &Claim,
+    ledger: &mut Ledger,
+) -> Result<Evidence, Stop>
+    requires placed { IsClaim graphs.now claim.now }
+    requires first { IsSource graphs.now.first first.old }
+    requires second { IsSource graphs.now.second second.old }
+    requires unspent { ledger.old.spent ≡ false }
+    ensures first { IsSource graphs.now.first first.new }
+    ensures second { IsSource graphs.now.second second.new }
+    ensures evidence { IfOk result (IsEvidence graphs.now claim.now) }
+    ensures decided { IfOk result
+        (λ _. IsDecided graphs.now (claim_query graphs.now claim.now) ledger.old ledger.new) }
+    ensures unspent { IfOk result (λ _. ledger.new.spent ≡ false) }
+    ensures stop { IfErr result (IsHalted graphs.now (claim_query graphs.now claim.now) ledger.old ledger.new) }
+{
+    match claim.side {
+        Side::First => decide(alloc, graphs, first, claim, ledger),
+        Side::Second => decide(alloc, graphs, second, claim, ledger),
+    }
+}
+
+/// Decides a claim of a circuit: by structure where its output reaches none of the shape's inputs; by a vector that was
+/// seen to break it; and else by asking.
+fn decide(
+    alloc: Global,
+    graphs: &Graphs,
+    source: &mut Source<'_>,
+    claim: &Claim,
+    ledger: &mut Ledger,
+) -> Result<Evidence, Stop>
+    requires placed { IsClaim graphs.now claim.now }
+    requires source { IsSource (graph_of graphs.now claim.now.side) source.old }
+    requires unspent { ledger.old.spent ≡ false }
+    ensures source { IsSource (graph_of graphs.now claim.now.side) source.new }
+    ensures evidence { IfOk result (IsEvidence graphs.now claim.now) }
+    ensures decided { IfOk result
+        (λ _. IsDecided graphs.now (claim_query graphs.now claim.now) ledger.old ledger.new) }
+    ensures unspent { IfOk result (λ _. ledger.new.spent ≡ false) }
+    ensures stop { IfErr result (IsHalted graphs.now (claim_query graphs.now claim.now) ledger.old ledger.new) }
+{
+    if is_outside(&source.supports, claim.output, &claim.shape) {
+        return by_structure(alloc, graphs, claim, ledger);
+    }
+    match source
+        .sightings
+        .vector_of(alloc, claim.output, &claim.shape)?
+    {
+        Some(vector) => Ok(Evidence::Fails(vector)),
+        None => by_asking(alloc, graphs, claim, ledger),
+    }
+}
+
+/// Whether an output reaches none of a shape's inputs.
+fn is_outside(supports: &Supports<'_>, output: u32, shape: &Shape) -> bool
+    requires output { output < length supports.now.outputs }
+    requires placed { IsPlaced supports.now.inputs shape.now }
+    ensures { IsTrue result → IsOutside supports.now output shape.now }
+{
+    match shape {
+        Shape::Up(i) => !supports.reaches(output, *i),
+        Shape::Down(i) => !supports.reaches(output, *i),
+        Shape::Swap { i, j, a: _, b: _ } => {
+            let first = supports.reaches(output, *i);
+            let second = supports.reaches(output, *j);
+            !first & !second
+        }
+    }
+}
+
+/// That a claim holds whose output reaches none of the shape's inputs.
+fn by_structure(
+    alloc: Global,
+    graphs: &Graphs,
+    claim: &Claim,
+    ledger: &mut Ledger,
+) -> Result<Evidence, Stop>
+    requires placed { IsClaim graphs.now claim.now }
+    requires outside { IsOutside (graph_of graphs.now claim.now.side) claim.now.output claim.now.shape }
+    requires unspent { ledger.old.spent ≡ false }
+    ensures evidence { IfOk result (IsEvidence graphs.now claim.now) }
+    ensures decided { IfOk result
+        (λ _. IsDecided graphs.now (claim_query graphs.now claim.now) ledger.old ledger.new) }
+    ensures unspent { IfOk result (λ _. ledger.new.spent ≡ false) }
+    ensures stop { IfErr result (IsHalted graphs.now (claim_query graphs.now claim.now) ledger.old ledger.new) }
+{
+    match refute_outside(alloc, graphs, claim, ledger) {
+        Ok(log) => Ok(Evidence::Holds(log)),
+        Err(stop) => Err(stop),
+    }
+}
+
+/// What the answer of a claim's query says of the claim.
+fn by_asking(
+    alloc: Global,
+    graphs: &Graphs,
+    claim: &Claim,
+    ledger: &mut Ledger,
+) -> Result<Evidence, Stop>
+    requires placed { IsClaim graphs.now claim.now }
+    requires unspent { ledger.old.spent ≡ false }
+    ensures evidence { IfOk result (IsEvidence graphs.now claim.now) }
+    ensures decided { IfOk result
+        (λ _. IsDecided graphs.now (claim_query graphs.now claim.now) ledger.old ledger.new) }
+    ensures unspent { IfOk result (λ _. ledger.new.spent ≡ false) }
+    ensures stop { IfErr result (IsHalted graphs.now (claim_query graphs.now claim.now) ledger.old ledger.new) }
+{
+    let query = of_claim(alloc, graphs, claim)?;
+    match answer_to(alloc, graphs, &query, ledger) {
+        Ok(Answer::Vector(vector)) => {
+            let vector = with_values(alloc, vector, &claim.shape)?;
+            Ok(Evidence::Fails(vector))
+        }
+        Ok(Answer::Refuted(log)) => Ok(Evidence::Holds(log)),
+        Err(stop) => Err(stop),
+    }
+}
+
+/// The vector with the shape's inputs set to its values.
+fn with_values(alloc: Global, vector: Items<bool>, shape: &Shape) -> Result<Bits, AllocError>
+    requires { IsPlaced (length vector) shape.now }
+    ensures { IfOk result (λ bits. bits ≡ with_values shape.now vector) }
+{
+    let mut vector = vector;
+    match shape {
+        Shape::Up(i) => vector.set(*i as usize, false),
+        Shape::Down(i) => vector.set(*i as usize, true),
+        Shape::Swap { i, j, a, b } => {
+            vector.set(*i as usize, *a);
+            vector.set(*j as usize, *b);
+        }
+    }
+    Bits::from_slice(alloc, &vector)
+}

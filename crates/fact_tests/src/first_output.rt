@@ -1,0 +1,57 @@
+//! An output of the first of two circuits, and whether its claims hold.
+
+ghost use Rattle.std.specs.Prelude.{◌≡◌, ◌<◌, IfOk, length};
+ghost use Rattle.std.specs.Bool.{Decides};
+ghost use Rattle.account_core.specs.Oracles.{Serves};
+ghost use Rattle.query_core.specs.Claims.{IsPlaced, ShapeHolds};
+ghost use Rattle.fact_tests.specs.Outputs.{MayAsk, is_for};
+
+use account_core::{Evidence, Oracle};
+use cnf_core::Stop;
+use net_core::{Graphs, Side};
+use query_core::{Claim, Ledger, Shape};
+use std::alloc::Global;
+
+/// An output of the first of two circuits.
+#[derive(Clone, Copy, Debug)]
+pub(crate) struct FirstOutput<'a> {
+    pub graphs: &'a Graphs,
+    pub number: u32,
+}
+
+impl<'a> FirstOutput<'a> {
+    /// Whether the claim of a shape holds at the output: what the oracle's fact says.
+    pub(crate) fn holds<O: Oracle>(
+        &self,
+        alloc: Global,
+        shape: Shape,
+        oracle: &mut O,
+        ledger: &mut Ledger,
+    ) -> Result<bool, Stop>
+        requires may { MayAsk self.now.graphs.now (O.known oracle.old) ledger.old }
+        requires there { self.now.number < length self.now.graphs.now.first.outputs }
+        requires placed { IsPlaced self.now.graphs.now.first.inputs shape }
+        ensures serves { Serves (O.known oracle.old) (O.known oracle.new) ledger.old ledger.new result }
+        ensures told { IfOk result (λ holds. Decides holds
+            (ShapeHolds self.now.graphs.now.first self.now.number shape)) }
+    {
+        let claim = Claim {
+            side: Side::First,
+            output: self.number,
+            shape,
+        };
+        let number = oracle.claim(alloc, claim, ledger)?;
+        let fact = &oracle.facts()[number as usize];
+        Ok(is_for(&fact.evidence))
+    }
+}
+
+/// Whether evidence is for its claim.
+fn is_for(evidence: &Evidence) -> bool
+    ensures { result ≡ is_for evidence.now }
+{
+    match evidence {
+        Evidence::Fails(_) => false,
+        Evidence::Holds(_) => true,
+    }
+}

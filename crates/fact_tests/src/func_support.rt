@@ -1,0 +1,51 @@
+//! The support of an output.
+
+ghost use Rattle.std.specs.Prelude.{◌≡◌, ◌<◌, ◌++◌, IfOk, OnOk, length};
+ghost use Rattle.account_core.specs.Oracles.{Serves};
+ghost use Rattle.fact_tests.specs.Outputs.{MayAsk, entry_of, function_at, inputs_in};
+ghost use Rattle.fact_tests.specs.Rows.{ListsSupport};
+
+use crate::first_output::FirstOutput;
+use crate::unate_test::unateness;
+use account_core::Oracle;
+use cnf_core::Stop;
+use items::Items;
+use port_report::Unate;
+use query_core::Ledger;
+use std::alloc::{AllocError, Global};
+
+/// The inputs that the output depends on, ascending, and how.
+pub(crate) fn support<O: Oracle>(
+    alloc: Global,
+    output: &FirstOutput<'_>,
+    oracle: &mut O,
+    ledger: &mut Ledger,
+) -> Result<Items<(u32, Unate)>, Stop>
+    requires may { MayAsk output.now.graphs.now (O.known oracle.old) ledger.old }
+    requires there { output.now.number < length output.now.graphs.now.first.outputs }
+    ensures serves { Serves (O.known oracle.old) (O.known oracle.new) ledger.old ledger.new result }
+    ensures support { IfOk result (ListsSupport (inputs_in output.now.graphs.now)
+        (function_at output.now.graphs.now output.now.number) 0 (inputs_in output.now.graphs.now)) }
+{
+    let mut entries = Items::new(alloc);
+    let inputs = output.graphs.first.inputs();
+    for input in 0..inputs {
+        let unate = unateness(alloc, output, input, oracle, ledger)?;
+        note(input, unate, &mut entries)?;
+    }
+    Ok(entries)
+}
+
+/// Adds the entry of an input, where the output depends on it.
+fn note(
+    input: u32,
+    unate: Option<Unate>,
+    entries: &mut Items<(u32, Unate)>,
+) -> Result<(), AllocError>
+    ensures { OnOk result (entries.new ≡ entries.old ++ entry_of input unate) }
+{
+    if let Some(unate) = unate {
+        entries.push((input, unate))?;
+    }
+    Ok(())
+}

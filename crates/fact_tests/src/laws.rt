@@ -1,0 +1,43 @@
+//! What rows say. Each function does nothing; its contract is the law.
+
+ghost use Rattle.std.specs.Prelude.{◌≡◌, ◌↔◌, ℕ, Bool, List};
+ghost use Rattle.circuits.specs.Circuits.{Circuit};
+ghost use Rattle.circuits.specs.Functions.{Computes};
+ghost use Rattle.circuits.specs.Netlists.{Net};
+ghost use Rattle.query_core.specs.Claims.{output_bit};
+ghost use Rattle.query_core.specs.Facts as of_net;
+ghost use Rattle.port_report.specs.declared.info.OutputInfo.{OutputInfo as Row};
+ghost use Rattle.fact_tests.specs.Functions.{InSupport, IsPositive, IsNegative, IsBinate, IsSymmetric, IsSkew};
+ghost use Rattle.fact_tests.specs.Rows.{AreRows, AreRowsOf, IsRow};
+
+/// What is said of the function of an output is what is said of the output.
+pub fn facts_of_outputs()
+    ensures support { (net : Net) (k i : ℕ)
+        → InSupport net.inputs (output_bit net k) i ↔ of_net.InSupport net k i }
+    ensures positive { (net : Net) (k i : ℕ)
+        → IsPositive net.inputs (output_bit net k) i ↔ of_net.IsPositive net k i }
+    ensures negative { (net : Net) (k i : ℕ)
+        → IsNegative net.inputs (output_bit net k) i ↔ of_net.IsNegative net k i }
+    ensures binate { (net : Net) (k i : ℕ)
+        → IsBinate net.inputs (output_bit net k) i ↔ of_net.IsBinate net k i }
+    ensures symmetric { (net : Net) (k i j : ℕ)
+        → IsSymmetric net.inputs (output_bit net k) i j ↔ of_net.IsSymmetric net k i j }
+    ensures skew { (net : Net) (k i j : ℕ)
+        → IsSkew net.inputs (output_bit net k) i j ↔ of_net.IsSkew net k i j }
+{}
+
+/// The rows of a netlist in order are those of the circuit that it computes.
+pub fn rows_of_a_circuit()
+    ensures { (net : Net) (circuit : Circuit) (rows : List Row)
+        → Computes net circuit
+        → AreRows net rows
+        → AreRowsOf circuit rows }
+{}
+
+/// A function has one row at most.
+pub fn one_row()
+    ensures { (n : ℕ) (f : List Bool → Bool) (row other : Row)
+        → IsRow n f row
+        → IsRow n f other
+        → row ≡ other }
+{}

@@ -1,0 +1,58 @@
+//! What is known of each output of a circuit.
+
+ghost use Rattle.std.specs.Prelude.{◌≡◌, ◌<◌, IfOk, length};
+ghost use Rattle.account_core.specs.Oracles.{Serves, Suits};
+ghost use Rattle.fact_tests.specs.Outputs.{MayAsk, function_at, inputs_in};
+ghost use Rattle.fact_tests.specs.Rows.{AreRows, IsRow};
+
+use crate::first_output::FirstOutput;
+use crate::func_support::support;
+use crate::symmetry_test::symmetries;
+use account_core::Oracle;
+use cnf_core::Stop;
+use net_core::Graphs;
+use port_report::OutputInfo;
+use query_core::Ledger;
+use std::alloc::Global;
+
+/// What an oracle knows of each output of the first circuit: a row for each.
+pub(crate) fn rows_by<O: Oracle>(
+    alloc: Global,
+    graphs: &Graphs,
+    oracle: &mut O,
+    ledger: &mut Ledger,
+) -> Result<Vec<OutputInfo>, Stop>
+    requires graphs { (O.known oracle.old).graphs ≡ graphs.now }
+    requires suits { Suits (O.known oracle.old) ledger.old }
+    ensures serves { Serves (O.known oracle.old) (O.known oracle.new) ledger.old ledger.new result }
+    ensures rows { IfOk result (λ rows. AreRows graphs.now.first rows.items) }
+{
+    let _facts = oracle.facts();
+    let _inputs = graphs.second.inputs();
+    let mut rows = Vec::new(alloc);
+    let count = graphs.first.outputs().len() as u32;
+    for number in 0..count {
+        let output = FirstOutput { graphs, number };
+        let row = row(alloc, &output, oracle, ledger)?;
+        rows.push(row)?;
+    }
+    Ok(rows)
+}
+
+/// The row of an output.
+fn row<O: Oracle>(
+    alloc: Global,
+    output: &FirstOutput<'_>,
+    oracle: &mut O,
+    ledger: &mut Ledger,
+) -> Result<OutputInfo, Stop>
+    requires may { MayAsk output.now.graphs.now (O.known oracle.old) ledger.old }
+    requires there { output.now.number < length output.now.graphs.now.first.outputs }
+    ensures serves { Serves (O.known oracle.old) (O.known oracle.new) ledger.old ledger.new result }
+    ensures row { IfOk result (IsRow (inputs_in output.now.graphs.now)
+        (function_at output.now.graphs.now output.now.number)) }
+{
+    let support = support(alloc, output, oracle, ledger)?;
+    let pairs = symmetries(alloc, output, &support, oracle, ledger)?;
+    Ok(OutputInfo { support, pairs })
+}

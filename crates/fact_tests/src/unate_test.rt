@@ -1,0 +1,44 @@
+//! How an output depends on an input.
+
+ghost use Rattle.std.specs.Prelude.{◌≡◌, ◌<◌, IfOk, length};
+ghost use Rattle.account_core.specs.Oracles.{Serves};
+ghost use Rattle.fact_tests.specs.Outputs.{IsDependence, MayAsk, dependence, function_at, inputs_in};
+
+use crate::first_output::FirstOutput;
+use account_core::Oracle;
+use cnf_core::Stop;
+use port_report::Unate;
+use query_core::{Ledger, Shape};
+use std::alloc::Global;
+
+/// How the output depends on an input: None where the input is outside the support.
+pub(crate) fn unateness<O: Oracle>(
+    alloc: Global,
+    output: &FirstOutput<'_>,
+    input: u32,
+    oracle: &mut O,
+    ledger: &mut Ledger,
+) -> Result<Option<Unate>, Stop>
+    requires may { MayAsk output.now.graphs.now (O.known oracle.old) ledger.old }
+    requires there { output.now.number < length output.now.graphs.now.first.outputs }
+    requires input { input < output.now.graphs.now.first.inputs }
+    ensures serves { Serves (O.known oracle.old) (O.known oracle.new) ledger.old ledger.new result }
+    ensures unate { IfOk result (IsDependence (inputs_in output.now.graphs.now)
+        (function_at output.now.graphs.now output.now.number) input) }
+{
+    let never_falls = output.holds(alloc, Shape::Up(input), oracle, ledger)?;
+    let never_rises = output.holds(alloc, Shape::Down(input), oracle, ledger)?;
+    Ok(by_claims(never_falls, never_rises))
+}
+
+/// The dependence on an input, by whether the output never falls, and whether it never rises, where the input rises.
+fn by_claims(never_falls: bool, never_rises: bool) -> Option<Unate>
+    ensures { result ≡ dependence never_falls never_rises }
+{
+    match (never_falls, never_rises) {
+        (true, true) => None,
+        (true, false) => Some(Unate::Positive),
+        (false, true) => Some(Unate::Negative),
+        (false, false) => Some(Unate::Binate),
+    }
+}

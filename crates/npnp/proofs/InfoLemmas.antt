@@ -1,0 +1,176 @@
+-- What is known of a netlist, and what a budget was spent on.
+use Rattle.std.proofs.Common.{◌≡◌, ℕ, inr, false, Bool, IsTrue, List, [], length, All, Option, Result, Ok, Err, IfOk, IfErr, refl, sym, ◌∙◌, ap, subst, arith}
+use Rattle.circuits.specs.Functions.{Computes}
+use Rattle.circuits.specs.Circuits.{Circuit}
+use Rattle.circuits.specs.Levels.{IsOrderOf}
+use Rattle.circuits.specs.Netlists.{Net}
+use Rattle.net_core.specs.declared.graphs.Graphs.{Graphs}
+use Rattle.net_core.specs.declared.matching.Matching.{Matching}
+use Rattle.net_core.specs.declared.named.Named.{Named}
+use Rattle.shelf_core.specs.State.{ShelfState}
+use Rattle.query_core.specs.Ledgers.{Ledgered}
+use Rattle.account_core.specs.Oracles.{IsSpentWork, Known, Suits}
+use Rattle.account_core.specs.Work.{IsWorkOfClaimsAndMatches}
+use Rattle.fact_tests.specs.Rows.{AreRows}
+use Rattle.fact_tests.proofs.RowLemmas.{rows_of}
+use Rattle.port_report.specs.declared.info.OutputInfo.{OutputInfo}
+use Rattle.port_report.specs.Infos.{IsInRange, info_text}
+use Rattle.npnp.specs.Check.{HoldsGraph, IsRight}
+use Rattle.npnp.specs.Info.{IsInfoText, IsSpentOf, with_itself}
+use Rattle.npnp.specs.Steps.{Ask, Decides, InformsOf, IsEnding, IsOfReading, IsReadFrom, IsStopOfInfo, asked_info, netlist_of}
+use Rattle.npnp.specs.Words.{AsksInfo}
+use Rattle.npnp.specs.declared.words.Info.{Info as InfoWords}
+use Rattle.npnp.specs.declared.run.Ending.{Ending}
+use Rattle.npnp.specs.declared.outcome.Outcome.{Outcome}
+use Rattle.npnp.specs.declared.outcome.Outcome.TheVariants.{AcceptedMatch, AcceptedRefusal, Rejected, Spent, Usage, Absent, TooLarge, Malformed, Informed, ReadFault, WriteFault, Memory}
+
+-- an empty ledger suits a book that knows nothing
+pub suits_new : (graphs : Graphs) (budget : ℕ) → Suits (record { graphs = graphs; facts = []; answered = [] }) (record { budget = budget; asked = []; spent = false })
+suits_new graphs budget = record {
+  work = record {
+    work = record {
+      entries = λ k d h. absurd (omega (arith, h));
+      once = λ i j d less h. absurd (omega (arith, h));
+    };
+    queries = λ k d h. absurd (omega (arith, h));
+  };
+  unspent = refl;
+  answered = λ k d h. absurd (omega (arith, h));
+}
+
+pub suits_first : (graphs : Graphs) (known : Known) (ledger : Ledgered) (budget : ℕ) → known ≡ record { graphs = graphs; facts = []; answered = [] } → ledger ≡ record { budget = budget; asked = []; spent = false } → Suits known ledger
+suits_first graphs known ledger budget is empty =
+    subst (λ known. Suits known ledger) (sym is) (subst (Suits (record { graphs = graphs; facts = []; answered = [] })) (sym empty) (suits_new graphs budget))
+
+-- rows name inputs that are there
+pub rows_in_range : (net : Net) (rows : List OutputInfo) → AreRows net rows → All (IsInRange net.inputs) rows
+rows_in_range net rows are = λ k d h t e l. ((are.each k d h).support.within t e l).1
+
+-- a budget that was spent on a graph against itself
+pub spent_is : (graph : Net) (graphs : Graphs) (known : Known) (before after : Ledgered) (budget learned : ℕ) → graphs ≡ with_itself graph → known ≡ record { graphs = graphs; facts = []; answered = [] } → before ≡ record { budget = budget; asked = []; spent = false } → IsSpentWork known before after learned → IsSpentOf graph budget after
+spent_is graph graphs known before after budget learned same is empty spent =
+    let first : before.budget ≡ budget = ap (λ (ledger : Ledgered). ledger.budget) empty in
+    let two : known.graphs ≡ with_itself graph = ap (λ (known : Known). known.graphs) is ∙ same in
+    record {
+      budget_is = spent.keeps.budget ∙ first;
+      learned = spent.used ∙ first;
+      refused = spent.refused;
+      work = subst (λ graphs. IsWorkOfClaimsAndMatches graphs after) two spent.work;
+    }
+
+-- rows of a graph, reported
+pub informed_is : (named : Named) (budget : ℕ) (graph : Net) (rows : List OutputInfo) (result : Result Ending Outcome) → graph ≡ named.graph → AreRows graph rows → IfOk result (λ ending. ending.outcome ≡ Informed) → IfOk result (λ ending. ending.report.items ≡ info_text named rows) → IfErr result (λ outcome. outcome ≡ Memory) → InformsOf named budget result
+informed_is named budget graph rows (Ok ending) same are outcome report memory = record {
+  rows = (
+    outcome,
+    λ circuit computes numbered. record {
+      numbered = numbered;
+      rows = rows;
+      right = rows_of named.graph circuit rows computes (subst (λ net. AreRows net rows) same are);
+      same = report;
+    },
+  );
+  stopped = tt;
+}
+informed_is named budget graph rows (Err outcome) same are outcome_is report memory = record {
+  rows = tt;
+  stopped = subst (IsStopOfInfo named.graph budget) (sym memory) tt;
+}
+
+-- what ends such a run is right, and its report is a line
+
+stop_right : (held : List ℕ → Option (List ℕ)) (words : List (List ℕ)) (file : List ℕ) (budget : ℕ) (graph : Net) → AsksInfo words file budget → HoldsGraph (held file) graph → (o : Outcome) → IsStopOfInfo graph budget o → IsRight held words o
+stop_right held words file budget graph asks there (AcceptedMatch table) fact = absurd fact
+stop_right held words file budget graph asks there AcceptedRefusal fact = absurd fact
+stop_right held words file budget graph asks there (Rejected line why) fact = absurd fact
+stop_right held words file budget graph asks there (Spent ledger) fact = record { file_name = file; budget = budget; asks = asks; graph = graph; there = there; spent = fact }
+stop_right held words file budget graph asks there Informed fact = absurd fact
+stop_right held words file budget graph asks there Usage fact = absurd fact
+stop_right held words file budget graph asks there (Absent which) fact = absurd fact
+stop_right held words file budget graph asks there (TooLarge which) fact = absurd fact
+stop_right held words file budget graph asks there (Malformed which kind at) fact = absurd fact
+stop_right held words file budget graph asks there ReadFault fact = absurd fact
+stop_right held words file budget graph asks there WriteFault fact = absurd fact
+stop_right held words file budget graph asks there Memory fact = tt
+
+stop_line : (graph : Net) (budget : ℕ) (o : Outcome) → IsStopOfInfo graph budget o → IsOfReading o
+stop_line graph budget (AcceptedMatch table) fact = absurd fact
+stop_line graph budget AcceptedRefusal fact = absurd fact
+stop_line graph budget (Rejected line why) fact = absurd fact
+stop_line graph budget (Spent ledger) fact = record { line = record { no_table = λ table e. cc; no_rows = λ e. cc }; no_refusal = λ e. cc; asked = λ e. cc; unwritten = λ e. cc }
+stop_line graph budget Informed fact = absurd fact
+stop_line graph budget Usage fact = absurd fact
+stop_line graph budget (Absent which) fact = absurd fact
+stop_line graph budget (TooLarge which) fact = absurd fact
+stop_line graph budget (Malformed which kind at) fact = absurd fact
+stop_line graph budget ReadFault fact = absurd fact
+stop_line graph budget WriteFault fact = absurd fact
+stop_line graph budget Memory fact = record { line = record { no_table = λ table e. cc; no_rows = λ e. cc }; no_refusal = λ e. cc; asked = λ e. cc; unwritten = λ e. cc }
+
+-- a fault of a read is none of these
+not_read : (graph : Net) (budget : ℕ) (o : Outcome) → o ≡ ReadFault → IsStopOfInfo graph budget o → ⊥
+not_read graph budget o is fact = subst (IsStopOfInfo graph budget) is fact
+
+err_of : (result : Result Ending Outcome) (o p : Outcome) → result ≡ Err o → result ≡ Err p → o ≡ p
+err_of result o p one other = cc
+
+never_both : (ending : Ending) (o : Outcome) → Ok ending ≡ Err o → ⊥
+never_both ending o e = cc
+
+one_of : (outcome : Outcome) → outcome ≡ Informed → IsEnding outcome
+one_of outcome is = record { asked = λ e. cc; read = λ e. cc; unwritten = λ e. cc }
+
+no_table : (outcome : Outcome) (table : Matching) → outcome ≡ Informed → outcome ≡ AcceptedMatch table → ⊥
+no_table outcome table is e = cc
+
+no_refusal : (outcome : Outcome) → outcome ≡ Informed → outcome ≡ AcceptedRefusal → ⊥
+no_refusal outcome is e = cc
+
+-- a run that reports what is known of the file that was read
+pub informs : (tells : Bool) (info : InfoWords) (old new : ShelfState) (named : Named) (result : Result Ending Outcome)
+    → ((n : List ℕ) → new.held n ≡ old.held n)
+    → IsReadFrom tells (old.held info.file.now) named
+    → InformsOf named info.budget result
+    → Decides tells (asked_info info) old new result
+informs tells info old new named (Ok ending) files read is =
+    let rows = is.rows in
+    record {
+      files = files;
+      right = λ t words asks. subst (IsRight old.held words) (sym rows.0) (record {
+        file_name = info.file.now;
+        budget = info.budget;
+        asks = asks;
+        netlist = netlist_of read.circuit named;
+        there = read.held t;
+      });
+      ended = λ t words asks. tt;
+      sound = λ t words asks. record {
+        matches = λ table e. absurd (no_table ending.outcome table rows.0 e);
+        refuses = λ e. absurd (no_refusal ending.outcome rows.0 e);
+      };
+      report = λ words asks. inr (inr (
+        rows.0,
+        record {
+          file_name = info.file.now;
+          budget = info.budget;
+          asks = asks;
+          circuit = read.circuit;
+          named = named;
+          there = read.held;
+          is = rows.1 read.circuit read.computes read.numbered;
+        },
+      ));
+      ending = one_of ending.outcome rows.0;
+      reading = tt;
+      failed = λ e. absurd (never_both ending ReadFault e);
+    }
+informs tells info old new named (Err o) files read is = record {
+  files = files;
+  right = λ t words asks. tt;
+  ended = λ t words asks. stop_right old.held words info.file.now info.budget named.graph asks (record { netlist = netlist_of read.circuit named; holds = read.held t; numbered = read.numbered }) o is.stopped;
+  sound = λ t words asks. tt;
+  report = λ words asks. tt;
+  ending = tt;
+  reading = stop_line named.graph info.budget o is.stopped;
+  failed = λ e. absurd (not_read named.graph info.budget o (err_of (Err o) o ReadFault refl e) is.stopped);
+}

@@ -1,0 +1,17 @@
+-- What is known of the file that was read, or what ends the run at it.
+use Rattle.std.proofs.lemmas.Result.{err_from_is_err_and}
+use Rattle.npnp.proofs.CheckLemmas.{right_at_only, stopped}
+use Rattle.npnp.proofs.InfoLemmas.{informs}
+use Rattle.npnp.proofs.info.inform.Goals as goal
+
+pub returns-in_err-named : goal.returns-in_err-named
+returns-in_err-named g c =
+    let p = err_from_is_err_and c.from_residual.result c.from_residual.ensures.1 in
+    let o = c.in_err-named.field-0.0 in
+    stopped _ _ _ _ _ o (cc (p.1, p.2)) c.read_netlist.ensures.files
+    (λ tells words asks. right_at_only _ words _ _ asks o (c.in_err-named.ensures.ended tells))
+    c.in_err-named.ensures.reading
+    (λ e. c.read_netlist.ensures.failed (cc (e, c.in_err-named.was)))
+
+pub returns : goal.returns
+returns g c = informs _ c.args.info.now _ _ c.in_ok-named.named c.inform_of.result c.read_netlist.ensures.files c.in_ok-named.ensures.found c.inform_of.ensures

@@ -1,0 +1,31 @@
+-- What `info` reports of a circuit, and what it is spent on.
+use Rattle.std.specs.Prelude.{◌≡◌, ℕ, true, List}
+use Rattle.circuits.specs.Circuits.{Circuit}
+use Rattle.circuits.specs.Levels.{IsOrderOf}
+use Rattle.circuits.specs.Netlists.{Net}
+use Rattle.net_core.specs.declared.graphs.Graphs.{Graphs}
+use Rattle.net_core.specs.declared.named.Named.{Named}
+use Rattle.query_core.specs.Ledgers.{Ledgered, learned_in}
+use Rattle.account_core.specs.Work.{IsWorkOfClaimsAndMatches}
+use Rattle.port_report.specs.declared.info.OutputInfo.{OutputInfo}
+use Rattle.port_report.specs.Infos.{info_text}
+use Rattle.fact_tests.specs.Rows.{AreRowsOf}
+
+-- The text says of each output of the circuit what is true of what it computes, with the numbers of its ports and of the
+-- gates of its graph, and these names of its ports.
+pub record IsInfoText (circuit : Circuit) (named : Named) (text : List ℕ) : Type 0 where
+  pub numbered : IsOrderOf circuit named.graph
+  pub rows : List OutputInfo
+  pub right : AreRowsOf circuit rows
+  pub same : text ≡ info_text named rows
+
+-- a circuit against itself
+abbrev pub with_itself : Net → Graphs
+with_itself graph = record { first = graph; second = graph }
+
+-- The budget was spent on claims of a graph: as many lines were learned, and one more was refused.
+pub record IsSpentOf (graph : Net) (budget : ℕ) (ledger : Ledgered) : Type 0 where
+  pub budget_is : ledger.budget ≡ budget
+  pub learned : learned_in ledger ≡ budget
+  pub refused : ledger.spent ≡ true
+  pub work : IsWorkOfClaimsAndMatches (with_itself graph) ledger

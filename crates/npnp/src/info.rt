@@ -1,0 +1,62 @@
+//! What is known of one netlist.
+
+ghost use Rattle.std.specs.Prelude.{◌≡◌, IfOk, IfErr};
+ghost use Rattle.shelf_core.specs.State.{Closed};
+ghost use Rattle.fact_tests.specs.Rows.{AreRows};
+ghost use Rattle.port_report.specs.Infos.{info_text};
+ghost use Rattle.npnp.specs.Steps.{Decides, InformsOf, asked_info};
+
+use crate::netlists::read_netlist;
+use crate::outcome::{Outcome, Which};
+use crate::run::{Ending, copy_graphs};
+use crate::words::Info;
+use cnf_core::Stop;
+use fact_tests::FactBook;
+use net_core::Named;
+use port_report::{OutputInfo, put_info};
+use query_core::Ledger;
+use shelf_core::Shelf;
+use std::alloc::{AllocError, Global};
+
+/// The number that the vectors are drawn from.
+const SEED: u64 = 1;
+
+/// Reports what is known of the file that the words name. The error is an outcome whose report is one line: the file is
+/// no netlist, the budget was spent, or there was a fault.
+pub fn inform<S: Shelf>(alloc: Global, info: &Info<'_>, shelf: &mut S) -> Result<Ending, Outcome>
+    requires { (S.state shelf.old).mode ≡ Closed }
+    ensures { Decides S.tells (asked_info info.now) (S.state shelf.old) (S.state shelf.new) result }
+{
+    let named = read_netlist(alloc, shelf, Which::First, info.file)?;
+    inform_of(alloc, &named, info.budget)
+}
+
+/// Reports what is known of a netlist, for which at most `budget` clauses are learned.
+fn inform_of(alloc: Global, named: &Named, budget: u64) -> Result<Ending, Outcome>
+    ensures { InformsOf named.now budget result }
+{
+    // the circuit is set against itself: claims of its first side are all that is asked
+    let graphs = copy_graphs(alloc, named, named)?;
+    let mut book = FactBook::new(alloc, &graphs, SEED)?;
+    let mut ledger = Ledger::new(alloc, budget);
+    match fact_tests::info(alloc, &graphs, &mut book, &mut ledger) {
+        Ok(rows) => informed(alloc, named, &rows),
+        Err(Stop::Spent(_)) => Err(Outcome::Spent(ledger)),
+        Err(Stop::Memory) => Err(Outcome::Memory),
+    }
+}
+
+/// The end of a run that reports rows of a netlist.
+fn informed(alloc: Global, named: &Named, rows: &[OutputInfo]) -> Result<Ending, Outcome>
+    requires { AreRows named.now.graph rows.now }
+    ensures outcome { IfOk result (λ ending. ending.outcome ≡ Outcome.Informed) }
+    ensures report { IfOk result (λ ending. ending.report.items ≡ info_text named.now rows.now) }
+    ensures memory { IfErr result (λ outcome. outcome ≡ Outcome.Memory) }
+{
+    let mut report = Vec::new(alloc);
+    put_info(named, rows, &mut report)?;
+    Ok(Ending {
+        outcome: Outcome::Informed,
+        report,
+    })
+}
