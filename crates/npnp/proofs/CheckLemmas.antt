@@ -8,9 +8,11 @@ use Rattle.circuits.proofs.OneOrder.{one_order}
 use Rattle.net_core.specs.declared.graphs.Graphs.{Graphs}
 use Rattle.net_core.specs.declared.matching.Matching.{Matching}
 use Rattle.net_core.specs.declared.named.NetKind.{NetKind}
-use Rattle.account_check.specs.Verdicts.{IsAccepted as ProvesMatch, IsRejected as IsBadAt}
+use Rattle.account_check.specs.Verdicts.{IsAccepted as Proves, IsRejected as IsBadAt}
+use Rattle.account_check.specs.declared.verdict.Verdict.{Verdict}
+use Rattle.account_check.specs.declared.verdict.Verdict.TheVariants as verdict
 use Rattle.account_check.specs.declared.verdict.Why.{Why}
-use Rattle.account_check.proofs.VerdictLemmas.{one_rejection, one_matching, never_both}
+use Rattle.account_check.proofs.VerdictLemmas.{one_rejection, one_proved, never_both}
 use Rattle.npnp.specs.Circuits.{IsCircuit, IsCircuitFault}
 use Rattle.query_core.specs.Ledgers.{Ledgered}
 use Rattle.npnp.specs.Words.{AsksCheck, AsksInfo, AskNothing}
@@ -32,7 +34,7 @@ use Rattle.npnp.proofs.CircuitLemmas.{one_circuit, circuit_or_fault, one_circuit
 use Rattle.npnp.specs.declared.outcome.Which.{Which}
 use Rattle.npnp.specs.declared.outcome.Which.TheVariants.{First, Second, Account}
 use Rattle.npnp.specs.declared.outcome.Outcome.{Outcome}
-use Rattle.npnp.specs.declared.outcome.Outcome.TheVariants.{AcceptedMatch, Rejected, Spent, Usage, Absent, TooLarge, Malformed, Informed, ReadFault, WriteFault, Memory}
+use Rattle.npnp.specs.declared.outcome.Outcome.TheVariants.{AcceptedMatch, AcceptedRefusal, Rejected, Spent, Usage, Absent, TooLarge, Malformed, Informed, ReadFault, WriteFault, Memory}
 
 -- a count that rose in the last of several calls
 pub rose_later : (a b c : ℕ) → a ≤ b → b ≤ c → Rose b c → Rose a c
@@ -83,6 +85,7 @@ IsEnd file content o = ((o ≡ Absent file) × (content ≡ None)) ⊎ ((o ≡ T
 
 end_of : (file : Which) (content : Option (List ℕ)) (o : Outcome) → IsDecided o → EndsAt file content o → IsEnd file content o
 end_of file content (AcceptedMatch table) decided fact = absurd fact
+end_of file content AcceptedRefusal decided fact = absurd fact
 end_of file content (Rejected line why) decided fact = absurd fact
 end_of file content (Spent ledger) decided fact = absurd fact
 end_of file content Informed decided fact = absurd fact
@@ -142,21 +145,26 @@ graph_one content a b one other =
     let acyclic = circuit_acyclic bytes one.netlist.circuit one.netlist.input_names one.netlist.output_names one.holds.is in
     one_order one.netlist.circuit a b acyclic one.numbered (subst (λ circuit. IsOrderOf circuit b) (sym e) other.numbered)
 
+-- how the check of an account ends that proves this
+abbrev pub accepted_as : Verdict → Outcome
+accepted_as (verdict.Match table) = AcceptedMatch table
+accepted_as verdict.None = AcceptedRefusal
+
 -- what the account's bytes answer
 abbrev pub IsAnswer : Graphs → List ℕ → Outcome → Type 0
 IsAnswer graphs account o =
-    ((table : Matching) × (o ≡ AcceptedMatch table) × ProvesMatch graphs account table)
+    ((proved : Verdict) × (o ≡ accepted_as proved) × Proves graphs account proved)
     ⊎ ((line : ℕ) × (why : Why) × (o ≡ Rejected line why) × IsBadAt graphs account line why)
 
 answer_one : (graphs : Graphs) (account : List ℕ) (a b : Outcome) → IsAnswer graphs account a → IsAnswer graphs account b → a ≡ b
 answer_one graphs account a b one other =
     elim one [
-      | inl (table, e, proves) ↦ elim other [
-        | inl (table', e', proves') ↦ e ∙ ap AcceptedMatch (one_matching graphs account table table' proves proves') ∙ sym e'
-        | inr (line, why, e', bad) ↦ absurd (never_both graphs account table line why proves bad)
+      | inl (proved, e, proves) ↦ elim other [
+        | inl (proved', e', proves') ↦ e ∙ ap accepted_as (one_proved graphs account proved proved' proves proves') ∙ sym e'
+        | inr (line, why, e', bad) ↦ absurd (never_both graphs account proved line why proves bad)
       ]
       | inr (line, why, e, bad) ↦ elim other [
-        | inl (table, e', proves) ↦ absurd (never_both graphs account table line why proves bad)
+        | inl (proved, e', proves) ↦ absurd (never_both graphs account proved line why proves bad)
         | inr (line', why', e', bad') ↦ let same = one_rejection graphs account line line' why why' bad bad' in let l = same.0 in let w = same.1 in cc
       ]
     ]
@@ -321,7 +329,8 @@ asked_of_spent held words ledger spent = record {
 }
 
 says : (held : List ℕ → Option (List ℕ)) (words : List (List ℕ)) (o : Outcome) → IsDecided o → IsRight held words o → Says held words o
-says held words (AcceptedMatch table) decided right = says_answer held words right.graphs right.account (AcceptedMatch table) right.has (inl (table, refl, right.accepted))
+says held words (AcceptedMatch table) decided right = says_answer held words right.graphs right.account (AcceptedMatch table) right.has (inl (verdict.Match table, refl, right.accepted))
+says held words AcceptedRefusal decided right = says_answer held words right.graphs right.account AcceptedRefusal right.has (inl (verdict.None, refl, right.accepted))
 says held words (Rejected line why) decided right = says_answer held words right.graphs right.account (Rejected line why) right.has (inr (line, why, refl, right.rejected))
 says held words (Spent ledger) decided right = says_of held words (Spent ledger) (asked_of_spent held words ledger right) (inr (ledger, refl))
 says held words Informed decided right = says_of held words Informed right (inl refl)
@@ -337,6 +346,7 @@ says held words Memory decided right = absurd (decided.told.room refl)
 
 pub right_at_first : (held : List ℕ → Option (List ℕ)) (words : List (List ℕ)) (f g t : List ℕ) → AsksCheck words f g t → (o : Outcome) → EndsAt First (held f) o → IsRight held words o
 right_at_first held words f g t asks (AcceptedMatch table) ends = absurd ends
+right_at_first held words f g t asks AcceptedRefusal ends = absurd ends
 right_at_first held words f g t asks (Rejected line why) ends = absurd ends
 right_at_first held words f g t asks (Spent ledger) ends = absurd ends
 right_at_first held words f g t asks Informed ends = absurd ends
@@ -350,6 +360,7 @@ right_at_first held words f g t asks Memory ends = tt
 
 pub right_at_second : (held : List ℕ → Option (List ℕ)) (words : List (List ℕ)) (f g t : List ℕ) (first : Netlist) → AsksCheck words f g t → HoldsNetlist (held f) first → (o : Outcome) → EndsAt Second (held g) o → IsRight held words o
 right_at_second held words f g t first asks there (AcceptedMatch table) ends = absurd ends
+right_at_second held words f g t first asks there AcceptedRefusal ends = absurd ends
 right_at_second held words f g t first asks there (Rejected line why) ends = absurd ends
 right_at_second held words f g t first asks there (Spent ledger) ends = absurd ends
 right_at_second held words f g t first asks there Informed ends = absurd ends
@@ -363,6 +374,7 @@ right_at_second held words f g t first asks there Memory ends = tt
 
 pub right_at_only : (held : List ℕ → Option (List ℕ)) (words : List (List ℕ)) (file : List ℕ) (budget : ℕ) → AsksInfo words file budget → (o : Outcome) → EndsAt First (held file) o → IsRight held words o
 right_at_only held words file budget asks (AcceptedMatch table) ends = absurd ends
+right_at_only held words file budget asks AcceptedRefusal ends = absurd ends
 right_at_only held words file budget asks (Rejected line why) ends = absurd ends
 right_at_only held words file budget asks (Spent ledger) ends = absurd ends
 right_at_only held words file budget asks Informed ends = absurd ends
@@ -376,6 +388,7 @@ right_at_only held words file budget asks Memory ends = tt
 
 pub right_by_verdict : (held : List ℕ → Option (List ℕ)) (words : List (List ℕ)) (f g t : List ℕ) (graphs : Graphs) → AsksCheck words f g t → HoldsGraph (held f) graphs.first → HoldsGraph (held g) graphs.second → (o : Outcome) → IsVerdict graphs (held t) o → IsRight held words o
 right_by_verdict held words f g t graphs asks first second (AcceptedMatch table) fact = record { graphs = graphs; account = fact.0; has = record { first_name = f; second_name = g; account_name = t; asks = asks; first_held = first; second_held = second; there = fact.1 }; accepted = fact.2 }
+right_by_verdict held words f g t graphs asks first second AcceptedRefusal fact = record { graphs = graphs; account = fact.0; has = record { first_name = f; second_name = g; account_name = t; asks = asks; first_held = first; second_held = second; there = fact.1 }; accepted = fact.2 }
 right_by_verdict held words f g t graphs asks first second (Rejected line why) fact = record { graphs = graphs; account = fact.0; has = record { first_name = f; second_name = g; account_name = t; asks = asks; first_held = first; second_held = second; there = fact.1 }; rejected = fact.2 }
 right_by_verdict held words f g t graphs asks first second (Spent ledger) fact = absurd fact
 right_by_verdict held words f g t graphs asks first second Informed fact = absurd fact
@@ -423,6 +436,9 @@ module _ (held : List ℕ → Option (List ℕ)) (words : List (List ℕ)) (aske
 pub decided_accepted : (table : Matching) → IsDecided (AcceptedMatch table)
 decided_accepted table = record { read = λ e. cc; told = record { written = λ e. cc; room = λ e. cc } }
 
+pub decided_refusal : IsDecided AcceptedRefusal
+decided_refusal = record { read = λ e. cc; told = record { written = λ e. cc; room = λ e. cc } }
+
 pub decided_rejected : (line : ℕ) (why : Why) → IsDecided (Rejected line why)
 decided_rejected line why = record { read = λ e. cc; told = record { written = λ e. cc; room = λ e. cc } }
 
@@ -445,8 +461,8 @@ stop_right held words stop.ReadFault = tt
 stop_right held words stop.Memory = tt
 
 pub stop_reading : (s : Stop) → IsOfReading (outcome_of s)
-stop_reading stop.ReadFault = record { line = record { no_table = λ table e. cc; no_rows = λ e. cc }; asked = λ e. cc; unwritten = λ e. cc }
-stop_reading stop.Memory = record { line = record { no_table = λ table e. cc; no_rows = λ e. cc }; asked = λ e. cc; unwritten = λ e. cc }
+stop_reading stop.ReadFault = record { line = record { no_table = λ table e. cc; no_rows = λ e. cc }; no_refusal = λ e. cc; asked = λ e. cc; unwritten = λ e. cc }
+stop_reading stop.Memory = record { line = record { no_table = λ table e. cc; no_rows = λ e. cc }; no_refusal = λ e. cc; asked = λ e. cc; unwritten = λ e. cc }
 
 pub stop_is : (s : Stop) → outcome_of s ≡ ReadFault → s ≡ stop.ReadFault
 stop_is stop.ReadFault e = refl
@@ -482,6 +498,7 @@ asks_both held content words f g t first second same asks holds other = record {
 -- what the bytes of a file that is no netlist end the run with
 stop_ends : (file : Which) (content : Option (List ℕ)) (bytes : List ℕ) → content ≡ Some bytes → length bytes ≤ 67108864 → (o : Outcome) → IsStopOf file bytes o → EndsAt file content o
 stop_ends file content bytes there short (AcceptedMatch table) fact = absurd fact
+stop_ends file content bytes there short AcceptedRefusal fact = absurd fact
 stop_ends file content bytes there short (Rejected line why) fact = absurd fact
 stop_ends file content bytes there short (Spent ledger) fact = absurd fact
 stop_ends file content bytes there short Informed fact = absurd fact
@@ -495,16 +512,17 @@ stop_ends file content bytes there short Memory fact = tt
 
 stop_is_of_reading : (file : Which) (bytes : List ℕ) (o : Outcome) → IsStopOf file bytes o → IsOfReading o
 stop_is_of_reading file bytes (AcceptedMatch table) fact = absurd fact
+stop_is_of_reading file bytes AcceptedRefusal fact = absurd fact
 stop_is_of_reading file bytes (Rejected line why) fact = absurd fact
 stop_is_of_reading file bytes (Spent ledger) fact = absurd fact
 stop_is_of_reading file bytes Informed fact = absurd fact
 stop_is_of_reading file bytes Usage fact = absurd fact
 stop_is_of_reading file bytes (Absent which) fact = absurd fact
 stop_is_of_reading file bytes (TooLarge which) fact = absurd fact
-stop_is_of_reading file bytes (Malformed which kind at) fact = record { line = record { no_table = λ table e. cc; no_rows = λ e. cc }; asked = λ e. cc; unwritten = λ e. cc }
+stop_is_of_reading file bytes (Malformed which kind at) fact = record { line = record { no_table = λ table e. cc; no_rows = λ e. cc }; no_refusal = λ e. cc; asked = λ e. cc; unwritten = λ e. cc }
 stop_is_of_reading file bytes ReadFault fact = absurd fact
 stop_is_of_reading file bytes WriteFault fact = absurd fact
-stop_is_of_reading file bytes Memory fact = record { line = record { no_table = λ table e. cc; no_rows = λ e. cc }; asked = λ e. cc; unwritten = λ e. cc }
+stop_is_of_reading file bytes Memory fact = record { line = record { no_table = λ table e. cc; no_rows = λ e. cc }; no_refusal = λ e. cc; asked = λ e. cc; unwritten = λ e. cc }
 
 -- a file of few bytes was read
 reads_same : (tells : Bool) (file : Which) (name : List ℕ) (old new : ShelfState) (bytes : List ℕ) (result : Result Named Outcome) → ((n : List ℕ) → new.held n ≡ old.held n) → new.mode ≡ Closed → old.faults ≤ new.faults → (IsTrue tells → (old.held name ≡ Some bytes) × (length bytes ≤ 67108864)) → IfOk result (λ named. ReadAs bytes named.graph named.input_names named.output_names) → IfErr result (IsStopOf file bytes) → ReadsNetlist tells file name old new result

@@ -19,7 +19,7 @@ use Rattle.npnp.specs.Words.{AsksInfo}
 use Rattle.npnp.specs.declared.words.Info.{Info as InfoWords}
 use Rattle.npnp.specs.declared.run.Ending.{Ending}
 use Rattle.npnp.specs.declared.outcome.Outcome.{Outcome}
-use Rattle.npnp.specs.declared.outcome.Outcome.TheVariants.{AcceptedMatch, Rejected, Spent, Usage, Absent, TooLarge, Malformed, Informed, ReadFault, WriteFault, Memory}
+use Rattle.npnp.specs.declared.outcome.Outcome.TheVariants.{AcceptedMatch, AcceptedRefusal, Rejected, Spent, Usage, Absent, TooLarge, Malformed, Informed, ReadFault, WriteFault, Memory}
 
 -- an empty ledger suits a book that knows nothing
 pub suits_new : (graphs : Graphs) (budget : ℕ) → Suits (record { graphs = graphs; facts = []; answered = [] }) (record { budget = budget; asked = []; spent = false })
@@ -78,6 +78,7 @@ informed_is named budget graph rows (Err outcome) same are outcome_is report mem
 
 stop_right : (held : List ℕ → Option (List ℕ)) (words : List (List ℕ)) (file : List ℕ) (budget : ℕ) (graph : Net) → AsksInfo words file budget → HoldsGraph (held file) graph → (o : Outcome) → IsStopOfInfo graph budget o → IsRight held words o
 stop_right held words file budget graph asks there (AcceptedMatch table) fact = absurd fact
+stop_right held words file budget graph asks there AcceptedRefusal fact = absurd fact
 stop_right held words file budget graph asks there (Rejected line why) fact = absurd fact
 stop_right held words file budget graph asks there (Spent ledger) fact = record { file_name = file; budget = budget; asks = asks; graph = graph; there = there; spent = fact }
 stop_right held words file budget graph asks there Informed fact = absurd fact
@@ -91,8 +92,9 @@ stop_right held words file budget graph asks there Memory fact = tt
 
 stop_line : (graph : Net) (budget : ℕ) (o : Outcome) → IsStopOfInfo graph budget o → IsOfReading o
 stop_line graph budget (AcceptedMatch table) fact = absurd fact
+stop_line graph budget AcceptedRefusal fact = absurd fact
 stop_line graph budget (Rejected line why) fact = absurd fact
-stop_line graph budget (Spent ledger) fact = record { line = record { no_table = λ table e. cc; no_rows = λ e. cc }; asked = λ e. cc; unwritten = λ e. cc }
+stop_line graph budget (Spent ledger) fact = record { line = record { no_table = λ table e. cc; no_rows = λ e. cc }; no_refusal = λ e. cc; asked = λ e. cc; unwritten = λ e. cc }
 stop_line graph budget Informed fact = absurd fact
 stop_line graph budget Usage fact = absurd fact
 stop_line graph budget (Absent which) fact = absurd fact
@@ -100,7 +102,7 @@ stop_line graph budget (TooLarge which) fact = absurd fact
 stop_line graph budget (Malformed which kind at) fact = absurd fact
 stop_line graph budget ReadFault fact = absurd fact
 stop_line graph budget WriteFault fact = absurd fact
-stop_line graph budget Memory fact = record { line = record { no_table = λ table e. cc; no_rows = λ e. cc }; asked = λ e. cc; unwritten = λ e. cc }
+stop_line graph budget Memory fact = record { line = record { no_table = λ table e. cc; no_rows = λ e. cc }; no_refusal = λ e. cc; asked = λ e. cc; unwritten = λ e. cc }
 
 -- a fault of a read is none of these
 not_read : (graph : Net) (budget : ℕ) (o : Outcome) → o ≡ ReadFault → IsStopOfInfo graph budget o → ⊥
@@ -117,6 +119,9 @@ one_of outcome is = record { asked = λ e. cc; read = λ e. cc; unwritten = λ e
 
 no_table : (outcome : Outcome) (table : Matching) → outcome ≡ Informed → outcome ≡ AcceptedMatch table → ⊥
 no_table outcome table is e = cc
+
+no_refusal : (outcome : Outcome) → outcome ≡ Informed → outcome ≡ AcceptedRefusal → ⊥
+no_refusal outcome is e = cc
 
 -- a run that reports what is known of the file that was read
 pub informs : (tells : Bool) (info : InfoWords) (old new : ShelfState) (named : Named) (result : Result Ending Outcome)
@@ -136,7 +141,10 @@ informs tells info old new named (Ok ending) files read is =
         there = read.held t;
       });
       ended = λ t words asks. tt;
-      sound = λ t words asks table e. absurd (no_table ending.outcome table rows.0 e);
+      sound = λ t words asks. record {
+        matches = λ table e. absurd (no_table ending.outcome table rows.0 e);
+        refuses = λ e. absurd (no_refusal ending.outcome rows.0 e);
+      };
       report = λ words asks. inr (inr (
         rows.0,
         record {

@@ -2,9 +2,11 @@
 use Rattle.std.specs.Prelude.{◌≡◌, ◌≢◌, ℕ, ◌<◌, ◌≤◌, ◌⊎◌, List, length, Option, None, Some}
 use Rattle.circuits.specs.Circuits.{Circuit}
 use Rattle.circuits.specs.Levels.{IsOrderOf}
-use Rattle.circuits.specs.Matches.{IsMatch}
+use Rattle.circuits.specs.Matches.{IsMatch, AreNpnpEqual}
 use Rattle.circuits.specs.Netlists.{Net}
-use Rattle.account_check.specs.Verdicts.{IsAccepted as ProvesMatch, IsRejected as IsBadAt}
+use Rattle.account_check.specs.Verdicts.{IsAccepted as Proves, IsRejected as IsBadAt}
+use Rattle.account_check.specs.declared.verdict.Verdict.{Verdict}
+use Rattle.account_check.specs.declared.verdict.Verdict.TheVariants as verdict
 use Rattle.account_check.specs.declared.verdict.Why.{Why}
 use Rattle.npnp.specs.Circuits.{IsCircuit, IsCircuitFault}
 use Rattle.net_core.specs.declared.graphs.Graphs.{Graphs}
@@ -16,7 +18,7 @@ use Rattle.npnp.specs.Words.{AsksCheck, AsksInfo, AskNothing}
 use Rattle.npnp.specs.declared.outcome.Which.{Which}
 use Rattle.npnp.specs.declared.outcome.Which.TheVariants.{First, Second, Account}
 use Rattle.npnp.specs.declared.outcome.Outcome.{Outcome}
-use Rattle.npnp.specs.declared.outcome.Outcome.TheVariants.{AcceptedMatch, Rejected, Spent, Usage, Absent, TooLarge, Malformed, Informed, ReadFault, WriteFault, Memory}
+use Rattle.npnp.specs.declared.outcome.Outcome.TheVariants.{AcceptedMatch, AcceptedRefusal, Rejected, Spent, Usage, Absent, TooLarge, Malformed, Informed, ReadFault, WriteFault, Memory}
 
 -- A netlist as its file has it, with the names of its ports.
 pub record Netlist : Type 0 where
@@ -115,12 +117,12 @@ pub record HasAccount (held : List ℕ → Option (List ℕ)) (words : List (Lis
   pub second_held : HoldsGraph (held second_name) graphs.second
   pub there : held account_name ≡ Some account
 
--- The account's records are all valid, and prove this match.
-pub record IsAccepted (held : List ℕ → Option (List ℕ)) (words : List (List ℕ)) (table : Matching) : Type 0 where
+-- The account's records are all valid, and prove this: that a table is a match, or that there is none.
+pub record IsAccepted (held : List ℕ → Option (List ℕ)) (words : List (List ℕ)) (proved : Verdict) : Type 0 where
   pub graphs : Graphs
   pub account : List ℕ
   pub has : HasAccount held words graphs account
-  pub accepted : ProvesMatch graphs account table
+  pub accepted : Proves graphs account proved
 
 -- The account's first bad line is this one, counted from 1, for this reason.
 pub record IsRejected (held : List ℕ → Option (List ℕ)) (words : List (List ℕ)) (line : ℕ) (why : Why) : Type 0 where
@@ -136,6 +138,14 @@ pub record IsMatchOfFiles (held : List ℕ → Option (List ℕ)) (words : List 
   pub account_name : List ℕ
   pub asked : IsAsked held words first second account_name
   pub matches : IsMatch first.circuit second.circuit table.inputs table.outputs
+
+-- The words ask for a check of two files that are netlists, and no signed bijections make the two circuits equal.
+pub record LacksMatch (held : List ℕ → Option (List ℕ)) (words : List (List ℕ)) : Type 0 where
+  pub first : Netlist
+  pub second : Netlist
+  pub account_name : List ℕ
+  pub asked : IsAsked held words first second account_name
+  pub unequal : AreNpnpEqual first.circuit second.circuit → ⊥
 
 -- The words ask for what is known of a file that is a netlist.
 pub record IsAskedOf (held : List ℕ → Option (List ℕ)) (words : List (List ℕ)) : Type 0 where
@@ -164,7 +174,8 @@ IsAbsent held words which = EndsEarly held words (Absent which) ⊎ ((which ≡ 
 
 -- what an outcome says of the words and the files; the faults and the want of memory say nothing of them
 abbrev pub IsRight : (List ℕ → Option (List ℕ)) → List (List ℕ) → Outcome → Type 0
-IsRight held words (AcceptedMatch table) = IsAccepted held words table
+IsRight held words (AcceptedMatch table) = IsAccepted held words (verdict.Match table)
+IsRight held words AcceptedRefusal = IsAccepted held words verdict.None
 IsRight held words (Rejected line why) = IsRejected held words line why
 IsRight held words Informed = IsAskedOf held words
 IsRight held words (Spent ledger) = IsSpentOn held words ledger
@@ -174,9 +185,11 @@ IsRight held words (TooLarge which) = EndsEarly held words (TooLarge which)
 IsRight held words (Malformed which kind at) = EndsEarly held words (Malformed which kind at)
 IsRight held words other = Unit {0}
 
--- whoever wrote the account, a table that is accepted is a match of the files' netlists
-abbrev pub IsSound : (List ℕ → Option (List ℕ)) → List (List ℕ) → Outcome → Type 0
-IsSound held words outcome = (table : Matching) → outcome ≡ AcceptedMatch table → IsMatchOfFiles held words table
+-- Whoever wrote the account, a table that is accepted is a match of the files' netlists, and where a refusal is accepted
+-- they have no match.
+pub record IsSound (held : List ℕ → Option (List ℕ)) (words : List (List ℕ)) (outcome : Outcome) : Type 0 where
+  pub matches : (table : Matching) → outcome ≡ AcceptedMatch table → IsMatchOfFiles held words table
+  pub refuses : outcome ≡ AcceptedRefusal → LacksMatch held words
 
 -- the report was put whole
 pub record IsTold (outcome : Outcome) : Type 0 where

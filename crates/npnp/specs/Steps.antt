@@ -3,14 +3,15 @@ use Rattle.std.specs.Prelude.{◌≡◌, ◌≢◌, ℕ, ◌⊎◌, ◌≤◌, B
 use Rattle.circuits.specs.Circuits.{Circuit}
 use Rattle.circuits.specs.Functions.{Computes}
 use Rattle.circuits.specs.Levels.{IsAcyclic, IsOrderOf}
-use Rattle.circuits.specs.Matches.{IsMatchOfFunctions}
+use Rattle.circuits.specs.Matches.{IsMatchOfFunctions, HaveNpnpEqualFunctions}
 use Rattle.circuits.specs.Netlists.{Net}
 use Rattle.shelf_core.specs.Fault.{Rose}
 use Rattle.shelf_core.specs.State.{ShelfState, SinkState, Closed}
 use Rattle.net_core.specs.declared.graphs.Graphs.{Graphs}
 use Rattle.net_core.specs.declared.matching.Matching.{Matching}
 use Rattle.net_core.specs.declared.named.Named.{Named}
-use Rattle.account_check.specs.Verdicts.{IsAccepted as ProvesMatch, IsRejected as IsBadAt}
+use Rattle.account_check.specs.Verdicts.{IsAccepted as Proves, IsRejected as IsBadAt}
+use Rattle.account_check.specs.declared.verdict.Verdict.TheVariants as verdict
 use Rattle.npnp.specs.Circuits.{IsCircuit, IsCircuitFault}
 use Rattle.npnp.specs.Info.{IsInfoText, IsSpentOf}
 use Rattle.npnp.specs.Words.{AsksCheck, AsksInfo}
@@ -19,7 +20,7 @@ use Rattle.npnp.specs.Report.{IsOneLine, IsReport, line_of}
 use Rattle.npnp.specs.declared.outcome.Which.{Which}
 use Rattle.npnp.specs.declared.outcome.Which.TheVariants.{Account}
 use Rattle.npnp.specs.declared.outcome.Outcome.{Outcome}
-use Rattle.npnp.specs.declared.outcome.Outcome.TheVariants.{AcceptedMatch, Rejected, Spent, Usage, Absent, Malformed, Informed, ReadFault, WriteFault, Memory}
+use Rattle.npnp.specs.declared.outcome.Outcome.TheVariants.{AcceptedMatch, AcceptedRefusal, Rejected, Spent, Usage, Absent, Malformed, Informed, ReadFault, WriteFault, Memory}
 use Rattle.npnp.specs.declared.words.Check.{Check as CheckWords}
 use Rattle.npnp.specs.declared.words.Info.{Info as InfoWords}
 use Rattle.npnp.specs.declared.words.Command.{Command}
@@ -31,6 +32,7 @@ use Rattle.npnp.specs.declared.run.Ending.{Ending}
 -- an outcome that comes of the words alone, or of a write, is none of a netlist that is read
 pub record IsOfReading (outcome : Outcome) : Type 0 where
   pub line : IsOneLine outcome
+  pub no_refusal : outcome ≢ AcceptedRefusal
   pub asked : outcome ≢ Usage
   pub unwritten : outcome ≢ WriteFault
 
@@ -93,7 +95,9 @@ graphs_of first second = record { first = first.graph; second = second.graph }
 -- what an outcome says of two graphs and of what the account's name holds
 abbrev pub IsVerdict : Graphs → Option (List ℕ) → Outcome → Type 0
 IsVerdict graphs content (AcceptedMatch table) =
-    (account : List ℕ) × (content ≡ Some account) × ProvesMatch graphs account table
+    (account : List ℕ) × (content ≡ Some account) × Proves graphs account (verdict.Match table)
+IsVerdict graphs content AcceptedRefusal =
+    (account : List ℕ) × (content ≡ Some account) × Proves graphs account verdict.None
 IsVerdict graphs content (Rejected line why) =
     (account : List ℕ) × (content ≡ Some account) × IsBadAt graphs account line why
 IsVerdict graphs content (Absent file) = (file ≡ Account) × (content ≡ None)
@@ -103,6 +107,10 @@ IsVerdict graphs content other = ⊥
 abbrev pub IsMatchIfAccepted : Net → Net → Outcome → Type 0
 IsMatchIfAccepted f g outcome =
     (table : Matching) → outcome ≡ AcceptedMatch table → IsMatchOfFunctions f g table.inputs table.outputs
+
+-- where a refusal is accepted, no signed bijections make the graphs' functions equal
+abbrev pub IsUnequalIfRefused : Net → Net → Outcome → Type 0
+IsUnequalIfRefused f g outcome = outcome ≡ AcceptedRefusal → HaveNpnpEqualFunctions f g → ⊥
 
 -- an outcome that two netlists and an account were judged by
 pub record IsJudged (outcome : Outcome) : Type 0 where
@@ -116,6 +124,7 @@ pub record Judges (tells : Bool) (first second : Named) (name : List ℕ) (old n
   pub files : (n : List ℕ) → new.held n ≡ old.held n
   pub right : IsTrue tells → IfOk result (IsVerdict (graphs_of first second) (old.held name))
   pub matches : IfOk result (IsMatchIfAccepted first.graph second.graph)
+  pub refuses : IfOk result (IsUnequalIfRefused first.graph second.graph)
   pub judged : IfOk result IsJudged
   pub faults : old.faults ≤ new.faults
   pub failed : result ≡ Err stop.ReadFault → Rose old.faults new.faults
@@ -149,7 +158,7 @@ pub record Decides (tells : Bool) (command : Command) (old new : ShelfState) (re
       → (words : List (List ℕ))
       → Ask words command
       → IfErr result (IsRight old.held words)
-  -- an accepted table is a match of the files' netlists
+  -- an accepted table is a match of the files' netlists, and an accepted refusal is right
   pub sound : IsTrue tells
       → (words : List (List ℕ))
       → Ask words command

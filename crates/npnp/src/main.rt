@@ -1,5 +1,6 @@
 //! `npnp`: checks that a port table is a match of two combinational netlists, up to the order and the
-//! negation of their inputs and outputs, and reports what the outputs of a netlist depend on, and how.
+//! negation of their inputs and outputs, or that there is none, and reports what the outputs of a netlist
+//! depend on, and how.
 #![tactic(auto)]
 
 mod files;

@@ -25,6 +25,8 @@ pub enum Which {
 pub enum Outcome {
     /// The account proves that this port table is a match of the circuits.
     AcceptedMatch(Matching),
+    /// The account proves that no port table is a match of the circuits.
+    AcceptedRefusal,
     /// The first line of the account that is wrong, counted from 1, and why. Where a line is missing it is the one behind the
     /// last.
     Rejected {
@@ -56,13 +58,14 @@ pub enum Outcome {
 }
 
 impl Outcome {
-    /// The exit status of the program: 0 accepted or reported, 2 rejected, 3 a spent budget, 4 words of no known form,
-    /// 5 a file that isn't there or isn't a netlist, 6 a fault of the outside, 7 no memory.
+    /// The exit status of the program: 0 a match accepted or a report, 1 a refusal accepted, 2 rejected, 3 a spent budget,
+    /// 4 words of no known form, 5 a file that isn't there or isn't a netlist, 6 a fault of the outside, 7 no memory.
     pub fn status(&self) -> u8
         ensures { result ≡ status_of self.now }
     {
         match self {
             Outcome::AcceptedMatch(_) => 0,
+            Outcome::AcceptedRefusal => 1,
             Outcome::Rejected { .. } => 2,
             Outcome::Informed => 0,
             Outcome::Spent(_) => 3,

@@ -45,6 +45,7 @@ fn put_line(outcome: &Outcome, out: &mut Vec<u8>) -> Result<(), AllocError>
 {
     match outcome {
         Outcome::AcceptedMatch(_) => out.extend_from_slice(b"accepted match\n"),
+        Outcome::AcceptedRefusal => out.extend_from_slice(b"accepted refusal\n"),
         Outcome::Rejected { line, why } => put_rejected(*line, why.word(), out),
         Outcome::Spent(ledger) => put_spent(ledger.learned(), out),
         Outcome::Informed => Ok(()),

@@ -10,9 +10,9 @@ ghost use Rattle.npnp.specs.declared.outcome.Outcome.{Outcome as AnyOutcome};
 ghost use Rattle.npnp.specs.declared.outcome.Which.{Which as AnyFile};
 ghost use Rattle.npnp.specs.Words.{AskNothing};
 ghost use Rattle.query_core.specs.Ledgers.{Ledgered};
-ghost use Rattle.npnp.specs.Check.{IsRight, IsSound, IsAccepted, IsRejected, IsMatchOfFiles, IsAskedOf, IsOfOne, IsSpentOn, IsAbsent, EndsEarly, IsDecided, IsTold};
+ghost use Rattle.npnp.specs.Check.{IsRight, IsSound, IsAccepted, IsRejected, IsMatchOfFiles, LacksMatch, IsAskedOf, IsOfOne, IsSpentOn, IsAbsent, EndsEarly, IsDecided, IsTold};
 ghost use Rattle.npnp.specs.Report.{IsReport, line_of};
-ghost use Rattle.npnp.specs.Steps.{IsVerdict, IsMatchIfAccepted, IsJudged, Judges, Decides, asked_check, TellsLine, PutsText, WritesPart, graphs_of};
+ghost use Rattle.npnp.specs.Steps.{IsVerdict, IsMatchIfAccepted, IsUnequalIfRefused, IsJudged, Judges, Decides, asked_check, TellsLine, PutsText, WritesPart, graphs_of};
 
 use crate::files::{File, Stop, read_file};
 use crate::info::inform;
@@ -40,7 +40,7 @@ pub struct Ending {
 /// report. It knows these words, where each netlist is in BLIF or in the AIGER format:
 ///
 /// - `check FIRST SECOND ACCOUNT`: FIRST and SECOND are netlists, and ACCOUNT is a text that claims a port table and
-///   proves, by refutations, that it is a match of the two.
+///   proves, by refutations, that it is a match of the two, or that proves by exclusions that no port table is one.
 /// - `info FILE [BUDGET]`: FILE is a netlist. Its supports, unateness and symmetries are decided; at most BUDGET clauses
 ///   are learned for that, by default 1,000,000,000.
 ///
@@ -57,7 +57,10 @@ pub fn run<S: Shelf, K: Sink>(
     // Where no fault and no want of memory came between, the words and the files decide the outcome.
     ensures accepted { IsTrue S.tells → IsDecided result → (table : Table)
         → ((result ≡ Outcome.AcceptedMatch table)
-        ↔ IsAccepted (S.state shelf.old).held (map string_bytes words.now) table) }
+        ↔ IsAccepted (S.state shelf.old).held (map string_bytes words.now) (Verdict.Match table)) }
+    ensures accepted_refusal { IsTrue S.tells → IsDecided result
+        → ((result ≡ Outcome.AcceptedRefusal)
+        ↔ IsAccepted (S.state shelf.old).held (map string_bytes words.now) Verdict.None) }
     ensures rejected { IsTrue S.tells → IsDecided result → (line : ℕ) (why : Reason)
         → ((result ≡ Outcome.Rejected line why)
         ↔ IsRejected (S.state shelf.old).held (map string_bytes words.now) line why) }
@@ -76,6 +79,10 @@ pub fn run<S: Shelf, K: Sink>(
     // A table is accepted only where it is a match of the two files' netlists, whoever wrote the account.
     ensures sound { IsTrue S.tells → (table : Table) → result ≡ Outcome.AcceptedMatch table
         → IsMatchOfFiles (S.state shelf.old).held (map string_bytes words.now) table }
+
+    // A refusal is accepted only where no signed bijections make the two files' netlists equal, whoever wrote it.
+    ensures sound_refusal { IsTrue S.tells → result ≡ Outcome.AcceptedRefusal
+        → LacksMatch (S.state shelf.old).held (map string_bytes words.now) }
 
     // What is known of a netlist is reported where no budget was spent, and by rows that are right for its circuit.
     ensures of_one { IsTrue S.tells → IsDecided result
@@ -217,11 +224,13 @@ pub(crate) fn copy_graphs(
 fn settle(alloc: Global, graphs: &Graphs, account: &[u8]) -> Result<Outcome, Stop>
     ensures verdict { IfOk result (IsVerdict graphs.now (Some account.now)) }
     ensures matches { IfOk result (IsMatchIfAccepted graphs.now.first graphs.now.second) }
+    ensures refuses { IfOk result (IsUnequalIfRefused graphs.now.first graphs.now.second) }
     ensures judged { IfOk result IsJudged }
     ensures no_fault { result ≢ Err Stop.ReadFault }
 {
     match check(alloc, graphs, account) {
         Ok(Verdict::Match(table)) => Ok(Outcome::AcceptedMatch(table)),
+        Ok(Verdict::None) => Ok(Outcome::AcceptedRefusal),
         Err(CheckStop::Rejected { line, why }) => Ok(Outcome::Rejected { line, why }),
         Err(CheckStop::Memory) => Err(Stop::Memory),
     }

@@ -1,5 +1,7 @@
 //! Runs over files in memory, with what they print and how they end.
 
+mod refusals;
+
 ghost use Rattle.std.specs.Prelude.{◌≡◌, true, false, List, None, [], cond};
 ghost use Rattle.shelf_core.specs.State.{Closed, Reading, Writing};
 
@@ -145,7 +147,7 @@ fn accepts_matches(rt: HostRuntime) -> Result<(), Fail> {
 }
 
 /// Accounts of the AND and the OR, with the report on each.
-const BAD_ACCOUNTS: [(&[u8], &[u8]); 17] = [
+const BAD_ACCOUNTS: [(&[u8], &[u8]); 16] = [
     // their form
     (b"", b"rejected line 1 truncated\n"),
     (b"npnp 9\n", b"rejected line 1 header\n"),
@@ -153,7 +155,6 @@ const BAD_ACCOUNTS: [(&[u8], &[u8]); 17] = [
         b"npnp 1\nmatch i0-0 i1-1  o0-0\n",
         b"rejected line 2 word\n",
     ),
-    (b"npnp 1\nnone ports\nend\n", b"rejected line 2 word\n"),
     (b"npnp 1\nnpnp 1\n", b"rejected line 2 order\n"),
     (
         b"npnp 1\nmatch i0-0 i1-1 o0-0\nl : 07 8\n",

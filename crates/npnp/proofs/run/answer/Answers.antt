@@ -18,11 +18,18 @@ pub returns-in-Ok-clause-sound : goal.returns-in-Ok-clause-sound
 returns-in-Ok-clause-sound g c = λ tells. c.in-Ok.ensures.sound tells _ c.in-Some.ensures.asked
 
 pub returns-in-Err-clause-sound : goal.returns-in-Err-clause-sound
-returns-in-Err-clause-sound g c = λ tells table is.
-    elim c.end_by_line-in-Err.ensures [
-      | inl (same, text) ↦ absurd (c.in-Err.ensures.reading.line.no_table table (sym same ∙ is))
-      | inr memory ↦ cc
-    ]
+returns-in-Err-clause-sound g c = λ tells. record {
+  matches = λ table is.
+      elim c.end_by_line-in-Err.ensures [
+        | inl (same, text) ↦ absurd (c.in-Err.ensures.reading.line.no_table table (sym same ∙ is))
+        | inr memory ↦ cc
+      ];
+  refuses = λ is.
+      elim c.end_by_line-in-Err.ensures [
+        | inl (same, text) ↦ absurd (c.in-Err.ensures.reading.no_refusal (sym same ∙ is))
+        | inr memory ↦ cc
+      ];
+}
 
 pub returns-in-Ok-clause-no_form : goal.returns-in-Ok-clause-no_form
 returns-in-Ok-clause-no_form g c = λ nothing. absurd (known_form _ _ c.in-Some.ensures.asked nothing)

@@ -54,7 +54,7 @@ returns g c =
           outcome (subst (λ content. IsVerdict (graphs_of c.in_ok-first.first c.in_ok-second.second) content outcome) there (c.in_ok-outcome.ensures.right tells));
       ended = λ tells words asks. tt;
       sound = λ tells words asks. sound _ _ words _ _ c.in_ok-first.first c.in_ok-second.second c.args.check.now.account.now outcome first_read second_read
-          (asks_both _ _ words _ _ _ first second same asks (first_read.held tells) (second_read.held tells)) c.in_ok-outcome.ensures.matches;
+          (asks_both _ _ words _ _ _ first second same asks (first_read.held tells) (second_read.held tells)) c.in_ok-outcome.ensures.matches c.in_ok-outcome.ensures.refuses;
       report = λ words asks. inr (inl (record {
         first = first;
         second = second;

@@ -2,12 +2,15 @@
 use Rattle.std.proofs.Common.{inl, inr, refl, sym, subst, ◌∙◌}
 use Rattle.npnp.specs.Check.{IsRight, IsTold}
 use Rattle.npnp.specs.Report.{line_of}
-use Rattle.npnp.specs.declared.outcome.Outcome.TheVariants.{AcceptedMatch, Rejected, Absent, TooLarge, Malformed, Memory}
-use Rattle.npnp.proofs.CheckLemmas.{exactly, exactly_of_one, decided_spent, report_of_same, decided_accepted, decided_rejected, decided_absent, decided_too_large, decided_malformed}
+use Rattle.npnp.specs.declared.outcome.Outcome.TheVariants.{AcceptedMatch, AcceptedRefusal, Rejected, Absent, TooLarge, Malformed, Memory}
+use Rattle.npnp.proofs.CheckLemmas.{exactly, exactly_of_one, decided_spent, report_of_same, decided_accepted, decided_refusal, decided_rejected, decided_absent, decided_too_large, decided_malformed}
 use Rattle.npnp.proofs.run.run.Goals as goal
 
 pub returns-clause-accepted : goal.returns-clause-accepted
 returns-clause-accepted g c = λ tells decided table. exactly _ _ _ _ (c.answer-ending.ensures.right tells) c.tell.ensures.same decided (AcceptedMatch table) (decided_accepted table) (λ one. elim one [ inl e ↦ cc | inr (ledger, e) ↦ cc ])
+
+pub returns-clause-accepted_refusal : goal.returns-clause-accepted_refusal
+returns-clause-accepted_refusal g c = λ tells decided. exactly _ _ _ _ (c.answer-ending.ensures.right tells) c.tell.ensures.same decided AcceptedRefusal decided_refusal (λ one. elim one [ inl e ↦ cc | inr (ledger, e) ↦ cc ])
 
 pub returns-clause-rejected : goal.returns-clause-rejected
 returns-clause-rejected g c = λ tells decided line why. exactly _ _ _ _ (c.answer-ending.ensures.right tells) c.tell.ensures.same decided (Rejected line why) (decided_rejected line why) (λ one. elim one [ inl e ↦ cc | inr (ledger, e) ↦ cc ])
@@ -15,7 +18,12 @@ returns-clause-rejected g c = λ tells decided line why. exactly _ _ _ _ (c.answ
 pub returns-clause-sound : goal.returns-clause-sound
 returns-clause-sound g c = λ tells table is.
     let told : IsTold c.tell.result = subst IsTold (sym is) (decided_accepted table).told in
-    c.answer-ending.ensures.sound tells table (sym (c.tell.ensures.same told) ∙ is)
+    (c.answer-ending.ensures.sound tells).matches table (sym (c.tell.ensures.same told) ∙ is)
+
+pub returns-clause-sound_refusal : goal.returns-clause-sound_refusal
+returns-clause-sound_refusal g c = λ tells is.
+    let told : IsTold c.tell.result = subst IsTold (sym is) decided_refusal.told in
+    (c.answer-ending.ensures.sound tells).refuses (sym (c.tell.ensures.same told) ∙ is)
 
 pub returns-clause-absent : goal.returns-clause-absent
 returns-clause-absent g c = λ tells decided which. exactly _ _ _ _ (c.answer-ending.ensures.right tells) c.tell.ensures.same decided (Absent which) (decided_absent which) (λ one. elim one [ inl e ↦ cc | inr (ledger, e) ↦ cc ])

@@ -1,0 +1,298 @@
+//! Accounts that say that no match exists, and the nearest ones that aren't good.
+
+use super::{A, AND, AND_OR, B, EMPTY, OR, Row, TABLE, WIRE, answer, check_rows};
+use std::alloc::{AllocError, Global};
+use std::process::Abort;
+use std::test::Fail;
+use text_core::Cursor;
+
+/// The exclusive or of two inputs.
+const XOR: &[u8] = b"aag 5 2 0 1 3\n2\n4\n10\n6 2 4\n8 3 5\n10 7 9\n";
+
+/// One input, which the output doesn't depend on.
+const ZERO: &[u8] = b"aag 1 1 0 1 0\n2\n0\n";
+
+/// Three inputs and nothing else, and two.
+const THREE: &[u8] = b"aag 3 3 0 0 0\n2\n4\n6\n";
+
+const TWO: &[u8] = b"aag 2 2 0 0 0\n2\n4\n";
+
+const NO_PORTS: &[u8] = b"npnp 1\nnone ports\nend\n";
+
+/// The exclusive or falls and rises with either input, and the AND never falls where its first input rises.
+const AND_XOR: &[u8] =
+    b"npnp 1\nfails b 0 up 0 =01\nfails b 0 down 0 =10\nfails b 0 up 1 =10\nfails b 0 down 1 =01\nholds a 0 up 0\nl : 0 7 1\nban o0+0 : tally binate 0 1 2 3 / 4\nban o0-0 : tally binate 0 1 2 3 / 4\nban : cover out 0 / 0 / 0 1\nnone ban 2\nend\n";
+
+/// The wire rises with its input, and constant 0 doesn't: each way to pair the inputs and the outputs is excluded.
+const ZERO_WIRE: &[u8] =
+    b"npnp 1\nfails b 0 down 0 =1\nholds a 0 down 0\nl : 0 1\nban i0+0 o0+0 : mismatch 0 1\nban i0-0 o0+0 : vector 0 =0\nban i0+0 o0-0 : vector 0 =0\nban i0-0 o0-0 : mismatch 0 1\nban o0+0 : cover in 0 / 0 / 0 1\nban o0-0 : cover in 0 / 0 / 2 3\nban : cover out 0 / 0 / 4 5\nnone ban 6\nend\n";
+
+/// The same netlists, by the numbers of inputs that their outputs depend on.
+const BY_SUPPORT: &[u8] =
+    b"npnp 1\nfails b 0 down 0 =1\nholds a 0 up 0\nl : 0 1\nholds a 0 down 0\nl : 0 1\nban o0+0 : tally support 0 / 1 2\nban o0-0 : tally support 0 / 1 2\nban : cover out 0 / 0 / 0 1\nnone ban 2\nend\n";
+
+const REFUSALS: [Row; 4] = [
+    Row {
+        files: [THREE, TWO, NO_PORTS],
+        status: 1,
+        report: b"accepted refusal\n",
+    },
+    Row {
+        files: [AND, XOR, AND_XOR],
+        status: 1,
+        report: b"accepted refusal\n",
+    },
+    Row {
+        files: [ZERO, WIRE, ZERO_WIRE],
+        status: 1,
+        report: b"accepted refusal\n",
+    },
+    Row {
+        files: [ZERO, WIRE, BY_SUPPORT],
+        status: 1,
+        report: b"accepted refusal\n",
+    },
+];
+
+#[test]
+fn accepts_refusals(rt: HostRuntime) -> Result<(), Fail> {
+    check_rows(&rt, rt.alloc(), &REFUSALS)
+}
+
+/// How many lines of an account stay, what stands behind them, and the number of the bad line with the word for it.
+type Altered = (usize, &'static [u8], &'static [u8]);
+
+/// The first lines of an account, and a text behind them.
+fn altered(
+    alloc: Global,
+    account: &[u8],
+    lines: usize,
+    then: &[u8],
+) -> Result<Vec<u8>, AllocError> {
+    let mut text = Vec::new(alloc);
+    let mut cursor = Cursor::new(account);
+    for _ in 0..lines {
+        if let Some(line) = cursor.next_line() {
+            text.extend_from_slice(line.bytes())?;
+            text.extend_from_slice(b"\n")?;
+        }
+    }
+    text.extend_from_slice(then)?;
+    Ok(text)
+}
+
+/// The report of a bad line.
+fn rejected(alloc: Global, bad: &[u8]) -> Result<Vec<u8>, AllocError> {
+    let mut report = b"rejected line ".to_vec(alloc)?;
+    report.extend_from_slice(bad)?;
+    report.extend_from_slice(b"\n")?;
+    Ok(report)
+}
+
+fn check_altered(
+    rt: &impl Abort,
+    alloc: Global,
+    files: [&[u8]; 3],
+    rows: &[Altered],
+) -> Result<(), Fail> {
+    let [first, second, account] = files;
+    for (lines, then, bad) in rows {
+        let account = altered(alloc, account, *lines, *then)?;
+        let files = [first, second, account.as_slice()];
+        let (ended, printed) = answer(alloc, &["check", "A", "B", "t"], files)?;
+        assert_eq!(rt; printed.as_slice(), rejected(alloc, *bad)?.as_slice());
+        assert_eq!(rt; ended, 2);
+    }
+    Ok(())
+}
+
+/// Alterations of the refusal of AND and exclusive or.
+const LINES: [Altered; 23] = [
+    (1, b"", b"2 truncated"),
+    (2, b"", b"3 truncated"),
+    (3, b"", b"4 truncated"),
+    (4, b"", b"5 truncated"),
+    (5, b"", b"6 truncated"),
+    (6, b"", b"7 truncated"),
+    (7, b"", b"8 truncated"),
+    (8, b"", b"9 truncated"),
+    (9, b"", b"10 truncated"),
+    (10, b"", b"11 truncated"),
+    (11, b"", b"12 truncated"),
+    (12, b"x", b"13 trailing"),
+    (0, b"npnp 9\n", b"1 header"),
+    (1, b"foils b 0 up 0 =01\n", b"2 word"),
+    (1, b"fails b 0 up 0 =11\n", b"2 vector"),
+    (6, b"l : 0 7\n", b"7 refutation"),
+    // the log is missing
+    (6, b"ban o0+0 : tally binate 0 1 2 3 / 4\n", b"7 order"),
+    (9, b"ban : cover out 0 / 0 / 0 0\n", b"10 rule"),
+    (9, b"ban : cover out 0 / 0 / 0\n", b"10 rule"),
+    (9, b"ban : cover out 0 / 0 / 0 9\n", b"10 id"),
+    (10, b"none ban 0\n", b"11 conclusion"),
+    (10, b"none ban 02\n", b"11 number"),
+    (10, b"none ban 3\n", b"11 id"),
+];
+
+#[test]
+fn rejects_altered_lines(rt: HostRuntime) -> Result<(), Fail> {
+    check_altered(&rt, rt.alloc(), [AND, XOR, AND_XOR], &LINES)
+}
+
+/// Facts of AND and exclusive or that aren't there, or aren't shown.
+const FACTS: [Altered; 9] = [
+    (1, b"fails b 1 up 0 =01\n", b"2 id"),
+    (1, b"fails b 0 up 2 =01\n", b"2 id"),
+    (1, b"fails b 0 swap 1 0 01 =01\n", b"2 rule"),
+    (1, b"fails b 0 up 0 =0\n", b"2 vector"),
+    (1, b"fails b 0 up 0 =011\n", b"2 vector"),
+    // the output is 0 before, or 1 behind
+    (1, b"fails b 0 up 0 =00\n", b"2 vector"),
+    (1, b"fails b 0 swap 0 1 01 =01\n", b"2 vector"),
+    (1, b"holds a 1 up 0\n", b"2 id"),
+    (1, b"holds a 0 swap 0 0 01\n", b"2 rule"),
+];
+
+#[test]
+fn rejects_facts(rt: HostRuntime) -> Result<(), Fail> {
+    check_altered(&rt, rt.alloc(), [AND, XOR, AND_XOR], &FACTS)
+}
+
+/// Pairs and vectors of AND and exclusive or. Where all is paired plainly, the vector 11 gives 1 and 0.
+const VECTORS: [Altered; 14] = [
+    (1, b"ban i0+0 i1+1 o0+0 : vector 0 =11\n", b"3 truncated"),
+    // the pairs
+    (1, b"ban i0+0 i1+1 o0+1 : vector 0 =11\n", b"2 id"),
+    (1, b"ban i0+0 i2+1 o0+0 : vector 0 =11\n", b"2 id"),
+    (1, b"ban o0+0 i0+0 i1+1 : vector 0 =11\n", b"2 rule"),
+    (1, b"ban i1+1 i0+0 o0+0 : vector 0 =11\n", b"2 rule"),
+    (1, b"ban i0+1 i1+1 o0+0 : vector 0 =11\n", b"2 rule"),
+    // the vector
+    (1, b"ban i0+0 i1+1 o0+0 : vector 1 =11\n", b"2 id"),
+    (1, b"ban i0+0 i1+1 : vector 0 =11\n", b"2 rule"),
+    (1, b"ban i0+0 i1+1 o0+0 : vector 0 =1\n", b"2 vector"),
+    // either output isn't known
+    (1, b"ban i0+0 i1+1 o0+0 : vector 0 =1x\n", b"2 vector"),
+    (1, b"ban i0+0 i1+1 o0+0 : vector 0 =0x\n", b"2 vector"),
+    (1, b"ban i0+0 o0+0 : vector 0 =11\n", b"2 vector"),
+    // the signs
+    (1, b"ban i0-0 i1+1 o0+0 : vector 0 =11\n", b"2 vector"),
+    (1, b"ban i0+0 i1+1 o0-0 : vector 0 =11\n", b"2 vector"),
+];
+
+#[test]
+fn rejects_pairs_and_vectors(rt: HostRuntime) -> Result<(), Fail> {
+    check_altered(&rt, rt.alloc(), [AND, XOR, AND_XOR], &VECTORS)
+}
+
+/// Facts of AND and exclusive or that are set against one another. The last of them is of the AND.
+const MISMATCHES: [Altered; 9] = [
+    (7, b"ban i0+0 o0+0 : mismatch 0 4\n", b"9 truncated"),
+    (7, b"ban i0-0 o0-0 : mismatch 0 4\n", b"9 truncated"),
+    (7, b"ban i0+0 o0+0 : mismatch 0 5\n", b"8 id"),
+    (7, b"ban i0+0 o0+0 : mismatch 4 0\n", b"8 rule"),
+    (7, b"ban i0+0 o0+0 : mismatch 0 1\n", b"8 rule"),
+    (7, b"ban i0-0 o0+0 : mismatch 0 4\n", b"8 rule"),
+    (7, b"ban i0+0 o0-0 : mismatch 0 4\n", b"8 rule"),
+    (7, b"ban i0+1 o0+0 : mismatch 0 4\n", b"8 rule"),
+    (7, b"ban o0+0 : mismatch 0 4\n", b"8 rule"),
+];
+
+#[test]
+fn rejects_mismatches(rt: HostRuntime) -> Result<(), Fail> {
+    check_altered(&rt, rt.alloc(), [AND, XOR, AND_XOR], &MISMATCHES)
+}
+
+/// Inputs of AND and exclusive or that are counted.
+const BINATES: [Altered; 9] = [
+    (7, b"ban o0+0 : tally binate 0 1 2 3 / 5\n", b"8 id"),
+    (7, b"ban o0+0 : tally binate 0 1 0 1 / 4\n", b"8 rule"),
+    (7, b"ban o0+0 : tally binate 1 0 2 3 / 4\n", b"8 rule"),
+    (7, b"ban o0+0 : tally binate 0 1 2 3 / 0\n", b"8 rule"),
+    (7, b"ban o0+0 : tally binate 0 1 / 4\n", b"8 rule"),
+    (7, b"ban o0+0 : tally binate 0 1 2 3 /\n", b"8 rule"),
+    (7, b"ban o0+0 : tally support 0 2 / 4\n", b"8 rule"),
+    // the outputs aren't paired
+    (7, b"ban : tally binate 0 1 2 3 / 4\n", b"8 rule"),
+    (7, b"ban i0+0 : tally binate 0 1 2 3 / 4\n", b"8 rule"),
+];
+
+/// Inputs of constant 0 and the wire.
+const SUPPORTS: [Altered; 4] = [
+    (6, b"ban o0+0 : tally support 0 0 / 1 2\n", b"7 rule"),
+    (6, b"ban o0+0 : tally support 0 / 2 1\n", b"7 rule"),
+    (6, b"ban o0+0 : tally support 0 / 1\n", b"7 rule"),
+    (6, b"ban o0+0 : tally binate 0 / 1\n", b"7 rule"),
+];
+
+#[test]
+fn rejects_tallies(rt: HostRuntime) -> Result<(), Fail> {
+    check_altered(&rt, rt.alloc(), [AND, XOR, AND_XOR], &BINATES)?;
+    check_altered(&rt, rt.alloc(), [ZERO, WIRE, BY_SUPPORT], &SUPPORTS)
+}
+
+/// Ports of AND and exclusive or that are to be paired with one another, behind bans of either pair of outputs.
+const COVERS: [Altered; 13] = [
+    (9, b"ban o0+0 : cover out 0 / 0 / 0 -\n", b"11 truncated"),
+    (
+        9,
+        b"ban o0+0 : cover in 0 1 / 0 / 0 0 0 0\n",
+        b"11 truncated",
+    ),
+    (9, b"ban : cover out 0 / 1 / 0 1\n", b"10 id"),
+    (9, b"ban : cover out 0 / 0 / 0 2\n", b"10 id"),
+    (9, b"ban : cover out 0 / 0 / 1 0\n", b"10 rule"),
+    (9, b"ban : cover out 0 / 0 / 0 -\n", b"10 rule"),
+    (9, b"ban o0+0 : cover out 0 / 0 / 0 1\n", b"10 rule"),
+    (9, b"ban : cover out 0 0 / 0 / 0 1 0 1\n", b"10 rule"),
+    (9, b"ban : cover out / 0 /\n", b"10 rule"),
+    // a port is missing, or what excludes its pairs
+    (9, b"ban o0+0 : cover in 0 / 0 / 0 0\n", b"10 rule"),
+    (9, b"ban o0+0 : cover in 0 1 / 0 / 0 0\n", b"10 rule"),
+    (9, b"ban o0+0 : cover in 1 0 / 0 / 0 0 0 0\n", b"10 rule"),
+    // the ban that is named has another pair
+    (9, b"ban : cover in 0 1 / 0 / 0 0 0 0\n", b"10 rule"),
+];
+
+#[test]
+fn rejects_covers(rt: HostRuntime) -> Result<(), Fail> {
+    check_altered(&rt, rt.alloc(), [AND, XOR, AND_XOR], &COVERS)
+}
+
+/// The first line behind the header is none for these netlists.
+const NOT_EXCLUDED: [Altered; 3] = [
+    (1, b"ban : cover out 0 / 0 / - -\n", b"2 rule"),
+    (1, b"ban : cover out 0 / 0 / 0 0\n", b"2 id"),
+    (1, b"none ban 0\n", b"2 id"),
+];
+
+const ALTERED_ZERO_WIRE: [Altered; 2] = [
+    (6, b"ban i0+0 o0-0 : mismatch 0 1\n", b"7 rule"),
+    (5, b"ban i0-0 o0+0 : vector 0 =x\n", b"6 vector"),
+];
+
+/// The OR stays 1 where one of two inputs that are 1 falls.
+const OF_OR: [Altered; 1] = [(1, b"fails b 0 down 0 =11\n", b"2 vector")];
+
+const OF_NOTHING: [Altered; 1] = [(1, b"ban : cover in / /\n", b"2 rule")];
+
+/// The numbers of ports agree, or differ.
+const AGREE: [Altered; 1] = [(1, b"none ports\nend\n", b"2 conclusion")];
+
+const DIFFER: [Altered; 4] = [
+    (1, b"fails a 0 up 0 =000\n", b"2 conclusion"),
+    (1, b"holds a 0 up 0\n", b"2 conclusion"),
+    (1, b"ban : cover in 0 1 2 / 0 1 / - -\n", b"2 conclusion"),
+    (1, b"none ban 0\n", b"2 conclusion"),
+];
+
+#[test]
+fn rejects_refusals_of_other_netlists(rt: HostRuntime) -> Result<(), Fail> {
+    let alloc = rt.alloc();
+    check_altered(&rt, alloc, [AND, XOR, AND_XOR], &NOT_EXCLUDED)?;
+    check_altered(&rt, alloc, [ZERO, WIRE, ZERO_WIRE], &ALTERED_ZERO_WIRE)?;
+    check_altered(&rt, alloc, [AND, OR, AND_OR], &OF_OR)?;
+    check_altered(&rt, alloc, [EMPTY, EMPTY, NO_PORTS], &OF_NOTHING)?;
+    check_altered(&rt, alloc, [A, B, TABLE], &AGREE)?;
+    check_altered(&rt, alloc, [THREE, TWO, NO_PORTS], &DIFFER)
+}
