@@ -8,7 +8,7 @@ use Rattle.npnp.proofs.info.inform_of.Goals as goal
 
 pub info-requires-clause-suits : goal.info-requires-clause-suits
 info-requires-clause-suits c =
-    suits_first c.in_ok-graphs.graphs c.in_ok-book.book c.new-ledger.result c.args.budget c.in_ok-book.ensures c.new-ledger.ensures
+    suits_first c.in_ok-graphs.graphs c.in_ok-book.book c.new-ledger.result c.args.budget c.in_ok-book.ensures.empty c.new-ledger.ensures
 
 pub returns-in-Ok : goal.returns-in-Ok
 returns-in-Ok c =
@@ -19,6 +19,6 @@ returns-in-Ok c =
 pub returns-in-Err-Spent : goal.returns-in-Err-Spent
 returns-in-Err-Spent c = record {
   rows = tt;
-  stopped = spent_is c.args.named.now.graph c.in_ok-graphs.graphs c.in_ok-book.book c.new-ledger.result c.info.new.ledger c.args.budget c.in-Err-Spent.field-0-0 c.in_ok-graphs.ensures c.in_ok-book.ensures c.new-ledger.ensures
+  stopped = spent_is c.args.named.now.graph c.in_ok-graphs.graphs c.in_ok-book.book c.new-ledger.result c.info.new.ledger c.args.budget c.in-Err-Spent.field-0-0 c.in_ok-graphs.ensures c.in_ok-book.ensures.empty c.new-ledger.ensures
       (subst (IsStopped c.in_ok-book.book c.new-ledger.result c.info.new.ledger) c.in-Err-Spent.field-0-is c.in-Err-Spent.ensures.serves.stopped);
 }
