@@ -36,7 +36,7 @@ match_after graphs given stage.Begun logs matching pairs may made is order =
     let count : log_count m - 0 ≡ logs_asked (conclusion.Match pairs) = omega (arith, outputs_counted graphs.first pairs order) in
     ap (λ (l : MatchLogs). kept graphs given (stage.Proving l)) made
     ∙ (ap (λ (x : Matching). kept graphs given (stage.Proving (record { graphs = graphs; proof = unproved x }))) is
-      ∙ ap (λ n. record (kept graphs given (stage.Proving (record { graphs = graphs; proof = unproved m }))) { place = place.Logs n }) count)
+    ∙ ap (λ n. record (kept graphs given (stage.Proving (record { graphs = graphs; proof = unproved m }))) { place = place.Logs n }) count)
 match_after graphs given (stage.Showing log) logs matching pairs may made is order = cc
 match_after graphs given (stage.Proving other) logs matching pairs may made is order = cc
 match_after graphs given stage.Refusing logs matching pairs may made is order = cc

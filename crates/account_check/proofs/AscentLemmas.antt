@@ -21,13 +21,13 @@ ascend_more least x xs within rest = record {
 }
 
 pub ascend_rest : (least x : ℕ) (xs : List ℕ) → AscendFrom least (x ∷ xs) → (least ≤ x) × AscendFrom (x + 1) xs
-ascend_rest least x xs whole =
-    ( whole.least_first 0 x (omega arith)
-    , record {
-        ascend = λ i j d lt within. whole.ascend (suc i) (suc j) d (omega arith) (omega arith);
-        least_first = λ k d below. let e : x < get_or xs k d = whole.ascend 0 (suc k) d (omega arith) (omega arith) in omega (arith, e);
-      }
-    )
+ascend_rest least x xs whole = (
+  whole.least_first 0 x (omega arith),
+  record {
+    ascend = λ i j d lt within. whole.ascend (suc i) (suc j) d (omega arith) (omega arith);
+    least_first = λ k d below. let e : x < get_or xs k d = whole.ascend 0 (suc k) d (omega arith) (omega arith) in omega (arith, e);
+  },
+)
 
 -- from no bound on
 pub all_ascend : (numbers : List ℕ) → Ascend numbers → AscendFrom 0 numbers
@@ -35,10 +35,10 @@ all_ascend numbers ascend = record { ascend = ascend; least_first = λ k d below
 
 -- one number more is read
 pub ascent_step : (P : Type 0) (least x : ℕ) (xs ys : List ℕ) → ys ≡ x ∷ xs → least ≤ x → (AscendFrom least ys ↔ P) → (AscendFrom (x + 1) xs ↔ P)
-ascent_step P least x xs ys is within so_far =
-    ( (λ rest. so_far.0 (subst (AscendFrom least) (sym is) (ascend_more least x xs within rest)))
-    , (λ p. (ascend_rest least x xs (subst (AscendFrom least) is (so_far.1 p))).1)
-    )
+ascent_step P least x xs ys is within so_far = (
+  (λ rest. so_far.0 (subst (AscendFrom least) (sym is) (ascend_more least x xs within rest))),
+  (λ p. (ascend_rest least x xs (subst (AscendFrom least) is (so_far.1 p))).1),
+)
 
 pub ascent_stop : (P : Type 0) (least x : ℕ) (xs ys : List ℕ) → ys ≡ x ∷ xs → x < least → (AscendFrom least ys ↔ P) → P → ⊥
 ascent_stop P least x xs ys is below so_far p =

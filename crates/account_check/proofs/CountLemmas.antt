@@ -59,13 +59,13 @@ inputs_split least (i ∷ inputs) shape shapes each ascend =
 
 -- one shape more is read
 pub inputs_step : (P : Type 0) (least i : ℕ) (shape : Shape) (shapes left : List Shape) → left ≡ shape ∷ shapes → one_input shape ≡ Some i → least ≤ i → (GoOverInputs least left ↔ P) → (GoOverInputs (i + 1) shapes ↔ P)
-inputs_step P least i shape shapes left is input within so_far =
-    ( (λ rest. so_far.0 (subst (GoOverInputs least) (sym is) (inputs_more least i shape shapes input within rest)))
-    , (λ p.
-        let whole = subst (GoOverInputs least) is (so_far.1 p) in
-        let parts = inputs_split least whole.inputs shape shapes whole.of_each whole.ascend in
-        subst (λ n. GoOverInputs (n + 1) shapes) (some_is parts.i i (sym parts.is ∙ input)) parts.rest)
-    )
+inputs_step P least i shape shapes left is input within so_far = (
+  (λ rest. so_far.0 (subst (GoOverInputs least) (sym is) (inputs_more least i shape shapes input within rest))),
+  (λ p.
+      let whole = subst (GoOverInputs least) is (so_far.1 p) in
+      let parts = inputs_split least whole.inputs shape shapes whole.of_each whole.ascend in
+      subst (λ n. GoOverInputs (n + 1) shapes) (some_is parts.i i (sym parts.is ∙ input)) parts.rest),
+)
 
 pub inputs_stop : (P : Type 0) (least : ℕ) (shape : Shape) (shapes left : List Shape) → left ≡ shape ∷ shapes → ((i : ℕ) → one_input shape ≡ Some i → ⊥) → (GoOverInputs least left ↔ P) → P → ⊥
 inputs_stop P least shape shapes left is none so_far p =
@@ -142,13 +142,13 @@ twos_split least (i ∷ inputs) one other shapes each ascend =
     }
 
 pub twos_step : (P : Type 0) (least i : ℕ) (one other : Shape) (shapes left : List Shape) → left ≡ one ∷ other ∷ shapes → twin_input one other ≡ Some i → least ≤ i → (GoOverTwice least left ↔ P) → (GoOverTwice (i + 1) shapes ↔ P)
-twos_step P least i one other shapes left is input within so_far =
-    ( (λ rest. so_far.0 (subst (GoOverTwice least) (sym is) (twos_more least i one other shapes input within rest)))
-    , (λ p.
-        let whole = subst (GoOverTwice least) is (so_far.1 p) in
-        let parts = twos_split least whole.inputs one other shapes whole.both_of_each whole.ascend in
-        subst (λ n. GoOverTwice (n + 1) shapes) (some_is parts.i i (sym parts.is ∙ input)) parts.rest)
-    )
+twos_step P least i one other shapes left is input within so_far = (
+  (λ rest. so_far.0 (subst (GoOverTwice least) (sym is) (twos_more least i one other shapes input within rest))),
+  (λ p.
+      let whole = subst (GoOverTwice least) is (so_far.1 p) in
+      let parts = twos_split least whole.inputs one other shapes whole.both_of_each whole.ascend in
+      subst (λ n. GoOverTwice (n + 1) shapes) (some_is parts.i i (sym parts.is ∙ input)) parts.rest),
+)
 
 pub twos_stop : (P : Type 0) (least : ℕ) (one other : Shape) (shapes left : List Shape) → left ≡ one ∷ other ∷ shapes → ((i : ℕ) → twin_input one other ≡ Some i → ⊥) → (GoOverTwice least left ↔ P) → P → ⊥
 twos_stop P least one other shapes left is none so_far p =

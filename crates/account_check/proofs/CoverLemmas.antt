@@ -67,7 +67,7 @@ names_there graphs given kind from to refs a b first second third a_is b_is one 
     }
 
     parts : AreCoverNames graphs given kind from to refs → (All (λ port. port < a) from × All (λ port. port < b) to) × All (IsReferredBanGiven given) refs
-    parts names =
-        ( (subst (λ n. All (λ port. port < n) from) (sym a_is) names.first_ports, subst (λ n. All (λ port. port < n) to) (sym b_is) names.second_ports)
-        , unreferred given refs names.given_bans
-        )
+    parts names = (
+      (subst (λ n. All (λ port. port < n) from) (sym a_is) names.first_ports, subst (λ n. All (λ port. port < n) to) (sym b_is) names.second_ports),
+      unreferred given refs names.given_bans,
+    )

@@ -85,15 +85,15 @@ tally_from graphs given pairs Binate have lack one other some_have some_lack t =
 pub tally_have : (graphs : Graphs) (given : Given) (pairs : List Pair) (kind : Tallied) (have lack : List ℕ) → IsTally graphs given pairs kind have lack → (0 < length have) × (0 < length lack)
 tally_have graphs given pairs Support have lack t =
     let each = inputs_count 0 (shapes_of given have) (record { inputs = t.having; of_each = t.have_shapes; ascend = all_ascend t.having t.having_ascends }) in
-    let twice = twos_count 0 (shapes_of given lack) (record { inputs = t.lacking; both_of_each = t.lack_shapes; ascend = all_ascend t.lacking t.lacking_ascends }) in
-    ( omega (arith, each, shapes_count given have, t.some_have)
-    , omega (arith, twice, shapes_count given lack, t.some_lack)
+    let twice = twos_count 0 (shapes_of given lack) (record { inputs = t.lacking; both_of_each = t.lack_shapes; ascend = all_ascend t.lacking t.lacking_ascends }) in (
+      omega (arith, each, shapes_count given have, t.some_have),
+      omega (arith, twice, shapes_count given lack, t.some_lack),
     )
 tally_have graphs given pairs Binate have lack t =
     let each = inputs_count 0 (shapes_of given lack) (record { inputs = t.lacking; of_each = t.lack_shapes; ascend = all_ascend t.lacking t.lacking_ascends }) in
-    let twice = twos_count 0 (shapes_of given have) (record { inputs = t.having; both_of_each = t.have_shapes; ascend = all_ascend t.having t.having_ascends }) in
-    ( omega (arith, twice, shapes_count given have, t.some_have)
-    , omega (arith, each, shapes_count given lack, t.some_lack)
+    let twice = twos_count 0 (shapes_of given have) (record { inputs = t.having; both_of_each = t.have_shapes; ascend = all_ascend t.having t.having_ascends }) in (
+      omega (arith, twice, shapes_count given have, t.some_have),
+      omega (arith, each, shapes_count given lack, t.some_lack),
     )
 
 too_many_to : (graphs : Graphs) (given : Given) (pairs : List Pair) (kind : Tallied) (have lack : List ℕ) → IsTally graphs given pairs kind have lack → HaveTooMany graphs.first.inputs given kind have lack
@@ -123,12 +123,18 @@ tally_to graphs given pairs kind a b as_ bs t =
     let there : other.side ≡ other_side t.side = t.hold.of_side 0 b (omega arith) in
     let other_output : other.output ≡ port_on (other_side t.side) t.pair = t.hold.of_output 0 b (omega arith) in
     record {
-      paired = (t.paired.0, t.pair, t.paired.1, t.paired.2, record {
-        of_outputs = t.of_outputs;
-        apart = there ∙ ap other_side (sym one_side);
-        one_output = ap (λ s. port_on s t.pair) one_side ∙ sym one_output;
-        other_output = ap (λ s. port_on s t.pair) there ∙ sym other_output;
-      });
+      paired = (
+        t.paired.0,
+        t.pair,
+        t.paired.1,
+        t.paired.2,
+        record {
+          of_outputs = t.of_outputs;
+          apart = there ∙ ap other_side (sym one_side);
+          one_output = ap (λ s. port_on s t.pair) one_side ∙ sym one_output;
+          other_output = ap (λ s. port_on s t.pair) there ∙ sym other_output;
+        },
+      );
       fail = of_port given (a ∷ as_) false t.side one.side (port_on t.side t.pair) one.output (sym one_side) (sym one_output) t.fail;
       hold = of_port given (b ∷ bs) true (other_side t.side) other.side (port_on (other_side t.side) t.pair) other.output (sym there) (sym other_output) t.hold;
       too_many = too_many_to graphs given pairs kind (a ∷ as_) (b ∷ bs) t;

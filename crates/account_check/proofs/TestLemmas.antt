@@ -3,7 +3,6 @@ use Rattle.std.proofs.Common.{◌≡◌, ◌⊎◌, Option, None, Some, inl, inr
 use Rattle.account_check.specs.declared.reject.Reject.{Reject}
 use Rattle.account_check.specs.Tests.{Passed, Unless}
 
-
 pub one_passed : (a b : Option Reject) → Passed a → Passed b → a ≡ b
 one_passed a b first second = first ∙ sym second
 

@@ -13,11 +13,11 @@ use Rattle.account_check.specs.Tests.{Passed, Unless}
 abbrev pub StepTests : Graphs → Given → Ban → Option Reject → Type 0
 StepTests graphs given ban fault =
     Unless (AreNamesKnown graphs given ban.step) reject.UnknownId
-      (Unless (KeepsRule graphs given ban.pairs ban.step) reject.Rule
-        (Unless (HasShown graphs ban.pairs ban.step) reject.VectorFails Passed)) fault
+    (Unless (KeepsRule graphs given ban.pairs ban.step) reject.Rule
+    (Unless (HasShown graphs ban.pairs ban.step) reject.VectorFails Passed)) fault
 
 -- the tests of a ban: first of its pairs, and then of its step
 abbrev pub BanTests : Graphs → Given → Ban → Option Reject → Type 0
 BanTests graphs given ban fault =
     Unless (All (IsKnown graphs) ban.pairs) reject.UnknownId
-      (Unless (AreOrdered ban.pairs) reject.Rule (StepTests graphs given ban)) fault
+    (Unless (AreOrdered ban.pairs) reject.Rule (StepTests graphs given ban)) fault

@@ -21,7 +21,13 @@ pub(crate) fn breaks(
     requires { IsClaim graphs.now claim.now }
     ensures { IfOk result (λ breaks. IsTrue breaks ↔ Breaks graphs.now claim.now bits.now) }
 {
-    breaks_shape(alloc, graphs.side(claim.side), claim.output, claim.shape, bits)
+    breaks_shape(
+        alloc,
+        graphs.side(claim.side),
+        claim.output,
+        claim.shape,
+        bits,
+    )
 }
 
 fn breaks_shape(

@@ -104,7 +104,7 @@ fn behind_row<'a>(
 ) -> Option<&'a [Option<u64>]>
     ensures { (more : List AnyPair)
         → (AllZip (IsReference given.now pairs.now) (row kind port to.now ++ more) refs.now
-            ↔ IsSomeAnd result (λ left. AllZip (IsReference given.now pairs.now) more left.now)) }
+        ↔ IsSomeAnd result (λ left. AllZip (IsReference given.now pairs.now) more left.now)) }
 {
     let mut left = refs;
     for other in to.iter() {

@@ -98,7 +98,10 @@ fn finds_the_first_bad_line(rt: HostRuntime) -> Result<(), Fail> {
 
 /// A circuit of one input, whose output is 0 or the input.
 fn wire(alloc: Global, output: u32) -> Result<Graph, Fail> {
-    let gates = vec![in alloc; Gate { a: Lit(0), b: Lit(0) }; 0]?;
+    let gates = vec![in alloc; Gate {
+        a: Lit(0),
+        b: Lit(0)
+    }; 0]?;
     let outputs = vec![in alloc; Lit(output); 1]?;
     Ok(Graph::new(1, gates, outputs).ok_or("no graph")?)
 }

@@ -1,6 +1,6 @@
 //! The bans that are held, and how they are looked up.
 
-ghost use Rattle.std.specs.Prelude.{◌≡◌, ◌≢◌, ◌↔◌, [], ◌∷◌, ◌++◌, All, Any, Contains, IfNone, IfOk, IfSome, IsTrue, OnErr, OnOk, length};
+ghost use Rattle.std.specs.Prelude.{◌≡◌, ◌↔◌, [], ◌∷◌, ◌++◌, All, Any, Contains, IfNone, IfOk, IfSome, IsTrue, OnErr, OnOk, length};
 ghost use Rattle.ban_book.specs.Covering.{Covers, IsWithin};
 
 use account_core::Ban;
@@ -8,8 +8,8 @@ use circuits::Pair;
 use std::alloc::{AllocError, Global};
 use std::marker::Model;
 
-/// Bans in the order in which they came, each under its number, from 0. Contracts see it as the list of the bans. Whether
-/// their steps are valid is for those to say who see the circuits and the facts.
+/// Bans in the order in which they came, each under its number, from 0. Contracts see it as the list of the bans.
+/// Whether their steps are valid is for those to say who see the circuits and the facts.
 #[derive(Debug, Drop)]
 pub struct BanBook {
     bans: Vec<Ban>,
@@ -45,8 +45,8 @@ impl BanBook {
         Ok(number)
     }
 
-    /// The number of a ban that is held and excludes the pairs: all of its own pairs are among them. It is None exactly where
-    /// no ban excludes them.
+    /// The number of a ban that is held and excludes the pairs: all of its own pairs are among them. It is None
+    /// exactly where no ban excludes them.
     pub fn covering(&self, pairs: &[Pair]) -> Option<u64>
         ensures found { IfSome result (Covers self.now pairs.now) }
         ensures none { IfNone result (All (λ ban. IsWithin pairs.now ban → ⊥) self.now) }

@@ -9,7 +9,8 @@ use query_core::Query;
 use std::alloc::{AllocError, Global};
 use std::marker::Model;
 
-/// Queries with their answers, found by the query. Contracts see it as the list of both, in the order of their answering.
+/// Queries with their answers, found by the query. Contracts see it as the list of both, in the order in which they
+/// were answered.
 #[derive(Drop)]
 pub(crate) struct AnswerMap {
     answers: IndexMap<Query, Answer>,

@@ -1,6 +1,7 @@
 //! Claims and outputs whose answers are known, or found by trying all vectors.
 
-ghost use Rattle.std.specs.Prelude.{IsTrue};
+ghost use Rattle.std.specs.Prelude.{◌≡◌, IsTrue, length};
+ghost use Rattle.circuits.specs.Matches.{HavePorts};
 ghost use Rattle.query_core.specs.Claims.{IsClaim, IsPlaced};
 
 use crate::FactBook;
@@ -14,6 +15,7 @@ use rand_pcg::Pcg32;
 use samples::graph;
 use std::alloc::{AllocError, Global};
 use std::test::Fail;
+use word_sim::{Tri, tri_eval};
 
 /// What a book says, with the number of lines that were learned for it.
 #[derive(Clone, Copy, Debug, PartialEq, Eq)]
@@ -43,13 +45,24 @@ fn is_claim(graphs: &Graphs, claim: Claim) -> bool
     there & is_placed(graph.inputs(), claim.shape)
 }
 
-fn told(facts: &[Fact], number: u64, learned: u64) -> Outcome {
-    let Some(fact) = facts.get(number as usize) else {
+fn told(answer: &Result<u64, Stop>, facts: &[Fact], learned: u64) -> Outcome {
+    let number = match answer {
+        Ok(number) => *number as usize,
+        Err(stop) => return stopped(stop),
+    };
+    let Some(fact) = facts.get(number) else {
         return Outcome::Unfit;
     };
     match fact.evidence {
         Evidence::Fails(_) => Outcome::Fails(learned),
         Evidence::Holds(_) => Outcome::Holds(learned),
+    }
+}
+
+fn stopped(stop: &Stop) -> Outcome {
+    match stop {
+        Stop::Spent(learned) => Outcome::Spent(*learned),
+        Stop::Memory => Outcome::Memory,
     }
 }
 
@@ -65,11 +78,8 @@ fn decided(
     }
     let mut book = FactBook::new(alloc, graphs, 1)?;
     let mut ledger = Ledger::new(alloc, budget);
-    match book.claim(alloc, claim, &mut ledger) {
-        Ok(number) => Ok(told(book.facts(), number, ledger.learned())),
-        Err(Stop::Spent(learned)) => Ok(Outcome::Spent(learned)),
-        Err(Stop::Memory) => Ok(Outcome::Memory),
-    }
+    let answer = book.claim(alloc, claim, &mut ledger);
+    Ok(told(&answer, book.facts(), ledger.learned()))
 }
 
 /// A claim about output 0 of the first circuit.
@@ -217,6 +227,91 @@ fn decides_as_all_vectors_do(rt: HostRuntime) -> Result<(), Fail> {
     Ok(())
 }
 
+/// The value of a digit of base 3: X for 2.
+fn value_of(digit: u32) -> Tri {
+    match digit {
+        0 => Tri::Zero,
+        1 => Tri::One,
+        _ => Tri::X,
+    }
+}
+
+/// Whether a bit may stand where the value is.
+fn fills(value: Tri, bit: bool) -> bool {
+    match value {
+        Tri::Zero => !bit,
+        Tri::One => bit,
+        Tri::X => true,
+    }
+}
+
+/// Whether a vector has the bits of three inputs' values.
+fn fills_all(values: &[Tri; 3], code: u32) -> bool {
+    fills(values[0], code % 2 == 1)
+        & fills(values[1], code / 2 % 2 == 1)
+        & fills(values[2], code / 4 % 2 == 1)
+}
+
+/// The output's value where three inputs have these values.
+fn evaluated(alloc: Global, graph: &Graph, values: &[Tri; 3]) -> Result<Tri, Fail> {
+    if graph.inputs() != 3 {
+        return Err("another graph".into());
+    }
+    let outputs = tri_eval(alloc, graph, values.as_slice())?;
+    Ok(*outputs.as_slice().first().ok_or("no output")?)
+}
+
+/// Whether a value is the output's bit on each vector that fills the inputs' X in.
+fn is_value(alloc: Global, graph: &Graph, values: &[Tri; 3], value: Tri) -> Result<bool, Fail> {
+    for code in 0..8u32 {
+        if fills_all(values, code) && !fills(value, output_on(alloc, graph, code)?) {
+            return Ok(false);
+        }
+    }
+    Ok(true)
+}
+
+#[test]
+fn evaluates_as_all_fillings_do(rt: HostRuntime) -> Result<(), Fail> {
+    let alloc = rt.alloc();
+    let mut numbers = Pcg32::new(7, 54);
+    for _ in 0..12 {
+        let circuit = drawn(alloc, &mut numbers)?;
+        for code in 0..27u32 {
+            let values = [
+                value_of(code % 3),
+                value_of(code / 3 % 3),
+                value_of(code / 9 % 3),
+            ];
+            let value = evaluated(alloc, &circuit, &values)?;
+            assert!(rt; is_value(alloc, &circuit, &values, value)?);
+            // where no input is X, the output isn't either
+            assert!(rt; (value != Tri::X) | values.as_slice().contains(&Tri::X));
+        }
+    }
+    Ok(())
+}
+
+/// Whether a matching is of the ports of two circuits of one output each.
+fn are_ports(graphs: &Graphs, matching: &Matching) -> bool
+    ensures ports { IsTrue result
+        → HavePorts graphs.now.first graphs.now.second matching.now.inputs matching.now.outputs }
+    ensures output { IsTrue result → length graphs.now.first.outputs ≡ 1 }
+{
+    let inputs = graphs.first.inputs();
+    let alike = inputs == graphs.second.inputs();
+    let single = (graphs.first.outputs().len() == 1) & (graphs.second.outputs().len() == 1);
+    alike & single & matching.check_shape(inputs, 1)
+}
+
+fn comparison(answer: &Result<Compared, Stop>, learned: u64) -> Outcome {
+    match answer {
+        Ok(Compared::Same(_, _)) => Outcome::Holds(learned),
+        Ok(Compared::Differs(_)) => Outcome::Fails(learned),
+        Err(stop) => stopped(stop),
+    }
+}
+
 /// What a new book says of output 0 and its partner.
 fn compared(
     alloc: Global,
@@ -224,23 +319,13 @@ fn compared(
     matching: &Matching,
     budget: u64,
 ) -> Result<Outcome, AllocError> {
-    if graphs.first.inputs() != graphs.second.inputs() {
-        return Ok(Outcome::Unfit);
-    }
-    if graphs.first.outputs().len() != 1 || graphs.second.outputs().len() != 1 {
-        return Ok(Outcome::Unfit);
-    }
-    if !matching.check_shape(graphs.first.inputs(), 1) {
+    if !are_ports(graphs, matching) {
         return Ok(Outcome::Unfit);
     }
     let mut book = FactBook::new(alloc, graphs, 1)?;
     let mut ledger = Ledger::new(alloc, budget);
-    match book.compare(alloc, matching, 0, &mut ledger) {
-        Ok(Compared::Same(_, _)) => Ok(Outcome::Holds(ledger.learned())),
-        Ok(Compared::Differs(_)) => Ok(Outcome::Fails(ledger.learned())),
-        Err(Stop::Spent(learned)) => Ok(Outcome::Spent(learned)),
-        Err(Stop::Memory) => Ok(Outcome::Memory),
-    }
+    let answer = book.compare(alloc, matching, 0, &mut ledger);
+    Ok(comparison(&answer, ledger.learned()))
 }
 
 #[test]

@@ -215,8 +215,8 @@ pair_of-one pairs pair kind port ordered held kind_is from_is =
     found.1 ∙ ap Some (agree pairs ordered found.0 pair is.0 held (is.1 ∙ sym kind_is) (inl (is.2 ∙ sym from_is)))
 
 -- the ban of what is shown
-pub vector_valid : (graphs : Graphs) (given : Given) (whole pairs : List Pair) (pair : Pair) (values : List Tri) → pair.from < length graphs.first.outputs → IsShown graphs whole pair values pairs → IsValidBan graphs given (record { pairs = pairs; step = step.Vector pair.from values })
-vector_valid graphs given whole pairs pair values there shown = record {
+pub vector_valid : (graphs : Graphs) (given : Given) (all_pairs pairs : List Pair) (pair : Pair) (taken : List Tri) → pair.from < length graphs.first.outputs → IsShown graphs all_pairs pair taken pairs → IsValidBan graphs given (record { pairs = pairs; step = step.Vector pair.from taken })
+vector_valid graphs given all_pairs pairs pair taken there shown = record {
   known = shown.known;
   ordered = shown.ordered;
   names = there;
@@ -234,11 +234,11 @@ vector_valid graphs given whole pairs pair values there shown = record {
     found : pair_of pairs Output pair.from ≡ Some pair
     found = pair_of-one pairs pair Output pair.from shown.ordered shown.has shown.of_output refl
 
-pub vector_valid_of : (graphs : Graphs) (given : Given) (whole pairs : List Pair) (pair : Pair) (values : List Tri) (ps : List Pair) (vs : List Tri) (output : ℕ) → ps ≡ pairs → vs ≡ values → pair.from ≡ output → output < length graphs.first.outputs → IsShown graphs whole pair values pairs → IsValidBan graphs given (record { pairs = ps; step = step.Vector output vs })
-vector_valid_of graphs given whole pairs pair values ps vs output ps_is vs_is from_is there shown =
-    subst (λ l. IsValidBan graphs given (record { pairs = l; step = step.Vector output vs })) (sym ps_is) (subst (λ v. IsValidBan graphs given (record { pairs = pairs; step = step.Vector output v })) (sym vs_is) (subst (λ k. IsValidBan graphs given (record { pairs = pairs; step = step.Vector k values })) from_is (vector_valid graphs given whole pairs pair values (subst (λ k. k < length graphs.first.outputs) (sym from_is) there) shown)))
+pub vector_valid_of : (graphs : Graphs) (given : Given) (all_pairs pairs : List Pair) (pair : Pair) (taken : List Tri) (ps : List Pair) (vs : List Tri) (output : ℕ) → ps ≡ pairs → vs ≡ taken → pair.from ≡ output → output < length graphs.first.outputs → IsShown graphs all_pairs pair taken pairs → IsValidBan graphs given (record { pairs = ps; step = step.Vector output vs })
+vector_valid_of graphs given all_pairs pairs pair taken ps vs output ps_is vs_is from_is there shown =
+    subst (λ l. IsValidBan graphs given (record { pairs = l; step = step.Vector output vs })) (sym ps_is) (subst (λ v. IsValidBan graphs given (record { pairs = pairs; step = step.Vector output v })) (sym vs_is) (subst (λ k. IsValidBan graphs given (record { pairs = pairs; step = step.Vector k taken })) from_is (vector_valid graphs given all_pairs pairs pair taken (subst (λ k. k < length graphs.first.outputs) (sym from_is) there) shown)))
 
--- the same whole list, by what its pair and values are
-pub shown_as : (graphs : Graphs) (inputs whole : List Pair) (pair P : Pair) (values V : List Tri) → pair ≡ P → values ≡ V → whole ≡ inputs ++ pair ∷ [] → IsShown graphs (inputs ++ P ∷ []) P V (inputs ++ P ∷ []) → IsShown graphs whole pair values whole
-shown_as graphs inputs whole pair P values V pair_is values_is whole_is shown =
-    subst (λ l. IsShown graphs l pair values l) (sym whole_is) (subst (λ v. IsShown graphs (inputs ++ pair ∷ []) pair v (inputs ++ pair ∷ [])) (sym values_is) (subst (λ p. IsShown graphs (inputs ++ p ∷ []) p V (inputs ++ p ∷ [])) (sym pair_is) shown))
+-- the same all_pairs list, by what its pair and taken are
+pub shown_as : (graphs : Graphs) (front all_pairs : List Pair) (pair P : Pair) (taken V : List Tri) → pair ≡ P → taken ≡ V → all_pairs ≡ front ++ pair ∷ [] → IsShown graphs (front ++ P ∷ []) P V (front ++ P ∷ []) → IsShown graphs all_pairs pair taken all_pairs
+shown_as graphs front all_pairs pair P taken V pair_is values_is whole_is shown =
+    subst (λ l. IsShown graphs l pair taken l) (sym whole_is) (subst (λ v. IsShown graphs (front ++ pair ∷ []) pair v (front ++ pair ∷ [])) (sym values_is) (subst (λ p. IsShown graphs (front ++ p ∷ []) p V (front ++ p ∷ [])) (sym pair_is) shown))

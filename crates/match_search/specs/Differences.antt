@@ -37,7 +37,8 @@ pub record IsShown (graphs : Graphs) (whole : List Pair) (pair : Pair) (values :
   pub wrong : IsWrong graphs pairs pair values
 
 -- The pairs without one, of an input, on which the output is wrong too.
-pub record IsLeftOut (graphs : Graphs) (pair : Pair) (values : List Tri) (pairs : List Pair) (place : ℕ) (fewer : List Pair) : Type 0 where
+pub record IsLeftOut (graphs : Graphs) (pair : Pair) (values : List Tri) (pairs : List Pair) (place : ℕ)
+    (fewer : List Pair) : Type 0 where
   pub fewer_is : fewer ≡ remove pairs place
   pub input : (d : Pair) → (slice_index_or pairs place d).kind ≡ Input
   pub wrong : IsWrong graphs fewer pair values

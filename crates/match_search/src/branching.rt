@@ -24,9 +24,9 @@ use net_core::Graphs;
 use query_core::Ledger;
 use std::alloc::{AllocError, Global};
 
-/// Looks for a match of two circuits with as many ports: decides the first circuit's ports one by one, compares the outputs
-/// of whole tables, and holds a ban for each table that is no match and for each port that has no way left. From a ban it
-/// goes back to the last port that the ban needs.
+/// Looks for a match of two circuits with as many ports: decides the first circuit's ports one by one, compares the
+/// outputs of whole tables, and holds a ban for each table that is no match and for each port that has no way left.
+/// From a ban it goes back to the last port that the ban needs.
 ///
 /// The book's bans are valid in view of the oracle's facts, whatever is answered.
 ///
@@ -57,7 +57,8 @@ pub fn search<O: Oracle>(
     }
 }
 
-// One step ahead, and back from a ban where it runs into one. It answers None where a way is held that wasn't tried before.
+// One step ahead, and back from a ban where it runs into one. It answers None where a way is held that wasn't tried
+// before.
 fn turn<O: Oracle>(
     alloc: Global,
     graphs: &Graphs,
@@ -75,7 +76,8 @@ fn turn<O: Oracle>(
     ensures serves { Serves (O.known oracle.old) (O.known oracle.new) ledger.old ledger.new result }
     ensures valid { AreValid graphs.now (O.known oracle.new) book.new }
     ensures search { IfOk result (λ found. IfNone found (IsSearchState graphs.now book.new state.new)) }
-    ensures less { IfOk result (λ found. IfNone found (left graphs.now state.new.levels < left graphs.now state.old.levels)) }
+    ensures less { IfOk result (λ found. IfNone found
+        (left graphs.now state.new.levels < left graphs.now state.old.levels)) }
     ensures found { IfOk result (λ found. IfSome found (IsFound graphs.now book.new)) }
 {
     let ban = match ahead(alloc, graphs, oracle, state, book, ledger)? {
@@ -89,8 +91,8 @@ fn turn<O: Oracle>(
     }
 }
 
-// One step ahead: unless the pairs that are held run into a ban, the next port's ways are tried, and where no port is left
-// the outputs are compared.
+// One step ahead: unless the pairs that are held run into a ban, the next port's ways are tried, and where no port is
+// left the outputs are compared.
 fn ahead<O: Oracle>(
     alloc: Global,
     graphs: &Graphs,

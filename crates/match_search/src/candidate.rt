@@ -28,7 +28,8 @@ pub(crate) struct Difference {
     pub(crate) vector: Bits,
 }
 
-/// Compares all outputs under the pairs that are held, one of each port. Where one differs, it holds a ban that says so.
+/// Compares all outputs under the pairs that are held, one of each port. Where one differs, it holds a ban that says
+/// so.
 pub(crate) fn compare_whole<O: Oracle>(
     alloc: Global,
     graphs: &Graphs,
@@ -77,7 +78,8 @@ fn compare_all<O: Oracle>(
     requires none { logs.old ≡ [] }
     ensures serves { Serves (O.known oracle.old) (O.known oracle.new) ledger.old ledger.new result }
     ensures same { IfOk result (λ found. IfNone found (AreLogs graphs.now matching.now logs.new)) }
-    ensures differs { IfOk result (λ found. IfSome found (λ difference. difference.output < length graphs.now.first.outputs)) }
+    ensures differs { IfOk result (λ found. IfSome found
+        (λ difference. difference.output < length graphs.now.first.outputs)) }
     ensures vector { IfOk result (λ found. IfSome found
         (λ difference. IsDifference graphs.now matching.now difference.output difference.vector)) }
 {

@@ -1,6 +1,6 @@
 //! Bans that say that a port has no way left.
 
-ghost use Rattle.std.specs.Prelude.{ℕ, ◌≡◌, ◌∷◌, ◌^◌, ◌<◌, ◌≤◌, ◌≢◌, All, AllPairs, Contains, IfOk, OnOk, List, Option, Some, length};
+ghost use Rattle.std.specs.Prelude.{◌≡◌, ◌∷◌, ◌^◌, ◌≤◌, All, AllPairs, Contains, IfOk, OnOk, List, Option, Some, length};
 ghost use Rattle.std.specs.List.{range_with_len};
 ghost use Rattle.account_core.specs.Covers.{IsImpossible};
 ghost use Rattle.account_core.specs.Ports.{HaveAsMany, ports_in};
@@ -21,8 +21,8 @@ use net_core::{Graph, Graphs};
 use std::alloc::{AllocError, Global};
 
 #[tactic(auto, using(crate::proofs::BookLemmas::holds_none))]
-/// Holds the ban that a port of which all ways are closed is for, and answers its number. Its pairs are those that the ways
-/// need to be closed.
+/// Holds the ban that a port of which all ways are closed is for, and answers its number. Its pairs are those that
+/// the ways need to be closed.
 pub(crate) fn cover(
     alloc: Global,
     graphs: &Graphs,

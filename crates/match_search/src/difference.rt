@@ -25,8 +25,8 @@ use std::alloc::{AllocError, Global};
 use word_sim::{Tri, tri_eval};
 
 #[tactic(auto, using(crate::proofs::BookLemmas::holds_none))]
-/// Holds the ban that a vector of the first circuit's inputs is for, on which an output differs from the one that a matching
-/// sends it to, and answers its number. The pairs of inputs that the difference doesn't need are left out.
+/// Holds the ban that a vector of the first circuit's inputs is for, on which an output differs from the one that a
+/// matching sends it to, and answers its number. The pairs of inputs that the difference doesn't need are left out.
 pub(crate) fn exclude(
     alloc: Global,
     graphs: &Graphs,
@@ -170,7 +170,8 @@ fn without(
     requires output { pair.to < length graphs.now.second.outputs }
     requires values { length values.now ≡ graphs.now.first.inputs }
     requires first { first ≡ first_value graphs.now values.now pair.from }
-    ensures { IfOk result (λ fewer. IfSome fewer (λ fewer. IsLeftOut graphs.now pair values.now pairs.now place fewer.items)) }
+    ensures { IfOk result (λ found. IfSome found
+        (λ fewer. IsLeftOut graphs.now pair values.now pairs.now place fewer.items)) }
 {
     if pairs[place].kind != PortKind::Input {
         return Ok(None);
@@ -265,7 +266,9 @@ fn send(pair: Pair, values: &[Tri], sent: &mut [Tri])
     requires to { pair.kind ≡ Input → pair.to < length sent.old }
     ensures length { length sent.new ≡ length sent.old }
     ensures sent { pair.kind ≡ Input → value_at sent.new pair.to ≡ signed pair.flip (value_at values.now pair.from) }
-    ensures others { (place : ℕ) → (pair.kind ≡ Input → place ≢ pair.to) → value_at sent.new place ≡ value_at sent.old place }
+    ensures others { (place : ℕ)
+        → (pair.kind ≡ Input → place ≢ pair.to)
+        → value_at sent.new place ≡ value_at sent.old place }
 {
     if pair.kind == PortKind::Input {
         sent[pair.to as usize] = signed(values[pair.from as usize], pair.flip);

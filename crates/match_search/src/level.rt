@@ -8,13 +8,14 @@ use circuits::{Pair, PortKind};
 use items::Items;
 use std::alloc::{AllocError, Global};
 
-/// A port of the first circuit whose ways are tried one after the other: to port 0 of the second circuit, plain and then
-/// negated, to port 1, and so on.
+/// A port of the first circuit whose ways are tried one after the other: to port 0 of the second circuit, plain and
+/// then negated, to port 1, and so on.
 #[derive(Debug, Drop)]
 pub(crate) struct Level {
     pub(crate) kind: PortKind,
     pub(crate) from: u32,
-    /// For each way that was closed, in order: None where it clashes with a pair that is held, else a ban that it leads into.
+    /// For each way that was closed, in order: None where it clashes with a pair that is held, else a ban that it
+    /// leads into.
     pub(crate) refs: Items<Option<u64>>,
 }
 
@@ -38,8 +39,8 @@ impl Level {
         nth_way(self.kind, self.from, self.refs.len() as u64)
     }
 
-    /// Closes ways that clash with held pairs, until the first that doesn't, and answers whether there is one. Those ports of
-    /// the second circuit are marked that are in a held pair; the level's port is in none.
+    /// Closes ways that clash with held pairs, until the first that doesn't, and answers whether there is one. Those
+    /// ports of the second circuit are marked that are in a held pair; the level's port is in none.
     pub(crate) fn close_clashing(
         &mut self,
         held: &[Pair],

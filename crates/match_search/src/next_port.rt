@@ -1,6 +1,6 @@
 //! Which port is decided next.
 
-ghost use Rattle.std.specs.Prelude.{ℕ, ◌≡◌, ◌↔◌, ◌<◌, IfNone, IfSome, IsTrue};
+ghost use Rattle.std.specs.Prelude.{ℕ, ◌↔◌, ◌<◌, IfNone, IfSome, IsTrue};
 ghost use Rattle.account_core.specs.Ports.{ports_in};
 ghost use Rattle.match_search.specs.Held.{IsOf, IsTaken, IsWhole};
 
@@ -8,8 +8,8 @@ use crate::cover::ports_in;
 use circuits::{Pair, PortKind};
 use net_core::Graphs;
 
-/// The next port of the first circuit that is in no pair: its outputs come first, in order, and then its inputs. It is None
-/// where each port is in a pair.
+/// The next port of the first circuit that is in no pair: its outputs come first, in order, and then its inputs. It
+/// is None where each port is in a pair.
 pub(crate) fn next_port(graphs: &Graphs, held: &[Pair]) -> Option<(PortKind, u32)>
     ensures port { IfSome result (λ next. next.1 < ports_in graphs.now.first next.0) }
     ensures free { IfSome result (λ next. IsTaken held.now next.0 next.1 → ⊥) }
@@ -26,8 +26,8 @@ pub(crate) fn next_port(graphs: &Graphs, held: &[Pair]) -> Option<(PortKind, u32
     }
 }
 
-// One of so many ports of a kind that is in no pair: the port behind that of the last pair, which it mostly is where ports are
-// decided in order, and else the first.
+// One of so many ports of a kind that is in no pair: the port behind that of the last pair, which it mostly is where
+// ports are decided in order, and else the first.
 fn free_port(held: &[Pair], kind: PortKind, count: u32) -> Option<u32>
     ensures port { IfSome result (λ port. port < count) }
     ensures free { IfSome result (λ port. IsTaken held.now kind port → ⊥) }

@@ -60,7 +60,10 @@ fn put_entry(pair: Pair, kind: PortKind, entries: &mut [(u32, bool)])
     requires { pair.kind ≡ kind → pair.from < length entries.old }
     ensures length { length entries.new ≡ length entries.old }
     ensures put { IsEntryOf kind entries.new pair }
-    ensures others { (other : AnyPair) → AreApart other pair → IsEntryOf kind entries.old other → IsEntryOf kind entries.new other }
+    ensures others { (other : AnyPair)
+        → AreApart other pair
+        → IsEntryOf kind entries.old other
+        → IsEntryOf kind entries.new other }
 {
     if pair.kind == kind {
         entries[pair.from as usize] = (pair.to, pair.flip);

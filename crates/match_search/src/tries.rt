@@ -17,8 +17,8 @@ use circuits::Pair;
 use net_core::Graphs;
 use std::alloc::{AllocError, Global};
 
-/// Tries the ways of a port that aren't closed: holds the first that doesn't clash with a held pair, and answers None. Where
-/// all are closed, it holds a ban that says so, and answers its number.
+/// Tries the ways of a port that aren't closed: holds the first that doesn't clash with a held pair, and answers
+/// None. Where all are closed, it holds a ban that says so, and answers its number.
 pub(crate) fn advance(
     alloc: Global,
     graphs: &Graphs,
@@ -43,9 +43,9 @@ pub(crate) fn advance(
     Ok(Some(ban))
 }
 
-/// Goes back from pairs that run into a ban to the last way that the ban needs, closes it by the ban, and tries the next way
-/// of its port; as long as no way is left there, it goes on back from the ban that says so. It answers None where a way is
-/// held, and a ban without pairs where no level is left.
+/// Goes back from pairs that run into a ban to the last way that the ban needs, closes it by the ban, and tries the
+/// next way of its port; as long as no way is left there, it goes on back from the ban that says so. It answers None
+/// where a way is held, and a ban without pairs where no level is left.
 pub(crate) fn turn_back(
     alloc: Global,
     graphs: &Graphs,
@@ -69,8 +69,8 @@ pub(crate) fn turn_back(
     Ok(Some(reached))
 }
 
-// Goes on at the last level, whose way runs into a ban: if the ban needs the way, it is closed, and the next ones are tried.
-// Else the ban is answered, since the pairs before it run into it too.
+// Goes on at the last level, whose way runs into a ban: if the ban needs the way, it is closed, and the next ones are
+// tried. Else the ban is answered, since the pairs before it run into it too.
 fn resume(
     alloc: Global,
     graphs: &Graphs,

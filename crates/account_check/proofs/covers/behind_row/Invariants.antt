@@ -8,4 +8,4 @@ use Rattle.account_check.proofs.covers.behind_row.Given as goal
 abbrev pub invariant-loop-other : goal.invariant-loop-other
 invariant-loop-other l = (more : List Pair)
     → (AllZip (IsReference l.given l.pairs) (row l.kind l.port l.to ++ more) l.refs
-      ↔ AllZip (IsReference l.given l.pairs) (row l.kind l.port (drop l.other-index l.to) ++ more) l.left)
+    ↔ AllZip (IsReference l.given l.pairs) (row l.kind l.port (drop l.other-index l.to) ++ more) l.left)
