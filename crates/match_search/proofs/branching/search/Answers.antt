@@ -7,7 +7,7 @@ use Rattle.match_search.proofs.ServeLemmas.{served_one, served_then, serves_ok, 
 use Rattle.match_search.proofs.branching.search.Goals as goal
 
 pub loop-state-init : goal.loop-state-init
-loop-state-init g c = searching_start c.args.graphs.now (g.O.Oracle.known c.args.oracle.now) c.args.ledger.now c.args.book.now c.new-state.result c.in_ok-trials.trials c.facts-facts.ensures.lawful c.requires.suits c.requires.book c.new-state.ensures c.in_ok-trials.ensures
+loop-state-init g c = searching_start c.args.graphs.now (g.O.Oracle.known c.args.oracle.now) c.args.ledger.now c.args.book.now c.new-state.result c.in_ok-guide.guide.trials c.facts-facts.ensures.lawful c.requires.suits c.requires.book c.new-state.ensures c.in_ok-guide.ensures
 
 pub turn-requires-clause-graphs : goal.turn-requires-clause-graphs
 turn-requires-clause-graphs g c = c.requires.graphs ∙ sym c.loop-state.invariant.served.grows.graphs
