@@ -1,0 +1,86 @@
+-- The records of the account of what a search came to (this project's format): behind the header, for a match its pairs and the
+-- logs that show it; for none the facts and bans, up to a ban without pairs; or that the circuits have other numbers of ports.
+use Rattle.std.specs.Prelude.{ℕ, ◌+◌, Bool, List, [], ◌∷◌, ◌++◌, map}
+use Rattle.std.specs.List.{flat_map}
+use Rattle.circuits.specs.declared.port.Pair.{Pair}
+use Rattle.circuits.specs.declared.port.PortKind.{PortKind}
+use Rattle.circuits.specs.declared.port.PortKind.TheVariants.{Input, Output}
+use Rattle.cnf_core.specs.declared.log.Log.{Log}
+use Rattle.net_core.specs.declared.matching.Matching.{Matching}
+use Rattle.query_core.specs.declared.claims.Claim.{Claim}
+use Rattle.account_core.specs.declared.conclusion.Conclusion.TheVariants as conclusion
+use Rattle.account_core.specs.declared.fact.Evidence.{Evidence}
+use Rattle.account_core.specs.declared.fact.Evidence.TheVariants as evidence
+use Rattle.account_core.specs.declared.fact.Fact.{Fact}
+use Rattle.account_core.specs.declared.fact.FactHead.TheVariants as head
+use Rattle.account_core.specs.declared.step.Ban.{Ban}
+use Rattle.account_core.specs.Covers.{way}
+use Rattle.account_file.specs.declared.record.Record.{Record}
+use Rattle.account_file.specs.declared.record.Record.TheVariants as entry
+use Rattle.account_file.specs.Spelling.{record_line}
+
+-- where each port of a kind goes, from port `first` on, as pairs
+abbrev pub pairs_from : PortKind → ℕ → List (ℕ × Bool) → List Pair
+pairs_from kind first [] = []
+pairs_from kind first (goes ∷ others) = way kind first goes.0 goes.1 ∷ pairs_from kind (first + 1) others
+
+-- the pairs of a matching: of all inputs, in order, and then of all outputs
+abbrev pub pairs_of_matching : Matching → List Pair
+pairs_of_matching matching = pairs_from Input 0 matching.inputs ++ pairs_from Output 0 matching.outputs
+
+-- the lines of a log
+abbrev pub log_records : Log → List Record
+log_records log = map (λ line. entry.Line line) log.lines
+
+-- the lines of records
+abbrev pub lines_of : List Record → List ℕ
+lines_of records = flat_map record_line records
+
+-- a fact, and behind one that holds the lines of its log
+abbrev pub shown_records : Claim → Evidence → List Record
+shown_records claim (evidence.Fails bits) = entry.Fact (head.Fails claim bits) ∷ []
+shown_records claim (evidence.Holds log) = entry.Fact (head.Holds claim) ∷ log_records log
+
+abbrev pub fact_records : Fact → List Record
+fact_records fact = shown_records fact.claim fact.evidence
+
+-- the account of a match
+abbrev pub match_records : Matching → List Log → List Record
+match_records matching logs =
+    entry.Header ∷ entry.Conclusion (conclusion.Match (pairs_of_matching matching)) ∷ flat_map log_records logs
+
+-- the account of none, by facts and bans of which one has no pairs
+abbrev pub refusal_records : List Fact → List Ban → ℕ → List Record
+refusal_records facts bans number =
+    entry.Header
+    ∷ (flat_map fact_records facts
+    ++ (map (λ ban. entry.Ban ban) bans ++ entry.Conclusion (conclusion.NoneBan number) ∷ []))
+
+-- the account of none, by the numbers of ports
+abbrev pub none_ports_records : List Record
+none_ports_records = entry.Header ∷ entry.Conclusion conclusion.NonePorts ∷ []
+
+-- the whole text of an account: the lines of its records, and the last line
+abbrev pub account_of : List Record → List ℕ
+account_of records = lines_of records ++ record_line entry.End
+
+-- the lines of a log, of a fact and of a ban
+abbrev pub log_lines : Log → List ℕ
+log_lines log = lines_of (log_records log)
+
+abbrev pub fact_lines : Fact → List ℕ
+fact_lines fact = lines_of (fact_records fact)
+
+abbrev pub ban_line : Ban → List ℕ
+ban_line ban = record_line (entry.Ban ban)
+
+-- the same accounts, line by line
+abbrev pub match_lines : Matching → List Log → List ℕ
+match_lines matching logs =
+    record_line entry.Header
+    ++ (record_line (entry.Conclusion (conclusion.Match (pairs_of_matching matching))) ++ flat_map log_lines logs)
+
+abbrev pub refusal_lines : List Fact → List Ban → ℕ → List ℕ
+refusal_lines facts bans number =
+    record_line entry.Header
+    ++ (flat_map fact_lines facts ++ (flat_map ban_line bans ++ record_line (entry.Conclusion (conclusion.NoneBan number))))
