@@ -5,17 +5,21 @@ use Rattle.query_core.specs.Ledgers.{Ledgered}
 use Rattle.account_core.specs.declared.step.Ban.{Ban}
 use Rattle.account_core.specs.Oracles.{AreFacts, Known, Suits}
 use Rattle.match_search.specs.declared.state.State.{State}
+use Rattle.match_search.specs.declared.trials.Trials.{Trials}
+use Rattle.match_search.specs.Trials.{AreTrials}
 use Rattle.match_search.specs.States.{AreValid, HasServed, IsSearchState}
 use Rattle.match_search.proofs.ServeLemmas.{served_same}
 
 -- Nothing was found yet.
-pub record IsSearching (graphs : Graphs) (old now : Known) (before after : Ledgered) (book : List Ban) (state : State) : Type 0 where
+pub record IsSearching (graphs : Graphs) (old now : Known) (before after : Ledgered) (book : List Ban) (state : State) (vectors : Trials) : Type 0 where
   pub served : HasServed old now before after
   pub valid : AreValid graphs now book
   pub search : IsSearchState graphs book state
+  pub trials : AreTrials graphs.first vectors
 
-pub searching_start : (graphs : Graphs) (known : Known) (ledger : Ledgered) (book : List Ban) (state : State) → AreFacts known.graphs known.facts → Suits known ledger → book ≡ [] → state ≡ record { held = []; levels = [] } → IsSearching graphs known known ledger ledger book state
-searching_start graphs known ledger book state facts suits none is = record {
+pub searching_start : (graphs : Graphs) (known : Known) (ledger : Ledgered) (book : List Ban) (state : State) (trials : Trials) → AreFacts known.graphs known.facts → Suits known ledger → book ≡ [] → state ≡ record { held = []; levels = [] } → AreTrials graphs.first trials → IsSearching graphs known known ledger ledger book state trials
+searching_start graphs known ledger book state trials facts suits none is are = record {
+  trials = are;
   served = served_same known ledger facts suits;
   valid = subst (AreValid graphs known) (sym none) (record { each = λ k d below. absurd (omega (arith, below)) });
   search = subst (IsSearchState graphs book) (sym is) (record {

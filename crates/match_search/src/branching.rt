@@ -1,6 +1,6 @@
 //! The search.
 
-ghost use Rattle.std.specs.Prelude.{◌≡◌, ◌<◌, [], IfNone, IfOk, IfSome, map};
+ghost use Rattle.std.specs.Prelude.{◌≡◌, ◌<◌, [], IfNone, IfOk, IfSome, OnOk, map};
 ghost use Rattle.account_core.specs.Given.{decided_by};
 ghost use Rattle.account_core.specs.Oracles.{AreFacts, Serves, Suits};
 ghost use Rattle.account_core.specs.Ports.{HaveAsMany};
@@ -9,13 +9,16 @@ ghost use Rattle.match_search.specs.Founds.{IsFound};
 ghost use Rattle.match_search.specs.Levels.{HoldsMore, IsTried};
 ghost use Rattle.match_search.specs.Progress.{left};
 ghost use Rattle.match_search.specs.States.{AreValid, IsAhead, IsSearchState};
+ghost use Rattle.match_search.specs.Trials.{AreTrials};
 
 use crate::ahead::Ahead;
 use crate::candidate::compare_whole;
+use crate::foresight::foresee;
 use crate::found::Found;
 use crate::level::Level;
 use crate::next_port::next_port;
 use crate::state::State;
+use crate::trials::Trials;
 use crate::tries::{advance, turn_back};
 use account_core::Oracle;
 use ban_book::BanBook;
@@ -49,9 +52,10 @@ pub fn search<O: Oracle>(
     ensures found { IfOk result (IsFound graphs.now book.new) }
 {
     let _facts = oracle.facts();
+    let mut trials = Trials::new(alloc, &graphs.first)?;
     let mut state = State::new(alloc);
     loop {
-        if let Some(found) = turn(alloc, graphs, oracle, &mut state, book, ledger)? {
+        if let Some(found) = turn(alloc, graphs, oracle, &mut trials, &mut state, book, ledger)? {
             return Ok(found);
         }
     }
@@ -63,6 +67,7 @@ fn turn<O: Oracle>(
     alloc: Global,
     graphs: &Graphs,
     oracle: &mut O,
+    trials: &mut Trials,
     state: &mut State,
     book: &mut BanBook,
     ledger: &mut Ledger,
@@ -73,14 +78,16 @@ fn turn<O: Oracle>(
     requires suits { Suits (O.known oracle.old) ledger.old }
     requires valid { AreValid graphs.now (O.known oracle.old) book.old }
     requires search { IsSearchState graphs.now book.old state.old }
+    requires trials { AreTrials graphs.now.first trials.old }
     ensures serves { Serves (O.known oracle.old) (O.known oracle.new) ledger.old ledger.new result }
     ensures valid { AreValid graphs.now (O.known oracle.new) book.new }
+    ensures trials { OnOk result (AreTrials graphs.now.first trials.new) }
     ensures search { IfOk result (λ found. IfNone found (IsSearchState graphs.now book.new state.new)) }
     ensures less { IfOk result (λ found. IfNone found
         (left graphs.now state.new.levels < left graphs.now state.old.levels)) }
     ensures found { IfOk result (λ found. IfSome found (IsFound graphs.now book.new)) }
 {
-    let ban = match ahead(alloc, graphs, oracle, state, book, ledger)? {
+    let ban = match ahead(alloc, graphs, oracle, trials, state, book, ledger)? {
         Ahead::Deeper => return Ok(None),
         Ahead::Match(matching, logs) => return Ok(Some(Found::Match(matching, logs))),
         Ahead::Ban(ban) => ban,
@@ -91,12 +98,13 @@ fn turn<O: Oracle>(
     }
 }
 
-// One step ahead: unless the pairs that are held run into a ban, the next port's ways are tried, and where no port is
-// left the outputs are compared.
+// One step ahead: unless the pairs that are held run into a ban or fail on a vector, the next port's ways are tried, and
+// where no port is left the outputs are compared.
 fn ahead<O: Oracle>(
     alloc: Global,
     graphs: &Graphs,
     oracle: &mut O,
+    trials: &mut Trials,
     state: &mut State,
     book: &mut BanBook,
     ledger: &mut Ledger,
@@ -107,15 +115,20 @@ fn ahead<O: Oracle>(
     requires suits { Suits (O.known oracle.old) ledger.old }
     requires valid { AreValid graphs.now (O.known oracle.old) book.old }
     requires search { IsSearchState graphs.now book.old state.old }
+    requires trials { AreTrials graphs.now.first trials.old }
     ensures serves { Serves (O.known oracle.old) (O.known oracle.new) ledger.old ledger.new result }
     ensures valid { AreValid graphs.now (O.known oracle.new) book.new }
+    ensures trials { OnOk result (AreTrials graphs.now.first trials.new) }
     ensures ahead { IfOk result (IsAhead graphs.now book.new state.old state.new) }
 {
     if let Some(ban) = book.covering(&state.held) {
         return Ok(Ahead::Ban(ban));
     }
+    if let Some(ban) = foresee(alloc, graphs, &state.held, trials, book)? {
+        return Ok(Ahead::Ban(ban));
+    }
     let Some((kind, from)) = next_port(graphs, &state.held) else {
-        return compare_whole(alloc, graphs, oracle, state, book, ledger);
+        return compare_whole(alloc, graphs, oracle, trials, state, book, ledger);
     };
     let ahead = descend(alloc, graphs, state, Level::new(alloc, kind, from), book)?;
     Ok(ahead)

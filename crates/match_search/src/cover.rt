@@ -196,8 +196,8 @@ fn add_unless(
     Ok(())
 }
 
-// Adds a held pair.
-fn add_one(needed: &mut Vec<Pair>, held: &[Pair], pair: Pair) -> Result<(), AllocError>
+/// Adds a held pair to some of those that are held, in order.
+pub(crate) fn add_one(needed: &mut Vec<Pair>, held: &[Pair], pair: Pair) -> Result<(), AllocError>
     requires part { IsPart held.now needed.old.items }
     requires apart { AllPairs AreApart held.now }
     requires held { Contains held.now pair }

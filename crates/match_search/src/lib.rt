@@ -7,13 +7,16 @@ mod candidate;
 mod clash;
 mod cover;
 mod difference;
+mod foresight;
 mod found;
 mod level;
 mod marks;
 mod needed;
 mod next_port;
+mod rails;
 mod state;
 mod table;
+mod trials;
 mod tries;
 
 pub use branching::search;
