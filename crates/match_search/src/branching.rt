@@ -9,12 +9,13 @@ ghost use Rattle.match_search.specs.Founds.{IsFound};
 ghost use Rattle.match_search.specs.Levels.{HoldsMore, IsTried};
 ghost use Rattle.match_search.specs.Progress.{left};
 ghost use Rattle.match_search.specs.States.{AreValid, IsAhead, IsSearchState};
-ghost use Rattle.match_search.specs.Trials.{AreTrials};
+ghost use Rattle.table_guess.specs.Trials.{AreTrials};
 
 use crate::ahead::Ahead;
 use crate::candidate::compare_whole;
 use crate::foresight::foresee;
 use crate::found::Found;
+use crate::guessed::compare_guess;
 use crate::guide::Guide;
 use crate::level::Level;
 use crate::next_port::next_port;
@@ -27,9 +28,9 @@ use net_core::Graphs;
 use query_core::Ledger;
 use std::alloc::{AllocError, Global};
 
-/// Looks for a match of two circuits with as many ports: decides the ports one by one, compares the outputs of whole
-/// tables, and holds a ban for each table that is no match and for each port that has no way left. From a ban it goes
-/// back to the last port that the ban needs.
+/// Looks for a match of two circuits with as many ports. A table that is guessed is compared first. Where it is no match,
+/// the ports are decided one by one, the outputs of whole tables are compared, and a ban is held for each table that is
+/// no match and for each port that has no way left. From a ban it goes back to the last port that the ban needs.
 ///
 /// The book's bans are valid in view of the oracle's facts, whatever is answered.
 ///
@@ -53,6 +54,9 @@ pub fn search<O: Oracle>(
 {
     let _facts = oracle.facts();
     let mut guide = Guide::new(alloc, graphs)?;
+    if let Some((table, logs)) = compare_guess(alloc, graphs, oracle, &mut guide.trials, ledger)? {
+        return Ok(Found::Match(table, logs));
+    }
     let mut state = State::new(alloc);
     loop {
         if let Some(found) = turn(alloc, graphs, oracle, &mut guide, &mut state, book, ledger)? {

@@ -1,10 +1,10 @@
 //! What a search goes by.
 
 ghost use Rattle.std.specs.Prelude.{IfOk};
-ghost use Rattle.match_search.specs.Trials.{AreTrials};
+ghost use Rattle.table_guess.specs.Trials.{AreTrials};
 
 use crate::reads::reads;
-use crate::trials::Trials;
+use table_guess::Trials;
 use items::Items;
 use net_core::Graphs;
 use std::alloc::{AllocError, Global};

@@ -5,8 +5,8 @@ use Rattle.circuits.specs.declared.port.PortKind.TheVariants.{Output}
 use Rattle.circuits.specs.Netlists.{Net}
 use Rattle.net_core.specs.declared.graphs.Graphs.{Graphs}
 use Rattle.word_sim.specs.Columns.{Table}
-use Rattle.match_search.specs.declared.trials.Trials.{Trials}
-use Rattle.match_search.specs.declared.trials.Suspect.{Suspect}
+use Rattle.table_guess.specs.declared.trials.Trials.{Trials}
+use Rattle.table_guess.specs.declared.trials.Suspect.{Suspect}
 
 -- A table of at least one word has so many columns.
 pub record HasColumns (columns : ℕ) (table : Table) : Type 0 where

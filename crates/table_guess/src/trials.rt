@@ -1,58 +1,43 @@
 //! Vectors that pairs are tried on, before anything is asked.
 
-ghost use Rattle.std.specs.Prelude.{◌≡◌, ◌<◌, ◌≤◌, All, Contains, IfOk, IfSome, OnOk, length};
+ghost use Rattle.std.specs.Prelude.{◌≡◌, ◌<◌, All, Contains, IfOk, IfSome, OnOk, length};
 ghost use Rattle.circuits.specs.declared.port.PortKind.TheVariants.{Input, Output};
 ghost use Rattle.account_core.specs.Ports.{IsKnown};
-ghost use Rattle.match_search.specs.Trials.{AreTrials, HasColumns, IsSuspect};
+ghost use Rattle.table_guess.specs.Trials.{AreTrials, IsSuspect};
 
 use crate::rails::{Rails, outputs_of};
+use crate::vectors::{first_vectors, put_vector};
 use bit_list::Bits;
 use circuits::{Pair, PortKind};
 use net_core::{Graph, Graphs};
-use rand_core::Rng;
-use rand_pcg::Pcg32;
 use std::alloc::{AllocError, Global};
 use word_sim::{Words, simulate};
 
-/// Bit v of word i is digit i of v in base two.
-const ALTERNATING: [u64; 6] = [
-    0xaaaa_aaaa_aaaa_aaaa,
-    0xcccc_cccc_cccc_cccc,
-    0xf0f0_f0f0_f0f0_f0f0,
-    0xff00_ff00_ff00_ff00,
-    0xffff_0000_ffff_0000,
-    0xffff_ffff_0000_0000,
-];
-
-/// How many words of vectors are drawn.
-const DRAWN: usize = 4;
-
-/// Vectors of the first circuit's inputs, 64 in a word, and what its outputs have on them: all vectors of at most six
-/// inputs, else some that are drawn, which make room for those on which whole tables failed.
+/// Vectors of the first circuit's inputs, 64 in a word, and what its outputs have on them: all vectors of at most eleven
+/// inputs, else 2,048 that are drawn, which make room for those on which whole tables failed.
 #[derive(Debug, Drop)]
-pub(crate) struct Trials {
-    pub(crate) inputs: Words,
-    pub(crate) outputs: Words,
-    pub(crate) next: u32,
+pub struct Trials {
+    /// A column for each input.
+    pub inputs: Words,
+    /// A column for each output.
+    pub outputs: Words,
+    /// Which vector of the first word makes room next, up to a multiple of 64.
+    pub next: u32,
 }
 
 /// An output's pair, and a vector of the first circuit's inputs on which the partner is said to be wrong.
 #[derive(Debug, Drop)]
-pub(crate) struct Suspect {
-    pub(crate) pair: Pair,
-    pub(crate) vector: Bits,
+pub struct Suspect {
+    pub pair: Pair,
+    pub vector: Bits,
 }
 
 impl Trials {
     /// The vectors that a search begins with.
-    pub(crate) fn new(alloc: Global, first: &Graph) -> Result<Trials, AllocError>
+    pub fn new(alloc: Global, first: &Graph) -> Result<Trials, AllocError>
         ensures { IfOk result (AreTrials first.now) }
     {
-        let inputs = if first.inputs() <= 6 {
-            all_vectors(alloc, first.inputs())?
-        } else {
-            drawn_vectors(alloc, first.inputs())?
-        };
+        let inputs = first_vectors(alloc, first.inputs())?;
         let outputs = simulate(alloc, first, &inputs)?;
         Ok(Trials {
             inputs,
@@ -64,12 +49,7 @@ impl Trials {
 
 impl Trials {
     /// Keeps a vector on which a whole table failed, in place of the one that stands there the longest.
-    pub(crate) fn keep(
-        &mut self,
-        alloc: Global,
-        first: &Graph,
-        vector: &Bits,
-    ) -> Result<(), AllocError>
+    pub fn keep(&mut self, alloc: Global, first: &Graph, vector: &Bits) -> Result<(), AllocError>
         requires trials { AreTrials first.now self.old }
         requires places { length vector.now ≡ first.now.inputs }
         ensures { OnOk result (AreTrials first.now self.new) }
@@ -83,7 +63,7 @@ impl Trials {
 
     /// An output's pair among those that are held, and a vector, on which the partner is said to be wrong whatever the
     /// inputs have that aren't paired.
-    pub(crate) fn suspect(
+    pub fn suspect(
         &self,
         alloc: Global,
         graphs: &Graphs,
@@ -186,61 +166,4 @@ fn send(pair: Pair, inputs: &Words, word: usize, sent: &mut [Rails])
     if pair.kind == PortKind::Input {
         sent[pair.to as usize] = Rails::of(inputs.get(pair.from, word)).signed(pair.flip);
     }
-}
-
-fn all_vectors(alloc: Global, inputs: u32) -> Result<Words, AllocError>
-    requires { inputs ≤ 6 }
-    ensures { IfOk result (HasColumns inputs) }
-{
-    let mut table = Words::new(alloc, inputs, 1)?;
-    for input in 0..inputs {
-        table.set(input, 0, ALTERNATING[input as usize]);
-    }
-    Ok(table)
-}
-
-fn drawn_vectors(alloc: Global, inputs: u32) -> Result<Words, AllocError>
-    ensures { IfOk result (HasColumns inputs) }
-{
-    let mut table = Words::new(alloc, inputs, DRAWN)?;
-    let mut generator = Pcg32::new(1, 54);
-    for word in 0..DRAWN {
-        draw(inputs, word, &mut generator, &mut table);
-    }
-    Ok(table)
-}
-
-// Draws the vectors of a word.
-fn draw(inputs: u32, word: usize, generator: &mut Pcg32, table: &mut Words)
-    requires columns { length table.old.columns ≡ inputs }
-    requires word { word < table.old.words }
-    ensures columns { length table.new.columns ≡ inputs }
-    ensures words { table.new.words ≡ table.old.words }
-{
-    for input in 0..inputs {
-        table.set(input, word, generator.next_u64());
-    }
-}
-
-// Writes a vector to a bit of the first word.
-fn put_vector(vector: &Bits, inputs: u32, lane: u32, table: &mut Words)
-    requires places { length vector.now ≡ inputs }
-    requires columns { length table.old.columns ≡ inputs }
-    requires words { 0 < table.old.words }
-    requires lane { lane < 64 }
-    ensures columns { length table.new.columns ≡ inputs }
-    ensures words { table.new.words ≡ table.old.words }
-{
-    for input in 0..inputs {
-        let word = table.get(input, 0);
-        table.set(input, 0, with_bit(word, lane, vector.get(input as usize)));
-    }
-}
-
-// The word with another bit.
-fn with_bit(word: u64, lane: u32, bit: bool) -> u64
-    requires { lane < 64 }
-{
-    let mask = 1u64 << lane;
-    if bit { word | mask } else { word & !mask }
 }
