@@ -3,12 +3,11 @@ use Rattle.std.proofs.Common.{◌≡◌, List, [], refl, sym, subst, arith}
 use Rattle.net_core.specs.declared.graphs.Graphs.{Graphs}
 use Rattle.query_core.specs.Ledgers.{Ledgered}
 use Rattle.account_core.specs.declared.step.Ban.{Ban}
-use Rattle.account_core.specs.Oracles.{AreFacts, Known, Suits}
+use Rattle.account_core.specs.Oracles.{Known}
 use Rattle.match_search.specs.declared.state.State.{State}
 use Rattle.table_guess.specs.declared.trials.Trials.{Trials}
 use Rattle.table_guess.specs.Trials.{AreTrials}
 use Rattle.match_search.specs.States.{AreValid, HasServed, IsSearchState}
-use Rattle.match_search.proofs.ServeLemmas.{served_same}
 
 -- Nothing was found yet.
 pub record IsSearching (graphs : Graphs) (old now : Known) (before after : Ledgered) (book : List Ban) (state : State) (vectors : Trials) : Type 0 where
