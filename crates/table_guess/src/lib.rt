@@ -11,3 +11,6 @@ mod vectors;
 
 pub use guessing::guess;
 pub use trials::{Suspect, Trials};
+
+#[cfg(test)]
+mod tests;
