@@ -5,8 +5,8 @@ use Rattle.query_core.specs.Ledgers.{Ledgered}
 use Rattle.account_core.specs.declared.step.Ban.{Ban}
 use Rattle.account_core.specs.Oracles.{AreFacts, Known, Suits}
 use Rattle.match_search.specs.declared.state.State.{State}
-use Rattle.match_search.specs.declared.trials.Trials.{Trials}
-use Rattle.match_search.specs.Trials.{AreTrials}
+use Rattle.table_guess.specs.declared.trials.Trials.{Trials}
+use Rattle.table_guess.specs.Trials.{AreTrials}
 use Rattle.match_search.specs.States.{AreValid, HasServed, IsSearchState}
 use Rattle.match_search.proofs.ServeLemmas.{served_same}
 
@@ -17,11 +17,11 @@ pub record IsSearching (graphs : Graphs) (old now : Known) (before after : Ledge
   pub search : IsSearchState graphs book state
   pub trials : AreTrials graphs.first vectors
 
-pub searching_start : (graphs : Graphs) (known : Known) (ledger : Ledgered) (book : List Ban) (state : State) (trials : Trials) → AreFacts known.graphs known.facts → Suits known ledger → book ≡ [] → state ≡ record { held = []; levels = [] } → AreTrials graphs.first trials → IsSearching graphs known known ledger ledger book state trials
-searching_start graphs known ledger book state trials facts suits none is are = record {
+pub searching_start : (graphs : Graphs) (known now : Known) (ledger after : Ledgered) (book : List Ban) (state : State) (trials : Trials) → HasServed known now ledger after → book ≡ [] → state ≡ record { held = []; levels = [] } → AreTrials graphs.first trials → IsSearching graphs known now ledger after book state trials
+searching_start graphs known now ledger after book state trials served none is are = record {
   trials = are;
-  served = served_same known ledger facts suits;
-  valid = subst (AreValid graphs known) (sym none) (record { each = λ k d below. absurd (omega (arith, below)) });
+  served = served;
+  valid = subst (AreValid graphs now) (sym none) (record { each = λ k d below. absurd (omega (arith, below)) });
   search = subst (IsSearchState graphs book) (sym is) (record {
     pairs = record { known = λ k d below. absurd (omega (arith, below)); apart = λ i j d less below. absurd (omega (arith, below)) };
     tried = refl;

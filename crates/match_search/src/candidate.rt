@@ -7,13 +7,13 @@ ghost use Rattle.circuits.specs.Matches.{HavePorts};
 ghost use Rattle.match_search.specs.Founds.{AreLogs, IsComparison};
 ghost use Rattle.match_search.specs.Held.{IsWhole};
 ghost use Rattle.match_search.specs.States.{AreValid, IsAhead, IsSearchState};
-ghost use Rattle.match_search.specs.Trials.{AreTrials};
+ghost use Rattle.table_guess.specs.Trials.{AreTrials};
 
 use crate::ahead::Ahead;
 use crate::difference::exclude;
 use crate::state::State;
 use crate::table::table;
-use crate::trials::Trials;
+use table_guess::Trials;
 use account_core::{Compared, Oracle};
 use ban_book::BanBook;
 use bit_list::Bits;
@@ -68,8 +68,8 @@ pub(crate) fn compare_whole<O: Oracle>(
     }
 }
 
-// Compares the outputs in order, until one differs. The logs of those that agree come behind those given.
-fn compare_all<O: Oracle>(
+/// Compares the outputs in order, until one differs. The logs of those that agree come behind those given.
+pub(crate) fn compare_all<O: Oracle>(
     alloc: Global,
     graphs: &Graphs,
     oracle: &mut O,

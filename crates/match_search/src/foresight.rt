@@ -7,11 +7,11 @@ ghost use Rattle.ban_book.specs.Covering.{Covers};
 ghost use Rattle.word_sim.specs.declared.tri.Tri.{Tri as AnyTri};
 ghost use Rattle.match_search.specs.Held.{AreApart, AreHeld, IsPart};
 ghost use Rattle.match_search.specs.Levels.{HoldsMore};
-ghost use Rattle.match_search.specs.Trials.{AreTrials, IsSuspect};
+ghost use Rattle.table_guess.specs.Trials.{AreTrials, IsSuspect};
 
 use crate::cover::add_one;
 use crate::difference::{definite, is_wrong, leave_out, output_value};
-use crate::trials::{Suspect, Trials};
+use table_guess::{Suspect, Trials};
 use account_core::{Ban, Step};
 use ban_book::BanBook;
 use circuits::{Pair, PortKind};

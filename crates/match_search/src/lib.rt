@@ -9,14 +9,16 @@ mod cover;
 mod difference;
 mod foresight;
 mod found;
+mod guessed;
+mod guide;
 mod level;
 mod marks;
 mod needed;
 mod next_port;
-mod rails;
+mod reads;
+mod side;
 mod state;
 mod table;
-mod trials;
 mod tries;
 
 pub use branching::search;

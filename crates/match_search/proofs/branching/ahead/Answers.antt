@@ -13,7 +13,7 @@ pub returns-clause-valid : goal.returns-clause-valid
 returns-clause-valid g c = valid_holds _ c.args.graphs.now c.foresee.new.book c.descend.new.book c.in_ok-ahead.ensures.more (valid_holds _ c.args.graphs.now c.args.book.now c.foresee.new.book c.in_ok-ban.ensures.more c.requires.valid)
 
 pub compare_whole-requires-clause-whole : goal.compare_whole-requires-clause-whole
-compare_whole-requires-clause-whole g c = subst (IsWhole c.args.graphs.now) c.deref-3.ensures.value c.in_default-next_port.ensures.none
+compare_whole-requires-clause-whole g c = subst (IsWhole c.args.graphs.now) c.deref-4.ensures.value c.in_default-next_port.ensures.none
 
 pub returns-in_err-ban-clause-valid : goal.returns-in_err-ban-clause-valid
 returns-in_err-ban-clause-valid g c = valid_holds _ c.args.graphs.now c.args.book.now c.foresee.new.book c.in_err-ban.ensures.more c.requires.valid
