@@ -8,3 +8,6 @@ mod table;
 mod vectors;
 
 pub use table::TableOracle;
+
+#[cfg(test)]
+mod tests;

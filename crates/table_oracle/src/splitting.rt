@@ -22,9 +22,9 @@ use net_core::Graphs;
 use query_core::{Ledger, Query, QueryBase};
 use std::alloc::{AllocError, Global};
 
-/// Refutes a query that no vector meets. The vectors are excluded by the bits that they begin with: first all bits, then
-/// all but the last, and at last none. What an earlier clause excludes costs no line; each other beginning costs one, which
-/// follows from the clauses that exclude both ways to go on, or gate by gate where it has all bits.
+/// Refutes a query that no vector meets. The vectors are excluded by the bits that they begin with: first all bits,
+/// then all but the last, and at last none. What an earlier clause excludes costs no line; each other beginning costs
+/// one, which follows from the clauses that exclude both ways to go on, or gate by gate where it has all bits.
 pub(crate) fn refute(
     alloc: Global,
     graphs: &Graphs,
@@ -159,7 +159,8 @@ impl<'a> Splitting<'a> {
         self.hints_by_gates(alloc, bits)
     }
 
-    /// Hints by the clauses that exclude both ways to go on: one leaves the next input 1, and then the other is a conflict.
+    /// Hints by the clauses that exclude both ways to go on: one leaves the next input 1, and then the other is a
+    /// conflict.
     fn hints_by_halves(
         &self,
         alloc: Global,
@@ -198,8 +199,8 @@ impl<'a> Splitting<'a> {
         Ok(id)
     }
 
-    /// Hints by the query's clauses in their order, where all inputs have a bit: gate by gate, up to the output that hasn't
-    /// the value that is asked for.
+    /// Hints by the query's clauses in their order, where all inputs have a bit: gate by gate, up to the output that
+    /// hasn't the value that is asked for.
     fn hints_by_gates(&self, alloc: Global, bits: &[bool]) -> Result<Items<u64>, AllocError>
         requires splitting { IsSplitting self.now }
         requires all { length bits.now ≡ self.now.inputs }

@@ -25,9 +25,9 @@ use query_core::{Claim, Ledger, Query, of_match};
 use std::alloc::{AllocError, Global};
 use std::marker::Model;
 
-/// An oracle for tests, about two circuits of at most 12 inputs. It tries all vectors on each query. Where none meets it,
-/// it splits on one input after the other, and charges each line of the log that comes of it. Contracts see it as what it
-/// knows.
+/// An oracle for tests, about two circuits of at most 12 inputs. It tries all vectors on each query. Where none meets
+/// it, it splits on one input after the other, and charges each line of the log that comes of it. Contracts see it as
+/// what it knows.
 #[derive(Drop)]
 pub struct TableOracle<'a> {
     graphs: &'a Graphs,
