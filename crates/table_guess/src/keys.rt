@@ -5,14 +5,17 @@ ghost use Rattle.table_guess.specs.Trials.{AreTrials};
 
 use crate::bonds::{Bond, bonds_of, is_near};
 use crate::trials::Trials;
-use crate::vectors::MOST_WHOLE;
+use crate::vectors::{vectors, words_of_all};
 use circuits::{Pair, PortKind};
 use items::Items;
 use net_core::{Graph, Graphs};
 use std::alloc::{AllocError, Global};
 use word_sim::{Words, simulate};
 
-/// The most words of vectors that are counted; there are fewer.
+/// The most words that are computed of signals so that all vectors are counted.
+const MOST_WORDS: u64 = 1 << 29;
+
+/// The most words of vectors that are counted.
 const MOST_COUNTED: usize = 1 << 20;
 
 /// What is counted of a circuit's ports.
@@ -137,6 +140,12 @@ fn changes_of_input(alloc: Global, bonds: &[Bond]) -> Result<Items<u32>, AllocEr
     Ok(Items::from_vec(changes))
 }
 
+// Whether it is dear to count on so many words of vectors, with each input inverted.
+fn is_dear(graph: &Graph, words: usize) -> bool {
+    let each = (graph.signals() as u64).saturating_mul(words as u64);
+    each.saturating_mul(u64::from(graph.inputs()) + 1) > MOST_WORDS
+}
+
 /// What is counted of two circuits' ports, on how many vectors, and by how much counts of ports of a match may differ.
 #[derive(Debug, Drop)]
 pub(crate) struct Keys {
@@ -147,22 +156,36 @@ pub(crate) struct Keys {
 }
 
 impl Keys {
-    /// Counts on the vectors that pairs are tried on.
+    /// Counts on all vectors where that isn't dear, else on those that pairs are tried on.
     pub(crate) fn new(alloc: Global, graphs: &Graphs, trials: &Trials) -> Result<Keys, AllocError>
         requires same { graphs.now.first.inputs ≡ graphs.now.second.inputs }
         requires trials { AreTrials graphs.now.first trials.now }
     {
-        let vectors = trials.inputs.words().min(MOST_COUNTED) as u32 * 64;
-        let slack = if graphs.first.inputs() <= MOST_WHOLE {
-            0
-        } else {
-            vectors / 16
-        };
+        let inputs = graphs.first.inputs();
+        let words = words_of_all(inputs);
+        if is_dear(&graphs.first, words) || is_dear(&graphs.second, words) {
+            return Keys::count(alloc, graphs, &trials.inputs, 16);
+        }
+        let vectors = vectors(alloc, inputs, words)?;
+        Keys::count(alloc, graphs, &vectors, 0)
+    }
+
+    // Counts on vectors. Of 256 vectors, so many may be counted differently.
+    fn count(
+        alloc: Global,
+        graphs: &Graphs,
+        vectors: &Words,
+        slack: u32,
+    ) -> Result<Keys, AllocError>
+        requires first { length vectors.now.columns ≡ graphs.now.first.inputs }
+        requires second { length vectors.now.columns ≡ graphs.now.second.inputs }
+    {
+        let words = vectors.words().min(MOST_COUNTED) as u32;
         Ok(Keys {
-            first: PortKeys::new(alloc, &graphs.first, &trials.inputs)?,
-            second: PortKeys::new(alloc, &graphs.second, &trials.inputs)?,
-            vectors,
-            slack,
+            first: PortKeys::new(alloc, &graphs.first, vectors)?,
+            second: PortKeys::new(alloc, &graphs.second, vectors)?,
+            vectors: words * 64,
+            slack: (words / 4).saturating_mul(slack),
         })
     }
 

@@ -28,7 +28,10 @@ fn guesses_and_as_or(rt: HostRuntime) -> Result<(), Fail> {
     let alloc = rt.alloc();
     let first = and(alloc)?;
     let second = graph(alloc, 2, &[(5, 3)], &[7])?;
-    assert_eq!(rt; guesses_inverted(alloc, &Graphs { first, second })?, Some(true));
+    assert_eq!(rt;
+        guesses_inverted(alloc, &Graphs { first, second })?,
+        Some(true)
+    );
     Ok(())
 }
 

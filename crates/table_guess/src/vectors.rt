@@ -19,24 +19,29 @@ const ALTERNATING: [u64; 6] = [
     0xffff_ffff_0000_0000,
 ];
 
-/// The most inputs of which all vectors are taken.
-pub(crate) const MOST_WHOLE: u32 = 11;
-
 /// Vectors of so many inputs, 32 words at most: all of few inputs, else some that are drawn.
 pub(crate) fn first_vectors(alloc: Global, inputs: u32) -> Result<Words, AllocError>
     ensures { IfOk result (HasColumns inputs) }
 {
-    let words = words_for(inputs);
+    vectors(alloc, inputs, words_of_all(inputs).min(32))
+}
+
+/// So many words of vectors: all vectors where these are enough, else some that are drawn.
+pub(crate) fn vectors(alloc: Global, inputs: u32, words: usize) -> Result<Words, AllocError>
+    requires { 0 < words }
+    ensures { IfOk result (HasColumns inputs) }
+{
+    let whole = words == words_of_all(inputs);
     let mut table = Words::new(alloc, inputs, words)?;
     let mut generator = Pcg32::new(1, 54);
     for word in 0..words {
-        fill(inputs, word, &mut generator, &mut table);
+        fill(inputs, word, whole, &mut generator, &mut table);
     }
     Ok(table)
 }
 
-// How many words of vectors are taken.
-fn words_for(inputs: u32) -> usize
+/// How many words all vectors of so many inputs take, the greatest number where that is more.
+pub(crate) fn words_of_all(inputs: u32) -> usize
     ensures { 0 < result }
 {
     match inputs {
@@ -45,25 +50,31 @@ fn words_for(inputs: u32) -> usize
         8 => 4,
         9 => 8,
         10 => 16,
-        _ => 32,
+        11 => 32,
+        12 => 64,
+        13 => 128,
+        14 => 256,
+        15 => 512,
+        16 => 1024,
+        _ => usize::MAX,
     }
 }
 
 // Fills a word of each column.
-fn fill(inputs: u32, word: usize, generator: &mut Pcg32, table: &mut Words)
+fn fill(inputs: u32, word: usize, whole: bool, generator: &mut Pcg32, table: &mut Words)
     requires columns { length table.old.columns ≡ inputs }
     requires word { word < table.old.words }
     ensures columns { length table.new.columns ≡ inputs }
     ensures words { table.new.words ≡ table.old.words }
 {
     for input in 0..inputs {
-        table.set(input, word, bits_for(inputs, input, word, generator));
+        table.set(input, word, bits_for(input, word, whole, generator));
     }
 }
 
-// A word of an input: of all vectors of few inputs, or drawn.
-fn bits_for(inputs: u32, input: u32, word: usize, generator: &mut Pcg32) -> u64 {
-    if inputs <= MOST_WHOLE {
+// A word of an input: of all vectors, or drawn.
+fn bits_for(input: u32, word: usize, whole: bool, generator: &mut Pcg32) -> u64 {
+    if whole {
         numbered(input, word)
     } else {
         generator.next_u64()
