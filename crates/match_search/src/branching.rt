@@ -15,7 +15,7 @@ use crate::ahead::Ahead;
 use crate::candidate::compare_whole;
 use crate::foresight::foresee;
 use crate::found::Found;
-use crate::guessed::compare_guess;
+use crate::guessed::compare_guesses;
 use crate::guide::Guide;
 use crate::level::Level;
 use crate::next_port::next_port;
@@ -28,9 +28,10 @@ use net_core::Graphs;
 use query_core::Ledger;
 use std::alloc::{AllocError, Global};
 
-/// Looks for a match of two circuits with as many ports. A table that is guessed is compared first. Where it is no match,
-/// the ports are decided one by one, the outputs of whole tables are compared, and a ban is held for each table that is
-/// no match and for each port that has no way left. From a ban it goes back to the last port that the ban needs.
+/// Looks for a match of two circuits with as many ports. Tables that are guessed are compared first. Where none of them
+/// is a match, the ports are decided one by one, the outputs of whole tables are compared, and a ban is held for each
+/// table that is no match and for each port that has no way left. From a ban it goes back to the last port that the ban
+/// needs.
 ///
 /// The book's bans are valid in view of the oracle's facts, whatever is answered.
 ///
@@ -54,7 +55,7 @@ pub fn search<O: Oracle>(
 {
     let _facts = oracle.facts();
     let mut guide = Guide::new(alloc, graphs)?;
-    if let Some((table, logs)) = compare_guess(alloc, graphs, oracle, &mut guide.trials, ledger)? {
+    if let Some((table, logs)) = compare_guesses(alloc, graphs, oracle, &mut guide.trials, ledger)? {
         return Ok(Found::Match(table, logs));
     }
     let mut state = State::new(alloc);

@@ -7,7 +7,7 @@ use Rattle.match_search.proofs.ServeLemmas.{served_one, served_then, serves_ok, 
 use Rattle.match_search.proofs.branching.search.Goals as goal
 
 pub loop-state-init : goal.loop-state-init
-loop-state-init g c = searching_start c.args.graphs.now (g.O.Oracle.known c.args.oracle.now) (g.O.Oracle.known c.compare_guess.new.oracle) c.args.ledger.now c.compare_guess.new.ledger c.args.book.now c.new-state.result c.compare_guess.new.trials (served_one _ _ _ _ _ c.in_ok-table.ensures.serves) c.requires.book c.new-state.ensures c.in_ok-table.ensures.trials
+loop-state-init g c = searching_start c.args.graphs.now (g.O.Oracle.known c.args.oracle.now) (g.O.Oracle.known c.compare_guesses.new.oracle) c.args.ledger.now c.compare_guesses.new.ledger c.args.book.now c.new-state.result c.compare_guesses.new.trials (served_one _ _ _ _ _ c.in_ok-table.ensures.serves) c.requires.book c.new-state.ensures c.in_ok-table.ensures.trials
 
 pub turn-requires-clause-graphs : goal.turn-requires-clause-graphs
 turn-requires-clause-graphs g c = c.requires.graphs ∙ sym c.loop-state.invariant.served.grows.graphs
