@@ -1,6 +1,5 @@
 -- Pairs that are guessed one after another, each of a port whose ways are tried.
-use Rattle.std.specs.Prelude.{◌≡◌, ℕ, ◌<◌, List, All}
-use Rattle.circuits.specs.declared.port.Pair.{Pair}
+use Rattle.std.specs.Prelude.{◌<◌, All}
 use Rattle.net_core.specs.declared.graphs.Graphs.{Graphs}
 use Rattle.account_core.specs.Ports.{ports_in, IsKnown}
 use Rattle.table_guess.specs.declared.path.Turn.{Turn}

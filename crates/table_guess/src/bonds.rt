@@ -65,9 +65,12 @@ pub(crate) fn bonds_of(
     requires words { outputs.now.words ≡ vectors.now.words }
     requires input { input < graph.now.inputs }
 {
+    let mut bonds = Items::new(alloc);
+    if graph.outputs().is_empty() {
+        return Ok(bonds);
+    }
     let flipped = with_flipped(vectors, input)?;
     let changed = simulate(alloc, graph, &flipped)?;
-    let mut bonds = Items::new(alloc);
     for output in 0..graph.outputs().len() as u32 {
         bonds.push(count(vectors, outputs, &changed, output, input))?;
     }

@@ -7,18 +7,21 @@ ghost use Rattle.table_guess.specs.Paths.{IsPath, IsTurn};
 ghost use Rattle.table_guess.specs.Trials.{AreTrials};
 
 use crate::keys::Keys;
-use crate::path::{Path, Turn, next_turn, next_way, way};
+use crate::path::{Path, Turn, next_turn, next_way, ports_in, way};
 use crate::trials::Trials;
 use circuits::{Pair, PortKind};
 use items::Items;
-use net_core::{Graphs, Matching};
+use net_core::{Graph, Graphs, Matching};
 use std::alloc::{AllocError, Global};
 
 /// The most pairs that are tried.
 const MOST_STEPS: u64 = 20_000;
 
-/// How many words may be computed of signals.
+/// How many words may be computed of signals: for all pairs that are tried, and for all that is counted of the ports.
 const MOST_WORDS: u64 = 1 << 31;
+
+/// How often ways may be held against pairs.
+const MOST_WORK: u64 = 1 << 31;
 
 /// What a step of a guess comes to.
 enum Step {
@@ -31,8 +34,8 @@ enum Step {
 }
 
 /// A table that may be a match: its ports are alike by what is counted of them, and no output differs from its partner
-/// on the vectors of the trials. It is None where none is found in a bounded number of steps; so it says nothing of
-/// whether there is a match.
+/// on the vectors of the trials. It is None where none is found in a bounded number of steps, and for circuits of which it
+/// is dear to count; so it says nothing of whether there is a match.
 ///
 /// # Errors
 ///
@@ -47,9 +50,12 @@ pub fn guess(
     ensures { IfOk result (λ found. IfSome found
         (λ table. HavePorts graphs.now.first graphs.now.second table.inputs table.outputs)) }
 {
+    if is_dear(&graphs.first, trials) || is_dear(&graphs.second, trials) {
+        return Ok(None);
+    }
     let keys = Keys::new(alloc, graphs, trials)?;
-    let mut path = Path::new(alloc);
-    let Some(turn) = next_turn(graphs, &keys, &path.held) else {
+    let mut path = Path::new(alloc, graphs)?;
+    let Some(turn) = next_turn(graphs, &keys, &path) else {
         return table(alloc, graphs, &path.held);
     };
     path.turns.push(turn)?;
@@ -61,6 +67,12 @@ pub fn guess(
         }
     }
     Ok(None)
+}
+
+// Whether it is dear to count of a circuit's ports on the vectors of the trials, with each input inverted.
+fn is_dear(graph: &Graph, trials: &Trials) -> bool {
+    let words = (graph.signals() as u64).saturating_mul(trials.inputs.words() as u64);
+    words.saturating_mul(u64::from(graph.inputs()) + 1) > MOST_WORDS
 }
 
 // How many pairs are tried: fewer of large circuits.
@@ -82,20 +94,34 @@ fn advance(
     requires path { IsPath graphs.now path.old }
     ensures { OnOk result (IsPath graphs.now path.new) }
 {
+    if path.work > MOST_WORK {
+        return Ok(Step::Dead);
+    }
     let Some(turn) = path.turns.pop() else {
         return Ok(Step::Dead);
     };
-    let Some(number) = next_way(graphs, keys, turn, &path.held) else {
-        let _ = path.held.pop();
+    let found = next_way(graphs, keys, turn, path);
+    path.count(looked_at(graphs, turn, found));
+    let Some(number) = found else {
+        path.release();
         return Ok(Step::On);
     };
-    path.held.push(way(graphs, turn, number))?;
+    path.hold(way(graphs, turn, number))?;
     path.turns.push(Turn {
         kind: turn.kind,
         port: turn.port,
         tried: number.saturating_add(1),
     })?;
     go_on(alloc, graphs, trials, keys, path)
+}
+
+// How many ways of a port were looked at until one was found, or none.
+fn looked_at(graphs: &Graphs, turn: Turn, found: Option<u64>) -> u64 {
+    let last = match found {
+        Some(number) => number,
+        None => 2 * u64::from(ports_in(&graphs.first, turn.kind)),
+    };
+    last.saturating_sub(turn.tried).saturating_add(1)
 }
 
 // Goes on to the next port behind a new pair, or takes the pair back where a vector speaks against it.
@@ -111,10 +137,10 @@ fn go_on(
     ensures { OnOk result (IsPath graphs.now path.new) }
 {
     if trials.suspect(alloc, graphs, &path.held)?.is_some() {
-        let _ = path.held.pop();
+        path.release();
         return Ok(Step::On);
     }
-    let Some(next) = next_turn(graphs, keys, &path.held) else {
+    let Some(next) = next_turn(graphs, keys, path) else {
         return Ok(Step::Whole);
     };
     path.turns.push(next)?;

@@ -4,6 +4,7 @@
 mod bonds;
 mod guessing;
 mod keys;
+mod marks;
 mod path;
 mod rails;
 mod trials;

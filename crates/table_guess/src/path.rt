@@ -1,10 +1,11 @@
 //! Pairs that are guessed one after another.
 
-ghost use Rattle.std.specs.Prelude.{◌≡◌, ◌<◌, ◌*◌, [], ◌∷◌, ◌++◌, All, IfSome, OnOk};
+ghost use Rattle.std.specs.Prelude.{◌≡◌, ◌<◌, ◌*◌, ◌-◌, [], ◌∷◌, ◌++◌, IfOk, IfSome, OnOk, length, take};
 ghost use Rattle.account_core.specs.Ports.{HaveAsMany, IsKnown, ports_in};
-ghost use Rattle.table_guess.specs.Paths.{IsPath, IsTurn};
+ghost use Rattle.table_guess.specs.Paths.{IsTurn};
 
 use crate::keys::Keys;
+use crate::marks::Marks;
 use circuits::{Pair, PortKind};
 use items::Items;
 use net_core::{Graph, Graphs};
@@ -25,17 +26,63 @@ pub(crate) struct Turn {
 pub(crate) struct Path {
     pub(crate) turns: Items<Turn>,
     pub(crate) held: Items<Pair>,
+    /// The ports of either circuit that are in a held pair.
+    pub(crate) first: Marks,
+    pub(crate) second: Marks,
+    /// About how much was done so far.
+    pub(crate) work: u64,
 }
 
 impl Path {
     /// No pair is held.
-    pub(crate) fn new(alloc: Global) -> Path
-        ensures { result ≡ record { turns = []; held = [] } }
+    pub(crate) fn new(alloc: Global, graphs: &Graphs) -> Result<Path, AllocError>
+        ensures turns { IfOk result (λ path. path.turns ≡ []) }
+        ensures held { IfOk result (λ path. path.held ≡ []) }
     {
-        Path {
+        Ok(Path {
             turns: Items::new(alloc),
             held: Items::new(alloc),
+            first: Marks::new(alloc, &graphs.first)?,
+            second: Marks::new(alloc, &graphs.second)?,
+            work: 0,
+        })
+    }
+
+    /// Holds a pair.
+    pub(crate) fn hold(&mut self, pair: Pair) -> Result<(), AllocError>
+        ensures turns { OnOk result (self.new.turns ≡ self.old.turns) }
+        ensures held { OnOk result (self.new.held ≡ self.old.held ++ pair ∷ []) }
+    {
+        self.held.push(pair)?;
+        self.mark(pair, true);
+        Ok(())
+    }
+
+    /// Takes the last pair back.
+    pub(crate) fn release(&mut self)
+        ensures turns { self.new.turns ≡ self.old.turns }
+        ensures held { self.new.held ≡ take (length self.old.held - 1) self.old.held }
+    {
+        if let Some(pair) = self.held.pop() {
+            self.mark(pair, false);
         }
+    }
+
+    fn mark(&mut self, pair: Pair, mark: bool)
+        ensures turns { self.new.turns ≡ self.old.turns }
+        ensures held { self.new.held ≡ self.old.held }
+    {
+        self.first.mark(pair.kind, pair.from, mark);
+        self.second.mark(pair.kind, pair.to, mark);
+    }
+
+    /// Counts what was done to look at so many ways.
+    pub(crate) fn count(&mut self, ways: u64)
+        ensures turns { self.new.turns ≡ self.old.turns }
+        ensures held { self.new.held ≡ self.old.held }
+    {
+        let each = (self.held.len() as u64).saturating_add(1);
+        self.work = self.work.saturating_add(ways.saturating_mul(each));
     }
 }
 
@@ -71,7 +118,7 @@ pub(crate) fn way(graphs: &Graphs, turn: Turn, number: u64) -> Pair
 }
 
 /// The number of the next way of a port that clashes with no held pair and fits them by its keys.
-pub(crate) fn next_way(graphs: &Graphs, keys: &Keys, turn: Turn, held: &[Pair]) -> Option<u64>
+pub(crate) fn next_way(graphs: &Graphs, keys: &Keys, turn: Turn, path: &Path) -> Option<u64>
     requires ports { HaveAsMany graphs.now.first graphs.now.second }
     requires turn { IsTurn graphs.now turn }
     ensures { IfSome result (λ number. number < 2 * ports_in graphs.now.first turn.kind) }
@@ -79,7 +126,7 @@ pub(crate) fn next_way(graphs: &Graphs, keys: &Keys, turn: Turn, held: &[Pair]) 
     let ways = 2 * u64::from(ports_in(&graphs.first, turn.kind));
     for number in turn.tried..ways {
         let way = way(graphs, turn, number);
-        if is_free(way, held) && keys.fits(way, held) {
+        if is_free(way, path) && keys.fits(way, &path.held) {
             return Some(number);
         }
     }
@@ -87,34 +134,30 @@ pub(crate) fn next_way(graphs: &Graphs, keys: &Keys, turn: Turn, held: &[Pair]) 
 }
 
 // Whether a pair shares no port with held pairs.
-fn is_free(way: Pair, held: &[Pair]) -> bool {
-    !held.iter().any(|pair| share(*pair, way))
-}
-
-fn share(one: Pair, other: Pair) -> bool {
-    (one.kind == other.kind) & ((one.from == other.from) | (one.to == other.to))
+fn is_free(way: Pair, path: &Path) -> bool {
+    !(path.first.has(way.kind, way.from) | path.second.has(way.kind, way.to))
 }
 
 /// The next port that is in no pair: an input of the second circuit with which the partner of a held output changes,
 /// else an output of the first, in order, and at last an input of the second.
-pub(crate) fn next_turn(graphs: &Graphs, keys: &Keys, held: &[Pair]) -> Option<Turn>
+pub(crate) fn next_turn(graphs: &Graphs, keys: &Keys, path: &Path) -> Option<Turn>
     ensures { IfSome result (IsTurn graphs.now) }
 {
     let inputs = ports_in(&graphs.first, PortKind::Input);
-    for pair in held.iter() {
-        if let Some(turn) = input_read(inputs, keys, *pair, held) {
+    for pair in path.held.iter() {
+        if let Some(turn) = input_read(inputs, keys, *pair, &path.second) {
             return Some(turn);
         }
     }
     let outputs = ports_in(&graphs.first, PortKind::Output);
-    match first_free(outputs, PortKind::Output, held) {
+    match first_free(outputs, PortKind::Output, &path.first) {
         Some(turn) => Some(turn),
-        None => first_free(inputs, PortKind::Input, held),
+        None => first_free(inputs, PortKind::Input, &path.second),
     }
 }
 
 // One of so many inputs of the second circuit with which the second output of a pair changes.
-fn input_read(inputs: u32, keys: &Keys, pair: Pair, held: &[Pair]) -> Option<Turn>
+fn input_read(inputs: u32, keys: &Keys, pair: Pair, second: &Marks) -> Option<Turn>
     ensures kind { IfSome result (λ turn. turn.kind ≡ PortKind.Input) }
     ensures port { IfSome result (λ turn. turn.port < inputs) }
 {
@@ -122,7 +165,7 @@ fn input_read(inputs: u32, keys: &Keys, pair: Pair, held: &[Pair]) -> Option<Tur
         return None;
     }
     for input in 0..inputs {
-        if keys.reads(pair.to, input) && !is_held(PortKind::Input, input, held) {
+        if keys.reads(pair.to, input) && !second.has(PortKind::Input, input) {
             return Some(Turn {
                 kind: PortKind::Input,
                 port: input,
@@ -133,13 +176,13 @@ fn input_read(inputs: u32, keys: &Keys, pair: Pair, held: &[Pair]) -> Option<Tur
     None
 }
 
-// The first of so many ports of a kind that is in no pair.
-fn first_free(count: u32, kind: PortKind, held: &[Pair]) -> Option<Turn>
+// The first of so many ports of a kind that isn't marked.
+fn first_free(count: u32, kind: PortKind, marks: &Marks) -> Option<Turn>
     ensures kind { IfSome result (λ turn. turn.kind ≡ kind) }
     ensures port { IfSome result (λ turn. turn.port < count) }
 {
     for port in 0..count {
-        if !is_held(kind, port, held) {
+        if !marks.has(kind, port) {
             return Some(Turn {
                 kind,
                 port,
@@ -148,17 +191,4 @@ fn first_free(count: u32, kind: PortKind, held: &[Pair]) -> Option<Turn>
         }
     }
     None
-}
-
-// Whether an output of the first circuit, or an input of the second, is in a pair.
-fn is_held(kind: PortKind, port: u32, held: &[Pair]) -> bool {
-    held.iter().any(|pair| is_of(*pair, kind, port))
-}
-
-fn is_of(pair: Pair, kind: PortKind, port: u32) -> bool {
-    let of_pair = match kind {
-        PortKind::Input => pair.to,
-        PortKind::Output => pair.from,
-    };
-    (pair.kind == kind) & (of_pair == port)
 }

@@ -73,6 +73,9 @@ impl Trials {
         requires known { All (IsKnown graphs.now) held.now }
         ensures { IfOk result (λ found. IfSome found (IsSuspect graphs.now held.now)) }
     {
+        if !have_output(held) {
+            return Ok(None);
+        }
         for word in 0..self.inputs.words() {
             if let Some(found) = self.suspect_in(alloc, graphs, held, word)? {
                 return Ok(Some(found));
@@ -118,6 +121,14 @@ impl Trials {
         let bits = self.inputs.vector(alloc, word, lane)?;
         Bits::from_slice(alloc, &bits)
     }
+}
+
+fn have_output(pairs: &[Pair]) -> bool {
+    pairs.iter().any(|pair| is_of_output(*pair))
+}
+
+fn is_of_output(pair: Pair) -> bool {
+    pair.kind == PortKind::Output
 }
 
 // The first vector of a word on which the partner of an output is known and wrong.
