@@ -55,7 +55,13 @@ pub fn search<O: Oracle>(
 {
     let _facts = oracle.facts();
     let mut guide = Guide::new(alloc, graphs)?;
-    if let Some((table, logs)) = compare_guesses(alloc, graphs, oracle, &mut guide.trials, ledger)? {
+    if let Some((table, logs)) = compare_guesses(
+        alloc,
+        graphs,
+        oracle,
+        &mut guide.trials,
+        ledger,
+    )? {
         return Ok(Found::Match(table, logs));
     }
     let mut state = State::new(alloc);

@@ -13,7 +13,6 @@ use crate::ahead::Ahead;
 use crate::difference::exclude;
 use crate::state::State;
 use crate::table::table;
-use table_guess::Trials;
 use account_core::{Compared, Oracle};
 use ban_book::BanBook;
 use bit_list::Bits;
@@ -22,6 +21,7 @@ use items::Items;
 use net_core::{Graphs, Matching};
 use query_core::Ledger;
 use std::alloc::Global;
+use table_guess::Trials;
 
 /// An output that differs from its partner, and a vector on which it does.
 #[derive(Debug, Drop)]

@@ -11,13 +11,13 @@ ghost use Rattle.table_guess.specs.Trials.{AreTrials, IsSuspect};
 
 use crate::cover::add_one;
 use crate::difference::{definite, is_wrong, leave_out, output_value};
-use table_guess::{Suspect, Trials};
 use account_core::{Ban, Step};
 use ban_book::BanBook;
 use circuits::{Pair, PortKind};
 use items::{Few, Items};
 use net_core::Graphs;
 use std::alloc::{AllocError, Global};
+use table_guess::{Suspect, Trials};
 use word_sim::Tri;
 
 #[tactic(auto, using(crate::proofs::BookLemmas::holds_none))]

@@ -4,10 +4,10 @@ ghost use Rattle.std.specs.Prelude.{IfOk};
 ghost use Rattle.table_guess.specs.Trials.{AreTrials};
 
 use crate::reads::reads;
-use table_guess::Trials;
 use items::Items;
 use net_core::Graphs;
 use std::alloc::{AllocError, Global};
+use table_guess::Trials;
 
 /// What a search goes by: vectors that pairs are tried on, and for each output of the second circuit the inputs that it
 /// reads.
