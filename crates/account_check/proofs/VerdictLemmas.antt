@@ -277,6 +277,10 @@ refusal_told account entry record_stop told reject is =
     no_memory : (s : RecordStop) (r : Reject) → s ≡ stop.Reject r → ◌≡◌ {A = Result (Unit {0}) RecordStop} (Err s) (Err stop.Memory) → ⊥
     no_memory s r e m = cc
 
+-- Whatever the text and the circuits are, an account that was under check still is.
+pub record StaysUnderCheck (reading : Reading) (account : Account) (now : Reading) (account_now : Account) : Type 0 where
+  pub stays : (graphs : Graphs) (bytes : List ℕ) → IsChecking graphs bytes reading account → IsChecking graphs bytes now account_now
+
 -- a check before its first record
 pub begun : (graphs : Graphs) (bytes : List ℕ) (reading : Reading) (account : Account) → HasRead reading bytes [] → reading.finished ≡ true → reading.fault ≡ None → account ≡ empty_account graphs → IsChecking graphs bytes reading account
 begun graphs bytes reading account read finished no_fault is = record {

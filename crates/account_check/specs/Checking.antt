@@ -1,5 +1,5 @@
 -- How far the check of an account's whole bytes has come.
-use Rattle.std.specs.Prelude.{◌≡◌, ℕ, Bool, true, false, List, None, Result, Ok, Err}
+use Rattle.std.specs.Prelude.{◌≡◌, ℕ, Bool, true, false, List, [], None, Result, Ok, Err}
 use Rattle.net_core.specs.declared.graphs.Graphs.{Graphs}
 use Rattle.account_file.specs.declared.record.Record.{Record}
 use Rattle.account_file.specs.declared.fault.FileStop.{FileStop}
@@ -14,6 +14,12 @@ use Rattle.account_check.specs.declared.verdict.CheckStop.TheVariants.{Rejected,
 use Rattle.account_check.specs.Accounts.{Account, account_after}
 use Rattle.account_check.specs.Accounts.{AreValid}
 use Rattle.account_check.specs.Verdicts.{IsRejected}
+
+-- A whole text came to a reader, and none of it was read.
+pub record IsFed (bytes : List ℕ) (reading : Reading) : Type 0 where
+  pub read : HasRead reading bytes []
+  pub finished : reading.finished ≡ true
+  pub no_fault : reading.fault ≡ None
 
 -- Some records of a whole text were read and taken, without a fault.
 pub record IsChecking (graphs : Graphs) (bytes : List ℕ) (reading : Reading) (account : Account) : Type 0 where

@@ -10,7 +10,7 @@ ghost use Rattle.account_check.specs.declared.verdict.Verdict.{Verdict as AnyVer
 ghost use Rattle.account_check.specs.declared.verdict.Verdict.TheVariants as verdict;
 ghost use Rattle.account_check.specs.declared.verdict.Why.{Why as Reason};
 ghost use Rattle.account_check.specs.Accounts.{verdict_of};
-ghost use Rattle.account_check.specs.Checking.{refused, unread, Goes, IsChecking, IsUnderCheck};
+ghost use Rattle.account_check.specs.Checking.{refused, unread, Goes, IsChecking, IsFed, IsUnderCheck};
 ghost use Rattle.account_check.specs.Verdicts.{IsAccepted, IsRejected, IsVerdict};
 
 use crate::checker::Checker;
@@ -44,12 +44,46 @@ fn verdict_on(alloc: Global, graphs: &Graphs, account: &[u8]) -> Result<Verdict,
     ensures proved { (matching : Table) → result ≡ Ok (verdict.Match matching)
         → IsMatchOfFunctions graphs.now.first graphs.now.second matching.inputs matching.outputs }
 {
+    let mut reader = reader_of(alloc, account)?;
+    verdict_by(alloc, graphs, &mut reader)
+}
+
+// A reader that a whole account came to.
+fn reader_of(alloc: Global, account: &[u8]) -> Result<Reader, AllocError>
+    ensures { IfOk result (IsFed account.now) }
+{
     let mut reader = Reader::new(alloc);
     reader.feed(account)?;
     reader.finish();
+    Ok(reader)
+}
+
+// The verdict of the account that came to a reader.
+fn verdict_by(alloc: Global, graphs: &Graphs, reader: &mut Reader) -> Result<Verdict, CheckStop>
+    requires { (bytes : List ℕ) × IsFed bytes reader.old }
+    ensures verdict { (bytes : List ℕ) → IsFed bytes reader.old → IsVerdict graphs.now bytes result }
+    ensures proved { (matching : Table) → result ≡ Ok (verdict.Match matching)
+        → IsMatchOfFunctions graphs.now.first graphs.now.second matching.inputs matching.outputs }
+{
     let mut checker = Checker::new(alloc, graphs)?;
-    while take_next(alloc, &mut reader, &mut checker)? {}
-    Ok(ended(alloc, &checker)?)
+    verdict_behind(alloc, reader, &mut checker)
+}
+
+// The verdict of an account of which some records were taken.
+fn verdict_behind(
+    alloc: Global,
+    reader: &mut Reader,
+    checker: &mut Checker<'_>,
+) -> Result<Verdict, CheckStop>
+    requires { IsUnderCheck reader.old checker.old }
+    ensures verdict { (graphs : TwoGraphs) (bytes : List ℕ) → IsChecking graphs bytes reader.old checker.old
+        → IsVerdict graphs bytes result }
+    ensures proved { (graphs : TwoGraphs) (bytes : List ℕ) (matching : Table)
+        → IsChecking graphs bytes reader.old checker.old → result ≡ Ok (verdict.Match matching)
+        → IsMatchOfFunctions graphs.first graphs.second matching.inputs matching.outputs }
+{
+    while take_next(alloc, reader, checker)? {}
+    Ok(ended(alloc, checker)?)
 }
 
 // Takes the next record, and tells whether there was one.
