@@ -55,7 +55,23 @@ wants 2 'rejected line 3 refutation' check a.aag a.aig a-b.account
 wants 5 'absent account' check a.aag b.aag absent.account
 wants 5 'absent first' check absent.aag b.aag a-b.account
 wants 5 'malformed second 27 0' check a.aag a-b.account a-b.account
-wants 4 'usage' match a.aag b.aag a-b.account
+# what match writes is accepted; where it has no answer it writes nothing
+wants 0 'matched' match a.aag b.aag made.account
+wants 0 'accepted match' check a.aag b.aag made.account
+wants 0 'matched' match oai221.blif oai221_lost.blif made.account
+wants 0 'accepted match' check oai221.blif oai221_lost.blif made.account
+wants 0 'matched' match c17.blif c17_moved.aig made.account
+wants 0 'accepted match' check c17.blif c17_moved.aig made.account
+wants 1 'no matching' match and.blif xor.blif made.account
+wants 1 'accepted refusal' check and.blif xor.blif made.account
+wants 1 'no matching' match and.blif c17.blif made.account
+wants 1 'accepted refusal' check and.blif c17.blif made.account
+wants 3 'spent 0' match a.aag b.aag unwritten.account 0
+wants 5 'absent second' match a.aag absent.aag unwritten.account
+wants 5 'absent account' check a.aag b.aag unwritten.account
+wants 4 'usage' match a.aag b.aag a.aag
+wants 4 'usage' match a.aag b.aag made.account 1 2 3
+wants 6 '' match a.aag b.aag folder
 wants 4 'usage'
 wants 4 'usage' info c17.blif 18446744073709551616
 wants 6 'read fault' check folder b.aag a-b.account
