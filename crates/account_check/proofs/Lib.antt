@@ -1,6 +1,4 @@
-pub mod BoolLemmas
 pub mod TestLemmas
-pub mod PortLemmas
 pub mod LogLemmas
 pub mod PairLemmas
 pub mod FaultLemmas
@@ -9,7 +7,3 @@ pub mod AccountLemmas
 pub mod RightLemmas
 pub mod RefusalLemmas
 pub mod AfterLemmas
-pub mod AscentLemmas
-pub mod CountLemmas
-pub mod TallyLemmas
-pub mod CoverLemmas

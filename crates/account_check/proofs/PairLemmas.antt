@@ -1,5 +1,5 @@
 -- How many logs a match asks for.
-use Rattle.std.proofs.Common.{◌≡◌, ℕ, zero, suc, ◌+◌, ◌-◌, ◌<◌, ◌≤◌, false, List, length, map, take, drop, Some, IsSome, refl, sym, ap, ◌∙◌, arith}
+use Rattle.std.proofs.Common.{◌≡◌, ℕ, zero, suc, ◌+◌, ◌<◌, ◌≤◌, false, List, length, map, take, drop, refl, sym, ap, ◌∙◌, arith}
 use Rattle.std.specs.Prelude.{count_by}
 use Rattle.std.proofs.lemmas.List.{get_or-take, get_or-drop, length-take, length-map}
 use Rattle.std.proofs.lemmas.List.Sums.{count_by_more_no, count_by_more_yes}
@@ -8,7 +8,6 @@ use Rattle.std.proofs.Math.Seq.{take-length}
 use Rattle.circuits.specs.declared.port.Pair.{Pair}
 use Rattle.circuits.specs.declared.port.PortKind.TheVariants.{Input}
 use Rattle.circuits.specs.Netlists.{Net}
-use Rattle.net_core.specs.declared.matching.Matching.{Matching}
 use Rattle.account_file.specs.Order.{is_output, is_output_kind}
 use Rattle.account_check.specs.Conclusions.{entry_of, matching_of, AreInOrder}
 

@@ -1,5 +1,5 @@
 -- Valid records keep an account right: facts are true, bans exclude, and a refusal that it concludes in is one.
-use Rattle.std.proofs.Common.{◌≡◌, ℕ, zero, suc, ◌≤◌, ◌++◌, ◌||◌, Bool, true, false, List, [], ◌∷◌, length, take, get_or, Option, None, Some, refl, sym, ap, subst, ◌∙◌, inl, inr, arith, if◌then◌else◌}
+use Rattle.std.proofs.Common.{◌≡◌, ℕ, zero, suc, ◌≤◌, ◌++◌, ◌||◌, Bool, true, false, List, [], ◌∷◌, length, take, get_or, Option, None, Some, refl, sym, ap, subst, ◌∙◌, arith, if◌then◌else◌}
 use Rattle.std.specs.List.{list_any}
 use Rattle.std.proofs.lemmas.List.Elements.{All-nil, All-push}
 use Rattle.std.proofs.lemmas.List.Folds.{list_any-append}
@@ -8,7 +8,7 @@ use Rattle.circuits.specs.declared.port.Pair.{Pair}
 use Rattle.cnf_core.specs.declared.fault.LineFault.{LineFault}
 use Rattle.cnf_core.specs.declared.literal.SatLit.{SatLit}
 use Rattle.cnf_core.specs.declared.log.LogLine.{LogLine}
-use Rattle.cnf_core.specs.Derivations.{is_empty, line_fault}
+use Rattle.cnf_core.specs.Derivations.{is_empty}
 use Rattle.cnf_core.proofs.DerivationLaws.{refuted_unmet}
 use Rattle.net_core.specs.declared.graphs.Graphs.{Graphs}
 use Rattle.net_core.specs.declared.matching.Matching.{Matching}
@@ -26,11 +26,10 @@ use Rattle.query_core.proofs.AssignmentLemmas.{assignment_there}
 use Rattle.query_core.proofs.ClaimQueryLemmas.{claim_query_fits, holds-unmet}
 use Rattle.account_core.specs.declared.conclusion.Conclusion.{Conclusion}
 use Rattle.account_core.specs.declared.conclusion.Conclusion.TheVariants as conclusion
-use Rattle.account_core.specs.declared.fact.FactHead.{FactHead}
 use Rattle.account_core.specs.declared.fact.FactHead.TheVariants as head
 use Rattle.account_core.specs.declared.step.Ban.{Ban}
 use Rattle.account_core.specs.Exclusions.{AreRight, Excludes}
-use Rattle.account_core.specs.Given.{Given, IsBanGiven, IsTrueFact, ban_at, decided}
+use Rattle.account_core.specs.Given.{Given, IsTrueFact, decided}
 use Rattle.account_core.specs.Steps.{IsValidBan}
 use Rattle.account_core.proofs.StepLemmas.{ban_contradicts, no_pairs, other_counts}
 use Rattle.account_file.specs.declared.place.Place.{Place}
@@ -40,13 +39,13 @@ use Rattle.account_check.specs.declared.reject.Reject.{Reject}
 use Rattle.account_check.specs.declared.reject.Reject.TheVariants as reject
 use Rattle.account_check.specs.declared.verdict.Verdict.{Verdict}
 use Rattle.account_check.specs.declared.verdict.Verdict.TheVariants as verdict
-use Rattle.account_check.specs.Logs.{OpenFact, Proof, fact_reject, line_reject, refutation_of, with_ban, with_fact}
+use Rattle.account_check.specs.Logs.{OpenFact, line_reject, refutation_of, with_ban, with_fact}
 use Rattle.account_check.specs.Accounts.{Account, account_after, after, behind, behind_conclusion, behind_line, empty_account, HasFault}
 use Rattle.account_check.specs.Bans.{BanTests}
 use Rattle.account_check.specs.Conclusions.{ConclusionTests}
 use Rattle.account_check.specs.Facts.{AreInputs, ArePortsThere, ClaimTests, FactTests, IsLesserFirst}
 use Rattle.account_check.specs.Proofs.{IsLogSoFar}
-use Rattle.account_check.specs.Rightness.{IsBeingShown, IsOpenFact, IsRight}
+use Rattle.account_check.specs.Rightness.{IsOpenFact, IsRight}
 use Rattle.account_check.specs.Tests.{Passed, Unless}
 use Rattle.account_check.specs.Accounts.{AreValid}
 use Rattle.account_check.proofs.LogLemmas.{log_begun, log_more, refuted_by}

@@ -1,5 +1,5 @@
 -- Tests in their order: they tell one fault, and where they tell none, all are passed.
-use Rattle.std.proofs.Common.{◌≡◌, ◌⊎◌, Option, None, Some, inl, inr, refl, sym, ◌∙◌}
+use Rattle.std.proofs.Common.{◌≡◌, ◌⊎◌, Option, None, Some, inl, inr, sym, ◌∙◌}
 use Rattle.account_check.specs.declared.reject.Reject.{Reject}
 use Rattle.account_check.specs.Tests.{Passed, Unless}
 

@@ -6,8 +6,6 @@ pub mod Logs
 pub mod Accounts
 pub mod Verdicts
 pub mod Words
-pub mod Counted
-pub mod Kept
 pub mod Proofs
 pub mod Stages
 pub mod Rightness
@@ -16,6 +14,7 @@ pub use Rattle.account_core.specs.Exclusions
 pub use Rattle.account_core.specs.Given
 pub use Rattle.account_core.specs.Steps
 pub use Rattle.account_file.specs.Order
+pub use Rattle.ban_check.specs.Counted
 pub use Rattle.circuits.specs.Bijections
 pub use Rattle.circuits.specs.Matches
 pub use Rattle.cnf_core.specs.Derivations

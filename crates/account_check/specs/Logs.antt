@@ -1,6 +1,5 @@
--- What was given so far, and the logs of facts and matches, line by line.
-use Rattle.std.specs.Prelude.{ℕ, ◌+◌, ◌*◌, ◌/◌, ◌%◌, ◌==◌, Bool, List, [], ◌∷◌, ◌++◌, length, Option, None, Some, if◌then◌else◌}
-use Rattle.circuits.specs.declared.port.Pair.{Pair}
+-- The logs of facts and matches, line by line.
+use Rattle.std.specs.Prelude.{ℕ, ◌+◌, ◌*◌, ◌/◌, ◌%◌, ◌==◌, List, [], ◌∷◌, ◌++◌, length, Option, None, Some, if◌then◌else◌}
 use Rattle.cnf_core.specs.declared.literal.SatLit.{SatLit}
 use Rattle.cnf_core.specs.declared.log.LogLine.{LogLine}
 use Rattle.cnf_core.specs.declared.fault.LineFault.{LineFault}
@@ -12,16 +11,9 @@ use Rattle.query_core.specs.declared.query.Query.{Query}
 use Rattle.query_core.specs.ClaimQueries.{claim_query}
 use Rattle.query_core.specs.Formulas.{formula_of}
 use Rattle.query_core.specs.MatchQueries.{match_query}
-use Rattle.account_core.specs.Given.{Given, decided}
+pub use Rattle.ban_check.specs.More.{with_ban, with_fact}
 use Rattle.account_check.specs.declared.reject.Reject.{Reject}
 use Rattle.account_check.specs.declared.reject.Reject.TheVariants as reject
-
--- one fact more, and one ban more
-abbrev pub with_fact : Given → Claim → Bool → Given
-with_fact given claim holds = record { facts = given.facts ++ decided claim holds ∷ []; bans = given.bans }
-
-abbrev pub with_ban : Given → List Pair → Given
-with_ban given pairs = record { facts = given.facts; bans = given.bans ++ pairs ∷ [] }
 
 -- A claim that is said to hold, and the clauses of the lines of its log so far.
 pub record OpenFact : Type 0 where

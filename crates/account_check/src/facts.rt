@@ -5,9 +5,8 @@ ghost use Rattle.account_core.specs.declared.fact.FactHead.TheVariants as head;
 ghost use Rattle.account_check.specs.Conclusions.{PortsTest};
 ghost use Rattle.account_check.specs.Facts.{AreInputs, ArePortsThere, FactTests, IsLesserFirst};
 
-use crate::breaking::breaks;
-use crate::ports::have_as_many;
 use crate::reject::Reject;
+use ban_check::{breaks, have_as_many};
 use bit_list::Bits;
 use net_core::Graphs;
 use query_core::{Claim, Shape};

@@ -3,23 +3,15 @@
 //! each output prove it; or that there is no match, since a ban has no pairs or the circuits have other numbers of ports.
 #![tactic(auto)]
 
-mod ascent;
 mod bans;
-mod breaking;
 mod checker;
-mod covers;
 mod fact_log;
 mod facts;
-mod given;
 mod laws;
 mod logs;
-mod mismatches;
 mod open_log;
 mod pairs;
-mod ports;
 mod reject;
-mod tallies;
-mod vectors;
 mod verdict;
 mod whole_account;
 

@@ -7,9 +7,8 @@ ghost use Rattle.account_check.specs.Conclusions.{entry_of, matching_of, AreInOr
 ghost use Rattle.account_check.specs.declared.reject.RecordStop.TheVariants as stop;
 ghost use Rattle.account_check.specs.declared.reject.Reject.{Reject as AnyReject};
 
-use crate::given::Given;
-use crate::ports::{are_known, have_as_many};
 use crate::reject::{RecordStop, Reject};
+use ban_check::{Given, are_known, have_as_many};
 use circuits::{Pair, PortKind};
 use items::Items;
 use net_core::{Graph, Graphs, Matching};

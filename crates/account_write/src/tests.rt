@@ -1,5 +1,7 @@
 //! Accounts that are written out by hand.
 
+ghost use Rattle.std.specs.Prelude.{◌≡◌, IfOk, length};
+
 use crate::{put_end, put_match, put_none_ports, put_refusal};
 use account_core::{Ban, Evidence, Fact, Step};
 use bit_list::Bits;
@@ -12,7 +14,10 @@ use std::alloc::{AllocError, Global};
 use std::test::Fail;
 
 /// Input 0 goes to input 1, input 1 to input 0 inverted, and the output to the output inverted.
-fn crossed(alloc: Global) -> Result<Matching, AllocError> {
+fn crossed(alloc: Global) -> Result<Matching, AllocError>
+    ensures inputs { IfOk result (λ matching. length matching.inputs ≡ 2) }
+    ensures outputs { IfOk result (λ matching. length matching.outputs ≡ 1) }
+{
     Ok(Matching {
         inputs: Items::from_slice(alloc, &[(1, false), (0, true)])?,
         outputs: Items::from_slice(alloc, &[(0, true)])?,

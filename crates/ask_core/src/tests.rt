@@ -7,7 +7,7 @@ use crate::{Answer, ask};
 use cnf_core::{Log, Stop};
 use items::Items;
 use net_core::{Gate, Graph, Graphs, Lit, Side, lit_value};
-use query_core::{Cone, Feed, Ledger, Query, QueryBase};
+use query_core::{Cone, Feed, Feeds, Ledger, Query, QueryBase};
 use rand_core::utils::NextWord;
 use rand_pcg::Pcg32;
 use refute_check::Refuter;
@@ -38,11 +38,11 @@ fn is_wired(inputs: u32, feed: Feed) -> bool
     }
 }
 
-fn are_wired(inputs: u32, feed: &[Feed]) -> bool
-    ensures { IsTrue result → All (IsWired inputs) feed.now }
+fn are_wired(inputs: u32, feeds: &Feeds) -> bool
+    ensures { IsTrue result → All (IsWired inputs) feeds.now }
 {
-    for entry in feed.iter() {
-        if !is_wired(inputs, *entry) {
+    for input in 0..feeds.len() {
+        if !is_wired(inputs, feeds.get(input)) {
             return false;
         }
     }
@@ -81,7 +81,7 @@ fn cone_of(alloc: Global, side: Side, inputs: u32, fixed: &[bool]) -> Result<Con
     Ok(Cone {
         side,
         output: 0,
-        feed,
+        feed: Feeds::from_items(feed),
     })
 }
 

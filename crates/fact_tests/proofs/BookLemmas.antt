@@ -463,8 +463,8 @@ module _ (graphs : Graphs) (facts : List Fact) (kept : List Kept) (query : Query
   kept_more answer later keeps answer_is more =
       subst (All (IsKept graphs)) (sym more) (All-push (IsKept graphs) kept (record { query = query; answer = answer }) keeps (record { of_match = match_here; answer = answer_is }))
 
-  pub answer_ok : {X : Type 0} (before after : Ledgered) (answer : Answer) (later : List Kept) (x : X) → IsAsked graphs query before after → after.spent ≡ false → Suits known before → later ≡ kept ++ record { query = query; answer = answer } ∷ [] → Serves {X = X} known (known_by graphs facts later) before after (Ok x)
-  answer_ok {X} before after answer later x asked unspent suits more =
+  pub answer_ok : {X : Type 0} (before after : Ledgered) (answer : Answer) (later : List Kept) (x : X) → IsDecided graphs query before after → after.spent ≡ false → Suits known before → later ≡ kept ++ record { query = query; answer = answer } ∷ [] → Serves {X = X} known (known_by graphs facts later) before after (Ok x)
+  answer_ok {X} before after answer later x decided unspent suits more =
       let entry : Kept = record { query = query; answer = answer } in
       let grows : Grows (known_by graphs facts kept) (known_by graphs facts later) = record {
         graphs = refl;
@@ -475,7 +475,7 @@ module _ (graphs : Graphs) (facts : List Fact) (kept : List Kept) (query : Query
       } in
       let answered : IsAnswered (known_by graphs facts later) query = subst (λ (ks : List Kept). IsAnswered (known_by graphs facts ks) query) (sym more) (new_kept graphs facts kept entry) in
       let suits_here = subst (λ (k : Known). Suits k before) (sym is) suits in
-      let serves = serves_decided {X = X} (known_by graphs facts kept) (known_by graphs facts later) query before after x grows answered missing_there (inr match_here) (inr asked) unspent suits_here in
+      let serves = serves_decided {X = X} (known_by graphs facts kept) (known_by graphs facts later) query before after x grows answered missing_there (inr match_here) decided unspent suits_here in
       subst (λ (k : Known). Serves {X = X} k (known_by graphs facts later) before after (Ok x)) is serves
 
   pub answer_stopped : {X : Type 0} (before after : Ledgered) (stop : Stop) → Suits known before → IsHalted graphs query before after stop → Serves {X = X} known known before after (Err stop)

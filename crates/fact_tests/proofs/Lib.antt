@@ -1,13 +1,13 @@
-mod AnswerLemmas
-mod NumberLemmas
-mod EqualLemmas
-mod WorkLemmas
-mod SupportLemmas
-mod StructureLemmas
-mod ConeLemmas
-mod AskingLemmas
-mod BookLemmas
-mod MatchBits
+pub mod AnswerLemmas
+pub mod NumberLemmas
+pub mod EqualLemmas
+pub mod WorkLemmas
+pub mod SupportLemmas
+pub mod StructureLemmas
+pub mod ConeLemmas
+pub mod AskingLemmas
+pub mod BookLemmas
+pub mod MatchBits
 pub mod Serving
 pub mod ClaimFacts
 pub mod RowLemmas

@@ -12,7 +12,7 @@ use std::marker::Model;
 /// Queries with their answers, found by the query. Contracts see it as the list of both, in the order in which they
 /// were answered.
 #[derive(Drop)]
-pub(crate) struct AnswerMap {
+pub struct AnswerMap {
     answers: IndexMap<Query, Answer>,
 }
 
@@ -27,7 +27,7 @@ impl Model for AnswerMap {
 
 impl AnswerMap {
     /// No answers.
-    pub(crate) fn new(alloc: Global) -> AnswerMap
+    pub fn new(alloc: Global) -> AnswerMap
         ensures { result ≡ [] }
     {
         AnswerMap {
@@ -36,7 +36,7 @@ impl AnswerMap {
     }
 
     /// The answer of a query, where it is among those that were answered.
-    pub(crate) fn get(&self, query: &Query) -> Option<&Answer>
+    pub fn get(&self, query: &Query) -> Option<&Answer>
         ensures found { IfSome result (λ answer.
             Contains self.now (record { query = query.now; answer = answer.now })) }
         ensures none { IfNone result (All (λ entry. entry.query ≢ query.now) self.now) }
@@ -45,7 +45,7 @@ impl AnswerMap {
     }
 
     /// Adds the answer of a query that has none. A refusal changes nothing.
-    pub(crate) fn add(&mut self, query: Query, answer: Answer) -> Result<(), AllocError>
+    pub fn add(&mut self, query: Query, answer: Answer) -> Result<(), AllocError>
         requires { All (λ entry. entry.query ≢ query) self.old }
         ensures added { OnOk result (self.new ≡ self.old ++ record { query = query; answer = answer } ∷ []) }
         ensures refused { OnErr result (self.new ≡ self.old) }
@@ -56,7 +56,7 @@ impl AnswerMap {
 }
 
 /// An equal answer.
-pub(crate) fn copied(alloc: Global, answer: &Answer) -> Result<Answer, AllocError>
+pub fn copied(alloc: Global, answer: &Answer) -> Result<Answer, AllocError>
     ensures { IfOk result (λ copy. copy ≡ answer.now) }
 {
     match answer {

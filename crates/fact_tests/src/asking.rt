@@ -76,9 +76,7 @@ fn line_of_outputs(alloc: Global, gates: u64) -> Result<LogLine, AllocError>
         ≡ record { clause = []; hints = (1 + 6 * gates) ∷ (1 + 6 * gates + 1) ∷ [] }) }
 {
     let first = 1 + 6 * gates;
-    let mut hints = Items::new(alloc);
-    hints.push(first)?;
-    hints.push(first + 1)?;
+    let hints = Items::from_slice(alloc, &[first, first + 1])?;
     Ok(LogLine {
         clause: Items::new(alloc),
         hints,
@@ -89,7 +87,7 @@ fn line_of_outputs(alloc: Global, gates: u64) -> Result<LogLine, AllocError>
 fn log_of(alloc: Global, line: LogLine) -> Result<Log, AllocError>
     ensures { IfOk result (λ log. log.lines ≡ line ∷ []) }
 {
-    let mut lines = Items::new(alloc);
+    let mut lines = Items::with_capacity(alloc, 1)?;
     lines.push(line)?;
     Ok(Log { lines })
 }

@@ -164,7 +164,7 @@ fn by_asking(
 }
 
 /// The vector with the shape's inputs set to its values.
-fn with_values(alloc: Global, vector: Items<bool>, shape: &Shape) -> Result<Bits, AllocError>
+pub fn with_values(alloc: Global, vector: Items<bool>, shape: &Shape) -> Result<Bits, AllocError>
     requires { IsPlaced (length vector) shape.now }
     ensures { IfOk result (λ bits. bits ≡ with_values shape.now vector) }
 {

@@ -12,7 +12,7 @@ use std::marker::Model;
 /// Facts, in the order of their numbers, and the number of each fact's claim. Contracts see it as the list of the
 /// facts.
 #[derive(Drop)]
-pub(crate) struct FactList {
+pub struct FactList {
     facts: Vec<Fact>,
     /// The claims of the facts, in the same order.
     claims: IndexSet<Claim>,
@@ -31,7 +31,7 @@ impl Model for FactList {
 
 impl FactList {
     /// No facts.
-    pub(crate) fn new(alloc: Global) -> FactList
+    pub fn new(alloc: Global) -> FactList
         ensures { result ≡ [] }
     {
         FactList {
@@ -41,7 +41,7 @@ impl FactList {
     }
 
     /// The number of the fact of a claim.
-    pub(crate) fn number_of(&self, claim: &Claim) -> Option<u64>
+    pub fn number_of(&self, claim: &Claim) -> Option<u64>
         ensures found { IfSome result (IsNumberOf self.now claim.now) }
         ensures none { IfNone result (All (λ fact. fact.claim ≢ claim.now) self.now) }
     {
@@ -50,7 +50,7 @@ impl FactList {
     }
 
     /// Adds a fact of a claim that has none, and answers its number. A refusal changes nothing.
-    pub(crate) fn add(&mut self, fact: Fact) -> Result<u64, AllocError>
+    pub fn add(&mut self, fact: Fact) -> Result<u64, AllocError>
         requires { All (λ other. other.claim ≢ fact.claim) self.old }
         ensures number { IfOk result (λ number. number ≡ length self.old) }
         ensures added { OnOk result (self.new ≡ self.old ++ fact ∷ []) }
@@ -64,7 +64,7 @@ impl FactList {
     }
 
     /// The facts, in the order of their numbers.
-    pub(crate) fn as_slice(&self) -> &[Fact]
+    pub fn as_slice(&self) -> &[Fact]
         ensures { result.now ≡ self.now }
     {
         self.facts.as_slice()

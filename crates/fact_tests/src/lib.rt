@@ -2,12 +2,12 @@
 //! and of one circuit the supports, unateness and symmetries of its outputs.
 #![tactic(auto)]
 
-mod answers;
+pub mod answers;
 mod asking;
 mod book;
 mod circuit_info;
 mod deciding;
-mod facts;
+pub mod facts;
 mod first_output;
 mod func_support;
 pub mod laws;
@@ -19,6 +19,7 @@ mod unate_test;
 
 pub use book::FactBook;
 pub use circuit_info::info;
+pub use deciding::with_values;
 
 #[cfg(test)]
 mod tests;

@@ -24,7 +24,7 @@ abbrev no_literal : SatLit
 no_literal = record { 0 = 0 }
 
 -- where nothing is marked, nothing counts
-unmarked_bit : (n v : ℕ) → bit (replicate n false) v ≡ false
+pub unmarked_bit : (n v : ℕ) → bit (replicate n false) v ≡ false
 unmarked_bit zero v = refl
 unmarked_bit (suc n) zero = refl
 unmarked_bit (suc n) (suc v) = unmarked_bit n v

@@ -5,6 +5,7 @@ pub mod PlaceLemmas
 pub mod DeriveLemmas
 pub mod KeptLemmas
 pub mod AnalysisLemmas
+pub mod ClearLemmas
 pub mod LearnLemmas
 pub mod SearchLemmas
 pub mod SolverLemmas

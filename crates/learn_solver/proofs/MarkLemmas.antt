@@ -1,5 +1,5 @@
 -- Marks of variables, and how many marked literals are of the present level.
-use Rattle.std.proofs.Common.{◌≡◌, ◌≢◌, ℕ, zero, suc, ◌+◌, ◌<◌, ◌≤◌, ◌==◌, ◌&&◌, cond, Bool, true, false, List, [], ◌∷◌, length, take, count_by, slice_index_or, slice_set, refl, sym, ◌∙◌, ap, inl, inr, arith}
+use Rattle.std.proofs.Common.{◌≡◌, ◌≢◌, ℕ, zero, suc, ◌+◌, ◌<◌, ◌≤◌, ◌==◌, ◌&&◌, cond, Bool, true, false, List, [], ◌∷◌, length, take, count_by, slice_index_or, slice_set, refl, sym, ◌∙◌, ap, subst, inl, inr, arith}
 use Rattle.std.proofs.lemmas.Bool.{cases_eq, cases_Bool}
 use Rattle.std.proofs.lemmas.Bool.Decides.{leb_tells}
 use Rattle.std.proofs.lemmas.List.{get_or_default, get_or-set_same, get_or-set_other, get_or-take, length-take, length-set}
@@ -9,13 +9,14 @@ use Rattle.cnf_core.specs.declared.literal.SatLit.{SatLit}
 use Rattle.cnf_core.specs.Clauses.{variable_of}
 use Rattle.trail_core.specs.declared.assigned.Assigned.{Assigned}
 use Rattle.trail_core.specs.Trails.{IsPlace, IsTrail, Trailing, entry_at, nothing}
-use Rattle.learn_solver.specs.Analyses.{AreBefore, HasPlace, StayMarked, here_in}
+use Rattle.learn_solver.specs.Analyses.{AreBefore, AreOnTrail, HasPlace, StayMarked, here_in}
 
 -- the variables of the first so many literals were marked
 pub record IsMarking (trail : Trailing) (old now : List Bool) (clause : List SatLit) (count here : ℕ) : Type 0 where
   pub size : length now ≡ length old
   pub stay : StayMarked old now
   pub marked : (k : ℕ) (d : SatLit) → k < count → bit now (variable_of (slice_index_or clause k d)) ≡ true
+  pub on_trail : AreOnTrail trail.entries old → AreOnTrail trail.entries now
   pub few : here ≤ count
   pub counted : (place : ℕ) → AreBefore trail.entries place clause → here_in trail now place ≡ here_in trail old place + here
 
@@ -74,6 +75,7 @@ marking_old t old now clause k here d is within marked = record {
     | inl same ↦ ap (λ n. bit now (variable_of (slice_index_or clause n e))) same ∙ (ap (λ (l : SatLit). bit now (variable_of l)) (get_or_default clause k e d within) ∙ marked)
     | inr other ↦ is.marked j e (omega (arith, h, other))
   ];
+  on_trail = is.on_trail;
   few = omega (arith, is.few);
   counted = is.counted;
 }
@@ -113,6 +115,13 @@ still now v w known was = elim (cases_eq w v) [
   | inr other ↦ get_or-set_other now v w true false other ∙ was
 ]
 
+-- a mark more, of a variable whose literal is on the trail
+mark_on_trail : (es : List Assigned) (now : List Bool) (v : ℕ) → AreOnTrail es now → HasPlace es (length es) v → AreOnTrail es (slice_set now v true)
+mark_on_trail es now v before there w was = elim (cases_eq w v) [
+  | inl same ↦ subst (λ u. HasPlace es (length es) u) (sym same) there
+  | inr other ↦ before w (sym (get_or-set_other now v w true false other) ∙ was)
+]
+
 -- a literal whose variable is marked now
 pub marking_new : (t : Trailing) → IsTrail t → (old now : List Bool) (clause : List SatLit) (k here more v : ℕ) (d : SatLit) → IsMarking t old now clause k here → k < length clause → variable_of (slice_index_or clause k d) ≡ v → v < length now → bit now v ≡ false → AreBefore t.entries (length t.entries) clause → ((place : ℕ) → IsPlace t.entries v place → more ≡ cond ((entry_at t.entries place).level == t.level) 1 0) → IsMarking t old (slice_set now v true) clause (k + 1) (here + more)
 marking_new t trail old now clause k here more v d is within at_k known fresh places present = record {
@@ -122,6 +131,10 @@ marking_new t trail old now clause k here more v d is within at_k known fresh pl
     | inl same ↦ ap (λ n. bit (slice_set now v true) (variable_of (slice_index_or clause n e))) same ∙ (ap (λ (l : SatLit). bit (slice_set now v true) (variable_of l)) (get_or_default clause k e d within) ∙ (ap (bit (slice_set now v true)) at_k ∙ get_or-set_same now v true false known))
     | inr other ↦ still now v (variable_of (slice_index_or clause j e)) known (is.marked j e (omega (arith, h, other)))
   ];
+  on_trail = λ before w was.
+      let p = places k d within in
+      let there : HasPlace t.entries (length t.entries) v = record { at = p.at; early = p.early; within = p.within; there = p.there ∙ at_k } in
+      mark_on_trail t.entries now v (is.on_trail before) there w was;
   few =
       let p = places k d within in
       omega (arith, is.few, present p.at (record { within = p.within; there = p.there ∙ at_k }), one_at_most ((entry_at t.entries p.at).level == t.level));

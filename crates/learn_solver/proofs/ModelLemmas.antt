@@ -79,8 +79,8 @@ wanted_assigned : (s : Solving) (t : Trailing) (occurring : List ℕ) → HaveVa
 wanted_assigned s t occurring have assigned k d within j e inside =
     All-contains (IsAssigned t) occurring (variable_of (slice_index_or (slice_index_or (wanted s.formula s.ids) k d) j e)) assigned (have.all k d within j e inside)
 
-pub model_from : (s : Solving) (clauses : List (List SatLit)) (occurring : List ℕ) (t : Trailing) (values : List Bool) → IsDeciding s.formula s.ids s.lines clauses occurring → IsSearching s t → IsQuiet (active s.formula s.ids s.lines) (literals t.entries) → All (IsAssigned t) occurring → AreValues t values → IsModel s values
-model_from s clauses occurring t values deciding searching quiet assigned are = record {
+pub model_from : (s : Solving) (clauses : List (List SatLit)) (occurring : List ℕ) (marks : List Bool) (t : Trailing) (values : List Bool) → IsDeciding s.formula s.ids s.lines clauses occurring marks → IsSearching s t → IsQuiet (active s.formula s.ids s.lines) (literals t.entries) → All (IsAssigned t) occurring → AreValues t values → IsModel s values
+model_from s clauses occurring marks t values deciding searching quiet assigned are = record {
   variables = are.count ∙ searching.variables;
   meets = λ k d within.
       let is = deciding.solver in

@@ -68,6 +68,10 @@ AreBefore entries place clause = All (λ literal. HasPlace entries place (variab
 abbrev pub AreMarked : List Bool → List SatLit → Type 0
 AreMarked marked clause = All (λ literal. bit marked (variable_of literal) ≡ true) clause
 
+-- the literal of each marked variable is on the trail
+abbrev pub AreOnTrail : List Assigned → List Bool → Type 0
+AreOnTrail entries marked = (variable : ℕ) → bit marked variable ≡ true → HasPlace entries (length entries) variable
+
 -- what was marked stays so
 abbrev pub StayMarked : List Bool → List Bool → Type 0
 StayMarked old new = (variable : ℕ) → bit old variable ≡ true → bit new variable ≡ true
@@ -98,9 +102,9 @@ pub record IsAnalysed (clauses : List (List SatLit)) (trail : Trailing) (marked 
       → IsBetween trail.entries marked below made
       → hint_fault clauses made (reverse steps) ≡ None
 
-abbrev pub IsAnalysis : List (List SatLit) → Trailing → Analysis → Type 0
-IsAnalysis clauses trail analysis =
-    IsAnalysed clauses trail analysis.marked.items analysis.below analysis.here analysis.steps.items
+abbrev pub IsAnalysis : List (List SatLit) → Trailing → List Bool → Analysis → Type 0
+IsAnalysis clauses trail marked analysis =
+    IsAnalysed clauses trail marked analysis.below analysis.here analysis.steps.items
 
 -- A marked literal of the first so many has this level, which is below the present one.
 pub record IsReached (trail : Trailing) (marked : List Bool) (place level : ℕ) : Type 0 where

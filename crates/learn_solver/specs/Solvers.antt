@@ -1,5 +1,5 @@
 -- What a solver is, and what its answers say.
-use Rattle.std.specs.Prelude.{◌≡◌, ℕ, ◌+◌, ◌-◌, ◌<◌, ◌≤◌, Bool, true, false, List, ◌++◌, length, map, take, All, Contains, None, nat_lt, slice_index_or, if◌then◌else◌}
+use Rattle.std.specs.Prelude.{◌≡◌, ℕ, ◌+◌, ◌-◌, ◌<◌, ◌≤◌, Bool, true, false, List, ◌++◌, length, map, take, replicate, All, Contains, None, nat_lt, slice_index_or, if◌then◌else◌}
 use Rattle.cnf_core.specs.declared.literal.SatLit.{SatLit}
 use Rattle.cnf_core.specs.declared.log.LogLine.{LogLine}
 use Rattle.cnf_core.specs.declared.stop.Stop.{Stop}
@@ -45,11 +45,12 @@ pub record HaveVariables (variables : ℕ) (clauses : List (List SatLit)) (occur
   pub known : All (λ v. v < variables) occurring
   pub all : All (λ clause. All (λ literal. Contains occurring (variable_of literal)) clause) clauses
 
--- What each solver keeps, with the variables that it decides.
+-- What each solver keeps, with the variables that it decides, and a mark for each variable, none of which is set.
 pub record IsDeciding (formula : Formula) (ids : List ℕ) (lines : List LogLine) (clauses : List (List SatLit))
-    (occurring : List ℕ) : Type 0 where
+    (occurring : List ℕ) (marks : List Bool) : Type 0 where
   pub solver : IsSolver formula ids lines clauses
   pub variables : HaveVariables formula.variables (wanted formula ids) occurring
+  pub unmarked : marks ≡ replicate formula.variables false
 
 -- The ledger's last entry has these lines, and none of the ledger's lines is refused.
 pub record IsAsking (ledger : Ledgered) (lines : List LogLine) : Type 0 where

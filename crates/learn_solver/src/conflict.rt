@@ -5,7 +5,7 @@ ghost use Rattle.cnf_core.specs.Clauses.{opposite};
 ghost use Rattle.cnf_core.specs.Derivations.{is_empty};
 ghost use Rattle.trail_core.specs.Trails.{IsPlace, IsTrail, entry_at, literals};
 ghost use Rattle.learn_solver.specs.Propagations.{AreKnown, IsConflict, IsSound};
-ghost use Rattle.learn_solver.specs.Analyses.{AreBefore, AreMarked, HasPlace, IsAnalysis, IsBackLevel, IsLearned, StayMarked, here_in, kept_literals, kept_here};
+ghost use Rattle.learn_solver.specs.Analyses.{AreBefore, AreMarked, AreOnTrail, HasPlace, IsAnalysis, IsBackLevel, IsLearned, StayMarked, here_in, kept_literals, kept_here};
 
 use cnf_core::{ClauseStore, SatLit};
 use items::Items;
@@ -21,11 +21,10 @@ pub(crate) struct Learned {
     pub(crate) level: u64,
 }
 
-/// How far an analysis has come, from the end of the trail down. The marked variables are those of the clause that is
-/// resolved so far; those whose literals stand before `below` are left.
+/// How far an analysis has come, from the end of the trail down. Beside it there are marks: the marked variables are
+/// those of the clause that is resolved so far. Those whose literals stand before `below` are left.
 #[derive(Debug, Drop)]
 struct Analysis {
-    marked: Vec<bool>,
     below: u64,
     /// How many marked literals before `below` are of the present level.
     here: u64,
@@ -35,27 +34,63 @@ struct Analysis {
 
 /// Learns from a clause all of whose literals are false. The clause is resolved with reasons, from the last literal of the
 /// trail down, up to the first literal of the level through which all of the conflict goes (the first unique implication
-/// point; Marques-Silva and Sakallah, GRASP, 1999). At level 0 everything is resolved.
+/// point; Marques-Silva and Sakallah, GRASP, 1999). At level 0 everything is resolved. There is a mark for each
+/// variable; none of them is set before and behind. The work grows with the trail and the clauses, not with the
+/// variables.
 pub(crate) fn analyse(
     alloc: Global,
     clauses: &ClauseStore,
     trail: &Trail,
-    variables: u64,
+    marked: &mut [bool],
     conflict: u64,
 ) -> Result<Learned, AllocError>
-    requires variables { variables ≡ trail.now.variables }
+    requires clear { marked.old ≡ replicate trail.now.variables false }
     requires known { All (AreKnown trail.now.variables) clauses.now.clauses }
     requires filled { All (λ clause. is_empty clause ≡ false) clauses.now.clauses }
     requires sound { IsSound clauses.now.clauses trail.now }
     requires conflict { IsConflict clauses.now.clauses (literals trail.now.entries) conflict }
-    ensures { IfOk result (IsLearned clauses.now.clauses trail.now) }
+    ensures learned { IfOk result (IsLearned clauses.now.clauses trail.now) }
+    ensures clear { marked.new ≡ replicate trail.now.variables false }
 {
-    let mut analysis = Analysis::start(alloc, clauses, trail, variables, conflict)?;
+    let learned = resolved(alloc, clauses, trail, marked, conflict);
+    clear(marked, trail);
+    learned
+}
+
+// Learns from the conflict, and leaves marks of variables whose literals are on the trail.
+fn resolved(
+    alloc: Global,
+    clauses: &ClauseStore,
+    trail: &Trail,
+    marked: &mut [bool],
+    conflict: u64,
+) -> Result<Learned, AllocError>
+    requires clear { marked.old ≡ replicate trail.now.variables false }
+    requires known { All (AreKnown trail.now.variables) clauses.now.clauses }
+    requires filled { All (λ clause. is_empty clause ≡ false) clauses.now.clauses }
+    requires sound { IsSound clauses.now.clauses trail.now }
+    requires conflict { IsConflict clauses.now.clauses (literals trail.now.entries) conflict }
+    ensures learned { IfOk result (IsLearned clauses.now.clauses trail.now) }
+    ensures size { length marked.new ≡ trail.now.variables }
+    ensures on_trail { AreOnTrail trail.now.entries marked.new }
+{
+    let mut analysis = Analysis::start(alloc, clauses, trail, marked, conflict)?;
     let kept = kept_here(trail.level());
     while analysis.here > kept {
-        analysis.step(clauses, trail)?;
+        analysis.step(clauses, trail, marked)?;
     }
-    analysis.finish(alloc, clauses, trail)
+    analysis.finish(alloc, clauses, trail, marked)
+}
+
+// Takes all marks away, which are of variables on the trail.
+fn clear(marked: &mut [bool], trail: &Trail)
+    requires size { length marked.old ≡ trail.now.variables }
+    requires on_trail { AreOnTrail trail.now.entries marked.old }
+    ensures { marked.new ≡ replicate trail.now.variables false }
+{
+    for place in 0..trail.len() {
+        marked[trail.lit_at(place).variable() as usize] = false;
+    }
 }
 
 // How many literals of the present level a learned clause keeps.
@@ -71,43 +106,46 @@ impl Analysis {
         alloc: Global,
         clauses: &ClauseStore,
         trail: &Trail,
-        variables: u64,
+        marked: &mut [bool],
         conflict: u64,
     ) -> Result<Analysis, AllocError>
-        requires variables { variables ≡ trail.now.variables }
+        requires clear { marked.old ≡ replicate trail.now.variables false }
         requires known { All (AreKnown trail.now.variables) clauses.now.clauses }
         requires sound { IsSound clauses.now.clauses trail.now }
         requires conflict { IsConflict clauses.now.clauses (literals trail.now.entries) conflict }
-        ensures { IfOk result (IsAnalysis clauses.now.clauses trail.now) }
+        ensures analysis { IfOk result (IsAnalysis clauses.now.clauses trail.now marked.new) }
+        ensures size { length marked.new ≡ trail.now.variables }
+        ensures on_trail { AreOnTrail trail.now.entries marked.new }
     {
         let below = trail.len();
-        let mut marked = no_marks(alloc, variables as usize)?;
-        let here = mark(&mut marked, trail, clauses.get(conflict));
+        let here = mark(marked, trail, clauses.get(conflict));
         let mut steps = Vec::new(alloc);
         steps.push(conflict)?;
-        Ok(Analysis {
-            marked,
-            below,
-            here,
-            steps,
-        })
+        Ok(Analysis { below, here, steps })
     }
 
     // Looks at the next literal down the trail. A marked one gives way to the other literals of its reason.
-    fn step(&mut self, clauses: &ClauseStore, trail: &Trail) -> Result<(), AllocError>
+    fn step(
+        &mut self,
+        clauses: &ClauseStore,
+        trail: &Trail,
+        marked: &mut [bool],
+    ) -> Result<(), AllocError>
         requires trail { IsTrail trail.now }
         requires sound { IsSound clauses.now.clauses trail.now }
-        requires analysis { IsAnalysis clauses.now.clauses trail.now self.old }
+        requires analysis { IsAnalysis clauses.now.clauses trail.now marked.old self.old }
+        requires on_trail { AreOnTrail trail.now.entries marked.old }
         requires more { kept_here trail.now.level < self.old.here }
-        ensures analysis { OnOk result (IsAnalysis clauses.now.clauses trail.now self.new) }
+        ensures analysis { OnOk result (IsAnalysis clauses.now.clauses trail.now marked.new self.new) }
+        ensures on_trail { AreOnTrail trail.now.entries marked.new }
         ensures below { OnOk result (self.new.below + 1 ≡ self.old.below) }
     {
         let place = self.below - 1;
-        if self.marked[trail.lit_at(place).variable() as usize] {
+        if marked[trail.lit_at(place).variable() as usize] {
             let Some(reason) = trail.reason_at(place) else {
                 unreachable!()
             };
-            let more = mark(&mut self.marked, trail, clauses.get(reason));
+            let more = mark(marked, trail, clauses.get(reason));
             self.here = self.here + more - 1;
             self.steps.push(reason)?;
         }
@@ -121,16 +159,17 @@ impl Analysis {
         alloc: Global,
         clauses: &ClauseStore,
         trail: &Trail,
+        marked: &[bool],
     ) -> Result<Learned, AllocError>
         requires trail { IsTrail trail.now }
         requires filled { All (λ clause. is_empty clause ≡ false) clauses.now.clauses }
         requires sound { IsSound clauses.now.clauses trail.now }
-        requires analysis { IsAnalysis clauses.now.clauses trail.now self }
+        requires analysis { IsAnalysis clauses.now.clauses trail.now marked.now self }
         requires done { self.here ≤ kept_here trail.now.level }
         ensures { IfOk result (IsLearned clauses.now.clauses trail.now) }
     {
-        let clause = negated(alloc, trail, &self.marked, self.below)?;
-        let level = back_level(trail, &self.marked, self.below);
+        let clause = negated(alloc, trail, marked, self.below)?;
+        let level = back_level(trail, marked, self.below);
         let mut steps = self.steps;
         steps.reverse();
         Ok(Learned {
@@ -155,6 +194,7 @@ fn mark(marked: &mut [bool], trail: &Trail, clause: &[SatLit]) -> u64
     requires places { AreBefore trail.now.entries (length trail.now.entries) clause.now }
     ensures stay { StayMarked marked.old marked.new }
     ensures marked { AreMarked marked.new clause.now }
+    ensures on_trail { AreOnTrail trail.now.entries marked.old → AreOnTrail trail.now.entries marked.new }
     ensures here { (place : ℕ) → AreBefore trail.now.entries place clause.now
         → here_in trail.now marked.new place ≡ here_in trail.now marked.old place + result }
 {

@@ -11,7 +11,7 @@ ghost use Rattle.query_core.specs.Ledgers.{IsRefused, learned_in, with_line};
 ghost use Rattle.learn_solver.specs.Searches.{IsAdvanced, IsDecided, IsLearnt, IsLesson, IsSearching, last_line};
 ghost use Rattle.learn_solver.specs.Solvers.{IsAsking, IsExtended, IsModel, IsRefuted, IsStopped, IsVerdict, ArePut, active, id_at, wanted};
 
-use crate::conflict::{Learned, analyse};
+use crate::conflict::{Learned, analyse, no_marks};
 use crate::decision::{next_decision, values, variables_of};
 use crate::propagation::propagate;
 use crate::verdict::Verdict;
@@ -33,6 +33,8 @@ pub struct Solver<'a, B: Base> {
     clauses: ClauseStore,
     /// The variables of the clauses of the numbers. No others are decided.
     occurring: Vec<u64>,
+    /// A mark for each variable, for the analysis of a conflict. Between two of them none is set.
+    marks: Vec<bool>,
 }
 
 impl<'a, B: Base> Model for Solver<'a, B> {
@@ -43,7 +45,7 @@ impl<'a, B: Base> Model for Solver<'a, B> {
     ghost view = { λ a. record { formula = B.formula a.base.now; ids = a.ids.items; lines = a.lines.items } };
 
     ghost invariant = { λ a. IsDeciding (B.formula a.base.now) a.ids.items a.lines.items a.clauses.clauses
-        a.occurring.items };
+        a.occurring.items a.marks.items };
 }
 
 impl<'a, B: Base> Solver<'a, B> {
@@ -63,6 +65,7 @@ impl<'a, B: Base> Solver<'a, B> {
         let mut clauses = ClauseStore::new(alloc);
         put_wanted(base, ids, &mut clauses)?;
         let occurring = variables_of(alloc, &clauses, base.variables())?;
+        let marks = no_marks(alloc, base.variables() as usize)?;
         put_lines(lemmas, &mut clauses)?;
         let ids = Vec::from_slice(alloc, ids)?;
         let lines = copied(alloc, lemmas)?;
@@ -72,6 +75,7 @@ impl<'a, B: Base> Solver<'a, B> {
             lines,
             clauses,
             occurring,
+            marks,
         })
     }
 
@@ -100,18 +104,18 @@ impl<'a, B: Base> Solver<'a, B> {
     }
 
     // Derives a line from a conflict.
-    fn derive(&self, alloc: Global, trail: &Trail, conflict: u64) -> Result<Lesson, AllocError>
-        requires searching { IsSearching self.now trail.now }
-        requires conflict { IsConflict (active self.now.formula self.now.ids self.now.lines)
+    fn derive(&mut self, alloc: Global, trail: &Trail, conflict: u64) -> Result<Lesson, AllocError>
+        requires searching { IsSearching self.old trail.now }
+        requires conflict { IsConflict (active self.old.formula self.old.ids self.old.lines)
             (literals trail.now.entries) conflict }
-        ensures { IfOk result (λ lesson. IsLesson self.now trail.now lesson.line lesson.level) }
+        ensures same { self.new ≡ self.old }
+        ensures lesson { IfOk result (λ lesson. IsLesson self.old trail.now lesson.line lesson.level) }
     {
-        let variables = self.base.variables();
         let Learned {
             clause,
             steps,
             level,
-        } = analyse(alloc, &self.clauses, trail, variables, conflict)?;
+        } = analyse(alloc, &self.clauses, trail, &mut self.marks, conflict)?;
         let hints = self.hints(alloc, &steps)?;
         let line = LogLine { clause, hints };
         Ok(Lesson { line, level })

@@ -5,9 +5,8 @@ ghost use Rattle.query_core.specs.Ledgers.{last_asked};
 
 use crate::{Solver, Verdict, solve};
 use cnf_core::{Base, Clause3, Log, SatLit, Stop};
-use items::Items;
 use net_core::Side;
-use query_core::{Cone, Ledger, Query};
+use query_core::{Cone, Feeds, Ledger, Query};
 use rand_core::utils::NextWord;
 use rand_pcg::Pcg32;
 use refute_check::Refuter;
@@ -92,12 +91,12 @@ fn opened(alloc: Global, budget: u64) -> Result<Ledger, AllocError>
     let left = Cone {
         side: Side::First,
         output: 0,
-        feed: Items::new(alloc),
+        feed: Feeds::straight(0),
     };
     let right = Cone {
         side: Side::First,
         output: 0,
-        feed: Items::new(alloc),
+        feed: Feeds::straight(0),
     };
     let query = Query {
         left,

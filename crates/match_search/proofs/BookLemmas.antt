@@ -1,5 +1,5 @@
 -- What a book of bans holds.
-use Rattle.std.proofs.Common.{◌≡◌, ℕ, ◌<◌, List, [], ◌∷◌, ◌++◌, length, take, get_or, All, Option, None, Some, sym, ap, subst, ◌∙◌, inl, inr, arith}
+use Rattle.std.proofs.Common.{◌≡◌, ℕ, ◌+◌, ◌<◌, List, [], ◌∷◌, ◌++◌, length, take, get_or, All, Option, None, Some, sym, ap, subst, ◌∙◌, inl, inr, arith}
 use Rattle.std.specs.List.{range_with_len}
 use Rattle.std.proofs.lemmas.Bool.{cases_lt}
 use Rattle.std.proofs.lemmas.List.{append-nil, append_assoc, take_all, take-append-le, get_or_append_left, get_or_push, length_push, length-append, length-map}
@@ -9,6 +9,8 @@ use Rattle.circuits.specs.declared.port.Pair.{Pair}
 use Rattle.circuits.specs.declared.port.PortKind.{PortKind}
 use Rattle.circuits.specs.declared.port.PortKind.TheVariants.{Input, Output}
 use Rattle.net_core.specs.declared.graphs.Graphs.{Graphs}
+use Rattle.net_core.specs.declared.graphs.Side.{Side}
+use Rattle.net_core.specs.declared.graphs.Side.TheVariants.{First, Second}
 use Rattle.account_core.specs.declared.step.Ban.{Ban}
 use Rattle.account_core.specs.declared.step.Step.TheVariants as step
 use Rattle.account_core.specs.Ports.{ports_in, HaveAsMany, IsKnown}
@@ -18,8 +20,8 @@ use Rattle.account_core.specs.Tallies.{Ascend}
 use Rattle.account_core.specs.Steps.{AreValidBans, IsValidBan}
 use Rattle.ban_book.specs.Covering.{Covers, IsWithin}
 use Rattle.match_search.specs.declared.level.Level.{Level}
-use Rattle.match_search.specs.Held.{AreHeld, IsPart}
-use Rattle.match_search.specs.Levels.{nth_way, ways_of, AreClosed, HoldsMore, IsTried}
+use Rattle.match_search.specs.Held.{opposite, AreHeld, IsPart}
+use Rattle.match_search.specs.Levels.{nth_way, ports_tried, ways_of, AreClosed, HoldsMore, IsTried}
 use Rattle.match_search.proofs.ClosedLemmas.{all_ways}
 
 pub holds_none : (graphs : Graphs) (bans : List Ban) → HoldsMore graphs bans bans
@@ -77,31 +79,53 @@ range_below n k d below =
     let there : k < n = omega (arith, below, length-range_with_len 0 n) in
     omega (arith, get_or-range_with_len 0 n k d there, there)
 
-as_many : (graphs : Graphs) (kind : PortKind) → HaveAsMany graphs.first graphs.second → ports_in graphs.first kind ≡ ports_in graphs.second kind
+pub as_many : (graphs : Graphs) (kind : PortKind) → HaveAsMany graphs.first graphs.second → ports_in graphs.first kind ≡ ports_in graphs.second kind
 as_many graphs Input many = many.inputs
 as_many graphs Output many = many.outputs
 
+-- the ports that the ways of a port have on one side
+tried_ascends : (side : Side) (port count : ℕ) → Ascend (ports_tried side port count)
+tried_ascends First port count i j d less below = absurd (omega (arith, less, below))
+tried_ascends Second port count i j d less below = range_ascends count i j d less below
+
+tried_below : (side : Side) (port count : ℕ) → port < count → All (λ p. p < count) (ports_tried side port count)
+tried_below First port count there = All-cons (λ p. p < count) port [] there (All-nil (λ p. p < count))
+tried_below Second port count there = range_below count
+
+tried_many : (side : Side) (port count : ℕ) → length (ports_tried side port count) + length (ports_tried (opposite side) port count) ≡ count + 1
+tried_many First port count = omega (arith, length-range_with_len 0 count)
+tried_many Second port count = omega (arith, length-range_with_len 0 count)
+
 abbrev pub cover_of : Graphs → List Pair → Level → Ban
-cover_of graphs pairs level = record { pairs = pairs; step = step.Cover level.kind (level.from ∷ []) (range_with_len 0 (ports_in graphs.second level.kind)) level.refs }
+cover_of graphs pairs level = record { pairs = pairs; step = step.Cover level.kind (ports_tried level.side level.port (ports_in graphs.second level.kind)) (ports_tried (opposite level.side) level.port (ports_in graphs.second level.kind)) level.refs }
 
 pub cover_valid : (graphs : Graphs) (bans : List Ban) (held pairs : List Pair) (level : Level) (facts : List Decided) → HaveAsMany graphs.first graphs.second → AreHeld graphs held → IsTried graphs bans held level → length level.refs ≡ ways_of graphs level → IsPart held pairs → AreClosed bans pairs level → IsValidBan graphs (given_of facts bans) (cover_of graphs pairs level)
 cover_valid graphs bans held pairs level facts many are tried all part closed = record {
   known = λ k d below. All-contains (IsKnown graphs) held (get_or pairs k d) are.known (part.among k d below);
   ordered = part.ordered;
   names = record {
-    first_ports = All-cons (λ port. port < ports_in graphs.first level.kind) level.from [] tried.port (All-nil (λ port. port < ports_in graphs.first level.kind));
-    second_ports = range_below (ports_in graphs.second level.kind);
+    first_ports = subst (λ n. All (λ port. port < n) (ports_tried level.side level.port count)) (sym many_ports) (tried_below level.side level.port count here);
+    second_ports = tried_below (opposite level.side) level.port count here;
     given_bans = λ ban held_ref. omega (arith, (closed held_ref.0 (Some ban) held_ref.1).held ban held_ref.2, length-map bans (λ (b : Ban). b.pairs));
   };
   rule = record {
-    from_ascends = λ i j d less below. absurd (omega (arith, less, below));
-    to_ascends = range_ascends (ports_in graphs.second level.kind);
-    too_many = omega (arith, as_many graphs level.kind many, length-range_with_len 0 (ports_in graphs.second level.kind));
-    referred = all_ways level.kind level.from (ports_in graphs.second level.kind) (IsReference (given_of facts bans) pairs) level.refs all (λ number ref below. reference_facts facts bans pairs (nth_way level.kind level.from number) (get_or level.refs number ref) ((closed number ref below).refers));
+    from_ascends = tried_ascends level.side level.port count;
+    to_ascends = tried_ascends (opposite level.side) level.port count;
+    too_many = omega (arith, many_ports, tried_many level.side level.port count);
+    referred = all_ways level.side level.kind level.port (ports_in graphs.second level.kind) (IsReference (given_of facts bans) pairs) level.refs all (λ number ref below. reference_facts facts bans pairs (nth_way level.side level.kind level.port number) (get_or level.refs number ref) ((closed number ref below).refers));
   };
   shown = tt;
 }
+  where
+    count : ℕ
+    count = ports_in graphs.second level.kind
 
-pub cover_valid_of : (graphs : Graphs) (bans : List Ban) (held pairs : List Pair) (level : Level) → HaveAsMany graphs.first graphs.second → AreHeld graphs held → IsTried graphs bans held level → length level.refs ≡ ways_of graphs level → IsPart held pairs → AreClosed bans pairs level → (ps : List Pair) (from to : List ℕ) → ps ≡ pairs → from ≡ level.from ∷ [] → to ≡ range_with_len 0 (ports_in graphs.second level.kind) → (facts : List Decided) → IsValidBan graphs (given_of facts bans) (record { pairs = ps; step = step.Cover level.kind from to level.refs })
+    many_ports : ports_in graphs.first level.kind ≡ count
+    many_ports = as_many graphs level.kind many
+
+    here : level.port < count
+    here = omega (arith, tried.there, many_ports)
+
+pub cover_valid_of : (graphs : Graphs) (bans : List Ban) (held pairs : List Pair) (level : Level) → HaveAsMany graphs.first graphs.second → AreHeld graphs held → IsTried graphs bans held level → length level.refs ≡ ways_of graphs level → IsPart held pairs → AreClosed bans pairs level → (ps : List Pair) (from to : List ℕ) → ps ≡ pairs → from ≡ ports_tried level.side level.port (ports_in graphs.second level.kind) → to ≡ ports_tried (opposite level.side) level.port (ports_in graphs.second level.kind) → (facts : List Decided) → IsValidBan graphs (given_of facts bans) (record { pairs = ps; step = step.Cover level.kind from to level.refs })
 cover_valid_of graphs bans held pairs level many are tried all part closed ps from to ps_is from_is to_is facts =
-    subst (λ l. IsValidBan graphs (given_of facts bans) (record { pairs = l; step = step.Cover level.kind from to level.refs })) (sym ps_is) (subst (λ l. IsValidBan graphs (given_of facts bans) (record { pairs = pairs; step = step.Cover level.kind l to level.refs })) (sym from_is) (subst (λ l. IsValidBan graphs (given_of facts bans) (record { pairs = pairs; step = step.Cover level.kind (level.from ∷ []) l level.refs })) (sym to_is) (cover_valid graphs bans held pairs level facts many are tried all part closed)))
+    subst (λ l. IsValidBan graphs (given_of facts bans) (record { pairs = l; step = step.Cover level.kind from to level.refs })) (sym ps_is) (subst (λ l. IsValidBan graphs (given_of facts bans) (record { pairs = pairs; step = step.Cover level.kind l to level.refs })) (sym from_is) (subst (λ l. IsValidBan graphs (given_of facts bans) (record { pairs = pairs; step = step.Cover level.kind (ports_tried level.side level.port (ports_in graphs.second level.kind)) l level.refs })) (sym to_is) (cover_valid graphs bans held pairs level facts many are tried all part closed)))

@@ -15,6 +15,7 @@ use Rattle.circuits.specs.Bijections.{IsSignedBijection, moved, place_of, sign_o
 use Rattle.circuits.specs.Matches.{HavePorts}
 use Rattle.circuits.proofs.Places.{moved-moves, length-moved, IsSignedBijection-onto}
 use Rattle.net_core.specs.declared.graphs.Graphs.{Graphs}
+use Rattle.net_core.specs.declared.graphs.Side.TheVariants.{First}
 use Rattle.net_core.specs.declared.matching.Matching.{Matching}
 use Rattle.net_core.specs.Graph.{IsGraph}
 use Rattle.query_core.specs.Images.{HasPair, Extends, entries_of, is_of, pair_of, same_kind}
@@ -183,7 +184,7 @@ module _ (graphs : Graphs) (matching : Matching) (output : ℕ) (ports : HavePor
       let has = has_pair x (Contains-get_or whole k d below) in
       let known = whole_known k d below in
       let any = all x.kind x.from known.from in
-      let other_held = contained_of_any (IsOf x.kind x.from) held any in
+      let other_held = contained_of_any (IsOf First x.kind x.from) held any in
       let other_has = All-contains (HasPair matching.inputs matching.outputs) held any.1 extends other_held in
       subst (Contains held) (same_pair matching.inputs matching.outputs any.1 x any.4.kind_is any.4.port_is other_has has) other_held
 

@@ -29,7 +29,7 @@ gather_more held before now later way pairs i d below is part stays here = recor
 -- The pairs gathered so far close so many ways.
 pub record AreNeeded (bans : List Ban) (held : List Pair) (level : Level) (needed : List Pair) (number : ℕ) : Type 0 where
   pub part : IsPart held needed
-  pub closed : (k : ℕ) (d : Option ℕ) → k < number → IsClosed bans needed (nth_way level.kind level.from k) (get_or level.refs k d)
+  pub closed : (k : ℕ) (d : Option ℕ) → k < number → IsClosed bans needed (nth_way level.side level.kind level.port k) (get_or level.refs k d)
 
 pub needed_none : (bans : List Ban) (held : List Pair) (level : Level) → AreNeeded bans held level [] 0
 needed_none bans held level = record {
@@ -37,14 +37,14 @@ needed_none bans held level = record {
   closed = λ k d below. absurd (omega (arith, below));
 }
 
-pub needed_more : (bans : List Ban) (held : List Pair) (level : Level) (few more : List Pair) (number : ℕ) (ref : Option ℕ) → number < length level.refs → AreClosed bans held level → AreNeeded bans held level few number → IsPart held more → All (Contains more) few → ref ≡ get_or level.refs number None → IsClosed bans more (nth_way level.kind level.from number) ref → AreNeeded bans held level more (number + 1)
+pub needed_more : (bans : List Ban) (held : List Pair) (level : Level) (few more : List Pair) (number : ℕ) (ref : Option ℕ) → number < length level.refs → AreClosed bans held level → AreNeeded bans held level few number → IsPart held more → All (Contains more) few → ref ≡ get_or level.refs number None → IsClosed bans more (nth_way level.side level.kind level.port number) ref → AreNeeded bans held level more (number + 1)
 needed_more bans held level few more number ref below whole are part stays ref_is here = record {
   part = part;
   closed = λ k d less. elim (cases_lt k number) [
-    | inl before ↦ closed_stays bans held few more (nth_way level.kind level.from k) (get_or level.refs k d) (whole k d (omega (arith, before, below))) part.among stays (are.closed k d before)
+    | inl before ↦ closed_stays bans held few more (nth_way level.side level.kind level.port k) (get_or level.refs k d) (whole k d (omega (arith, before, below))) part.among stays (are.closed k d before)
     | inr past ↦
         let e : number ≡ k = omega (arith, less, past) in
         let same : ref ≡ get_or level.refs k d = ref_is ∙ (get_or_default level.refs number None d below ∙ ap (λ n. get_or level.refs n d) e) in
-        subst (λ n. IsClosed bans more (nth_way level.kind level.from n) (get_or level.refs k d)) e (subst (IsClosed bans more (nth_way level.kind level.from number)) same here)
+        subst (λ n. IsClosed bans more (nth_way level.side level.kind level.port n) (get_or level.refs k d)) e (subst (IsClosed bans more (nth_way level.side level.kind level.port number)) same here)
   ];
 }

@@ -11,6 +11,7 @@ pub mod TurnLemmas
 pub mod ShownLemmas
 pub mod DefiniteLemmas
 pub mod DifferLemmas
+pub mod ForesightLemmas
 pub mod WeightLemmas
 pub mod ServeLemmas
 pub mod CompareLemmas

@@ -5,19 +5,34 @@ use Rattle.query_core.specs.Ledgers.{Ledgered}
 use Rattle.account_core.specs.declared.step.Ban.{Ban}
 use Rattle.account_core.specs.Oracles.{AreFacts, Known, Suits}
 use Rattle.match_search.specs.declared.state.State.{State}
+use Rattle.table_guess.specs.declared.trials.Trials.{Trials}
+use Rattle.table_guess.specs.Trials.{AreTrials}
 use Rattle.match_search.specs.States.{AreValid, HasServed, IsSearchState}
 use Rattle.match_search.proofs.ServeLemmas.{served_same}
 
+-- Guesses were compared, and none is a match.
+pub record AreGuessed (graphs : Graphs) (old now : Known) (before after : Ledgered) (vectors : Trials) : Type 0 where
+  pub served : HasServed old now before after
+  pub trials : AreTrials graphs.first vectors
+
+pub guessing_start : (graphs : Graphs) (known : Known) (ledger : Ledgered) (trials : Trials) → graphs ≡ known.graphs → AreFacts graphs known.facts → Suits known ledger → AreTrials graphs.first trials → AreGuessed graphs known known ledger ledger trials
+guessing_start graphs known ledger trials are lawful suits vectors = record {
+  served = served_same known ledger (subst (λ (g : Graphs). AreFacts g known.facts) are lawful) suits;
+  trials = vectors;
+}
+
 -- Nothing was found yet.
-pub record IsSearching (graphs : Graphs) (old now : Known) (before after : Ledgered) (book : List Ban) (state : State) : Type 0 where
+pub record IsSearching (graphs : Graphs) (old now : Known) (before after : Ledgered) (book : List Ban) (state : State) (vectors : Trials) : Type 0 where
   pub served : HasServed old now before after
   pub valid : AreValid graphs now book
   pub search : IsSearchState graphs book state
+  pub trials : AreTrials graphs.first vectors
 
-pub searching_start : (graphs : Graphs) (known : Known) (ledger : Ledgered) (book : List Ban) (state : State) → AreFacts known.graphs known.facts → Suits known ledger → book ≡ [] → state ≡ record { held = []; levels = [] } → IsSearching graphs known known ledger ledger book state
-searching_start graphs known ledger book state facts suits none is = record {
-  served = served_same known ledger facts suits;
-  valid = subst (AreValid graphs known) (sym none) (record { each = λ k d below. absurd (omega (arith, below)) });
+pub searching_start : (graphs : Graphs) (known now : Known) (ledger after : Ledgered) (book : List Ban) (state : State) (trials : Trials) → HasServed known now ledger after → book ≡ [] → state ≡ record { held = []; levels = [] } → AreTrials graphs.first trials → IsSearching graphs known now ledger after book state trials
+searching_start graphs known now ledger after book state trials served none is are = record {
+  trials = are;
+  served = served;
+  valid = subst (AreValid graphs now) (sym none) (record { each = λ k d below. absurd (omega (arith, below)) });
   search = subst (IsSearchState graphs book) (sym is) (record {
     pairs = record { known = λ k d below. absurd (omega (arith, below)); apart = λ i j d less below. absurd (omega (arith, below)) };
     tried = refl;

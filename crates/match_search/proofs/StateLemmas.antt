@@ -10,10 +10,12 @@ use Rattle.circuits.specs.declared.port.PortKind.{PortKind}
 use Rattle.circuits.specs.declared.port.PortKind.TheVariants.{Input, Output}
 use Rattle.circuits.specs.Literals.{EachAt}
 use Rattle.net_core.specs.declared.graphs.Graphs.{Graphs}
+use Rattle.net_core.specs.declared.graphs.Side.{Side}
+use Rattle.net_core.specs.declared.graphs.Side.TheVariants.{First, Second}
 use Rattle.account_core.specs.declared.step.Ban.{Ban}
 use Rattle.account_core.specs.declared.step.Step.TheVariants as step
 use Rattle.account_core.specs.Given.{ban_at, given_of, pairs_of}
-use Rattle.account_core.specs.Ports.{ports_in, Clash, IsKnown}
+use Rattle.account_core.specs.Ports.{ports_in, Clash, HaveAsMany, IsKnown}
 use Rattle.ban_book.specs.Covering.{Covers}
 use Rattle.match_search.specs.declared.level.Level.{Level}
 use Rattle.match_search.specs.declared.state.State.{State}
@@ -23,7 +25,9 @@ use Rattle.match_search.specs.Founds.{IsEmptyBan}
 use Rattle.match_search.specs.Progress.{left_at, left_in, most_ways}
 use Rattle.match_search.specs.States.{GoesOn, IsSearchState}
 use Rattle.match_search.proofs.ListLemmas.{any_of_contained, contains_cons}
+use Rattle.match_search.proofs.BookLemmas.{as_many}
 use Rattle.match_search.proofs.ClosedLemmas.{closed_by_ban, closed_more}
+use Rattle.match_search.proofs.MarkLemmas.{of_way}
 
 module _ (graphs : Graphs) (before after : List Ban) (more : HoldsMore graphs before after) where
   pairs_later : (ban : ℕ) → ban < length before → ban_at (given_of [] after) ban ≡ ban_at (given_of [] before) ban
@@ -40,10 +44,10 @@ module _ (graphs : Graphs) (before after : List Ban) (more : HoldsMore graphs be
 
   tried_later : (pairs : List Pair) (level : Level) → IsTried graphs before pairs level → IsTried graphs after pairs level
   tried_later pairs level tried = record {
-    port = tried.port;
+    there = tried.there;
     free = tried.free;
     room = tried.room;
-    closed = λ number ref below. closed_later pairs (nth_way level.kind level.from number) (get_or level.refs number ref) (tried.closed number ref below);
+    closed = λ number ref below. closed_later pairs (nth_way level.side level.kind level.port number) (get_or level.refs number ref) (tried.closed number ref below);
   }
 
   pub search_later : (held : List Pair) (levels : List Level) → IsSearch graphs before held levels → IsSearch graphs after held levels
@@ -56,8 +60,8 @@ module _ (graphs : Graphs) (before after : List Ban) (more : HoldsMore graphs be
 -- a level whose impossible ways were closed
 pub tried_closed : (graphs : Graphs) (bans : List Ban) (held : List Pair) (ways : ℕ) (level later : Level) (found : Bool) → ways ≡ ways_of graphs level → IsTried graphs bans held level → ClosesImpossible held ways level later found → IsTried graphs bans held later
 tried_closed graphs bans held ways level later found ways_is tried closes = record {
-  port = subst (λ n. n < ports_in graphs.first later.kind) (sym closes.from_is) (subst (λ k. level.from < ports_in graphs.first k) (sym closes.kind_is) tried.port);
-  free = λ taken. tried.free (subst (λ n. IsTaken held level.kind n) closes.from_is (subst (λ k. IsTaken held k later.from) closes.kind_is taken));
+  there = subst (λ n. n < ports_in graphs.first later.kind) (sym closes.port_is) (subst (λ k. level.port < ports_in graphs.first k) (sym closes.kind_is) tried.there);
+  free = λ taken. tried.free (subst (λ n. IsTaken level.side held level.kind n) closes.port_is (subst (λ k. IsTaken level.side held k later.port) closes.kind_is (subst (λ s. IsTaken s held later.kind later.port) closes.side_is taken)));
   room = elim (cases_Bool found) [
     | inl yes' ↦ omega (arith, (closes.found yes').0, ways_is, ways_same)
     | inr no' ↦ omega (arith, closes.none no', ways_is, ways_same)
@@ -69,21 +73,38 @@ tried_closed graphs bans held ways level later found ways_is tried closes = reco
     ways_same = ap (λ k. 2 * ports_in graphs.second k) closes.kind_is
 
 -- a way that is open shares no port with the held pairs
-open_apart : (held : List Pair) (level : Level) (x : Pair) → (IsTaken held level.kind level.from → ⊥) → IsOpen held (chosen level) → Contains held x → AreApart x (chosen level)
+open_apart : (held : List Pair) (level : Level) (x : Pair) → (IsTaken level.side held level.kind level.port → ⊥) → IsOpen held (chosen level) → Contains held x → AreApart x (chosen level)
 open_apart held level x free open' there = record {
-  from = λ kind same. free (any_of_contained (IsOf level.kind level.from) held x there (record { kind_is = kind; port_is = same }));
-  to = λ kind same. open' (any_of_contained (λ (p : Pair). Clash p (chosen level)) held x there (record {
-    same_kind = kind;
-    differ = λ e. free (any_of_contained (IsOf level.kind level.from) held x there (record { kind_is = kind; port_is = ap (λ (p : Pair). p.from) e }));
-    share = inr same;
-  }));
+  from = λ kind same. no_share kind (inl same);
+  to = λ kind same. no_share kind (inr same);
+}
+  where
+    no_share : x.kind ≡ level.kind → (x.from ≡ (chosen level).from) ⊎ (x.to ≡ (chosen level).to) → ⊥
+    no_share kind share = open' (any_of_contained (λ (p : Pair). Clash p (chosen level)) held x there (record {
+      same_kind = kind;
+      differ = λ e. free (any_of_contained (IsOf level.side level.kind level.port) held x there (of_way level.side level.kind level.port (length level.refs) x kind e));
+      share = share;
+    }))
+
+-- the ports of a way exist exactly where its number is one of a way
+way_known : (graphs : Graphs) → HaveAsMany graphs.first graphs.second → (side : Side) (kind : PortKind) (port number : ℕ) → port < ports_in graphs.first kind → number < 2 * ports_in graphs.second kind → IsKnown graphs (nth_way side kind port number)
+way_known graphs many First kind port number there below = record { from = there; to = omega (arith, below) }
+way_known graphs many Second kind port number there below = record {
+  from = omega (arith, below, as_many graphs kind many);
+  to = omega (arith, there, as_many graphs kind many);
 }
 
+known_way : (graphs : Graphs) → HaveAsMany graphs.first graphs.second → (side : Side) (kind : PortKind) (port number : ℕ) → IsKnown graphs (nth_way side kind port number) → number < 2 * ports_in graphs.second kind
+known_way graphs many First kind port number known = let to : number / 2 < ports_in graphs.second kind = known.to in omega (arith, to)
+known_way graphs many Second kind port number known =
+    let from : number / 2 < ports_in graphs.first kind = known.from in
+    omega (arith, from, as_many graphs kind many)
+
 -- one more way is held
-pub search_more : (graphs : Graphs) (bans : List Ban) (held : List Pair) (levels : List Level) (level : Level) → IsSearch graphs bans held levels → IsTried graphs bans held level → length level.refs < ways_of graphs level → IsOpen held (chosen level) → IsSearch graphs bans (held ++ chosen level ∷ []) (levels ++ level ∷ [])
-search_more graphs bans held levels level search tried room open' = record {
+pub search_more : (graphs : Graphs) → HaveAsMany graphs.first graphs.second → (bans : List Ban) (held : List Pair) (levels : List Level) (level : Level) → IsSearch graphs bans held levels → IsTried graphs bans held level → length level.refs < ways_of graphs level → IsOpen held (chosen level) → IsSearch graphs bans (held ++ chosen level ∷ []) (levels ++ level ∷ [])
+search_more graphs many bans held levels level search tried room open' = record {
   pairs = record {
-    known = All-push (IsKnown graphs) held (chosen level) search.pairs.known (record { from = tried.port; to = omega (arith, room) });
+    known = All-push (IsKnown graphs) held (chosen level) search.pairs.known (way_known graphs many level.side level.kind level.port (length level.refs) tried.there room);
     apart = all_pairs_push AreApart held (chosen level) search.pairs.apart (λ k d below. open_apart held level (get_or held k d) tried.free open' (Contains-get_or held k d below));
   };
   tried = ap (λ l. l ++ chosen level ∷ []) search.tried ∙ sym (map_push chosen levels level);
@@ -99,9 +120,9 @@ search_more graphs bans held levels level search tried room open' = record {
     size = ap length search.tried ∙ length-map levels chosen
 
 -- the first ways of a port were closed, and one that is open is held
-pub goes_on : (graphs : Graphs) (bans : List Ban) (before after : State) (ways : ℕ) (level later : Level) → IsSearchState graphs bans before → IsTried graphs bans before.held level → ways ≡ ways_of graphs level → ClosesImpossible before.held ways level later true → after.held ≡ before.held ++ chosen later ∷ [] → after.levels ≡ before.levels ++ later ∷ [] → GoesOn graphs bans before after (left_at graphs level)
-goes_on graphs bans before after ways level later search tried ways_is closes held_is levels_is = record {
-  search = subst (λ h. IsSearch graphs bans h after.levels) (sym held_is) (subst (IsSearch graphs bans (before.held ++ chosen later ∷ [])) (sym levels_is) (search_more graphs bans before.held before.levels later search (tried_closed graphs bans before.held ways level later true ways_is tried closes) (omega (arith, (closes.found refl).0, ways_is, ways_same)) (closes.found refl).1));
+pub goes_on : (graphs : Graphs) → HaveAsMany graphs.first graphs.second → (bans : List Ban) (before after : State) (ways : ℕ) (level later : Level) → IsSearchState graphs bans before → IsTried graphs bans before.held level → ways ≡ ways_of graphs level → ClosesImpossible before.held ways level later true → after.held ≡ before.held ++ chosen later ∷ [] → after.levels ≡ before.levels ++ later ∷ [] → GoesOn graphs bans before after (left_at graphs level)
+goes_on graphs many bans before after ways level later search tried ways_is closes held_is levels_is = record {
+  search = subst (λ h. IsSearch graphs bans h after.levels) (sym held_is) (subst (IsSearch graphs bans (before.held ++ chosen later ∷ [])) (sym levels_is) (search_more graphs many bans before.held before.levels later search (tried_closed graphs bans before.held ways level later true ways_is tried closes) (omega (arith, (closes.found refl).0, ways_is, ways_same)) (closes.found refl).1));
   left_there = left_at graphs later;
   most = omega (arith, ways_same, closes.more);
   digits = ap (left_in graphs) levels_is ∙ map_push (left_at graphs) before.levels later;
@@ -118,8 +139,8 @@ pub record IsLast (graphs : Graphs) (bans : List Ban) (held : List Pair) (levels
   pub is_open : IsOpen held pair
   pub room : length level.refs < ways_of graphs level
 
-pub last_of : (graphs : Graphs) (bans : List Ban) (whole_held : List Pair) (whole : List Level) (held : List Pair) (levels : List Level) (level : Level) (pair : Pair) → IsSearch graphs bans whole_held whole → whole_held ≡ held ++ pair ∷ [] → whole ≡ levels ++ level ∷ [] → IsLast graphs bans held levels level pair
-last_of graphs bans whole_held whole held levels level pair search held_is levels_is = record {
+pub last_of : (graphs : Graphs) → HaveAsMany graphs.first graphs.second → (bans : List Ban) (whole_held : List Pair) (whole : List Level) (held : List Pair) (levels : List Level) (level : Level) (pair : Pair) → IsSearch graphs bans whole_held whole → whole_held ≡ held ++ pair ∷ [] → whole ≡ levels ++ level ∷ [] → IsLast graphs bans held levels level pair
+last_of graphs many bans whole_held whole held levels level pair search held_is levels_is = record {
   search = record {
     pairs = record {
       known = λ k d below. subst (IsKnown graphs) (ap (λ l. get_or l k d) held_is ∙ get_or_append_left held (pair ∷ []) d k below) (search.pairs.known k d (omega (arith, below, size_held)));
@@ -163,8 +184,7 @@ last_of graphs bans whole_held whole held levels level pair search held_is level
     room : length level.refs < ways_of graphs level
     room =
         let known : IsKnown graphs (chosen level) = subst (IsKnown graphs) (last_is ∙ split.1) (search.pairs.known (length held) pair (omega (arith, size_held))) in
-        let to : length level.refs / 2 < ports_in graphs.second level.kind = known.to in
-        omega (arith, to)
+        known_way graphs many level.side level.kind level.port (length level.refs) known
 
 -- a ban that doesn't need the last pair
 pub covers_less : (bans : List Ban) (held : List Pair) (pair : Pair) (ban : ℕ) → Covers bans (held ++ pair ∷ []) ban → ((d : Ban) → Contains (get_or bans ban d).pairs pair → ⊥) → Covers bans held ban
@@ -180,12 +200,12 @@ covers_less bans held pair ban covers without = record {
     by_case d x there (inr same) = absurd (without d (subst (Contains (get_or bans ban d).pairs) (sym same) there))
 
 -- the way that is tried is closed by a ban
-pub tried_more : (graphs : Graphs) (bans : List Ban) (held : List Pair) (level : Level) (pair : Pair) (ban : ℕ) (refs : List (Option ℕ)) → IsTried graphs bans held level → pair ≡ chosen level → IsOpen held pair → length level.refs < ways_of graphs level → Covers bans (held ++ pair ∷ []) ban → refs ≡ level.refs ++ Some ban ∷ [] → IsTried graphs bans held (record { kind = level.kind; from = level.from; refs = refs })
+pub tried_more : (graphs : Graphs) (bans : List Ban) (held : List Pair) (level : Level) (pair : Pair) (ban : ℕ) (refs : List (Option ℕ)) → IsTried graphs bans held level → pair ≡ chosen level → IsOpen held pair → length level.refs < ways_of graphs level → Covers bans (held ++ pair ∷ []) ban → refs ≡ level.refs ++ Some ban ∷ [] → IsTried graphs bans held (record { side = level.side; kind = level.kind; port = level.port; refs = refs })
 tried_more graphs bans held level pair ban refs tried way_is open' room covers refs_is = record {
-  port = tried.port;
+  there = tried.there;
   free = tried.free;
   room = omega (arith, ap length refs_is, length_push level.refs (Some ban), room);
-  closed = subst (λ l. EachAt (λ number r. IsClosed bans held (nth_way level.kind level.from number) r) l) (sym refs_is) (closed_more bans held level (Some ban) tried.closed (subst (λ p. IsClosed bans held p (Some ban)) way_is here));
+  closed = subst (λ l. EachAt (λ number r. IsClosed bans held (nth_way level.side level.kind level.port number) r) l) (sym refs_is) (closed_more bans held level (Some ban) tried.closed (subst (λ p. IsClosed bans held p (Some ban)) way_is here));
 }
   where
     swapped : (x : Pair) → Contains held x ⊎ (pair ≡ x) → Contains (pair ∷ held) x

@@ -7,6 +7,7 @@ use Rattle.circuits.specs.declared.port.Pair.{Pair}
 use Rattle.circuits.specs.declared.port.PortKind.{PortKind}
 use Rattle.circuits.specs.Bijections.{IsSignedBijection}
 use Rattle.net_core.specs.declared.graphs.Graphs.{Graphs}
+use Rattle.net_core.specs.declared.graphs.Side.TheVariants.{First}
 use Rattle.account_core.specs.Ports.{ports_in, IsKnown}
 use Rattle.match_search.specs.Held.{AreHeld, IsEntryOf, IsOf, IsWhole}
 use Rattle.match_search.proofs.ListLemmas.{contained_of_any}
@@ -15,13 +16,13 @@ use Rattle.match_search.proofs.OrderLemmas.{held_apart}
 -- The pair of a port, with the port's entry.
 pub record IsPaired (held : List Pair) (kind : PortKind) (entries : List (ℕ × Bool)) (port : ℕ) (pair : Pair) : Type 0 where
   pub there : Contains held pair
-  pub is : IsOf kind port pair
+  pub is : IsOf First kind port pair
   pub entry : get_or entries port (0, false) ≡ (pair.to, pair.flip)
 
 pub paired : (graphs : Graphs) (held : List Pair) (kind : PortKind) (entries : List (ℕ × Bool)) → IsWhole graphs held → All (IsEntryOf kind entries) held → (port : ℕ) → port < ports_in graphs.first kind → (pair : Pair) × IsPaired held kind entries port pair
 paired graphs held kind entries whole are port below =
     let any = whole kind port below in
-    let there = contained_of_any (IsOf kind port) held any in (
+    let there = contained_of_any (IsOf First kind port) held any in (
       any.1,
       record {
         there = there;

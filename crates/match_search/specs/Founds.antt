@@ -6,6 +6,8 @@ use Rattle.net_core.specs.declared.graphs.Graphs.{Graphs}
 use Rattle.net_core.specs.declared.matching.Matching.{Matching}
 use Rattle.account_core.specs.declared.step.Ban.{Ban}
 use Rattle.account_core.specs.Oracles.{AreSame, IsDifference}
+use Rattle.match_search.specs.declared.guessed.Guessed.{Guessed}
+use Rattle.match_search.specs.declared.guessed.Guessed.TheVariants as guessed
 use Rattle.match_search.specs.declared.found.Found.{Found}
 use Rattle.match_search.specs.declared.found.Found.TheVariants as found
 
@@ -36,6 +38,12 @@ IsComparison graphs matching k before after (Some vector) = IsDifference graphs 
 pub record IsShownMatch (graphs : Graphs) (matching : Matching) (logs : List Log) : Type 0 where
   pub is_match : IsMatchOfFunctions graphs.first graphs.second matching.inputs matching.outputs
   pub shown : AreLogs graphs matching logs
+
+-- a guessed table is a match, if it is said to be one
+abbrev pub IsGuessed : Graphs → Guessed → Type 0
+IsGuessed graphs (guessed.Match matching logs) = IsShownMatch graphs matching logs
+IsGuessed graphs guessed.Fails = Unit {0}
+IsGuessed graphs guessed.Nothing = Unit {0}
 
 -- A ban that is held and has no pairs: no match has all of none.
 pub record IsEmptyBan (bans : List Ban) (number : ℕ) : Type 0 where

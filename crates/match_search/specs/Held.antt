@@ -4,6 +4,8 @@ use Rattle.circuits.specs.declared.port.Pair.{Pair}
 use Rattle.circuits.specs.declared.port.PortKind.{PortKind}
 use Rattle.circuits.specs.declared.port.PortKind.TheVariants.{Input, Output}
 use Rattle.net_core.specs.declared.graphs.Graphs.{Graphs}
+use Rattle.net_core.specs.declared.graphs.Side.{Side}
+use Rattle.net_core.specs.declared.graphs.Side.TheVariants.{First, Second}
 use Rattle.account_core.specs.Ports.{ports_in, IsKnown, AreOrdered}
 
 -- Two pairs share no port.
@@ -16,18 +18,28 @@ pub record AreHeld (graphs : Graphs) (pairs : List Pair) : Type 0 where
   pub known : All (IsKnown graphs) pairs
   pub apart : AllPairs AreApart pairs
 
--- a pair is of a port of the first circuit
-pub record IsOf (kind : PortKind) (port : ℕ) (pair : Pair) : Type 0 where
-  pub kind_is : pair.kind ≡ kind
-  pub port_is : pair.from ≡ port
+-- the other one of two circuits
+abbrev pub opposite : Side → Side
+opposite First = Second
+opposite Second = First
 
--- a port of the first circuit is in a pair
-abbrev pub IsTaken : List Pair → PortKind → ℕ → Type 0
-IsTaken pairs kind port = Any (IsOf kind port) pairs
+-- a pair's port of a circuit
+abbrev pub port_on : Side → Pair → ℕ
+port_on First pair = pair.from
+port_on Second pair = pair.to
+
+-- a pair is of a port of a circuit
+pub record IsOf (side : Side) (kind : PortKind) (port : ℕ) (pair : Pair) : Type 0 where
+  pub kind_is : pair.kind ≡ kind
+  pub port_is : port_on side pair ≡ port
+
+-- a port of a circuit is in a pair
+abbrev pub IsTaken : Side → List Pair → PortKind → ℕ → Type 0
+IsTaken side pairs kind port = Any (IsOf side kind port) pairs
 
 -- each port of the first circuit is in a pair
 abbrev pub IsWhole : Graphs → List Pair → Type 0
-IsWhole graphs pairs = (kind : PortKind) (port : ℕ) → port < ports_in graphs.first kind → IsTaken pairs kind port
+IsWhole graphs pairs = (kind : PortKind) (port : ℕ) → port < ports_in graphs.first kind → IsTaken First pairs kind port
 
 -- Some of the pairs that are held, in order.
 pub record IsPart (held pairs : List Pair) : Type 0 where
@@ -48,16 +60,7 @@ StandsBefore one other = ArePortsInTurn one.kind other.kind one.from other.from
 abbrev pub IsEntryOf : PortKind → List (ℕ × Bool) → Pair → Type 0
 IsEntryOf kind entries pair = pair.kind ≡ kind → slice_index_or entries pair.from (0, false) ≡ (pair.to, pair.flip)
 
--- a pair goes to a port of the second circuit
-pub record GoesTo (kind : PortKind) (place : ℕ) (pair : Pair) : Type 0 where
-  pub kind_is : pair.kind ≡ kind
-  pub place_is : pair.to ≡ place
-
--- a port of the second circuit is in a pair
-abbrev pub IsReached : List Pair → PortKind → ℕ → Type 0
-IsReached pairs kind place = Any (GoesTo kind place) pairs
-
--- Marks on the second circuit's ports of a kind, that say which are in a pair.
-pub record AreMarks (pairs : List Pair) (kind : PortKind) (marks : List Bool) : Type 0 where
-  pub marked : (place : ℕ) → place < length marks → slice_index_or marks place false ≡ true → IsReached pairs kind place
-  pub unmarked : (place : ℕ) → place < length marks → slice_index_or marks place false ≡ false → IsReached pairs kind place → ⊥
+-- Marks on a circuit's ports of a kind, that say which are in a pair.
+pub record AreMarks (side : Side) (pairs : List Pair) (kind : PortKind) (marks : List Bool) : Type 0 where
+  pub marked : (port : ℕ) → port < length marks → slice_index_or marks port false ≡ true → IsTaken side pairs kind port
+  pub unmarked : (port : ℕ) → port < length marks → slice_index_or marks port false ≡ false → IsTaken side pairs kind port → ⊥

@@ -1,17 +1,19 @@
 //! Whole tables, which are compared output by output.
 
-ghost use Rattle.std.specs.Prelude.{◌≡◌, ◌<◌, [], IfNone, IfOk, IfSome, length};
+ghost use Rattle.std.specs.Prelude.{◌≡◌, ◌<◌, [], IfNone, IfOk, IfSome, OnOk, length};
 ghost use Rattle.account_core.specs.Oracles.{AreFacts, IsDifference, Serves, Suits};
 ghost use Rattle.account_core.specs.Ports.{HaveAsMany};
 ghost use Rattle.circuits.specs.Matches.{HavePorts};
 ghost use Rattle.match_search.specs.Founds.{AreLogs, IsComparison};
 ghost use Rattle.match_search.specs.Held.{IsWhole};
 ghost use Rattle.match_search.specs.States.{AreValid, IsAhead, IsSearchState};
+ghost use Rattle.table_guess.specs.Trials.{AreTrials};
 
 use crate::ahead::Ahead;
 use crate::difference::exclude;
 use crate::state::State;
 use crate::table::table;
+use table_guess::Trials;
 use account_core::{Compared, Oracle};
 use ban_book::BanBook;
 use bit_list::Bits;
@@ -29,11 +31,12 @@ pub(crate) struct Difference {
 }
 
 /// Compares all outputs under the pairs that are held, one of each port. Where one differs, it holds a ban that says
-/// so.
+/// so, and keeps the vector.
 pub(crate) fn compare_whole<O: Oracle>(
     alloc: Global,
     graphs: &Graphs,
     oracle: &mut O,
+    trials: &mut Trials,
     state: &State,
     book: &mut BanBook,
     ledger: &mut Ledger,
@@ -45,8 +48,10 @@ pub(crate) fn compare_whole<O: Oracle>(
     requires whole { IsWhole graphs.now state.now.held }
     requires suits { Suits (O.known oracle.old) ledger.old }
     requires valid { AreValid graphs.now (O.known oracle.old) book.old }
+    requires trials { AreTrials graphs.now.first trials.old }
     ensures serves { Serves (O.known oracle.old) (O.known oracle.new) ledger.old ledger.new result }
     ensures valid { AreValid graphs.now (O.known oracle.new) book.new }
+    ensures trials { OnOk result (AreTrials graphs.now.first trials.new) }
     ensures ahead { IfOk result (IsAhead graphs.now book.new state.now state.now) }
 {
     let _first = graphs.first.inputs();
@@ -56,14 +61,15 @@ pub(crate) fn compare_whole<O: Oracle>(
     match compare_all(alloc, graphs, oracle, &matching, ledger, &mut logs)? {
         None => Ok(Ahead::Match(matching, logs)),
         Some(found) => {
+            trials.keep(alloc, &graphs.first, &found.vector)?;
             let ban = exclude(alloc, graphs, &matching, found.output, &found.vector, book)?;
             Ok(Ahead::Ban(ban))
         }
     }
 }
 
-// Compares the outputs in order, until one differs. The logs of those that agree come behind those given.
-fn compare_all<O: Oracle>(
+/// Compares the outputs in order, until one differs. The logs of those that agree come behind those given.
+pub(crate) fn compare_all<O: Oracle>(
     alloc: Global,
     graphs: &Graphs,
     oracle: &mut O,

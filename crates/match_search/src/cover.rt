@@ -8,16 +8,17 @@ ghost use Rattle.account_core.specs.Given.{Decided as AnyFact, given_of};
 ghost use Rattle.account_core.specs.Steps.{IsValidBan};
 ghost use Rattle.ban_book.specs.Covering.{Covers, IsWithin};
 ghost use Rattle.match_search.specs.Held.{AreApart, AreHeld, IsPart};
-ghost use Rattle.match_search.specs.Levels.{ways_of, AreClosed, HoldsMore, IsClosed, IsTried, nth_way};
+ghost use Rattle.match_search.specs.Levels.{ports_tried, ways_of, AreClosed, HoldsMore, IsClosed, IsTried, nth_way};
 
 use crate::clash::clashing;
 use crate::level::{Level, nth_way};
 use crate::needed::add;
+use crate::side::opposite;
 use account_core::{Ban, Step};
 use ban_book::BanBook;
 use circuits::{Pair, PortKind};
 use items::{Few, Items};
-use net_core::{Graph, Graphs};
+use net_core::{Graph, Graphs, Side};
 use std::alloc::{AllocError, Global};
 
 #[tactic(auto, using(crate::proofs::BookLemmas::holds_none))]
@@ -59,8 +60,8 @@ fn cover_ban(
 {
     let count = ports_in(&graphs.second, level.kind);
     let pairs = needed(alloc, held, &level, bans)?;
-    let from = Items::from_slice(alloc, &[level.from])?;
-    let to = ports_up_to(alloc, count)?;
+    let from = ports_tried(alloc, level.side, level.port, count)?;
+    let to = ports_tried(alloc, opposite(level.side), level.port, count)?;
     let pairs = Few::from_slice(alloc, &pairs)?;
     let Level { kind, refs, .. } = level;
     Ok(Ban {
@@ -72,6 +73,16 @@ fn cover_ban(
             refs,
         },
     })
+}
+
+// The first circuit's ports whose ways are tried at a level of a port of this side: the port itself, or all.
+fn ports_tried(alloc: Global, side: Side, port: u32, count: u32) -> Result<Items<u32>, AllocError>
+    ensures { IfOk result (λ ports. ports ≡ ports_tried side port count) }
+{
+    match side {
+        Side::First => Items::from_slice(alloc, &[port]),
+        Side::Second => ports_up_to(alloc, count),
+    }
 }
 
 /// How many ports of a kind a circuit has.
@@ -110,7 +121,7 @@ fn needed(
 {
     let mut needed = Vec::new(alloc);
     for (number, reference) in level.refs.iter().enumerate() {
-        let way = nth_way(level.kind, level.from, number as u64);
+        let way = nth_way(level.side, level.kind, level.port, number as u64);
         add_needed(&mut needed, held, way, *reference, bans)?;
     }
     Ok(needed)
@@ -196,8 +207,8 @@ fn add_unless(
     Ok(())
 }
 
-// Adds a held pair.
-fn add_one(needed: &mut Vec<Pair>, held: &[Pair], pair: Pair) -> Result<(), AllocError>
+/// Adds a held pair to some of those that are held, in order.
+pub(crate) fn add_one(needed: &mut Vec<Pair>, held: &[Pair], pair: Pair) -> Result<(), AllocError>
     requires part { IsPart held.now needed.old.items }
     requires apart { AllPairs AreApart held.now }
     requires held { Contains held.now pair }

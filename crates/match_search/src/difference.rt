@@ -62,8 +62,8 @@ pub(crate) fn exclude(
     Ok(number)
 }
 
-// The values of a vector's bits.
-fn definite(alloc: Global, vector: &Bits) -> Result<Items<Tri>, AllocError>
+/// The values of a vector's bits.
+pub(crate) fn definite(alloc: Global, vector: &Bits) -> Result<Items<Tri>, AllocError>
     ensures { IfOk result (λ values. values ≡ map of_bit vector.now) }
 {
     let mut values = Items::new(alloc);
@@ -106,8 +106,8 @@ fn inputs_and(alloc: Global, matching: &Matching, pair: Pair) -> Result<Vec<Pair
     Ok(pairs)
 }
 
-// Leaves out each input's pair without which the values show the difference too.
-fn leave_out(
+/// Leaves out each input's pair without which the values show the difference too.
+pub(crate) fn leave_out(
     alloc: Global,
     graphs: &Graphs,
     whole: Vec<Pair>,
@@ -193,8 +193,8 @@ fn removed(alloc: Global, pairs: &[Pair], place: usize) -> Result<Vec<Pair>, All
     Ok(fewer)
 }
 
-// Whether the values make the partner of an output definite and wrong, whatever the inputs have that aren't paired.
-fn is_wrong(
+/// Whether the values make the partner of an output definite and wrong, whatever the inputs have that aren't paired.
+pub(crate) fn is_wrong(
     alloc: Global,
     graphs: &Graphs,
     pairs: &[Pair],
@@ -214,8 +214,8 @@ fn is_wrong(
     Ok((value != Tri::X) & (first != signed(value, pair.flip)))
 }
 
-// The value of an output where the inputs have these values.
-fn output_value(
+/// The value of an output where the inputs have these values.
+pub(crate) fn output_value(
     alloc: Global,
     graph: &Graph,
     inputs: &[Tri],

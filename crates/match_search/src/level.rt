@@ -1,19 +1,21 @@
-//! A port of the first circuit whose ways are tried.
+//! A port whose ways are tried.
 
 ghost use Rattle.std.specs.Prelude.{◌≡◌, ◌*◌, ◌^◌, ◌<◌, ◌≤◌, [], IfOk, length};
-ghost use Rattle.match_search.specs.Held.{AreMarks, IsTaken};
+ghost use Rattle.match_search.specs.Held.{opposite, AreMarks, IsTaken};
 ghost use Rattle.match_search.specs.Levels.{chosen, nth_way, ClosesImpossible};
 
 use circuits::{Pair, PortKind};
 use items::Items;
+use net_core::Side;
 use std::alloc::{AllocError, Global};
 
-/// A port of the first circuit whose ways are tried one after the other: to port 0 of the second circuit, plain and
-/// then negated, to port 1, and so on.
+/// A port of a circuit whose ways are tried one after the other: with port 0 of the other circuit, plain and then
+/// negated, with port 1, and so on.
 #[derive(Debug, Drop)]
 pub(crate) struct Level {
+    pub(crate) side: Side,
     pub(crate) kind: PortKind,
-    pub(crate) from: u32,
+    pub(crate) port: u32,
     /// For each way that was closed, in order: None where it clashes with a pair that is held, else a ban that it
     /// leads into.
     pub(crate) refs: Items<Option<u64>>,
@@ -21,12 +23,13 @@ pub(crate) struct Level {
 
 impl Level {
     /// No way was closed.
-    pub(crate) fn new(alloc: Global, kind: PortKind, from: u32) -> Level
-        ensures { result ≡ record { kind = kind; from = from; refs = [] } }
+    pub(crate) fn new(alloc: Global, side: Side, kind: PortKind, port: u32) -> Level
+        ensures { result ≡ record { side = side; kind = kind; port = port; refs = [] } }
     {
         Level {
+            side,
             kind,
-            from,
+            port,
             refs: Items::new(alloc),
         }
     }
@@ -36,11 +39,11 @@ impl Level {
         requires { length self.now.refs < 2 ^ 33 }
         ensures { result ≡ chosen self.now }
     {
-        nth_way(self.kind, self.from, self.refs.len() as u64)
+        nth_way(self.side, self.kind, self.port, self.refs.len() as u64)
     }
 
     /// Closes ways that clash with held pairs, until the first that doesn't, and answers whether there is one. Those
-    /// ports of the second circuit are marked that are in a held pair; the level's port is in none.
+    /// ports of the other circuit are marked that are in a held pair; the level's port is in none.
     pub(crate) fn close_clashing(
         &mut self,
         held: &[Pair],
@@ -48,8 +51,8 @@ impl Level {
     ) -> Result<bool, AllocError>
         requires few { length marks.now < 2 ^ 32 }
         requires room { length self.old.refs ≤ 2 * length marks.now }
-        requires free { IsTaken held.now self.old.kind self.old.from → ⊥ }
-        requires marks { AreMarks held.now self.old.kind marks.now }
+        requires free { IsTaken self.old.side held.now self.old.kind self.old.port → ⊥ }
+        requires marks { AreMarks (opposite self.old.side) held.now self.old.kind marks.now }
         ensures { IfOk result (ClosesImpossible held.now (2 * length marks.now) self.old self.new) }
     {
         let _ = held;
@@ -64,14 +67,19 @@ impl Level {
 }
 
 /// Way number `number` of a port.
-pub(crate) fn nth_way(kind: PortKind, from: u32, number: u64) -> Pair
+pub(crate) fn nth_way(side: Side, kind: PortKind, port: u32, number: u64) -> Pair
     requires { number < 2 ^ 33 }
-    ensures { result ≡ nth_way kind from number }
+    ensures { result ≡ nth_way side kind port number }
 {
+    let other = (number / 2) as u32;
+    let (from, to) = match side {
+        Side::First => (port, other),
+        Side::Second => (other, port),
+    };
     Pair {
         kind,
         from,
-        to: (number / 2) as u32,
+        to,
         flip: number % 2 == 1,
     }
 }

@@ -1,46 +1,49 @@
-//! Which ports of the second circuit are in a pair.
+//! Which ports of a circuit are in a pair.
 
 ghost use Rattle.std.specs.Prelude.{ℕ, ◌≡◌, ◌≢◌, ◌<◌, All, IfOk, false, length, replicate, slice_index_or, true};
-ghost use Rattle.match_search.specs.Held.{AreMarks};
+ghost use Rattle.match_search.specs.Held.{port_on, AreMarks};
 
+use crate::side::port_on;
 use circuits::{Pair, PortKind};
+use net_core::Side;
 use std::alloc::{AllocError, Global};
 
-/// Marks on so many ports of a kind of the second circuit: those are marked that are in a pair.
+/// Marks on so many ports of a kind of a circuit: those are marked that are in a pair.
 pub(crate) fn marks(
     alloc: Global,
     held: &[Pair],
+    side: Side,
     kind: PortKind,
     count: u32,
 ) -> Result<Vec<bool>, AllocError>
-    requires { All (λ pair. pair.kind ≡ kind → pair.to < count) held.now }
+    requires { All (λ pair. pair.kind ≡ kind → port_on side pair < count) held.now }
     ensures length { IfOk result (λ marks. length marks.items ≡ count) }
-    ensures marks { IfOk result (λ marks. AreMarks held.now kind marks.items) }
+    ensures marks { IfOk result (λ marks. AreMarks side held.now kind marks.items) }
 {
     let mut marks = vec![in alloc; false; count as usize]?;
-    mark_all(held, kind, &mut marks);
+    mark_all(held, side, kind, &mut marks);
     Ok(marks)
 }
 
-fn mark_all(held: &[Pair], kind: PortKind, marks: &mut [bool])
-    requires known { All (λ pair. pair.kind ≡ kind → pair.to < length marks.old) held.now }
+fn mark_all(held: &[Pair], side: Side, kind: PortKind, marks: &mut [bool])
+    requires known { All (λ pair. pair.kind ≡ kind → port_on side pair < length marks.old) held.now }
     requires none { marks.old ≡ replicate (length marks.old) false }
-    ensures { AreMarks held.now kind marks.new }
+    ensures { AreMarks side held.now kind marks.new }
 {
     for pair in held.iter() {
-        mark(*pair, kind, marks);
+        mark(*pair, side, kind, marks);
     }
 }
 
-// Marks the second port of a pair of this kind.
-fn mark(pair: Pair, kind: PortKind, marks: &mut [bool])
-    requires { pair.kind ≡ kind → pair.to < length marks.old }
+// Marks the port of a pair of this kind.
+fn mark(pair: Pair, side: Side, kind: PortKind, marks: &mut [bool])
+    requires { pair.kind ≡ kind → port_on side pair < length marks.old }
     ensures length { length marks.new ≡ length marks.old }
-    ensures marked { pair.kind ≡ kind → slice_index_or marks.new pair.to false ≡ true }
-    ensures others { (place : ℕ) → (pair.kind ≡ kind → place ≢ pair.to)
-        → slice_index_or marks.new place false ≡ slice_index_or marks.old place false }
+    ensures marked { pair.kind ≡ kind → slice_index_or marks.new (port_on side pair) false ≡ true }
+    ensures others { (port : ℕ) → (pair.kind ≡ kind → port ≢ port_on side pair)
+        → slice_index_or marks.new port false ≡ slice_index_or marks.old port false }
 {
     if pair.kind == kind {
-        marks[pair.to as usize] = true;
+        marks[port_on(side, pair) as usize] = true;
     }
 }

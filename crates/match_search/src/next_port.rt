@@ -1,83 +1,113 @@
 //! Which port is decided next.
 
 ghost use Rattle.std.specs.Prelude.{ℕ, ◌↔◌, ◌<◌, IfNone, IfSome, IsTrue};
-ghost use Rattle.account_core.specs.Ports.{ports_in};
+ghost use Rattle.net_core.specs.declared.graphs.Side.TheVariants as AnySide;
+ghost use Rattle.account_core.specs.Ports.{HaveAsMany, ports_in};
 ghost use Rattle.match_search.specs.Held.{IsOf, IsTaken, IsWhole};
 
 use crate::cover::ports_in;
+use crate::side::port_on;
 use circuits::{Pair, PortKind};
-use net_core::Graphs;
+use items::Items;
+use net_core::{Graphs, Side};
 
-/// The next port of the first circuit that is in no pair: its outputs come first, in order, and then its inputs. It
-/// is None where each port is in a pair.
-pub(crate) fn next_port(graphs: &Graphs, held: &[Pair]) -> Option<(PortKind, u32)>
-    ensures port { IfSome result (λ next. next.1 < ports_in graphs.now.first next.0) }
-    ensures free { IfSome result (λ next. IsTaken held.now next.0 next.1 → ⊥) }
+/// The next port that is in no pair, and whose it is: an input of the second circuit that the partner of a paired output
+/// reads, since the partner is known once these have pairs; else an output of the first circuit, in order, and at last an
+/// input. It is None where each port is in a pair. `reads` are the inputs that the second circuit's outputs read.
+pub(crate) fn next_port(
+    graphs: &Graphs,
+    reads: &[Items<u32>],
+    held: &[Pair],
+) -> Option<(Side, PortKind, u32)>
+    requires ports { HaveAsMany graphs.now.first graphs.now.second }
+    ensures port { IfSome result (λ next. next.2 < ports_in graphs.now.first next.1) }
+    ensures free { IfSome result (λ next. IsTaken next.0 held.now next.1 next.2 → ⊥) }
     ensures none { IfNone result (IsWhole graphs.now held.now) }
 {
-    let outputs = ports_in(&graphs.first, PortKind::Output);
-    if let Some(output) = free_port(held, PortKind::Output, outputs) {
-        return Some((PortKind::Output, output));
-    }
     let inputs = ports_in(&graphs.first, PortKind::Input);
-    match free_port(held, PortKind::Input, inputs) {
-        Some(input) => Some((PortKind::Input, input)),
+    if let Some(input) = first_read(reads, held, inputs) {
+        return Some((Side::Second, PortKind::Input, input));
+    }
+    let outputs = ports_in(&graphs.first, PortKind::Output);
+    if let Some(output) = first_free(held, PortKind::Output, outputs) {
+        return Some((Side::First, PortKind::Output, output));
+    }
+    match first_free(held, PortKind::Input, inputs) {
+        Some(input) => Some((Side::First, PortKind::Input, input)),
         None => None,
     }
 }
 
-// One of so many ports of a kind that is in no pair: the port behind that of the last pair, which it mostly is where
-// ports are decided in order, and else the first.
-fn free_port(held: &[Pair], kind: PortKind, count: u32) -> Option<u32>
-    ensures port { IfSome result (λ port. port < count) }
-    ensures free { IfSome result (λ port. IsTaken held.now kind port → ⊥) }
-    ensures none { IfNone result ((port : ℕ) → port < count → IsTaken held.now kind port) }
+// One of so many inputs of the second circuit that is in no pair, and that the partner of a paired output reads.
+fn first_read(reads: &[Items<u32>], held: &[Pair], inputs: u32) -> Option<u32>
+    ensures port { IfSome result (λ input. input < inputs) }
+    ensures free { IfSome result (λ input. IsTaken AnySide.Second held.now PortKind.Input input → ⊥) }
 {
-    let behind = behind_last(held);
-    if is_free(held, kind, behind, count) {
-        return Some(behind);
+    for pair in held.iter() {
+        if let Some(input) = first_read_by(reads, *pair, held, inputs) {
+            return Some(input);
+        }
     }
-    first_free(held, kind, count)
+    None
 }
 
-// The number behind that of the last pair's first port.
-fn behind_last(held: &[Pair]) -> u32 {
-    match held.last() {
-        Some(pair) => pair.from.saturating_add(1),
-        None => 0,
-    }
-}
-
-// Whether a port is one of so many, and in no pair.
-fn is_free(held: &[Pair], kind: PortKind, port: u32, count: u32) -> bool
-    ensures { IsTrue result → (port < count) × (IsTaken held.now kind port → ⊥) }
+// One that the second output of a pair reads.
+fn first_read_by(reads: &[Items<u32>], pair: Pair, held: &[Pair], inputs: u32) -> Option<u32>
+    ensures port { IfSome result (λ input. input < inputs) }
+    ensures free { IfSome result (λ input. IsTaken AnySide.Second held.now PortKind.Input input → ⊥) }
 {
-    (port < count) & !is_taken(held, kind, port)
+    if pair.kind != PortKind::Output {
+        return None;
+    }
+    match reads.get(pair.to as usize) {
+        Some(read) => free_of(read, held, inputs),
+        None => None,
+    }
 }
 
-// The first of so many ports of a kind that is in no pair.
+// One of these inputs of the second circuit.
+fn free_of(read: &[u32], held: &[Pair], inputs: u32) -> Option<u32>
+    ensures port { IfSome result (λ input. input < inputs) }
+    ensures free { IfSome result (λ input. IsTaken AnySide.Second held.now PortKind.Input input → ⊥) }
+{
+    for input in read.iter() {
+        if is_free(held, *input, inputs) {
+            return Some(*input);
+        }
+    }
+    None
+}
+
+// Whether an input of the second circuit is one of so many, and in no pair.
+fn is_free(held: &[Pair], input: u32, inputs: u32) -> bool
+    ensures { IsTrue result → (input < inputs) × (IsTaken AnySide.Second held.now PortKind.Input input → ⊥) }
+{
+    (input < inputs) & !is_taken(held, Side::Second, PortKind::Input, input)
+}
+
+// The first of so many ports of a kind of the first circuit that is in no pair.
 fn first_free(held: &[Pair], kind: PortKind, count: u32) -> Option<u32>
     ensures port { IfSome result (λ port. port < count) }
-    ensures free { IfSome result (λ port. IsTaken held.now kind port → ⊥) }
-    ensures none { IfNone result ((port : ℕ) → port < count → IsTaken held.now kind port) }
+    ensures free { IfSome result (λ port. IsTaken AnySide.First held.now kind port → ⊥) }
+    ensures none { IfNone result ((port : ℕ) → port < count → IsTaken AnySide.First held.now kind port) }
 {
     for port in 0..count {
-        if !is_taken(held, kind, port) {
+        if !is_taken(held, Side::First, kind, port) {
             return Some(port);
         }
     }
     None
 }
 
-// Whether a port of the first circuit is in a pair.
-fn is_taken(held: &[Pair], kind: PortKind, port: u32) -> bool
-    ensures { IsTrue result ↔ IsTaken held.now kind port }
+// Whether a port of a circuit is in a pair.
+fn is_taken(held: &[Pair], side: Side, kind: PortKind, port: u32) -> bool
+    ensures { IsTrue result ↔ IsTaken side held.now kind port }
 {
-    held.iter().any(|pair| is_of(*pair, kind, port))
+    held.iter().any(|pair| is_of(*pair, side, kind, port))
 }
 
-fn is_of(pair: Pair, kind: PortKind, port: u32) -> bool
-    ensures { IsTrue result ↔ IsOf kind port pair }
+fn is_of(pair: Pair, side: Side, kind: PortKind, port: u32) -> bool
+    ensures { IsTrue result ↔ IsOf side kind port pair }
 {
-    (pair.kind == kind) & (pair.from == port)
+    (pair.kind == kind) & (port_on(side, pair) == port)
 }

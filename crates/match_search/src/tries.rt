@@ -11,6 +11,7 @@ ghost use Rattle.match_search.specs.States.{GoesBack, IsSearchState, Tries};
 use crate::cover::{cover, ports_in};
 use crate::level::Level;
 use crate::marks::marks;
+use crate::side::opposite;
 use crate::state::State;
 use ban_book::BanBook;
 use circuits::Pair;
@@ -34,7 +35,7 @@ pub(crate) fn advance(
 {
     let mut level = level;
     let count = ports_in(&graphs.second, level.kind);
-    let marks = marks(alloc, &state.held, level.kind, count)?;
+    let marks = marks(alloc, &state.held, opposite(level.side), level.kind, count)?;
     if level.close_clashing(&state.held, &marks)? {
         state.hold(level)?;
         return Ok(None);

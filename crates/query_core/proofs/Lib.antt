@@ -1,4 +1,5 @@
 pub mod AssignmentLemmas
+pub mod FeedLemmas
 pub mod FormulaLemmas
 pub mod LawLemmas
 pub mod MatchLemmas

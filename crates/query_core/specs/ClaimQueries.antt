@@ -1,24 +1,12 @@
 -- What is asked of a claim: whether its output can be 1 with its shape's values where it is 0 with the opposite ones.
-use Rattle.std.specs.Prelude.{ℕ, Bool, true, false, not, List, slice_set}
+use Rattle.std.specs.Prelude.{true, false, not}
 use Rattle.net_core.specs.declared.graphs.Graphs.{Graphs}
 use Rattle.net_core.specs.Sides.{graph_of}
 use Rattle.query_core.specs.declared.claims.Shape.{Shape}
 use Rattle.query_core.specs.declared.claims.Shape.TheVariants.{Up, Down, Swap}
 use Rattle.query_core.specs.declared.claims.Claim.{Claim}
-use Rattle.query_core.specs.declared.query.Feed.{Feed}
-use Rattle.query_core.specs.declared.query.Feed.TheVariants.{Fixed}
 use Rattle.query_core.specs.declared.query.Query.{Query}
-use Rattle.query_core.specs.MatchQueries.{straight}
-
--- an input gets a fixed bit
-abbrev pub with_fixed : ℕ → Bool → List Feed → List Feed
-with_fixed i b feed = slice_set feed i (Fixed b)
-
--- the shape's inputs get its values, and each other input gets its own bit
-abbrev pub values_feed : ℕ → Shape → List Feed
-values_feed n (Up i) = with_fixed i false (straight n)
-values_feed n (Down i) = with_fixed i true (straight n)
-values_feed n (Swap i j a b) = with_fixed j b (with_fixed i a (straight n))
+pub use Rattle.query_core.specs.Feeds.{values_feed, with_fixed}
 
 -- the shape with the opposite values
 abbrev pub opposite_shape : Shape → Shape

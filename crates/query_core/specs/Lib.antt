@@ -1,3 +1,4 @@
+pub mod Feeds
 pub mod Queries
 pub mod Formulas
 pub mod MatchQueries

@@ -9,10 +9,7 @@ use Rattle.query_core.specs.declared.query.Feed.{Feed}
 use Rattle.query_core.specs.declared.query.Feed.TheVariants.{Fixed, Wire}
 use Rattle.query_core.specs.declared.query.Query.{Query}
 use Rattle.query_core.specs.Queries.{IsWired}
-
--- each input gets its own bit
-abbrev pub straight : ℕ → List Feed
-straight n = map (λ i. Wire i false) (range_with_len 0 n)
+pub use Rattle.query_core.specs.Feeds.{straight}
 
 -- what a place gets by the entries from number i on: the bit of the input that goes there, inverted where the entry says so
 abbrev pub wire_to : ℕ → List (ℕ × Bool) → ℕ → Feed

@@ -126,12 +126,13 @@ impl Ledger {
     }
 }
 
-// The entry of a query, whose lines are its lemmas.
+// The entry of a query, whose lines are its lemmas. There is room for one line, since most queries need no more.
 fn opening(alloc: Global, query: &Query, lemmas: &[LogLine]) -> Result<Asked, AllocError>
     ensures { IfOk result (λ entry. entry ≡ entry_of query.now lemmas.now) }
 {
     let query = query.copy()?;
-    let lines = lemmas.to_vec(alloc)?;
+    let mut lines = lemmas.to_vec(alloc)?;
+    lines.reserve_exact(1)?;
     Ok(Asked {
         query,
         lemmas: lines.len() as u64,

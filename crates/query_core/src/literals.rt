@@ -6,6 +6,7 @@ ghost use Rattle.net_core.specs.Graph.{AreInOrder};
 ghost use Rattle.query_core.specs.Queries.{IsQuery};
 ghost use Rattle.query_core.specs.Formulas.{feed_literal, false_literal, plain, left_literals, right_literals, right_variables, shared_from, feeds_differ, reaching, reaches};
 
+use crate::feeds::Feeds;
 use crate::query::{Feed, Query};
 use cnf_core::SatLit;
 use net_core::{Gate, Graphs};
@@ -42,13 +43,13 @@ pub(crate) fn right_literals(
 }
 
 // The literals of the constant and of the inputs.
-fn input_literals(alloc: Global, feed: &[Feed]) -> Result<Vec<SatLit>, AllocError>
-    ensures { IfOk result (λ literals. literals.items ≡ false_literal ∷ map feed_literal feed.now) }
+fn input_literals(alloc: Global, feeds: &Feeds) -> Result<Vec<SatLit>, AllocError>
+    ensures { IfOk result (λ literals. literals.items ≡ false_literal ∷ map feed_literal feeds.now) }
 {
     let mut literals = Vec::new(alloc);
     literals.push(SatLit::of(0, false))?;
-    for entry in feed.iter() {
-        literals.push(feed_literal(*entry))?;
+    for input in 0..feeds.len() {
+        literals.push(feed_literal(feeds.get(input)))?;
     }
     Ok(literals)
 }
@@ -139,12 +140,12 @@ fn reaches(alloc: Global, query: &Query, gates: &[Gate]) -> Result<Vec<bool>, Al
 }
 
 // Adds whether the two feeds of each input differ.
-fn push_differing(left: &[Feed], right: &[Feed], signals: &mut Vec<bool>) -> Result<(), AllocError>
+fn push_differing(left: &Feeds, right: &Feeds, signals: &mut Vec<bool>) -> Result<(), AllocError>
     requires { length left.now ≡ length right.now }
     ensures { OnOk result (signals.new.items ≡ signals.old.items ++ feeds_differ left.now right.now) }
 {
-    for (k, feed) in left.iter().enumerate() {
-        signals.push(*feed != right[k])?;
+    for input in 0..left.len() {
+        signals.push(left.get(input) != right.get(input))?;
     }
     Ok(())
 }

@@ -4,8 +4,9 @@ ghost use Rattle.std.specs.Prelude.{◌≡◌, ◌<◌, ◌^◌, All, IfOk, leng
 ghost use Rattle.circuits.specs.Bijections.{IsSignedBijection};
 ghost use Rattle.circuits.specs.Matches.{HavePorts};
 ghost use Rattle.query_core.specs.Queries.{IsQuery, IsWired};
-ghost use Rattle.query_core.specs.MatchQueries.{match_query, moved_feed, straight};
+ghost use Rattle.query_core.specs.MatchQueries.{match_query, moved_feed};
 
+use crate::feeds::Feeds;
 use crate::query::{Cone, Feed, Query};
 use items::Items;
 use net_core::{Graphs, Matching, Side};
@@ -30,7 +31,7 @@ pub fn of_match(
     let left = Cone {
         side: Side::First,
         output,
-        feed: straight(alloc, inputs)?,
+        feed: Feeds::straight(inputs),
     };
     let right = Cone {
         side: Side::Second,
@@ -45,26 +46,15 @@ pub fn of_match(
     })
 }
 
-// Each input gets its own bit.
-pub(crate) fn straight(alloc: Global, inputs: u32) -> Result<Items<Feed>, AllocError>
-    ensures { IfOk result (λ feed. feed ≡ straight inputs) }
-{
-    let mut feed = Items::new(alloc);
-    for place in 0..inputs {
-        feed.push(Feed::Wire { place, flip: false })?;
-    }
-    Ok(feed)
-}
-
 // Each input gets the bit of the input that goes to it.
-fn moved(alloc: Global, entries: &[(u32, bool)]) -> Result<Items<Feed>, AllocError>
+fn moved(alloc: Global, entries: &[(u32, bool)]) -> Result<Feeds, AllocError>
     requires few { length entries.now < 2 ^ 32 }
     requires shape { IsSignedBijection (length entries.now) entries.now }
     ensures { IfOk result (λ feed. feed ≡ moved_feed entries.now) }
 {
     let mut feed = vec![in alloc; Feed::Fixed(false); entries.len()]?;
     put_wires(entries, &mut feed);
-    Ok(Items::from_vec(feed))
+    Ok(Feeds::from_items(Items::from_vec(feed)))
 }
 
 fn put_wires(entries: &[(u32, bool)], feed: &mut [Feed])

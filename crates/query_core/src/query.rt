@@ -2,7 +2,7 @@
 
 ghost use Rattle.std.specs.Prelude.{◌≡◌, IfOk};
 
-use items::Items;
+use crate::feeds::Feeds;
 use net_core::Side;
 use std::alloc::AllocError;
 
@@ -20,7 +20,7 @@ pub struct Cone {
     pub side: Side,
     pub output: u32,
     /// One entry for each input, in their order.
-    pub feed: Items<Feed>,
+    pub feed: Feeds,
 }
 
 /// Whether there is a vector on which two cones have these values.

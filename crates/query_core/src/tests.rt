@@ -3,11 +3,12 @@
 ghost use Rattle.std.specs.Prelude.{IfOk, IfSome};
 ghost use Rattle.query_core.specs.Queries.{IsQuery};
 
-use crate::{Claim, Query, QueryBase, Shape, cone_ids, image, of_claim, of_match};
+use crate::{Claim, Feed, Feeds, Query, QueryBase, Shape, cone_ids, image, of_claim, of_match};
 use cnf_core::Base;
 use items::Items;
 use net_core::{Gate, Graph, Graphs, Lit, Matching, Pair, PortKind, Side};
 use std::alloc::{AllocError, Global};
+use std::collections::HashMap;
 use std::test::Fail;
 
 fn graph_of(alloc: Global, inputs: u32, gates: &[(u32, u32)], output: u32) -> Result<Graph, Fail> {
@@ -258,5 +259,46 @@ fn moves_claims(rt: HostRuntime) -> Result<(), Fail> {
             None
         );
     }
+    Ok(())
+}
+
+fn wire(place: u32) -> Feed {
+    Feed::Wire { place, flip: false }
+}
+
+/// Feeds of three inputs, as a list.
+fn listed(alloc: Global, feeds: &[Feed]) -> Result<Feeds, AllocError> {
+    Ok(Feeds::from_items(Items::from_slice(alloc, feeds)?))
+}
+
+#[test]
+fn feeds_are_the_same_in_each_form(rt: HostRuntime) -> Result<(), Fail> {
+    let alloc = rt.alloc();
+    let own = [wire(0), wire(1), wire(2)];
+    let straight = Feeds::straight(3);
+    let valued = Feeds::valued(
+        3,
+        Shape::Swap {
+            i: 0,
+            j: 2,
+            a: true,
+            b: false,
+        },
+    );
+    let mut numbers = HashMap::new(alloc);
+    numbers.insert(straight.clone()?, 1)?;
+    numbers.insert(valued.clone()?, 2)?;
+    for (feeds, number) in [
+        (own, Some(1)),
+        ([Feed::Fixed(true), own[1], Feed::Fixed(false)], Some(2)),
+        ([Feed::Fixed(true), own[1], Feed::Fixed(true)], None),
+        ([Feed::Fixed(true), own[1], own[2]], None),
+    ] {
+        let list = listed(alloc, feeds.as_slice())?;
+        assert_eq!(rt; numbers.get(&list).copied(), number, "{feeds:?}");
+        assert_eq!(rt; list == straight, number == Some(1));
+        assert_eq!(rt; list == valued, number == Some(2));
+    }
+    assert!(rt; straight != Feeds::straight(2));
     Ok(())
 }

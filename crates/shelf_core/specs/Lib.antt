@@ -6,3 +6,5 @@ pub mod Safe
 pub mod Disk
 pub mod Cut
 pub mod CallCount
+pub mod Failing
+pub mod Fakes

@@ -3,6 +3,9 @@
 
 mod copy;
 mod disk_shelf;
+mod failing;
+mod mem_shelf;
+mod mem_sink;
 mod outside;
 mod safe_shelf;
 mod safe_sink;
@@ -11,10 +14,14 @@ mod stored_file;
 mod stream;
 
 pub use disk_shelf::DiskShelf;
+pub use mem_shelf::MemShelf;
+pub use mem_sink::MemSink;
 pub use outside::{Shelf, ShelfStop, Sink};
 pub use safe_shelf::SafeShelf;
 pub use safe_sink::SafeSink;
 pub use std_sink::StdSink;
 
+#[cfg(test)]
+mod fake_tests;
 #[cfg(test)]
 mod tests;

@@ -1,4 +1,3 @@
-use Rattle.std.specs.Bool.{IsTrue}
 use Rattle.account_check.proofs.bans.test_step.Goals as goal
 
 pub has_shown-requires-clause-names : goal.has_shown-requires-clause-names

@@ -3,5 +3,5 @@ use Rattle.query_core.specs.declared.query.Feed.{Feed}
 use Rattle.query_core.specs.Queries.{IsWired}
 use Rattle.ask_core.proofs.tests.are_wired.Given as goal
 
-abbrev pub invariant-loop-entry : goal.invariant-loop-entry
-invariant-loop-entry l = (k : ℕ) (d : Feed) → k < l.entry-index → IsWired l.inputs (slice_index_or l.feed k d)
+abbrev pub invariant-loop-input : goal.invariant-loop-input
+invariant-loop-input l = (k : ℕ) (d : Feed) → k < l.input → IsWired l.inputs (slice_index_or l.feeds k d)

@@ -7,7 +7,7 @@ use Rattle.match_search.proofs.ServeLemmas.{served_one, served_then, serves_ok, 
 use Rattle.match_search.proofs.branching.search.Goals as goal
 
 pub loop-state-init : goal.loop-state-init
-loop-state-init g c = searching_start c.args.graphs.now (g.O.Oracle.known c.args.oracle.now) c.args.ledger.now c.args.book.now c.new-state.result c.facts-facts.ensures.lawful c.requires.suits c.requires.book c.new-state.ensures
+loop-state-init g c = searching_start c.args.graphs.now (g.O.Oracle.known c.args.oracle.now) (g.O.Oracle.known c.compare_guesses.new.oracle) c.args.ledger.now c.compare_guesses.new.ledger c.args.book.now c.new-state.result c.compare_guesses.new.trials (served_one _ _ _ _ _ c.in_ok-table.ensures.serves) c.requires.book c.new-state.ensures c.in_ok-table.ensures.trials
 
 pub turn-requires-clause-graphs : goal.turn-requires-clause-graphs
 turn-requires-clause-graphs g c = c.requires.graphs ∙ sym c.loop-state.invariant.served.grows.graphs
@@ -17,16 +17,17 @@ turn-requires-clause-lawful g c = subst (λ (gr : Graphs). AreFacts gr (g.O.Orac
 
 pub returns-in_err-found-clause-serves : goal.returns-in_err-found-clause-serves
 returns-in_err-found-clause-serves g c =
-    let p = err_from_is_err_and c.from_residual.result c.from_residual.ensures.1 in
+    let p = err_from_is_err_and c.from_residual-in_err-found.result c.from_residual-in_err-found.ensures.1 in
     serves_err _ _ _ _ _ _ _ c.in_err-found.field-0.0 (cc (p.1, p.2)) c.loop-state.invariant.served c.in_err-found.ensures.serves
 
-pub returns-in-Some-clause-serves : goal.returns-in-Some-clause-serves
-returns-in-Some-clause-serves g c =
+pub returns-in-Some-2-clause-serves : goal.returns-in-Some-2-clause-serves
+returns-in-Some-2-clause-serves g c =
     serves_ok _ _ _ _ _ _ refl (served_then _ _ _ _ _ _ c.loop-state.invariant.served (served_one _ _ _ _ _ c.in_ok-found.ensures.serves))
 
 pub loop-state-preserved : goal.loop-state-preserved
 loop-state-preserved g c = record {
   served = served_then _ _ _ _ _ _ c.loop-state.invariant.served (served_one _ _ _ _ _ c.in_ok-found.ensures.serves);
   valid = c.in_ok-found.ensures.valid;
-  search = rw c.in_default.is at c.in_ok-found.ensures.search;
+  search = rw c.in_default-2.is at c.in_ok-found.ensures.search;
+  trials = c.in_ok-found.ensures.trials;
 }

@@ -34,3 +34,6 @@ returns-in_ok-ban-in-Some-clause-ahead g c = record {
   same = refl;
   covers = c.in_ok-ban-in-Some.ensures.covers c.args.state.now.held c.requires.whole (subst (λ (l : List Pair). Extends l c.in_ok-matching.matching.inputs c.in_ok-matching.matching.outputs) c.deref.ensures.value c.in_ok-matching.ensures.extends);
 }
+
+pub returns-in_err-keep-in-Some-clause-valid : goal.returns-in_err-keep-in-Some-clause-valid
+returns-in_err-keep-in-Some-clause-valid g c = valid_grows _ _ c.args.graphs.now c.args.book.now c.in_ok-compare_all.ensures.serves.grows c.requires.valid

@@ -3,4 +3,4 @@ use Rattle.match_search.specs.Held.{AreMarks}
 use Rattle.match_search.proofs.marks.mark_all.Given as goal
 
 abbrev pub invariant-loop-pair : goal.invariant-loop-pair
-invariant-loop-pair l = AreMarks (take l.pair-index l.held) l.kind l.marks
+invariant-loop-pair l = AreMarks l.side (take l.pair-index l.held) l.kind l.marks

@@ -1,6 +1,7 @@
 use Rattle.std.proofs.Common.{ℕ, ◌<◌, arith}
 use Rattle.circuits.specs.declared.port.PortKind.{PortKind}
 use Rattle.circuits.specs.declared.port.PortKind.TheVariants.{Input, Output}
+use Rattle.net_core.specs.declared.graphs.Side.TheVariants.{First}
 use Rattle.account_core.specs.Ports.{ports_in}
 use Rattle.match_search.specs.Held.{IsTaken}
 use Rattle.match_search.proofs.next_port.next_port.Goals as goal
@@ -8,6 +9,6 @@ use Rattle.match_search.proofs.next_port.next_port.Goals as goal
 pub returns-in-None-clause-none : goal.returns-in-None-clause-none
 returns-in-None-clause-none c = by_kind
   where
-    by_kind : (kind : PortKind) (port : ℕ) → port < ports_in c.args.graphs.now.first kind → IsTaken c.args.held.now kind port
+    by_kind : (kind : PortKind) (port : ℕ) → port < ports_in c.args.graphs.now.first kind → IsTaken First c.args.held.now kind port
     by_kind Input port below = c.in-None.ensures.none port (omega (arith, below, c.ports_in-inputs.ensures))
-    by_kind Output port below = c.in_default.ensures.none port (omega (arith, below, c.ports_in-outputs.ensures))
+    by_kind Output port below = c.in_default-first_free.ensures.none port (omega (arith, below, c.ports_in-outputs.ensures))

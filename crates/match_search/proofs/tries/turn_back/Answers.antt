@@ -16,23 +16,23 @@ take_back-requires c = as_many_levels c.args.graphs.now c.loop-level.book c.loop
 
 pub resume-requires-clause-search : goal.resume-requires-clause-search
 resume-requires-clause-search c =
-    (last_of c.args.graphs.now c.loop-level.book c.loop-level.state.held c.loop-level.state.levels c.take_back.new.self.held c.take_back.new.self.levels c.in-Some.level c.in-Some.pair c.loop-level.invariant.search c.in-Some.ensures.held c.in-Some.ensures.levels).search
+    (last_of c.args.graphs.now c.requires.ports c.loop-level.book c.loop-level.state.held c.loop-level.state.levels c.take_back.new.self.held c.take_back.new.self.levels c.in-Some.level c.in-Some.pair c.loop-level.invariant.search c.in-Some.ensures.held c.in-Some.ensures.levels).search
 
 pub resume-requires-clause-tried : goal.resume-requires-clause-tried
 resume-requires-clause-tried c =
-    (last_of c.args.graphs.now c.loop-level.book c.loop-level.state.held c.loop-level.state.levels c.take_back.new.self.held c.take_back.new.self.levels c.in-Some.level c.in-Some.pair c.loop-level.invariant.search c.in-Some.ensures.held c.in-Some.ensures.levels).tried
+    (last_of c.args.graphs.now c.requires.ports c.loop-level.book c.loop-level.state.held c.loop-level.state.levels c.take_back.new.self.held c.take_back.new.self.levels c.in-Some.level c.in-Some.pair c.loop-level.invariant.search c.in-Some.ensures.held c.in-Some.ensures.levels).tried
 
 pub resume-requires-clause-way : goal.resume-requires-clause-way
 resume-requires-clause-way c =
-    (last_of c.args.graphs.now c.loop-level.book c.loop-level.state.held c.loop-level.state.levels c.take_back.new.self.held c.take_back.new.self.levels c.in-Some.level c.in-Some.pair c.loop-level.invariant.search c.in-Some.ensures.held c.in-Some.ensures.levels).way_is
+    (last_of c.args.graphs.now c.requires.ports c.loop-level.book c.loop-level.state.held c.loop-level.state.levels c.take_back.new.self.held c.take_back.new.self.levels c.in-Some.level c.in-Some.pair c.loop-level.invariant.search c.in-Some.ensures.held c.in-Some.ensures.levels).way_is
 
 pub resume-requires-clause-open : goal.resume-requires-clause-open
 resume-requires-clause-open c =
-    (last_of c.args.graphs.now c.loop-level.book c.loop-level.state.held c.loop-level.state.levels c.take_back.new.self.held c.take_back.new.self.levels c.in-Some.level c.in-Some.pair c.loop-level.invariant.search c.in-Some.ensures.held c.in-Some.ensures.levels).is_open
+    (last_of c.args.graphs.now c.requires.ports c.loop-level.book c.loop-level.state.held c.loop-level.state.levels c.take_back.new.self.held c.take_back.new.self.levels c.in-Some.level c.in-Some.pair c.loop-level.invariant.search c.in-Some.ensures.held c.in-Some.ensures.levels).is_open
 
 pub resume-requires-clause-room : goal.resume-requires-clause-room
 resume-requires-clause-room c =
-    (last_of c.args.graphs.now c.loop-level.book c.loop-level.state.held c.loop-level.state.levels c.take_back.new.self.held c.take_back.new.self.levels c.in-Some.level c.in-Some.pair c.loop-level.invariant.search c.in-Some.ensures.held c.in-Some.ensures.levels).room
+    (last_of c.args.graphs.now c.requires.ports c.loop-level.book c.loop-level.state.held c.loop-level.state.levels c.take_back.new.self.held c.take_back.new.self.levels c.in-Some.level c.in-Some.pair c.loop-level.invariant.search c.in-Some.ensures.held c.in-Some.ensures.levels).room
 
 pub resume-requires-clause-covers : goal.resume-requires-clause-covers
 resume-requires-clause-covers c =
@@ -48,13 +48,13 @@ returns-in-None-clause-more c =
 
 pub returns-in-None-clause-back : goal.returns-in-None-clause-back
 returns-in-None-clause-back c =
-    let last = last_of c.args.graphs.now c.loop-level.book c.loop-level.state.held c.loop-level.state.levels c.take_back.new.self.held c.take_back.new.self.levels c.in-Some.level c.in-Some.pair c.loop-level.invariant.search c.in-Some.ensures.held c.in-Some.ensures.levels in
+    let last = last_of c.args.graphs.now c.requires.ports c.loop-level.book c.loop-level.state.held c.loop-level.state.levels c.take_back.new.self.held c.take_back.new.self.levels c.in-Some.level c.in-Some.pair c.loop-level.invariant.search c.in-Some.ensures.held c.in-Some.ensures.levels in
     let on : GoesOn c.args.graphs.now c.resume.new.book c.take_back.new.self c.resume.new.state (left_at c.args.graphs.now c.in-Some.level - 1) = subst (Tries c.args.graphs.now c.resume.new.book c.take_back.new.self c.resume.new.state (left_at c.args.graphs.now c.in-Some.level - 1)) c.in-None.is c.in_ok-resume.ensures.tries in
     (on.search, turns_back c.args.graphs.now c.args.book.now c.loop-level.book c.args.state.now c.loop-level.state c.loop-level.reached c.loop-level.invariant c.take_back.new.self.levels c.in-Some.level c.in-Some.ensures.levels c.resume.new.book c.take_back.new.self c.resume.new.state refl last.room on)
 
 pub loop-level-preserved : goal.loop-level-preserved
 loop-level-preserved c =
-    let last = last_of c.args.graphs.now c.loop-level.book c.loop-level.state.held c.loop-level.state.levels c.take_back.new.self.held c.take_back.new.self.levels c.in-Some.level c.in-Some.pair c.loop-level.invariant.search c.in-Some.ensures.held c.in-Some.ensures.levels in
+    let last = last_of c.args.graphs.now c.requires.ports c.loop-level.book c.loop-level.state.held c.loop-level.state.levels c.take_back.new.self.held c.take_back.new.self.levels c.in-Some.level c.in-Some.pair c.loop-level.invariant.search c.in-Some.ensures.held c.in-Some.ensures.levels in
     let stuck : IsStuck c.resume.new.book c.take_back.new.self c.resume.new.state c.in-Some-2.next = subst (Tries c.args.graphs.now c.resume.new.book c.take_back.new.self c.resume.new.state (left_at c.args.graphs.now c.in-Some.level - 1)) c.in-Some-2.is c.in_ok-resume.ensures.tries in
     turning_more c.args.graphs.now c.args.book.now c.loop-level.book c.args.state.now c.loop-level.state c.loop-level.reached c.loop-level.invariant c.take_back.new.self.levels c.in-Some.level c.in-Some.ensures.levels c.resume.new.book c.take_back.new.self c.resume.new.state c.in-Some-2.next refl last.search c.in_ok-resume.ensures.more stuck
 

@@ -12,9 +12,9 @@ returns-clause-fits c =
     let claim = c.args.claim.now in
     let n = (graph_of c.args.graphs.now claim.side).inputs in
     let inputs : c.inputs-inputs.result ≡ n = c.inputs-inputs.ensures.value ∙ ap (λ (g : Net). g.inputs) c.side.ensures in
-    let left : c.in_ok-values_feed.field-0 ≡ values_feed n claim.shape = c.in_ok-values_feed.ensures ∙ ap (λ m. values_feed m claim.shape) inputs in
-    let right : c.in_ok-values_feed-2.field-0 ≡ values_feed n (opposite_shape claim.shape) =
-    c.in_ok-values_feed-2.ensures ∙ (ap (values_feed c.inputs-inputs.result) c.opposite.ensures ∙ ap (λ m. values_feed m (opposite_shape claim.shape)) inputs) in
+    let left : c.valued.result ≡ values_feed n claim.shape = c.valued.ensures ∙ ap (λ m. values_feed m claim.shape) inputs in
+    let right : c.valued-2.result ≡ values_feed n (opposite_shape claim.shape) =
+    c.valued-2.ensures ∙ (ap (values_feed c.inputs-inputs.result) c.opposite.ensures ∙ ap (λ m. values_feed m (opposite_shape claim.shape)) inputs) in
     record {
       left = record {
         inputs = refl;

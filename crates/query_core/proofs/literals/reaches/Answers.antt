@@ -8,16 +8,14 @@ use Rattle.query_core.proofs.literals.reaches.Goals as goal
 
 pub push_reaching-requires : goal.push_reaching-requires
 push_reaching-requires c =
-    let left = c.deref.result.now in
-    let right = c.deref-2.result.now in
-    let same : length left ≡ length right = omega (arith, c.requires.feeds, ap length c.deref.ensures.value, ap length c.deref-2.ensures.value) in
-    let whole : length c.push_differing.new.signals.items ≡ length c.args.query.now.right.feed + 1 =
-    omega (arith, ap length c.in_ok-push_differing.ensures, length-append c.push.new.self.items (feeds_differ left right), ap length c.in_ok-push.ensures.items, length-append c.new-signals.result.items (false ∷ []), ap length c.new-signals.ensures.items, length-feeds_differ left right same, same, ap length c.deref-2.ensures.value) in
+    let left = c.args.query.now.left.feed in
+    let right = c.args.query.now.right.feed in
+    let whole : length c.push_differing.new.signals.items ≡ length right + 1 =
+    omega (arith, ap length c.in_ok-push_differing.ensures, length-append c.push.new.self.items (feeds_differ left right), ap length c.in_ok-push.ensures.items, length-append c.new-signals.result.items (false ∷ []), ap length c.new-signals.ensures.items, length-feeds_differ left right c.requires.feeds, c.requires.feeds) in
     subst (λ n. AreInOrder n c.args.gates.now) (sym whole) c.requires.ordered
 
 pub returns-clause-count : goal.returns-clause-count
 returns-clause-count c =
-    let left = c.deref.result.now in
-    let right = c.deref-2.result.now in
-    let same : length left ≡ length right = omega (arith, c.requires.feeds, ap length c.deref.ensures.value, ap length c.deref-2.ensures.value) in
-    omega (arith, c.in_ok-push_reaching.ensures.count, ap length c.in_ok-push_differing.ensures, length-append c.push.new.self.items (feeds_differ left right), ap length c.in_ok-push.ensures.items, length-append c.new-signals.result.items (false ∷ []), ap length c.new-signals.ensures.items, length-feeds_differ left right same, ap length c.deref.ensures.value)
+    let left = c.args.query.now.left.feed in
+    let right = c.args.query.now.right.feed in
+    omega (arith, c.in_ok-push_reaching.ensures.count, ap length c.in_ok-push_differing.ensures, length-append c.push.new.self.items (feeds_differ left right), ap length c.in_ok-push.ensures.items, length-append c.new-signals.result.items (false ∷ []), ap length c.new-signals.ensures.items, length-feeds_differ left right c.requires.feeds)

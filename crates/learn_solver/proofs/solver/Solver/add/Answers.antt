@@ -18,4 +18,5 @@ invariant_of-self-2 g c =
     record {
       solver = solver_more (g.B.Base.formula old.base.now) old.ids.items old.lines.items c.push_reserved.new.self.items old.clauses.clauses c.put.new.self.clauses line c.self.invariant.solver good lines put;
       variables = c.self.invariant.variables;
+      unmarked = c.self.invariant.unmarked;
     }

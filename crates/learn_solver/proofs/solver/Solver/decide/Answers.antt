@@ -17,7 +17,7 @@ returns-in_default g c =
     let searching = subst (λ (x : Solving). IsSearching x t) (sym c.self.view_is) c.requires.searching in
     let quiet = subst (λ (x : Solving). IsQuiet (active x.formula x.ids x.lines) (literals t.entries)) (sym c.self.view_is) c.requires.quiet in
     let assigned = subst (λ (vs : List ℕ). All (IsAssigned t) vs) c.deref.ensures.value c.in_default.ensures.none in
-    subst (λ (x : Solving). IsModel x values) c.self.view_is (model_from s old.clauses.clauses old.occurring.items t values c.self.invariant searching quiet assigned c.in_ok-values.ensures)
+    subst (λ (x : Solving). IsModel x values) c.self.view_is (model_from s old.clauses.clauses old.occurring.items old.marks.items t values c.self.invariant searching quiet assigned c.in_ok-values.ensures)
 
 pub returns : goal.returns
 returns g c = decided c.args.self.now c.args.trail.now c.decide.new.self c.in-Some.literal c.requires.searching c.requires.quiet c.decide.ensures.decided c.decide.ensures.most

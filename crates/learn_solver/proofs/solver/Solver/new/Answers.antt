@@ -1,5 +1,5 @@
 -- A new solver has the clauses of the numbers, then those of the lemmas.
-use Rattle.std.proofs.Common.{List, sym, subst, ap, ◌∙◌}
+use Rattle.std.proofs.Common.{List, replicate, false, sym, subst, ap, ◌∙◌}
 use Rattle.cnf_core.specs.declared.literal.SatLit.{SatLit}
 use Rattle.learn_solver.specs.Solvers.{HaveVariables, wanted}
 use Rattle.learn_solver.proofs.SolverLemmas.{solver_new}
@@ -15,4 +15,5 @@ invariant_of-result g c =
     record {
       solver = solver_new formula c.args.ids.now c.in_ok-ids.ids.items c.args.lemmas.now c.in_ok-lines.lines.items c.put_wanted.new.clauses.clauses c.put_lines.new.clauses.clauses c.requires.ids c.requires.derived put c.in_ok-put_lines.ensures c.in_ok-ids.ensures.items c.in_ok-lines.ensures;
       variables = subst (λ (cs : List (List SatLit)). HaveVariables formula.variables cs occurring) (put.put ∙ ids) known;
+      unmarked = c.in_ok-marks.ensures ∙ ap (λ n. replicate n false) c.variables-2.ensures;
     }

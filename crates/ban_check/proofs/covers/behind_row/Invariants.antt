@@ -1,0 +1,11 @@
+use Rattle.std.proofs.Common.{◌↔◌, ◌++◌, List, drop}
+use Rattle.std.specs.List.{AllZip}
+use Rattle.circuits.specs.declared.port.Pair.{Pair}
+use Rattle.account_core.specs.Covers.{IsReference}
+use Rattle.ban_check.specs.Counted.{row}
+use Rattle.ban_check.proofs.covers.behind_row.Given as goal
+
+abbrev pub invariant-loop-other : goal.invariant-loop-other
+invariant-loop-other l = (more : List Pair)
+    → (AllZip (IsReference l.given l.pairs) (row l.kind l.port l.to ++ more) l.refs
+    ↔ AllZip (IsReference l.given l.pairs) (row l.kind l.port (drop l.other-index l.to) ++ more) l.left)

@@ -1,0 +1,41 @@
+-- One fact more is read.
+use Rattle.std.proofs.Common.{◌↔◌, ℕ, ◌+◌, get_or, drop, sym, ap, subst, ◌∙◌, arith}
+use Rattle.query_core.specs.declared.claims.Claim.{Claim}
+use Rattle.account_core.specs.Given.{fact_at}
+use Rattle.account_core.specs.Tallies.{shapes_of}
+use Rattle.ban_check.specs.Counted.{one_input, GoOverInputs}
+use Rattle.ban_check.proofs.BoolLemmas.{front, refused}
+use Rattle.ban_check.proofs.CountLemmas.{inputs_below, inputs_step, inputs_stop}
+use Rattle.ban_check.proofs.tallies.go_over_inputs.Goals as goal
+
+pub returns-in_default : goal.returns-in_default
+returns-in_default c =
+    let given = c.args.given.now in
+    let numbers = c.args.numbers.now in
+    let k = c.loop-number.number-index in
+    let shape = (fact_at given (get_or numbers k 0)).claim.shape in
+    let is = ap (shapes_of given) (front numbers k 0 c.loop-number-test.true) in
+    let told = c.one_input.ensures ∙ ap (λ (claim : Claim). one_input claim.shape) c.fact.ensures.claim in
+    refused _ (inputs_stop (GoOverInputs 0 (shapes_of given numbers)) c.loop-number.least shape (shapes_of given (drop (k + 1) numbers)) (shapes_of given (drop k numbers)) is (λ i e. c.in_default.not-Some i (told ∙ e)) c.loop-number.invariant)
+
+pub returns-then-from-least : goal.returns-then-from-least
+returns-then-from-least c =
+    let given = c.args.given.now in
+    let numbers = c.args.numbers.now in
+    let k = c.loop-number.number-index in
+    let shape = (fact_at given (get_or numbers k 0)).claim.shape in
+    let is = ap (shapes_of given) (front numbers k 0 c.loop-number-test.true) in
+    let told = sym (c.one_input.ensures ∙ ap (λ (claim : Claim). one_input claim.shape) c.fact.ensures.claim) ∙ c.in-Some.is in
+    refused _ (inputs_below (GoOverInputs 0 (shapes_of given numbers)) c.loop-number.least c.in-Some.input shape (shapes_of given (drop (k + 1) numbers)) (shapes_of given (drop k numbers)) is told (omega (arith, c.if-from-least.true, c.from.ensures)) c.loop-number.invariant)
+
+pub loop-number-preserved : goal.loop-number-preserved
+loop-number-preserved c =
+    let given = c.args.given.now in
+    let numbers = c.args.numbers.now in
+    let k = c.loop-number.number-index in
+    let shape = (fact_at given (get_or numbers k 0)).claim.shape in
+    let is = ap (shapes_of given) (front numbers k 0 c.loop-number-test.true) in
+    let told = sym (c.one_input.ensures ∙ ap (λ (claim : Claim). one_input claim.shape) c.fact.ensures.claim) ∙ c.in-Some.is in
+    let step = inputs_step (GoOverInputs 0 (shapes_of given numbers)) c.loop-number.least c.in-Some.input shape (shapes_of given (drop (k + 1) numbers)) (shapes_of given (drop k numbers)) is told (omega (arith, c.if-from-least.false, c.from.ensures)) c.loop-number.invariant in
+    let goal_at = λ (n : ℕ). GoOverInputs (n + 1) (shapes_of given (drop (k + 1) numbers)) ↔ GoOverInputs 0 (shapes_of given numbers) in
+    subst goal_at (sym c.from-least.ensures) step

@@ -1,0 +1,7 @@
+pub mod Counted
+pub mod Kept
+pub mod More
+pub use Rattle.account_core.specs.Given
+pub use Rattle.account_core.specs.Ports
+pub use Rattle.account_core.specs.Steps
+pub use Rattle.query_core.specs.Claims

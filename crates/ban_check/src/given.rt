@@ -1,0 +1,125 @@
+//! The facts and bans that were given.
+
+ghost use Rattle.std.specs.Prelude.{◌≡◌, ◌-◌, ◌↔◌, [], IsTrue, OnOk, OnErr, length, take};
+ghost use Rattle.account_core.specs.Given.{ban_at, fact_at, IsBanGiven, IsFactGiven};
+ghost use Rattle.ban_check.specs.More.{with_ban, with_fact};
+
+use circuits::Pair;
+use items::{Few, Items};
+use net_core::Side;
+use query_core::{Claim, Shape};
+use std::alloc::{AllocError, Global};
+use std::marker::Model;
+
+/// A claim that was decided: it holds, or it fails.
+#[derive(Clone, Copy, Debug, Drop)]
+pub(crate) struct Told {
+    pub(crate) claim: Claim,
+    pub(crate) holds: bool,
+}
+
+/// The facts, and the pairs of the bans, each numbered from 0 in its own order.
+#[derive(Drop)]
+pub struct Given {
+    facts: Items<Told>,
+    bans: Items<Few<Pair, 8>>,
+}
+
+impl Model for Given {
+    ghost use Rattle.account_core.specs.Given.{Given as AnyGiven};
+    ghost use Rattle.ban_check.specs.Kept.{facts_told};
+
+    ghost Value = { AnyGiven };
+
+    ghost view = { λ a. record { facts = facts_told a.facts; bans = a.bans } };
+}
+
+impl Given {
+    /// Nothing was given.
+    pub fn new(alloc: Global) -> Given
+        ensures facts { result.facts ≡ [] }
+        ensures bans { result.bans ≡ [] }
+    {
+        Given {
+            facts: Items::new(alloc),
+            bans: Items::new(alloc),
+        }
+    }
+
+    /// Whether there is a fact of this number.
+    pub fn has_fact(&self, number: u64) -> bool
+        ensures { IsTrue result ↔ IsFactGiven self.now number }
+    {
+        number < self.facts.len() as u64
+    }
+
+    /// Whether there is a ban of this number.
+    pub fn has_ban(&self, number: u64) -> bool
+        ensures { IsTrue result ↔ IsBanGiven self.now number }
+    {
+        number < self.bans.len() as u64
+    }
+
+    /// The fact of a number; where there is none, one that says nothing of use.
+    pub(crate) fn fact(&self, number: u64) -> Told
+        ensures claim { result.claim ≡ (fact_at self.now number).claim }
+        ensures holds { result.holds ≡ (fact_at self.now number).holds }
+    {
+        if number >= self.facts.len() as u64 {
+            return Told {
+                claim: Claim {
+                    side: Side::First,
+                    output: 0,
+                    shape: Shape::Up(0),
+                },
+                holds: true,
+            };
+        }
+        self.facts[number as usize]
+    }
+
+    /// The pairs of the ban of a number; where there is none, no pairs.
+    pub fn ban(&self, number: u64) -> &[Pair]
+        ensures { result.now ≡ ban_at self.now number }
+    {
+        if number >= self.bans.len() as u64 {
+            return &[];
+        }
+        &self.bans[number as usize]
+    }
+
+    /// Adds a fact.
+    ///
+    /// # Errors
+    ///
+    /// For want of memory alone; then nothing changes.
+    pub fn add_fact(&mut self, claim: Claim, holds: bool) -> Result<(), AllocError>
+        ensures added { OnOk result (self.new ≡ with_fact self.old claim holds) }
+        ensures unchanged { OnErr result (self.new ≡ self.old) }
+    {
+        self.facts.push(Told { claim, holds })?;
+        Ok(())
+    }
+
+    /// Takes the last fact back, if there is one.
+    pub fn forget_fact(&mut self)
+        ensures facts { self.new.facts ≡ take (length self.old.facts - 1) self.old.facts }
+        ensures bans { self.new.bans ≡ self.old.bans }
+    {
+        let _last = self.facts.pop();
+    }
+
+    /// Adds a ban.
+    ///
+    /// # Errors
+    ///
+    /// For want of memory alone; then nothing changes.
+    pub fn add_ban(&mut self, alloc: Global, pairs: &[Pair]) -> Result<(), AllocError>
+        ensures added { OnOk result (self.new ≡ with_ban self.old pairs.now) }
+        ensures unchanged { OnErr result (self.new ≡ self.old) }
+    {
+        let pairs = Few::from_slice(alloc, pairs)?;
+        self.bans.push(pairs)?;
+        Ok(())
+    }
+}

@@ -1,0 +1,21 @@
+//! Whether what is given of two circuits is so: a ban, pairs of ports that no match has all of, by its step; and a
+//! claim that fails, by a vector that breaks it.
+#![tactic(auto)]
+
+mod ascent;
+mod breaking;
+mod covers;
+mod given;
+mod mismatches;
+mod ports;
+mod steps;
+mod tallies;
+mod vectors;
+
+pub use breaking::breaks;
+pub use given::Given;
+pub use ports::{are_known, are_ordered, have_as_many};
+pub use steps::{are_names_known, has_shown, keeps_rule};
+
+#[cfg(test)]
+mod tests;

@@ -1,0 +1,96 @@
+//! The ports that pairs name.
+
+ghost use Rattle.std.specs.Prelude.{◌≡◌, ◌↔◌, All, IsTrue};
+ghost use Rattle.account_core.specs.Ports.{ports_in, AreOrdered, HaveAsMany, IsKnown, StandInOrder};
+ghost use Rattle.query_core.specs.Images.{is_of, pair_of};
+
+use circuits::{Pair, PortKind};
+use net_core::{Graph, Graphs};
+
+/// Whether two circuits have as many inputs, and as many outputs.
+pub fn have_as_many(graphs: &Graphs) -> bool
+    ensures { IsTrue result ↔ HaveAsMany graphs.now.first graphs.now.second }
+{
+    (graphs.first.inputs() == graphs.second.inputs())
+        & (graphs.first.outputs().len() == graphs.second.outputs().len())
+}
+
+/// Whether the ports exist that the pairs name.
+pub fn are_known(graphs: &Graphs, pairs: &[Pair]) -> bool
+    ensures { IsTrue result ↔ All (IsKnown graphs.now) pairs.now }
+{
+    pairs.iter().all(|pair| is_known(graphs, *pair))
+}
+
+fn is_known(graphs: &Graphs, pair: Pair) -> bool
+    ensures { IsTrue result ↔ IsKnown graphs.now pair }
+{
+    let from = pair.from as usize;
+    let to = pair.to as usize;
+    (from < ports_in(&graphs.first, pair.kind)) & (to < ports_in(&graphs.second, pair.kind))
+}
+
+/// How many ports of a kind a circuit has.
+pub(crate) fn ports_in(graph: &Graph, kind: PortKind) -> usize
+    ensures { result ≡ ports_in graph.now kind }
+{
+    match kind {
+        PortKind::Input => graph.inputs() as usize,
+        PortKind::Output => graph.outputs().len(),
+    }
+}
+
+/// Whether pairs of inputs come first, the first ports of each kind ascend, and no two pairs of a kind go to one port.
+pub fn are_ordered(pairs: &[Pair]) -> bool
+    ensures { IsTrue result ↔ AreOrdered pairs.now }
+{
+    for k in 0..pairs.len() {
+        if !stands_behind(&pairs[..k], pairs[k]) {
+            return false;
+        }
+    }
+    true
+}
+
+// Whether a pair may stand behind others.
+fn stands_behind(before: &[Pair], pair: Pair) -> bool
+    ensures { IsTrue result ↔ All (λ other. StandInOrder other pair) before.now }
+{
+    before.iter().all(|other| stand_in_order(*other, pair))
+}
+
+// Whether one pair may stand before another.
+fn stand_in_order(one: Pair, other: Pair) -> bool
+    ensures { IsTrue result ↔ StandInOrder one other }
+{
+    if one.kind != other.kind {
+        return one.kind == PortKind::Input;
+    }
+    (one.from < other.from) & (one.to != other.to)
+}
+
+/// The first pair of a port of the first circuit.
+pub(crate) fn pair_of(pairs: &[Pair], kind: PortKind, port: u32) -> Option<Pair>
+    ensures { result ≡ pair_of pairs.now kind port }
+{
+    for pair in pairs.iter() {
+        if is_of(*pair, kind, port) {
+            return Some(*pair);
+        }
+    }
+    None
+}
+
+// Whether a pair is of a port of the first circuit.
+fn is_of(pair: Pair, kind: PortKind, port: u32) -> bool
+    ensures { result ≡ is_of kind port pair }
+{
+    (pair.kind == kind) & (pair.from == port)
+}
+
+/// Whether two pairs are the same.
+pub(crate) fn are_same(one: Pair, other: Pair) -> bool
+    ensures { IsTrue result ↔ (one ≡ other) }
+{
+    one == other
+}

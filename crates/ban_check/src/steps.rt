@@ -1,0 +1,80 @@
+//! When a step shows that no match has all of a ban's pairs.
+
+ghost use Rattle.std.specs.Prelude.{◌↔◌, All, IsTrue, IfOk};
+ghost use Rattle.account_core.specs.Given.{Given as AnyGiven, IsFactGiven};
+ghost use Rattle.account_core.specs.Ports.{IsKnown};
+ghost use Rattle.account_core.specs.Steps.{AreNamesKnown, HasShown, KeepsRule};
+
+use crate::covers::{are_cover_names, is_cover};
+use crate::given::Given;
+use crate::mismatches::is_mismatch;
+use crate::ports::pair_of;
+use crate::tallies::is_tally;
+use crate::vectors::shows_difference;
+use account_core::Step;
+use circuits::{Pair, PortKind};
+use net_core::Graphs;
+use std::alloc::{AllocError, Global};
+
+/// Whether the output, the ports, the facts and the bans are there that a step names.
+pub fn are_names_known(graphs: &Graphs, given: &Given, step: &Step) -> bool
+    ensures { IsTrue result ↔ AreNamesKnown graphs.now given.now step.now }
+{
+    match step {
+        Step::Vector { output, .. } => (*output as usize) < graphs.first.outputs().len(),
+        Step::Mismatch { fails, holds } => given.has_fact(*fails) & given.has_fact(*holds),
+        Step::Tally { have, lack, .. } => have_facts(given, have) & have_facts(given, lack),
+        Step::Cover {
+            kind,
+            from,
+            to,
+            refs,
+        } => are_cover_names(graphs, given, *kind, from, to, refs),
+    }
+}
+
+// Whether the facts of some numbers were given.
+fn have_facts(given: &Given, numbers: &[u64]) -> bool
+    ensures { IsTrue result ↔ All (IsFactGiven given.now) numbers.now }
+{
+    numbers.iter().all(|number| given.has_fact(*number))
+}
+
+/// Whether a step keeps its rule: a vector is of a paired output; a mismatch is of a failing claim and its image; a
+/// tally counts too many inputs; a cover excludes each way.
+pub fn keeps_rule(graphs: &Graphs, given: &Given, pairs: &[Pair], step: &Step) -> bool
+    ensures { IsTrue result ↔ KeepsRule graphs.now given.now pairs.now step.now }
+{
+    match step {
+        Step::Vector { output, .. } => pair_of(pairs, PortKind::Output, *output).is_some(),
+        Step::Mismatch { fails, holds } => is_mismatch(given, pairs, *fails, *holds),
+        Step::Tally { kind, have, lack } => is_tally(graphs, given, pairs, *kind, have, lack),
+        Step::Cover {
+            kind,
+            from,
+            to,
+            refs,
+        } => is_cover(graphs, given, pairs, *kind, from, to, refs),
+    }
+}
+
+/// Whether a step's vector shows what it is given for, if it has one.
+///
+/// # Errors
+///
+/// For want of memory alone.
+pub fn has_shown(
+    alloc: Global,
+    graphs: &Graphs,
+    pairs: &[Pair],
+    step: &Step,
+) -> Result<bool, AllocError>
+    requires known { All (IsKnown graphs.now) pairs.now }
+    requires names { (given : AnyGiven) × AreNamesKnown graphs.now given step.now }
+    ensures { IfOk result (λ shown. IsTrue shown ↔ HasShown graphs.now pairs.now step.now) }
+{
+    match step {
+        Step::Vector { output, bits } => shows_difference(alloc, graphs, pairs, *output, bits),
+        _ => Ok(true),
+    }
+}

@@ -1,0 +1,5 @@
+use Rattle.match_search.specs.Held.{IsPart}
+use Rattle.match_search.proofs.foresight.inputs_and.Given as goal
+
+abbrev pub invariant-loop-other : goal.invariant-loop-other
+invariant-loop-other l = IsPart l.held l.pairs.items

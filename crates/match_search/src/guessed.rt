@@ -1,0 +1,91 @@
+//! A first phase, which leaves no ban: tables that are guessed are compared.
+
+ghost use Rattle.std.specs.Prelude.{◌≡◌, IfOk, IfSome, OnOk};
+ghost use Rattle.account_core.specs.Oracles.{AreFacts, Serves, Suits};
+ghost use Rattle.account_core.specs.Ports.{HaveAsMany};
+ghost use Rattle.match_search.specs.Founds.{IsGuessed, IsShownMatch};
+ghost use Rattle.table_guess.specs.Trials.{AreTrials};
+
+use crate::candidate::compare_all;
+use account_core::Oracle;
+use cnf_core::{Log, Stop};
+use items::Items;
+use net_core::{Graphs, Matching};
+use query_core::Ledger;
+use std::alloc::Global;
+use table_guess::{Trials, guess};
+
+/// How many guessed tables are compared.
+const MOST_GUESSES: u32 = 16;
+
+/// What a guess comes to.
+#[derive(Debug, Drop)]
+pub(crate) enum Guessed {
+    /// The table is a match.
+    Match(Matching, Items<Log>),
+    /// It is no match.
+    Fails,
+    /// No table was guessed.
+    Nothing,
+}
+
+/// Compares tables that are guessed, a bounded number of them, and answers one that is a match, with its logs. None says
+/// nothing of whether there is a match.
+pub(crate) fn compare_guesses<O: Oracle>(
+    alloc: Global,
+    graphs: &Graphs,
+    oracle: &mut O,
+    trials: &mut Trials,
+    ledger: &mut Ledger,
+) -> Result<Option<(Matching, Items<Log>)>, Stop>
+    requires graphs { graphs.now ≡ (O.known oracle.old).graphs }
+    requires lawful { AreFacts graphs.now (O.known oracle.old).facts }
+    requires ports { HaveAsMany graphs.now.first graphs.now.second }
+    requires trials { AreTrials graphs.now.first trials.old }
+    requires suits { Suits (O.known oracle.old) ledger.old }
+    ensures serves { Serves (O.known oracle.old) (O.known oracle.new) ledger.old ledger.new result }
+    ensures trials { OnOk result (AreTrials graphs.now.first trials.new) }
+    ensures shown { IfOk result (λ found. IfSome found (λ shown. IsShownMatch graphs.now shown.0 shown.1)) }
+{
+    for _ in 0..MOST_GUESSES {
+        match compare_guess(alloc, graphs, oracle, trials, ledger)? {
+            Guessed::Match(table, logs) => return Ok(Some((table, logs))),
+            Guessed::Fails => {}
+            Guessed::Nothing => return Ok(None),
+        }
+    }
+    Ok(None)
+}
+
+// Compares a table that is guessed. Where it is no match, the vector that shows it is kept, so that the next guess
+// agrees on it.
+fn compare_guess<O: Oracle>(
+    alloc: Global,
+    graphs: &Graphs,
+    oracle: &mut O,
+    trials: &mut Trials,
+    ledger: &mut Ledger,
+) -> Result<Guessed, Stop>
+    requires graphs { graphs.now ≡ (O.known oracle.old).graphs }
+    requires lawful { AreFacts graphs.now (O.known oracle.old).facts }
+    requires ports { HaveAsMany graphs.now.first graphs.now.second }
+    requires trials { AreTrials graphs.now.first trials.old }
+    requires suits { Suits (O.known oracle.old) ledger.old }
+    ensures serves { Serves (O.known oracle.old) (O.known oracle.new) ledger.old ledger.new result }
+    ensures trials { OnOk result (AreTrials graphs.now.first trials.new) }
+    ensures guessed { IfOk result (IsGuessed graphs.now) }
+{
+    let _first = graphs.first.inputs();
+    let _second = graphs.second.inputs();
+    let Some(table) = guess(alloc, graphs, trials)? else {
+        return Ok(Guessed::Nothing);
+    };
+    let mut logs = Items::new(alloc);
+    match compare_all(alloc, graphs, oracle, &table, ledger, &mut logs)? {
+        None => Ok(Guessed::Match(table, logs)),
+        Some(found) => {
+            trials.keep(alloc, &graphs.first, &found.vector)?;
+            Ok(Guessed::Fails)
+        }
+    }
+}

@@ -1,0 +1,29 @@
+//! What a search goes by.
+
+ghost use Rattle.std.specs.Prelude.{IfOk};
+ghost use Rattle.table_guess.specs.Trials.{AreTrials};
+
+use crate::reads::reads;
+use table_guess::Trials;
+use items::Items;
+use net_core::Graphs;
+use std::alloc::{AllocError, Global};
+
+/// What a search goes by: vectors that pairs are tried on, and for each output of the second circuit the inputs that it
+/// reads.
+#[derive(Debug, Drop)]
+pub(crate) struct Guide {
+    pub(crate) trials: Trials,
+    pub(crate) reads: Items<Items<u32>>,
+}
+
+impl Guide {
+    /// What a search begins with.
+    pub(crate) fn new(alloc: Global, graphs: &Graphs) -> Result<Guide, AllocError>
+        ensures { IfOk result (λ guide. AreTrials graphs.now.first guide.trials) }
+    {
+        let trials = Trials::new(alloc, &graphs.first)?;
+        let reads = reads(alloc, &graphs.second)?;
+        Ok(Guide { trials, reads })
+    }
+}

@@ -1,0 +1,3 @@
+pub mod Trials
+pub mod Paths
+pub use Rattle.account_core.specs.Ports

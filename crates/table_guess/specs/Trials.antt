@@ -1,0 +1,26 @@
+-- Vectors that pairs are tried on, 64 in a word (parallel-pattern simulation, as in textbooks of digital testing).
+use Rattle.std.specs.Prelude.{◌≡◌, ℕ, ◌<◌, List, length, Contains}
+use Rattle.circuits.specs.declared.port.Pair.{Pair}
+use Rattle.circuits.specs.declared.port.PortKind.TheVariants.{Output}
+use Rattle.circuits.specs.Netlists.{Net}
+use Rattle.net_core.specs.declared.graphs.Graphs.{Graphs}
+use Rattle.word_sim.specs.Columns.{Table}
+use Rattle.table_guess.specs.declared.trials.Trials.{Trials}
+use Rattle.table_guess.specs.declared.trials.Suspect.{Suspect}
+
+-- A table of at least one word has so many columns.
+pub record HasColumns (columns : ℕ) (table : Table) : Type 0 where
+  pub count : length table.columns ≡ columns
+  pub some : 0 < table.words
+
+-- There is a column for each input of a circuit and for each output, with as many words.
+pub record AreTrials (net : Net) (trials : Trials) : Type 0 where
+  pub inputs : HasColumns net.inputs trials.inputs
+  pub outputs : length trials.outputs.columns ≡ length net.outputs
+  pub words : trials.outputs.words ≡ trials.inputs.words
+
+-- A pair of an output that is held, and a vector of the first circuit's inputs.
+pub record IsSuspect (graphs : Graphs) (pairs : List Pair) (suspect : Suspect) : Type 0 where
+  pub held : Contains pairs suspect.pair
+  pub of_output : suspect.pair.kind ≡ Output
+  pub places : length suspect.vector ≡ graphs.first.inputs

@@ -1,0 +1,169 @@
+//! Vectors that pairs are tried on, before anything is asked.
+
+ghost use Rattle.std.specs.Prelude.{◌≡◌, ◌<◌, All, Contains, IfOk, IfSome, OnOk, length};
+ghost use Rattle.circuits.specs.declared.port.PortKind.TheVariants.{Input, Output};
+ghost use Rattle.account_core.specs.Ports.{IsKnown};
+ghost use Rattle.table_guess.specs.Trials.{AreTrials, IsSuspect};
+
+use crate::rails::{Rails, outputs_of};
+use crate::vectors::{first_vectors, put_vector};
+use bit_list::Bits;
+use circuits::{Pair, PortKind};
+use net_core::{Graph, Graphs};
+use std::alloc::{AllocError, Global};
+use word_sim::{Words, simulate};
+
+/// Vectors of the first circuit's inputs, 64 in a word, and what its outputs have on them: all vectors of at most eleven
+/// inputs, else 2,048 that are drawn, which make room for those on which whole tables failed.
+#[derive(Debug, Drop)]
+pub struct Trials {
+    /// A column for each input.
+    pub inputs: Words,
+    /// A column for each output.
+    pub outputs: Words,
+    /// Which vector of the first word makes room next, up to a multiple of 64.
+    pub next: u32,
+}
+
+/// An output's pair, and a vector of the first circuit's inputs on which the partner is said to be wrong.
+#[derive(Debug, Drop)]
+pub struct Suspect {
+    pub pair: Pair,
+    pub vector: Bits,
+}
+
+impl Trials {
+    /// The vectors that a search begins with.
+    pub fn new(alloc: Global, first: &Graph) -> Result<Trials, AllocError>
+        ensures { IfOk result (AreTrials first.now) }
+    {
+        let inputs = first_vectors(alloc, first.inputs())?;
+        let outputs = simulate(alloc, first, &inputs)?;
+        Ok(Trials {
+            inputs,
+            outputs,
+            next: 0,
+        })
+    }
+}
+
+impl Trials {
+    /// Keeps a vector on which a whole table failed, in place of the one that stands there the longest.
+    pub fn keep(&mut self, alloc: Global, first: &Graph, vector: &Bits) -> Result<(), AllocError>
+        requires trials { AreTrials first.now self.old }
+        requires places { length vector.now ≡ first.now.inputs }
+        ensures { OnOk result (AreTrials first.now self.new) }
+    {
+        let lane = self.next % 64;
+        put_vector(vector, first.inputs(), lane, &mut self.inputs);
+        self.outputs = simulate(alloc, first, &self.inputs)?;
+        self.next = lane + 1;
+        Ok(())
+    }
+
+    /// An output's pair among those that are held, and a vector, on which the partner is said to be wrong whatever the
+    /// inputs have that aren't paired.
+    pub fn suspect(
+        &self,
+        alloc: Global,
+        graphs: &Graphs,
+        held: &[Pair],
+    ) -> Result<Option<Suspect>, AllocError>
+        requires trials { AreTrials graphs.now.first self.now }
+        requires known { All (IsKnown graphs.now) held.now }
+        ensures { IfOk result (λ found. IfSome found (IsSuspect graphs.now held.now)) }
+    {
+        for word in 0..self.inputs.words() {
+            if let Some(found) = self.suspect_in(alloc, graphs, held, word)? {
+                return Ok(Some(found));
+            }
+        }
+        Ok(None)
+    }
+
+    // One on the vectors of a word.
+    fn suspect_in(
+        &self,
+        alloc: Global,
+        graphs: &Graphs,
+        held: &[Pair],
+        word: usize,
+    ) -> Result<Option<Suspect>, AllocError>
+        requires trials { AreTrials graphs.now.first self.now }
+        requires known { All (IsKnown graphs.now) held.now }
+        requires word { word < self.now.inputs.words }
+        ensures { IfOk result (λ found. IfSome found (IsSuspect graphs.now held.now)) }
+    {
+        let mut sent = vec![in alloc; Rails::unknown(); graphs.second.inputs() as usize]?;
+        send_all(held, &self.inputs, word, &mut sent);
+        let partners = outputs_of(alloc, &graphs.second, &sent)?;
+        for pair in held.iter() {
+            if let Some(lane) = wrong_lane(*pair, &self.outputs, word, &partners) {
+                let vector = self.vector(alloc, word, lane)?;
+                return Ok(Some(Suspect {
+                    pair: *pair,
+                    vector,
+                }));
+            }
+        }
+        Ok(None)
+    }
+
+    // The vector of a bit of a word.
+    fn vector(&self, alloc: Global, word: usize, lane: u32) -> Result<Bits, AllocError>
+        requires word { word < self.now.inputs.words }
+        requires lane { lane < 64 }
+        ensures { IfOk result (λ vector. length vector ≡ length self.now.inputs.columns) }
+    {
+        let bits = self.inputs.vector(alloc, word, lane)?;
+        Bits::from_slice(alloc, &bits)
+    }
+}
+
+// The first vector of a word on which the partner of an output is known and wrong.
+fn wrong_lane(pair: Pair, outputs: &Words, word: usize, partners: &[Rails]) -> Option<u32>
+    requires from { pair.kind ≡ Output → pair.from < length outputs.now.columns }
+    requires to { pair.kind ≡ Output → pair.to < length partners.now }
+    requires word { word < outputs.now.words }
+    ensures kind { IfSome result (λ lane. pair.kind ≡ Output) }
+    ensures lane { IfSome result (λ lane. lane < 64) }
+{
+    if pair.kind != PortKind::Output {
+        return None;
+    }
+    let partner = partners[pair.to as usize].signed(pair.flip);
+    first_lane(partner.unlike(outputs.get(pair.from, word)))
+}
+
+// The lowest bit that is 1.
+fn first_lane(word: u64) -> Option<u32>
+    ensures { IfSome result (λ lane. lane < 64) }
+{
+    if word == 0 {
+        return None;
+    }
+    Some(word.trailing_zeros())
+}
+
+// Gives the inputs that are paired what their partners have on the vectors of a word.
+fn send_all(held: &[Pair], inputs: &Words, word: usize, sent: &mut [Rails])
+    requires from { All (λ pair. pair.kind ≡ Input → pair.from < length inputs.now.columns) held.now }
+    requires to { All (λ pair. pair.kind ≡ Input → pair.to < length sent.old) held.now }
+    requires word { word < inputs.now.words }
+    ensures { length sent.new ≡ length sent.old }
+{
+    for pair in held.iter() {
+        send(*pair, inputs, word, sent);
+    }
+}
+
+fn send(pair: Pair, inputs: &Words, word: usize, sent: &mut [Rails])
+    requires from { pair.kind ≡ Input → pair.from < length inputs.now.columns }
+    requires to { pair.kind ≡ Input → pair.to < length sent.old }
+    requires word { word < inputs.now.words }
+    ensures { length sent.new ≡ length sent.old }
+{
+    if pair.kind == PortKind::Input {
+        sent[pair.to as usize] = Rails::of(inputs.get(pair.from, word)).signed(pair.flip);
+    }
+}

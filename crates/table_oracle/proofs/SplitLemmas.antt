@@ -1,0 +1,256 @@
+-- What excluding the beginnings of vectors makes of a log and a ledger, and how it ends.
+use Rattle.std.proofs.Common.{◌≡◌, ℕ, suc, ◌+◌, ◌/◌, ◌%◌, ◌^◌, ◌==◌, ◌<◌, ◌≤◌, ◌||◌, Bool, true, false, List, [], ◌∷◌, ◌++◌, length, drop, map, All, Contains, Result, Ok, Err, OnOk, IfErr, nat_lt, slice_index_or, Option, None, Some, IfSome, IfNone, is_some, inl, inr, refl, sym, ap, subst, ◌∙◌, arith, append_assoc}
+use Rattle.std.specs.List.{list_any, list_all, range_with_len}
+use Rattle.std.proofs.lemmas.Bool.{both_ways, cases_eq, false≢true, or_cases, or_left, or_right}
+use Rattle.std.proofs.lemmas.List.{get_or_at, get_or-append-add, get_or-map, length-append, map-append, take-append-drop}
+use Rattle.std.proofs.lemmas.List.Elements.{All-append}
+use Rattle.std.proofs.lemmas.List.FromFn.{get_or-range_with_len, length-map-range_with_len, length-range_with_len}
+use Rattle.std.proofs.lemmas.List.Folds.{list_any-append, list_any_at}
+use Rattle.std.proofs.lemmas.List.Recursion.{and_from_places}
+use Rattle.circuits.specs.Literals.{vector_of}
+use Rattle.circuits.proofs.Codes.{code_of, code_of-below, vector_of-code_of}
+use Rattle.circuits.specs.declared.netlist.Gate.{Gate}
+use Rattle.cnf_core.specs.declared.literal.SatLit.{SatLit}
+use Rattle.cnf_core.specs.declared.log.LogLine.{LogLine}
+use Rattle.cnf_core.specs.Clauses.{clause_at, opposite, variable_of}
+use Rattle.cnf_core.specs.Derivations.{IsRefutation, clauses_of, hint_fault, is_empty, is_same, is_true, repeats_variable}
+use Rattle.cnf_core.specs.declared.stop.Stop.{Stop}
+use Rattle.net_core.specs.declared.graphs.Graphs.{Graphs}
+use Rattle.net_core.specs.Graph.{IsGraph}
+use Rattle.query_core.specs.declared.query.Query.{Query}
+use Rattle.query_core.specs.Queries.{IsQuery, circuit_of}
+use Rattle.query_core.specs.Formulas.{Asking, formula_of, gate_clauses, half_clauses, left_literals, query_clauses, right_literals}
+use Rattle.query_core.specs.Ledgers.{IsRefused, Ledgered, with_line}
+use Rattle.learn_solver.specs.Analyses.{has_all}
+use Rattle.learn_solver.specs.Searches.{last_line}
+use Rattle.learn_solver.specs.Solvers.{IsAdded, IsAsking, IsExtended, active}
+use Rattle.learn_solver.specs.Solvers.{IsStopped as IsHalted}
+use Rattle.learn_solver.proofs.EffectLemmas.{same_itself}
+use Rattle.learn_solver.proofs.AdvanceLemmas.{derived_after}
+use Rattle.learn_solver.proofs.SolverLemmas.{clauses_more, line_from}
+use Rattle.learn_solver.proofs.StepLemmas.{extended_one, stopped_one}
+use Rattle.ask_core.proofs.AskLemmas.{IsOfCones}
+use Rattle.fact_tests.proofs.ConeLemmas.{cone_id_below}
+use Rattle.table_oracle.specs.declared.splitting.Splitting.{Splitting}
+use Rattle.table_oracle.specs.Splits.{AllExcluded, IsBeginning, IsCovering, IsExcluded, IsNew, IsSplitting, clauses_in, excluding, solving_of}
+use Rattle.table_oracle.proofs.ExcludingLemmas.{excluding_known, excluding_once}
+
+-- the first so many clauses all say something that this one doesn't
+abbrev pub AreNewUpTo : List (List SatLit) → List SatLit → ℕ → Type 0
+AreNewUpTo clauses clause count = (k : ℕ) (d : List SatLit) → k < count → k < length clauses → has_all clause (slice_index_or clauses k d) ≡ false
+
+-- All beginnings of so many bits were excluded.
+pub record IsSplitTo (splitting : Splitting) (old now : List LogLine) (before ledger : Ledgered) (bits : ℕ) : Type 0 where
+  pub within : bits ≤ splitting.inputs
+  pub extended : IsExtended (solving_of splitting.base old) (solving_of splitting.base now) before ledger
+  pub asking : IsAsking ledger now
+  pub excluded : AllExcluded (clauses_in splitting.base now) bits
+
+-- The beginnings of so many bits were excluded whose numbers are below one, and all longer ones before.
+pub record IsSplitUpTo (splitting : Splitting) (old now : List LogLine) (before ledger : Ledgered) (bits code : ℕ) : Type 0 where
+  pub extended : IsExtended (solving_of splitting.base old) (solving_of splitting.base now) before ledger
+  pub asking : IsAsking ledger now
+  pub closed : bits < splitting.inputs → AllExcluded (clauses_in splitting.base now) (bits + 1)
+  pub excluded : (c : ℕ) → c < code → IsExcluded (clauses_in splitting.base now) (vector_of bits c)
+
+-- what is excluded stays so
+pub still_excluded : (asking : Asking) (old new : List LogLine) (before after : Ledgered) (bits : List Bool) → IsExtended (solving_of asking old) (solving_of asking new) before after → IsExcluded (clauses_in asking old) bits → IsExcluded (clauses_in asking new) bits
+still_excluded asking old new before after bits extended excluded =
+    let p = has_all (excluding bits) in
+    let front = query_clauses asking.graphs asking.query in
+    let rest = drop (length old) new in
+    let whole : new ≡ old ++ rest = sym (take-append-drop (length old) new) ∙ ap (λ ls. ls ++ rest) extended.kept in
+    let clauses : clauses_in asking new ≡ clauses_in asking old ++ clauses_of rest = ap (λ ls. front ++ clauses_of ls) whole ∙ (ap (λ cs. front ++ cs) (map-append (λ (l : LogLine). l.clause) old rest) ∙ sym (append_assoc front (clauses_of old) (clauses_of rest))) in
+    ap (list_any p) clauses ∙ (list_any-append p (clauses_in asking old) (clauses_of rest) ∙ or_left (list_any p (clauses_in asking old)) (list_any p (clauses_of rest)) excluded)
+
+pub all_still : (asking : Asking) (old new : List LogLine) (before after : Ledgered) (count : ℕ) → IsExtended (solving_of asking old) (solving_of asking new) before after → AllExcluded (clauses_in asking old) count → AllExcluded (clauses_in asking new) count
+all_still asking old new before after count extended all bits size =
+    still_excluded asking old new before after bits extended (all bits size)
+
+-- each beginning has a number
+pub all_by_codes : (clauses : List (List SatLit)) (count : ℕ) → ((c : ℕ) → c < 2 ^ count → IsExcluded clauses (vector_of count c)) → AllExcluded clauses count
+all_by_codes clauses count each bits size =
+    let below : code_of bits < 2 ^ count = subst (λ n. code_of bits < 2 ^ n) size (code_of-below bits) in
+    let is : vector_of count (code_of bits) ≡ bits = ap (λ n. vector_of n (code_of bits)) (sym size) ∙ sym (vector_of-code_of bits) in
+    subst (IsExcluded clauses) is (each (code_of bits) below)
+
+pub vector_count : (n code : ℕ) → length (vector_of n code) ≡ n
+vector_count n code = length-map-range_with_len (λ i. code / 2 ^ i % 2 == 1) 0 n
+
+-- what is begun by so many bits, where all longer beginnings are excluded
+pub begun : (splitting : Splitting) (lines : List LogLine) (bits code : ℕ) (x : List Bool) → x ≡ vector_of bits code → bits ≤ splitting.inputs → (bits < splitting.inputs → AllExcluded (clauses_in splitting.base lines) (bits + 1)) → IsBeginning splitting lines x
+begun splitting lines bits code x is within closed =
+    let size : length x ≡ bits = ap length is ∙ vector_count bits code in
+    record {
+      within = omega (arith, size, within);
+      closed = λ less b. closed (omega (arith, size, less)) (x ++ b ∷ []) (length-append x (b ∷ []) ∙ ap (λ n. n + 1) size);
+    }
+
+-- a clause that has literals of this one alone excludes what it excludes
+pub covered : (clauses : List (List SatLit)) (bits : List Bool) (id : ℕ) → IsCovering clauses (excluding bits) id → IsExcluded clauses bits
+covered clauses bits id covering =
+    list_any_at (has_all (excluding bits)) clauses id [] covering.within covering.has
+
+not_new : (clauses : List (List SatLit)) (clause : List SatLit) → IsNew clauses clause → list_any (has_all clause) clauses ≡ true → ⊥
+not_new [] clause new found = false≢true found
+not_new (c ∷ clauses) clause new found =
+    elim (or_cases (has_all clause c) (list_any (has_all clause) clauses) found) [
+      | inl here ↦ both_ways (has_all clause c) (new 0 c (omega arith)) here
+      | inr behind ↦ not_new clauses clause (λ k d within. new (suc k) d (omega (arith, within))) behind
+    ]
+
+pub not_excluded : (clauses : List (List SatLit)) (bits : List Bool) → IsNew clauses (excluding bits) → IsExcluded clauses bits → ⊥
+not_excluded clauses bits new excluded = not_new clauses (excluding bits) new excluded
+
+-- ---- one line
+
+-- a clause has its own literals
+own_literals : (clause : List SatLit) → has_all clause clause ≡ true
+own_literals clause =
+    let d : SatLit = record { 0 = 0 } in
+    and_from_places (list_all (is_true clause)) (is_true clause) refl (λ _ _. refl) clause d (λ k within. list_any_at (is_same (slice_index_or clause k d)) clause k d within (same_itself (slice_index_or clause k d)))
+
+pub excluded_by : (asking : Asking) (lines : List LogLine) (line : LogLine) (bits : List Bool) → line.clause ≡ excluding bits → IsExcluded (clauses_in asking (lines ++ line ∷ [])) bits
+excluded_by asking lines line bits is =
+    let p = has_all (excluding bits) in
+    let front = query_clauses asking.graphs asking.query in
+    let clauses : clauses_in asking (lines ++ line ∷ []) ≡ clauses_in asking lines ++ line.clause ∷ [] = ap (λ cs. front ++ cs) (clauses_more lines line) ∙ sym (append_assoc front (clauses_of lines) (line.clause ∷ [])) in
+    ap (list_any p) clauses
+    ∙ (list_any-append p (clauses_in asking lines) (line.clause ∷ [])
+    ∙ or_right (list_any p (clauses_in asking lines)) (p line.clause || false) (or_left (p line.clause) false (ap p is ∙ own_literals (excluding bits))))
+
+-- all clauses are looked at
+looked_from : (before after : List (List SatLit)) → map (clause_at (before ++ after)) (range_with_len (length before) (length after)) ≡ after
+looked_from before [] = refl
+looked_from before (c ∷ after) =
+    let n = length before in
+    let whole : (before ++ c ∷ []) ++ after ≡ before ++ c ∷ after = append_assoc before (c ∷ []) after in
+    let size : length (before ++ c ∷ []) ≡ n + 1 = length-append before (c ∷ []) in
+    let rest : map (clause_at (before ++ c ∷ after)) (range_with_len (n + 1) (length after)) ≡ after = ap (λ cs. map (clause_at cs) (range_with_len (n + 1) (length after))) (sym whole) ∙ (ap (λ k. map (clause_at ((before ++ c ∷ []) ++ after)) (range_with_len k (length after))) (sym size) ∙ looked_from (before ++ c ∷ []) after) in
+    ap (λ x. x ∷ map (clause_at (before ++ c ∷ after)) (range_with_len (n + 1) (length after))) (get_or_at before c after [] n refl) ∙ ap (λ cs. c ∷ cs) rest
+
+pub all_looked : (asking : Asking) (lines : List LogLine) → active (solving_of asking lines).formula (solving_of asking lines).ids lines ≡ clauses_in asking lines
+all_looked asking lines = ap (λ cs. cs ++ clauses_of lines) (looked_from [] (query_clauses asking.graphs asking.query))
+
+-- a line that says something new stands behind none that is empty
+none_closed : (clauses : List (List SatLit)) (clause : List SatLit) → IsNew clauses clause → list_any is_empty clauses ≡ false
+none_closed [] clause new = refl
+none_closed ([] ∷ clauses) clause new = absurd (both_ways true (new 0 [] (omega arith)) refl)
+none_closed ((l ∷ c) ∷ clauses) clause new = none_closed clauses clause (λ k d within. new (suc k) d (omega (arith, within)))
+
+new_behind : (front lines : List (List SatLit)) (clause : List SatLit) → IsNew (front ++ lines) clause → IsNew lines clause
+new_behind front lines clause new k d within =
+    subst (λ c. has_all clause c ≡ false) (get_or-append-add front lines k d) (new (length front + k) d (omega (arith, within, length-append front lines)))
+
+pub line_added : (splitting : Splitting) (lines : List LogLine) (bits : List Bool) (line : LogLine) → IsSplitting splitting → length bits ≤ splitting.inputs → line.clause ≡ excluding bits → IsNew (clauses_in splitting.base lines) line.clause → hint_fault (clauses_in splitting.base lines) (map opposite line.clause) line.hints ≡ None → IsAdded (solving_of splitting.base lines).formula (solving_of splitting.base lines).ids lines line
+line_added splitting lines bits line is within clause new hints =
+    let asking = splitting.base in
+    let formula = formula_of asking.graphs asking.query in
+    let few : length bits < formula.variables = omega (arith, within, is.inputs) in
+    record {
+      derived = line_from formula (clauses_of lines) line (record {
+        unclosed = none_closed (clauses_of lines) line.clause (new_behind (query_clauses asking.graphs asking.query) (clauses_of lines) line.clause new);
+        known = subst (λ c. list_all (λ l. nat_lt (variable_of l) formula.variables) c ≡ true) (sym clause) (excluding_known formula.variables bits few);
+        once = subst (λ c. repeats_variable c ≡ false) (sym clause) (excluding_once bits);
+        hints = hints;
+      });
+      fresh = subst (λ (cs : List (List SatLit)). All (λ other. has_all line.clause other ≡ false) cs) (sym (all_looked asking lines)) new;
+    }
+
+-- the line is charged
+pub line_charged : (asking : Asking) (lines new : List LogLine) (line : LogLine) (first after : Ledgered) (r : Result (Unit {0}) Stop) → IsAsking first lines → new ≡ lines ++ line ∷ [] → IsAdded (solving_of asking lines).formula (solving_of asking lines).ids lines line → OnOk r (after ≡ record first { asked = with_line (last_line new) first.asked }) → OnOk r (IsExtended (solving_of asking lines) (solving_of asking new) first after)
+line_charged asking lines new line first after (Err stop) ready more added charged = tt
+line_charged asking lines new line first after (Ok done) ready more added charged =
+    extended_one (solving_of asking lines) (solving_of asking new) line first after ready (ap (solving_of asking) more) added (ap (λ (l : Ledgered). l.budget) charged) (ap (λ (l : Ledgered). l.asked) charged)
+
+pub line_stopped : (asking : Asking) (lines new : List LogLine) (line : LogLine) (first after : Ledgered) (r : Result (Unit {0}) Stop) → IsAsking first lines → new ≡ lines ++ line ∷ [] → IsAdded (solving_of asking lines).formula (solving_of asking lines).ids lines line → IfErr r (IsRefused first (last_line new) after) → IfErr r (IsHalted (solving_of asking lines) (solving_of asking new) first after)
+line_stopped asking lines new line first after (Ok done) ready more added refused = tt
+line_stopped asking lines new line first after (Err stop) ready more added refused =
+    stopped_one (solving_of asking lines) (solving_of asking new) line first after stop ready (ap (solving_of asking) more) added refused
+
+pub on_ok : {P : Type 0} (r : Result (Unit {0}) Stop) → P → OnOk r P
+on_ok {P} (Ok done) holds = holds
+on_ok {P} (Err stop) holds = tt
+
+-- ---- the end
+
+-- a query whose clauses are all looked at, without lines
+pub of_cones : (graphs : Graphs) (query : Query) (asking : Asking) (lines : List LogLine) → asking ≡ record { graphs = graphs; query = query } → lines ≡ [] → IsGraph graphs.first → IsGraph graphs.second → IsQuery graphs query → IsOfCones graphs query (solving_of asking lines)
+of_cones graphs query asking lines is none first second fits = record {
+  formula = ap (λ (a : Asking). formula_of a.graphs a.query) is;
+  ids = λ id cone.
+      let count = length (query_clauses graphs query) in
+      let below = cone_id_below graphs query id first second fits cone in
+      subst (λ (a : Asking). Contains (range_with_len 0 (length (query_clauses a.graphs a.query))) id) (sym is) (id, omega (arith, below, length-range_with_len 0 count), get_or-range_with_len 0 count id id below ∙ own id);
+  lines = none;
+}
+  where
+    own : (n : ℕ) → 0 + n ≡ n
+    own n = omega arith
+
+-- no clause of a query is empty
+none_in_gates : (literals : List SatLit) (first : ℕ) (gates : List Gate) → list_any (has_all []) (gate_clauses literals first gates) ≡ false
+none_in_gates literals first [] = refl
+none_in_gates literals first (gate ∷ gates) = none_in_gates literals (first + 1) gates
+
+neither : {x y : Bool} → x ≡ false → y ≡ false → (x || y) ≡ false
+neither {x} {y} p q = ap (λ t. t || y) p ∙ q
+
+none_in_query : (graphs : Graphs) (query : Query) → list_any (has_all []) (query_clauses graphs query) ≡ false
+none_in_query graphs query =
+    let left = circuit_of graphs query.left in
+    let right = circuit_of graphs query.right in
+    let lefts = half_clauses left (left_literals graphs query) in
+    let rights = half_clauses right (right_literals graphs query) in
+    list_any-append (has_all []) lefts _
+    ∙ neither (none_in_gates (left_literals graphs query) (left.inputs + 1) left.gates) (list_any-append (has_all []) rights _ ∙ neither (none_in_gates (right_literals graphs query) (right.inputs + 1) right.gates) refl)
+
+empty_found : (clauses : List (List SatLit)) → list_any (has_all []) clauses ≡ true → list_any is_empty clauses ≡ true
+empty_found [] found = found
+empty_found ([] ∷ clauses) found = refl
+empty_found ((l ∷ c) ∷ clauses) found = empty_found clauses found
+
+-- once the vectors of no bits at all are excluded, the log is closed
+pub closes : (asking : Asking) (lines : List LogLine) → AllExcluded (clauses_in asking lines) 0 → list_any is_empty (clauses_of lines) ≡ true
+closes asking lines excluded =
+    let front = query_clauses asking.graphs asking.query in
+    let found : (list_any (has_all []) front || list_any (has_all []) (clauses_of lines)) ≡ true = sym (list_any-append (has_all []) front (clauses_of lines)) ∙ excluded [] refl in
+    elim (or_cases (list_any (has_all []) front) (list_any (has_all []) (clauses_of lines)) found) [
+      | inl here ↦ absurd (both_ways (list_any (has_all []) front) (none_in_query asking.graphs asking.query) here)
+      | inr behind ↦ empty_found (clauses_of lines) behind
+    ]
+
+-- and it is a refutation
+pub refuted : (asking : Asking) (old lines : List LogLine) (before after : Ledgered) → old ≡ [] → IsExtended (solving_of asking old) (solving_of asking lines) before after → AllExcluded (clauses_in asking lines) 0 → IsRefutation (formula_of asking.graphs asking.query) lines
+refuted asking old lines before after none extended excluded = record {
+  derived = derived_after (solving_of asking old) (solving_of asking lines) before after (λ k d within. absurd (omega (arith, within, ap length none))) extended;
+  closed = closes asking lines excluded;
+}
+
+-- ---- looking for a clause
+
+pub new_next : (lines : List LogLine) (clause : List SatLit) (k : ℕ) (line : LogLine) → AreNewUpTo (clauses_of lines) clause k → line ≡ slice_index_or lines k line → k < length lines → has_all clause line.clause ≡ false → AreNewUpTo (clauses_of lines) clause (k + 1)
+new_next lines clause k line new is there fresh j d below within =
+    elim (cases_eq j k) [
+      | inl here ↦
+          let at : slice_index_or (clauses_of lines) k d ≡ line.clause = get_or-map (λ (l : LogLine). l.clause) lines k line d there ∙ ap (λ (l : LogLine). l.clause) (sym is) in
+          ap (λ i. has_all clause (slice_index_or (clauses_of lines) i d)) here ∙ (ap (has_all clause) at ∙ fresh)
+      | inr before ↦ new j d (omega (arith, below, before)) within
+    ]
+
+pub new_both : (front lines : List (List SatLit)) (clause : List SatLit) → IsNew front clause → IsNew lines clause → IsNew (front ++ lines) clause
+new_both front lines clause one other = All-append (λ c. has_all clause c ≡ false) front lines one other
+
+pub covering_behind : (front lines : List (List SatLit)) (clause : List SatLit) (count place : ℕ) → count ≡ length front → IsCovering lines clause place → IsCovering (front ++ lines) clause (count + place)
+covering_behind front lines clause count place count_is covering = record {
+  within = omega (arith, count_is, covering.within, length-append front lines);
+  has = ap (λ k. has_all clause (clause_at (front ++ lines) (k + place))) count_is ∙ (ap (has_all clause) (get_or-append-add front lines place []) ∙ covering.has);
+}
+
+pub covered_some : (clauses : List (List SatLit)) (bits : List Bool) (clause : List SatLit) (found : Option ℕ) → clause ≡ excluding bits → is_some found ≡ true → IfSome found (IsCovering clauses clause) → IsExcluded clauses bits
+covered_some clauses bits clause None is some covering = absurd (false≢true some)
+covered_some clauses bits clause (Some id) is some covering = covered clauses bits id (subst (λ c. IsCovering clauses c id) is covering)
+
+pub not_covered : (clauses : List (List SatLit)) (clause : List SatLit) (found : Option ℕ) → is_some found ≡ false → IfNone found (IsNew clauses clause) → IsNew clauses clause
+not_covered clauses clause None none new = new
+not_covered clauses clause (Some id) none new = absurd (false≢true (sym none))

@@ -1,0 +1,189 @@
+-- A query whose input bits are known: where no clause is a conflict and each is held, its vector is asked for.
+use Rattle.std.proofs.Common.{◌≡◌, ◌≢◌, ℕ, suc, ◌+◌, ◌*◌, ◌/◌, ◌%◌, ◌-◌, ◌<◌, ◌≤◌, Bool, true, false, List, [], ◌∷◌, length, map, slice_index_or, inl, inr, sym, ap, subst, ◌∙◌, arith}
+use Rattle.std.specs.Bool.{beq}
+use Rattle.std.specs.List.{list_any, range_with_len}
+use Rattle.std.proofs.lemmas.Bool.{cases_eq, cases_lt, false≢true, or_cases, or_left, or_right}
+use Rattle.std.proofs.lemmas.Bool.Decides.{eqb_tells}
+use Rattle.std.proofs.lemmas.List.{get_or_default}
+use Rattle.std.proofs.lemmas.List.FromFn.{get_or-map-range_with_len, length-map-range_with_len}
+use Rattle.circuits.specs.Literals.{bit}
+use Rattle.circuits.specs.Netlists.{Net}
+use Rattle.cnf_core.specs.declared.literal.SatLit.{SatLit}
+use Rattle.cnf_core.specs.declared.effect.Effect.TheVariants.{Neither}
+use Rattle.cnf_core.specs.Clauses.{clause_at, is_met, literal_bit, literal_of, opposite, variable_of}
+use Rattle.cnf_core.specs.Derivations.{effect_of, is_true}
+use Rattle.net_core.specs.declared.graphs.Graphs.{Graphs}
+use Rattle.net_core.specs.Graph.{IsGraph}
+use Rattle.query_core.specs.declared.query.Query.{Query}
+use Rattle.query_core.specs.Queries.{IsQuery, IsUnmet, bits_in, circuit_of, vector_in}
+use Rattle.query_core.specs.Formulas.{formula_of, half_clauses, left_literals, left_variables, output_literal, query_clauses, right_literals, right_variables, true_literal}
+use Rattle.query_core.specs.ConeClauses.{left_gates, right_gates}
+use Rattle.query_core.proofs.FormulaLemmas.{clause_below, clause_of_left, clause_of_right, count_of, first_output, gate_clause_count, second_output}
+use Rattle.query_core.proofs.LawLemmas.{literal_of_bit, ordered_side, vector_there}
+use Rattle.table_oracle.proofs.KnownLemmas.{AreApart, IsHeld, IsKnown, unit_held}
+use Rattle.table_oracle.proofs.HalfLemmas.{IsHalfHeld, next_held}
+
+-- A query that fits two circuits. Literals are true among which the input bits are known.
+pub record IsBegun (graphs : Graphs) (query : Query) (made : List SatLit) : Type 0 where
+  pub first : IsGraph graphs.first
+  pub second : IsGraph graphs.second
+  pub fits : IsQuery graphs query
+  pub apart : AreApart made
+  pub bits : (i : ℕ) (b : Bool) → i < bits_in graphs query → IsKnown made (literal_of (1 + i) b)
+
+module _ (graphs : Graphs) (query : Query) (made : List SatLit) (begun : IsBegun graphs query made) where
+  abbrev n : ℕ
+  n = bits_in graphs query
+
+  abbrev left : Net
+  left = circuit_of graphs query.left
+
+  abbrev right : Net
+  right = circuit_of graphs query.right
+
+  abbrev lefts : List (List SatLit)
+  lefts = half_clauses left (left_literals graphs query)
+
+  abbrev rights : List (List SatLit)
+  rights = half_clauses right (right_literals graphs query)
+
+  abbrev one : SatLit
+  one = output_literal left (left_literals graphs query) query.left.output query.left_value
+
+  abbrev other : SatLit
+  other = output_literal right (right_literals graphs query) query.right.output query.right_value
+
+  left_count : length lefts ≡ 3 * left_gates graphs query
+  left_count = gate_clause_count (left_literals graphs query) (left.inputs + 1) left.gates
+
+  right_count : length rights ≡ 3 * right_gates graphs query
+  right_count = gate_clause_count (right_literals graphs query) (right.inputs + 1) right.gates
+
+  abbrev pub AreHeld : ℕ → Type 0
+  AreHeld count = (id : ℕ) → id < count → IsHeld made (clause_at (query_clauses graphs query) id)
+
+  start : (count : ℕ) → 0 < count → AreHeld count → is_true made true_literal ≡ true
+  start count some held =
+      elim (or_cases (is_true made true_literal) false (held 0 some)) [ inl truth ↦ truth | inr none ↦ absurd (false≢true none) ]
+
+  left_half : (count upto : ℕ) → 0 < count → 1 + 3 * upto ≤ count → AreHeld count → IsHalfHeld made n left query.left.feed (left_variables graphs query) upto
+  left_half count upto some much held = record {
+    first = start count some held;
+    apart = begun.apart;
+    ordered = ordered_side graphs query.left.side begun.first begun.second;
+    inputs = begun.fits.left.inputs;
+    feeds = begun.fits.left.feed;
+    wired = begun.fits.left.wires;
+    bits = begun.bits;
+    held = λ t r early within small.
+        let id = 1 + (3 * t + r) in
+        let at : id - 1 ≡ 3 * t + r = omega arith in
+        let above : id ≢ 0 = omega arith in
+        let below : id - 1 < length lefts = omega (arith, left_count, within, small) in
+        subst (IsHeld made) (sym (ap (clause_at lefts) (sym at) ∙ clause_of_left lefts rights one other id above below)) (held id (omega (arith, early, small, much)));
+  }
+
+  right_half : (count upto : ℕ) → 0 < count → 1 + 3 * left_gates graphs query + 3 * upto ≤ count → AreHeld count → IsHalfHeld made n right query.right.feed (right_variables graphs query) upto
+  right_half count upto some much held = record {
+    first = start count some held;
+    apart = begun.apart;
+    ordered = ordered_side graphs query.right.side begun.first begun.second;
+    inputs = begun.fits.right.inputs;
+    feeds = begun.fits.right.feed;
+    wired = begun.fits.right.wires;
+    bits = begun.bits;
+    held = λ t r early within small.
+        let id = 1 + 3 * left_gates graphs query + (3 * t + r) in
+        let at : id - 1 - length lefts ≡ 3 * t + r = omega (arith, left_count) in
+        let above : id ≢ 0 = omega arith in
+        let behind : length lefts ≤ id - 1 = omega (arith, left_count) in
+        let below : id - 1 - length lefts < length rights = omega (arith, left_count, right_count, within, small) in
+        subst (IsHeld made) (sym (ap (clause_at rights) (sym at) ∙ clause_of_right lefts rights one other id above behind below)) (held id (omega (arith, early, small, much)));
+  }
+
+  -- a clause is held that leaves nothing open, once those before it are
+  pub clause_held : (id : ℕ) → id < length (query_clauses graphs query) → AreHeld id → effect_of made (clause_at (query_clauses graphs query) id) ≡ Neither → IsHeld made (clause_at (query_clauses graphs query) id)
+  clause_held id there held neither =
+      elim (cases_eq id 0) [
+        | inl zero_is ↦ subst (λ k. IsHeld made (clause_at (query_clauses graphs query) k)) (sym zero_is) (unit_held made true_literal (sym (ap (λ k. effect_of made (clause_at (query_clauses graphs query) k)) zero_is) ∙ neither))
+        | inr above ↦
+            elim (cases_lt (id - 1) (length lefts)) [
+              | inl early ↦ of_left above early
+              | inr behind ↦
+                  elim (cases_lt (id - 1 - length lefts) (length rights)) [
+                    | inl below ↦ of_right above behind below
+                    | inr late ↦
+                        elim (cases_eq (id - 1 - length lefts) (length rights)) [
+                          | inl here ↦ by_unit one (first_output lefts rights one other id above behind here)
+                          | inr not_here ↦ by_unit other (second_output lefts rights one other id above behind (omega (arith, late, not_here, there, count_of graphs query, left_count, right_count, behind, above)))
+                        ]
+                  ]
+            ]
+      ]
+    where
+      by_unit : (l : SatLit) → l ∷ [] ≡ clause_at (query_clauses graphs query) id → IsHeld made (clause_at (query_clauses graphs query) id)
+      by_unit l at = subst (IsHeld made) at (unit_held made l (ap (effect_of made) at ∙ neither))
+
+      of_left : id ≢ 0 → id - 1 < length lefts → IsHeld made (clause_at (query_clauses graphs query) id)
+      of_left above early =
+          let t = (id - 1) / 3 in
+          let r = (id - 1) % 3 in
+          let k : 3 * t + r ≡ id - 1 = omega arith in
+          let at = ap (clause_at lefts) k ∙ clause_of_left lefts rights one other id above early in
+          let half = left_half id t (omega (arith, above)) (omega (arith, above)) held in
+          subst (IsHeld made) at (next_held made n left query.left.feed (left_variables graphs query) t half r (omega (arith, early, left_count)) (omega arith) (ap (effect_of made) at ∙ neither))
+
+      of_right : id ≢ 0 → length lefts ≤ id - 1 → id - 1 - length lefts < length rights → IsHeld made (clause_at (query_clauses graphs query) id)
+      of_right above behind below =
+          let j = id - 1 - length lefts in
+          let t = j / 3 in
+          let r = j % 3 in
+          let k : 3 * t + r ≡ j = omega arith in
+          let at = ap (clause_at rights) k ∙ clause_of_right lefts rights one other id above behind below in
+          let half = right_half id t (omega (arith, above)) (omega (arith, above, behind, left_count)) held in
+          subst (IsHeld made) at (next_held made n right query.right.feed (right_variables graphs query) t half r (omega (arith, below, right_count)) (omega arith) (ap (effect_of made) at ∙ neither))
+
+  -- the bits that make these literals true
+  abbrev assignment : List Bool
+  assignment = map (λ v. is_true made (literal_of v true)) (range_with_len 0 (formula_of graphs query).variables)
+
+  assigned : (v : ℕ) → v < (formula_of graphs query).variables → bit assignment v ≡ is_true made (literal_of v true)
+  assigned v within = get_or-map-range_with_len (λ v. is_true made (literal_of v true)) 0 (formula_of graphs query).variables v v false within (omega arith)
+
+  literal_met : (l : SatLit) → is_true made l ≡ true → variable_of l < (formula_of graphs query).variables → literal_bit assignment l ≡ true
+  literal_met l truth within =
+      elim (eqb_tells (l.0 % 2) 1) [
+        | inl (odd, is_odd) ↦
+            let v = variable_of l in
+            let own : l ≡ literal_of v false = ap (λ k. record { 0 = k }) (odd_is l.0 is_odd) in
+            let turned : opposite l ≡ literal_of v true = ap (λ k. record { 0 = k }) (odd_turned l.0 is_odd) in
+            let free : is_true made (literal_of v true) ≡ false = ap (is_true made) (sym turned) ∙ begun.apart l truth in
+            ap (literal_bit assignment) own ∙ (literal_of_bit assignment v false ∙ ap (λ b. beq b false) (assigned v within ∙ free))
+        | inr (even, isnt_odd) ↦
+            let v = variable_of l in
+            let own : l ≡ literal_of v true = ap (λ k. record { 0 = k }) (even_is l.0 isnt_odd) in
+            ap (literal_bit assignment) own ∙ (literal_of_bit assignment v true ∙ ap (λ b. beq b true) (assigned v within ∙ (ap (is_true made) (sym own) ∙ truth)))
+      ]
+    where
+      odd_is : (k : ℕ) → k % 2 ≡ 1 → k ≡ 2 * (k / 2) + 1
+      odd_is k odd = omega (arith, odd)
+
+      odd_turned : (k : ℕ) → k % 2 ≡ 1 → 2 * (k / 2) + (1 - k % 2) ≡ 2 * (k / 2)
+      odd_turned k odd = omega (arith, odd)
+
+      even_is : (k : ℕ) → k % 2 ≢ 1 → k ≡ 2 * (k / 2)
+      even_is k even = omega (arith, even)
+
+  clause_met : (clause : List SatLit) → ((k : ℕ) (d : SatLit) → k < length clause → variable_of (slice_index_or clause k d) < (formula_of graphs query).variables) → IsHeld made clause → is_met assignment clause ≡ true
+  clause_met [] known held = absurd (false≢true held)
+  clause_met (l ∷ clause) known held =
+      elim (or_cases (is_true made l) (list_any (is_true made) clause) held) [
+        | inl truth ↦ or_left (literal_bit assignment l) (list_any (literal_bit assignment) clause) (literal_met l truth (known 0 l (omega arith)))
+        | inr behind ↦ or_right (literal_bit assignment l) (list_any (literal_bit assignment) clause) (clause_met clause (λ k d within. known (suc k) d (omega (arith, within))) behind)
+      ]
+
+  -- all clauses are held: some vector is asked for
+  pub not_unmet : AreHeld (length (query_clauses graphs query)) → IsUnmet graphs query → ⊥
+  not_unmet held unmet =
+      unmet (vector_in n assignment) (length-map-range_with_len (λ i. bit assignment (1 + i)) 0 n) (vector_there graphs query assignment begun.first begun.second begun.fits (λ k d within.
+      subst (λ c. is_met assignment c ≡ true) (get_or_default (query_clauses graphs query) k [] d within) (clause_met (clause_at (query_clauses graphs query) k) (clause_below graphs query k begun.fits) (held k within))))

@@ -1,0 +1,37 @@
+use Rattle.std.proofs.Common.{List, subst, sym}
+use Rattle.cnf_core.specs.declared.log.LogLine.{LogLine}
+use Rattle.cnf_core.specs.Derivations.{IsRefutation}
+use Rattle.query_core.specs.Formulas.{Asking, formula_of}
+use Rattle.learn_solver.proofs.StepLemmas.{passed_on}
+use Rattle.ask_core.specs.Answers.{IsStopped}
+use Rattle.ask_core.proofs.AskLemmas.{asked_in, stopped_in}
+use Rattle.table_oracle.specs.Splits.{solving_of}
+use Rattle.table_oracle.proofs.SplitLemmas.{of_cones, refuted}
+use Rattle.table_oracle.proofs.splitting.refute.Goals as goal
+
+pub returns-in_err-exclude_all-clause-stop : goal.returns-in_err-exclude_all-clause-stop
+returns-in_err-exclude_all-clause-stop c =
+    let graphs = c.args.graphs.now in
+    let query = c.args.query.now in
+    let base = c.in_ok-new.field-0 in
+    let old = c.new-lines.result.items in
+    let of = of_cones graphs query base old c.in_ok-new.ensures c.new-lines.ensures.items c.inputs-first.ensures.graph c.inputs-second.ensures.graph c.requires.fits in
+    let stop = c.in_err-exclude_all.field-0.0 in
+    passed_on c.from_residual-in_err-exclude_all.result stop (IsStopped graphs query c.args.ledger.now c.exclude_all.new.ledger) c.from_residual-in_err-exclude_all.ensures.1 (stopped_in graphs query (solving_of base old) (solving_of base c.exclude_all.new.lines.items) c.args.ledger.now c.open.new.self c.exclude_all.new.ledger stop of c.in_ok-open.ensures.opened c.in_err-exclude_all.ensures.stop)
+
+pub returns-clause-log : goal.returns-clause-log
+returns-clause-log c =
+    let base = c.in_ok-new.field-0 in
+    let done = c.in_ok-exclude_all.ensures in
+    let lines = c.exclude_all.new.lines.items in
+    let is = refuted base c.new-lines.result.items lines c.open.new.self c.exclude_all.new.ledger c.new-lines.ensures.items done.extended done.excluded in
+    subst (λ (ls : List LogLine). IsRefutation (formula_of c.args.graphs.now c.args.query.now) ls) (sym c.from_vec.ensures) (subst (λ (a : Asking). IsRefutation (formula_of a.graphs a.query) lines) c.in_ok-new.ensures is)
+
+pub returns-clause-asked : goal.returns-clause-asked
+returns-clause-asked c =
+    let graphs = c.args.graphs.now in
+    let query = c.args.query.now in
+    let base = c.in_ok-new.field-0 in
+    let old = c.new-lines.result.items in
+    let of = of_cones graphs query base old c.in_ok-new.ensures c.new-lines.ensures.items c.inputs-first.ensures.graph c.inputs-second.ensures.graph c.requires.fits in
+    asked_in graphs query (solving_of base old) (solving_of base c.exclude_all.new.lines.items) c.args.ledger.now c.open.new.self c.exclude_all.new.ledger of c.in_ok-open.ensures.opened c.in_ok-exclude_all.ensures.extended

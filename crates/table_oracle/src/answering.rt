@@ -1,0 +1,71 @@
+//! Queries, answered by all vectors.
+
+ghost use Rattle.std.specs.Prelude.{◌≡◌, ◌≤◌, false, IfOk, IfErr};
+ghost use Rattle.net_core.specs.Sides.{graph_of};
+ghost use Rattle.query_core.specs.Claims.{IsClaim};
+ghost use Rattle.query_core.specs.ClaimQueries.{claim_query};
+ghost use Rattle.query_core.specs.Queries.{IsQuery, bits_in};
+ghost use Rattle.account_core.specs.Oracles.{IsEvidence};
+ghost use Rattle.ask_core.specs.Answers.{IsAnswer};
+ghost use Rattle.fact_tests.specs.Asking.{IsDecided, IsHalted};
+
+use crate::splitting::refute;
+use crate::vectors::meeting_vector;
+use account_core::Evidence;
+use ask_core::Answer;
+use cnf_core::Stop;
+use fact_tests::with_values;
+use net_core::Graphs;
+use query_core::{Claim, Ledger, Query, of_claim};
+use std::alloc::Global;
+
+/// A vector that meets a query, or else a log that refutes it, each line of which is charged.
+pub(crate) fn answer_to(
+    alloc: Global,
+    graphs: &Graphs,
+    query: &Query,
+    ledger: &mut Ledger,
+) -> Result<Answer, Stop>
+    requires fits { IsQuery graphs.now query.now }
+    requires small { bits_in graphs.now query.now ≤ 12 }
+    requires unspent { ledger.old.spent ≡ false }
+    ensures answer { IfOk result (IsAnswer graphs.now query.now) }
+    ensures decided { IfOk result (λ _. IsDecided graphs.now query.now ledger.old ledger.new) }
+    ensures unspent { IfOk result (λ _. ledger.new.spent ≡ false) }
+    ensures stop { IfErr result (IsHalted graphs.now query.now ledger.old ledger.new) }
+{
+    if let Some(vector) = meeting_vector(alloc, graphs, query)? {
+        return Ok(Answer::Vector(vector));
+    }
+    match refute(alloc, graphs, query, ledger) {
+        Ok(log) => Ok(Answer::Refuted(log)),
+        Err(stop) => Err(stop),
+    }
+}
+
+/// What the answer of a claim's query says of the claim.
+pub(crate) fn evidence_of(
+    alloc: Global,
+    graphs: &Graphs,
+    claim: &Claim,
+    ledger: &mut Ledger,
+) -> Result<Evidence, Stop>
+    requires placed { IsClaim graphs.now claim.now }
+    requires small { (graph_of graphs.now claim.now.side).inputs ≤ 12 }
+    requires unspent { ledger.old.spent ≡ false }
+    ensures evidence { IfOk result (IsEvidence graphs.now claim.now) }
+    ensures decided { IfOk result
+        (λ _. IsDecided graphs.now (claim_query graphs.now claim.now) ledger.old ledger.new) }
+    ensures unspent { IfOk result (λ _. ledger.new.spent ≡ false) }
+    ensures stop { IfErr result (IsHalted graphs.now (claim_query graphs.now claim.now) ledger.old ledger.new) }
+{
+    let query = of_claim(alloc, graphs, claim)?;
+    match answer_to(alloc, graphs, &query, ledger) {
+        Ok(Answer::Vector(vector)) => {
+            let vector = with_values(alloc, vector, &claim.shape)?;
+            Ok(Evidence::Fails(vector))
+        }
+        Ok(Answer::Refuted(log)) => Ok(Evidence::Holds(log)),
+        Err(stop) => Err(stop),
+    }
+}
