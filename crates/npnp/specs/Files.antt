@@ -49,7 +49,8 @@ abbrev pub HoldsFirst : List ℕ → Option (List ℕ) → Type 0
 HoldsFirst text content = (count : ℕ) × (content ≡ Some (take count text))
 
 -- Writing a text under a name, in place of what it holds.
-pub record WritesFile (tells : Bool) (name text : List ℕ) (old new : ShelfState) (result : Result (Unit {0}) ShelfStop) : Type 0 where
+pub record WritesFile (tells : Bool) (name text : List ℕ) (old new : ShelfState)
+    (result : Result (Unit {0}) ShelfStop) : Type 0 where
   -- no other file changes
   pub others : IsTrue tells → (n : List ℕ) → n ≢ name → new.held n ≡ old.held n
   pub whole : IsTrue tells → OnOk result (new.held name ≡ Some text)

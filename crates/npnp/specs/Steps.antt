@@ -168,7 +168,8 @@ abbrev pub IsUnwritten : Outcome → Type 0
 IsUnwritten outcome = (outcome ≡ WriteFault) ⊎ (outcome ≡ Memory)
 
 -- Writing an account under a name, and ending a run where it was written.
-pub record Concludes (tells : Bool) (name text : List ℕ) (ending : Ending) (old new : ShelfState) (result : Result Ending Outcome) : Type 0 where
+pub record Concludes (tells : Bool) (name text : List ℕ) (ending : Ending) (old new : ShelfState)
+    (result : Result Ending Outcome) : Type 0 where
   pub others : IsTrue tells → (n : List ℕ) → n ≢ name → new.held n ≡ old.held n
   pub same : IfOk result (λ answer. answer ≡ ending)
   pub whole : IsTrue tells → OnOk result (new.held name ≡ Some text)
@@ -190,13 +191,15 @@ IsStopOfMatch tells graphs budget before after outcome =
     ⊎ (IsUnwritten outcome × (IsTrue tells → IsCutOf graphs before after))
 
 -- Searching two netlists for a match, and writing the account of the answer under a name.
-pub record Finds (tells : Bool) (first second : Named) (account_name : List ℕ) (budget : ℕ) (old new : ShelfState) (result : Result Ending Outcome) : Type 0 where
+pub record Finds (tells : Bool) (first second : Named) (account_name : List ℕ) (budget : ℕ) (old new : ShelfState)
+    (result : Result Ending Outcome) : Type 0 where
   pub others : IsTrue tells → (n : List ℕ) → n ≢ account_name → new.held n ≡ old.held n
   pub answer : IfOk result (λ ending. (account : List ℕ)
       × IsAnswered (graphs_of first second) account ending.outcome
       × (IsTrue tells → new.held account_name ≡ Some account))
   pub report : IfOk result (λ ending. ending.report.items ≡ report_on (names_of first) (names_of second) ending.outcome)
-  pub stopped : IfErr result (IsStopOfMatch tells (graphs_of first second) budget (old.held account_name) (new.held account_name))
+  pub stopped : IfErr result
+      (IsStopOfMatch tells (graphs_of first second) budget (old.held account_name) (new.held account_name))
   pub faults : old.faults ≤ new.faults
   pub failed : result ≡ Err WriteFault → Rose old.faults new.faults
 

@@ -28,7 +28,7 @@ pub record Sought : Type 0 where
   pub budget : ℕ
   pub seed : ℕ
 
--- the words are a budget and a seed, or the budget alone, or none; the default budget is 1,000,000,000, and the default seed is 1
+-- the words are a budget and a seed, or the budget alone, or none; the default budget is 1,000,000,000, the default seed 1
 abbrev pub AreBudgetAndSeed : List (List ℕ) → ℕ → ℕ → Type 0
 AreBudgetAndSeed [] budget seed = (budget ≡ 1000000000) × (seed ≡ 1)
 AreBudgetAndSeed (word ∷ []) budget seed = IsNumber word budget × (seed ≡ 1)

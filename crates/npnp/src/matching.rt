@@ -35,8 +35,8 @@ pub struct Solved {
     pub account: Vec<u8>,
 }
 
-/// Looks for a match of the two netlists that the words name, and writes the account of the answer. The error is an outcome
-/// whose report is one line: a file is no netlist, the budget was spent, or there was a fault.
+/// Looks for a match of the two netlists that the words name, and writes the account of the answer. The error is an
+/// outcome whose report is one line: a file is no netlist, the budget was spent, or there was a fault.
 pub fn find<S: Shelf>(alloc: Global, asked: &Match<'_>, shelf: &mut S) -> Result<Ending, Outcome>
     requires { (S.state shelf.old).mode ≡ Closed }
     ensures { Decides S.tells (asked_match asked.now) (S.state shelf.old) (S.state shelf.new) result }

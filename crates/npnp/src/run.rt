@@ -42,14 +42,14 @@ pub struct Ending {
 /// Runs the program on the words of its command line: reads the files that they name, decides, and puts one
 /// report. It knows these words, where each netlist is in BLIF or in the AIGER format:
 ///
-/// - `match FIRST SECOND ACCOUNT [BUDGET [SEED]]`: FIRST and SECOND are netlists, of which a match is sought: a port table
-///   under which all outputs agree on every vector. ACCOUNT is written, the proof of the table or that there is none; its
-///   name is neither of the others. At most BUDGET clauses are learned, by default 1,000,000,000; SEED, by default 1,
-///   chooses the vectors that are simulated.
+/// - `match FIRST SECOND ACCOUNT [BUDGET [SEED]]`: FIRST and SECOND are netlists, of which a match is sought: a port
+///   table under which all outputs agree on every vector. ACCOUNT is written, the proof of the table or that there is
+///   none; its name is neither of the others. At most BUDGET clauses are learned, by default 1,000,000,000; SEED, by
+///   default 1, chooses the vectors that are simulated.
 /// - `check FIRST SECOND ACCOUNT`: FIRST and SECOND are netlists, and ACCOUNT is a text that claims a port table and
 ///   proves, by refutations, that it is a match of the two, or that proves by exclusions that no port table is one.
-/// - `info FILE [BUDGET]`: FILE is a netlist. Its supports, unateness and symmetries are decided; at most BUDGET clauses
-///   are learned for that, by default 1,000,000,000.
+/// - `info FILE [BUDGET]`: FILE is a netlist. Its supports, unateness and symmetries are decided; at most BUDGET
+///   clauses are learned for that, by default 1,000,000,000.
 ///
 /// The files are opened in this order, each read and closed before the next. A netlist of more than 67,108,864
 /// bytes is closed unread. The account of a match is written once its answer is known: its lines in pieces of 65,536
@@ -69,8 +69,8 @@ pub fn run<S: Shelf, K: Sink>(
     ensures matched_account { IsTrue S.tells → (table : Table) → result ≡ Outcome.Matched table
         → IsProved (S.state shelf.new).held (map string_bytes words.now) (Verdict.Match table) }
 
-    // There is said to be no match exactly where no signed bijections make the two netlists equal, unless the budget was
-    // spent, or a fault or want of memory came; and the account that is held afterwards proves it.
+    // There is said to be no match exactly where no signed bijections make the two netlists equal, unless the budget
+    // was spent, or a fault or want of memory came; and the account that is held afterwards proves it.
     ensures no_matching { IsTrue S.tells → IsSettled result
         → ((result ≡ Outcome.NoMatching)
         ↔ HasNoMatch (S.state shelf.old).held (map string_bytes words.now)) }

@@ -121,7 +121,9 @@ fn match_of<'a>(
     account: &'a str,
     numbers: &[String],
 ) -> Option<Match<'a>>
-    ensures names { IfSome result (λ asked. (asked.first.now ≡ first.now) × (asked.second.now ≡ second.now) × (asked.account.now ≡ account.now)) }
+    ensures names { IfSome result (λ asked. (asked.first.now ≡ first.now)
+        × (asked.second.now ≡ second.now)
+        × (asked.account.now ≡ account.now)) }
     ensures apart { IfSome result (λ asked. AreNames first.now second.now account.now) }
     ensures numbers { IfSome result (λ asked. AreBudgetAndSeed (map string_bytes numbers.now) asked.budget asked.seed) }
     ensures none { IfNone result ((budget seed : ℕ)

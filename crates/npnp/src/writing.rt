@@ -13,8 +13,9 @@ const PIECE: usize = 65_536;
 /// The last line of an account.
 const LAST_LINE: &[u8] = b"end\n";
 
-/// Writes an account under a name, in place of what the name holds: its lines up to the last one in pieces, and the last one by
-/// itself, so that a file that was cut off doesn't end as an account does. After a refusal no further call is made.
+/// Writes an account under a name, in place of what the name holds: its lines up to the last one in pieces, and the
+/// last one by itself, so that a file that was cut off doesn't end as an account does. After a refusal no further call
+/// is made.
 pub fn write_account<S: Shelf>(shelf: &mut S, name: &str, lines: &[u8]) -> Result<(), ShelfStop>
     requires { (S.state shelf.old).mode ≡ Closed }
     ensures { WritesFile S.tells name.now (lines.now ++ last_line) (S.state shelf.old) (S.state shelf.new) result }
@@ -47,7 +48,8 @@ fn append_pieces<S: Shelf>(shelf: &mut S, text: &[u8]) -> Result<(), ShelfStop>
     Ok(())
 }
 
-/// Writes the next piece of a text to the open file, which holds so many bytes of it, and answers how many it holds then.
+/// Writes the next piece of a text to the open file, which holds so many bytes of it, and answers how many it holds
+/// then.
 fn append_next<S: Shelf>(shelf: &mut S, text: &[u8], done: usize) -> Result<usize, ShelfStop>
     requires writing { (S.state shelf.old).mode ≡ Writing }
     requires held { IsTrue S.tells → (S.state shelf.old).held (S.state shelf.old).name ≡ Some (take done text.now) }

@@ -26,6 +26,7 @@ fn failing_at(alloc: Global, files: [&[u8]; 2], number: u64) -> Result<MemShelf,
 }
 
 /// How a match ended, what it printed, and what it left under the account's name.
+#[derive(Drop)]
 struct Ended {
     status: u8,
     report: Vec<u8>,
