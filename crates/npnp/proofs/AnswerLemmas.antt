@@ -1,6 +1,5 @@
 -- The answers of a search, with accounts that are accepted.
 use Rattle.std.proofs.Common.{◌≡◌, ℕ, inl, inr, List, ◌++◌, All, map, refl, sym, subst}
-use Rattle.circuits.specs.Matches.{HaveNpnpEqualFunctions}
 use Rattle.cnf_core.specs.declared.log.Log.{Log}
 use Rattle.net_core.specs.Graph.{IsGraph}
 use Rattle.net_core.specs.declared.graphs.Graphs.{Graphs}
@@ -15,7 +14,7 @@ use Rattle.account_file.specs.Spelling.{IsWritable}
 use Rattle.account_check.specs.Verdicts.{IsAccepted as Proves}
 use Rattle.account_check.specs.declared.verdict.Verdict.TheVariants as verdict
 use Rattle.account_check.proofs.RefusalLemmas.{right_refusal}
-use Rattle.account_write.specs.Records.{account_of, lines_of, match_records, none_ports_records, refusal_records}
+use Rattle.account_write.specs.Records.{lines_of, match_records, none_ports_records, refusal_records}
 use Rattle.account_write.proofs.MatchLemmas.{match_accepted}
 use Rattle.account_write.proofs.RefusalLemmas.{none_ports_accepted, refusal_accepted}
 use Rattle.match_search.specs.Founds.{IsEmptyBan, IsShownMatch}

@@ -1,11 +1,10 @@
 -- What was found for two netlists, and whether its account was written.
-use Rattle.std.proofs.Common.{◌≡◌, ◌≢◌, ◌⊎◌, ℕ, ◌≤◌, inl, inr, Bool, IsTrue, List, ◌++◌, Option, Some, Result, Ok, Err, IfOk, IfErr, OnOk, OnErr, map, refl, sym, ◌∙◌, ap, subst, arith}
+use Rattle.std.proofs.Common.{◌≡◌, ◌⊎◌, ℕ, ◌≤◌, inl, inr, Bool, List, Option, Result, Ok, Err, IfErr, map, refl, sym, ◌∙◌, ap, subst, arith}
 use Rattle.net_core.specs.declared.graphs.Graphs.{Graphs}
 use Rattle.circuits.specs.Matches.{IsMatchOfFunctions}
 use Rattle.net_core.specs.declared.matching.Matching.{Matching}
 use Rattle.net_core.specs.declared.named.Named.{Named}
 use Rattle.port_report.specs.Reports.{names_of}
-use Rattle.shelf_core.specs.Fault.{Rose}
 use Rattle.shelf_core.specs.State.{ShelfState}
 use Rattle.shelf_core.specs.declared.outside.ShelfStop.{ShelfStop}
 use Rattle.shelf_core.specs.declared.outside.ShelfStop.TheVariants.{Failed, Memory}

@@ -21,7 +21,7 @@ use Rattle.npnp.specs.Words.{AsksInfo}
 use Rattle.npnp.specs.declared.words.Info.{Info as InfoWords}
 use Rattle.npnp.specs.declared.run.Ending.{Ending}
 use Rattle.npnp.specs.declared.outcome.Outcome.{Outcome}
-use Rattle.npnp.specs.declared.outcome.Outcome.TheVariants.{AcceptedMatch, AcceptedRefusal, Matched, Spent, Informed, ReadFault, Memory}
+use Rattle.npnp.specs.declared.outcome.Outcome.TheVariants.{AcceptedMatch, AcceptedRefusal, Spent, Informed, ReadFault, Memory}
 
 -- an empty ledger suits a book that knows nothing
 pub suits_new : (graphs : Graphs) (budget : ℕ) → Suits (record { graphs = graphs; facts = []; answered = [] }) (record { budget = budget; asked = []; spent = false })

@@ -1,23 +1,19 @@
 -- What a match says of the words and the files, and what it leaves.
-use Rattle.std.proofs.Common.{◌≡◌, ◌≢◌, ℕ, ◌≤◌, inl, inr, Bool, true, false, IsTrue, List, length, take, Option, Some, Result, Ok, Err, refl, sym, ◌∙◌, ap, subst, arith}
+use Rattle.std.proofs.Common.{◌≡◌, ◌≢◌, ℕ, inl, inr, Bool, true, false, IsTrue, List, length, Option, Some, Result, Ok, Err, refl, sym, ◌∙◌, ap, subst, arith}
 use Rattle.std.proofs.lemmas.Bool.{false≢true}
 use Rattle.std.proofs.lemmas.List.{take_all}
 use Rattle.std.proofs.lemmas.Slice.Eq.{bytes_eq-Decides}
 use Rattle.std.specs.Str.{bytes_eq}
 use Rattle.circuits.proofs.MatchLaws.{match_from_functions, functions_from_equal}
-use Rattle.net_core.specs.declared.graphs.Graphs.{Graphs}
-use Rattle.net_core.specs.declared.matching.Matching.{Matching}
 use Rattle.net_core.specs.declared.named.Named.{Named}
 use Rattle.shelf_core.specs.State.{ShelfState}
 use Rattle.account_check.specs.Verdicts.{IsAccepted as Proves}
 use Rattle.account_check.specs.declared.verdict.Verdict.{Verdict}
 use Rattle.account_check.specs.declared.verdict.Verdict.TheVariants as verdict
-use Rattle.npnp.specs.Check.{HasAccount, IsAccepted}
 use Rattle.npnp.specs.Held.{HoldsGraph}
 use Rattle.npnp.specs.Match.{HoldsPart, IsProved, IsSought, NamesAccount}
 use Rattle.npnp.specs.Outcomes.{IsRight, IsSound, Leaves, LeavesFiles, MayBeCut}
-use Rattle.npnp.specs.Report.{IsReport}
-use Rattle.npnp.specs.Steps.{Ask, Decides, Finds, IsAnswered, IsCutOf, IsEarly, IsEnding, IsMatchCommand, IsNotWritten, IsReadFrom, IsStopOfMatch, IsStopWithin, IsUnwritten, asked_match, ended, graphs_of, netlist_of, sought_by}
+use Rattle.npnp.specs.Steps.{Ask, Decides, Finds, IsAnswered, IsCutOf, IsEarly, IsEnding, IsMatchCommand, IsNotWritten, IsReadFrom, IsStopOfMatch, IsStopWithin, asked_match, graphs_of, netlist_of, sought_by}
 use Rattle.npnp.specs.Words.{AsksCheck, AsksMatch, Sought, check_words}
 use Rattle.npnp.specs.declared.words.Match.{Match as MatchWords}
 use Rattle.npnp.specs.declared.words.Command.{Command}
@@ -158,17 +154,17 @@ module _ (tells : Bool) (asked : MatchWords) (old new : ShelfState) (first secon
   answer_right account o answer t words asks =
       elim answer [
         | inl (table, is, proves, matches) ↦ subst (IsRight old.held words) (sym is) (record {
-            first = netlist_of first_read.circuit first;
-            second = netlist_of second_read.circuit second;
-            files = files t words asks;
-            matches = match_from_functions first_read.circuit second_read.circuit first.graph second.graph table.inputs table.outputs first_read.computes second_read.computes matches;
-          })
+          first = netlist_of first_read.circuit first;
+          second = netlist_of second_read.circuit second;
+          files = files t words asks;
+          matches = match_from_functions first_read.circuit second_read.circuit first.graph second.graph table.inputs table.outputs first_read.computes second_read.computes matches;
+        })
         | inr (is, proves, unequal) ↦ subst (IsRight old.held words) (sym is) (record {
-            first = netlist_of first_read.circuit first;
-            second = netlist_of second_read.circuit second;
-            files = files t words asks;
-            unequal = λ equal. unequal (functions_from_equal first_read.circuit second_read.circuit first.graph second.graph first_read.acyclic second_read.acyclic first_read.computes second_read.computes equal);
-          })
+          first = netlist_of first_read.circuit first;
+          second = netlist_of second_read.circuit second;
+          files = files t words asks;
+          unequal = λ equal. unequal (functions_from_equal first_read.circuit second_read.circuit first.graph second.graph first_read.acyclic second_read.acyclic first_read.computes second_read.computes equal);
+        })
       ]
 
   answer_leaves : (account : List ℕ) (o : Outcome) → IsAnswered (graphs_of first second) account o → IsTrue tells → new.held asked.account.now ≡ Some account → (words : List (List ℕ)) → AsksMatch words (sought_by asked) → Leaves old.held new.held words o
@@ -203,13 +199,13 @@ module _ (tells : Bool) (asked : MatchWords) (old new : ShelfState) (first secon
   stop_right o stop t words asks =
       elim stop [
         | inl (ledger, is, spent) ↦ subst (IsRight old.held words) (sym is) (inr (record {
-            sought = (sought_by asked);
-            asks = asks;
-            graphs = (graphs_of first second);
-            first_held = first_graph t;
-            second_held = second_graph t;
-            spent = spent;
-          }))
+          sought = (sought_by asked);
+          asks = asks;
+          graphs = (graphs_of first second);
+          first_held = first_graph t;
+          second_held = second_graph t;
+          spent = spent;
+        }))
         | inr is ↦ subst (IsRight old.held words) (sym is) tt
       ]
 
@@ -220,17 +216,17 @@ module _ (tells : Bool) (asked : MatchWords) (old new : ShelfState) (first secon
       elim is [
         | inl same ↦ inl (unchanged t same)
         | inr (account, proved, proves, first_part) ↦ inr (record {
-            sought = (sought_by asked);
-            asks = asks;
-            graphs = (graphs_of first second);
-            first_held = first_after t words asks;
-            second_held = second_after t words asks;
-            account = account;
-            proved = proved;
-            accepted = proves;
-            count = first_part.0;
-            part = first_part.1;
-          })
+          sought = (sought_by asked);
+          asks = asks;
+          graphs = (graphs_of first second);
+          first_held = first_after t words asks;
+          second_held = second_after t words asks;
+          account = account;
+          proved = proved;
+          accepted = proves;
+          count = first_part.0;
+          part = first_part.1;
+        })
       ]
 
   end_right : (o : Outcome) → IsStopOfMatch tells (graphs_of first second) asked.budget (old.held asked.account.now) (new.held asked.account.now) o → IsTrue tells → (words : List (List ℕ)) → AsksMatch words (sought_by asked) → IsRight old.held words o

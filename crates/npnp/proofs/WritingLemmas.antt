@@ -1,12 +1,11 @@
 -- First parts of a text that is written in pieces.
-use Rattle.std.proofs.Common.{◌≡◌, ◌≢◌, ◌⊎◌, ℕ, ◌+◌, ◌-◌, ◌<◌, ◌≤◌, min, inl, inr, Bool, IsTrue, List, [], ◌++◌, length, take, drop, Option, Some, Result, Ok, Err, OnOk, OnErr, refl, sym, ◌∙◌, ap, subst, arith, append_assoc, length-append, length-take}
+use Rattle.std.proofs.Common.{◌≡◌, ◌≢◌, ◌⊎◌, ℕ, ◌+◌, ◌-◌, ◌<◌, ◌≤◌, min, inl, inr, Bool, IsTrue, List, ◌++◌, length, take, drop, Option, Some, Result, Ok, Err, OnOk, OnErr, refl, sym, ◌∙◌, ap, subst, arith, length-take}
 use Rattle.std.specs.List.{between}
 use Rattle.std.proofs.lemmas.List.{take-append-drop, take-take, take_all, take_at, take-append-le, take_min, drop-take, drop_at}
 use Rattle.std.proofs.lemmas.Slice.{between_is}
 use Rattle.npnp.specs.Files.{FillsFile, FillsOn, HoldsFirst, WritesFile}
 use Rattle.npnp.proofs.CheckLemmas.{rose_later}
 use Rattle.shelf_core.specs.Calls.{Appends, Closes, Creates}
-use Rattle.shelf_core.specs.Fault.{Rose}
 use Rattle.shelf_core.specs.State.{ShelfState, Writing, grown}
 use Rattle.shelf_core.specs.declared.outside.ShelfStop.{ShelfStop}
 use Rattle.shelf_core.specs.declared.outside.ShelfStop.TheVariants.{Failed}
@@ -26,14 +25,13 @@ fill_part text done end k le within =
     let whole = take end text in
     let size = length whole in
     let is : size ≡ min end (length text) = length-take end text in
-    let count = min (done + k) size in
-    (
+    let count = min (done + k) size in (
       count,
       ap (λ ys. take done text ++ take k ys) (between_is text done end)
-      ∙ (ap (λ ys. ys ++ take k (drop done whole)) (sym (take-take done end text le))
-      ∙ (sym (take_plus done k whole)
-      ∙ (sym (take_min (done + k) whole)
-      ∙ take-take count end text (omega (arith, is))))),
+          ∙ (ap (λ ys. ys ++ take k (drop done whole)) (sym (take-take done end text le))
+          ∙ (sym (take_plus done k whole)
+          ∙ (sym (take_min (done + k) whole)
+          ∙ take-take count end text (omega (arith, is))))),
     )
 
 -- a first part of the lines is one of the whole account

@@ -125,13 +125,7 @@ fn solve_by_search(
     let mut bans = BanBook::new(alloc);
     let mut ledger = Ledger::new(alloc, budget);
     match search(alloc, graphs, &mut book, &mut bans, &mut ledger) {
-        Ok(found) => Ok(answered(
-            alloc,
-            graphs,
-            found,
-            book.facts(),
-            bans.bans(),
-        )?),
+        Ok(found) => Ok(answered(alloc, graphs, found, book.facts(), bans.bans())?),
         Err(Stop::Spent(_)) => Err(Outcome::Spent(ledger)),
         Err(Stop::Memory) => Err(Outcome::Memory),
     }

@@ -148,7 +148,11 @@ fn match_of<'a>(
 fn are_names(first: &str, second: &str, account: &str) -> bool
     ensures { IsTrue result ↔ AreNames first.now second.now account.now }
 {
-    !(first.is_empty() | second.is_empty() | account.is_empty() | (account == first) | (account == second))
+    !(first.is_empty()
+        | second.is_empty()
+        | account.is_empty()
+        | (account == first)
+        | (account == second))
 }
 
 /// A budget and a seed, as the words give them, or the default ones.

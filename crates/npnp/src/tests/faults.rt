@@ -103,6 +103,9 @@ fn writes_the_account_where_nothing_can_be_printed(rt: HostRuntime) -> Result<()
     let ended = seek(rt.alloc(), [EMPTY, EMPTY], NEVER, 0)?;
     assert_eq!(rt; ended.status, 6);
     assert_eq!(rt; ended.report.as_slice(), b"".as_slice());
-    assert_eq!(rt; ended.account.as_deref(), Some(b"npnp 1\nmatch\nend\n".as_slice()));
+    assert_eq!(rt;
+        ended.account.as_deref(),
+        Some(b"npnp 1\nmatch\nend\n".as_slice())
+    );
     Ok(())
 }

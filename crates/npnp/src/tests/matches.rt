@@ -154,7 +154,13 @@ fn finds_matches_or_that_there_is_none(rt: HostRuntime) -> Result<(), Fail> {
 
 /// Words, the status, the report and the whole account. An account that isn't written is nothing.
 const WRITTEN: [(&[&str], [&[u8]; 2], u8, &[u8], &[u8]); 8] = [
-    (WORDS, [EMPTY, EMPTY], 0, b"matched\n", b"npnp 1\nmatch\nend\n"),
+    (
+        WORDS,
+        [EMPTY, EMPTY],
+        0,
+        b"matched\n",
+        b"npnp 1\nmatch\nend\n",
+    ),
     (
         WORDS,
         [THREE, TWO],

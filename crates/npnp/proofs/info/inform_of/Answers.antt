@@ -24,6 +24,6 @@ returns-in-Err-Spent c = record {
     c.info.new.ledger,
     refl,
     spent_is (with_itself c.args.named.now.graph) c.in_ok-graphs.graphs c.in_ok-book.book c.new-ledger.result c.info.new.ledger c.args.budget c.in-Err-Spent.field-0-0 c.in_ok-graphs.ensures c.in_ok-book.ensures.empty c.new-ledger.ensures
-    (subst (IsStopped c.in_ok-book.book c.new-ledger.result c.info.new.ledger) c.in-Err-Spent.field-0-is c.in-Err-Spent.ensures.serves.stopped),
+        (subst (IsStopped c.in_ok-book.book c.new-ledger.result c.info.new.ledger) c.in-Err-Spent.field-0-is c.in-Err-Spent.ensures.serves.stopped),
   );
 }

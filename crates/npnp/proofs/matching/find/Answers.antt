@@ -1,5 +1,5 @@
 -- The netlists were read, and a match of them was sought.
-use Rattle.std.proofs.Common.{ℕ, List, inl, inr, ◌∙◌, subst, arith}
+use Rattle.std.proofs.Common.{ℕ, List, inr, ◌∙◌, subst, arith}
 use Rattle.std.proofs.lemmas.Result.{err_from_is_err_and}
 use Rattle.npnp.specs.Outcomes.{EndsAt}
 use Rattle.npnp.specs.Steps.{IsReadFrom, netlist_of}

@@ -1,7 +1,7 @@
 -- An answer was found, and its account was written; or nothing was.
-use Rattle.std.proofs.Common.{◌++◌, inr, ap, refl, sym, subst, ◌∙◌}
+use Rattle.std.proofs.Common.{◌++◌, inr, refl, sym, subst}
 use Rattle.std.proofs.lemmas.Result.{err_from_is_err_and}
-use Rattle.npnp.specs.Steps.{IsAnswered, IsMatchIfTable, IsStopWithin, graphs_of, last_line}
+use Rattle.npnp.specs.Steps.{IsAnswered, IsStopWithin, graphs_of, last_line}
 use Rattle.npnp.specs.declared.outcome.Outcome.TheVariants.{Memory}
 use Rattle.npnp.proofs.FindLemmas.{not_solved, solved, table_of_answer}
 use Rattle.npnp.proofs.matching.find_of.Goals as goal

@@ -1,8 +1,7 @@
 -- The book knows nothing and the ledger is empty; the search came to an answer, or the budget was spent.
-use Rattle.std.proofs.Common.{inl, ap, refl, sym, subst, ◌∙◌}
+use Rattle.std.proofs.Common.{inl, ap, refl, sym, subst}
 use Rattle.std.proofs.lemmas.Result.{err_from_is_err_and}
 use Rattle.account_core.specs.Oracles.{IsStopped, Known}
-use Rattle.query_core.specs.Ledgers.{Ledgered}
 use Rattle.match_search.specs.Founds.{IsFound}
 use Rattle.npnp.proofs.InfoLemmas.{spent_is, suits_first}
 use Rattle.npnp.proofs.FindLemmas.{bans_for, facts_for, no_room}
@@ -40,7 +39,7 @@ returns-in-Err-Spent c = record {
     c.search.new.ledger,
     refl,
     spent_is c.args.graphs.now c.args.graphs.now c.in_ok-book.book c.new-ledger.result c.search.new.ledger c.args.budget c.in-Err-Spent.field-0-0 refl c.in_ok-book.ensures.empty c.new-ledger.ensures
-    (subst (IsStopped c.in_ok-book.book c.new-ledger.result c.search.new.ledger) c.in-Err-Spent.field-0-is c.in-Err-Spent.ensures.serves.stopped),
+        (subst (IsStopped c.in_ok-book.book c.new-ledger.result c.search.new.ledger) c.in-Err-Spent.field-0-is c.in-Err-Spent.ensures.serves.stopped),
   );
 }
 
