@@ -15,14 +15,18 @@ use Rattle.account_check.specs.declared.verdict.Why.{Why}
 use Rattle.account_check.proofs.VerdictLemmas.{one_rejection, one_proved, never_both}
 use Rattle.npnp.specs.Circuits.{IsCircuit, IsCircuitFault}
 use Rattle.query_core.specs.Ledgers.{Ledgered}
-use Rattle.npnp.specs.Words.{AsksCheck, AsksInfo, AskNothing}
-use Rattle.npnp.specs.Check.{Netlist, HoldsNetlist, HoldsGraph, HoldsFault, HoldsTooMuch, EndsAt, EndsEarly, IsAsked, HasAccount, LacksAccount, IsAskedOf, IsSpentOn, IsOfOne, IsRight, IsDecided, IsTold}
+use Rattle.npnp.specs.Words.{AsksCheck, AsksInfo, AsksMatch, AskNothing, NameThree, Sought}
+use Rattle.npnp.specs.Match.{HasNoMatch, IsAskedToMatch, IsMatchFound, IsSought, IsSpentOnTwo}
+use Rattle.circuits.specs.Matches.{AreNpnpEqual}
+use Rattle.npnp.specs.Check.{IsAsked, HasAccount, LacksAccount}
+use Rattle.npnp.specs.Held.{Netlist, HoldsNetlist, HoldsGraph, HoldsFault, HoldsTooMuch}
+use Rattle.npnp.specs.Outcomes.{EndsAt, EndsEarly, IsAskedOf, IsSpentOn, IsOfOne, IsOfMatch, IsRight, IsDecided, IsTold, Leaves}
 use Rattle.net_core.specs.declared.named.Named.{Named}
 use Rattle.shelf_core.specs.State.{ShelfState, Closed}
 use Rattle.npnp.specs.Report.{IsReport}
-use Rattle.npnp.specs.Steps.{Ask, ReadAs, IsVerdict, IsOfReading, IsStopOf, ReadsNetlist, Decides}
+use Rattle.npnp.specs.Steps.{Ask, ReadAs, IsVerdict, IsEarly, IsOfReading, IsStopOf, ReadsNetlist, Decides, sought_by}
 use Rattle.npnp.specs.declared.words.Command.{Command}
-use Rattle.npnp.specs.declared.words.Command.TheVariants.{Check, Info}
+use Rattle.npnp.specs.declared.words.Command.TheVariants.{Check, Match, Info}
 use Rattle.npnp.specs.Stops.{outcome_of}
 use Rattle.npnp.specs.declared.run.Ending.{Ending}
 use Rattle.npnp.specs.declared.files.Stop.{Stop}
@@ -34,7 +38,7 @@ use Rattle.npnp.proofs.CircuitLemmas.{one_circuit, circuit_or_fault, one_circuit
 use Rattle.npnp.specs.declared.outcome.Which.{Which}
 use Rattle.npnp.specs.declared.outcome.Which.TheVariants.{First, Second, Account}
 use Rattle.npnp.specs.declared.outcome.Outcome.{Outcome}
-use Rattle.npnp.specs.declared.outcome.Outcome.TheVariants.{AcceptedMatch, AcceptedRefusal, Rejected, Spent, Usage, Absent, TooLarge, Malformed, Informed, ReadFault, WriteFault, Memory}
+use Rattle.npnp.specs.declared.outcome.Outcome.TheVariants.{AcceptedMatch, AcceptedRefusal, Rejected, Matched, NoMatching, Spent, Usage, Absent, TooLarge, Malformed, Informed, ReadFault, WriteFault, Memory}
 
 -- a count that rose in the last of several calls
 pub rose_later : (a b c : ℕ) → a ≤ b → b ≤ c → Rose b c → Rose a c
@@ -87,6 +91,8 @@ end_of : (file : Which) (content : Option (List ℕ)) (o : Outcome) → IsDecide
 end_of file content (AcceptedMatch table) decided fact = absurd fact
 end_of file content AcceptedRefusal decided fact = absurd fact
 end_of file content (Rejected line why) decided fact = absurd fact
+end_of file content (Matched table) decided fact = absurd fact
+end_of file content NoMatching decided fact = absurd fact
 end_of file content (Spent ledger) decided fact = absurd fact
 end_of file content Informed decided fact = absurd fact
 end_of file content Usage decided fact = absurd fact
@@ -176,24 +182,31 @@ SaysAccount held first second account o =
     ((o ≡ Absent Account) × (held account ≡ None))
     ⊎ ((graphs : Graphs) × HoldsGraph (held first) graphs.first × HoldsGraph (held second) graphs.second × (bytes : List ℕ) × (held account ≡ Some bytes) × IsAnswer graphs bytes o)
 
-abbrev pub SaysSecond : (List ℕ → Option (List ℕ)) → List ℕ → List ℕ → List ℕ → Outcome → Type 0
-SaysSecond held first second account o = IsEnd Second (held second) o ⊎ ((g : Netlist) × HoldsNetlist (held second) g × SaysAccount held first second account o)
-
-abbrev pub SaysFirst : (List ℕ → Option (List ℕ)) → List ℕ → List ℕ → List ℕ → Outcome → Type 0
-SaysFirst held first second account o = IsEnd First (held first) o ⊎ ((f : Netlist) × HoldsNetlist (held first) f × SaysSecond held first second account o)
+abbrev pub SaysTwo : (List ℕ → Option (List ℕ)) → List ℕ → List ℕ → (Outcome → Type 0) → Outcome → Type 0
+SaysTwo held first second says o =
+    IsEnd First (held first) o
+    ⊎ ((f : Netlist) × HoldsNetlist (held first) f × (IsEnd Second (held second) o ⊎ ((g : Netlist) × HoldsNetlist (held second) g × says o)))
 
 abbrev pub SaysOnly : (List ℕ → Option (List ℕ)) → List ℕ → Outcome → Type 0
 SaysOnly held file o = IsEnd First (held file) o ⊎ ((f : Netlist) × HoldsNetlist (held file) f × IsOfOne o)
 
+abbrev pub SaysCheck : (List ℕ → Option (List ℕ)) → List (List ℕ) → Outcome → Type 0
+SaysCheck held words o =
+    (first : List ℕ) × (second : List ℕ) × (account : List ℕ) × AsksCheck words first second account × SaysTwo held first second (SaysAccount held first second account) o
+
+abbrev pub SaysMatch : (List ℕ → Option (List ℕ)) → List (List ℕ) → Outcome → Type 0
+SaysMatch held words o = (sought : Sought) × AsksMatch words sought × SaysTwo held sought.first sought.second IsOfMatch o
+
+abbrev pub SaysInfo : (List ℕ → Option (List ℕ)) → List (List ℕ) → Outcome → Type 0
+SaysInfo held words o = (file : List ℕ) × (budget : ℕ) × AsksInfo words file budget × SaysOnly held file o
+
 abbrev pub Says : (List ℕ → Option (List ℕ)) → List (List ℕ) → Outcome → Type 0
 Says held words o =
-    ((o ≡ Usage) × AskNothing words)
-    ⊎ ((first : List ℕ) × (second : List ℕ) × (account : List ℕ) × AsksCheck words first second account × SaysFirst held first second account o)
-    ⊎ ((file : List ℕ) × (budget : ℕ) × AsksInfo words file budget × SaysOnly held file o)
+    ((o ≡ Usage) × AskNothing words) ⊎ SaysCheck held words o ⊎ SaysMatch held words o ⊎ SaysInfo held words o
 
--- one outcome, or both are of one netlist
+-- one outcome, or both are of one netlist, or of two of which a match is sought
 abbrev pub AreAlike : Outcome → Outcome → Type 0
-AreAlike a b = (a ≡ b) ⊎ (IsOfOne a × IsOfOne b)
+AreAlike a b = (a ≡ b) ⊎ (IsOfOne a × IsOfOne b) ⊎ (IsOfMatch a × IsOfMatch b)
 
 graphs_same : (a b : Graphs) → a.first ≡ b.first → a.second ≡ b.second → a ≡ b
 graphs_same a b e f = λ i. record { first = e i; second = f i }
@@ -214,33 +227,29 @@ account_one held first second account a b one other =
       ]
     ]
 
-second_one : (held : List ℕ → Option (List ℕ)) (first second account : List ℕ) (a b : Outcome) → SaysSecond held first second account a → SaysSecond held first second account b → a ≡ b
-second_one held first second account a b one other =
+two_one : (held : List ℕ → Option (List ℕ)) (first second : List ℕ) (says : Outcome → Type 0) (a b : Outcome) → SaysTwo held first second says a → SaysTwo held first second says b → (a ≡ b) ⊎ (says a × says b)
+two_one held first second says a b one other =
     elim one [
       | inl end ↦ elim other [
-        | inl end' ↦ end_one Second (held second) a b end end'
-        | inr (g, there, fact) ↦ absurd (end_or_netlist Second (held second) a g end there)
-      ]
-      | inr (g, there, fact) ↦ elim other [
-        | inl end' ↦ absurd (end_or_netlist Second (held second) b g end' there)
-        | inr (g', there', fact') ↦ account_one held first second account a b fact fact'
-      ]
-    ]
-
-first_one : (held : List ℕ → Option (List ℕ)) (first second account : List ℕ) (a b : Outcome) → SaysFirst held first second account a → SaysFirst held first second account b → a ≡ b
-first_one held first second account a b one other =
-    elim one [
-      | inl end ↦ elim other [
-        | inl end' ↦ end_one First (held first) a b end end'
+        | inl end' ↦ inl (end_one First (held first) a b end end')
         | inr (f, there, fact) ↦ absurd (end_or_netlist First (held first) a f end there)
       ]
       | inr (f, there, fact) ↦ elim other [
         | inl end' ↦ absurd (end_or_netlist First (held first) b f end' there)
-        | inr (f', there', fact') ↦ second_one held first second account a b fact fact'
+        | inr (f', there', fact') ↦ elim fact [
+          | inl end ↦ elim fact' [
+            | inl end' ↦ inl (end_one Second (held second) a b end end')
+            | inr (g, held', fact'') ↦ absurd (end_or_netlist Second (held second) a g end held')
+          ]
+          | inr (g, held', says_a) ↦ elim fact' [
+            | inl end' ↦ absurd (end_or_netlist Second (held second) b g end' held')
+            | inr (g', held'', says_b) ↦ inr (says_a, says_b)
+          ]
+        ]
       ]
     ]
 
-only_one : (held : List ℕ → Option (List ℕ)) (file : List ℕ) (a b : Outcome) → SaysOnly held file a → SaysOnly held file b → AreAlike a b
+only_one : (held : List ℕ → Option (List ℕ)) (file : List ℕ) (a b : Outcome) → SaysOnly held file a → SaysOnly held file b → (a ≡ b) ⊎ (IsOfOne a × IsOfOne b)
 only_one held file a b one other =
     elim one [
       | inl end ↦ elim other [
@@ -253,7 +262,7 @@ only_one held file a b one other =
       ]
     ]
 
-names_one : (words : List (List ℕ)) (f g t f' g' t' : List ℕ) → AsksCheck words f g t → AsksCheck words f' g' t' → (f' ≡ f) × (g' ≡ g) × (t' ≡ t)
+pub names_one : (words : List (List ℕ)) (f g t f' g' t' : List ℕ) → AsksCheck words f g t → AsksCheck words f' g' t' → (f' ≡ f) × (g' ≡ g) × (t' ≡ t)
 names_one words f g t f' g' t' one other = let e = one.form in let e' = other.form in (cc, cc, cc)
 
 -- the second word is the file's name
@@ -264,13 +273,55 @@ file_named words file budget asks =
       | inr (word, form, is) ↦ ap (λ (words : List (List ℕ)). get_or words 1 []) form
     ]
 
--- words of both forms have two lengths
-never_both_forms : (words : List (List ℕ)) (f g t file : List ℕ) (budget : ℕ) → AsksCheck words f g t → AsksInfo words file budget → ⊥
-never_both_forms words f g t file budget check info =
+-- a match is sought of the netlists of the second and the third word
+pub sought_named : (words : List (List ℕ)) (sought : Sought) → AsksMatch words sought → (get_or words 1 [] ≡ sought.first) × (get_or words 2 [] ≡ sought.second)
+sought_named words sought asks = (ap (λ (words : List (List ℕ)). get_or words 1 []) asks.form, ap (λ (words : List (List ℕ)). get_or words 2 []) asks.form)
+
+pub sought_one : (words : List (List ℕ)) (a b : Sought) → AsksMatch words a → AsksMatch words b → (b.first ≡ a.first) × (b.second ≡ a.second)
+sought_one words a b one other =
+    let e = sought_named words a one in
+    let e' = sought_named words b other in
+    (sym e'.0 ∙ e.0, sym e'.1 ∙ e.1)
+
+-- words of two forms have two lengths, or two first letters
+check_or_info : (words : List (List ℕ)) (f g t file : List ℕ) (budget : ℕ) → AsksCheck words f g t → AsksInfo words file budget → ⊥
+check_or_info words f g t file budget check info =
     elim info.form [
       | inl (form, is) ↦ omega (arith, ap length check.form, ap length form)
       | inr (word, form, is) ↦ omega (arith, ap length check.form, ap length form)
     ]
+
+match_or_info : (words : List (List ℕ)) (sought : Sought) (file : List ℕ) (budget : ℕ) → AsksMatch words sought → AsksInfo words file budget → ⊥
+match_or_info words sought file budget asks info =
+    elim info.form [
+      | inl (form, is) ↦ omega (arith, ap length asks.form, ap length form)
+      | inr (word, form, is) ↦ omega (arith, ap length asks.form, ap length form)
+    ]
+
+check_or_match : (words : List (List ℕ)) (f g t : List ℕ) (sought : Sought) → AsksCheck words f g t → AsksMatch words sought → ⊥
+check_or_match words f g t sought check asks =
+    let letter = λ (words : List (List ℕ)). get_or (get_or words 0 []) 0 0 in
+    let is : 99 ≡ 109 = sym (ap letter check.form) ∙ ap letter asks.form in
+    omega (arith, is)
+
+check_one : (held : List ℕ → Option (List ℕ)) (words : List (List ℕ)) (a b : Outcome) → SaysCheck held words a → SaysCheck held words b → a ≡ b
+check_one held words a b (f, g, t, asks, says) (f', g', t', asks', says') =
+    let e = names_one words f g t f' g' t' asks asks' in
+    let says'' : SaysTwo held f g (SaysAccount held f g t) b = subst (λ n. SaysTwo held n g (SaysAccount held n g t) b) e.0 (subst (λ n. SaysTwo held f' n (SaysAccount held f' n t) b) e.1 (subst (λ n. SaysTwo held f' g' (SaysAccount held f' g' n) b) e.2 says')) in
+    elim (two_one held f g (SaysAccount held f g t) a b says says'') [
+      | inl same ↦ same
+      | inr (one, other) ↦ account_one held f g t a b one other
+    ]
+
+match_one : (held : List ℕ → Option (List ℕ)) (words : List (List ℕ)) (a b : Outcome) → SaysMatch held words a → SaysMatch held words b → (a ≡ b) ⊎ (IsOfMatch a × IsOfMatch b)
+match_one held words a b (sought, asks, says) (other, asks', says') =
+    let e = sought_one words sought other asks asks' in
+    two_one held sought.first sought.second IsOfMatch a b says (subst (λ n. SaysTwo held n sought.second IsOfMatch b) e.0 (subst (λ n. SaysTwo held other.first n IsOfMatch b) e.1 says'))
+
+info_one : (held : List ℕ → Option (List ℕ)) (words : List (List ℕ)) (a b : Outcome) → SaysInfo held words a → SaysInfo held words b → (a ≡ b) ⊎ (IsOfOne a × IsOfOne b)
+info_one held words a b (file, budget, asks, says) (file', budget', asks', says') =
+    let e = sym (file_named words file' budget' asks') ∙ file_named words file budget asks in
+    only_one held file a b says (subst (λ n. SaysOnly held n b) e says')
 
 says_one : (held : List ℕ → Option (List ℕ)) (words : List (List ℕ)) (a b : Outcome) → Says held words a → Says held words b → AreAlike a b
 says_one held words a b one other =
@@ -278,33 +329,50 @@ says_one held words a b one other =
       | inl (e, nothing) ↦ elim other [
         | inl (e', nothing') ↦ inl (e ∙ sym e')
         | inr (inl (f, g, t, asks, says)) ↦ absurd (nothing.no_check f g t asks)
-        | inr (inr (file, budget, asks, says)) ↦ absurd (nothing.no_info file budget asks)
+        | inr (inr (inl (sought, asks, says))) ↦ absurd (nothing.no_match sought asks)
+        | inr (inr (inr (file, budget, asks, says))) ↦ absurd (nothing.no_info file budget asks)
       ]
       | inr (inl (f, g, t, asks, says)) ↦ elim other [
         | inl (e', nothing) ↦ absurd (nothing.no_check f g t asks)
-        | inr (inl (f', g', t', asks', says')) ↦
-            let e = names_one words f g t f' g' t' asks asks' in
-            let moved : SaysFirst held f g t b = subst (λ n. SaysFirst held n g t b) e.0 (subst (λ n. SaysFirst held f' n t b) e.1 (subst (λ n. SaysFirst held f' g' n b) e.2 says')) in
-            inl (first_one held f g t a b says moved)
-        | inr (inr (file, budget, asks', says')) ↦ absurd (never_both_forms words f g t file budget asks asks')
+        | inr (inl other') ↦ inl (check_one held words a b (f, g, t, asks, says) other')
+        | inr (inr (inl (sought, asks', says'))) ↦ absurd (check_or_match words f g t sought asks asks')
+        | inr (inr (inr (file, budget, asks', says'))) ↦ absurd (check_or_info words f g t file budget asks asks')
       ]
-      | inr (inr (file, budget, asks, says)) ↦ elim other [
+      | inr (inr (inl (sought, asks, says))) ↦ elim other [
+        | inl (e', nothing) ↦ absurd (nothing.no_match sought asks)
+        | inr (inl (f, g, t, asks', says')) ↦ absurd (check_or_match words f g t sought asks' asks)
+        | inr (inr (inl other')) ↦ elim (match_one held words a b (sought, asks, says) other') [ inl same ↦ inl same | inr both ↦ inr (inr both) ]
+        | inr (inr (inr (file, budget, asks', says'))) ↦ absurd (match_or_info words sought file budget asks asks')
+      ]
+      | inr (inr (inr (file, budget, asks, says))) ↦ elim other [
         | inl (e', nothing) ↦ absurd (nothing.no_info file budget asks)
-        | inr (inl (f, g, t, asks', says')) ↦ absurd (never_both_forms words f g t file budget asks' asks)
-        | inr (inr (file', budget', asks', says')) ↦
-            let e = sym (file_named words file' budget' asks') ∙ file_named words file budget asks in
-            only_one held file a b says (subst (λ n. SaysOnly held n b) e says')
+        | inr (inl (f, g, t, asks', says')) ↦ absurd (check_or_info words f g t file budget asks' asks)
+        | inr (inr (inl (sought, asks', says'))) ↦ absurd (match_or_info words sought file budget asks' asks)
+        | inr (inr (inr other')) ↦ elim (info_one held words a b (file, budget, asks, says) other') [ inl same ↦ inl same | inr both ↦ inr (inl both) ]
       ]
     ]
 
 -- what is right is said so
 
+abbrev pub named : List ℕ → List ℕ → List ℕ → ℕ → ℕ → Sought
+named first second account budget seed = record { first = first; second = second; account = account; budget = budget; seed = seed }
+
 says_early : (held : List ℕ → Option (List ℕ)) (words : List (List ℕ)) (o : Outcome) → IsDecided o → EndsEarly held words o → Says held words o
 says_early held words o decided early =
     elim early [
-      | inl at ↦ inr (inl (at.first_name, at.second_name, at.account_name, at.asks, inl (end_of First (held at.first_name) o decided at.ends)))
-      | inr (inl at) ↦ inr (inl (at.first_name, at.second_name, at.account_name, at.asks, inr (at.first, at.first_held, inl (end_of Second (held at.second_name) o decided at.ends))))
-      | inr (inr at) ↦ inr (inr (at.file_name, at.budget, at.asks, inl (end_of First (held at.file_name) o decided at.ends)))
+      | inl at ↦
+          let end = end_of First (held at.first_name) o decided at.ends in
+          elim at.asks [
+            | inl asks ↦ inr (inl (at.first_name, at.second_name, at.account_name, asks, inl end))
+            | inr (budget, seed, asks) ↦ inr (inr (inl (named at.first_name at.second_name at.account_name budget seed, asks, inl end)))
+          ]
+      | inr (inl at) ↦
+          let end = end_of Second (held at.second_name) o decided at.ends in
+          elim at.asks [
+            | inl asks ↦ inr (inl (at.first_name, at.second_name, at.account_name, asks, inr (at.first, at.first_held, inl end)))
+            | inr (budget, seed, asks) ↦ inr (inr (inl (named at.first_name at.second_name at.account_name budget seed, asks, inr (at.first, at.first_held, inl end))))
+          ]
+      | inr (inr at) ↦ inr (inr (inr (at.file_name, at.budget, at.asks, inl (end_of First (held at.file_name) o decided at.ends))))
     ]
 
 says_answer : (held : List ℕ → Option (List ℕ)) (words : List (List ℕ)) (graphs : Graphs) (bytes : List ℕ) (o : Outcome) → HasAccount held words graphs bytes → IsAnswer graphs bytes o → Says held words o
@@ -316,10 +384,14 @@ says_absent held words which e lacks =
     inr (inl (lacks.asked.first_name, lacks.asked.second_name, lacks.account_name, lacks.asked.asks, inr (lacks.first, lacks.asked.first_held, inr (lacks.second, lacks.asked.second_held, inl (ap Absent e, lacks.absent)))))
 
 says_of : (held : List ℕ → Option (List ℕ)) (words : List (List ℕ)) (o : Outcome) → IsAskedOf held words → IsOfOne o → Says held words o
-says_of held words o asked one = inr (inr (asked.file_name, asked.budget, asked.asks, inr (asked.netlist, asked.there, one)))
+says_of held words o asked one = inr (inr (inr (asked.file_name, asked.budget, asked.asks, inr (asked.netlist, asked.there, one))))
 
--- a budget is spent on a file that is a netlist
-pub asked_of_spent : (held : List ℕ → Option (List ℕ)) (words : List (List ℕ)) (ledger : Ledgered) → IsSpentOn held words ledger → IsAskedOf held words
+says_match : (held : List ℕ → Option (List ℕ)) (words : List (List ℕ)) (first second : Netlist) (o : Outcome) → IsSought held words first second → IsOfMatch o → Says held words o
+says_match held words first second o is of_match =
+    inr (inr (inl (is.sought, is.asks, inr (first, is.first_held, inr (second, is.second_held, of_match)))))
+
+-- a budget is spent on a file that is a netlist, or on two
+asked_of_spent : (held : List ℕ → Option (List ℕ)) (words : List (List ℕ)) (ledger : Ledgered) → IsSpentOn held words ledger → IsAskedOf held words
 asked_of_spent held words ledger spent = record {
   file_name = spent.file_name;
   budget = spent.budget;
@@ -328,11 +400,25 @@ asked_of_spent held words ledger spent = record {
   there = spent.there.holds;
 }
 
+sought_of_spent : (held : List ℕ → Option (List ℕ)) (words : List (List ℕ)) (ledger : Ledgered) → (spent : IsSpentOnTwo held words ledger) → IsSought held words spent.first_held.netlist spent.second_held.netlist
+sought_of_spent held words ledger spent = record {
+  sought = spent.sought;
+  asks = spent.asks;
+  first_held = spent.first_held.holds;
+  second_held = spent.second_held.holds;
+}
+
 says : (held : List ℕ → Option (List ℕ)) (words : List (List ℕ)) (o : Outcome) → IsDecided o → IsRight held words o → Says held words o
 says held words (AcceptedMatch table) decided right = says_answer held words right.graphs right.account (AcceptedMatch table) right.has (inl (verdict.Match table, refl, right.accepted))
 says held words AcceptedRefusal decided right = says_answer held words right.graphs right.account AcceptedRefusal right.has (inl (verdict.None, refl, right.accepted))
 says held words (Rejected line why) decided right = says_answer held words right.graphs right.account (Rejected line why) right.has (inr (line, why, refl, right.rejected))
-says held words (Spent ledger) decided right = says_of held words (Spent ledger) (asked_of_spent held words ledger right) (inr (ledger, refl))
+says held words (Matched table) decided right = says_match held words right.first right.second (Matched table) right.files (inl (table, refl))
+says held words NoMatching decided right = says_match held words right.first right.second NoMatching right.files (inr (inl refl))
+says held words (Spent ledger) decided right =
+    elim right [
+      | inl one ↦ says_of held words (Spent ledger) (asked_of_spent held words ledger one) (inr (ledger, refl))
+      | inr two ↦ says_match held words two.first_held.netlist two.second_held.netlist (Spent ledger) (sought_of_spent held words ledger two) (inr (inr (ledger, refl)))
+    ]
 says held words Informed decided right = says_of held words Informed right (inl refl)
 says held words Usage decided right = inl (refl, right)
 says held words (Absent which) decided right = elim right [ inl early ↦ says_early held words (Absent which) decided early | inr (e, lacks) ↦ says_absent held words which e lacks ]
@@ -344,10 +430,12 @@ says held words Memory decided right = absurd (decided.told.room refl)
 
 -- what one file, or the verdict of all, makes right
 
-pub right_at_first : (held : List ℕ → Option (List ℕ)) (words : List (List ℕ)) (f g t : List ℕ) → AsksCheck words f g t → (o : Outcome) → EndsAt First (held f) o → IsRight held words o
+pub right_at_first : (held : List ℕ → Option (List ℕ)) (words : List (List ℕ)) (f g t : List ℕ) → NameThree words f g t → (o : Outcome) → EndsAt First (held f) o → IsRight held words o
 right_at_first held words f g t asks (AcceptedMatch table) ends = absurd ends
 right_at_first held words f g t asks AcceptedRefusal ends = absurd ends
 right_at_first held words f g t asks (Rejected line why) ends = absurd ends
+right_at_first held words f g t asks (Matched table) ends = absurd ends
+right_at_first held words f g t asks NoMatching ends = absurd ends
 right_at_first held words f g t asks (Spent ledger) ends = absurd ends
 right_at_first held words f g t asks Informed ends = absurd ends
 right_at_first held words f g t asks Usage ends = absurd ends
@@ -358,10 +446,12 @@ right_at_first held words f g t asks ReadFault ends = tt
 right_at_first held words f g t asks WriteFault ends = absurd ends
 right_at_first held words f g t asks Memory ends = tt
 
-pub right_at_second : (held : List ℕ → Option (List ℕ)) (words : List (List ℕ)) (f g t : List ℕ) (first : Netlist) → AsksCheck words f g t → HoldsNetlist (held f) first → (o : Outcome) → EndsAt Second (held g) o → IsRight held words o
+pub right_at_second : (held : List ℕ → Option (List ℕ)) (words : List (List ℕ)) (f g t : List ℕ) (first : Netlist) → NameThree words f g t → HoldsNetlist (held f) first → (o : Outcome) → EndsAt Second (held g) o → IsRight held words o
 right_at_second held words f g t first asks there (AcceptedMatch table) ends = absurd ends
 right_at_second held words f g t first asks there AcceptedRefusal ends = absurd ends
 right_at_second held words f g t first asks there (Rejected line why) ends = absurd ends
+right_at_second held words f g t first asks there (Matched table) ends = absurd ends
+right_at_second held words f g t first asks there NoMatching ends = absurd ends
 right_at_second held words f g t first asks there (Spent ledger) ends = absurd ends
 right_at_second held words f g t first asks there Informed ends = absurd ends
 right_at_second held words f g t first asks there Usage ends = absurd ends
@@ -376,6 +466,8 @@ pub right_at_only : (held : List ℕ → Option (List ℕ)) (words : List (List 
 right_at_only held words file budget asks (AcceptedMatch table) ends = absurd ends
 right_at_only held words file budget asks AcceptedRefusal ends = absurd ends
 right_at_only held words file budget asks (Rejected line why) ends = absurd ends
+right_at_only held words file budget asks (Matched table) ends = absurd ends
+right_at_only held words file budget asks NoMatching ends = absurd ends
 right_at_only held words file budget asks (Spent ledger) ends = absurd ends
 right_at_only held words file budget asks Informed ends = absurd ends
 right_at_only held words file budget asks Usage ends = absurd ends
@@ -390,6 +482,8 @@ pub right_by_verdict : (held : List ℕ → Option (List ℕ)) (words : List (Li
 right_by_verdict held words f g t graphs asks first second (AcceptedMatch table) fact = record { graphs = graphs; account = fact.0; has = record { first_name = f; second_name = g; account_name = t; asks = asks; first_held = first; second_held = second; there = fact.1 }; accepted = fact.2 }
 right_by_verdict held words f g t graphs asks first second AcceptedRefusal fact = record { graphs = graphs; account = fact.0; has = record { first_name = f; second_name = g; account_name = t; asks = asks; first_held = first; second_held = second; there = fact.1 }; accepted = fact.2 }
 right_by_verdict held words f g t graphs asks first second (Rejected line why) fact = record { graphs = graphs; account = fact.0; has = record { first_name = f; second_name = g; account_name = t; asks = asks; first_held = first; second_held = second; there = fact.1 }; rejected = fact.2 }
+right_by_verdict held words f g t graphs asks first second (Matched table) fact = absurd fact
+right_by_verdict held words f g t graphs asks first second NoMatching fact = absurd fact
 right_by_verdict held words f g t graphs asks first second (Spent ledger) fact = absurd fact
 right_by_verdict held words f g t graphs asks first second Informed fact = absurd fact
 right_by_verdict held words f g t graphs asks first second Usage fact = absurd fact
@@ -403,31 +497,65 @@ right_by_verdict held words f g t graphs asks first second Memory fact = absurd 
 -- words that ask for a command are of a known form
 pub known_form : (words : List (List ℕ)) (command : Command) → Ask words command → AskNothing words → ⊥
 known_form words (Check check) asks nothing = nothing.no_check check.first.now check.second.now check.account.now asks
+known_form words (Match sought) asks nothing = nothing.no_match (sought_by sought) asks
 known_form words (Info info) asks nothing = nothing.no_info info.file.now info.budget asks
+
+informed_of_match : IsOfMatch Informed → ⊥
+informed_of_match is = elim is [ inl (table, e) ↦ cc | inr (inl e) ↦ cc | inr (inr (ledger, e)) ↦ cc ]
+
+none_of_one : IsOfOne NoMatching → ⊥
+none_of_one is = elim is [ inl e ↦ cc | inr (ledger, e) ↦ cc ]
+
+-- a match of two files is one of the circuits of which there is none
+found_or_none : (held : List ℕ → Option (List ℕ)) (words : List (List ℕ)) (table : Matching) → IsMatchFound held words table → HasNoMatch held words → ⊥
+found_or_none held words table found none =
+    let e = sought_one words none.files.sought found.files.sought none.files.asks found.files.asks in
+    let f = netlist_one (held none.files.sought.first) found.first none.first (subst (λ n. HoldsNetlist (held n) found.first) e.0 found.files.first_held) none.files.first_held in
+    let g = netlist_one (held none.files.sought.second) found.second none.second (subst (λ n. HoldsNetlist (held n) found.second) e.1 found.files.second_held) none.files.second_held in
+    none.unequal (subst (AreNpnpEqual none.first.circuit) g (subst (λ circuit. AreNpnpEqual circuit found.second.circuit) f (table.inputs, table.outputs, found.matches)))
 
 -- The outcome of a run that was asked to tell a right one is exactly what the words and the files say.
 module _ (held : List ℕ → Option (List ℕ)) (words : List (List ℕ)) (asked answer : Outcome) (right : IsRight held words asked) (same : IsTold answer → answer ≡ asked) (decided : IsDecided answer) where
   stays_right : IsRight held words answer
   stays_right = subst (IsRight held words) (sym (same decided.told)) right
 
-  pub exactly : (o : Outcome) → IsDecided o → (IsOfOne o → ⊥) → (answer ≡ o) ↔ IsRight held words o
-  exactly o known two = (
+  stays_said : Says held words answer
+  stays_said = says held words answer decided stays_right
+
+  pub exactly : (o : Outcome) → IsDecided o → (IsOfOne o → ⊥) → (IsOfMatch o → ⊥) → (answer ≡ o) ↔ IsRight held words o
+  exactly o known not_of_one not_of_match = (
     λ is. subst (IsRight held words) is stays_right,
-    λ fact. elim (says_one held words answer o (says held words answer decided stays_right) (says held words o known fact)) [
+    λ fact. elim (says_one held words answer o stays_said (says held words o known fact)) [
       | inl same ↦ same
-      | inr both ↦ absurd (two both.1)
+      | inr (inl both) ↦ absurd (not_of_one both.1)
+      | inr (inr both) ↦ absurd (not_of_match both.1)
     ],
   )
 
-  pub exactly_of_one : IsOfOne answer ↔ IsAskedOf held words
-  exactly_of_one = (
-    λ one. elim one [
-      | inl is ↦ subst (IsRight held words) is stays_right
-      | inr (ledger, is) ↦ asked_of_spent held words ledger (subst (IsRight held words) is stays_right)
+  pub exactly_informed : ((ledger : Ledgered) → answer ≢ Spent ledger) → (answer ≡ Informed) ↔ IsAskedOf held words
+  exactly_informed unspent = (
+    λ is. subst (IsRight held words) is stays_right,
+    λ asked. elim (says_one held words answer Informed stays_said (says_of held words Informed asked (inl refl))) [
+      | inl same ↦ same
+      | inr (inl both) ↦ elim both.0 [ inl same ↦ same | inr (ledger, same) ↦ absurd (unspent ledger same) ]
+      | inr (inr both) ↦ absurd (informed_of_match both.1)
     ],
-    λ asked. elim (says_one held words answer Informed (says held words answer decided stays_right) (says_of held words Informed asked (inl refl))) [
-      | inl same ↦ inl same
-      | inr both ↦ both.0
+  )
+
+  pub of_match : IsAskedToMatch held words → IsOfMatch answer
+  of_match asked = elim (says_one held words answer NoMatching stays_said (says_match held words asked.first asked.second NoMatching asked.files (inr (inl refl)))) [
+    | inl same ↦ inr (inl same)
+    | inr (inl both) ↦ absurd (none_of_one both.1)
+    | inr (inr both) ↦ both.0
+  ]
+
+  pub exactly_none : ((ledger : Ledgered) → answer ≢ Spent ledger) → (answer ≡ NoMatching) ↔ HasNoMatch held words
+  exactly_none unspent = (
+    λ is. subst (IsRight held words) is stays_right,
+    λ none. elim (of_match (record { first = none.first; second = none.second; files = none.files })) [
+      | inl (table, same) ↦ absurd (found_or_none held words table (subst (IsRight held words) same stays_right) none)
+      | inr (inl same) ↦ same
+      | inr (inr (ledger, same)) ↦ absurd (unspent ledger same)
     ],
   )
 
@@ -445,6 +573,12 @@ decided_rejected line why = record { read = λ e. cc; told = record { written = 
 pub decided_spent : (ledger : Ledgered) → IsDecided (Spent ledger)
 decided_spent ledger = record { read = λ e. cc; told = record { written = λ e. cc; room = λ e. cc } }
 
+pub decided_matched : (table : Matching) → IsDecided (Matched table)
+decided_matched table = record { read = λ e. cc; told = record { written = λ e. cc; room = λ e. cc } }
+
+pub decided_none : IsDecided NoMatching
+decided_none = record { read = λ e. cc; told = record { written = λ e. cc; room = λ e. cc } }
+
 pub decided_absent : (which : Which) → IsDecided (Absent which)
 decided_absent which = record { read = λ e. cc; told = record { written = λ e. cc; room = λ e. cc } }
 
@@ -461,25 +595,46 @@ stop_right held words stop.ReadFault = tt
 stop_right held words stop.Memory = tt
 
 pub stop_reading : (s : Stop) → IsOfReading (outcome_of s)
-stop_reading stop.ReadFault = record { line = record { no_table = λ table e. cc; no_rows = λ e. cc }; no_refusal = λ e. cc; asked = λ e. cc; unwritten = λ e. cc }
-stop_reading stop.Memory = record { line = record { no_table = λ table e. cc; no_rows = λ e. cc }; no_refusal = λ e. cc; asked = λ e. cc; unwritten = λ e. cc }
+stop_reading stop.ReadFault = record { early = record { line = record { no_table = λ table e. elim e [ inl e ↦ cc | inr e ↦ cc ]; no_rows = λ e. cc }; no_refusal = λ e. cc; no_match = λ e. cc; asked = λ e. cc }; unwritten = λ e. cc }
+stop_reading stop.Memory = record { early = record { line = record { no_table = λ table e. elim e [ inl e ↦ cc | inr e ↦ cc ]; no_rows = λ e. cc }; no_refusal = λ e. cc; no_match = λ e. cc; asked = λ e. cc }; unwritten = λ e. cc }
 
 pub stop_is : (s : Stop) → outcome_of s ≡ ReadFault → s ≡ stop.ReadFault
 stop_is stop.ReadFault e = refl
 stop_is stop.Memory e = cc
 
+-- where no file changes, each outcome that isn't of a match leaves what it says
+pub leaves : (before after : List ℕ → Option (List ℕ)) (words : List (List ℕ)) (o : Outcome) → ((table : Matching) → o ≢ Matched table) → o ≢ NoMatching → ((n : List ℕ) → after n ≡ before n) → Leaves before after words o
+leaves before after words (AcceptedMatch table) no_table no_match same = same
+leaves before after words AcceptedRefusal no_table no_match same = same
+leaves before after words (Rejected line why) no_table no_match same = same
+leaves before after words (Matched table) no_table no_match same = absurd (no_table table refl)
+leaves before after words NoMatching no_table no_match same = absurd (no_match refl)
+leaves before after words (Spent ledger) no_table no_match same = same
+leaves before after words Informed no_table no_match same = same
+leaves before after words Usage no_table no_match same = same
+leaves before after words (Absent which) no_table no_match same = same
+leaves before after words (TooLarge which) no_table no_match same = same
+leaves before after words (Malformed which kind at) no_table no_match same = same
+leaves before after words ReadFault no_table no_match same = same
+leaves before after words WriteFault no_table no_match same = inl same
+leaves before after words Memory no_table no_match same = inl same
+
+pub leaves_early : (before after : List ℕ → Option (List ℕ)) (words : List (List ℕ)) (o : Outcome) → IsEarly o → ((n : List ℕ) → after n ≡ before n) → Leaves before after words o
+leaves_early before after words o early same = leaves before after words o (λ table e. early.line.no_table table (inr e)) early.no_match same
+
 -- the files were read up to an outcome that ends the run
 pub stopped : (tells : Bool) (command : Command) (old new : ShelfState) (result : Result Ending Outcome) (o : Outcome) → result ≡ Err o → ((n : List ℕ) → new.held n ≡ old.held n) → (IsTrue tells → (words : List (List ℕ)) → Ask words command → IsRight old.held words o) → IsOfReading o → (o ≡ ReadFault → Rose old.faults new.faults) → Decides tells command old new result
-stopped tells command old new result o same files ended reading failed =
+stopped tells command old new result o same files right reading failed =
     subst (λ r. Decides tells command old new r) (sym same) (record {
-      files = files;
-      right = λ t words asks. tt;
-      ended = ended;
+      files = λ t n other. files n;
+      left = λ t words asks. leaves_early old.held new.held words o reading.early files;
+      right = right;
       sound = λ t words asks. tt;
       report = λ words asks. tt;
       ending = tt;
-      reading = reading;
+      early = reading.early;
       failed = λ e. failed (cc e);
+      unwritten = λ e. absurd (reading.unwritten (cc e));
     })
 
 pub report_of_same : (tells : Bool) (held : List ℕ → Option (List ℕ)) (words : List (List ℕ)) (told asked : Outcome) (text : List ℕ) → told ≡ asked → IsReport tells held words asked text → IsReport tells held words told text
@@ -500,6 +655,8 @@ stop_ends : (file : Which) (content : Option (List ℕ)) (bytes : List ℕ) → 
 stop_ends file content bytes there short (AcceptedMatch table) fact = absurd fact
 stop_ends file content bytes there short AcceptedRefusal fact = absurd fact
 stop_ends file content bytes there short (Rejected line why) fact = absurd fact
+stop_ends file content bytes there short (Matched table) fact = absurd fact
+stop_ends file content bytes there short NoMatching fact = absurd fact
 stop_ends file content bytes there short (Spent ledger) fact = absurd fact
 stop_ends file content bytes there short Informed fact = absurd fact
 stop_ends file content bytes there short Usage fact = absurd fact
@@ -514,15 +671,17 @@ stop_is_of_reading : (file : Which) (bytes : List ℕ) (o : Outcome) → IsStopO
 stop_is_of_reading file bytes (AcceptedMatch table) fact = absurd fact
 stop_is_of_reading file bytes AcceptedRefusal fact = absurd fact
 stop_is_of_reading file bytes (Rejected line why) fact = absurd fact
+stop_is_of_reading file bytes (Matched table) fact = absurd fact
+stop_is_of_reading file bytes NoMatching fact = absurd fact
 stop_is_of_reading file bytes (Spent ledger) fact = absurd fact
 stop_is_of_reading file bytes Informed fact = absurd fact
 stop_is_of_reading file bytes Usage fact = absurd fact
 stop_is_of_reading file bytes (Absent which) fact = absurd fact
 stop_is_of_reading file bytes (TooLarge which) fact = absurd fact
-stop_is_of_reading file bytes (Malformed which kind at) fact = record { line = record { no_table = λ table e. cc; no_rows = λ e. cc }; no_refusal = λ e. cc; asked = λ e. cc; unwritten = λ e. cc }
+stop_is_of_reading file bytes (Malformed which kind at) fact = record { early = record { line = record { no_table = λ table e. elim e [ inl e ↦ cc | inr e ↦ cc ]; no_rows = λ e. cc }; no_refusal = λ e. cc; no_match = λ e. cc; asked = λ e. cc }; unwritten = λ e. cc }
 stop_is_of_reading file bytes ReadFault fact = absurd fact
 stop_is_of_reading file bytes WriteFault fact = absurd fact
-stop_is_of_reading file bytes Memory fact = record { line = record { no_table = λ table e. cc; no_rows = λ e. cc }; no_refusal = λ e. cc; asked = λ e. cc; unwritten = λ e. cc }
+stop_is_of_reading file bytes Memory fact = record { early = record { line = record { no_table = λ table e. elim e [ inl e ↦ cc | inr e ↦ cc ]; no_rows = λ e. cc }; no_refusal = λ e. cc; no_match = λ e. cc; asked = λ e. cc }; unwritten = λ e. cc }
 
 -- a file of few bytes was read
 reads_same : (tells : Bool) (file : Which) (name : List ℕ) (old new : ShelfState) (bytes : List ℕ) (result : Result Named Outcome) → ((n : List ℕ) → new.held n ≡ old.held n) → new.mode ≡ Closed → old.faults ≤ new.faults → (IsTrue tells → (old.held name ≡ Some bytes) × (length bytes ≤ 67108864)) → IfOk result (λ named. ReadAs bytes named.graph named.input_names named.output_names) → IfErr result (IsStopOf file bytes) → ReadsNetlist tells file name old new result

@@ -1,5 +1,5 @@
 -- What is known of a netlist, and what a budget was spent on.
-use Rattle.std.proofs.Common.{◌≡◌, ℕ, inr, false, Bool, List, [], All, Option, Result, Ok, Err, IfOk, IfErr, refl, sym, ◌∙◌, ap, subst, arith}
+use Rattle.std.proofs.Common.{◌≡◌, ℕ, inl, inr, false, Bool, List, [], All, Option, Result, Ok, Err, IfOk, IfErr, refl, sym, ◌∙◌, ap, subst, arith}
 use Rattle.circuits.specs.Netlists.{Net}
 use Rattle.net_core.specs.declared.graphs.Graphs.{Graphs}
 use Rattle.net_core.specs.declared.matching.Matching.{Matching}
@@ -12,14 +12,16 @@ use Rattle.fact_tests.specs.Rows.{AreRows}
 use Rattle.fact_tests.proofs.RowLemmas.{rows_of}
 use Rattle.port_report.specs.declared.info.OutputInfo.{OutputInfo}
 use Rattle.port_report.specs.Infos.{IsInRange, info_text}
-use Rattle.npnp.specs.Check.{HoldsGraph, IsRight}
+use Rattle.npnp.specs.Held.{HoldsGraph}
+use Rattle.npnp.specs.Outcomes.{IsRight, Leaves}
+use Rattle.npnp.proofs.CheckLemmas.{leaves, stopped}
 use Rattle.npnp.specs.Info.{IsSpentOf, with_itself}
-use Rattle.npnp.specs.Steps.{Decides, InformsOf, IsEnding, IsOfReading, IsReadFrom, IsStopOfInfo, asked_info, netlist_of}
+use Rattle.npnp.specs.Steps.{Decides, InformsOf, IsEnding, IsOfReading, IsReadFrom, IsStopWithin, asked_info, netlist_of}
 use Rattle.npnp.specs.Words.{AsksInfo}
 use Rattle.npnp.specs.declared.words.Info.{Info as InfoWords}
 use Rattle.npnp.specs.declared.run.Ending.{Ending}
 use Rattle.npnp.specs.declared.outcome.Outcome.{Outcome}
-use Rattle.npnp.specs.declared.outcome.Outcome.TheVariants.{AcceptedMatch, AcceptedRefusal, Rejected, Spent, Usage, Absent, TooLarge, Malformed, Informed, ReadFault, WriteFault, Memory}
+use Rattle.npnp.specs.declared.outcome.Outcome.TheVariants.{AcceptedMatch, AcceptedRefusal, Spent, Informed, ReadFault, Memory}
 
 -- an empty ledger suits a book that knows nothing
 pub suits_new : (graphs : Graphs) (budget : ℕ) → Suits (record { graphs = graphs; facts = []; answered = [] }) (record { budget = budget; asked = []; spent = false })
@@ -43,16 +45,16 @@ suits_first graphs known ledger budget is empty =
 pub rows_in_range : (net : Net) (rows : List OutputInfo) → AreRows net rows → All (IsInRange net.inputs) rows
 rows_in_range net rows are = λ k d h t e l. ((are.each k d h).support.within t e l).1
 
--- a budget that was spent on a graph against itself
-pub spent_is : (graph : Net) (graphs : Graphs) (known : Known) (before after : Ledgered) (budget learned : ℕ) → graphs ≡ with_itself graph → known ≡ record { graphs = graphs; facts = []; answered = [] } → before ≡ record { budget = budget; asked = []; spent = false } → IsSpentWork known before after learned → IsSpentOf graph budget after
-spent_is graph graphs known before after budget learned same is empty spent =
+-- a budget that was spent on two graphs, of which nothing was known
+pub spent_is : (two graphs : Graphs) (known : Known) (before after : Ledgered) (budget learned : ℕ) → graphs ≡ two → known ≡ record { graphs = graphs; facts = []; answered = [] } → before ≡ record { budget = budget; asked = []; spent = false } → IsSpentWork known before after learned → IsSpentOf two budget after
+spent_is two graphs known before after budget learned same is empty spent =
     let first : before.budget ≡ budget = ap (λ (ledger : Ledgered). ledger.budget) empty in
-    let two : known.graphs ≡ with_itself graph = ap (λ (known : Known). known.graphs) is ∙ same in
+    let are : known.graphs ≡ two = ap (λ (known : Known). known.graphs) is ∙ same in
     record {
       budget_is = spent.keeps.budget ∙ first;
       learned = spent.used ∙ first;
       refused = spent.refused;
-      work = subst (λ graphs. IsWorkOfClaimsAndMatches graphs after) two spent.work;
+      work = subst (λ graphs. IsWorkOfClaimsAndMatches graphs after) are spent.work;
     }
 
 -- rows of a graph, reported
@@ -71,48 +73,34 @@ informed_is named budget graph rows (Ok ending) same are outcome report memory =
 }
 informed_is named budget graph rows (Err outcome) same are outcome_is report memory = record {
   rows = tt;
-  stopped = subst (IsStopOfInfo named.graph budget) (sym memory) tt;
+  stopped = inr memory;
 }
 
 -- what ends such a run is right, and its report is a line
 
-stop_right : (held : List ℕ → Option (List ℕ)) (words : List (List ℕ)) (file : List ℕ) (budget : ℕ) (graph : Net) → AsksInfo words file budget → HoldsGraph (held file) graph → (o : Outcome) → IsStopOfInfo graph budget o → IsRight held words o
-stop_right held words file budget graph asks there (AcceptedMatch table) fact = absurd fact
-stop_right held words file budget graph asks there AcceptedRefusal fact = absurd fact
-stop_right held words file budget graph asks there (Rejected line why) fact = absurd fact
-stop_right held words file budget graph asks there (Spent ledger) fact = record { file_name = file; budget = budget; asks = asks; graph = graph; there = there; spent = fact }
-stop_right held words file budget graph asks there Informed fact = absurd fact
-stop_right held words file budget graph asks there Usage fact = absurd fact
-stop_right held words file budget graph asks there (Absent which) fact = absurd fact
-stop_right held words file budget graph asks there (TooLarge which) fact = absurd fact
-stop_right held words file budget graph asks there (Malformed which kind at) fact = absurd fact
-stop_right held words file budget graph asks there ReadFault fact = absurd fact
-stop_right held words file budget graph asks there WriteFault fact = absurd fact
-stop_right held words file budget graph asks there Memory fact = tt
+stop_right : (held : List ℕ → Option (List ℕ)) (words : List (List ℕ)) (file : List ℕ) (budget : ℕ) (graph : Net) → AsksInfo words file budget → HoldsGraph (held file) graph → (o : Outcome) → IsStopWithin (with_itself graph) budget o → IsRight held words o
+stop_right held words file budget graph asks there o stop =
+    elim stop [
+      | inl (ledger, is, spent) ↦ subst (IsRight held words) (sym is) (inl (record { file_name = file; budget = budget; asks = asks; graph = graph; there = there; spent = spent }))
+      | inr is ↦ subst (IsRight held words) (sym is) tt
+    ]
 
-stop_line : (graph : Net) (budget : ℕ) (o : Outcome) → IsStopOfInfo graph budget o → IsOfReading o
-stop_line graph budget (AcceptedMatch table) fact = absurd fact
-stop_line graph budget AcceptedRefusal fact = absurd fact
-stop_line graph budget (Rejected line why) fact = absurd fact
-stop_line graph budget (Spent ledger) fact = record { line = record { no_table = λ table e. cc; no_rows = λ e. cc }; no_refusal = λ e. cc; asked = λ e. cc; unwritten = λ e. cc }
-stop_line graph budget Informed fact = absurd fact
-stop_line graph budget Usage fact = absurd fact
-stop_line graph budget (Absent which) fact = absurd fact
-stop_line graph budget (TooLarge which) fact = absurd fact
-stop_line graph budget (Malformed which kind at) fact = absurd fact
-stop_line graph budget ReadFault fact = absurd fact
-stop_line graph budget WriteFault fact = absurd fact
-stop_line graph budget Memory fact = record { line = record { no_table = λ table e. cc; no_rows = λ e. cc }; no_refusal = λ e. cc; asked = λ e. cc; unwritten = λ e. cc }
+of_spent : (ledger : Ledgered) → IsOfReading (Spent ledger)
+of_spent ledger = record { early = record { line = record { no_table = λ table e. elim e [ inl e ↦ cc | inr e ↦ cc ]; no_rows = λ e. cc }; no_refusal = λ e. cc; no_match = λ e. cc; asked = λ e. cc }; unwritten = λ e. cc }
 
--- a fault of a read is none of these
-not_read : (graph : Net) (budget : ℕ) (o : Outcome) → o ≡ ReadFault → IsStopOfInfo graph budget o → ⊥
-not_read graph budget o is fact = subst (IsStopOfInfo graph budget) is fact
+of_memory : IsOfReading Memory
+of_memory = record { early = record { line = record { no_table = λ table e. elim e [ inl e ↦ cc | inr e ↦ cc ]; no_rows = λ e. cc }; no_refusal = λ e. cc; no_match = λ e. cc; asked = λ e. cc }; unwritten = λ e. cc }
 
-err_of : (result : Result Ending Outcome) (o p : Outcome) → result ≡ Err o → result ≡ Err p → o ≡ p
-err_of result o p one other = cc
+pub stop_line : (graphs : Graphs) (budget : ℕ) (o : Outcome) → IsStopWithin graphs budget o → IsOfReading o
+stop_line graphs budget o stop =
+    elim stop [
+      | inl (ledger, is, spent) ↦ subst IsOfReading (sym is) (of_spent ledger)
+      | inr is ↦ subst IsOfReading (sym is) of_memory
+    ]
 
-never_both : (ending : Ending) (o : Outcome) → Ok ending ≡ Err o → ⊥
-never_both ending o e = cc
+-- a fault of the outside is none of these
+pub not_read : (graphs : Graphs) (budget : ℕ) (o : Outcome) → o ≡ ReadFault → IsStopWithin graphs budget o → ⊥
+not_read graphs budget o e stop = elim stop [ inl (ledger, is, spent) ↦ cc | inr is ↦ cc ]
 
 one_of : (outcome : Outcome) → outcome ≡ Informed → IsEnding outcome
 one_of outcome is = record { asked = λ e. cc; read = λ e. cc; unwritten = λ e. cc }
@@ -123,6 +111,9 @@ no_table outcome table is e = cc
 no_refusal : (outcome : Outcome) → outcome ≡ Informed → outcome ≡ AcceptedRefusal → ⊥
 no_refusal outcome is e = cc
 
+informed_leaves : (before after : List ℕ → Option (List ℕ)) (words : List (List ℕ)) (outcome : Outcome) → outcome ≡ Informed → ((n : List ℕ) → after n ≡ before n) → Leaves before after words outcome
+informed_leaves before after words outcome is same = leaves before after words outcome (λ table e. cc) (λ e. cc) same
+
 -- a run that reports what is known of the file that was read
 pub informs : (tells : Bool) (info : InfoWords) (old new : ShelfState) (named : Named) (result : Result Ending Outcome)
     → ((n : List ℕ) → new.held n ≡ old.held n)
@@ -132,7 +123,8 @@ pub informs : (tells : Bool) (info : InfoWords) (old new : ShelfState) (named : 
 informs tells info old new named (Ok ending) files read is =
     let rows = is.rows in
     record {
-      files = files;
+      files = λ t n other. files n;
+      left = λ t words asks. informed_leaves old.held new.held words ending.outcome rows.0 files;
       right = λ t words asks. subst (IsRight old.held words) (sym rows.0) (record {
         file_name = info.file.now;
         budget = info.budget;
@@ -140,7 +132,6 @@ informs tells info old new named (Ok ending) files read is =
         netlist = netlist_of read.circuit named;
         there = read.held t;
       });
-      ended = λ t words asks. tt;
       sound = λ t words asks. record {
         matches = λ table e. absurd (no_table ending.outcome table rows.0 e);
         refuses = λ e. absurd (no_refusal ending.outcome rows.0 e);
@@ -158,16 +149,13 @@ informs tells info old new named (Ok ending) files read is =
         },
       ));
       ending = one_of ending.outcome rows.0;
-      reading = tt;
-      failed = λ e. absurd (never_both ending ReadFault e);
+      early = tt;
+      failed = λ e. cc;
+      unwritten = λ e. cc;
     }
-informs tells info old new named (Err o) files read is = record {
-  files = files;
-  right = λ t words asks. tt;
-  ended = λ t words asks. stop_right old.held words info.file.now info.budget named.graph asks (record { netlist = netlist_of read.circuit named; holds = read.held t; numbered = read.numbered }) o is.stopped;
-  sound = λ t words asks. tt;
-  report = λ words asks. tt;
-  ending = tt;
-  reading = stop_line named.graph info.budget o is.stopped;
-  failed = λ e. absurd (not_read named.graph info.budget o (err_of (Err o) o ReadFault refl e) is.stopped);
-}
+informs tells info old new named (Err o) files read is =
+    let reading = stop_line (with_itself named.graph) info.budget o is.stopped in
+    stopped tells (asked_info info) old new (Err o) o refl files
+    (λ t words asks. stop_right old.held words info.file.now info.budget named.graph asks (record { netlist = netlist_of read.circuit named; holds = read.held t; numbered = read.numbered }) o is.stopped)
+    reading
+    (λ e. absurd (not_read (with_itself named.graph) info.budget o e is.stopped))

@@ -1,6 +1,10 @@
+pub mod AnswerLemmas
 pub mod CheckLemmas
 pub mod CircuitLemmas
+pub mod FindLemmas
 pub mod InfoLemmas
+pub mod MatchLemmas
 pub mod Reading
 pub mod Soundness
 pub mod WordLemmas
+pub mod WritingLemmas

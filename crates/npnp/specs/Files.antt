@@ -1,7 +1,9 @@
--- What reading a file whole does.
-use Rattle.std.specs.Prelude.{◌≡◌, ℕ, ◌+◌, ◌-◌, ◌^◌, ◌<◌, ◌≤◌, Bool, IsTrue, List, ◌++◌, length, Option, None, Some, Result, Err, IfOk, OnOk}
+-- What reading a file whole does, and writing one.
+use Rattle.std.specs.Prelude.{◌≡◌, ◌≢◌, ◌⊎◌, ℕ, ◌+◌, ◌-◌, ◌^◌, ◌<◌, ◌≤◌, Bool, IsTrue, List, ◌++◌, length, take, Option, None, Some, Result, Err, IfOk, OnOk, OnErr}
 use Rattle.shelf_core.specs.Fault.{Rose}
-use Rattle.shelf_core.specs.State.{ShelfState, Closed, Reading}
+use Rattle.shelf_core.specs.State.{ShelfState, Closed, Reading, Writing}
+use Rattle.shelf_core.specs.declared.outside.ShelfStop.{ShelfStop}
+use Rattle.shelf_core.specs.declared.outside.ShelfStop.TheVariants.{Failed}
 use Rattle.npnp.specs.declared.files.File.{File}
 use Rattle.npnp.specs.declared.files.File.TheVariants.{Absent, TooLong, Bytes}
 use Rattle.npnp.specs.declared.files.Stop.{Stop}
@@ -41,3 +43,39 @@ pub record ReadsPiece (tells : Bool) (old new : ShelfState) (before after : List
   pub unread : IsTrue tells → IfOk result (λ count. count + length new.unread ≡ length old.unread)
   pub faults : old.faults ≤ new.faults
   pub failed : result ≡ Err ReadFault → Rose old.faults new.faults
+
+-- what a name holds is the first bytes of a text
+abbrev pub HoldsFirst : List ℕ → Option (List ℕ) → Type 0
+HoldsFirst text content = (count : ℕ) × (content ≡ Some (take count text))
+
+-- Writing a text under a name, in place of what it holds.
+pub record WritesFile (tells : Bool) (name text : List ℕ) (old new : ShelfState)
+    (result : Result (Unit {0}) ShelfStop) : Type 0 where
+  -- no other file changes
+  pub others : IsTrue tells → (n : List ℕ) → n ≢ name → new.held n ≡ old.held n
+  pub whole : IsTrue tells → OnOk result (new.held name ≡ Some text)
+  -- after a refusal the file is as it was, or a first part of the text
+  pub part : IsTrue tells → OnErr result ((new.held name ≡ old.held name) ⊎ HoldsFirst text (new.held name))
+  pub faults : old.faults ≤ new.faults
+  pub failed : result ≡ Err Failed → Rose old.faults new.faults
+
+-- Writing a text to the open file, which was empty.
+pub record FillsFile (tells : Bool) (text : List ℕ) (old new : ShelfState) (result : Result (Unit {0}) ShelfStop) : Type 0 where
+  pub others : IsTrue tells → (n : List ℕ) → n ≢ old.name → new.held n ≡ old.held n
+  pub writing : OnOk result (new.mode ≡ Writing)
+  pub named : new.name ≡ old.name
+  pub whole : IsTrue tells → OnOk result (new.held old.name ≡ Some text)
+  pub part : IsTrue tells → OnErr result (HoldsFirst text (new.held old.name))
+  pub faults : old.faults ≤ new.faults
+  pub failed : result ≡ Err Failed → Rose old.faults new.faults
+
+-- Writing the next piece of a text to the open file, which held its first bytes, and holds so many afterwards.
+pub record FillsOn (tells : Bool) (text : List ℕ) (done : ℕ) (old new : ShelfState) (result : Result ℕ ShelfStop) : Type 0 where
+  pub others : IsTrue tells → (n : List ℕ) → n ≢ old.name → new.held n ≡ old.held n
+  pub writing : IfOk result (λ end. new.mode ≡ Writing)
+  pub named : new.name ≡ old.name
+  pub more : IfOk result (λ end. (done < end) × (end ≤ length text))
+  pub whole : IsTrue tells → IfOk result (λ end. new.held old.name ≡ Some (take end text))
+  pub part : IsTrue tells → OnErr result (HoldsFirst text (new.held old.name))
+  pub faults : old.faults ≤ new.faults
+  pub failed : result ≡ Err Failed → Rose old.faults new.faults

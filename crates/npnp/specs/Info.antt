@@ -1,4 +1,4 @@
--- What `info` reports of a circuit, and what it is spent on.
+-- What `info` reports of a circuit, and what a budget is spent on.
 use Rattle.std.specs.Prelude.{◌≡◌, ℕ, true, List}
 use Rattle.circuits.specs.Circuits.{Circuit}
 use Rattle.circuits.specs.Levels.{IsOrderOf}
@@ -23,9 +23,9 @@ pub record IsInfoText (circuit : Circuit) (named : Named) (text : List ℕ) : Ty
 abbrev pub with_itself : Net → Graphs
 with_itself graph = record { first = graph; second = graph }
 
--- The budget was spent on claims of a graph: as many lines were learned, and one more was refused.
-pub record IsSpentOf (graph : Net) (budget : ℕ) (ledger : Ledgered) : Type 0 where
+-- The budget was spent on claims and matches of two graphs: as many lines were learned, and one more was refused.
+pub record IsSpentOf (graphs : Graphs) (budget : ℕ) (ledger : Ledgered) : Type 0 where
   pub budget_is : ledger.budget ≡ budget
   pub learned : learned_in ledger ≡ budget
   pub refused : ledger.spent ≡ true
-  pub work : IsWorkOfClaimsAndMatches (with_itself graph) ledger
+  pub work : IsWorkOfClaimsAndMatches graphs ledger

@@ -1,7 +1,10 @@
 pub mod Check
 pub mod Circuits
 pub mod Files
+pub mod Held
 pub mod Info
+pub mod Match
+pub mod Outcomes
 pub mod Report
 pub mod Status
 pub mod Steps
@@ -14,3 +17,5 @@ pub use Rattle.text_core.specs.Numbers
 pub use Rattle.query_core.specs.Ledgers
 pub use Rattle.account_core.specs.Work
 pub use Rattle.fact_tests.specs.Rows
+pub use Rattle.account_write.specs.Records
+pub use Rattle.match_search.specs.Founds

@@ -8,13 +8,15 @@ use Rattle.net_core.specs.declared.named.Named.{Named}
 use Rattle.query_core.specs.Ledgers.{learned_in}
 use Rattle.port_report.specs.Reports.{PortNames, match_text, rejected_text}
 use Rattle.account_check.specs.Words.{word_of}
-use Rattle.npnp.specs.Check.{Netlist, HoldsNetlist, IsAsked}
+use Rattle.npnp.specs.Check.{IsAsked}
+use Rattle.npnp.specs.Held.{Netlist, HoldsNetlist}
+use Rattle.npnp.specs.Match.{IsSought}
 use Rattle.npnp.specs.Info.{IsInfoText}
 use Rattle.npnp.specs.Words.{AsksInfo}
 use Rattle.npnp.specs.declared.outcome.Which.{Which}
 use Rattle.npnp.specs.declared.outcome.Which.TheVariants.{First, Second, Account}
 use Rattle.npnp.specs.declared.outcome.Outcome.{Outcome}
-use Rattle.npnp.specs.declared.outcome.Outcome.TheVariants.{AcceptedMatch, AcceptedRefusal, Rejected, Spent, Usage, Absent, TooLarge, Malformed, Informed, ReadFault, WriteFault, Memory}
+use Rattle.npnp.specs.declared.outcome.Outcome.TheVariants.{AcceptedMatch, AcceptedRefusal, Rejected, Matched, NoMatching, Spent, Usage, Absent, TooLarge, Malformed, Informed, ReadFault, WriteFault, Memory}
 
 -- the word for a file
 abbrev pub file_word : Which → List ℕ
@@ -27,6 +29,8 @@ abbrev pub line_of : Outcome → List ℕ
 line_of (AcceptedMatch table) = codes "accepted match" ++ 10 ∷ []
 line_of AcceptedRefusal = codes "accepted refusal" ++ 10 ∷ []
 line_of (Rejected line why) = rejected_text line (word_of why)
+line_of (Matched table) = codes "matched" ++ 10 ∷ []
+line_of NoMatching = codes "no matching" ++ 10 ∷ []
 line_of (Spent ledger) = codes "spent " ++ decimal (learned_in ledger) ++ 10 ∷ []
 line_of Informed = []
 line_of Usage = codes "usage" ++ 10 ∷ []
@@ -37,30 +41,35 @@ line_of ReadFault = codes "read fault" ++ 10 ∷ []
 line_of WriteFault = []
 line_of Memory = codes "out of memory" ++ 10 ∷ []
 
--- the outcome is no accepted match
-abbrev pub HasNoTable : Outcome → Type 0
-HasNoTable outcome = (table : Matching) → outcome ≢ AcceptedMatch table
+-- the outcome has this port table
+abbrev pub HasTable : Outcome → Matching → Type 0
+HasTable outcome table = (outcome ≡ AcceptedMatch table) ⊎ (outcome ≡ Matched table)
 
 -- The report of the outcome is its line.
 pub record IsOneLine (outcome : Outcome) : Type 0 where
-  pub no_table : HasNoTable outcome
+  pub no_table : (table : Matching) → HasTable outcome table → ⊥
   pub no_rows : outcome ≢ Informed
 
--- the report of an outcome of two netlists: its line, and after an accepted match the port table
+-- the report of an outcome of two netlists: its line, and behind that of a match the port table
 abbrev pub report_on : PortNames → PortNames → Outcome → List ℕ
 report_on first second (AcceptedMatch table) = line_of (AcceptedMatch table) ++ match_text first second table
+report_on first second (Matched table) = line_of (Matched table) ++ match_text first second table
 report_on first second other = line_of other
 
 abbrev pub port_names : Netlist → PortNames
 port_names netlist = record { inputs = netlist.input_names; outputs = netlist.output_names }
 
+-- the words ask for a check or a match of two files that are these netlists
+abbrev pub NameNetlists : (List ℕ → Option (List ℕ)) → List (List ℕ) → Netlist → Netlist → Type 0
+NameNetlists held words first second =
+    ((account_name : List ℕ) × IsAsked held words first second account_name) ⊎ IsSought held words first second
+
 -- The text is the report of an outcome of the two files that the words name, with the names of their ports.
 pub record IsNamedReport (tells : Bool) (held : List ℕ → Option (List ℕ)) (words : List (List ℕ)) (outcome : Outcome) (text : List ℕ) : Type 0 where
   pub first : Netlist
   pub second : Netlist
-  pub account_name : List ℕ
   pub no_rows : outcome ≢ Informed
-  pub of_files : IsTrue tells → IsAsked held words first second account_name
+  pub of_files : IsTrue tells → NameNetlists held words first second
   pub same : text ≡ report_on (port_names first) (port_names second) outcome
 
 -- The text is what is known of the file that the words name.

@@ -1,5 +1,5 @@
 -- What the steps of a run do.
-use Rattle.std.specs.Prelude.{◌≡◌, ◌≢◌, ℕ, ◌⊎◌, ◌≤◌, Bool, IsTrue, List, ◌++◌, length, take, Option, None, Some, Result, Err, IfOk, IfErr, OnOk}
+use Rattle.std.specs.Prelude.{◌≡◌, ◌≢◌, ℕ, ◌⊎◌, ◌≤◌, Bool, IsTrue, List, ◌++◌, length, take, Option, None, Some, Result, Ok, Err, IfOk, IfErr, OnOk, OnErr}
 use Rattle.circuits.specs.Circuits.{Circuit}
 use Rattle.circuits.specs.Functions.{Computes}
 use Rattle.circuits.specs.Levels.{IsAcyclic, IsOrderOf}
@@ -10,30 +10,44 @@ use Rattle.shelf_core.specs.State.{ShelfState, SinkState, Closed}
 use Rattle.net_core.specs.declared.graphs.Graphs.{Graphs}
 use Rattle.net_core.specs.declared.matching.Matching.{Matching}
 use Rattle.net_core.specs.declared.named.Named.{Named}
+use Rattle.query_core.specs.Ledgers.{Ledgered}
 use Rattle.account_check.specs.Verdicts.{IsAccepted as Proves, IsRejected as IsBadAt}
+use Rattle.account_check.specs.declared.verdict.Verdict.{Verdict}
 use Rattle.account_check.specs.declared.verdict.Verdict.TheVariants as verdict
+use Rattle.account_file.specs.Spelling.{record_line}
+use Rattle.account_file.specs.declared.record.Record.TheVariants as entry
+use Rattle.port_report.specs.Reports.{names_of}
 use Rattle.npnp.specs.Circuits.{IsCircuit, IsCircuitFault}
-use Rattle.npnp.specs.Info.{IsInfoText, IsSpentOf}
-use Rattle.npnp.specs.Words.{AsksCheck, AsksInfo}
-use Rattle.npnp.specs.Check.{Netlist, HoldsNetlist, EndsAt, IsRight, IsSound, IsTold}
-use Rattle.npnp.specs.Report.{IsOneLine, IsReport, line_of}
+use Rattle.npnp.specs.Files.{HoldsFirst}
+use Rattle.npnp.specs.Info.{IsInfoText, IsSpentOf, with_itself}
+use Rattle.npnp.specs.Words.{AsksCheck, AsksInfo, AsksMatch, Sought}
+use Rattle.npnp.specs.Held.{Netlist, HoldsNetlist}
+use Rattle.npnp.specs.Outcomes.{EndsAt, IsRight, IsSound, IsTold, Leaves}
+use Rattle.npnp.specs.Report.{HasTable, IsOneLine, IsReport, line_of, report_on}
 use Rattle.npnp.specs.declared.outcome.Which.{Which}
 use Rattle.npnp.specs.declared.outcome.Which.TheVariants.{Account}
 use Rattle.npnp.specs.declared.outcome.Outcome.{Outcome}
-use Rattle.npnp.specs.declared.outcome.Outcome.TheVariants.{AcceptedMatch, AcceptedRefusal, Rejected, Spent, Usage, Absent, Malformed, Informed, ReadFault, WriteFault, Memory}
+use Rattle.npnp.specs.declared.outcome.Outcome.TheVariants.{AcceptedMatch, AcceptedRefusal, Rejected, Matched, NoMatching, Spent, Usage, Absent, Malformed, Informed, ReadFault, WriteFault, Memory}
 use Rattle.npnp.specs.declared.words.Check.{Check as CheckWords}
 use Rattle.npnp.specs.declared.words.Info.{Info as InfoWords}
+use Rattle.npnp.specs.declared.words.Match.{Match as MatchWords}
 use Rattle.npnp.specs.declared.words.Command.{Command}
-use Rattle.npnp.specs.declared.words.Command.TheVariants.{Check, Info}
+use Rattle.npnp.specs.declared.words.Command.TheVariants.{Check, Match, Info}
 use Rattle.npnp.specs.declared.files.Stop.{Stop}
 use Rattle.npnp.specs.declared.files.Stop.TheVariants as stop
+use Rattle.npnp.specs.declared.matching.Solved.{Solved}
 use Rattle.npnp.specs.declared.run.Ending.{Ending}
+
+-- an outcome that ends a run early: it has a line, and is no answer and none of the words alone
+pub record IsEarly (outcome : Outcome) : Type 0 where
+  pub line : IsOneLine outcome
+  pub no_refusal : outcome ≢ AcceptedRefusal
+  pub no_match : outcome ≢ NoMatching
+  pub asked : outcome ≢ Usage
 
 -- an outcome that comes of the words alone, or of a write, is none of a netlist that is read
 pub record IsOfReading (outcome : Outcome) : Type 0 where
-  pub line : IsOneLine outcome
-  pub no_refusal : outcome ≢ AcceptedRefusal
-  pub asked : outcome ≢ Usage
+  pub early : IsEarly outcome
   pub unwritten : outcome ≢ WriteFault
 
 -- what an outcome says of the bytes of a file that is no netlist
@@ -73,11 +87,10 @@ pub record ReadsNetlist (tells : Bool) (file : Which) (name : List ℕ) (old new
   pub faults : old.faults ≤ new.faults
   pub failed : result ≡ Err ReadFault → Rose old.faults new.faults
 
--- what ends a run that asks what is known of a graph: the budget is spent on it, or memory is wanting
-abbrev pub IsStopOfInfo : Net → ℕ → Outcome → Type 0
-IsStopOfInfo graph budget (Spent ledger) = IsSpentOf graph budget ledger
-IsStopOfInfo graph budget Memory = Unit {0}
-IsStopOfInfo graph budget other = ⊥
+-- what ends a run that asks about two graphs: the budget is spent on them, or memory is wanting
+abbrev pub IsStopWithin : Graphs → ℕ → Outcome → Type 0
+IsStopWithin graphs budget outcome =
+    ((ledger : Ledgered) × (outcome ≡ Spent ledger) × IsSpentOf graphs budget ledger) ⊎ (outcome ≡ Memory)
 
 -- An ending of one netlist: its report, within the budget.
 pub record InformsOf (named : Named) (budget : ℕ) (result : Result Ending Outcome) : Type 0 where
@@ -86,7 +99,7 @@ pub record InformsOf (named : Named) (budget : ℕ) (result : Result Ending Outc
       → Computes named.graph circuit
       → IsOrderOf circuit named.graph
       → IsInfoText circuit named ending.report.items))
-  pub stopped : IfErr result (IsStopOfInfo named.graph budget)
+  pub stopped : IfErr result (IsStopWithin (with_itself named.graph) budget)
 
 -- the graphs of two netlists
 abbrev pub graphs_of : Named → Named → Graphs
@@ -103,10 +116,10 @@ IsVerdict graphs content (Rejected line why) =
 IsVerdict graphs content (Absent file) = (file ≡ Account) × (content ≡ None)
 IsVerdict graphs content other = ⊥
 
--- a table that is accepted is a match of the graphs
-abbrev pub IsMatchIfAccepted : Net → Net → Outcome → Type 0
-IsMatchIfAccepted f g outcome =
-    (table : Matching) → outcome ≡ AcceptedMatch table → IsMatchOfFunctions f g table.inputs table.outputs
+-- a table that is accepted or found is a match of the graphs
+abbrev pub IsMatchIfTable : Net → Net → Outcome → Type 0
+IsMatchIfTable f g outcome =
+    (table : Matching) → HasTable outcome table → IsMatchOfFunctions f g table.inputs table.outputs
 
 -- where a refusal is accepted, no signed bijections make the graphs' functions equal
 abbrev pub IsUnequalIfRefused : Net → Net → Outcome → Type 0
@@ -118,46 +131,139 @@ pub record IsJudged (outcome : Outcome) : Type 0 where
   pub no_rows : outcome ≢ Informed
   pub read : outcome ≢ ReadFault
   pub unwritten : outcome ≢ WriteFault
+  pub no_match : outcome ≢ NoMatching
+  pub no_table : (table : Matching) → outcome ≢ Matched table
 
 -- Judging two netlists by the account under a name.
 pub record Judges (tells : Bool) (first second : Named) (name : List ℕ) (old new : ShelfState) (result : Result Outcome Stop) : Type 0 where
   pub files : (n : List ℕ) → new.held n ≡ old.held n
   pub right : IsTrue tells → IfOk result (IsVerdict (graphs_of first second) (old.held name))
-  pub matches : IfOk result (IsMatchIfAccepted first.graph second.graph)
+  pub matches : IfOk result (IsMatchIfTable first.graph second.graph)
   pub refuses : IfOk result (IsUnequalIfRefused first.graph second.graph)
   pub judged : IfOk result IsJudged
   pub faults : old.faults ≤ new.faults
   pub failed : result ≡ Err stop.ReadFault → Rose old.faults new.faults
 
+-- an answer for two graphs, with an account that is accepted: a match, or that there is none
+abbrev pub IsAnswered : Graphs → List ℕ → Outcome → Type 0
+IsAnswered graphs account outcome =
+    ((table : Matching) × (outcome ≡ Matched table)
+    × Proves graphs account (verdict.Match table)
+    × IsMatchOfFunctions graphs.first graphs.second table.inputs table.outputs)
+    ⊎ ((outcome ≡ NoMatching)
+    × Proves graphs account verdict.None
+    × (HaveNpnpEqualFunctions graphs.first graphs.second → ⊥))
+
+-- the last line of an account
+abbrev pub last_line : List ℕ
+last_line = record_line entry.End
+
+-- Searching two graphs for a match: an answer with its account, or the budget is spent or memory is wanting.
+pub record Solves (graphs : Graphs) (budget : ℕ) (result : Result Solved Outcome) : Type 0 where
+  pub answer : IfOk result (λ solved. IsAnswered graphs (solved.account.items ++ last_line) solved.outcome)
+  pub stopped : IfErr result (IsStopWithin graphs budget)
+
+-- a write was refused
+abbrev pub IsUnwritten : Outcome → Type 0
+IsUnwritten outcome = (outcome ≡ WriteFault) ⊎ (outcome ≡ Memory)
+
+-- Writing an account under a name, and ending a run where it was written.
+pub record Concludes (tells : Bool) (name text : List ℕ) (ending : Ending) (old new : ShelfState)
+    (result : Result Ending Outcome) : Type 0 where
+  pub others : IsTrue tells → (n : List ℕ) → n ≢ name → new.held n ≡ old.held n
+  pub same : IfOk result (λ answer. answer ≡ ending)
+  pub whole : IsTrue tells → OnOk result (new.held name ≡ Some text)
+  pub stopped : IfErr result IsUnwritten
+  pub part : IsTrue tells → OnErr result ((new.held name ≡ old.held name) ⊎ HoldsFirst text (new.held name))
+  pub faults : old.faults ≤ new.faults
+  pub failed : result ≡ Err WriteFault → Rose old.faults new.faults
+
+-- what the account's name holds is as before, or the first bytes of an account of two graphs that is accepted
+abbrev pub IsCutOf : Graphs → Option (List ℕ) → Option (List ℕ) → Type 0
+IsCutOf graphs before after =
+    (after ≡ before) ⊎ ((account : List ℕ) × (proved : Verdict) × Proves graphs account proved × HoldsFirst account after)
+
+-- what ends a search for a match without an answer, by what the account's name holds before and afterwards: the budget is spent
+-- and nothing was written, or a write was refused
+abbrev pub IsStopOfMatch : Bool → Graphs → ℕ → Option (List ℕ) → Option (List ℕ) → Outcome → Type 0
+IsStopOfMatch tells graphs budget before after outcome =
+    (IsStopWithin graphs budget outcome × (IsTrue tells → after ≡ before))
+    ⊎ (IsUnwritten outcome × (IsTrue tells → IsCutOf graphs before after))
+
+-- Searching two netlists for a match, and writing the account of the answer under a name.
+pub record Finds (tells : Bool) (first second : Named) (account_name : List ℕ) (budget : ℕ) (old new : ShelfState)
+    (result : Result Ending Outcome) : Type 0 where
+  pub others : IsTrue tells → (n : List ℕ) → n ≢ account_name → new.held n ≡ old.held n
+  pub answer : IfOk result (λ ending. (account : List ℕ)
+      × IsAnswered (graphs_of first second) account ending.outcome
+      × (IsTrue tells → new.held account_name ≡ Some account))
+  pub report : IfOk result (λ ending. ending.report.items ≡ report_on (names_of first) (names_of second) ending.outcome)
+  pub stopped : IfErr result
+      (IsStopOfMatch tells (graphs_of first second) budget (old.held account_name) (new.held account_name))
+  pub faults : old.faults ≤ new.faults
+  pub failed : result ≡ Err WriteFault → Rose old.faults new.faults
+
+-- what the words of a match name
+abbrev pub sought_by : MatchWords → Sought
+sought_by words = record {
+  first = words.first.now;
+  second = words.second.now;
+  account = words.account.now;
+  budget = words.budget;
+  seed = words.seed;
+}
+
 -- the words ask for what a command says
 abbrev pub Ask : List (List ℕ) → Command → Type 0
 Ask words (Check check) = AsksCheck words check.first.now check.second.now check.account.now
+Ask words (Match match_words) = AsksMatch words (sought_by match_words)
 Ask words (Info info) = AsksInfo words info.file.now info.budget
 
 abbrev pub asked_check : CheckWords → Command
 asked_check check = Check check
 
+abbrev pub asked_match : MatchWords → Command
+asked_match match_words = Match match_words
+
 abbrev pub asked_info : InfoWords → Command
 asked_info info = Info info
 
--- an ending that is of what was judged, or of one netlist
+-- a command writes no file of this name
+abbrev pub IsNotWritten : Command → List ℕ → Type 0
+IsNotWritten (Check check) name = Unit {0}
+IsNotWritten (Match match_words) name = name ≢ match_words.account.now
+IsNotWritten (Info info) name = Unit {0}
+
+-- the words of a command ask for a match
+abbrev pub IsMatchCommand : Command → Type 0
+IsMatchCommand (Check check) = ⊥
+IsMatchCommand (Match match_words) = Unit {0}
+IsMatchCommand (Info info) = ⊥
+
+-- an ending that is of what was judged, sought, or of one netlist
 pub record IsEnding (outcome : Outcome) : Type 0 where
   pub asked : outcome ≢ Usage
   pub read : outcome ≢ ReadFault
   pub unwritten : outcome ≢ WriteFault
 
+-- how a run ends
+abbrev pub ended : Result Ending Outcome → Outcome
+ended (Ok ending) = ending.outcome
+ended (Err outcome) = outcome
+
 -- Deciding by the files that a command names.
 pub record Decides (tells : Bool) (command : Command) (old new : ShelfState) (result : Result Ending Outcome) : Type 0 where
-  pub files : (n : List ℕ) → new.held n ≡ old.held n
+  -- no file changes but the account of a match
+  pub files : IsTrue tells → (n : List ℕ) → IsNotWritten command n → new.held n ≡ old.held n
+  pub left : IsTrue tells
+      → (words : List (List ℕ))
+      → Ask words command
+      → Leaves old.held new.held words (ended result)
   -- what is decided is what the files say, for words that name them
   pub right : IsTrue tells
       → (words : List (List ℕ))
       → Ask words command
-      → IfOk result (λ ending. IsRight old.held words ending.outcome)
-  pub ended : IsTrue tells
-      → (words : List (List ℕ))
-      → Ask words command
-      → IfErr result (IsRight old.held words)
+      → IsRight old.held words (ended result)
   -- an accepted table is a match of the files' netlists, and an accepted refusal is right
   pub sound : IsTrue tells
       → (words : List (List ℕ))
@@ -167,8 +273,10 @@ pub record Decides (tells : Bool) (command : Command) (old new : ShelfState) (re
       → Ask words command
       → IfOk result (λ ending. IsReport tells old.held words ending.outcome ending.report.items)
   pub ending : IfOk result (λ ending. IsEnding ending.outcome)
-  pub reading : IfErr result IsOfReading
+  pub early : IfErr result IsEarly
+  -- a fault has its cause outside
   pub failed : result ≡ Err ReadFault → Rose old.faults new.faults
+  pub unwritten : result ≡ Err WriteFault → IsMatchCommand command × Rose old.faults new.faults
 
 -- the ending tells an outcome by its line, or there was no memory for the line
 abbrev pub TellsLine : Outcome → Ending → Type 0

@@ -9,11 +9,46 @@ pub record AsksCheck (words : List (List ℕ)) (first second account : List ℕ)
   pub second_named : second ≢ []
   pub account_named : account ≢ []
 
+-- the words of a check of two netlists by an account
+abbrev pub check_words : List ℕ → List ℕ → List ℕ → List (List ℕ)
+check_words first second account = codes "check" ∷ first ∷ second ∷ account ∷ []
+
 -- A word of 1 to 20 digits that writes a number of 64 bits.
 pub record IsNumber (word : List ℕ) (value : ℕ) : Type 0 where
   pub digits : number word ≡ Some value
   pub short : length word ≤ 20
   pub fits : value < 2 ^ 64
+
+-- What is sought: a match of two netlists, of which an account is written, with so many learned clauses at most, and by vectors
+-- that are drawn from a seed.
+pub record Sought : Type 0 where
+  pub first : List ℕ
+  pub second : List ℕ
+  pub account : List ℕ
+  pub budget : ℕ
+  pub seed : ℕ
+
+-- the words are a budget and a seed, or the budget alone, or none; the default budget is 1,000,000,000, the default seed 1
+abbrev pub AreBudgetAndSeed : List (List ℕ) → ℕ → ℕ → Type 0
+AreBudgetAndSeed [] budget seed = (budget ≡ 1000000000) × (seed ≡ 1)
+AreBudgetAndSeed (word ∷ []) budget seed = IsNumber word budget × (seed ≡ 1)
+AreBudgetAndSeed (word ∷ other ∷ []) budget seed = IsNumber word budget × IsNumber other seed
+AreBudgetAndSeed (word ∷ other ∷ another ∷ words) budget seed = ⊥
+
+-- Names of two netlists and of an account that is written: none is empty, and the account's is neither of the others.
+pub record AreNames (first second account : List ℕ) : Type 0 where
+  pub first_named : first ≢ []
+  pub second_named : second ≢ []
+  pub account_named : account ≢ []
+  pub not_first : account ≢ first
+  pub not_second : account ≢ second
+
+-- `match FIRST SECOND ACCOUNT [BUDGET [SEED]]`
+pub record AsksMatch (words : List (List ℕ)) (sought : Sought) : Type 0 where
+  pub numbers : List (List ℕ)
+  pub form : words ≡ codes "match" ∷ sought.first ∷ sought.second ∷ sought.account ∷ numbers
+  pub names : AreNames sought.first sought.second sought.account
+  pub numbers_are : AreBudgetAndSeed numbers sought.budget sought.seed
 
 -- `info FILE`, whose budget is the default one, or `info FILE BUDGET`
 abbrev pub HaveInfoForm : List (List ℕ) → List ℕ → ℕ → Type 0
@@ -26,7 +61,15 @@ pub record AsksInfo (words : List (List ℕ)) (file : List ℕ) (budget : ℕ) :
   pub form : HaveInfoForm words file budget
   pub named : file ≢ []
 
+-- the words name two netlists and an account, for a check or for a match
+abbrev pub NameThree : List (List ℕ) → List ℕ → List ℕ → List ℕ → Type 0
+NameThree words first second account =
+    AsksCheck words first second account
+    ⊎ ((budget seed : ℕ)
+    × AsksMatch words (record { first = first; second = second; account = account; budget = budget; seed = seed }))
+
 -- words of no form that is known
 pub record AskNothing (words : List (List ℕ)) : Type 0 where
   pub no_check : (first second account : List ℕ) → AsksCheck words first second account → ⊥
+  pub no_match : (sought : Sought) → AsksMatch words sought → ⊥
   pub no_info : (file : List ℕ) (budget : ℕ) → AsksInfo words file budget → ⊥

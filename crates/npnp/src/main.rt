@@ -1,15 +1,17 @@
-//! `npnp`: checks that a port table is a match of two combinational netlists, up to the order and the
-//! negation of their inputs and outputs, or that there is none, and reports what the outputs of a netlist
-//! depend on, and how.
+//! `npnp`: finds a match of two combinational netlists, up to the order and the negation of their inputs and
+//! outputs, or that there is none, and writes an account that proves it; checks such accounts; and reports what
+//! the outputs of a netlist depend on, and how.
 #![tactic(auto)]
 
 mod files;
 mod info;
+mod matching;
 mod netlists;
 mod outcome;
 mod report;
 mod run;
 mod words;
+mod writing;
 
 use shelf_core::{DiskShelf, StdSink};
 use std::process::ExitCode;

@@ -33,6 +33,10 @@ pub enum Outcome {
         line: u64,
         why: Why,
     },
+    /// This port table is a match of the circuits, and the account that proves it was written.
+    Matched(Matching),
+    /// No port table is a match of the circuits, and the account that proves it was written.
+    NoMatching,
     /// What each output of the netlist depends on, and how, was reported.
     Informed,
     /// The budget of learned clauses was spent before the answer: everything that was asked, and the clauses.
@@ -51,14 +55,14 @@ pub enum Outcome {
     },
     /// A file couldn't be read.
     ReadFault,
-    /// The report couldn't be written.
+    /// The account or the report couldn't be written.
     WriteFault,
     /// There was no memory.
     Memory,
 }
 
 impl Outcome {
-    /// The exit status of the program: 0 a match accepted or a report, 1 a refusal accepted, 2 rejected, 3 a spent budget,
+    /// The exit status of the program: 0 a match or a report, 1 no match, 2 an account rejected, 3 a spent budget,
     /// 4 words of no known form, 5 a file that isn't there or isn't a netlist, 6 a fault of the outside, 7 no memory.
     pub fn status(&self) -> u8
         ensures { result ≡ status_of self.now }
@@ -67,6 +71,8 @@ impl Outcome {
             Outcome::AcceptedMatch(_) => 0,
             Outcome::AcceptedRefusal => 1,
             Outcome::Rejected { .. } => 2,
+            Outcome::Matched(_) => 0,
+            Outcome::NoMatching => 1,
             Outcome::Informed => 0,
             Outcome::Spent(_) => 3,
             Outcome::Usage => 4,

@@ -4,7 +4,7 @@ ghost use Rattle.std.specs.Prelude.{◌≡◌, [], ◌∷◌, ◌++◌, OnOk, If
 ghost use Rattle.std.specs.Fmt.{decimal};
 ghost use Rattle.port_report.specs.Reports.{names_of};
 ghost use Rattle.npnp.specs.Report.{file_word, line_of, report_on};
-ghost use Rattle.npnp.specs.Steps.{IsMatchIfAccepted};
+ghost use Rattle.npnp.specs.Steps.{IsMatchIfTable};
 
 use crate::outcome::{Outcome, Which};
 use net_core::{Named, NetKind};
@@ -12,7 +12,7 @@ use port_report::{put_match, put_rejected};
 use std::alloc::{AllocError, Global};
 use text_core::put_decimal;
 
-/// The report of an outcome of two netlists: a line that names it, and after an accepted match a line for each input
+/// The report of an outcome of two netlists: a line that names it, and behind that of a match a line for each input
 /// and each output of the first netlist that says where it goes.
 pub fn report_named(
     alloc: Global,
@@ -20,11 +20,11 @@ pub fn report_named(
     second: &Named,
     outcome: &Outcome,
 ) -> Result<Vec<u8>, AllocError>
-    requires { IsMatchIfAccepted first.now.graph second.now.graph outcome.now }
+    requires { IsMatchIfTable first.now.graph second.now.graph outcome.now }
     ensures { IfOk result (λ text. text.items ≡ report_on (names_of first.now) (names_of second.now) outcome.now) }
 {
     let mut text = report_line(alloc, outcome)?;
-    if let Outcome::AcceptedMatch(table) = outcome {
+    if let Outcome::AcceptedMatch(table) | Outcome::Matched(table) = outcome {
         put_match(first, second, table, &mut text)?;
     }
     Ok(text)
@@ -47,6 +47,8 @@ fn put_line(outcome: &Outcome, out: &mut Vec<u8>) -> Result<(), AllocError>
         Outcome::AcceptedMatch(_) => out.extend_from_slice(b"accepted match\n"),
         Outcome::AcceptedRefusal => out.extend_from_slice(b"accepted refusal\n"),
         Outcome::Rejected { line, why } => put_rejected(*line, why.word(), out),
+        Outcome::Matched(_) => out.extend_from_slice(b"matched\n"),
+        Outcome::NoMatching => out.extend_from_slice(b"no matching\n"),
         Outcome::Spent(ledger) => put_spent(ledger.learned(), out),
         Outcome::Informed => Ok(()),
         Outcome::Usage => out.extend_from_slice(b"usage\n"),

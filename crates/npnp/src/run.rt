@@ -8,14 +8,17 @@ ghost use Rattle.shelf_core.specs.State.{Closed};
 ghost use Rattle.account_check.specs.declared.verdict.Why.{Why as Reason};
 ghost use Rattle.npnp.specs.declared.outcome.Outcome.{Outcome as AnyOutcome};
 ghost use Rattle.npnp.specs.declared.outcome.Which.{Which as AnyFile};
-ghost use Rattle.npnp.specs.Words.{AskNothing};
+ghost use Rattle.npnp.specs.Words.{AskNothing, AsksMatch, Sought};
 ghost use Rattle.query_core.specs.Ledgers.{Ledgered};
-ghost use Rattle.npnp.specs.Check.{IsRight, IsSound, IsAccepted, IsRejected, IsMatchOfFiles, LacksMatch, IsAskedOf, IsOfOne, IsSpentOn, IsAbsent, EndsEarly, IsDecided, IsTold};
+ghost use Rattle.npnp.specs.Check.{IsAccepted, IsRejected, IsMatchOfFiles, LacksMatch};
+ghost use Rattle.npnp.specs.Match.{HasNoMatch, IsAskedToMatch, IsMatchFound, IsProved, IsSpentOnTwo, NamesAccount};
+ghost use Rattle.npnp.specs.Outcomes.{EndsEarly, IsAbsent, IsAskedOf, IsDecided, IsOfMatch, IsRight, IsSettled, IsSound, IsSpentOn, IsTold, Leaves, LeavesFiles, MayBeCut};
 ghost use Rattle.npnp.specs.Report.{IsReport, line_of};
-ghost use Rattle.npnp.specs.Steps.{IsVerdict, IsMatchIfAccepted, IsUnequalIfRefused, IsJudged, Judges, Decides, asked_check, TellsLine, PutsText, WritesPart, graphs_of};
+ghost use Rattle.npnp.specs.Steps.{IsVerdict, IsMatchIfTable, IsUnequalIfRefused, IsJudged, Judges, Decides, asked_check, TellsLine, PutsText, WritesPart, graphs_of};
 
 use crate::files::{File, Stop, read_file};
 use crate::info::inform;
+use crate::matching::find;
 use crate::netlists::read_netlist;
 use crate::outcome::{Outcome, Which};
 use crate::report::{report_line, report_named};
@@ -39,13 +42,18 @@ pub struct Ending {
 /// Runs the program on the words of its command line: reads the files that they name, decides, and puts one
 /// report. It knows these words, where each netlist is in BLIF or in the AIGER format:
 ///
+/// - `match FIRST SECOND ACCOUNT [BUDGET [SEED]]`: FIRST and SECOND are netlists, of which a match is sought: a port
+///   table under which all outputs agree on every vector. ACCOUNT is written, the proof of the table or that there is
+///   none; its name is neither of the others. At most BUDGET clauses are learned, by default 1,000,000,000; SEED, by
+///   default 1, chooses the vectors that are simulated.
 /// - `check FIRST SECOND ACCOUNT`: FIRST and SECOND are netlists, and ACCOUNT is a text that claims a port table and
 ///   proves, by refutations, that it is a match of the two, or that proves by exclusions that no port table is one.
-/// - `info FILE [BUDGET]`: FILE is a netlist. Its supports, unateness and symmetries are decided; at most BUDGET clauses
-///   are learned for that, by default 1,000,000,000.
+/// - `info FILE [BUDGET]`: FILE is a netlist. Its supports, unateness and symmetries are decided; at most BUDGET
+///   clauses are learned for that, by default 1,000,000,000.
 ///
 /// The files are opened in this order, each read and closed before the next. A netlist of more than 67,108,864
-/// bytes is closed unread.
+/// bytes is closed unread. The account of a match is written once its answer is known: its lines in pieces of 65,536
+/// bytes, and its last line by itself. After a failure no further call of the shelf is made.
 pub fn run<S: Shelf, K: Sink>(
     alloc: Global,
     words: &[String],
@@ -53,6 +61,27 @@ pub fn run<S: Shelf, K: Sink>(
     out: &mut K,
 ) -> Outcome
     requires { (S.state shelf.old).mode ≡ Closed }
+
+    // A table is found only where it is a match of the two files' netlists, and the account that is held afterwards
+    // proves it: a check by the same names accepts it.
+    ensures matched { IsTrue S.tells → (table : Table) → result ≡ Outcome.Matched table
+        → IsMatchFound (S.state shelf.old).held (map string_bytes words.now) table }
+    ensures matched_account { IsTrue S.tells → (table : Table) → result ≡ Outcome.Matched table
+        → IsProved (S.state shelf.new).held (map string_bytes words.now) (Verdict.Match table) }
+
+    // There is said to be no match exactly where no signed bijections make the two netlists equal, unless the budget
+    // was spent, or a fault or want of memory came; and the account that is held afterwards proves it.
+    ensures no_matching { IsTrue S.tells → IsSettled result
+        → ((result ≡ Outcome.NoMatching)
+        ↔ HasNoMatch (S.state shelf.old).held (map string_bytes words.now)) }
+    ensures no_matching_account { IsTrue S.tells → result ≡ Outcome.NoMatching
+        → IsProved (S.state shelf.new).held (map string_bytes words.now) Verdict.None }
+
+    // Where a match of two netlists is sought and no fault and no want of memory came, one of the two is answered, or
+    // the budget was spent.
+    ensures answered { IsTrue S.tells → IsDecided result
+        → IsAskedToMatch (S.state shelf.old).held (map string_bytes words.now)
+        → IsOfMatch result }
 
     // Where no fault and no want of memory came between, the words and the files decide the outcome.
     ensures accepted { IsTrue S.tells → IsDecided result → (table : Table)
@@ -84,26 +113,37 @@ pub fn run<S: Shelf, K: Sink>(
     ensures sound_refusal { IsTrue S.tells → result ≡ Outcome.AcceptedRefusal
         → LacksMatch (S.state shelf.old).held (map string_bytes words.now) }
 
-    // What is known of a netlist is reported where no budget was spent, and by rows that are right for its circuit.
-    ensures of_one { IsTrue S.tells → IsDecided result
-        → (IsOfOne result ↔ IsAskedOf (S.state shelf.old).held (map string_bytes words.now)) }
+    // What is known of a netlist is reported where no budget was spent, and by rows that are right for its circuit. A
+    // budget is spent by work on the netlists that the words name.
+    ensures informed { IsTrue S.tells → IsSettled result
+        → ((result ≡ Outcome.Informed)
+        ↔ IsAskedOf (S.state shelf.old).held (map string_bytes words.now)) }
     ensures spent { IsTrue S.tells → (ledger : Ledgered) → result ≡ Outcome.Spent ledger
-        → IsSpentOn (S.state shelf.old).held (map string_bytes words.now) ledger }
+        → IsSpentOn (S.state shelf.old).held (map string_bytes words.now) ledger
+        ⊎ IsSpentOnTwo (S.state shelf.old).held (map string_bytes words.now) ledger }
 
     // Words of no known form are answered so, and make no call of the shelf.
     ensures usage { IsTold result
         → ((result ≡ Outcome.Usage) ↔ AskNothing (map string_bytes words.now)) }
     ensures no_call { AskNothing (map string_bytes words.now) → shelf.new ≡ shelf.old }
 
-    // A fault has its cause outside, in this call.
+    // A fault has its cause outside, in this call: the output, or for a match the shelf.
     ensures read_fault { result ≡ Outcome.ReadFault
         → Rose (S.state shelf.old).faults (S.state shelf.new).faults }
     ensures write_fault { result ≡ Outcome.WriteFault
-        → Rose (K.state out.old).faults (K.state out.new).faults }
+        → Rose (K.state out.old).faults (K.state out.new).faults
+        ⊎ ((sought : Sought) × AsksMatch (map string_bytes words.now) sought
+        × Rose (S.state shelf.old).faults (S.state shelf.new).faults) }
 
-    // No file changes.
+    // No file changes but the account of a match, and that one only where there is an answer. A failed write or want of
+    // memory may leave a first part of an account that is accepted.
     ensures files { IsTrue S.tells → (name : List ℕ)
+        → (NamesAccount (map string_bytes words.now) name → ⊥)
         → (S.state shelf.new).held name ≡ (S.state shelf.old).held name }
+    ensures kept { IsTrue S.tells → LeavesFiles result → (name : List ℕ)
+        → (S.state shelf.new).held name ≡ (S.state shelf.old).held name }
+    ensures cut { IsTrue S.tells → (result ≡ Outcome.WriteFault) ⊎ (result ≡ Outcome.Memory)
+        → MayBeCut (S.state shelf.old).held (S.state shelf.new).held (map string_bytes words.now) }
 
     // The report is put whole, or after a failed write or want of memory a first part of a right one.
     ensures report { IsTrue K.tells → IsTold result
@@ -130,11 +170,16 @@ fn answer<S: Shelf>(alloc: Global, words: &[String], shelf: &mut S) -> Ending
     ensures report { (result.outcome ≡ Outcome.Memory)
         ⊎ IsReport S.tells (S.state shelf.old).held (map string_bytes words.now)
         result.outcome result.report.items }
-    ensures files { (name : List ℕ)
+    ensures files { IsTrue S.tells → (name : List ℕ)
+        → (NamesAccount (map string_bytes words.now) name → ⊥)
         → (S.state shelf.new).held name ≡ (S.state shelf.old).held name }
+    ensures left { IsTrue S.tells
+        → Leaves (S.state shelf.old).held (S.state shelf.new).held (map string_bytes words.now) result.outcome }
     ensures read_fault { result.outcome ≡ Outcome.ReadFault
         → Rose (S.state shelf.old).faults (S.state shelf.new).faults }
-    ensures no_write_fault { result.outcome ≢ Outcome.WriteFault }
+    ensures write_fault { result.outcome ≡ Outcome.WriteFault
+        → (sought : Sought) × AsksMatch (map string_bytes words.now) sought
+        × Rose (S.state shelf.old).faults (S.state shelf.new).faults }
     ensures usage { result.outcome ≡ Outcome.Usage → AskNothing (map string_bytes words.now) }
     ensures no_form { AskNothing (map string_bytes words.now)
         → (shelf.new ≡ shelf.old) × ((result.outcome ≡ Outcome.Usage) ⊎ (result.outcome ≡ Outcome.Memory)) }
@@ -155,6 +200,7 @@ fn follow<S: Shelf>(alloc: Global, command: &Command<'_>, shelf: &mut S) -> Resu
 {
     match command {
         Command::Check(check) => decide(alloc, check, shelf),
+        Command::Match(asked) => find(alloc, asked, shelf),
         Command::Info(info) => inform(alloc, info, shelf),
     }
 }
@@ -223,7 +269,7 @@ pub(crate) fn copy_graphs(
 /// What the bytes of an account say of two circuits.
 fn settle(alloc: Global, graphs: &Graphs, account: &[u8]) -> Result<Outcome, Stop>
     ensures verdict { IfOk result (IsVerdict graphs.now (Some account.now)) }
-    ensures matches { IfOk result (IsMatchIfAccepted graphs.now.first graphs.now.second) }
+    ensures matches { IfOk result (IsMatchIfTable graphs.now.first graphs.now.second) }
     ensures refuses { IfOk result (IsUnequalIfRefused graphs.now.first graphs.now.second) }
     ensures judged { IfOk result IsJudged }
     ensures no_fault { result ≢ Err Stop.ReadFault }
@@ -236,9 +282,8 @@ fn settle(alloc: Global, graphs: &Graphs, account: &[u8]) -> Result<Outcome, Sto
     }
 }
 
-/// Puts the report of an ending, and answers how the run ends with that.
+/// Puts the report of an ending, and answers how the run ends with that. After a failed write of a file nothing is put.
 fn tell<K: Sink>(ending: Ending, out: &mut K) -> Outcome
-    requires { ending.outcome ≢ Outcome.WriteFault }
     ensures report { IsTrue K.tells → IsTold result
         → (K.state out.new).written ≡ (K.state out.old).written ++ ending.report.items }
     ensures part { IsTrue K.tells
@@ -247,13 +292,14 @@ fn tell<K: Sink>(ending: Ending, out: &mut K) -> Outcome
         ⊎ WritesPart (K.state out.old) (K.state out.new) (line_of Outcome.Memory) }
     ensures same { IsTold result → result ≡ ending.outcome }
     ensures write_fault { result ≡ Outcome.WriteFault
-        → Rose (K.state out.old).faults (K.state out.new).faults }
+        → (ending.outcome ≡ Outcome.WriteFault) ⊎ Rose (K.state out.old).faults (K.state out.new).faults }
 {
     let Ending { outcome, report } = ending;
-    if let Outcome::Memory = outcome {
-        return put(OUT_OF_MEMORY, outcome, out);
+    match outcome {
+        Outcome::WriteFault => Outcome::WriteFault,
+        Outcome::Memory => put(OUT_OF_MEMORY, Outcome::Memory, out),
+        outcome => put(&report, outcome, out),
     }
-    put(&report, outcome, out)
 }
 
 /// Puts a text that is the report of an outcome.

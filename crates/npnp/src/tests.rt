@@ -1,5 +1,7 @@
 //! Runs over files in memory, with what they print and how they end.
 
+mod faults;
+mod matches;
 mod refusals;
 
 ghost use Rattle.std.specs.Prelude.{◌≡◌, true, false, List, None, [], cond};
@@ -296,7 +298,7 @@ fn reads_both_formats(rt: HostRuntime) -> Result<(), Fail> {
 fn names_what_is_missing(rt: HostRuntime) -> Result<(), Fail> {
     let rows: [(&[&str], u8, &[u8]); 8] = [
         (&[], 4, b"usage\n"),
-        (&["match", "A", "B", "t"], 4, b"usage\n"),
+        (&["match", "A", "B", "B"], 4, b"usage\n"),
         (&["check", "A", "B"], 4, b"usage\n"),
         (&["check", "A", "B", "t", "t"], 4, b"usage\n"),
         (&["check", "", "B", "t"], 4, b"usage\n"),

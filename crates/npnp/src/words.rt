@@ -1,13 +1,16 @@
 //! The words of the command line.
 
-ghost use Rattle.std.specs.Prelude.{◌≡◌, ◌≢◌, ◌⊎◌, ℕ, [], List, map, IfSome, IfNone, string_bytes};
-ghost use Rattle.npnp.specs.Steps.{Ask};
-ghost use Rattle.npnp.specs.Words.{AskNothing, AsksCheck, AsksInfo, IsNumber};
+ghost use Rattle.std.specs.Prelude.{◌≡◌, ◌≢◌, ◌⊎◌, ℕ, [], ◌↔◌, IsTrue, List, map, IfSome, IfNone, string_bytes};
+ghost use Rattle.npnp.specs.Steps.{Ask, sought_by};
+ghost use Rattle.npnp.specs.Words.{AreBudgetAndSeed, AreNames, AskNothing, AsksCheck, AsksInfo, AsksMatch, IsNumber, Sought};
 
 use text_core::{Cursor, decimal};
 
-/// The budget of `info` where the words give none.
+/// The budget of `match` and `info` where the words give none.
 const DEFAULT_BUDGET: u64 = 1_000_000_000;
+
+/// The seed of `match` where the words give none.
+const DEFAULT_SEED: u64 = 1;
 
 /// The most digits that a number on the command line has.
 const MOST_DIGITS: usize = 20;
@@ -21,6 +24,21 @@ pub struct Check<'a> {
     pub second: &'a str,
     /// The account: a port table, and the proof that it is a match.
     pub account: &'a str,
+}
+
+/// The netlists of which a match is sought.
+#[derive(Clone, Copy, Debug)]
+pub struct Match<'a> {
+    /// The first netlist.
+    pub first: &'a str,
+    /// The second netlist.
+    pub second: &'a str,
+    /// The account that is written: the proof of the answer.
+    pub account: &'a str,
+    /// How many clauses may be learned.
+    pub budget: u64,
+    /// The number that the vectors are drawn from.
+    pub seed: u64,
 }
 
 /// The file of which is asked what is known.
@@ -37,6 +55,8 @@ pub struct Info<'a> {
 pub enum Command<'a> {
     /// Whether an account proves that two netlists match.
     Check(Check<'a>),
+    /// A match of two netlists, or that there is none.
+    Match(Match<'a>),
     /// What each output of a netlist depends on, and how.
     Info(Info<'a>),
 }
@@ -46,8 +66,11 @@ pub fn command_asked(words: &[String]) -> Option<Command<'_>>
     ensures asked { IfSome result (Ask (map string_bytes words.now)) }
     ensures not_asked { IfNone result (AskNothing (map string_bytes words.now)) }
 {
-    match check_asked(words) {
-        Some(check) => Some(Command::Check(check)),
+    if let Some(check) = check_asked(words) {
+        return Some(Command::Check(check));
+    }
+    match match_asked(words) {
+        Some(asked) => Some(Command::Match(asked)),
         None => Some(Command::Info(info_asked(words)?)),
     }
 }
@@ -73,6 +96,75 @@ fn check_asked(words: &[String]) -> Option<Check<'_>>
                 account,
             })
         }
+        _ => None,
+    }
+}
+
+/// The match that the words ask for: `match`, three names, and perhaps a budget, and behind it perhaps a seed.
+fn match_asked(words: &[String]) -> Option<Match<'_>>
+    ensures asked { IfSome result (λ asked. AsksMatch (map string_bytes words.now) (sought_by asked)) }
+    ensures not_asked { IfNone result
+        ((sought : Sought) → AsksMatch (map string_bytes words.now) sought → ⊥) }
+{
+    match words {
+        [command, first, second, account, numbers @ ..] if command.as_str() == "match" => {
+            match_of(first.as_str(), second.as_str(), account.as_str(), numbers)
+        }
+        _ => None,
+    }
+}
+
+/// The match that three names and the words behind them ask for.
+fn match_of<'a>(
+    first: &'a str,
+    second: &'a str,
+    account: &'a str,
+    numbers: &[String],
+) -> Option<Match<'a>>
+    ensures names { IfSome result (λ asked. (asked.first.now ≡ first.now)
+        × (asked.second.now ≡ second.now)
+        × (asked.account.now ≡ account.now)) }
+    ensures apart { IfSome result (λ asked. AreNames first.now second.now account.now) }
+    ensures numbers { IfSome result (λ asked. AreBudgetAndSeed (map string_bytes numbers.now) asked.budget asked.seed) }
+    ensures none { IfNone result ((budget seed : ℕ)
+        → AreNames first.now second.now account.now
+        → AreBudgetAndSeed (map string_bytes numbers.now) budget seed
+        → ⊥) }
+{
+    if !are_names(first, second, account) {
+        return None;
+    }
+    let (budget, seed) = budget_and_seed(numbers)?;
+    Some(Match {
+        first,
+        second,
+        account,
+        budget,
+        seed,
+    })
+}
+
+/// Whether three names aren't empty, and the last one is neither of the others.
+fn are_names(first: &str, second: &str, account: &str) -> bool
+    ensures { IsTrue result ↔ AreNames first.now second.now account.now }
+{
+    !(first.is_empty()
+        | second.is_empty()
+        | account.is_empty()
+        | (account == first)
+        | (account == second))
+}
+
+/// A budget and a seed, as the words give them, or the default ones.
+fn budget_and_seed(words: &[String]) -> Option<(u64, u64)>
+    ensures some { IfSome result (λ numbers. AreBudgetAndSeed (map string_bytes words.now) numbers.0 numbers.1) }
+    ensures none { IfNone result ((budget seed : ℕ)
+        → AreBudgetAndSeed (map string_bytes words.now) budget seed → ⊥) }
+{
+    match words {
+        [] => Some((DEFAULT_BUDGET, DEFAULT_SEED)),
+        [budget] => Some((number_of(budget.as_str())?, DEFAULT_SEED)),
+        [budget, seed] => Some((number_of(budget.as_str())?, number_of(seed.as_str())?)),
         _ => None,
     }
 }

@@ -1,8 +1,9 @@
 -- The book knows nothing and the ledger is empty; rows are reported, or the budget was spent.
-use Rattle.std.proofs.Common.{ap, sym, subst}
+use Rattle.std.proofs.Common.{inl, ap, refl, sym, subst}
 use Rattle.net_core.specs.declared.graphs.Graphs.{Graphs}
 use Rattle.account_core.specs.Oracles.{IsStopped}
 use Rattle.fact_tests.specs.Rows.{AreRows}
+use Rattle.npnp.specs.Info.{with_itself}
 use Rattle.npnp.proofs.InfoLemmas.{informed_is, spent_is, suits_first}
 use Rattle.npnp.proofs.info.inform_of.Goals as goal
 
@@ -19,6 +20,10 @@ returns-in-Ok c =
 pub returns-in-Err-Spent : goal.returns-in-Err-Spent
 returns-in-Err-Spent c = record {
   rows = tt;
-  stopped = spent_is c.args.named.now.graph c.in_ok-graphs.graphs c.in_ok-book.book c.new-ledger.result c.info.new.ledger c.args.budget c.in-Err-Spent.field-0-0 c.in_ok-graphs.ensures c.in_ok-book.ensures.empty c.new-ledger.ensures
-      (subst (IsStopped c.in_ok-book.book c.new-ledger.result c.info.new.ledger) c.in-Err-Spent.field-0-is c.in-Err-Spent.ensures.serves.stopped);
+  stopped = inl (
+    c.info.new.ledger,
+    refl,
+    spent_is (with_itself c.args.named.now.graph) c.in_ok-graphs.graphs c.in_ok-book.book c.new-ledger.result c.info.new.ledger c.args.budget c.in-Err-Spent.field-0-0 c.in_ok-graphs.ensures c.in_ok-book.ensures.empty c.new-ledger.ensures
+        (subst (IsStopped c.in_ok-book.book c.new-ledger.result c.info.new.ledger) c.in-Err-Spent.field-0-is c.in-Err-Spent.ensures.serves.stopped),
+  );
 }

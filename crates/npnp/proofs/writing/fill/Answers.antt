@@ -1,0 +1,12 @@
+-- The lines were written, and the last one behind them.
+use Rattle.std.proofs.lemmas.Result.{err_from_is_err_and}
+use Rattle.npnp.proofs.WritingLemmas.{filled, not_filled}
+use Rattle.npnp.proofs.writing.fill.Goals as goal
+
+pub returns-in_err-append_pieces : goal.returns-in_err-append_pieces
+returns-in_err-append_pieces g c =
+    let p = err_from_is_err_and c.from_residual.result c.from_residual.ensures.1 in
+    not_filled _ _ _ _ _ c.in_err-append_pieces.field-0.0 _ (cc (p.1, p.2)) c.in_err-append_pieces.ensures
+
+pub returns : goal.returns
+returns g c = filled _ _ _ _ _ _ _ c.in_ok-append_pieces.ensures c.append.ensures

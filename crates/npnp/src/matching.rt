@@ -1,0 +1,211 @@
+//! A match of two netlists, sought and proved.
+
+ghost use Rattle.std.specs.Prelude.{◌≡◌, ◌++◌, ◌↔◌, IfOk, IsTrue, OnErr, map};
+ghost use Rattle.account_core.specs.Given.{decided_by};
+ghost use Rattle.account_core.specs.Oracles.{AreFacts};
+ghost use Rattle.account_core.specs.Ports.{HaveAsMany};
+ghost use Rattle.account_core.specs.Steps.{AreValidBans};
+ghost use Rattle.match_search.specs.Founds.{IsEmptyBan, IsFound, IsShownMatch};
+ghost use Rattle.shelf_core.specs.State.{Closed};
+ghost use Rattle.npnp.specs.Stops.{unwritten};
+ghost use Rattle.npnp.specs.Steps.{Concludes, Decides, Finds, IsAnswered, Solves, asked_match, last_line};
+
+use crate::netlists::read_netlist;
+use crate::outcome::{Outcome, Which};
+use crate::report::report_named;
+use crate::run::{Ending, copy_graphs};
+use crate::words::Match;
+use crate::writing::write_account;
+use account_core::{Ban, Fact, Oracle};
+use account_write::{put_match, put_none_ports, put_refusal};
+use ban_book::BanBook;
+use cnf_core::{Log, Stop};
+use fact_tests::FactBook;
+use match_search::{Found, search};
+use net_core::{Graphs, Matching, Named};
+use query_core::Ledger;
+use shelf_core::{Shelf, ShelfStop};
+use std::alloc::{AllocError, Global};
+
+/// What came of a search, and the account that proves it.
+#[derive(Debug, Drop)]
+pub struct Solved {
+    pub outcome: Outcome,
+    /// The account's lines up to the last one.
+    pub account: Vec<u8>,
+}
+
+/// Looks for a match of the two netlists that the words name, and writes the account of the answer. The error is an
+/// outcome whose report is one line: a file is no netlist, the budget was spent, or there was a fault.
+pub fn find<S: Shelf>(alloc: Global, asked: &Match<'_>, shelf: &mut S) -> Result<Ending, Outcome>
+    requires { (S.state shelf.old).mode ≡ Closed }
+    ensures { Decides S.tells (asked_match asked.now) (S.state shelf.old) (S.state shelf.new) result }
+{
+    let first = read_netlist(alloc, shelf, Which::First, asked.first)?;
+    let second = read_netlist(alloc, shelf, Which::Second, asked.second)?;
+    find_of(alloc, asked, &first, &second, shelf)
+}
+
+/// Looks for a match of two netlists, and writes the account once it is whole.
+fn find_of<S: Shelf>(
+    alloc: Global,
+    asked: &Match<'_>,
+    first: &Named,
+    second: &Named,
+    shelf: &mut S,
+) -> Result<Ending, Outcome>
+    requires { (S.state shelf.old).mode ≡ Closed }
+    ensures { Finds S.tells first.now second.now asked.now.account.now asked.now.budget
+        (S.state shelf.old) (S.state shelf.new) result }
+{
+    let graphs = copy_graphs(alloc, first, second)?;
+    let solved = solve(alloc, asked, &graphs)?;
+    let report = report_named(alloc, first, second, &solved.outcome)?;
+    let Solved { outcome, account } = solved;
+    conclude(shelf, asked.account, &account, Ending { outcome, report })
+}
+
+/// Writes an account, and ends the run by its answer where it was written.
+fn conclude<S: Shelf>(
+    shelf: &mut S,
+    name: &str,
+    account: &[u8],
+    ending: Ending,
+) -> Result<Ending, Outcome>
+    requires { (S.state shelf.old).mode ≡ Closed }
+    ensures { Concludes S.tells name.now (account.now ++ last_line) ending
+        (S.state shelf.old) (S.state shelf.new) result }
+{
+    match write_account(shelf, name, account) {
+        Ok(()) => Ok(ending),
+        Err(stop) => Err(unwritten(stop)),
+    }
+}
+
+/// What a refusal of a write ends the run with.
+fn unwritten(stop: ShelfStop) -> Outcome
+    ensures { result ≡ unwritten stop }
+{
+    match stop {
+        ShelfStop::Failed => Outcome::WriteFault,
+        ShelfStop::Memory => Outcome::Memory,
+    }
+}
+
+/// Looks for a match of two graphs. Where they have other numbers of ports there is nothing to search.
+fn solve(alloc: Global, asked: &Match<'_>, graphs: &Graphs) -> Result<Solved, Outcome>
+    ensures { Solves graphs.now asked.now.budget result }
+{
+    if have_as_many_ports(graphs) {
+        solve_by_search(alloc, graphs, asked.seed, asked.budget)
+    } else {
+        Ok(other_ports(alloc, graphs)?)
+    }
+}
+
+/// Whether two graphs have as many inputs, and as many outputs.
+fn have_as_many_ports(graphs: &Graphs) -> bool
+    ensures { IsTrue result ↔ HaveAsMany graphs.now.first graphs.now.second }
+{
+    (graphs.first.inputs() == graphs.second.inputs())
+        & (graphs.first.outputs().len() == graphs.second.outputs().len())
+}
+
+/// Searches two graphs with as many ports, with at most `budget` learned clauses.
+fn solve_by_search(
+    alloc: Global,
+    graphs: &Graphs,
+    seed: u64,
+    budget: u64,
+) -> Result<Solved, Outcome>
+    requires { HaveAsMany graphs.now.first graphs.now.second }
+    ensures { Solves graphs.now budget result }
+{
+    let mut book = FactBook::new(alloc, graphs, seed)?;
+    let mut bans = BanBook::new(alloc);
+    let mut ledger = Ledger::new(alloc, budget);
+    match search(alloc, graphs, &mut book, &mut bans, &mut ledger) {
+        Ok(found) => Ok(answered(alloc, graphs, found, book.facts(), bans.bans())?),
+        Err(Stop::Spent(_)) => Err(Outcome::Spent(ledger)),
+        Err(Stop::Memory) => Err(Outcome::Memory),
+    }
+}
+
+/// The answer that a search came to by facts and bans, with its account.
+fn answered(
+    alloc: Global,
+    graphs: &Graphs,
+    found: Found,
+    facts: &[Fact],
+    bans: &[Ban],
+) -> Result<Solved, AllocError>
+    requires ports { HaveAsMany graphs.now.first graphs.now.second }
+    requires facts { AreFacts graphs.now facts.now }
+    requires bans { AreValidBans graphs.now (map decided_by facts.now) bans.now }
+    requires found { IsFound graphs.now bans.now found }
+    ensures { IfOk result (λ solved. IsAnswered graphs.now (solved.account.items ++ last_line) solved.outcome) }
+{
+    match found {
+        Found::Match(matching, logs) => matched(alloc, graphs, matching, &logs),
+        Found::None(ban) => refused(alloc, graphs, facts, bans, ban),
+    }
+}
+
+/// The answer that a port table is a match, with its account.
+fn matched(
+    alloc: Global,
+    graphs: &Graphs,
+    matching: Matching,
+    logs: &[Log],
+) -> Result<Solved, AllocError>
+    requires { IsShownMatch graphs.now matching logs.now }
+    ensures { IfOk result (λ solved. IsAnswered graphs.now (solved.account.items ++ last_line) solved.outcome) }
+{
+    // a graph's ports are numbers of 32 bits
+    let _inputs = graphs.first.inputs();
+    let mut account = Vec::new(alloc);
+    put_match(alloc, &matching, logs, &mut account)?;
+    Ok(Solved {
+        outcome: Outcome::Matched(matching),
+        account,
+    })
+}
+
+/// The answer that there is no match, by a ban without pairs, with its account.
+fn refused(
+    alloc: Global,
+    graphs: &Graphs,
+    facts: &[Fact],
+    bans: &[Ban],
+    number: u64,
+) -> Result<Solved, AllocError>
+    requires ports { HaveAsMany graphs.now.first graphs.now.second }
+    requires facts { AreFacts graphs.now facts.now }
+    requires bans { AreValidBans graphs.now (map decided_by facts.now) bans.now }
+    requires empty { IsEmptyBan bans.now number }
+    ensures { IfOk result (λ solved. IsAnswered graphs.now (solved.account.items ++ last_line) solved.outcome) }
+{
+    let _first = graphs.first.inputs();
+    let _second = graphs.second.inputs();
+    let mut account = Vec::new(alloc);
+    put_refusal(facts, bans, number, &mut account)?;
+    Ok(Solved {
+        outcome: Outcome::NoMatching,
+        account,
+    })
+}
+
+/// The answer that there is no match, since the graphs have other numbers of ports, with its account.
+fn other_ports(alloc: Global, graphs: &Graphs) -> Result<Solved, AllocError>
+    requires { HaveAsMany graphs.now.first graphs.now.second → ⊥ }
+    ensures { IfOk result (λ solved. IsAnswered graphs.now (solved.account.items ++ last_line) solved.outcome) }
+{
+    let _first = graphs.first.inputs();
+    let _second = graphs.second.inputs();
+    let mut account = Vec::new(alloc);
+    put_none_ports(&mut account)?;
+    Ok(Solved {
+        outcome: Outcome::NoMatching,
+        account,
+    })
+}
