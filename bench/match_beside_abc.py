@@ -5,10 +5,10 @@
 import itertools
 import os
 import random
+import resource
 import subprocess
 import sys
 import tempfile
-import time
 from account_of import in_order
 
 RESYNTHESIZE = "balance; rewrite; refactor; balance; rewrite; rewrite -z; balance; refactor -z; rewrite -z; balance"
@@ -58,13 +58,15 @@ def tool(*command):
 
 
 def timed(limit, *command):
-    """What a command printed, its status, and its seconds; no status past the limit."""
-    start = time.perf_counter()
+    """What a command printed, its status, and the processor seconds that it took; no status past the limit."""
+    before = resource.getrusage(resource.RUSAGE_CHILDREN)
     try:
         ran = subprocess.run(command, capture_output=True, text=True, timeout=limit)
-        return ran.stdout, ran.returncode, time.perf_counter() - start
+        printed, status = ran.stdout, ran.returncode
     except subprocess.TimeoutExpired:
-        return "", None, time.perf_counter() - start
+        printed, status = "", None
+    after = resource.getrusage(resource.RUSAGE_CHILDREN)
+    return printed, status, after.ru_utime + after.ru_stime - before.ru_utime - before.ru_stime
 
 
 def put(net, path):
@@ -139,7 +141,7 @@ class Bench:
     def __init__(self, npnp, limit, seed, folder):
         self.npnp, self.limit, self.rng, self.folder = npnp, limit, random.Random(seed), folder
         self.failed = False
-        self.late = self.answered = 0
+        self.late = self.answered = self.longer = 0
 
     def path(self, name):
         return os.path.join(self.folder, name)
@@ -190,13 +192,10 @@ class Bench:
         for side in ("left", "right"):
             tool("berkeley-abc", "-q", f"read {self.path(side + '.aig')}; write_blif {self.path(side + '.blif')}")
         script = f"bm {self.path('left.blif')} {self.path('right.blif')}"
-        start = time.perf_counter()
-        try:
-            ran = subprocess.run(("berkeley-abc", "-q", script), capture_output=True, text=True, timeout=self.limit, cwd=self.folder)
-        except subprocess.TimeoutExpired:
-            return "late"
-        said = "failed" if ran.returncode else "none" if "NOT equivalent" in ran.stdout else "found"
-        return f"{time.perf_counter() - start:.2f} {said}"
+        os.chdir(self.folder)  # it writes a file where it is called
+        printed, status, seconds = timed(self.limit, "berkeley-abc", "-q", script)
+        said = "late" if status is None else "failed" if status else "none" if "NOT equivalent" in printed else "found"
+        return f"{seconds:.2f} {said}"
 
     def row(self, name, kind, first, second, known):
         put(first, self.path("first.aag"))
@@ -215,10 +214,11 @@ class Bench:
             wanted = "accepted match\n" + report.split("\n", 1)[1] if status == 0 else "accepted refusal\n"
             if checked_status != status or accepted != wanted:
                 said = self.fail(f"the account: {accepted.strip()}")
-            checked, size = f"{check_seconds:.2f}", str(os.path.getsize(account))
+            checked, size = f"{check_seconds:.3f}", str(os.path.getsize(account))
+            self.longer += check_seconds > seconds
         beside = self.bm(first, second) if kind == "permuted" else ""
         ports = f"{first[0]}/{len(first[2])}"
-        print(f"{name:<12}{kind:<10}{ports:>7}{len(first[1]):>7}{said:>12}{seconds:>9.2f}{checked:>8}{size:>10}{beside:>14}", flush=True)
+        print(f"{name:<12}{kind:<10}{ports:>7}{len(first[1]):>7}{said:>12}{seconds:>9.3f}{checked:>8}{size:>10}{beside:>14}", flush=True)
 
     def pairs(self, name):
         first, again = self.made(name)
@@ -258,7 +258,7 @@ def main():
         bench = Bench(npnp, limit, seed, folder)
         for name in names:
             bench.pairs(name)
-        print(f"{bench.answered} answered, {bench.late} not within {limit:g} seconds or the budget")
+        print(f"{bench.answered} answered, {bench.late} not within {limit:g} seconds or the budget; check took longer than match {bench.longer} times")
         sys.exit(bench.failed)
 
 
