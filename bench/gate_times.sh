@@ -6,7 +6,7 @@
 set -u
 cd "$(dirname "${BASH_SOURCE[0]}")/.." || exit 1
 exec python3 - "$@" <<'PYTHON'
-import collections, os, re, subprocess, sys, threading, time
+import collections, os, signal, subprocess, sys, time
 
 ticks = os.sysconf("SC_CLK_TCK")
 seen = {}  # process: (crate, what), seconds so far
@@ -35,6 +35,8 @@ def look():
 
 
 gate = subprocess.Popen(["rt", "ci", *sys.argv[1:]], stdin=subprocess.DEVNULL)
+for it in (signal.SIGINT, signal.SIGTERM):
+    signal.signal(it, lambda *_: gate.terminate())  # what was seen until then is printed
 begun = time.time()
 while gate.poll() is None:
     look()

@@ -66,6 +66,9 @@ wants 1 'no matching' match and.blif xor.blif made.account
 wants 1 'accepted refusal' check and.blif xor.blif made.account
 wants 1 'no matching' match and.blif c17.blif made.account
 wants 1 'accepted refusal' check and.blif c17.blif made.account
+{ echo 'aag 1024 1024 0 0 0'; seq 2 2 2048; } >wide.aag
+wants 0 'matched' match wide.aag wide.aag made.account 0
+wants 0 'accepted match' check wide.aag wide.aag made.account
 wants 3 'spent 0' match a.aag b.aag unwritten.account 0
 wants 5 'absent second' match a.aag absent.aag unwritten.account
 wants 5 'absent account' check a.aag b.aag unwritten.account
