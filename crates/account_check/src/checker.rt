@@ -129,7 +129,7 @@ impl<'a> Checker<'a> {
     {
         match entry {
             Record::Header => {
-                self.stage = Stage::Begun;
+                go_to(&mut self.stage, Stage::Begun);
                 Ok(())
             }
             Record::Fact(head) => self.fact(alloc, head),
@@ -186,7 +186,8 @@ impl<'a> Checker<'a> {
         if let Some(reject) = test_holds(self.graphs, claim) {
             return Err(RecordStop::Reject(reject));
         }
-        self.stage = Stage::Showing(FactLog::new(alloc, self.graphs, claim)?);
+        let log = FactLog::new(alloc, self.graphs, claim)?;
+        go_to(&mut self.stage, Stage::Showing(log));
         Ok(())
     }
 
@@ -225,7 +226,7 @@ impl<'a> Checker<'a> {
             self.given.forget_fact();
             return Err(stop);
         }
-        self.stage = Stage::Begun;
+        go_to(&mut self.stage, Stage::Begun);
         Ok(())
     }
 
@@ -289,7 +290,7 @@ impl<'a> Checker<'a> {
         if let Some(reject) = test_ports(self.graphs) {
             return Err(RecordStop::Reject(reject));
         }
-        self.stage = Stage::Refusing;
+        go_to(&mut self.stage, Stage::Refusing);
         Ok(())
     }
 
@@ -305,7 +306,7 @@ impl<'a> Checker<'a> {
         if let Some(reject) = test_empty_ban(self.graphs, &self.given, ban) {
             return Err(RecordStop::Reject(reject));
         }
-        self.stage = Stage::Refusing;
+        go_to(&mut self.stage, Stage::Refusing);
         Ok(())
     }
 
@@ -319,7 +320,8 @@ impl<'a> Checker<'a> {
         ensures unchanged { OnErr result (self.new ≡ self.old) }
     {
         let matching = matching(alloc, self.graphs, pairs)?;
-        self.stage = Stage::Proving(Logs::new(alloc, self.graphs, matching)?);
+        let logs = Logs::new(alloc, self.graphs, matching)?;
+        go_to(&mut self.stage, Stage::Proving(logs));
         Ok(())
     }
 
@@ -329,11 +331,18 @@ impl<'a> Checker<'a> {
         ensures { self.new ≡ after self.old entry.End }
     {
         match mem::replace(&mut self.stage, Stage::Empty) {
-            Stage::Proving(logs) => self.stage = Stage::Proved(logs),
-            Stage::Refusing => self.stage = Stage::Refused,
+            Stage::Proving(logs) => go_to(&mut self.stage, Stage::Proved(logs)),
+            Stage::Refusing => go_to(&mut self.stage, Stage::Refused),
             _ => unreachable!(),
         }
     }
+}
+
+// Puts an account at another stage.
+fn go_to<'a>(stage: &mut Stage<'a>, next: Stage<'a>)
+    ensures { stage.new ≡ next.entry }
+{
+    *stage = next;
 }
 
 // An equal matching.
