@@ -1,6 +1,6 @@
 //! Calls of the outside that fail in turn while a match is sought.
 
-ghost use Rattle.std.specs.Prelude.{◌≡◌, IfOk};
+ghost use Rattle.std.specs.Prelude.{◌≡◌, ◌≤◌, IfOk};
 ghost use Rattle.shelf_core.specs.State.{Closed};
 
 use super::{A, B, EMPTY, words_of};
@@ -12,8 +12,14 @@ use std::test::Fail;
 /// No call has this number.
 const NEVER: u64 = u64::MAX;
 
-/// A shelf that holds two netlists, named `A` and `B`, and fails at the call of a number.
-fn failing_at(alloc: Global, files: [&[u8]; 2], number: u64) -> Result<MemShelf, AllocError>
+/// A shelf that holds two netlists, named `A` and `B`, reads so many bytes a call, and fails at the call of a number.
+fn failing_at(
+    alloc: Global,
+    files: [&[u8]; 2],
+    cut: usize,
+    number: u64,
+) -> Result<MemShelf, AllocError>
+    requires { 1 ≤ cut }
     ensures { IfOk result (λ shelf. (⟦<MemShelf as Shelf>⟧.state shelf).mode ≡ Closed) }
 {
     let [first, second] = files;
@@ -22,7 +28,7 @@ fn failing_at(alloc: Global, files: [&[u8]; 2], number: u64) -> Result<MemShelf,
     let mut held = Vec::new(alloc);
     held.push(first)?;
     held.push(second)?;
-    MemShelf::new(alloc, held, 64, vec![in alloc; number; 1]?)
+    MemShelf::new(alloc, held, cut, vec![in alloc; number; 1]?)
 }
 
 /// How a match ended, what it printed, and what it left under the account's name.
@@ -36,7 +42,20 @@ struct Ended {
 
 /// Seeks a match where the calls of these numbers fail, of the shelf and of the sink.
 fn seek(alloc: Global, files: [&[u8]; 2], call: u64, put: u64) -> Result<Ended, AllocError> {
-    let mut shelf = failing_at(alloc, files, call)?;
+    seek_by(alloc, files, 64, call, put)
+}
+
+/// The same, where a call reads so many bytes.
+fn seek_by(
+    alloc: Global,
+    files: [&[u8]; 2],
+    cut: usize,
+    call: u64,
+    put: u64,
+) -> Result<Ended, AllocError>
+    requires { 1 ≤ cut }
+{
+    let mut shelf = failing_at(alloc, files, cut, call)?;
     let mut sink = MemSink::new(alloc, vec![in alloc; put; 1]?);
     let words = words_of(alloc, &["match", "A", "B", "t"])?;
     let outcome = run(alloc, words.as_slice(), &mut shelf, &mut sink);
@@ -77,6 +96,40 @@ fn leaves_a_first_part_of_the_account(rt: HostRuntime) -> Result<(), Fail> {
         assert_eq!(rt; ended.account.as_deref(), *account);
         assert_eq!(rt; ended.calls, call + 1);
     }
+    Ok(())
+}
+
+/// What is printed where a call fails before the account is made: open, read and close of either netlist, and create.
+const BEFORE_THE_ACCOUNT: [&[u8]; 7] = [
+    b"read fault\n",
+    b"read fault\n",
+    b"read fault\n",
+    b"read fault\n",
+    b"read fault\n",
+    b"read fault\n",
+    b"",
+];
+
+#[test]
+fn leaves_no_account_that_was_not_made(rt: HostRuntime) -> Result<(), Fail> {
+    for (call, report) in BEFORE_THE_ACCOUNT.iter().enumerate() {
+        let call = call as u64;
+        let ended = seek(rt.alloc(), [A, B], call, NEVER)?;
+        assert_eq!(rt; ended.status, 6);
+        assert_eq!(rt; ended.report.as_slice(), *report);
+        assert_eq!(rt; ended.account.is_none(), true);
+        assert_eq!(rt; ended.calls, call + 1);
+    }
+    Ok(())
+}
+
+#[test]
+fn fails_at_the_third_read(rt: HostRuntime) -> Result<(), Fail> {
+    let ended = seek_by(rt.alloc(), [EMPTY, EMPTY], 5, 3, NEVER)?;
+    assert_eq!(rt; ended.status, 6);
+    assert_eq!(rt; ended.report.as_slice(), b"read fault\n".as_slice());
+    assert_eq!(rt; ended.account.is_none(), true);
+    assert_eq!(rt; ended.calls, 4);
     Ok(())
 }
 
