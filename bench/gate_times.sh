@@ -1,7 +1,7 @@
 #!/usr/bin/env bash
 # Runs the gate (`rt ci`, or what is given behind it) and prints, behind its output, the processor minutes that each crate
 # took: its proof, its tests' proof, its must-fail edits. Then the longest chain of crates, by the proofs' minutes. The gate
-# prints no times, so this looks every half second which provers run. What the gate kept from an earlier run takes none:
+# prints no times, so this looks every two seconds which provers run. What the gate kept from an earlier run takes none:
 # `bench/gate_times.sh --anew` proves all. Not part of the gate.
 set -u
 cd "$(dirname "${BASH_SOURCE[0]}")/.." || exit 1
@@ -40,7 +40,7 @@ for it in (signal.SIGINT, signal.SIGTERM):
 begun = time.time()
 while gate.poll() is None:
     look()
-    time.sleep(0.5)
+    time.sleep(2)
 minutes = collections.Counter()
 for (crate, what), seconds in seen.values():
     minutes[crate, what] += seconds / 60
