@@ -4,6 +4,7 @@ pub mod EqualLemmas
 pub mod WorkLemmas
 pub mod SupportLemmas
 pub mod StructureLemmas
+pub mod ReachLemmas
 pub mod ConeLemmas
 pub mod AskingLemmas
 pub mod BookLemmas

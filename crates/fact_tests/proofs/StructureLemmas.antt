@@ -46,11 +46,11 @@ or_true : (b c : Bool) → (b || c) ≡ true → (b ≡ true) ⊎ (c ≡ true)
 or_true true c is = inl refl
 or_true false c is = inr is
 
-or_left : (b c : Bool) → b ≡ true → (b || c) ≡ true
+pub or_left : (b c : Bool) → b ≡ true → (b || c) ≡ true
 or_left true c is = refl
 or_left false c is = absurd (false≢true is)
 
-or_right : (b c : Bool) → c ≡ true → (b || c) ≡ true
+pub or_right : (b c : Bool) → c ≡ true → (b || c) ≡ true
 or_right true c is = refl
 or_right false c is = is
 
@@ -182,7 +182,7 @@ same_feeds n k shape below apart =
     let same : slice_index_or left k d ≡ slice_index_or right k d = own_bit n k shape d apart ∙ sym (own_bit n k (opposite_shape shape) d (apart_opposite k shape apart)) in
     feeds_at left right k d (values_count n shape ∙ sym (values_count n (opposite_shape shape))) (omega (arith, below, values_count n shape)) ∙ (ap (λ f. not (same_feed f (slice_index_or right k d))) same ∙ ap not (same_self (slice_index_or right k d)))
 
-only_at : (n i k : ℕ) → k < n → k ≡ i → bit (only_input n i) k ≡ true
+pub only_at : (n i k : ℕ) → k < n → k ≡ i → bit (only_input n i) k ≡ true
 only_at n i k below is =
     get_or-map-range_with_len (λ j. eqb j i) 0 n k k false below (omega arith) ∙ eq-eqb k i is
 
@@ -221,7 +221,7 @@ feeds_covered n shape (suc k) is =
           ]
     ]
 
-length-only_input : (n i : ℕ) → length (only_input n i) ≡ n
+pub length-only_input : (n i : ℕ) → length (only_input n i) ≡ n
 length-only_input n i = length-map-range_with_len (λ k. eqb k i) 0 n
 
 outside_both : (net : Net) (k : ℕ) (shape : Shape) → IsOutside net k shape → (output_reaches net k (first_of shape) ≡ false) × (output_reaches net k (second_of shape) ≡ false)

@@ -6,6 +6,8 @@ ghost use Rattle.fact_tests.specs.Rows.{AreRows};
 
 use crate::book::FactBook;
 use crate::rows::rows_by;
+use crate::structure::Supports;
+use account_core::Oracle;
 use cnf_core::Stop;
 use net_core::Graphs;
 use port_report::OutputInfo;
@@ -13,7 +15,8 @@ use query_core::Ledger;
 use std::alloc::Global;
 
 /// Of each output of the first circuit the inputs that it depends on, and how, and the pairs of these inputs that may be
-/// exchanged. Each is decided by claims; of two swaps that make a symmetry the second is asked only where the first holds.
+/// exchanged. An output depends on no input that it doesn't reach through gates, and of these nothing is asked. The others
+/// are decided by claims; of two swaps that make a symmetry the second is asked only where the first holds.
 ///
 /// # Errors
 ///
@@ -30,5 +33,7 @@ pub fn info(
     ensures serves { Serves book.old book.new ledger.old ledger.new result }
     ensures rows { IfOk result (λ rows. AreRows graphs.now.first rows.items) }
 {
-    rows_by(alloc, graphs, book, ledger)
+    let _facts = book.facts();
+    let supports = Supports::new(alloc, &graphs.first)?;
+    rows_by(alloc, graphs, &supports, book, ledger)
 }

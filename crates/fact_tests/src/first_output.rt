@@ -1,11 +1,13 @@
-//! An output of the first of two circuits, and whether its claims hold.
+//! An output of the first of two circuits: which inputs it reaches, and whether its claims hold.
 
 ghost use Rattle.std.specs.Prelude.{◌≡◌, ◌<◌, IfOk, length};
 ghost use Rattle.std.specs.Bool.{Decides};
 ghost use Rattle.account_core.specs.Oracles.{Serves};
 ghost use Rattle.query_core.specs.Claims.{IsPlaced, ShapeHolds};
 ghost use Rattle.fact_tests.specs.Outputs.{MayAsk, is_for};
+ghost use Rattle.fact_tests.specs.Supports.{output_reaches};
 
+use crate::structure::Supports;
 use account_core::{Evidence, Oracle};
 use cnf_core::Stop;
 use net_core::{Graphs, Side};
@@ -13,13 +15,25 @@ use query_core::{Claim, Ledger, Shape};
 use std::alloc::Global;
 
 /// An output of the first of two circuits.
-#[derive(Clone, Copy, Debug)]
+#[derive(Clone, Copy)]
 pub(crate) struct FirstOutput<'a> {
     pub graphs: &'a Graphs,
+    /// What the outputs of the first circuit reach.
+    pub supports: &'a Supports<'a>,
     pub number: u32,
 }
 
 impl<'a> FirstOutput<'a> {
+    /// Whether the output reaches an input through gates. Where it doesn't, it doesn't depend on it.
+    pub(crate) fn reaches(&self, input: u32) -> bool
+        requires supports { self.now.supports.now ≡ self.now.graphs.now.first }
+        requires there { self.now.number < length self.now.graphs.now.first.outputs }
+        requires input { input < self.now.graphs.now.first.inputs }
+        ensures { result ≡ output_reaches self.now.graphs.now.first self.now.number input }
+    {
+        self.supports.reaches(self.number, input)
+    }
+
     /// Whether the claim of a shape holds at the output: what the oracle's fact says.
     pub(crate) fn holds<O: Oracle>(
         &self,

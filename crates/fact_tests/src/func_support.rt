@@ -22,6 +22,7 @@ pub(crate) fn support<O: Oracle>(
     ledger: &mut Ledger,
 ) -> Result<Items<(u32, Unate)>, Stop>
     requires may { MayAsk output.now.graphs.now (O.known oracle.old) ledger.old }
+    requires supports { output.now.supports.now ≡ output.now.graphs.now.first }
     requires there { output.now.number < length output.now.graphs.now.first.outputs }
     ensures serves { Serves (O.known oracle.old) (O.known oracle.new) ledger.old ledger.new result }
     ensures support { IfOk result (ListsSupport (inputs_in output.now.graphs.now)

@@ -1,14 +1,16 @@
-//! What rows say. Each function does nothing; its contract is the law.
+//! What rows say, and what outputs reach. Each function does nothing; its contract is the law.
 
-ghost use Rattle.std.specs.Prelude.{◌≡◌, ◌↔◌, ℕ, Bool, List};
+ghost use Rattle.std.specs.Prelude.{◌≡◌, ◌<◌, ◌↔◌, ℕ, Bool, true, false, List, length};
 ghost use Rattle.circuits.specs.Circuits.{Circuit};
 ghost use Rattle.circuits.specs.Functions.{Computes};
-ghost use Rattle.circuits.specs.Netlists.{Net};
+ghost use Rattle.circuits.specs.Literals.{bit};
+ghost use Rattle.circuits.specs.Netlists.{IsOrdered, Net};
 ghost use Rattle.query_core.specs.Claims.{output_bit};
 ghost use Rattle.query_core.specs.Facts as of_net;
 ghost use Rattle.port_report.specs.declared.info.OutputInfo.{OutputInfo as Row};
 ghost use Rattle.fact_tests.specs.Functions.{InSupport, IsPositive, IsNegative, IsBinate, IsSymmetric, IsSkew};
 ghost use Rattle.fact_tests.specs.Rows.{AreRows, AreRowsOf, IsRow};
+ghost use Rattle.fact_tests.specs.Supports.{output_reaches};
 
 /// What is said of the function of an output is what is said of the output.
 pub fn facts_of_outputs()
@@ -40,4 +42,22 @@ pub fn one_row()
         → IsRow n f row
         → IsRow n f other
         → row ≡ other }
+{}
+
+/// An output has the same bit on two vectors that agree on the inputs that it reaches through gates; so it depends on
+/// these inputs alone.
+pub fn reached_inputs()
+    ensures same { (net : Net) (k : ℕ) (x y : List Bool)
+        → IsOrdered net
+        → k < length net.outputs
+        → length x ≡ net.inputs
+        → length y ≡ net.inputs
+        → ((i : ℕ) → output_reaches net k i ≡ true → bit x i ≡ bit y i)
+        → output_bit net k x ≡ output_bit net k y }
+    ensures outside { (net : Net) (k i : ℕ)
+        → IsOrdered net
+        → k < length net.outputs
+        → output_reaches net k i ≡ false
+        → InSupport net.inputs (output_bit net k) i
+        → ⊥ }
 {}

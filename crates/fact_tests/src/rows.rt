@@ -7,6 +7,7 @@ ghost use Rattle.fact_tests.specs.Rows.{AreRows, IsRow};
 
 use crate::first_output::FirstOutput;
 use crate::func_support::support;
+use crate::structure::Supports;
 use crate::symmetry_test::symmetries;
 use account_core::Oracle;
 use cnf_core::Stop;
@@ -16,13 +17,15 @@ use query_core::Ledger;
 use std::alloc::Global;
 
 /// What an oracle knows of each output of the first circuit: a row for each.
-pub(crate) fn rows_by<O: Oracle>(
+pub(crate) fn rows_by<'a, O: Oracle>(
     alloc: Global,
-    graphs: &Graphs,
+    graphs: &'a Graphs,
+    supports: &'a Supports<'a>,
     oracle: &mut O,
     ledger: &mut Ledger,
 ) -> Result<Vec<OutputInfo>, Stop>
     requires graphs { (O.known oracle.old).graphs ≡ graphs.now }
+    requires supports { supports.now ≡ graphs.now.first }
     requires suits { Suits (O.known oracle.old) ledger.old }
     ensures serves { Serves (O.known oracle.old) (O.known oracle.new) ledger.old ledger.new result }
     ensures rows { IfOk result (λ rows. AreRows graphs.now.first rows.items) }
@@ -32,7 +35,11 @@ pub(crate) fn rows_by<O: Oracle>(
     let mut rows = Vec::new(alloc);
     let count = graphs.first.outputs().len() as u32;
     for number in 0..count {
-        let output = FirstOutput { graphs, number };
+        let output = FirstOutput {
+            graphs,
+            supports,
+            number,
+        };
         let row = row(alloc, &output, oracle, ledger)?;
         rows.push(row)?;
     }
@@ -47,6 +54,7 @@ fn row<O: Oracle>(
     ledger: &mut Ledger,
 ) -> Result<OutputInfo, Stop>
     requires may { MayAsk output.now.graphs.now (O.known oracle.old) ledger.old }
+    requires supports { output.now.supports.now ≡ output.now.graphs.now.first }
     requires there { output.now.number < length output.now.graphs.now.first.outputs }
     ensures serves { Serves (O.known oracle.old) (O.known oracle.new) ledger.old ledger.new result }
     ensures row { IfOk result (IsRow (inputs_in output.now.graphs.now)

@@ -4,11 +4,12 @@ ghost use Rattle.std.specs.Prelude.{◌≡◌, IsTrue, length};
 ghost use Rattle.circuits.specs.Matches.{HavePorts};
 ghost use Rattle.query_core.specs.Claims.{IsClaim, IsPlaced};
 
-use crate::FactBook;
+use crate::{FactBook, info};
 use account_core::{Compared, Evidence, Fact, Oracle};
 use cnf_core::Stop;
 use items::Items;
 use net_core::{Gate, Graph, Graphs, Lit, Matching, Side, lit_value};
+use port_report::{OutputInfo, Unate};
 use query_core::{Claim, Ledger, Shape};
 use rand_core::utils::NextWord;
 use rand_pcg::Pcg32;
@@ -348,5 +349,83 @@ fn compares_an_and_with_an_or(rt: HostRuntime) -> Result<(), Fail> {
     assert!(rt; matches!(same, Outcome::Holds(_)));
     let unlike = compared(alloc, &graphs, &plain, 99)?;
     assert!(rt; matches!(unlike, Outcome::Fails(_)));
+    Ok(())
+}
+
+/// A circuit of one output: how many inputs it has, its gates and its output; with a budget, how many claims `info`
+/// decides of it, and the output's support.
+type Informed = (
+    u32,
+    &'static [(u32, u32)],
+    u32,
+    u64,
+    usize,
+    &'static [(u32, Unate)],
+);
+
+const INFORMED: &[Informed] = &[
+    // a constant reaches no input
+    (3, &[], 1, 0, 0, &[]),
+    // the AND of the first two of three inputs: two claims of either, and four swaps, of which the last one fails
+    (
+        3,
+        &[(2, 4)],
+        8,
+        99,
+        8,
+        &[(0, Unate::Positive), (1, Unate::Positive)],
+    ),
+    // input 3, inverted where input 0 chooses a 1 from inputs 1 and 4: each claim of the four fails, and each first swap
+    // of the six pairs
+    (
+        5,
+        &[(2, 4), (3, 10), (13, 15), (17, 8), (16, 9), (19, 21)],
+        22,
+        0,
+        20,
+        &[
+            (0, Unate::Binate),
+            (1, Unate::Binate),
+            (3, Unate::Binate),
+            (4, Unate::Binate),
+        ],
+    ),
+];
+
+fn is_support(answer: &Result<Vec<OutputInfo>, Stop>, support: &[(u32, Unate)]) -> bool {
+    match answer {
+        Ok(rows) => match rows.as_slice() {
+            [row] => row.support.as_slice() == support,
+            _ => false,
+        },
+        Err(_) => false,
+    }
+}
+
+/// How many claims were decided of a circuit where its one output has this support; None where it is told otherwise.
+fn claims_of(
+    alloc: Global,
+    graphs: &Graphs,
+    budget: u64,
+    support: &[(u32, Unate)],
+) -> Result<Option<usize>, AllocError> {
+    let mut book = FactBook::new(alloc, graphs, 1)?;
+    let mut ledger = Ledger::new(alloc, budget);
+    let answer = info(alloc, graphs, &mut book, &mut ledger);
+    let count = book.facts().len();
+    Ok(is_support(&answer, support).then_some(count))
+}
+
+#[test]
+fn asks_of_reached_inputs_alone(rt: HostRuntime) -> Result<(), Fail> {
+    let alloc = rt.alloc();
+    for (inputs, gates, output, budget, claims, support) in INFORMED.iter() {
+        let graphs = Graphs {
+            first: graph(alloc, *inputs, gates, &[*output])?,
+            second: graph(alloc, 1, &[], &[2])?,
+        };
+        let decided = claims_of(alloc, &graphs, *budget, support)?;
+        assert_eq!(rt; decided, Some(*claims));
+    }
     Ok(())
 }

@@ -11,7 +11,8 @@ use port_report::Unate;
 use query_core::{Ledger, Shape};
 use std::alloc::Global;
 
-/// How the output depends on an input: None where the input is outside the support.
+/// How the output depends on an input: None where the input is outside the support, which is asked only where the output
+/// reaches the input.
 pub(crate) fn unateness<O: Oracle>(
     alloc: Global,
     output: &FirstOutput<'_>,
@@ -20,12 +21,16 @@ pub(crate) fn unateness<O: Oracle>(
     ledger: &mut Ledger,
 ) -> Result<Option<Unate>, Stop>
     requires may { MayAsk output.now.graphs.now (O.known oracle.old) ledger.old }
+    requires supports { output.now.supports.now ≡ output.now.graphs.now.first }
     requires there { output.now.number < length output.now.graphs.now.first.outputs }
     requires input { input < output.now.graphs.now.first.inputs }
     ensures serves { Serves (O.known oracle.old) (O.known oracle.new) ledger.old ledger.new result }
     ensures unate { IfOk result (IsDependence (inputs_in output.now.graphs.now)
         (function_at output.now.graphs.now output.now.number) input) }
 {
+    if !output.reaches(input) {
+        return Ok(None);
+    }
     let never_falls = output.holds(alloc, Shape::Up(input), oracle, ledger)?;
     let never_rises = output.holds(alloc, Shape::Down(input), oracle, ledger)?;
     Ok(by_claims(never_falls, never_rises))

@@ -1,10 +1,15 @@
--- Both claims were decided.
-use Rattle.std.proofs.Common.{refl, sym, subst}
+-- The input isn't reached, or both claims were decided.
+use Rattle.std.proofs.Common.{refl, sym, subst, ◌∙◌}
 use Rattle.std.proofs.lemmas.Result.{err_from_is_err_and}
 use Rattle.fact_tests.specs.Outputs.{IsDependence, function_at, inputs_in}
 use Rattle.fact_tests.proofs.ClaimFacts.{dependence_is}
+use Rattle.fact_tests.proofs.ReachLemmas.{unreached_outside}
 use Rattle.fact_tests.proofs.Serving.{served_one, served_then, serves_err, serves_ok}
 use Rattle.fact_tests.proofs.unate_test.unateness.Goals as goal
+
+pub returns-then-not-reaches-clause-unate : goal.returns-then-not-reaches-clause-unate
+returns-then-not-reaches-clause-unate g c =
+    unreached_outside c.args.output.now.graphs.now.first c.args.output.now.number c.args.input c.requires.may.first.ordered c.requires.there (sym c.reaches.ensures ∙ c.if-not-reaches.true)
 
 pub returns-in_err-never_rises-clause-serves : goal.returns-in_err-never_rises-clause-serves
 returns-in_err-never_rises-clause-serves g c =
