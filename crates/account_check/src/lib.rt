@@ -24,6 +24,3 @@ pub use laws::{
 pub use reject::{RecordStop, Reject};
 pub use verdict::{CheckStop, Verdict, Why};
 pub use whole_account::check;
-
-#[cfg(test)]
-mod tests;

@@ -18,6 +18,3 @@ pub use laws::{account_or_fault, one_answer, one_fault, one_list_of_records, one
 pub use reader::Reader;
 pub use record::Record;
 pub use spelling::put_record;
-
-#[cfg(test)]
-mod tests;

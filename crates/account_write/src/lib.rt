@@ -7,6 +7,3 @@ mod writing;
 
 pub use laws::{match_is_accepted, none_ports_is_accepted, refusal_is_accepted};
 pub use writing::{put_end, put_match, put_none_ports, put_refusal};
-
-#[cfg(test)]
-mod tests;

@@ -17,6 +17,3 @@ pub use laws::{
 };
 pub use net_core::{Gate, Graph, Lit, Name, Named, NetFault, NetKind, NetStop};
 pub use whole::read;
-
-#[cfg(test)]
-mod tests;

@@ -5,6 +5,3 @@ mod question;
 mod vector;
 
 pub use question::{Answer, ask};
-
-#[cfg(test)]
-mod tests;

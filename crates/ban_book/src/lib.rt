@@ -4,6 +4,3 @@
 mod book;
 
 pub use book::BanBook;
-
-#[cfg(test)]
-mod tests;

@@ -16,6 +16,3 @@ pub use breaking::breaks;
 pub use given::Given;
 pub use ports::{are_known, are_ordered, have_as_many};
 pub use steps::{are_names_known, has_shown, keeps_rule};
-
-#[cfg(test)]
-mod tests;

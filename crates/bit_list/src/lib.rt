@@ -2,7 +2,5 @@
 #![tactic(auto)]
 
 mod bits;
-#[cfg(test)]
-mod tests;
 
 pub use bits::Bits;

@@ -15,6 +15,3 @@ pub use laws::{
     blif_or_fault, blif_or_its_fault, closed_blif, few_ports, one_blif, one_blif_fault,
 };
 pub use whole::read;
-
-#[cfg(test)]
-mod tests;

@@ -354,6 +354,3 @@ fn entries(alloc: Global, n: u32, code: u32) -> Result<Vec<(u32, bool)>, AllocEr
     }
     Ok(entries)
 }
-
-#[cfg(test)]
-mod tests;

@@ -19,6 +19,3 @@ pub use fault::LineFault;
 pub use literal::SatLit;
 pub use log::{Log, LogLine};
 pub use stop::Stop;
-
-#[cfg(test)]
-mod tests;

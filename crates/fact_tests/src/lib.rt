@@ -20,6 +20,3 @@ mod unate_test;
 pub use book::FactBook;
 pub use circuit_info::info;
 pub use deciding::with_values;
-
-#[cfg(test)]
-mod tests;

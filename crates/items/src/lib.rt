@@ -4,8 +4,6 @@
 mod list;
 mod small;
 mod string;
-#[cfg(test)]
-mod tests;
 
 pub use list::Items;
 pub use small::Few;

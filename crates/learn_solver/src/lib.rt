@@ -11,6 +11,3 @@ mod verdict;
 
 pub use solver::{Solver, solve};
 pub use verdict::Verdict;
-
-#[cfg(test)]
-mod tests;

@@ -21,6 +21,3 @@ pub use named::{Name, Named, NetFault, NetKind, NetStop};
 pub use order_fault::OrderFault;
 pub use ordering::order;
 pub use plain_net::PlainNet;
-
-#[cfg(test)]
-mod tests;

@@ -8,6 +8,3 @@ mod table;
 pub use info::{OutputInfo, Sym, Unate, put_info};
 pub use rejected::put_rejected;
 pub use table::put_match;
-
-#[cfg(test)]
-mod tests;

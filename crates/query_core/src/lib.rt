@@ -23,6 +23,3 @@ pub use images::image;
 pub use ledger::{Asked, Ledger};
 pub use matches::of_match;
 pub use query::{Cone, Feed, Query};
-
-#[cfg(test)]
-mod tests;

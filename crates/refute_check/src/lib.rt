@@ -8,6 +8,3 @@ mod values;
 pub use cnf_core::{Base, LineFault, LogLine, SatLit};
 pub use refuter::Refuter;
 pub use values::Values;
-
-#[cfg(test)]
-mod tests;

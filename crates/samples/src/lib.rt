@@ -6,6 +6,3 @@ mod fault;
 
 pub use build::{graph, matching, named, names};
 pub use fault::SampleFault;
-
-#[cfg(test)]
-mod tests;

@@ -20,8 +20,4 @@ pub use outside::{Shelf, ShelfStop, Sink};
 pub use safe_shelf::SafeShelf;
 pub use safe_sink::SafeSink;
 pub use std_sink::StdSink;
-
-#[cfg(test)]
-mod fake_tests;
-#[cfg(test)]
-mod tests;
+pub use stream::Stream;

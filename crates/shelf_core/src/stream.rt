@@ -13,7 +13,7 @@ const PIECE: usize = 4096;
 /// All that came out of a stream, as a pipe or a device, whose length is known only at its end. It means the number of
 /// bytes that are still unread.
 #[derive(Drop)]
-pub(crate) struct Stream<A: Allocator> {
+pub struct Stream<A: Allocator> {
     bytes: Vec<u8, A>,
     at: usize,
     ghost within: { at ≤ vec_len bytes },
@@ -29,7 +29,7 @@ impl<A: Allocator> Model for Stream<A> {
 
 impl<A: Allocator> Stream<A> {
     /// Reads a stream to its end. One that goes on past `bound` bytes is a failure.
-    pub(crate) fn read_from<F: Read>(
+    pub fn read_from<F: Read>(
         alloc: A,
         file: &mut F,
         bound: usize,
@@ -54,14 +54,14 @@ impl<A: Allocator> Stream<A> {
     }
 
     /// How many bytes are unread.
-    pub(crate) fn left(&self) -> usize
+    pub fn left(&self) -> usize
         ensures { result ≡ self.now }
     {
         self.bytes.len() - self.at
     }
 
     /// Moves the next unread bytes to the front of `buf`, and answers how many: as many as there are and go in.
-    pub(crate) fn read(&mut self, buf: &mut [u8]) -> usize
+    pub fn read(&mut self, buf: &mut [u8]) -> usize
         ensures within { result ≤ length buf.old }
         ensures left { result + self.new ≡ self.old }
         ensures some { 0 < self.old → 0 < length buf.old → 0 < result }

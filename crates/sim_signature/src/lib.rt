@@ -12,6 +12,3 @@ mod vectors;
 
 pub use hunting::hunt;
 pub use sighting::Sighting;
-
-#[cfg(test)]
-mod tests;

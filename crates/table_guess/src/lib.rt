@@ -12,6 +12,3 @@ mod vectors;
 
 pub use guessing::guess;
 pub use trials::{Suspect, Trials};
-
-#[cfg(test)]
-mod tests;

@@ -8,6 +8,3 @@ mod table;
 mod vectors;
 
 pub use table::TableOracle;
-
-#[cfg(test)]
-mod tests;

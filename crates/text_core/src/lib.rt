@@ -14,6 +14,3 @@ pub use laws::{
 };
 pub use numbers::{NumberFault, decimal, digits_in_front, is_numeral, put_decimal, value_of};
 pub use spans::{Cursor, Span, is_blank, line_length, next_word, word_length};
-
-#[cfg(test)]
-mod tests;

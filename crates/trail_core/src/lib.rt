@@ -6,6 +6,3 @@ mod trail;
 
 pub use assigned::Assigned;
 pub use trail::Trail;
-
-#[cfg(test)]
-mod tests;

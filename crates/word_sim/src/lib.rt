@@ -11,6 +11,3 @@ pub use simulation::{gate_word, literal_word, simulate};
 pub use three_values::tri_eval;
 pub use tri::Tri;
 pub use words::Words;
-
-#[cfg(test)]
-mod tests;

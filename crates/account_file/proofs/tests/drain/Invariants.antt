@@ -1,5 +1,0 @@
-use Rattle.std.proofs.Common.{◌≡◌}
-use Rattle.account_file.proofs.tests.drain.Given as goal
-
-abbrev pub invariant-loop : goal.invariant-loop
-invariant-loop l = (l.reader.finished ≡ l.fn.reader.finished) × (l.reader.total ≡ l.fn.reader.total)

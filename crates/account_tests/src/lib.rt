@@ -1,0 +1,11 @@
+//! Tests of accounts: their lines, the steps of bans, what is accepted, and what is written.
+#![tactic(auto)]
+
+#[cfg(test)]
+mod accounts;
+#[cfg(test)]
+mod records;
+#[cfg(test)]
+mod steps;
+#[cfg(test)]
+mod written_accounts;

@@ -1,0 +1,15 @@
+//! Tests of the lists, texts, shelves and plain programs that all else stands on.
+#![tactic(auto)]
+
+#[cfg(test)]
+mod bits;
+#[cfg(test)]
+mod failing_shelves;
+#[cfg(test)]
+mod lists;
+#[cfg(test)]
+mod plain_programs;
+#[cfg(test)]
+mod shelves;
+#[cfg(test)]
+mod texts;

@@ -1,0 +1,148 @@
+//! Small circuits whose values and matches were worked out by hand.
+
+use circuits::plain::{
+    are_npnp_equal, is_match, is_signed_bijection, move_vector, outputs, valuation, write_vector,
+};
+use circuits::{Gate, Lit, Netlist};
+use std::alloc::{AllocError, Global};
+use std::process::Abort;
+use std::test::Fail;
+
+fn netlist(
+    alloc: Global,
+    inputs: u32,
+    gates: &[(u32, u32)],
+    outputs: &[u32],
+) -> Result<Netlist, AllocError> {
+    let mut all_gates = Vec::new(alloc);
+    for (a, b) in gates {
+        all_gates.push(Gate {
+            a: Lit(*a),
+            b: Lit(*b),
+        })?;
+    }
+    let mut all_outputs = Vec::new(alloc);
+    for output in outputs {
+        all_outputs.push(Lit(*output))?;
+    }
+    Ok(Netlist::new(inputs, all_gates, all_outputs))
+}
+
+fn matches(
+    rt: &impl Abort,
+    alloc: Global,
+    nets: (&Netlist, &Netlist),
+    p: &[(u32, bool)],
+    q: &[(u32, bool)],
+) -> Result<bool, AllocError> {
+    let (first, second) = nets;
+    assert!(rt; first.is_ordered());
+    assert!(rt; second.is_ordered());
+    assert!(rt; first.inputs() <= 16);
+    is_match(alloc, first, second, p, q)
+}
+
+fn equal(
+    rt: &impl Abort,
+    alloc: Global,
+    one: &Netlist,
+    other: &Netlist,
+) -> Result<bool, AllocError> {
+    assert!(rt; one.is_ordered());
+    assert!(rt; other.is_ordered());
+    assert!(rt; one.inputs() <= 7);
+    assert!(rt; one.outputs().len() <= 7);
+    are_npnp_equal(alloc, one, other)
+}
+
+fn values(
+    rt: &impl Abort,
+    alloc: Global,
+    net: &Netlist,
+    vector: &[bool],
+) -> Result<(Vec<bool>, Vec<bool>), AllocError> {
+    assert!(rt; net.is_ordered());
+    assert!(rt; vector.len() == net.inputs() as usize);
+    Ok((valuation(alloc, net, vector)?, outputs(alloc, net, vector)?))
+}
+
+#[test]
+fn values_by_hand(rt: HostRuntime) -> Result<(), Fail> {
+    let alloc = rt.alloc();
+    // The first input, and the AND of both.
+    let net = netlist(alloc, 2, &[(2, 4)], &[2, 6])?;
+    let (signals, bits) = values(&rt, alloc, &net, &[true, false])?;
+    assert_eq!(rt; signals.as_slice(), [false, true, false, false].as_slice());
+    assert_eq!(rt; bits.as_slice(), [true, false].as_slice());
+    Ok(())
+}
+
+#[test]
+fn orders_by_hand(rt: HostRuntime) -> Result<(), Fail> {
+    let alloc = rt.alloc();
+    // The second gate reads the first, then itself; the last output is a signal, then none.
+    for (operand, output, ordered) in [(6, 8, true), (8, 8, false), (6, 10, false)] {
+        let net = netlist(alloc, 2, &[(2, 4), (3, operand)], &[output])?;
+        assert_eq!(rt; net.is_ordered(), ordered, "{operand} and {output}");
+    }
+    Ok(())
+}
+
+#[test]
+fn vectors_by_hand(rt: HostRuntime) -> Result<(), Fail> {
+    let alloc = rt.alloc();
+    let mut vector = [false; 4];
+    write_vector(6, &mut vector);
+    assert_eq!(rt; vector, [false, true, true, false]);
+    for (entry, bijection) in [((0, false), true), ((1, false), false), ((2, false), false)] {
+        assert_eq!(rt;
+            is_signed_bijection(&[(1, true), entry], 2),
+            bijection,
+            "{entry:?}"
+        );
+    }
+    // The second bit to the first place, the first inverted to the second.
+    let entries = [(1, true), (0, false)];
+    assert!(rt; is_signed_bijection(&entries, 2));
+    assert_eq!(rt;
+        move_vector(alloc, &entries, &[true, true])?.as_slice(),
+        [true, false].as_slice()
+    );
+    Ok(())
+}
+
+#[test]
+fn matches_by_hand(rt: HostRuntime) -> Result<(), Fail> {
+    let alloc = rt.alloc();
+    // x0 and x0 AND x1, beside NOT (y0 AND NOT y1) and NOT y1.
+    let first = netlist(alloc, 2, &[(2, 4)], &[2, 6])?;
+    let second = netlist(alloc, 2, &[(5, 2)], &[7, 5])?;
+    let crossed = [(1, true), (0, false)];
+    for (p, q, want) in [
+        (crossed, [(1, false), (0, true)], true),
+        (crossed, [(1, false), (0, false)], false),
+        (crossed, [(0, true), (1, false)], false),
+        ([(0, false), (1, false)], [(1, false), (0, true)], false),
+        ([(1, true), (1, false)], [(1, false), (0, true)], false),
+    ] {
+        assert_eq!(rt;
+            matches(&rt, alloc, (&first, &second), &p, &q)?,
+            want,
+            "{p:?} and {q:?}"
+        );
+    }
+    Ok(())
+}
+
+#[test]
+fn equals_by_hand(rt: HostRuntime) -> Result<(), Fail> {
+    let alloc = rt.alloc();
+    let and = netlist(alloc, 2, &[(2, 4)], &[6])?;
+    let or = netlist(alloc, 2, &[(3, 5)], &[7])?;
+    let xor = netlist(alloc, 2, &[(2, 5), (3, 4), (7, 9)], &[11])?;
+    assert!(rt; equal(&rt, alloc, &and, &or)?);
+    assert!(rt; !equal(&rt, alloc, &and, &xor)?);
+    let empty = netlist(alloc, 0, &[], &[])?;
+    assert!(rt; equal(&rt, alloc, &empty, &empty)?);
+    Ok(())
+}

@@ -1,0 +1,15 @@
+//! Tests of netlists: their order and evaluation, the readers of both formats, and the reports about ports.
+#![tactic(auto)]
+
+#[cfg(test)]
+mod aiger_files;
+#[cfg(test)]
+mod blif_files;
+#[cfg(test)]
+mod graphs;
+#[cfg(test)]
+mod reports;
+#[cfg(test)]
+mod sample_circuits;
+#[cfg(test)]
+mod words;

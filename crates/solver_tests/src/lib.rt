@@ -1,0 +1,17 @@
+//! Tests of clauses and their refutation, of queries, of the solver, and of the vectors that are simulated.
+#![tactic(auto)]
+
+#[cfg(test)]
+mod answers;
+#[cfg(test)]
+mod clauses;
+#[cfg(test)]
+mod queries;
+#[cfg(test)]
+mod refuters;
+#[cfg(test)]
+mod sightings;
+#[cfg(test)]
+mod solvers;
+#[cfg(test)]
+mod trails;

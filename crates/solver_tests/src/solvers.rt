@@ -1,0 +1,251 @@
+//! Small formulas whose answers are known, or found by trying all assignments.
+
+ghost use Rattle.std.specs.Prelude.{◌≡◌, ◌%◌, ◌<◌, ◌∷◌, [], ℕ, false, All, IfOk, length, map};
+ghost use Rattle.query_core.specs.Ledgers.{last_asked};
+
+use learn_solver::{Solver, Verdict, solve};
+use cnf_core::{Base, Clause3, Log, SatLit, Stop};
+use net_core::Side;
+use query_core::{Cone, Feeds, Ledger, Query};
+use rand_core::utils::NextWord;
+use rand_pcg::Pcg32;
+use refute_check::Refuter;
+use std::alloc::{AllocError, Global};
+use std::test::Fail;
+
+/// Clauses of three literals over 64 variables. Where fewer are meant, one is written twice.
+#[derive(Clone, Copy, Drop)]
+struct Triples<'a> {
+    clauses: &'a [(u64, u64, u64)],
+}
+
+impl<'a> Base for Triples<'a> {
+    ghost formula = { λ a. record {
+      variables = 64;
+      clauses = map
+          (λ (t : ℕ × ℕ × ℕ). record { 0 = t.0 % 128 } ∷ record { 0 = t.1 % 128 } ∷ record { 0 = t.2 % 128 } ∷ [])
+          a.clauses.now;
+    } };
+
+    fn variables(&self) -> u64 {
+        64
+    }
+
+    fn count(&self) -> u64 {
+        self.clauses.len() as u64
+    }
+
+    fn clause(&self, id: u64) -> Clause3 {
+        let (a, b, c) = self.clauses[id as usize];
+        Clause3::three(SatLit(a % 128), SatLit(b % 128), SatLit(c % 128))
+    }
+}
+
+/// What a search comes to, once a model was tried and a log was taken line by line.
+#[derive(Clone, Copy, Debug, PartialEq, Eq)]
+enum Outcome {
+    Model,
+    Refuted,
+    Spent,
+    Memory,
+    Wrong,
+}
+
+impl Outcome {
+    fn if_right(self, right: bool) -> Outcome {
+        if right { self } else { Outcome::Wrong }
+    }
+}
+
+fn is_true(values: &[bool], literal: u64) -> bool {
+    values.get((literal / 2) as usize).copied().unwrap_or(false) != (literal % 2 == 1)
+}
+
+fn meets(values: &[bool], clauses: &[(u64, u64, u64)]) -> bool {
+    for (a, b, c) in clauses.iter() {
+        if !(is_true(values, *a) | is_true(values, *b) | is_true(values, *c)) {
+            return false;
+        }
+    }
+    true
+}
+
+/// Whether a refuter takes each line of a log and is closed then.
+fn is_taken(alloc: Global, base: Triples<'_>, log: &Log) -> Result<bool, AllocError> {
+    let mut refuter = Refuter::new(alloc, base)?;
+    for line in log.lines.iter() {
+        refuter.reserve(line.clause.len())?;
+        if let Err(_fault) = refuter.line(line) {
+            return Ok(false);
+        }
+    }
+    Ok(refuter.closed())
+}
+
+/// A ledger whose entry has no lines yet.
+fn opened(alloc: Global, budget: u64) -> Result<Ledger, AllocError>
+    ensures asked { IfOk result (λ ledger. 0 < length ledger.asked) }
+    ensures lines { IfOk result (λ ledger. (last_asked ledger.asked).lines ≡ []) }
+    ensures not_spent { IfOk result (λ ledger. ledger.spent ≡ false) }
+{
+    let left = Cone {
+        side: Side::First,
+        output: 0,
+        feed: Feeds::straight(0),
+    };
+    let right = Cone {
+        side: Side::First,
+        output: 0,
+        feed: Feeds::straight(0),
+    };
+    let query = Query {
+        left,
+        left_value: true,
+        right,
+        right_value: false,
+    };
+    let mut ledger = Ledger::new(alloc, budget);
+    ledger.open(alloc, &query, &[])?;
+    Ok(ledger)
+}
+
+fn numbers(alloc: Global, count: usize) -> Result<Vec<u64>, AllocError>
+    ensures { IfOk result (λ numbers. All (λ number. number < count) numbers.items) }
+{
+    let mut numbers = Vec::new(alloc);
+    for number in 0..count {
+        numbers.push(number as u64)?;
+    }
+    Ok(numbers)
+}
+
+fn outcome_of(
+    alloc: Global,
+    clauses: &[(u64, u64, u64)],
+    budget: u64,
+) -> Result<Outcome, AllocError> {
+    let base = Triples { clauses };
+    let ids = numbers(alloc, clauses.len())?;
+    let mut ledger = opened(alloc, budget)?;
+    let mut solver = Solver::new(alloc, &base, &ids, &[])?;
+    match solve(alloc, &mut solver, &mut ledger) {
+        Ok(Verdict::Model(values)) => Ok(Outcome::Model.if_right(meets(&values, clauses))),
+        Ok(Verdict::Refuted(log)) => Ok(Outcome::Refuted.if_right(is_taken(alloc, base, &log)?)),
+        Err(Stop::Spent(_)) => Ok(Outcome::Spent),
+        Err(Stop::Memory) => Ok(Outcome::Memory),
+    }
+}
+
+/// Three pigeons sit in two holes, no two in one (Cook's formulas). Pigeon i sits in hole h where variable 3i + h is
+/// true.
+const THREE_PIGEONS: [(u64, u64, u64); 9] = [
+    (0, 2, 2),
+    (6, 8, 8),
+    (12, 14, 14),
+    (1, 7, 7),
+    (1, 13, 13),
+    (7, 13, 13),
+    (3, 9, 9),
+    (3, 15, 15),
+    (9, 15, 15),
+];
+
+/// Four pigeons sit in three holes.
+const FOUR_PIGEONS: [(u64, u64, u64); 22] = [
+    (0, 2, 4),
+    (6, 8, 10),
+    (12, 14, 16),
+    (18, 20, 22),
+    (1, 7, 7),
+    (1, 13, 13),
+    (1, 19, 19),
+    (7, 13, 13),
+    (7, 19, 19),
+    (13, 19, 19),
+    (3, 9, 9),
+    (3, 15, 15),
+    (3, 21, 21),
+    (9, 15, 15),
+    (9, 21, 21),
+    (15, 21, 21),
+    (5, 11, 11),
+    (5, 17, 17),
+    (5, 23, 23),
+    (11, 17, 17),
+    (11, 23, 23),
+    (17, 23, 23),
+];
+
+/// The clauses that say that the exclusive or of variables 1, 2 and 3 is true.
+const ODD: [(u64, u64, u64); 4] = [(2, 4, 6), (2, 5, 7), (3, 4, 7), (3, 5, 6)];
+
+/// The same with its opposite.
+const ODD_AND_EVEN: [(u64, u64, u64); 8] = [
+    (2, 4, 6),
+    (2, 5, 7),
+    (3, 4, 7),
+    (3, 5, 6),
+    (3, 5, 7),
+    (3, 4, 6),
+    (2, 5, 6),
+    (2, 4, 7),
+];
+
+#[test]
+fn answers_small_formulas(rt: HostRuntime) -> Result<(), Fail> {
+    let alloc = rt.alloc();
+    // in the last rows one pigeon fewer is left: then there is a place for each
+    let rows: [(&[(u64, u64, u64)], u64, Outcome); 8] = [
+        (&[], 0, Outcome::Model),
+        (ODD.as_slice(), 0, Outcome::Model),
+        (ODD_AND_EVEN.as_slice(), 99, Outcome::Refuted),
+        (ODD_AND_EVEN.as_slice(), 0, Outcome::Spent),
+        (THREE_PIGEONS.as_slice(), 99, Outcome::Refuted),
+        (FOUR_PIGEONS.as_slice(), 999, Outcome::Refuted),
+        (&THREE_PIGEONS[1..], 99, Outcome::Model),
+        (&FOUR_PIGEONS[1..], 999, Outcome::Model),
+    ];
+    for (clauses, budget, wanted) in rows {
+        assert_eq!(rt; outcome_of(alloc, clauses, budget)?, wanted);
+    }
+    Ok(())
+}
+
+/// Whether some assignment of variables 0, 1 and 2 meets the clauses.
+fn has_model(clauses: &[(u64, u64, u64)]) -> bool {
+    for code in 0..8u32 {
+        let values = [code % 2 == 1, code / 2 % 2 == 1, code / 4 == 1];
+        if meets(values.as_slice(), clauses) {
+            return true;
+        }
+    }
+    false
+}
+
+/// Clauses over variables 0, 1 and 2.
+fn drawn(alloc: Global, words: &mut Pcg32, count: u32) -> Result<Vec<(u64, u64, u64)>, AllocError> {
+    let mut clauses = Vec::new(alloc);
+    for _ in 0..count {
+        let a = u64::from(words.next_word() % 6);
+        let b = u64::from(words.next_word() % 6);
+        let c = u64::from(words.next_word() % 6);
+        clauses.push((a, b, c))?;
+    }
+    Ok(clauses)
+}
+
+#[test]
+fn agrees_with_all_assignments(rt: HostRuntime) -> Result<(), Fail> {
+    let alloc = rt.alloc();
+    let mut words = Pcg32::new(42, 54);
+    for round in 0..60u32 {
+        let clauses = drawn(alloc, &mut words, 4 + round % 9)?;
+        let wanted = if has_model(&clauses) {
+            Outcome::Model
+        } else {
+            Outcome::Refuted
+        };
+        assert_eq!(rt; outcome_of(alloc, &clauses, 99)?, wanted);
+    }
+    Ok(())
+}
