@@ -2,8 +2,8 @@
 
 ghost use Rattle.std.specs.Prelude.{◌≡◌};
 
-use account_file::{FileStop, Reader, Record, RecordFault, put_record};
 use account_core::{Ban, Conclusion, FactHead, Step, Tallied};
+use account_file::{FileStop, Reader, Record, RecordFault, put_record};
 use bit_list::Bits;
 use circuits::{Pair, PortKind};
 use cnf_core::{LogLine, SatLit};

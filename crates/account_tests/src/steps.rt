@@ -1,7 +1,9 @@
 //! Steps of bans of an AND and an OR of two inputs.
 
-use ban_check::{Given, are_known, are_names_known, are_ordered, has_shown, have_as_many, keeps_rule};
 use account_core::Step;
+use ban_check::{
+    Given, are_known, are_names_known, are_ordered, has_shown, have_as_many, keeps_rule,
+};
 use circuits::{Pair, PortKind};
 use items::Items;
 use net_core::{Gate, Graph, Graphs, Lit, Side};

@@ -2,8 +2,8 @@
 
 ghost use Rattle.std.specs.Prelude.{◌≡◌, IfOk, length};
 
-use account_write::{put_end, put_match, put_none_ports, put_refusal};
 use account_core::{Ban, Evidence, Fact, Step};
+use account_write::{put_end, put_match, put_none_ports, put_refusal};
 use bit_list::Bits;
 use circuits::{Pair, PortKind};
 use cnf_core::{Log, LogLine};

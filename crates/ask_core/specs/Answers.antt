@@ -10,7 +10,7 @@ use Rattle.query_core.specs.declared.query.Query.{Query}
 use Rattle.query_core.specs.Queries.{MeetsQuery, bits_in}
 use Rattle.query_core.specs.Formulas.{formula_of}
 use Rattle.query_core.specs.ConeClauses.{AllOfCones}
-use Rattle.query_core.specs.Ledgers.{Ledgered, learned_in, opened, with_lines}
+use Rattle.query_core.specs.Ledgers.{Ledgered, last_asked, learned_in, opened, with_lines}
 use Rattle.ask_core.specs.declared.question.Answer.{Answer}
 use Rattle.ask_core.specs.declared.question.Answer.TheVariants.{Vector, Refuted}
 
@@ -23,6 +23,11 @@ pub record IsVector (graphs : Graphs) (query : Query) (vector : List Bool) : Typ
 abbrev pub IsAnswer : Graphs → Query → Answer → Type 0
 IsAnswer graphs query (Vector vector) = IsVector graphs query vector
 IsAnswer graphs query (Refuted log) = IsRefutation (formula_of graphs query) log.lines
+
+-- the lines of a log are those that were learned for the ledger's last query, so that each was paid for
+abbrev pub IsPaidFor : Ledgered → Answer → Type 0
+IsPaidFor ledger (Vector vector) = Unit {0}
+IsPaidFor ledger (Refuted log) = log.lines ≡ (last_asked ledger.asked).lines
 
 -- A line that is derived, and that has all the literals of no clause that belongs to the cones and of no earlier line.
 pub record IsLearnedLine (graphs : Graphs) (query : Query) (earlier : List LogLine) (line : LogLine) : Type 0 where

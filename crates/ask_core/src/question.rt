@@ -2,7 +2,7 @@
 
 ghost use Rattle.std.specs.Prelude.{◌≡◌, false, IfOk, IfErr};
 ghost use Rattle.query_core.specs.Queries.{IsQuery};
-ghost use Rattle.ask_core.specs.Answers.{IsAnswer, IsAskedIn, IsStopped};
+ghost use Rattle.ask_core.specs.Answers.{IsAnswer, IsAskedIn, IsPaidFor, IsStopped};
 
 use crate::vector::vector_of;
 use cnf_core::{Log, Stop};
@@ -22,7 +22,7 @@ pub enum Answer {
 }
 
 /// Answers a query that fits two circuits by the clauses of its two cones. The ledger gets an entry for it, in place
-/// of a last one for which nothing was learned, with one line for each conflict. Spent comes at a conflict that is met
+/// of a last one for which nothing was learned, with one line for each conflict; a log that refutes has these lines. Spent comes at a conflict that is met
 /// with the budget spent; its line is kept as the refused one. Where memory is wanting, nothing is said of the last
 /// entry.
 pub fn ask(
@@ -35,6 +35,7 @@ pub fn ask(
     requires not_spent { ledger.old.spent ≡ false }
     ensures answer { IfOk result (IsAnswer graphs.now query.now) }
     ensures asked { IfOk result (λ _. IsAskedIn graphs.now query.now ledger.old ledger.new) }
+    ensures paid_for { IfOk result (IsPaidFor ledger.new) }
     ensures not_spent { IfOk result (λ _. ledger.new.spent ≡ false) }
     ensures stop { IfErr result (IsStopped graphs.now query.now ledger.old ledger.new) }
 {

@@ -4,8 +4,8 @@ mod covers;
 mod in_order;
 mod nets;
 
-use net_core::{Gate, Graph, Graphs, Lit, Matching, Side, lit_value};
 use items::Items;
+use net_core::{Gate, Graph, Graphs, Lit, Matching, Side, lit_value};
 use std::test::Fail;
 
 /// A: output 0 is the AND of its two inputs, output 1 its first input.

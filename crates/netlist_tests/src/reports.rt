@@ -3,9 +3,9 @@
 ghost use Rattle.std.specs.Prelude.{◌<◌, ◌↔◌, All, IsTrue};
 ghost use Rattle.port_report.specs.Infos.{IsInRange};
 
-use port_report::{OutputInfo, Sym, Unate, put_info, put_match, put_rejected};
 use items::Items;
 use net_core::{Matching, Named};
+use port_report::{OutputInfo, Sym, Unate, put_info, put_match, put_rejected};
 use samples::{SampleFault, graph, matching, named};
 use std::alloc::Global;
 use std::test::Fail;

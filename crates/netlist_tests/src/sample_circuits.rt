@@ -1,7 +1,7 @@
 //! A sample of each kind, and what is refused.
 
-use samples::{SampleFault, graph, matching, named};
 use net_core::{Gate, Lit};
+use samples::{SampleFault, graph, matching, named};
 use std::test::Fail;
 
 #[test]

@@ -1,10 +1,10 @@
 //! A multiplexer and a parity, worked out by hand.
 
-use word_sim::{Tri, Words, simulate, tri_eval};
 use net_core::Graph;
 use samples::{SampleFault, graph};
 use std::alloc::Global;
 use std::test::Fail;
+use word_sim::{Tri, Words, simulate, tri_eval};
 
 /// Of inputs a, b and s: `if s { a } else { b }`, the parity of a and b, and the constant 1.
 fn sample(alloc: Global) -> Result<Graph, SampleFault> {

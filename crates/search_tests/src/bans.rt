@@ -1,7 +1,7 @@
 //! Bans that are looked up by pairs.
 
-use ban_book::BanBook;
 use account_core::{Ban, Step};
+use ban_book::BanBook;
 use circuits::{Pair, PortKind};
 use items::{Few, Items};
 use std::alloc::{AllocError, Global};

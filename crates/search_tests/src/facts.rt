@@ -4,9 +4,9 @@ ghost use Rattle.std.specs.Prelude.{◌≡◌, IsTrue, length};
 ghost use Rattle.circuits.specs.Matches.{HavePorts};
 ghost use Rattle.query_core.specs.Claims.{IsClaim, IsPlaced};
 
-use fact_tests::{FactBook, info};
 use account_core::{Compared, Evidence, Fact, Oracle};
 use cnf_core::Stop;
+use fact_tests::{FactBook, info};
 use items::Items;
 use net_core::{Gate, Graph, Graphs, Lit, Matching, Side, lit_value};
 use port_report::{OutputInfo, Unate};

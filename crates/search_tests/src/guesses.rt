@@ -1,10 +1,10 @@
 //! Small circuits for which a table is guessed.
 
-use table_guess::{Trials, guess};
 use net_core::{Graph, Graphs};
 use samples::graph;
 use std::alloc::{AllocError, Global};
 use std::test::Fail;
+use table_guess::{Trials, guess};
 
 fn and(alloc: Global) -> Result<Graph, Fail> {
     Ok(graph(alloc, 2, &[(4, 2)], &[6])?)

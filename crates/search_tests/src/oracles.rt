@@ -4,7 +4,6 @@ ghost use Rattle.std.specs.Prelude.{◌≡◌, ◌≤◌, IsTrue};
 ghost use Rattle.account_core.specs.Ports.{HaveAsMany};
 ghost use Rattle.query_core.specs.Claims.{IsClaim, IsPlaced};
 
-use table_oracle::TableOracle;
 use account_core::{Evidence, Fact, Oracle};
 use ban_book::BanBook;
 use cnf_core::Stop;
@@ -15,6 +14,7 @@ use query_core::{Claim, Ledger, Shape};
 use samples::{SampleFault, graph};
 use std::alloc::{AllocError, Global};
 use std::test::Fail;
+use table_oracle::TableOracle;
 
 /// Whether two circuits have as many ports, and at most 12 inputs.
 fn are_small(graphs: &Graphs) -> bool

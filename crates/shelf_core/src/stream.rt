@@ -29,11 +29,7 @@ impl<A: Allocator> Model for Stream<A> {
 
 impl<A: Allocator> Stream<A> {
     /// Reads a stream to its end. One that goes on past `bound` bytes is a failure.
-    pub fn read_from<F: Read>(
-        alloc: A,
-        file: &mut F,
-        bound: usize,
-    ) -> Result<Stream<A>, ShelfStop>
+    pub fn read_from<F: Read>(alloc: A, file: &mut F, bound: usize) -> Result<Stream<A>, ShelfStop>
         ensures { IfOk result (λ stream. stream ≤ bound) }
     {
         let mut bytes = Vec::new(alloc);

@@ -3,10 +3,12 @@
 ghost use Rattle.std.specs.Prelude.{IfOk, IfSome};
 ghost use Rattle.query_core.specs.Queries.{IsQuery};
 
-use query_core::{Claim, Feed, Feeds, Query, QueryBase, Shape, cone_ids, image, of_claim, of_match};
 use cnf_core::Base;
 use items::Items;
 use net_core::{Gate, Graph, Graphs, Lit, Matching, Pair, PortKind, Side};
+use query_core::{
+    Claim, Feed, Feeds, Query, QueryBase, Shape, cone_ids, image, of_claim, of_match,
+};
 use std::alloc::{AllocError, Global};
 use std::collections::HashMap;
 use std::test::Fail;

@@ -3,9 +3,9 @@
 ghost use Rattle.std.specs.Prelude.{◌∷◌, []};
 ghost use Rattle.cnf_core.specs.declared.literal.SatLit.{SatLit as AnyLiteral};
 
-use refute_check::Refuter;
 use cnf_core::{Base, Clause3, LineFault, LogLine, SatLit};
 use items::Items;
+use refute_check::Refuter;
 use std::alloc::{AllocError, Global};
 use std::test::Fail;
 

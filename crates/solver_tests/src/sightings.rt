@@ -1,12 +1,12 @@
 //! Claims that are known of an AND gate, or found broken by trying all vectors.
 
-use sim_signature::hunt;
 use bit_list::Bits;
 use net_core::{Gate, Graph, Lit, lit_value};
 use query_core::Shape;
 use rand_core::utils::NextWord;
 use rand_pcg::Pcg32;
 use samples::graph;
+use sim_signature::hunt;
 use std::alloc::{AllocError, Global};
 use std::test::Fail;
 

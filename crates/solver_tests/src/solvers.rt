@@ -3,8 +3,8 @@
 ghost use Rattle.std.specs.Prelude.{◌≡◌, ◌%◌, ◌<◌, ◌∷◌, [], ℕ, false, All, IfOk, length, map};
 ghost use Rattle.query_core.specs.Ledgers.{last_asked};
 
-use learn_solver::{Solver, Verdict, solve};
 use cnf_core::{Base, Clause3, Log, SatLit, Stop};
+use learn_solver::{Solver, Verdict, solve};
 use net_core::Side;
 use query_core::{Cone, Feeds, Ledger, Query};
 use rand_core::utils::NextWord;

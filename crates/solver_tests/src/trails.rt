@@ -1,8 +1,8 @@
 //! Literals assigned and taken off again.
 
-use trail_core::Trail;
 use cnf_core::SatLit;
 use std::test::Fail;
+use trail_core::Trail;
 
 #[test]
 fn goes_back(rt: HostRuntime) -> Result<(), Fail> {

@@ -1,8 +1,8 @@
 //! Netlists with covers, worked out by hand from the way in which their rows are expanded.
 
 use super::nets::{and, cover, plain_net};
-use net_core::{Def, Graph, Lit, OrderFault, order};
 use items::Items;
+use net_core::{Def, Graph, Lit, OrderFault, order};
 use std::process::Abort;
 use std::test::Fail;
 

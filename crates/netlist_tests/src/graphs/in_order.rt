@@ -1,8 +1,8 @@
 //! Netlists whose definitions stand in any order, worked out by hand.
 
 use super::nets::{and, plain_net};
-use net_core::{Graph, Lit, OrderFault, order};
 use items::Items;
+use net_core::{Graph, Lit, OrderFault, order};
 use std::test::Fail;
 
 /// Orders the netlist of these ANDs and outputs.

@@ -4,8 +4,8 @@ ghost use Rattle.std.specs.Prelude.{◌≡◌, ◌↔◌, ◌+◌, ◌<◌, All,
 ghost use Rattle.circuits.specs.Literals.{signal_of};
 ghost use Rattle.circuits.specs.Circuits.{HasWideRows, named_by};
 
-use net_core::{Def, Lit, PlainNet, Trit};
 use items::Items;
+use net_core::{Def, Lit, PlainNet, Trit};
 use std::alloc::{AllocError, Global};
 
 fn names_signals(signals: u32, def: &Def) -> bool

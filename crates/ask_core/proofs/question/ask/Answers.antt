@@ -1,5 +1,5 @@
 -- A query's answer is that of a solver for the clauses of its cones.
-use Rattle.std.proofs.Common.{Bool, List, ℕ, All, length, sym, subst, ◌<◌}
+use Rattle.std.proofs.Common.{Bool, List, ℕ, All, length, sym, subst, ◌∙◌, ◌<◌}
 use Rattle.learn_solver.specs.declared.verdict.Verdict.{Verdict}
 use Rattle.learn_solver.specs.Solvers.{IsVerdict}
 use Rattle.learn_solver.proofs.StepLemmas.{passed_on}
@@ -47,3 +47,8 @@ returns-clause-asked c =
     let s = c.in_ok-solver.solver in
     let of = made_of_cones graphs query c.in_ok-base.base c.in_ok-ids.ids.items c.deref.result.now s c.in_ok-base.ensures c.deref.ensures.value c.in_ok-ids.ensures.cones c.in_ok-solver.ensures in
     asked_in graphs query s c.solve.new.solver c.args.ledger.now c.open.new.self c.solve.new.ledger of c.in_ok-open.ensures.opened c.in_ok-values.ensures.lines
+
+pub returns-clause-paid_for : goal.returns-clause-paid_for
+returns-clause-paid_for c =
+    let refuted = subst (λ (v : Verdict). IsVerdict c.solve.new.solver v) c.in-Refuted.is c.in_ok-values.ensures.verdict in
+    refuted.lines_are ∙ sym c.in_ok-values.ensures.not_spent.lines_are
