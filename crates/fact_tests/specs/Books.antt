@@ -28,8 +28,11 @@ known_by graphs facts kept = record {
 }
 
 -- What each book keeps.
-pub record IsBook (graphs : Graphs) (facts : List Fact) (kept : List Kept) (first second : Source) : Type 0 where
+pub record IsBook (graphs : Graphs) (facts : List Fact) (kept : List Kept) : Type 0 where
   pub facts_are : AreFacts graphs facts
   pub kept_are : All (IsKept graphs) kept
+
+-- What is known without asking is of either circuit.
+pub record AreSources (graphs : Graphs) (first second : Source) : Type 0 where
   pub first_is : IsSource graphs.first first
   pub second_is : IsSource graphs.second second

@@ -8,5 +8,8 @@ pub mod Rows
 pub mod Outputs
 pub use Rattle.account_core.specs.Oracles
 pub use Rattle.account_core.specs.Work
+pub use Rattle.ask_core.specs.Answers
 pub use Rattle.query_core.specs.Claims
+pub use Rattle.query_core.specs.ClaimQueries
 pub use Rattle.query_core.specs.Facts
+pub use Rattle.query_core.specs.Queries

@@ -1,4 +1,4 @@
-//! The book of facts.
+//! What is known of two circuits, with what decides it.
 
 ghost use Rattle.std.specs.Prelude.{◌≡◌, ◌≢◌, ◌<◌, [], false, true, All, IfOk, length};
 ghost use Rattle.circuits.specs.Matches.{HavePorts};
@@ -13,68 +13,49 @@ ghost use Rattle.account_core.specs.Work.{IsOfMatch};
 ghost use Rattle.ask_core.specs.Answers.{IsAnswer};
 
 use crate::answers::{AnswerMap, copied};
-use crate::asking::answer_to;
-use crate::deciding::{Source, decide_of_side};
+use crate::decide::Decide;
 use crate::facts::FactList;
 use account_core::{Compared, Fact, Oracle};
 use ask_core::Answer;
 use bit_list::Bits;
 use cnf_core::{Log, Stop};
-use net_core::{Graphs, Matching};
+use net_core::Matching;
 use query_core::{Claim, Ledger, Query, of_match};
-use std::alloc::{AllocError, Global};
+use std::alloc::Global;
 use std::marker::Model;
 
-/// Facts about two circuits. A claim is decided by structure where its output doesn't reach its inputs; then by a
-/// vector that
-/// simulation saw; and else it is asked. Each fact is kept, and so is each answer about a matching. Contracts see
-/// the book as
-/// what it knows.
+/// What is known of the two circuits of something that decides claims: each claim that was decided is kept as a fact,
+/// and so is each answer about a matching. Contracts see it as what it knows.
 #[derive(Drop)]
-pub struct FactBook<'a> {
-    graphs: &'a Graphs,
+pub struct Book<D: Decide> {
+    decider: D,
     facts: FactList,
     /// The answered queries of matchings.
     kept: AnswerMap,
-    first: Source<'a>,
-    second: Source<'a>,
 }
 
-impl<'a> Model for FactBook<'a> {
+impl<D: Decide> Model for Book<D> {
     ghost use Rattle.account_core.specs.Oracles.{Known};
+    ghost use Rattle.fact_tests.specs.Books.{IsBook, known_by};
 
     ghost Value = { Known };
 
-    ghost use Rattle.fact_tests.specs.Books.{IsBook, known_by};
+    ghost view = { λ a. known_by (D.circuits a.decider) a.facts a.kept };
 
-    ghost view = { λ a. known_by a.graphs.now a.facts a.kept };
-
-    ghost invariant = { λ a. IsBook a.graphs.now a.facts a.kept a.first a.second };
+    ghost invariant = { λ a. IsBook (D.circuits a.decider) a.facts a.kept };
 }
 
-impl<'a> FactBook<'a> {
-    /// An empty book, which every ledger suits in which nothing was asked. The seed chooses the vectors that are
-    /// simulated.
-    ///
-    /// # Errors
-    ///
-    /// For want of memory alone.
-    pub fn new(alloc: Global, graphs: &'a Graphs, seed: u64) -> Result<FactBook<'a>, AllocError>
-        ensures empty { IfOk result (λ book. book ≡ record { graphs = graphs.now; facts = []; answered = [] }) }
-        ensures suits { IfOk result (λ book. (ledger : Ledgered)
-            → ledger.asked ≡ []
-            → ledger.spent ≡ false
-            → Suits book ledger) }
+impl<D: Decide> Book<D> {
+    /// An empty book, which every ledger suits in which nothing was asked.
+    pub fn new(alloc: Global, decider: D) -> Book<D>
+        ensures empty { result ≡ record { graphs = D.circuits decider; facts = []; answered = [] } }
+        ensures suits { (ledger : Ledgered) → ledger.asked ≡ [] → ledger.spent ≡ false → Suits result ledger }
     {
-        let first = Source::new(alloc, &graphs.first, seed)?;
-        let second = Source::new(alloc, &graphs.second, seed)?;
-        Ok(FactBook {
-            graphs,
+        Book {
+            decider,
             facts: FactList::new(alloc),
             kept: AnswerMap::new(alloc),
-            first,
-            second,
-        })
+        }
     }
 
     /// Decides a claim that has no fact.
@@ -84,15 +65,7 @@ impl<'a> FactBook<'a> {
         requires missing { All (λ fact. fact.claim ≢ claim) self.old.facts }
         ensures { Claims claim self.old self.new ledger.old ledger.new result }
     {
-        let graphs = self.graphs;
-        match decide_of_side(
-            alloc,
-            graphs,
-            &mut self.first,
-            &mut self.second,
-            &claim,
-            ledger,
-        ) {
+        match self.decider.evidence(alloc, &claim, ledger) {
             Ok(evidence) => {
                 let number = self.facts.add(Fact { claim, evidence })?;
                 Ok(number)
@@ -118,7 +91,7 @@ impl<'a> FactBook<'a> {
         ensures answer { IfOk result
             (IsAnswer self.old.graphs (match_query self.old.graphs.first.inputs matching.now output value)) }
     {
-        let query = of_match(alloc, self.graphs, matching, output, value)?;
+        let query = of_match(alloc, self.decider.graphs(), matching, output, value)?;
         match self.kept.get(&query) {
             Some(answer) => Ok(copied(alloc, answer)?),
             None => self.ask_anew(alloc, query, ledger),
@@ -158,7 +131,7 @@ impl<'a> FactBook<'a> {
         ensures serves { Serves self.old self.new ledger.old ledger.new result }
         ensures answer { IfOk result (IsAnswer self.old.graphs query) }
     {
-        match answer_to(alloc, self.graphs, &query, ledger) {
+        match self.decider.answer_to(alloc, &query, ledger) {
             Ok(answer) => {
                 let copy = copied(alloc, &answer)?;
                 self.kept.add(query, answer)?;
@@ -169,7 +142,7 @@ impl<'a> FactBook<'a> {
     }
 }
 
-impl<'a> Oracle for FactBook<'a> {
+impl<D: Decide> Oracle for Book<D> {
     ghost known = { λ book. book };
 
     fn claim(&mut self, alloc: Global, claim: Claim, ledger: &mut Ledger) -> Result<u64, Stop> {

@@ -4,7 +4,7 @@ ghost use Rattle.std.specs.Prelude.{◌≡◌, IfOk};
 ghost use Rattle.account_core.specs.Oracles.{Serves, Suits};
 ghost use Rattle.fact_tests.specs.Rows.{AreRows};
 
-use crate::book::FactBook;
+use crate::fact_book::FactBook;
 use crate::rows::rows_by;
 use crate::structure::Supports;
 use account_core::Oracle;

@@ -10,6 +10,7 @@ ghost use Rattle.fact_tests.specs.Books.{IsSource};
 ghost use Rattle.fact_tests.specs.Supports.{IsOutside};
 
 use crate::asking::{answer_to, refute_outside};
+use crate::decide::Decide;
 use crate::sightings::Sightings;
 use crate::structure::Supports;
 use account_core::Evidence;
@@ -18,8 +19,9 @@ use bit_list::Bits;
 use cnf_core::Stop;
 use items::Items;
 use net_core::{Graph, Graphs, Side};
-use query_core::{Claim, Ledger, Shape, of_claim};
+use query_core::{Claim, Ledger, Query, Shape, of_claim};
 use std::alloc::{AllocError, Global};
+use std::marker::Model;
 
 /// What is known of a circuit without asking.
 #[derive(Drop)]
@@ -40,30 +42,66 @@ impl<'a> Source<'a> {
     }
 }
 
-/// Decides a claim of either circuit.
-pub(crate) fn decide_of_side(
-    alloc: Global,
-    graphs: &Graphs,
-    first: &mut Source<'_>,
-    second: &mut Source<'_>,
-    claim: &Claim,
-    ledger: &mut Ledger,
-) -> Result<Evidence, Stop>
-    requires placed { IsClaim graphs.now claim.now }
-    requires first { IsSource graphs.now.first first.old }
-    requires second { IsSource graphs.now.second second.old }
-    requires unspent { ledger.old.spent ≡ false }
-    ensures first { IsSource graphs.now.first first.new }
-    ensures second { IsSource graphs.now.second second.new }
-    ensures evidence { IfOk result (IsEvidence graphs.now claim.now) }
-    ensures decided { IfOk result
-        (λ _. IsDecided graphs.now (claim_query graphs.now claim.now) ledger.old ledger.new) }
-    ensures unspent { IfOk result (λ _. ledger.new.spent ≡ false) }
-    ensures stop { IfErr result (IsHalted graphs.now (claim_query graphs.now claim.now) ledger.old ledger.new) }
-{
-    match claim.side {
-        Side::First => decide(alloc, graphs, first, claim, ledger),
-        Side::Second => decide(alloc, graphs, second, claim, ledger),
+/// What is known of either of two circuits without asking. A claim is decided by structure where its output reaches none
+/// of its inputs, by a vector that was seen to break it, and else by asking; a query of a matching is asked. Contracts see
+/// it as the circuits.
+#[derive(Drop)]
+pub struct Sources<'a> {
+    graphs: &'a Graphs,
+    first: Source<'a>,
+    second: Source<'a>,
+}
+
+impl<'a> Model for Sources<'a> {
+    ghost use Rattle.net_core.specs.declared.graphs.Graphs.{Graphs as AnyGraphs};
+    ghost use Rattle.fact_tests.specs.Books.{AreSources};
+
+    ghost Value = { AnyGraphs };
+
+    ghost view = { λ a. a.graphs.now };
+
+    ghost invariant = { λ a. AreSources a.graphs.now a.first a.second };
+}
+
+impl<'a> Sources<'a> {
+    /// The supports of all outputs; nothing was hunted. The seed chooses the vectors that are simulated.
+    pub(crate) fn new(
+        alloc: Global,
+        graphs: &'a Graphs,
+        seed: u64,
+    ) -> Result<Sources<'a>, AllocError>
+        ensures { IfOk result (λ sources. sources ≡ graphs.now) }
+    {
+        Ok(Sources {
+            graphs,
+            first: Source::new(alloc, &graphs.first, seed)?,
+            second: Source::new(alloc, &graphs.second, seed)?,
+        })
+    }
+}
+
+impl<'a> Decide for Sources<'a> {
+    ghost circuits = { λ sources. sources };
+
+    fn graphs(&self) -> &Graphs {
+        self.graphs
+    }
+
+    fn evidence(
+        &mut self,
+        alloc: Global,
+        claim: &Claim,
+        ledger: &mut Ledger,
+    ) -> Result<Evidence, Stop> {
+        let graphs = self.graphs;
+        match claim.side {
+            Side::First => decide(alloc, graphs, &mut self.first, claim, ledger),
+            Side::Second => decide(alloc, graphs, &mut self.second, claim, ledger),
+        }
+    }
+
+    fn answer_to(&self, alloc: Global, query: &Query, ledger: &mut Ledger) -> Result<Answer, Stop> {
+        answer_to(alloc, self.graphs, query, ledger)
     }
 }
 

@@ -2,12 +2,14 @@
 //! and of one circuit the supports, unateness and symmetries of its outputs.
 #![tactic(auto)]
 
-pub mod answers;
+mod answers;
 mod asking;
 mod book;
 mod circuit_info;
+mod decide;
 mod deciding;
-pub mod facts;
+mod fact_book;
+mod facts;
 mod first_output;
 mod func_support;
 pub mod laws;
@@ -17,6 +19,8 @@ mod structure;
 mod symmetry_test;
 mod unate_test;
 
-pub use book::FactBook;
+pub use book::Book;
 pub use circuit_info::info;
+pub use decide::Decide;
 pub use deciding::with_values;
+pub use fact_book::FactBook;

@@ -4,5 +4,4 @@ pub use Rattle.account_core.specs.Oracles
 pub use Rattle.account_core.specs.Ports
 pub use Rattle.account_core.specs.Work
 pub use Rattle.ask_core.specs.Answers
-pub use Rattle.fact_tests.specs.Books
 pub use Rattle.query_core.specs.Claims

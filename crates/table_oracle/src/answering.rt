@@ -6,6 +6,7 @@ ghost use Rattle.query_core.specs.Claims.{IsClaim};
 ghost use Rattle.query_core.specs.ClaimQueries.{claim_query};
 ghost use Rattle.query_core.specs.Queries.{IsQuery, bits_in};
 ghost use Rattle.account_core.specs.Oracles.{IsEvidence};
+ghost use Rattle.account_core.specs.Ports.{HaveAsMany};
 ghost use Rattle.ask_core.specs.Answers.{IsAnswer};
 ghost use Rattle.fact_tests.specs.Asking.{IsDecided, IsHalted};
 
@@ -14,13 +15,62 @@ use crate::vectors::meeting_vector;
 use account_core::Evidence;
 use ask_core::Answer;
 use cnf_core::Stop;
-use fact_tests::with_values;
+use fact_tests::{Decide, with_values};
 use net_core::Graphs;
 use query_core::{Claim, Ledger, Query, of_claim};
 use std::alloc::Global;
+use std::marker::Model;
+
+/// Two circuits with as many ports, of at most 12 inputs, of which all vectors are tried. Contracts see it as the circuits.
+#[derive(Drop)]
+pub struct AllVectors<'a> {
+    graphs: &'a Graphs,
+}
+
+impl<'a> Model for AllVectors<'a> {
+    ghost use Rattle.net_core.specs.declared.graphs.Graphs.{Graphs as AnyGraphs};
+    ghost use Rattle.table_oracle.specs.Tables.{AreSmall};
+
+    ghost Value = { AnyGraphs };
+
+    ghost view = { λ a. a.graphs.now };
+
+    ghost invariant = { λ a. AreSmall a.graphs.now };
+}
+
+impl<'a> AllVectors<'a> {
+    pub(crate) fn new(graphs: &'a Graphs) -> AllVectors<'a>
+        requires ports { HaveAsMany graphs.now.first graphs.now.second }
+        requires small { graphs.now.first.inputs ≤ 12 }
+        ensures { result ≡ graphs.now }
+    {
+        AllVectors { graphs }
+    }
+}
+
+impl<'a> Decide for AllVectors<'a> {
+    ghost circuits = { λ vectors. vectors };
+
+    fn graphs(&self) -> &Graphs {
+        self.graphs
+    }
+
+    fn evidence(
+        &mut self,
+        alloc: Global,
+        claim: &Claim,
+        ledger: &mut Ledger,
+    ) -> Result<Evidence, Stop> {
+        evidence_of(alloc, self.graphs, claim, ledger)
+    }
+
+    fn answer_to(&self, alloc: Global, query: &Query, ledger: &mut Ledger) -> Result<Answer, Stop> {
+        answer_to(alloc, self.graphs, query, ledger)
+    }
+}
 
 /// A vector that meets a query, or else a log that refutes it, each line of which is charged.
-pub(crate) fn answer_to(
+fn answer_to(
     alloc: Global,
     graphs: &Graphs,
     query: &Query,
@@ -44,7 +94,7 @@ pub(crate) fn answer_to(
 }
 
 /// What the answer of a claim's query says of the claim.
-pub(crate) fn evidence_of(
+fn evidence_of(
     alloc: Global,
     graphs: &Graphs,
     claim: &Claim,

@@ -1,27 +1,16 @@
 //! The oracle that tries all vectors.
 
-ghost use Rattle.std.specs.Prelude.{◌≡◌, ◌≢◌, ◌<◌, ◌≤◌, [], false, true, All, IfOk, length};
-ghost use Rattle.circuits.specs.Matches.{HavePorts};
-ghost use Rattle.cnf_core.specs.Derivations.{IsRefutation};
-ghost use Rattle.query_core.specs.Claims.{IsClaim};
-ghost use Rattle.query_core.specs.Formulas.{formula_of};
+ghost use Rattle.std.specs.Prelude.{◌≡◌, ◌≤◌, [], false, IfOk};
 ghost use Rattle.query_core.specs.Ledgers.{Ledgered};
-ghost use Rattle.query_core.specs.MatchQueries.{match_query};
-ghost use Rattle.query_core.specs.Queries.{IsQuery};
-ghost use Rattle.account_core.specs.Oracles.{Claims, Compares, IsAnswered, Serves, Suits};
+ghost use Rattle.account_core.specs.Oracles.{Suits};
 ghost use Rattle.account_core.specs.Ports.{HaveAsMany};
-ghost use Rattle.account_core.specs.Work.{IsOfMatch};
-ghost use Rattle.ask_core.specs.Answers.{IsAnswer};
 
-use crate::answering::{answer_to, evidence_of};
+use crate::answering::AllVectors;
 use account_core::{Compared, Fact, Oracle};
-use ask_core::Answer;
-use bit_list::Bits;
-use cnf_core::{Log, Stop};
-use fact_tests::answers::{AnswerMap, copied};
-use fact_tests::facts::FactList;
+use cnf_core::Stop;
+use fact_tests::Book;
 use net_core::{Graphs, Matching};
-use query_core::{Claim, Ledger, Query, of_match};
+use query_core::{Claim, Ledger};
 use std::alloc::{AllocError, Global};
 use std::marker::Model;
 
@@ -30,22 +19,15 @@ use std::marker::Model;
 /// what it knows.
 #[derive(Drop)]
 pub struct TableOracle<'a> {
-    graphs: &'a Graphs,
-    facts: FactList,
-    /// The answered queries of matchings.
-    kept: AnswerMap,
+    book: Book<AllVectors<'a>>,
 }
 
 impl<'a> Model for TableOracle<'a> {
     ghost use Rattle.account_core.specs.Oracles.{Known};
-    ghost use Rattle.fact_tests.specs.Books.{known_by};
-    ghost use Rattle.table_oracle.specs.Tables.{IsTable};
 
     ghost Value = { Known };
 
-    ghost view = { λ a. known_by a.graphs.now a.facts a.kept };
-
-    ghost invariant = { λ a. IsTable a.graphs.now a.facts a.kept };
+    ghost view = { λ a. a.book };
 }
 
 impl<'a> TableOracle<'a> {
@@ -64,93 +46,8 @@ impl<'a> TableOracle<'a> {
             → Suits table ledger) }
     {
         Ok(TableOracle {
-            graphs,
-            facts: FactList::new(alloc),
-            kept: AnswerMap::new(alloc),
+            book: Book::new(alloc, AllVectors::new(graphs)),
         })
-    }
-
-    /// Decides a claim that has no fact.
-    fn add_fact(&mut self, alloc: Global, claim: Claim, ledger: &mut Ledger) -> Result<u64, Stop>
-        requires placed { IsClaim self.old.graphs claim }
-        requires suits { Suits self.old ledger.old }
-        requires missing { All (λ fact. fact.claim ≢ claim) self.old.facts }
-        ensures { Claims claim self.old self.new ledger.old ledger.new result }
-    {
-        match evidence_of(alloc, self.graphs, &claim, ledger) {
-            Ok(evidence) => {
-                let number = self.facts.add(Fact { claim, evidence })?;
-                Ok(number)
-            }
-            Err(stop) => Err(stop),
-        }
-    }
-
-    /// The answer of the query of a matching's output for a value.
-    fn answer(
-        &mut self,
-        alloc: Global,
-        matching: &Matching,
-        output: u32,
-        value: bool,
-        ledger: &mut Ledger,
-    ) -> Result<Answer, Stop>
-        requires ports { HavePorts self.old.graphs.first self.old.graphs.second
-            matching.now.inputs matching.now.outputs }
-        requires output { output < length self.old.graphs.first.outputs }
-        requires suits { Suits self.old ledger.old }
-        ensures serves { Serves self.old self.new ledger.old ledger.new result }
-        ensures answer { IfOk result
-            (IsAnswer self.old.graphs (match_query self.old.graphs.first.inputs matching.now output value)) }
-    {
-        let query = of_match(alloc, self.graphs, matching, output, value)?;
-        match self.kept.get(&query) {
-            Some(answer) => Ok(copied(alloc, answer)?),
-            None => self.ask_anew(alloc, query, ledger),
-        }
-    }
-
-    /// Compares an output of which a log refutes that it can be true and differ.
-    fn compare_false(
-        &mut self,
-        alloc: Global,
-        matching: &Matching,
-        output: u32,
-        of_true: Log,
-        ledger: &mut Ledger,
-    ) -> Result<Compared, Stop>
-        requires ports { HavePorts self.old.graphs.first self.old.graphs.second
-            matching.now.inputs matching.now.outputs }
-        requires output { output < length self.old.graphs.first.outputs }
-        requires suits { Suits self.old ledger.old }
-        requires log { IsRefutation (formula_of self.old.graphs
-            (match_query self.old.graphs.first.inputs matching.now output true)) of_true.lines }
-        ensures { Compares matching.now output self.old self.new ledger.old ledger.new result }
-    {
-        match self.answer(alloc, matching, output, false, ledger) {
-            Ok(Answer::Vector(vector)) => Ok(Compared::Differs(Bits::from_slice(alloc, &vector)?)),
-            Ok(Answer::Refuted(of_false)) => Ok(Compared::Same(of_true, of_false)),
-            Err(stop) => Err(stop),
-        }
-    }
-
-    /// Asks a query that wasn't answered.
-    fn ask_anew(&mut self, alloc: Global, query: Query, ledger: &mut Ledger) -> Result<Answer, Stop>
-        requires fits { IsQuery self.old.graphs query }
-        requires of_match { IsOfMatch self.old.graphs query }
-        requires missing { IsAnswered self.old query → ⊥ }
-        requires suits { Suits self.old ledger.old }
-        ensures serves { Serves self.old self.new ledger.old ledger.new result }
-        ensures answer { IfOk result (IsAnswer self.old.graphs query) }
-    {
-        match answer_to(alloc, self.graphs, &query, ledger) {
-            Ok(answer) => {
-                let copy = copied(alloc, &answer)?;
-                self.kept.add(query, answer)?;
-                Ok(copy)
-            }
-            Err(stop) => Err(stop),
-        }
     }
 }
 
@@ -158,10 +55,7 @@ impl<'a> Oracle for TableOracle<'a> {
     ghost known = { λ table. table };
 
     fn claim(&mut self, alloc: Global, claim: Claim, ledger: &mut Ledger) -> Result<u64, Stop> {
-        match self.facts.number_of(&claim) {
-            Some(number) => Ok(number),
-            None => self.add_fact(alloc, claim, ledger),
-        }
+        self.book.claim(alloc, claim, ledger)
     }
 
     fn compare(
@@ -171,14 +65,10 @@ impl<'a> Oracle for TableOracle<'a> {
         output: u32,
         ledger: &mut Ledger,
     ) -> Result<Compared, Stop> {
-        match self.answer(alloc, matching, output, true, ledger) {
-            Ok(Answer::Vector(vector)) => Ok(Compared::Differs(Bits::from_slice(alloc, &vector)?)),
-            Ok(Answer::Refuted(log)) => self.compare_false(alloc, matching, output, log, ledger),
-            Err(stop) => Err(stop),
-        }
+        self.book.compare(alloc, matching, output, ledger)
     }
 
     fn facts(&self) -> &[Fact] {
-        self.facts.as_slice()
+        self.book.facts()
     }
 }

@@ -9,10 +9,10 @@ use Rattle.account_core.specs.Oracles.{IsDifference, IsCompared}
 use Rattle.query_core.specs.MatchQueries.{match_query}
 use Rattle.fact_tests.proofs.BookLemmas.{serves_ok, serves_then}
 use Rattle.fact_tests.proofs.MatchBits.{met_difference}
-use Rattle.fact_tests.proofs.book.FactBookOracle.compare.Goals as goal
+use Rattle.fact_tests.proofs.book.BookOracle.compare.Goals as goal
 
 pub returns-in_ok-from_slice-in-Ok-Vector : goal.returns-in_ok-from_slice-in-Ok-Vector
-returns-in_ok-from_slice-in-Ok-Vector c =
+returns-in_ok-from_slice-in-Ok-Vector g c =
     let graphs = c.args.self.now.graphs in
     let matching = c.args.matching.now in
     let k = c.args.output in
@@ -27,7 +27,7 @@ returns-in_ok-from_slice-in-Ok-Vector c =
     }
 
 pub returns-in-Ok-Refuted : goal.returns-in-Ok-Refuted
-returns-in-Ok-Refuted c =
+returns-in-Ok-Refuted g c =
     let old = c.args.self.now in
     let mid = c.answer.new.self in
     let matching = c.args.matching.now in

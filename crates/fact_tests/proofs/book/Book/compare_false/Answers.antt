@@ -7,10 +7,10 @@ use Rattle.account_core.specs.Oracles.{IsDifference}
 use Rattle.query_core.specs.MatchQueries.{match_query}
 use Rattle.fact_tests.proofs.BookLemmas.{serves_ok}
 use Rattle.fact_tests.proofs.MatchBits.{met_difference}
-use Rattle.table_oracle.proofs.table.TableOracle.compare_false.Goals as goal
+use Rattle.fact_tests.proofs.book.Book.compare_false.Goals as goal
 
 pub returns-in_ok-from_slice-in-Ok-Vector : goal.returns-in_ok-from_slice-in-Ok-Vector
-returns-in_ok-from_slice-in-Ok-Vector c =
+returns-in_ok-from_slice-in-Ok-Vector g c =
     let graphs = c.args.self.now.graphs in
     let matching = c.args.matching.now in
     let k = c.args.output in

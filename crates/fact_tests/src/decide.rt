@@ -1,0 +1,65 @@
+//! What decides claims and answers queries.
+
+ghost use Rattle.std.specs.Prelude.{◌≡◌, false, IfOk, IfErr};
+ghost use Rattle.net_core.specs.declared.graphs.Graphs.{Graphs as AnyGraphs};
+ghost use Rattle.query_core.specs.Claims.{IsClaim};
+ghost use Rattle.query_core.specs.ClaimQueries.{claim_query};
+ghost use Rattle.query_core.specs.Queries.{IsQuery};
+ghost use Rattle.account_core.specs.Oracles.{IsEvidence};
+ghost use Rattle.account_core.specs.Work.{IsOfMatch};
+ghost use Rattle.ask_core.specs.Answers.{IsAnswer};
+ghost use Rattle.fact_tests.specs.Asking.{IsDecided, IsHalted};
+
+use account_core::Evidence;
+use ask_core::Answer;
+use cnf_core::Stop;
+use net_core::Graphs;
+use query_core::{Claim, Ledger, Query};
+use std::alloc::Global;
+
+/// Decides claims about two circuits, and answers queries of matchings of theirs. It keeps nothing of what it decided;
+/// what has to be refuted is asked in a ledger.
+pub trait Decide {
+    /// The two circuits.
+    ghost circuits: { Self → AnyGraphs };
+
+    /// The two circuits.
+    fn graphs(&self) -> &Graphs
+        ensures { result.now ≡ circuits self.now };
+
+    /// Evidence for a claim, or against it.
+    ///
+    /// # Errors
+    ///
+    /// `Spent` where a line had to be learned and the budget was spent; the ledger keeps it as the refused line.
+    /// `Memory` where memory is wanting; nothing is said of the ledger then.
+    fn evidence(
+        &mut self,
+        alloc: Global,
+        claim: &Claim,
+        ledger: &mut Ledger,
+    ) -> Result<Evidence, Stop>
+        requires placed { IsClaim (circuits self.old) claim.now }
+        requires unspent { ledger.old.spent ≡ false }
+        ensures same { circuits self.new ≡ circuits self.old }
+        ensures evidence { IfOk result (IsEvidence (circuits self.old) claim.now) }
+        ensures decided { IfOk result (λ _.
+            IsDecided (circuits self.old) (claim_query (circuits self.old) claim.now) ledger.old ledger.new) }
+        ensures unspent { IfOk result (λ _. ledger.new.spent ≡ false) }
+        ensures stop { IfErr result
+            (IsHalted (circuits self.old) (claim_query (circuits self.old) claim.now) ledger.old ledger.new) };
+
+    /// A vector that meets a query of a matching, or a log that refutes it.
+    ///
+    /// # Errors
+    ///
+    /// As for `evidence`.
+    fn answer_to(&self, alloc: Global, query: &Query, ledger: &mut Ledger) -> Result<Answer, Stop>
+        requires fits { IsQuery (circuits self.now) query.now }
+        requires of_match { IsOfMatch (circuits self.now) query.now }
+        requires unspent { ledger.old.spent ≡ false }
+        ensures answer { IfOk result (IsAnswer (circuits self.now) query.now) }
+        ensures decided { IfOk result (λ _. IsDecided (circuits self.now) query.now ledger.old ledger.new) }
+        ensures unspent { IfOk result (λ _. ledger.new.spent ≡ false) }
+        ensures stop { IfErr result (IsHalted (circuits self.now) query.now ledger.old ledger.new) };
+}

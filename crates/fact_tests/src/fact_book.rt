@@ -1,0 +1,73 @@
+//! The book of facts.
+
+ghost use Rattle.std.specs.Prelude.{◌≡◌, [], false, IfOk};
+ghost use Rattle.query_core.specs.Ledgers.{Ledgered};
+ghost use Rattle.account_core.specs.Oracles.{Suits};
+
+use crate::book::Book;
+use crate::deciding::Sources;
+use account_core::{Compared, Fact, Oracle};
+use cnf_core::Stop;
+use net_core::{Graphs, Matching};
+use query_core::{Claim, Ledger};
+use std::alloc::{AllocError, Global};
+use std::marker::Model;
+
+/// Facts about two circuits. A claim is decided by structure where its output doesn't reach its inputs; then by a
+/// vector that simulation saw; and else it is asked. Each fact is kept, and so is each answer about a matching.
+/// Contracts see the book as what it knows.
+#[derive(Drop)]
+pub struct FactBook<'a> {
+    book: Book<Sources<'a>>,
+}
+
+impl<'a> Model for FactBook<'a> {
+    ghost use Rattle.account_core.specs.Oracles.{Known};
+
+    ghost Value = { Known };
+
+    ghost view = { λ a. a.book };
+}
+
+impl<'a> FactBook<'a> {
+    /// An empty book, which every ledger suits in which nothing was asked. The seed chooses the vectors that are
+    /// simulated.
+    ///
+    /// # Errors
+    ///
+    /// For want of memory alone.
+    pub fn new(alloc: Global, graphs: &'a Graphs, seed: u64) -> Result<FactBook<'a>, AllocError>
+        ensures empty { IfOk result (λ book. book ≡ record { graphs = graphs.now; facts = []; answered = [] }) }
+        ensures suits { IfOk result (λ book. (ledger : Ledgered)
+            → ledger.asked ≡ []
+            → ledger.spent ≡ false
+            → Suits book ledger) }
+    {
+        let sources = Sources::new(alloc, graphs, seed)?;
+        Ok(FactBook {
+            book: Book::new(alloc, sources),
+        })
+    }
+}
+
+impl<'a> Oracle for FactBook<'a> {
+    ghost known = { λ book. book };
+
+    fn claim(&mut self, alloc: Global, claim: Claim, ledger: &mut Ledger) -> Result<u64, Stop> {
+        self.book.claim(alloc, claim, ledger)
+    }
+
+    fn compare(
+        &mut self,
+        alloc: Global,
+        matching: &Matching,
+        output: u32,
+        ledger: &mut Ledger,
+    ) -> Result<Compared, Stop> {
+        self.book.compare(alloc, matching, output, ledger)
+    }
+
+    fn facts(&self) -> &[Fact] {
+        self.book.facts()
+    }
+}
