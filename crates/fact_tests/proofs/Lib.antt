@@ -1,15 +1,15 @@
-pub mod AnswerLemmas
-pub mod NumberLemmas
-pub mod EqualLemmas
-pub mod WorkLemmas
-pub mod SupportLemmas
-pub mod StructureLemmas
-pub mod ReachLemmas
+mod AnswerLemmas
+mod NumberLemmas
+mod EqualLemmas
+mod WorkLemmas
+mod SupportLemmas
+mod StructureLemmas
+mod ReachLemmas
 pub mod ConeLemmas
 pub mod AskingLemmas
-pub mod BookLemmas
-pub mod MatchBits
-pub mod Serving
-pub mod ClaimFacts
+mod BookLemmas
+mod MatchBits
+mod Serving
+mod ClaimFacts
 pub mod RowLemmas
-pub mod OneRow
+mod OneRow

@@ -16,6 +16,9 @@ use std::marker::Model;
 /// How often 64 vectors are drawn for an output of more than six inputs.
 const ROUNDS: u32 = 4;
 
+/// Before an output is hunted with so many sightings held, they are forgotten: they take about 9 megabytes then.
+const MOST: usize = 65_536;
+
 /// What was seen of an output.
 #[derive(Drop)]
 struct Seen {
@@ -24,14 +27,16 @@ struct Seen {
     places: IndexMap<Shape, usize>,
 }
 
-/// What was seen of the outputs of a circuit. An output is hunted when it is first asked about. Contracts see it as the
-/// circuit.
+/// What was seen of the outputs of a circuit. An output is hunted when it is asked about and nothing is held of it.
+/// Contracts see it as the circuit.
 #[derive(Drop)]
 pub(crate) struct Sightings<'a> {
     graph: &'a Graph,
     seed: u64,
-    /// One entry for each output: none where it wasn't hunted.
+    /// One entry for each output: none where it wasn't hunted, or where what was seen of it was forgotten.
     outputs: Vec<Option<Seen>>,
+    /// How many sightings the entries have.
+    held: usize,
 }
 
 impl<'a> Model for Sightings<'a> {
@@ -59,6 +64,7 @@ impl<'a> Sightings<'a> {
             graph,
             seed,
             outputs,
+            held: 0,
         })
     }
 
@@ -73,7 +79,14 @@ impl<'a> Sightings<'a> {
         ensures same { self.new ≡ self.old }
         ensures breaks { IfOk result (λ found. IfSome found (BreaksShape self.old output shape.now)) }
     {
-        hunt_once(alloc, self.graph, self.seed, output, &mut self.outputs)?;
+        hunt_once(
+            alloc,
+            self.graph,
+            self.seed,
+            output,
+            &mut self.outputs,
+            &mut self.held,
+        )?;
         copy_of(&self.outputs[output as usize], shape)
     }
 }
@@ -90,24 +103,44 @@ fn unseen(alloc: Global, count: usize) -> Result<Vec<Option<Seen>>, AllocError>
     Ok(outputs)
 }
 
-/// Hunts an output that wasn't hunted.
+/// Hunts an output of which nothing is held.
 fn hunt_once(
     alloc: Global,
     graph: &Graph,
     seed: u64,
     output: u32,
-    outputs: &mut [Option<Seen>],
+    outputs: &mut Vec<Option<Seen>>,
+    held: &mut usize,
 ) -> Result<(), AllocError>
-    requires seen { AreSeen graph.now outputs.old }
+    requires seen { AreSeen graph.now outputs.old.items }
     requires output { output < length graph.now.outputs }
-    ensures { AreSeen graph.now outputs.new }
+    ensures { AreSeen graph.now outputs.new.items }
 {
     if outputs[output as usize].is_some() {
         return Ok(());
     }
+    forget_many(alloc, outputs, held)?;
     let sightings = hunt(alloc, graph, output, seed, ROUNDS)?;
+    *held = held.saturating_add(sightings.len());
     let places = places_of(alloc, &sightings)?;
     outputs[output as usize] = Some(Seen { sightings, places });
+    Ok(())
+}
+
+/// Forgets what was seen, where it is much.
+fn forget_many(
+    alloc: Global,
+    outputs: &mut Vec<Option<Seen>>,
+    held: &mut usize,
+) -> Result<(), AllocError>
+    ensures { (net : AnyNet) → AreSeen net outputs.old.items → AreSeen net outputs.new.items }
+{
+    if *held < MOST {
+        return Ok(());
+    }
+    let none = unseen(alloc, outputs.len())?;
+    *outputs = none;
+    *held = 0;
     Ok(())
 }
 
