@@ -26,11 +26,12 @@ def look():
             if not words[0].endswith("/rattle") or "--crate-name" not in words or not is_below(int(pid), gate.pid):
                 continue
             times = open(f"/proc/{pid}/stat").read().rsplit(")", 1)[1].split()
+            folder = os.readlink(f"/proc/{pid}/cwd")
             started = times[19]
         except OSError:
             continue
         crate = words[words.index("--crate-name") + 1]
-        what = "tests" if "--test" in words else "edits" if words[1] == "check" else "proof"
+        what = "tests" if "--test" in words else "edits" if "rt-edit-" in folder else "proof"
         seen[pid, started] = (crate, what), (int(times[11]) + int(times[12])) / ticks
 
 
