@@ -12,4 +12,4 @@
 set -eu
 top=$(cd "$(dirname "${BASH_SOURCE[0]}")/.." && pwd)
 "$top/npnp" --help >/dev/null
-exec python3 "$top/bench/match_beside_abc.py" "$top/crates/npnp/out/npnp" "$@"
+exec python3 "$top/bench/match_beside_abc.py" "$top/crates/npnp_cli/out/npnp_cli" "$@"

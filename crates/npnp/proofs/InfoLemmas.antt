@@ -4,6 +4,8 @@ use Rattle.circuits.specs.Netlists.{Net}
 use Rattle.net_core.specs.declared.graphs.Graphs.{Graphs}
 use Rattle.net_core.specs.declared.matching.Matching.{Matching}
 use Rattle.net_core.specs.declared.named.Named.{Named}
+use Rattle.cnf_core.specs.declared.stop.Stop.{Stop}
+use Rattle.cnf_core.specs.declared.stop.Stop.TheVariants as stop
 use Rattle.shelf_core.specs.State.{ShelfState}
 use Rattle.query_core.specs.Ledgers.{Ledgered}
 use Rattle.account_core.specs.Oracles.{IsSpentWork, Known, Suits}
@@ -16,7 +18,7 @@ use Rattle.npnp.specs.Held.{HoldsGraph}
 use Rattle.npnp.specs.Outcomes.{IsRight, Leaves}
 use Rattle.npnp.proofs.CheckLemmas.{leaves, stopped}
 use Rattle.npnp.specs.Info.{IsSpentOf, with_itself}
-use Rattle.npnp.specs.Steps.{Decides, InformsOf, IsEnding, IsOfReading, IsReadFrom, IsStopWithin, asked_info, netlist_of}
+use Rattle.npnp.specs.Steps.{Decides, InformsOf, IsEnding, IsNew, IsOfReading, IsReadFrom, IsStopWithin, asked_info, netlist_of}
 use Rattle.npnp.specs.Words.{AsksInfo}
 use Rattle.npnp.specs.declared.words.Info.{Info as InfoWords}
 use Rattle.npnp.specs.declared.run.Ending.{Ending}
@@ -40,6 +42,21 @@ suits_new graphs budget = record {
 pub suits_first : (graphs : Graphs) (known : Known) (ledger : Ledgered) (budget : ℕ) → known ≡ record { graphs = graphs; facts = []; answered = [] } → ledger ≡ record { budget = budget; asked = []; spent = false } → Suits known ledger
 suits_first graphs known ledger budget is empty =
     subst (λ known. Suits known ledger) (sym is) (subst (Suits (record { graphs = graphs; facts = []; answered = [] })) (sym empty) (suits_new graphs budget))
+
+-- a ledger that was made is new, and so of the budget that it was made with
+pub is_new : (ledger : Ledgered) (budget : ℕ) → ledger ≡ record { budget = budget; asked = []; spent = false } → IsNew ledger
+is_new ledger budget is = subst IsNew (sym is) refl
+
+pub budget_of_new : (graphs : Graphs) (ledger after : Ledgered) (budget : ℕ) → ledger ≡ record { budget = budget; asked = []; spent = false } → IsSpentOf graphs ledger.budget after → IsSpentOf graphs budget after
+budget_of_new graphs ledger after budget is spent = subst (λ budget. IsSpentOf graphs budget after) (ap (λ (ledger : Ledgered). ledger.budget) is) spent
+
+-- want of memory is no spent budget
+pub memory_stops : {X : Type 0} (P : ℕ → Type 0) (result : Result X Stop) → result ≡ Err stop.Memory → (learned : ℕ) → result ≡ Err (stop.Spent learned) → P learned
+memory_stops P result memory learned spent = absurd (cc (memory, spent))
+
+-- what a spent budget says
+pub spent_says : (P : Stop → Type 0) {given : Stop} (learned : ℕ) → P given → given ≡ stop.Spent learned → P (stop.Spent learned)
+spent_says P learned holds is = subst P is holds
 
 -- rows name inputs that are there
 pub rows_in_range : (net : Net) (rows : List OutputInfo) → AreRows net rows → All (IsInRange net.inputs) rows

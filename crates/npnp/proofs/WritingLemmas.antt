@@ -1,5 +1,5 @@
 -- First parts of a text that is written in pieces.
-use Rattle.std.proofs.Common.{◌≡◌, ◌≢◌, ◌⊎◌, ℕ, ◌+◌, ◌-◌, ◌<◌, ◌≤◌, min, inl, inr, Bool, IsTrue, List, ◌++◌, length, take, drop, Option, Some, Result, Ok, Err, OnOk, OnErr, refl, sym, ◌∙◌, ap, subst, arith, length-take}
+use Rattle.std.proofs.Common.{◌≡◌, ◌≢◌, ◌⊎◌, ℕ, ◌+◌, ◌<◌, ◌≤◌, min, inl, inr, Bool, IsTrue, List, ◌++◌, length, take, drop, Option, Some, Result, Ok, Err, OnOk, OnErr, refl, sym, ◌∙◌, ap, subst, arith, length-take}
 use Rattle.std.specs.List.{between}
 use Rattle.std.proofs.lemmas.List.{take-append-drop, take-take, take_all, take_at, take-append-le, take_min, drop-take, drop_at}
 use Rattle.std.proofs.lemmas.Slice.{between_is}

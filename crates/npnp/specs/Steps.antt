@@ -1,5 +1,5 @@
 -- What the steps of a run do.
-use Rattle.std.specs.Prelude.{◌≡◌, ◌≢◌, ℕ, ◌⊎◌, ◌≤◌, Bool, IsTrue, List, ◌++◌, length, take, Option, None, Some, Result, Ok, Err, IfOk, IfErr, OnOk, OnErr}
+use Rattle.std.specs.Prelude.{◌≡◌, ◌≢◌, ℕ, ◌⊎◌, ◌≤◌, Bool, false, IsTrue, List, [], ◌++◌, length, take, Option, None, Some, Result, Ok, Err, IfOk, IfErr, OnOk, OnErr}
 use Rattle.circuits.specs.Circuits.{Circuit}
 use Rattle.circuits.specs.Functions.{Computes}
 use Rattle.circuits.specs.Levels.{IsAcyclic, IsOrderOf}
@@ -162,6 +162,10 @@ last_line = record_line entry.End
 pub record Solves (graphs : Graphs) (budget : ℕ) (result : Result Solved Outcome) : Type 0 where
   pub answer : IfOk result (λ solved. IsAnswered graphs (solved.account.items ++ last_line) solved.outcome)
   pub stopped : IfErr result (IsStopWithin graphs budget)
+
+-- Nothing was asked in a ledger.
+abbrev pub IsNew : Ledgered → Type 0
+IsNew ledger = ledger ≡ record { budget = ledger.budget; asked = []; spent = false }
 
 -- a write was refused
 abbrev pub IsUnwritten : Outcome → Type 0

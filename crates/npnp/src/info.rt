@@ -1,10 +1,12 @@
 //! What is known of one netlist.
 
-ghost use Rattle.std.specs.Prelude.{◌≡◌, IfOk, IfErr};
+ghost use Rattle.std.specs.Prelude.{◌≡◌, ℕ, Err, IfOk, IfErr};
+ghost use Rattle.cnf_core.specs.declared.stop.Stop.TheVariants.{Spent};
 ghost use Rattle.shelf_core.specs.State.{Closed};
 ghost use Rattle.fact_tests.specs.Rows.{AreRows};
 ghost use Rattle.port_report.specs.Infos.{info_text};
-ghost use Rattle.npnp.specs.Steps.{Decides, InformsOf, asked_info};
+ghost use Rattle.npnp.specs.Info.{IsSpentOf, with_itself};
+ghost use Rattle.npnp.specs.Steps.{Decides, InformsOf, IsNew, asked_info};
 
 use crate::netlists::read_netlist;
 use crate::outcome::{Outcome, Which};
@@ -35,15 +37,25 @@ pub fn inform<S: Shelf>(alloc: Global, info: &Info<'_>, shelf: &mut S) -> Result
 fn inform_of(alloc: Global, named: &Named, budget: u64) -> Result<Ending, Outcome>
     ensures { InformsOf named.now budget result }
 {
-    // the circuit is set against itself: claims of its first side are all that is asked
-    let graphs = copy_graphs(alloc, named, named)?;
-    let mut book = FactBook::new(alloc, &graphs, SEED)?;
     let mut ledger = Ledger::new(alloc, budget);
-    match fact_tests::info(alloc, &graphs, &mut book, &mut ledger) {
+    match rows_of(alloc, named, &mut ledger) {
         Ok(rows) => informed(alloc, named, &rows),
         Err(Stop::Spent(_)) => Err(Outcome::Spent(ledger)),
         Err(Stop::Memory) => Err(Outcome::Memory),
     }
+}
+
+/// The rows of a netlist, by what is asked of it in a new ledger.
+fn rows_of(alloc: Global, named: &Named, ledger: &mut Ledger) -> Result<Vec<OutputInfo>, Stop>
+    requires { IsNew ledger.old }
+    ensures rows { IfOk result (λ rows. AreRows named.now.graph rows.items) }
+    ensures spent { (learned : ℕ) → result ≡ Err (Spent learned)
+        → IsSpentOf (with_itself named.now.graph) ledger.old.budget ledger.new }
+{
+    // the circuit is set against itself: claims of its first side are all that is asked
+    let graphs = copy_graphs(alloc, named, named)?;
+    let mut book = FactBook::new(alloc, &graphs, SEED)?;
+    fact_tests::info(alloc, &graphs, &mut book, ledger)
 }
 
 /// The end of a run that reports rows of a netlist.

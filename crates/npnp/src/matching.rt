@@ -1,14 +1,16 @@
 //! A match of two netlists, sought and proved.
 
-ghost use Rattle.std.specs.Prelude.{◌≡◌, ◌++◌, ◌↔◌, IfOk, IsTrue, OnErr, map};
+ghost use Rattle.std.specs.Prelude.{◌≡◌, ℕ, ◌++◌, ◌↔◌, Err, IfOk, IsTrue, map};
+ghost use Rattle.cnf_core.specs.declared.stop.Stop.TheVariants.{Spent};
 ghost use Rattle.account_core.specs.Given.{decided_by};
 ghost use Rattle.account_core.specs.Oracles.{AreFacts};
 ghost use Rattle.account_core.specs.Ports.{HaveAsMany};
 ghost use Rattle.account_core.specs.Steps.{AreValidBans};
 ghost use Rattle.match_search.specs.Founds.{IsEmptyBan, IsFound, IsShownMatch};
 ghost use Rattle.shelf_core.specs.State.{Closed};
+ghost use Rattle.npnp.specs.Info.{IsSpentOf};
 ghost use Rattle.npnp.specs.Stops.{unwritten};
-ghost use Rattle.npnp.specs.Steps.{Concludes, Decides, Finds, IsAnswered, Solves, asked_match, last_line};
+ghost use Rattle.npnp.specs.Steps.{Concludes, Decides, Finds, IsAnswered, IsNew, Solves, asked_match, last_line};
 
 use crate::netlists::read_netlist;
 use crate::outcome::{Outcome, Which};
@@ -121,14 +123,26 @@ fn solve_by_search(
     requires { HaveAsMany graphs.now.first graphs.now.second }
     ensures { Solves graphs.now budget result }
 {
-    let mut book = FactBook::new(alloc, graphs, seed)?;
-    let mut bans = BanBook::new(alloc);
     let mut ledger = Ledger::new(alloc, budget);
-    match search(alloc, graphs, &mut book, &mut bans, &mut ledger) {
-        Ok(found) => Ok(answered(alloc, graphs, found, book.facts(), bans.bans())?),
+    match search_in(alloc, graphs, seed, &mut ledger) {
+        Ok(solved) => Ok(solved),
         Err(Stop::Spent(_)) => Err(Outcome::Spent(ledger)),
         Err(Stop::Memory) => Err(Outcome::Memory),
     }
+}
+
+/// Searches two graphs with as many ports, and asks in a new ledger.
+fn search_in(alloc: Global, graphs: &Graphs, seed: u64, ledger: &mut Ledger) -> Result<Solved, Stop>
+    requires ports { HaveAsMany graphs.now.first graphs.now.second }
+    requires new { IsNew ledger.old }
+    ensures answer { IfOk result (λ solved. IsAnswered graphs.now (solved.account.items ++ last_line) solved.outcome) }
+    ensures spent { (learned : ℕ) → result ≡ Err (Spent learned)
+        → IsSpentOf graphs.now ledger.old.budget ledger.new }
+{
+    let mut book = FactBook::new(alloc, graphs, seed)?;
+    let mut bans = BanBook::new(alloc);
+    let found = search(alloc, graphs, &mut book, &mut bans, ledger)?;
+    Ok(answered(alloc, graphs, found, book.facts(), bans.bans())?)
 }
 
 /// The answer that a search came to by facts and bans, with its account.

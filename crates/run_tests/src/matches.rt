@@ -1,38 +1,10 @@
 //! Matches that are sought, and the accounts that are written of them.
 
-use super::{A, AND, B, C17, C17_MOVED, EMPTY, OR, answer, words_of};
-use crate::run::run;
-use shelf_core::{SafeShelf, SafeSink};
-use std::alloc::{AllocError, Global};
+use crate::files::{A, AND, B, C17, C17_MOVED, EMPTY, OR, THREE, TWO, XOR};
+use crate::runs::{CHECK, MATCH, expect, run_on};
+use std::alloc::Global;
 use std::process::Abort;
 use std::test::Fail;
-
-/// How a match of two netlists ended, what it printed, and the account that it wrote, nothing where there is none.
-#[derive(Drop)]
-struct Ended {
-    status: u8,
-    report: Vec<u8>,
-    account: Vec<u8>,
-}
-
-/// Runs on two netlists, named `A` and `B`.
-fn seek(alloc: Global, words: &[&str], files: [&[u8]; 2]) -> Result<Ended, AllocError> {
-    let [first, second] = files;
-    let first = (String::from_str(alloc, "A")?, first.to_vec(alloc)?);
-    let second = (String::from_str(alloc, "B")?, second.to_vec(alloc)?);
-    let mut held = Vec::new(alloc);
-    held.push(first)?;
-    held.push(second)?;
-    let mut shelf = SafeShelf::new(alloc, held, 65_536)?;
-    let mut sink = SafeSink::new(alloc);
-    let words = words_of(alloc, words)?;
-    let outcome = run(alloc, words.as_slice(), &mut shelf, &mut sink);
-    Ok(Ended {
-        status: outcome.status(),
-        report: sink.written().to_vec(alloc)?,
-        account: shelf.file("t").unwrap_or(b"").to_vec(alloc)?,
-    })
-}
 
 /// The match of two netlists: the words, how it ends, what it prints, and what a check of its account prints then.
 struct Sought {
@@ -43,33 +15,27 @@ struct Sought {
     checked: &'static [u8],
 }
 
-fn seek_rows(rt: &impl Abort, alloc: Global, rows: &[Sought]) -> Result<(), Fail> {
-    for row in rows {
-        let ended = seek(alloc, row.words, row.files)?;
-        assert_eq!(rt; ended.report.as_slice(), row.report);
-        assert_eq!(rt; ended.status, row.status);
-        let [first, second] = row.files;
-        let files = [first, second, ended.account.as_slice()];
-        let (status, checked) = answer(alloc, &["check", "A", "B", "t"], files)?;
-        assert_eq!(rt; checked.as_slice(), row.checked);
-        assert_eq!(rt; status, row.status);
-    }
-    Ok(())
+/// Seeks a match, and checks the account that was written, nothing where there is none.
+fn seek(rt: &impl Abort, alloc: Global, row: &Sought) -> Result<(), Fail> {
+    let ended = run_on(alloc, row.words, row.files, None)?;
+    assert_eq!(rt;
+        (ended.status, ended.report.as_slice()),
+        (row.status, row.report)
+    );
+    let account = ended.account.as_deref().unwrap_or(b"");
+    let [first, second] = row.files;
+    expect(
+        rt,
+        alloc,
+        CHECK,
+        [first, second, account],
+        row.status,
+        row.checked,
+    )
 }
-
-/// The words of a match, by the default budget and seed.
-const WORDS: &[&str] = &["match", "A", "B", "t"];
 
 /// Nothing may be learned.
 const WITHOUT_BUDGET: &[&str] = &["match", "A", "B", "t", "0"];
-
-/// Three inputs and nothing else, and two.
-const THREE: &[u8] = b"aag 3 3 0 0 0\n2\n4\n6\n";
-
-const TWO: &[u8] = b"aag 2 2 0 0 0\n2\n4\n";
-
-/// The exclusive or of two inputs.
-const XOR: &[u8] = b"aag 5 2 0 1 3\n2\n4\n10\n6 2 4\n8 3 5\n10 7 9\n";
 
 /// Whether exactly two of four inputs are 1, and whether an odd number of them are.
 const TWO_OF_FOUR: &[u8] =
@@ -81,7 +47,7 @@ const ODD_OF_FOUR: &[u8] =
 const SOUGHT: [Sought; 9] = [
     Sought {
         files: [A, B],
-        words: WORDS,
+        words: MATCH,
         status: 0,
         report: b"matched\ninput 0 i0 = not input 1 i1\ninput 1 i1 = input 0 i0\noutput 0 o0 = not output 1 o1\noutput 1 o1 = output 0 o0\n",
         checked: b"accepted match\ninput 0 i0 = not input 1 i1\ninput 1 i1 = input 0 i0\noutput 0 o0 = not output 1 o1\noutput 1 o1 = output 0 o0\n",
@@ -95,7 +61,7 @@ const SOUGHT: [Sought; 9] = [
     },
     Sought {
         files: [AND, XOR],
-        words: WORDS,
+        words: MATCH,
         status: 1,
         report: b"no matching\n",
         checked: b"accepted refusal\n",
@@ -125,7 +91,7 @@ const SOUGHT: [Sought; 9] = [
     },
     Sought {
         files: [TWO_OF_FOUR, ODD_OF_FOUR],
-        words: WORDS,
+        words: MATCH,
         status: 1,
         report: b"no matching\n",
         checked: b"accepted refusal\n",
@@ -140,7 +106,7 @@ const SOUGHT: [Sought; 9] = [
     // the AND with itself: the plain order is tried first
     Sought {
         files: [AND, AND],
-        words: WORDS,
+        words: MATCH,
         status: 0,
         report: b"matched\ninput 0 i0 = input 0 i0\ninput 1 i1 = input 1 i1\noutput 0 o0 = output 0 o0\n",
         checked: b"accepted match\ninput 0 i0 = input 0 i0\ninput 1 i1 = input 1 i1\noutput 0 o0 = output 0 o0\n",
@@ -149,64 +115,80 @@ const SOUGHT: [Sought; 9] = [
 
 #[test]
 fn finds_matches_or_that_there_is_none(rt: HostRuntime) -> Result<(), Fail> {
-    seek_rows(&rt, rt.alloc(), &SOUGHT)
+    for row in &SOUGHT {
+        seek(&rt, rt.alloc(), row)?;
+    }
+    Ok(())
 }
 
-/// Words, the status, the report and the whole account. An account that isn't written is nothing.
-const WRITTEN: [(&[&str], [&[u8]; 2], u8, &[u8], &[u8]); 8] = [
+/// Words and netlists, the status, the report and the whole account, where one is written.
+type Written = (
+    &'static [&'static str],
+    [&'static [u8]; 2],
+    u8,
+    &'static [u8],
+    Option<&'static [u8]>,
+);
+
+const WRITTEN: [Written; 8] = [
     (
-        WORDS,
+        MATCH,
         [EMPTY, EMPTY],
         0,
         b"matched\n",
-        b"npnp 1\nmatch\nend\n",
+        Some(b"npnp 1\nmatch\nend\n"),
     ),
     (
-        WORDS,
+        MATCH,
         [THREE, TWO],
         1,
         b"no matching\n",
-        b"npnp 1\nnone ports\nend\n",
+        Some(b"npnp 1\nnone ports\nend\n"),
     ),
-    (WITHOUT_BUDGET, [A, B], 3, b"spent 0\n", b""),
-    (&["match", "A", "B", "A"], [A, B], 4, b"usage\n", b""),
+    (WITHOUT_BUDGET, [A, B], 3, b"spent 0\n", None),
+    (&["match", "A", "B", "A"], [A, B], 4, b"usage\n", None),
     (
         &["match", "A", "B", "t", "18446744073709551616"],
         [A, B],
         4,
         b"usage\n",
-        b"",
+        None,
     ),
     (
         &["match", "A", "B", "t", "1", "2", "3"],
         [A, B],
         4,
         b"usage\n",
-        b"",
+        None,
     ),
     (
         &["match", "A", "z", "t"],
         [A, B],
         5,
         b"absent second\n",
-        b"",
+        None,
     ),
     (
-        WORDS,
+        MATCH,
         [A, b"aag 1 1 0 1 0\n2\n"],
         5,
         b"malformed second 14 16\n",
-        b"",
+        None,
     ),
 ];
 
 #[test]
 fn writes_whole_accounts_or_none(rt: HostRuntime) -> Result<(), Fail> {
     for (words, files, status, report, account) in WRITTEN {
-        let ended = seek(rt.alloc(), words, files)?;
-        assert_eq!(rt; ended.report.as_slice(), report);
-        assert_eq!(rt; ended.status, status);
-        assert_eq!(rt; ended.account.as_slice(), account);
+        let ended = run_on(rt.alloc(), words, files, None)?;
+        assert_eq!(rt;
+            (
+                ended.status,
+                ended.report.as_slice(),
+                ended.account.as_deref()
+            ),
+            (status, report, account)
+        );
     }
     Ok(())
 }
@@ -219,11 +201,10 @@ const AND_IS_OR: [&[u8]; 2] = [
 
 #[test]
 fn finds_either_of_two_matches(rt: HostRuntime) -> Result<(), Fail> {
-    let ended = seek(rt.alloc(), WORDS, [AND, OR])?;
+    let ended = run_on(rt.alloc(), MATCH, [AND, OR], None)?;
     let [plain, crossed] = AND_IS_OR;
     let report = ended.report.as_slice();
-    assert!(rt; (report == plain) | (report == crossed));
-    assert_eq!(rt; ended.status, 0);
+    assert!(rt; (ended.status == 0) & ((report == plain) | (report == crossed)));
     Ok(())
 }
 
@@ -232,10 +213,9 @@ const INPUTS: &[u8] = b"aig 128 128 0 0 0\n";
 
 #[test]
 fn pairs_many_inputs(rt: HostRuntime) -> Result<(), Fail> {
-    let ended = seek(rt.alloc(), WITHOUT_BUDGET, [INPUTS, INPUTS])?;
-    assert_eq!(rt; ended.status, 0);
-    let files = [INPUTS, INPUTS, ended.account.as_slice()];
-    let (status, _report) = answer(rt.alloc(), &["check", "A", "B", "t"], files)?;
-    assert_eq!(rt; status, 0);
+    let ended = run_on(rt.alloc(), WITHOUT_BUDGET, [INPUTS, INPUTS], None)?;
+    let account = ended.account.as_deref();
+    let checked = run_on(rt.alloc(), CHECK, [INPUTS, INPUTS], account)?;
+    assert_eq!(rt; (ended.status, checked.status), (0, 0));
     Ok(())
 }

@@ -1,21 +1,14 @@
 //! Accounts that say that no match exists, and the nearest ones that aren't good.
 
-use super::{A, AND, AND_OR, B, EMPTY, OR, Row, TABLE, WIRE, answer, check_rows};
+use crate::files::{A, AND, AND_OR, B, EMPTY, OR, TABLE, THREE, TWO, WIRE, XOR};
+use crate::runs::{CHECK, Row, check_rows, expect};
 use std::alloc::{AllocError, Global};
 use std::process::Abort;
 use std::test::Fail;
 use text_core::Cursor;
 
-/// The exclusive or of two inputs.
-const XOR: &[u8] = b"aag 5 2 0 1 3\n2\n4\n10\n6 2 4\n8 3 5\n10 7 9\n";
-
 /// One input, which the output doesn't depend on.
 const ZERO: &[u8] = b"aag 1 1 0 1 0\n2\n0\n";
-
-/// Three inputs and nothing else, and two.
-const THREE: &[u8] = b"aag 3 3 0 0 0\n2\n4\n6\n";
-
-const TWO: &[u8] = b"aag 2 2 0 0 0\n2\n4\n";
 
 const NO_PORTS: &[u8] = b"npnp 1\nnone ports\nend\n";
 
@@ -62,6 +55,18 @@ fn accepts_refusals(rt: HostRuntime) -> Result<(), Fail> {
 /// How many lines of an account stay, what stands behind them, and the number of the bad line with the word for it.
 type Altered = (usize, &'static [u8], &'static [u8]);
 
+/// Writes the first lines of an account.
+fn put_lines(text: &mut Vec<u8>, account: &[u8], lines: usize) -> Result<(), AllocError> {
+    let mut cursor = Cursor::new(account);
+    for _ in 0..lines {
+        if let Some(line) = cursor.next_line() {
+            text.extend_from_slice(line.bytes())?;
+            text.extend_from_slice(b"\n")?;
+        }
+    }
+    Ok(())
+}
+
 /// The first lines of an account, and a text behind them.
 fn altered(
     alloc: Global,
@@ -70,13 +75,7 @@ fn altered(
     then: &[u8],
 ) -> Result<Vec<u8>, AllocError> {
     let mut text = Vec::new(alloc);
-    let mut cursor = Cursor::new(account);
-    for _ in 0..lines {
-        if let Some(line) = cursor.next_line() {
-            text.extend_from_slice(line.bytes())?;
-            text.extend_from_slice(b"\n")?;
-        }
-    }
+    put_lines(&mut text, account, lines)?;
     text.extend_from_slice(then)?;
     Ok(text)
 }
@@ -89,19 +88,30 @@ fn rejected(alloc: Global, bad: &[u8]) -> Result<Vec<u8>, AllocError> {
     Ok(report)
 }
 
+/// Checks an altered account, which has a bad line.
+fn check_one(
+    rt: &impl Abort,
+    alloc: Global,
+    files: [&[u8]; 3],
+    lines: usize,
+    then: &[u8],
+    bad: &[u8],
+) -> Result<(), Fail> {
+    let [first, second, account] = files;
+    let account = altered(alloc, account, lines, then)?;
+    let report = rejected(alloc, bad)?;
+    let files = [first, second, account.as_slice()];
+    expect(rt, alloc, CHECK, files, 2, report.as_slice())
+}
+
 fn check_altered(
     rt: &impl Abort,
     alloc: Global,
     files: [&[u8]; 3],
     rows: &[Altered],
 ) -> Result<(), Fail> {
-    let [first, second, account] = files;
     for (lines, then, bad) in rows {
-        let account = altered(alloc, account, *lines, *then)?;
-        let files = [first, second, account.as_slice()];
-        let (ended, printed) = answer(alloc, &["check", "A", "B", "t"], files)?;
-        assert_eq!(rt; printed.as_slice(), rejected(alloc, *bad)?.as_slice());
-        assert_eq!(rt; ended, 2);
+        check_one(rt, alloc, files, *lines, *then, *bad)?;
     }
     Ok(())
 }

@@ -1,83 +1,12 @@
-//! Runs over files in memory, with what they print and how they end.
+//! Checks of accounts and reports of netlists: what they print and how they end.
 
-mod faults;
-mod matches;
-mod refusals;
+ghost use Rattle.std.specs.Prelude.{◌≡◌, false, List, None, [], cond};
+ghost use Rattle.shelf_core.specs.State.{Closed, Reading};
 
-ghost use Rattle.std.specs.Prelude.{◌≡◌, true, false, List, None, [], cond};
-ghost use Rattle.shelf_core.specs.State.{Closed, Reading, Writing};
-
-use crate::run::run;
-use shelf_core::{SafeShelf, SafeSink, Shelf, ShelfStop, Sink};
-use std::alloc::{AllocError, Global};
-use std::process::Abort;
+use crate::files::{A, AND, AND_OR, B, C17, C17_MOVED, EMPTY, OR, TABLE, WIRE};
+use crate::runs::{CHECK, Row, check_rows, expect, status_of};
+use shelf_core::{SafeSink, Shelf, ShelfStop};
 use std::test::Fail;
-
-/// Output 0 is the AND of the two inputs, output 1 the first input.
-const A: &[u8] = b"aag 3 2 0 2 1\n2\n4\n6\n2\n6 2 4\n";
-
-/// Output 0 is NOT input 1, output 1 is NOT (NOT input 1 AND input 0).
-const B: &[u8] = b"aag 3 2 0 2 1\n2\n4\n5\n7\n6 5 2\n";
-
-/// Neither inputs nor outputs.
-const EMPTY: &[u8] = b"aag 0 0 0 0 0\n";
-
-/// A match of A and B, with a refutation for either value of each output.
-const TABLE: &[u8] =
-    b"npnp 1\nmatch i0-1 i1+0 o0-1 o1+0\nl : 7 8 1 2 6\nl : 7 8 4 5 3\nl : 7 8\nl : 7 8\nend\n";
-
-fn words_of(alloc: Global, words: &[&str]) -> Result<Vec<String>, AllocError> {
-    let mut list = Vec::new(alloc);
-    for word in words {
-        list.push(String::from_str(alloc, word)?)?;
-    }
-    Ok(list)
-}
-
-/// Runs with three files, named `A`, `B` and `t`: the status and what was printed.
-fn answer(alloc: Global, words: &[&str], files: [&[u8]; 3]) -> Result<(u8, Vec<u8>), AllocError> {
-    let [first, second, account] = files;
-    let first = (String::from_str(alloc, "A")?, first.to_vec(alloc)?);
-    let second = (String::from_str(alloc, "B")?, second.to_vec(alloc)?);
-    let account = (String::from_str(alloc, "t")?, account.to_vec(alloc)?);
-    let mut held = Vec::new(alloc);
-    held.push(first)?;
-    held.push(second)?;
-    held.push(account)?;
-    let mut shelf = SafeShelf::new(alloc, held, 65_536)?;
-    let mut sink = SafeSink::new(alloc);
-    let words = words_of(alloc, words)?;
-    let outcome = run(alloc, words.as_slice(), &mut shelf, &mut sink);
-    Ok((outcome.status(), sink.written().to_vec(alloc)?))
-}
-
-/// The check of two netlists by an account: how it ends, and what it prints.
-struct Row {
-    files: [&'static [u8]; 3],
-    status: u8,
-    report: &'static [u8],
-}
-
-fn check_rows(rt: &impl Abort, alloc: Global, rows: &[Row]) -> Result<(), Fail> {
-    for row in rows {
-        let (ended, printed) = answer(alloc, &["check", "A", "B", "t"], row.files)?;
-        assert_eq!(rt; printed.as_slice(), row.report);
-        assert_eq!(rt; ended, row.status);
-    }
-    Ok(())
-}
-
-/// The AND of two inputs.
-const AND: &[u8] = b"aag 3 2 0 1 1\n2\n4\n6\n6 2 4\n";
-
-/// Their OR.
-const OR: &[u8] = b"aag 3 2 0 1 1\n2\n4\n7\n6 3 5\n";
-
-/// One input that is the output.
-const WIRE: &[u8] = b"aag 1 1 0 1 0\n2\n2\n";
-
-/// The AND is the OR with each port inverted.
-const AND_OR: &[u8] = b"npnp 1\nmatch i0-0 i1-1 o0-0\nl : 7 8 1 2 6\nl : 7 8 4 5 3\nend\n";
 
 /// Thirteen inputs and nothing else.
 const THIRTEEN: &[u8] = b"aag 13 13 0 0 0\n2\n4\n6\n8\n10\n12\n14\n16\n18\n20\n22\n24\n26\n";
@@ -209,28 +138,16 @@ const BAD_ACCOUNTS: [(&[u8], &[u8]); 16] = [
 #[test]
 fn rejects_accounts_at_their_first_bad_line(rt: HostRuntime) -> Result<(), Fail> {
     for (account, report) in BAD_ACCOUNTS {
-        let (ended, printed) = answer(rt.alloc(), &["check", "A", "B", "t"], [AND, OR, account])?;
-        assert_eq!(rt; printed.as_slice(), report);
-        assert_eq!(rt; ended, 2);
+        expect(&rt, rt.alloc(), CHECK, [AND, OR, account], 2, report)?;
     }
-    // other netlists than those of the account
-    let files = [AND, WIRE, AND_OR];
-    let (ended, printed) = answer(rt.alloc(), &["check", "A", "B", "t"], files)?;
-    assert_eq!(rt;
-        printed.as_slice(),
-        b"rejected line 2 conclusion\n".as_slice()
-    );
-    assert_eq!(rt; ended, 2);
     Ok(())
 }
 
-/// The ISCAS-85 circuit c17: six NAND gates, written as covers of the off-set.
-const C17: &[u8] =
-    b".model c17\n.inputs 1 2 3 6 7\n.outputs 22 23\n.names 1 3 10\n11 0\n.names 3 6 11\n11 0\n.names 2 11 16\n11 0\n.names 11 7 19\n11 0\n.names 10 16 22\n11 0\n.names 16 19 23\n11 0\n.end\n";
-
-/// The same function with its ports in another order and one input inverted, as binary AIGER.
-const C17_MOVED: &[u8] =
-    b"aig 11 5 0 2 6\n23\n21\n\x04\x03\x08\x01\x03\x03\x05\x0b\x03\x02\x03\x02";
+#[test]
+fn rejects_an_account_of_other_netlists(rt: HostRuntime) -> Result<(), Fail> {
+    let report = b"rejected line 2 conclusion\n";
+    expect(&rt, rt.alloc(), CHECK, [AND, WIRE, AND_OR], 2, report)
+}
 
 /// A match of the two: the lines of a log derive that gates are equal, up to the last one, which is empty.
 const C17_ACCOUNT: &[u8] =
@@ -294,22 +211,22 @@ fn reads_both_formats(rt: HostRuntime) -> Result<(), Fail> {
     check_rows(&rt, rt.alloc(), &OF_BOTH_FORMATS)
 }
 
+/// Words of no form, and names of files that aren't there, with the status and the report.
+const MISSING: [(&[&str], u8, &[u8]); 8] = [
+    (&[], 4, b"usage\n"),
+    (&["match", "A", "B", "B"], 4, b"usage\n"),
+    (&["check", "A", "B"], 4, b"usage\n"),
+    (&["check", "A", "B", "t", "t"], 4, b"usage\n"),
+    (&["check", "", "B", "t"], 4, b"usage\n"),
+    (&["check", "z", "y", "x"], 5, b"absent first\n"),
+    (&["check", "A", "z", "x"], 5, b"absent second\n"),
+    (&["check", "A", "B", "z"], 5, b"absent account\n"),
+];
+
 #[test]
 fn names_what_is_missing(rt: HostRuntime) -> Result<(), Fail> {
-    let rows: [(&[&str], u8, &[u8]); 8] = [
-        (&[], 4, b"usage\n"),
-        (&["match", "A", "B", "B"], 4, b"usage\n"),
-        (&["check", "A", "B"], 4, b"usage\n"),
-        (&["check", "A", "B", "t", "t"], 4, b"usage\n"),
-        (&["check", "", "B", "t"], 4, b"usage\n"),
-        (&["check", "z", "y", "x"], 5, b"absent first\n"),
-        (&["check", "A", "z", "x"], 5, b"absent second\n"),
-        (&["check", "A", "B", "z"], 5, b"absent account\n"),
-    ];
-    for (words, status, report) in rows {
-        let (ended, printed) = answer(rt.alloc(), words, [A, B, TABLE])?;
-        assert_eq!(rt; printed.as_slice(), report);
-        assert_eq!(rt; ended, status);
+    for (words, status, report) in MISSING {
+        expect(&rt, rt.alloc(), words, [A, B, TABLE], status, report)?;
     }
     Ok(())
 }
@@ -362,9 +279,7 @@ const INFOS: [(&[&str], &[u8], u8, &[u8]); 8] = [
 #[test]
 fn reports_what_is_known_of_a_netlist(rt: HostRuntime) -> Result<(), Fail> {
     for (words, netlist, status, report) in INFOS {
-        let (ended, printed) = answer(rt.alloc(), words, [netlist, B, TABLE])?;
-        assert_eq!(rt; printed.as_slice(), report);
-        assert_eq!(rt; ended, status);
+        expect(&rt, rt.alloc(), words, [netlist, B, TABLE], status, report)?;
     }
     Ok(())
 }
@@ -384,9 +299,7 @@ const NO_INFO: [&[&str]; 8] = [
 #[test]
 fn refuses_words_of_no_form(rt: HostRuntime) -> Result<(), Fail> {
     for words in NO_INFO {
-        let (ended, printed) = answer(rt.alloc(), words, [MIXED, B, TABLE])?;
-        assert_eq!(rt; printed.as_slice(), b"usage\n".as_slice());
-        assert_eq!(rt; ended, 4);
+        expect(&rt, rt.alloc(), words, [MIXED, B, TABLE], 4, b"usage\n")?;
     }
     Ok(())
 }
@@ -439,95 +352,60 @@ const MALFORMED_BLIF: [(&[u8], &[u8]); 9] = [
     ),
 ];
 
-fn check_malformed(rt: &impl Abort, alloc: Global, rows: &[(&[u8], &[u8])]) -> Result<(), Fail> {
-    for (first, report) in rows {
-        let (ended, printed) = answer(alloc, &["check", "A", "B", "t"], [*first, B, TABLE])?;
-        assert_eq!(rt; printed.as_slice(), *report);
-        assert_eq!(rt; ended, 5);
+#[test]
+fn refuses_malformed_aiger_at_its_place(rt: HostRuntime) -> Result<(), Fail> {
+    for (first, report) in MALFORMED_AIGER {
+        expect(&rt, rt.alloc(), CHECK, [first, B, TABLE], 5, report)?;
     }
     Ok(())
 }
 
 #[test]
-fn refuses_malformed_aiger_at_its_place(rt: HostRuntime) -> Result<(), Fail> {
-    check_malformed(&rt, rt.alloc(), &MALFORMED_AIGER)
-}
-
-#[test]
 fn refuses_malformed_blif_at_its_place(rt: HostRuntime) -> Result<(), Fail> {
-    check_malformed(&rt, rt.alloc(), &MALFORMED_BLIF)
+    for (first, report) in MALFORMED_BLIF {
+        expect(&rt, rt.alloc(), CHECK, [first, B, TABLE], 5, report)?;
+    }
+    Ok(())
 }
 
 #[test]
 fn names_the_second_netlist_as_malformed(rt: HostRuntime) -> Result<(), Fail> {
     let files: [&[u8]; 3] = [A, b"aag 0 0 0 1 0\nx\n", TABLE];
-    let (ended, printed) = answer(rt.alloc(), &["check", "A", "B", "t"], files)?;
-    assert_eq!(rt; printed.as_slice(), b"malformed second 7 14\n".as_slice());
-    assert_eq!(rt; ended, 5);
-    Ok(())
+    expect(&rt, rt.alloc(), CHECK, files, 5, b"malformed second 7 14\n")
 }
 
-/// A shelf on which each name holds the empty circuit in so many bytes, and whose call of one number fails.
+/// A shelf whose files are one byte longer than a netlist may be. It counts its calls.
 #[derive(Drop)]
-struct Failing {
-    size: u64,
+struct TooLong {
     reading: bool,
-    writing: bool,
-    left: u64,
     calls: u64,
-    fails: u64,
-    faults: u64,
 }
 
-impl Failing {
-    /// Counts a call, and tells whether it fails.
-    fn call(&mut self) -> bool
-        ensures { (self.new.size ≡ self.old.size) × (self.new.reading ≡ self.old.reading) × (self.new.writing ≡ self.old.writing) × (self.new.left ≡ self.old.left) × (self.new.faults ≡ self.old.faults) }
-    {
-        let fails = self.calls == self.fails;
-        self.calls = self.calls.saturating_add(1);
-        fails
-    }
-}
-
-impl Shelf for Failing {
+impl Shelf for TooLong {
     ghost tells = { false };
 
     ghost state = { λ shelf. record {
       held = λ _. None;
-      mode = cond shelf.reading Reading (cond shelf.writing Writing Closed);
+      mode = cond shelf.reading Reading Closed;
       name = [];
-      left = shelf.left;
+      left = 67108865;
       unread = [];
-      faults = shelf.faults;
+      faults = 0;
     } };
 
     fn open(&mut self, _name: &str) -> Result<Option<u64>, ShelfStop> {
-        if self.call() {
-            self.faults = self.faults.saturating_add(1);
-            return Err(ShelfStop::Failed);
-        }
+        self.calls = self.calls.saturating_add(1);
         self.reading = true;
-        self.left = self.size;
-        Ok(Some(self.left))
+        Ok(Some(67_108_865))
     }
 
-    fn read(&mut self, buf: &mut [u8]) -> Result<usize, ShelfStop> {
-        if self.call() {
-            self.faults = self.faults.saturating_add(1);
-            return Err(ShelfStop::Failed);
-        }
-        let count = (self.left.min(buf.len() as u64)) as usize;
-        for (to, from) in buf.iter_mut().zip(EMPTY) {
-            *to = *from;
-        }
-        self.left -= count as u64;
-        Ok(count)
+    fn read(&mut self, _buf: &mut [u8]) -> Result<usize, ShelfStop> {
+        self.calls = self.calls.saturating_add(1);
+        Err(ShelfStop::Memory)
     }
 
     fn create(&mut self, _name: &str) -> Result<(), ShelfStop> {
-        self.writing = true;
-        Ok(())
+        Err(ShelfStop::Memory)
     }
 
     fn append(&mut self, _piece: &[u8]) -> Result<(), ShelfStop> {
@@ -535,85 +413,24 @@ impl Shelf for Failing {
     }
 
     fn close(&mut self) -> Result<(), ShelfStop> {
-        let fails = self.call();
+        self.calls = self.calls.saturating_add(1);
         self.reading = false;
-        self.writing = false;
-        if fails {
-            self.faults = self.faults.saturating_add(1);
-            return Err(ShelfStop::Failed);
-        }
         Ok(())
     }
 }
 
 #[test]
-fn calls_nothing_after_a_fault(rt: HostRuntime) -> Result<(), Fail> {
-    // open, read and close of each of three files
-    for fails in 0..9 {
-        let mut shelf = Failing {
-            size: EMPTY.len() as u64,
-            reading: false,
-            writing: false,
-            left: 0,
-            calls: 0,
-            fails,
-            faults: 0,
-        };
-        let mut sink = SafeSink::new(rt.alloc());
-        let words = words_of(rt.alloc(), &["check", "A", "B", "t"])?;
-        let outcome = run(rt.alloc(), words.as_slice(), &mut shelf, &mut sink);
-        assert_eq!(rt; outcome.status(), 6);
-        assert_eq!(rt; sink.written(), b"read fault\n".as_slice());
-        assert_eq!(rt; shelf.calls, fails + 1);
-    }
-    Ok(())
-}
-
-/// A sink that fails at each call.
-#[derive(Drop)]
-struct FullSink {
-    faults: u64,
-}
-
-impl Sink for FullSink {
-    ghost tells = { true };
-
-    ghost state = { λ sink. record { written = []; faults = sink.faults } };
-
-    fn put(&mut self, _piece: &[u8]) -> Result<(), ShelfStop> {
-        self.faults = self.faults.saturating_add(1);
-        Err(ShelfStop::Failed)
-    }
-}
-
-#[test]
-fn ends_where_nothing_can_be_printed(rt: HostRuntime) -> Result<(), Fail> {
-    let mut shelf = SafeShelf::new(rt.alloc(), Vec::new(rt.alloc()), 1)?;
-    let mut sink = FullSink { faults: 0 };
-    let words = words_of(rt.alloc(), &["check", "A", "B", "t"])?;
-    let outcome = run(rt.alloc(), words.as_slice(), &mut shelf, &mut sink);
-    assert_eq!(rt; outcome.status(), 6);
-    assert_eq!(rt; sink.faults, 1);
-    Ok(())
-}
-
-#[test]
 fn closes_a_long_netlist_unread(rt: HostRuntime) -> Result<(), Fail> {
-    let mut shelf = Failing {
-        size: 67_108_865,
+    let mut shelf = TooLong {
         reading: false,
-        writing: false,
-        left: 0,
         calls: 0,
-        fails: u64::MAX,
-        faults: 0,
     };
     let mut sink = SafeSink::new(rt.alloc());
-    let words = words_of(rt.alloc(), &["check", "A", "B", "t"])?;
-    let outcome = run(rt.alloc(), words.as_slice(), &mut shelf, &mut sink);
-    assert_eq!(rt; outcome.status(), 5);
-    assert_eq!(rt; sink.written(), b"too large first\n".as_slice());
+    let status = status_of(rt.alloc(), CHECK, &mut shelf, &mut sink)?;
     // open and close
-    assert_eq!(rt; shelf.calls, 2);
+    assert_eq!(rt;
+        (status, sink.written(), shelf.calls),
+        (5, b"too large first\n".as_slice(), 2)
+    );
     Ok(())
 }

@@ -1,18 +1,7 @@
-//! `npnp`: finds a match of two combinational netlists, up to the order and the negation of their inputs and
-//! outputs, or that there is none, and writes an account that proves it; checks such accounts; and reports what
-//! the outputs of a netlist depend on, and how.
+//! The program `npnp`: a run over the machine's files and its standard output, on the words of the command line.
 #![tactic(auto)]
 
-mod files;
-mod info;
-mod matching;
-mod netlists;
-mod outcome;
-mod report;
-mod run;
-mod words;
-mod writing;
-
+use npnp::run::run;
 use shelf_core::{DiskShelf, StdSink};
 use std::process::ExitCode;
 use std::rt::Env;
@@ -31,7 +20,7 @@ fn main(rt: HostRuntime) -> ExitCode {
     let alloc = rt.alloc();
     let mut shelf = DiskShelf::new(disk);
     let mut out = StdSink::new(rt);
-    let outcome = run::run(alloc, words.as_slice(), &mut shelf, &mut out);
+    let outcome = run(alloc, words.as_slice(), &mut shelf, &mut out);
     ExitCode::from(outcome.status())
 }
 
@@ -39,6 +28,3 @@ fn main(rt: HostRuntime) -> ExitCode {
 fn words_after_name<R: Env + AllocGlobal>(rt: &R) -> io::Result<Vec<String>> {
     Ok(env::args(rt)?.skip(1).collect(rt.alloc())?)
 }
-
-#[cfg(test)]
-mod tests;

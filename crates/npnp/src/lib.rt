@@ -1,0 +1,14 @@
+//! One run of `npnp`: finds a match of two combinational netlists, up to the order and the negation of their inputs and
+//! outputs, or that there is none, and writes an account that proves it; checks such accounts; and reports what
+//! the outputs of a netlist depend on, and how.
+#![tactic(auto)]
+
+mod files;
+mod info;
+mod matching;
+mod netlists;
+pub mod outcome;
+mod report;
+pub mod run;
+mod words;
+mod writing;

@@ -1,0 +1,175 @@
+//! Calls of the outside that fail in turn.
+
+use crate::files::{A, B, EMPTY};
+use crate::runs::{CHECK, Ended, Failing, MATCH, NEVER, run_failing};
+use std::alloc::{AllocError, Global};
+use std::test::Fail;
+
+/// Seeks a match where a call of the shelf fails.
+fn seek(alloc: Global, netlists: [&[u8]; 2], call: u64) -> Result<Ended, AllocError> {
+    let failing = Failing {
+        call,
+        put: NEVER,
+        cut: 64,
+    };
+    run_failing(alloc, MATCH, netlists, None, failing)
+}
+
+/// What is printed and what stands under the account's name where a call fails: open, read and close of either netlist;
+/// create; the lines, the last line, and the close.
+const OF_NOTHING: [(&[u8], Option<&[u8]>); 10] = [
+    (b"read fault\n", None),
+    (b"read fault\n", None),
+    (b"read fault\n", None),
+    (b"read fault\n", None),
+    (b"read fault\n", None),
+    (b"read fault\n", None),
+    (b"", None),
+    (b"", Some(b"")),
+    (b"", Some(b"npnp 1\nmatch\n")),
+    (b"", Some(b"npnp 1\nmatch\nend\n")),
+];
+
+#[test]
+fn leaves_a_first_part_of_the_account(rt: HostRuntime) -> Result<(), Fail> {
+    for (call, (report, account)) in OF_NOTHING.iter().enumerate() {
+        let call = call as u64;
+        let ended = seek(rt.alloc(), [EMPTY, EMPTY], call)?;
+        assert_eq!(rt;
+            (
+                ended.status,
+                ended.report.as_slice(),
+                ended.account.as_deref(),
+                ended.calls
+            ),
+            (6, *report, *account, call + 1)
+        );
+    }
+    Ok(())
+}
+
+/// What is printed where a call fails before the account is made: open, read and close of either netlist, and create.
+const BEFORE_THE_ACCOUNT: [&[u8]; 7] = [
+    b"read fault\n",
+    b"read fault\n",
+    b"read fault\n",
+    b"read fault\n",
+    b"read fault\n",
+    b"read fault\n",
+    b"",
+];
+
+#[test]
+fn leaves_no_account_that_was_not_made(rt: HostRuntime) -> Result<(), Fail> {
+    for (call, report) in BEFORE_THE_ACCOUNT.iter().enumerate() {
+        let call = call as u64;
+        let ended = seek(rt.alloc(), [A, B], call)?;
+        assert_eq!(rt;
+            (
+                ended.status,
+                ended.report.as_slice(),
+                ended.account.as_deref(),
+                ended.calls
+            ),
+            (6, *report, None, call + 1)
+        );
+    }
+    Ok(())
+}
+
+/// The third read, of five bytes, is that of the first netlist's last bytes.
+#[test]
+fn fails_at_the_third_read(rt: HostRuntime) -> Result<(), Fail> {
+    let failing = Failing {
+        call: 3,
+        put: NEVER,
+        cut: 5,
+    };
+    let ended = run_failing(rt.alloc(), MATCH, [EMPTY, EMPTY], None, failing)?;
+    assert_eq!(rt;
+        (
+            ended.status,
+            ended.report.as_slice(),
+            ended.account.as_deref(),
+            ended.calls
+        ),
+        (6, b"read fault\n".as_slice(), None, 4)
+    );
+    Ok(())
+}
+
+/// How many bytes of the account don't stand where a call fails: all of them, the last line, or none.
+const LEFT_OUT: [(u64, usize); 3] = [(7, usize::MAX), (8, 4), (9, 0)];
+
+#[test]
+fn leaves_first_parts_of_longer_accounts(rt: HostRuntime) -> Result<(), Fail> {
+    let whole = seek(rt.alloc(), [A, B], NEVER)?;
+    let account = whole.account.as_deref().unwrap_or(b"");
+    assert!(rt; (whole.status == 0) & !account.is_empty());
+    for (call, left_out) in LEFT_OUT {
+        let ended = seek(rt.alloc(), [A, B], call)?;
+        let count = account.len().saturating_sub(left_out);
+        assert_eq!(rt;
+            (
+                ended.status,
+                ended.report.as_slice(),
+                ended.account.as_deref()
+            ),
+            (6, b"".as_slice(), Some(&account[..count]))
+        );
+    }
+    Ok(())
+}
+
+#[test]
+fn writes_the_account_where_nothing_can_be_printed(rt: HostRuntime) -> Result<(), Fail> {
+    let failing = Failing {
+        call: NEVER,
+        put: 0,
+        cut: 64,
+    };
+    let ended = run_failing(rt.alloc(), MATCH, [EMPTY, EMPTY], None, failing)?;
+    assert_eq!(rt;
+        (
+            ended.status,
+            ended.report.as_slice(),
+            ended.account.as_deref()
+        ),
+        (6, b"".as_slice(), Some(b"npnp 1\nmatch\nend\n".as_slice()))
+    );
+    Ok(())
+}
+
+#[test]
+fn calls_nothing_after_a_fault(rt: HostRuntime) -> Result<(), Fail> {
+    // open, read and close of each of three files
+    for call in 0..9 {
+        let failing = Failing {
+            call,
+            put: NEVER,
+            cut: 64,
+        };
+        let files = [EMPTY, EMPTY];
+        let ended = run_failing(rt.alloc(), CHECK, files, Some(EMPTY), failing)?;
+        assert_eq!(rt;
+            (ended.status, ended.report.as_slice(), ended.calls),
+            (6, b"read fault\n".as_slice(), call + 1)
+        );
+    }
+    Ok(())
+}
+
+#[test]
+fn ends_where_nothing_can_be_printed(rt: HostRuntime) -> Result<(), Fail> {
+    let failing = Failing {
+        call: NEVER,
+        put: 0,
+        cut: 64,
+    };
+    let ended = run_failing(rt.alloc(), CHECK, [A, B], None, failing)?;
+    assert_eq!(rt;
+        (ended.status, ended.report.as_slice()),
+        (6, b"".as_slice())
+    );
+    Ok(())
+}

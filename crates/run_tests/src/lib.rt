@@ -1,0 +1,15 @@
+//! Tests of runs of the program over files in memory: what is printed, how it ends, and what is written.
+#![tactic(auto)]
+
+#[cfg(test)]
+mod checks;
+#[cfg(test)]
+mod faults;
+#[cfg(test)]
+mod files;
+#[cfg(test)]
+mod matches;
+#[cfg(test)]
+mod refusals;
+#[cfg(test)]
+mod runs;
