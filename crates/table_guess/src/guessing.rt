@@ -54,19 +54,54 @@ pub fn guess(
         return Ok(None);
     }
     let keys = Keys::new(alloc, graphs, trials)?;
+    guess_by(alloc, graphs, trials, &keys)
+}
+
+// A table of ports that are alike by what is counted of them.
+fn guess_by(
+    alloc: Global,
+    graphs: &Graphs,
+    trials: &Trials,
+    keys: &Keys,
+) -> Result<Option<Matching>, AllocError>
+    requires ports { HaveAsMany graphs.now.first graphs.now.second }
+    requires trials { AreTrials graphs.now.first trials.now }
+    ensures { IfOk result (λ found. IfSome found
+        (λ table. HavePorts graphs.now.first graphs.now.second table.inputs table.outputs)) }
+{
     let mut path = Path::new(alloc, graphs)?;
-    let Some(turn) = next_turn(graphs, &keys, &path) else {
-        return table(alloc, graphs, &path.held);
+    if fill(alloc, graphs, trials, keys, &mut path)? {
+        table(alloc, graphs, &path.held)
+    } else {
+        Ok(None)
+    }
+}
+
+// Tries pairs until each port is in one, and tells whether that came about.
+fn fill(
+    alloc: Global,
+    graphs: &Graphs,
+    trials: &Trials,
+    keys: &Keys,
+    path: &mut Path,
+) -> Result<bool, AllocError>
+    requires ports { HaveAsMany graphs.now.first graphs.now.second }
+    requires trials { AreTrials graphs.now.first trials.now }
+    requires path { IsPath graphs.now path.old }
+    ensures { OnOk result (IsPath graphs.now path.new) }
+{
+    let Some(turn) = next_turn(graphs, keys, path) else {
+        return Ok(true);
     };
     path.turns.push(turn)?;
     for _ in 0..steps(graphs, trials) {
-        match advance(alloc, graphs, trials, &keys, &mut path)? {
+        match advance(alloc, graphs, trials, keys, path)? {
             Step::On => {}
-            Step::Whole => return table(alloc, graphs, &path.held),
-            Step::Dead => return Ok(None),
+            Step::Whole => return Ok(true),
+            Step::Dead => return Ok(false),
         }
     }
-    Ok(None)
+    Ok(false)
 }
 
 // Whether it is dear to count of a circuit's ports on the vectors of the trials, with each input inverted.
