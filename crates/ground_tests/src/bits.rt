@@ -14,28 +14,56 @@ fn every_third(alloc: Global, count: usize) -> Result<Vec<bool>, AllocError> {
     Ok(bits)
 }
 
+fn third_bits(alloc: Global, count: usize) -> Result<Bits, AllocError> {
+    Bits::from_slice(alloc, &every_third(alloc, count)?)
+}
+
+/// Whether there are so many bits, of which every third is 1.
+fn are_thirds(bits: &Bits, count: usize) -> bool {
+    let mut same = bits.len() == count;
+    for place in 0..bits.len() {
+        same = same & (bits.get(place) == (place % 3 == 1));
+    }
+    same
+}
+
+fn all_at_once(alloc: Global, bits: &Bits) -> Result<Vec<bool>, AllocError> {
+    let mut copied = vec![in alloc; false; bits.len()]?;
+    bits.copy_into(&mut copied);
+    Ok(copied)
+}
+
+fn copies_to(alloc: Global, bits: &Bits, given: &[bool]) -> Result<bool, AllocError> {
+    Ok(all_at_once(alloc, bits)?.as_slice() == given)
+}
+
 /// Whether a list of so many bits gives back each of them, one by one and all at once.
 fn gives_back(alloc: Global, count: usize) -> Result<bool, AllocError> {
     let given = every_third(alloc, count)?;
     let bits = Bits::from_slice(alloc, &given)?;
-    let mut copied = vec![in alloc; false; bits.len()]?;
-    bits.copy_into(&mut copied);
-    let mut same = (bits.len() == count) & (copied.as_slice() == given.as_slice());
-    for place in 0..bits.len() {
-        same = same & (bits.get(place) == (place % 3 == 1));
-    }
-    Ok(same)
+    Ok(are_thirds(&bits, count) & copies_to(alloc, &bits, &given)?)
 }
 
-/// Whether a list is equal to its copy, and to no list that is a bit longer; and whether two that end otherwise differ.
-fn differs_by_a_bit(alloc: Global, count: usize) -> Result<bool, AllocError> {
-    let bits = Bits::from_slice(alloc, &every_third(alloc, count)?)?;
-    let copy = bits.clone()?;
+fn followed_by(bits: &Bits, last: bool) -> Result<Bits, AllocError> {
     let mut longer = bits.clone()?;
-    longer.push(false)?;
-    let mut other = bits.clone()?;
-    other.push(true)?;
-    Ok((copy == bits) & (longer != bits) & (other != bits) & (longer != other))
+    longer.push(last)?;
+    Ok(longer)
+}
+
+fn equals_its_copy(bits: &Bits) -> Result<bool, AllocError> {
+    Ok(bits.clone()? == *bits)
+}
+
+/// Whether a list is equal to no list that is a bit longer, and two that end otherwise differ.
+fn differs_by_a_bit(bits: &Bits) -> Result<bool, AllocError> {
+    let longer = followed_by(bits, false)?;
+    let other = followed_by(bits, true)?;
+    Ok((longer != *bits) & (other != *bits) & (longer != other))
+}
+
+fn is_equal_bit_by_bit(alloc: Global, count: usize) -> Result<bool, AllocError> {
+    let bits = third_bits(alloc, count)?;
+    Ok(equals_its_copy(&bits)? & differs_by_a_bit(&bits)?)
 }
 
 #[test]
@@ -50,8 +78,8 @@ fn bits_are_as_they_were_given(rt: HostRuntime) -> Result<(), Fail> {
 fn lists_are_equal_bit_by_bit(rt: HostRuntime) -> Result<(), Fail> {
     let alloc = rt.alloc();
     for count in LENGTHS {
-        assert!(rt; differs_by_a_bit(alloc, count)?);
+        assert!(rt; is_equal_bit_by_bit(alloc, count)?);
     }
-    assert!(rt; Bits::new(alloc) == Bits::with_capacity(alloc, 65)?);
+    assert!(rt; Bits::with_capacity(alloc, 65)? == Bits::new(alloc));
     Ok(())
 }

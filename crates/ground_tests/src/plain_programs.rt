@@ -111,12 +111,12 @@ fn vectors_by_hand(rt: HostRuntime) -> Result<(), Fail> {
     Ok(())
 }
 
-#[test]
-fn matches_by_hand(rt: HostRuntime) -> Result<(), Fail> {
-    let alloc = rt.alloc();
-    // x0 and x0 AND x1, beside NOT (y0 AND NOT y1) and NOT y1.
-    let first = netlist(alloc, 2, &[(2, 4)], &[2, 6])?;
-    let second = netlist(alloc, 2, &[(5, 2)], &[7, 5])?;
+fn check_matches(
+    rt: &impl Abort,
+    alloc: Global,
+    first: &Netlist,
+    second: &Netlist,
+) -> Result<(), AllocError> {
     let crossed = [(1, true), (0, false)];
     for (p, q, want) in [
         (crossed, [(1, false), (0, true)], true),
@@ -126,7 +126,7 @@ fn matches_by_hand(rt: HostRuntime) -> Result<(), Fail> {
         ([(1, true), (1, false)], [(1, false), (0, true)], false),
     ] {
         assert_eq!(rt;
-            matches(&rt, alloc, (&first, &second), &p, &q)?,
+            matches(rt, alloc, (first, second), &p, &q)?,
             want,
             "{p:?} and {q:?}"
         );
@@ -135,14 +135,38 @@ fn matches_by_hand(rt: HostRuntime) -> Result<(), Fail> {
 }
 
 #[test]
-fn equals_by_hand(rt: HostRuntime) -> Result<(), Fail> {
+fn matches_by_hand(rt: HostRuntime) -> Result<(), AllocError> {
+    let alloc = rt.alloc();
+    // x0 and x0 AND x1, beside NOT (y0 AND NOT y1) and NOT y1.
+    let first = netlist(alloc, 2, &[(2, 4)], &[2, 6])?;
+    let second = netlist(alloc, 2, &[(5, 2)], &[7, 5])?;
+    check_matches(&rt, alloc, &first, &second)
+}
+
+fn check_equals(
+    rt: &impl Abort,
+    alloc: Global,
+    and: &Netlist,
+    or: &Netlist,
+    xor: &Netlist,
+) -> Result<(), AllocError> {
+    assert!(rt; equal(rt, alloc, and, or)?);
+    assert!(rt; !equal(rt, alloc, and, xor)?);
+    Ok(())
+}
+
+#[test]
+fn equals_by_hand(rt: HostRuntime) -> Result<(), AllocError> {
     let alloc = rt.alloc();
     let and = netlist(alloc, 2, &[(2, 4)], &[6])?;
     let or = netlist(alloc, 2, &[(3, 5)], &[7])?;
     let xor = netlist(alloc, 2, &[(2, 5), (3, 4), (7, 9)], &[11])?;
-    assert!(rt; equal(&rt, alloc, &and, &or)?);
-    assert!(rt; !equal(&rt, alloc, &and, &xor)?);
-    let empty = netlist(alloc, 0, &[], &[])?;
-    assert!(rt; equal(&rt, alloc, &empty, &empty)?);
+    check_equals(&rt, alloc, &and, &or, &xor)
+}
+
+#[test]
+fn empty_netlists_are_equal(rt: HostRuntime) -> Result<(), AllocError> {
+    let empty = netlist(rt.alloc(), 0, &[], &[])?;
+    assert!(rt; equal(&rt, rt.alloc(), &empty, &empty)?);
     Ok(())
 }

@@ -1,53 +1,79 @@
-ghost use Rattle.std.specs.Prelude.{◌≢◌, Err};
+ghost use Rattle.std.specs.Prelude.{◌≡◌, ◌≢◌, Err, IfOk, OnOk, string_bytes};
+ghost use Rattle.shelf_core.specs.State.{Closed};
 
 use shelf_core::{DiskShelf, SafeShelf, SafeSink, Shelf, ShelfStop, Sink, StdSink, Stream};
+use std::alloc::{AllocError, Global};
 use std::fs;
 use std::fs::File;
+use std::io::Read;
 use std::test::Fail;
 
-/// A file is read in pieces of at most three bytes, an absent one is not found, and what is written reads back.
-#[test]
-fn keeps_files_in_memory(rt: HostRuntime) -> Result<(), Fail> {
-    let alloc = rt.alloc();
-    let letter = (
-        String::from_str(alloc, "letter")?,
-        b"seven!!".to_vec(alloc)?,
-    );
-    let other = (String::from_str(alloc, "other")?, b"no".to_vec(alloc)?);
+fn file_of(alloc: Global, name: &str, bytes: &[u8]) -> Result<(String, Vec<u8>), AllocError>
+    ensures { IfOk result (λ file. string_bytes file.0 ≡ name.now) }
+{
+    let bytes = bytes.to_vec(alloc)?;
+    Ok((String::from_str(alloc, name)?, bytes))
+}
+
+/// A shelf of two files, `letter` and `other`, of which at most three bytes are read at once.
+fn shelf_of_two(alloc: Global) -> Result<SafeShelf, AllocError>
+    ensures { IfOk result (λ shelf. (⟦<SafeShelf as Shelf>⟧.state shelf).mode ≡ Closed) }
+{
     let mut files = Vec::new(alloc);
-    files.push(letter)?;
-    files.push(other)?;
-    let mut shelf = SafeShelf::new(alloc, files, 3)?;
-    shelf.never_fails();
+    files.push(file_of(alloc, "letter", b"seven!!")?)?;
+    files.push(file_of(alloc, "other", b"no")?)?;
+    SafeShelf::new(alloc, files, 3)
+}
+
+/// Whether the letter is read as the cut and the buffer have it: six calls.
+fn reads_the_letter(shelf: &mut SafeShelf) -> Result<bool, ShelfStop>
+    requires { (⟦<SafeShelf as Shelf>⟧.state shelf.old).mode ≡ Closed }
+    ensures { OnOk result ((⟦<SafeShelf as Shelf>⟧.state shelf.new).mode ≡ Closed) }
+{
     let mut buf = [b'-'; 5];
     let Some(len) = shelf.open("letter")? else {
-        return Err(Fail::from("there is a letter"));
+        return Ok(false);
     };
-    assert_eq!(rt; len, 7);
-    assert_eq!(rt; shelf.read(&mut buf)?, 3);
-    assert_eq!(rt; buf.as_slice(), b"sev--".as_slice());
-    assert_eq!(rt; shelf.read(&mut buf[..2])?, 2);
-    assert_eq!(rt; buf.as_slice(), b"env--".as_slice());
-    assert_eq!(rt; shelf.read(&mut buf)?, 2);
-    assert_eq!(rt; buf.as_slice(), b"!!v--".as_slice());
-    assert_eq!(rt; shelf.read(&mut buf)?, 0);
+    let mut same = len == 7;
+    same = same & (shelf.read(&mut buf)? == 3) & (buf.as_slice() == b"sev--".as_slice());
+    same = same & (shelf.read(&mut buf[..2])? == 2) & (buf.as_slice() == b"env--".as_slice());
+    same = same & (shelf.read(&mut buf)? == 2) & (buf.as_slice() == b"!!v--".as_slice());
+    same = same & (shelf.read(&mut buf)? == 0);
     shelf.close()?;
+    Ok(same)
+}
+
+/// Makes a report, which wasn't there, and the letter anew: seven calls.
+fn writes_two_files(shelf: &mut SafeShelf) -> Result<bool, ShelfStop>
+    requires { (⟦<SafeShelf as Shelf>⟧.state shelf.old).mode ≡ Closed }
+{
     let None = shelf.open("report")? else {
-        return Err(Fail::from("there is no report"));
+        return Ok(false);
     };
     shelf.create("report")?;
     shelf.close()?;
-    assert_eq!(rt; shelf.file("report"), Some(b"".as_slice()));
     shelf.create("letter")?;
     shelf.append(b"on")?;
     shelf.append(b"ce")?;
     shelf.close()?;
-    assert_eq!(rt; shelf.file("letter"), Some(b"once".as_slice()));
-    assert_eq!(rt; shelf.file("other"), Some(b"no".as_slice()));
-    assert_eq!(rt; shelf.file("none"), None);
-    // the letter opened, read four times and closed; the report not found, created and closed; the letter created, two
-    // pieces appended, and closed
-    assert_eq!(rt; shelf.calls(), 13);
+    Ok(true)
+}
+
+/// A file is read in pieces of at most three bytes, an absent one is not found, and what is written reads back.
+#[test]
+fn keeps_files_in_memory(rt: HostRuntime) -> Result<(), Fail> {
+    let mut shelf = shelf_of_two(rt.alloc())?;
+    shelf.never_fails();
+    assert!(rt; reads_the_letter(&mut shelf)?);
+    assert!(rt; writes_two_files(&mut shelf)?);
+    assert_eq!(rt;
+        (shelf.file("report"), shelf.file("letter")),
+        (Some(b"".as_slice()), Some(b"once".as_slice()))
+    );
+    assert_eq!(rt;
+        (shelf.file("other"), shelf.file("none"), shelf.calls()),
+        (Some(b"no".as_slice()), None, 13)
+    );
     Ok(())
 }
 
@@ -69,69 +95,118 @@ fn put_in_memory(sink: &mut SafeSink, piece: &[u8]) -> Result<(), ShelfStop>
     sink.put(piece)
 }
 
+/// Writes a file in two pieces.
+fn write_letter(shelf: &mut DiskShelf<HostRuntime>, name: &str) -> Result<(), ShelfStop>
+    requires { (⟦<DiskShelf<HostRuntime> as Shelf>⟧.state shelf.old).mode ≡ Closed }
+    ensures { OnOk result ((⟦<DiskShelf<HostRuntime> as Shelf>⟧.state shelf.new).mode ≡ Closed) }
+{
+    shelf.create(name)?;
+    shelf.append(b"seven")?;
+    shelf.append(b"!!")?;
+    shelf.close()
+}
+
+/// Whether the letter is read in other pieces than it was written in.
+fn reads_back(shelf: &mut DiskShelf<HostRuntime>, name: &str) -> Result<bool, ShelfStop>
+    requires { (⟦<DiskShelf<HostRuntime> as Shelf>⟧.state shelf.old).mode ≡ Closed }
+    ensures { OnOk result ((⟦<DiskShelf<HostRuntime> as Shelf>⟧.state shelf.new).mode ≡ Closed) }
+{
+    let mut front = [b'-'; 4];
+    let mut rest = [b'-'; 5];
+    let Some(len) = shelf.open(name)? else {
+        return Ok(false);
+    };
+    let first = shelf.read(&mut front)?;
+    let second = shelf.read(&mut rest)?;
+    let end = shelf.read(&mut front)?;
+    shelf.close()?;
+    Ok(
+        (len == 7)
+            & (first == 4)
+            & (second == 3)
+            & (end == 0)
+            & (front.as_slice() == b"seve".as_slice())
+            & (rest.as_slice() == b"n!!--".as_slice()),
+    )
+}
+
+/// Whether a file isn't found, and a folder opens but can't be read.
+fn finds_no_file(shelf: &mut DiskShelf<HostRuntime>, name: &str) -> Result<bool, ShelfStop>
+    requires { (⟦<DiskShelf<HostRuntime> as Shelf>⟧.state shelf.old).mode ≡ Closed }
+{
+    let None = shelf.open(name)? else {
+        return Ok(false);
+    };
+    let Some(_) = shelf.open(".")? else {
+        return Ok(false);
+    };
+    let mut buf = [b'-'; 9];
+    let unread = shelf.read(&mut buf);
+    shelf.close()?;
+    Ok(unread == Err(ShelfStop::Failed))
+}
+
 /// Over the machine's files: what is written reads back, an absent file is not found, and a directory can't be read.
 #[test]
 fn reaches_the_disk(rt: HostRuntime) -> Result<(), Fail> {
     let name = "shelf_core_written_by_a_test";
     let mut shelf = DiskShelf::new(rt);
-    shelf.create(name)?;
-    shelf.append(b"seven")?;
-    shelf.append(b"!!")?;
-    shelf.close()?;
-    let mut buf = [b'-'; 9];
-    let Some(len) = shelf.open(name)? else {
-        return Err(Fail::from("the file was written"));
-    };
-    assert_eq!(rt; len, 7);
-    assert_eq!(rt; shelf.read(&mut buf[..4])?, 4);
-    assert_eq!(rt; shelf.read(&mut buf[4..])?, 3);
-    assert_eq!(rt; buf.as_slice(), b"seven!!--".as_slice());
-    assert_eq!(rt; shelf.read(&mut buf)?, 0);
-    shelf.close()?;
+    write_letter(&mut shelf, name)?;
+    assert!(rt; reads_back(&mut shelf, name)?);
     fs::remove_file(&rt, name)?;
-    let None = shelf.open(name)? else {
-        return Err(Fail::from("the file was removed"));
-    };
-    let Some(_) = shelf.open(".")? else {
-        return Err(Fail::from("this folder is there"));
-    };
-    assert_eq!(rt; shelf.read(&mut buf), Err(ShelfStop::Failed));
-    shelf.close()?;
+    assert!(rt; finds_no_file(&mut shelf, name)?);
     Ok(())
+}
+
+fn is_empty(shelf: &mut DiskShelf<HostRuntime>, name: &str) -> Result<bool, ShelfStop>
+    requires { (⟦<DiskShelf<HostRuntime> as Shelf>⟧.state shelf.old).mode ≡ Closed }
+{
+    let mut buf = [b'-'; 3];
+    let Some(len) = shelf.open(name)? else {
+        return Ok(false);
+    };
+    let count = shelf.read(&mut buf)?;
+    shelf.close()?;
+    Ok((len == 0) & (count == 0))
 }
 
 /// What the machine's null device holds is an empty file.
 #[test]
 fn reads_a_device_to_its_end(rt: HostRuntime) -> Result<(), Fail> {
     let mut shelf = DiskShelf::new(rt);
-    let mut buf = [b'-'; 3];
-    assert_eq!(rt; shelf.open("/dev/null")?, Some(0));
-    assert_eq!(rt; shelf.read(&mut buf)?, 0);
-    shelf.close()?;
+    assert!(rt; is_empty(&mut shelf, "/dev/null")?);
     Ok(())
 }
 
-/// A stream is held whole where it ends within the bound, and else is a failure.
+/// Whether five bytes are read in two pieces, of four and one, and then none.
+fn reads_five(stream: &mut Stream<Global>) -> bool {
+    let mut buf = [b'-'; 4];
+    let mut same = stream.left() == 5;
+    same = same & (stream.read(&mut buf) == 4) & (buf.as_slice() == b"seve".as_slice());
+    same = same & (stream.read(&mut buf) == 1) & (buf.as_slice() == b"neve".as_slice());
+    same & (stream.read(&mut buf) == 0)
+}
+
+/// A stream is held whole where it ends within the bound.
 #[test]
 fn holds_a_stream_within_its_bound(rt: HostRuntime) -> Result<(), Fail> {
-    let alloc = rt.alloc();
     let mut five = b"seven".as_slice();
-    let mut stream = Stream::read_from(alloc, &mut five, 5)?;
-    assert_eq!(rt; stream.left(), 5);
-    let mut buf = [b'-'; 4];
-    assert_eq!(rt; stream.read(&mut buf), 4);
-    assert_eq!(rt; buf.as_slice(), b"seve".as_slice());
-    assert_eq!(rt; stream.read(&mut buf), 1);
-    assert_eq!(rt; buf.as_slice(), b"neve".as_slice());
-    assert_eq!(rt; stream.read(&mut buf), 0);
+    let mut stream = Stream::read_from(rt.alloc(), &mut five, 5)?;
+    assert!(rt; reads_five(&mut stream));
+    Ok(())
+}
+
+fn goes_on_past<F: Read>(alloc: Global, file: &mut F, bound: usize) -> bool {
+    Stream::read_from(alloc, file, bound).is_err()
+}
+
+/// A stream that goes on past its bound is a failure.
+#[test]
+fn refuses_a_stream_past_its_bound(rt: HostRuntime) -> Result<(), Fail> {
     let mut six = b"eleven".as_slice();
-    let None = Stream::read_from(alloc, &mut six, 5).ok() else {
-        return Err(Fail::from("six bytes are more than five"));
-    };
+    assert!(rt; goes_on_past(rt.alloc(), &mut six, 5));
     let mut endless = File::open(&rt, "/dev/zero")?;
-    let None = Stream::read_from(alloc, &mut endless, 100_000).ok() else {
-        return Err(Fail::from("the zeros have no end"));
-    };
+    assert!(rt; goes_on_past(rt.alloc(), &mut endless, 100_000));
     Ok(())
 }
 

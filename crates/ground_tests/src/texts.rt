@@ -23,47 +23,57 @@ fn reads_numbers(rt: HostRuntime) {
     }
 }
 
+/// Whether the lines of a text are these, each with its offset, and no more.
+fn has_lines(text: &[u8], lines: &[(u64, &[u8])]) -> bool {
+    let mut cursor = Cursor::new(text);
+    let mut same = true;
+    for (at, want) in lines.iter() {
+        let Some(line) = cursor.next_line() else {
+            return false;
+        };
+        same = same & (line.at() == *at) & (line.bytes() == *want);
+    }
+    same & cursor.next_line().is_none() & (cursor.at() == text.len() as u64)
+}
+
+/// Whether the words of a text's first line are these, each with its offset, and no more.
+fn has_words(text: &[u8], words: &[(u64, &[u8])]) -> bool {
+    let Some(mut line) = Cursor::new(text).next_line() else {
+        return false;
+    };
+    let mut same = true;
+    for (at, want) in words.iter() {
+        let Some(word) = next_word(&mut line) else {
+            return false;
+        };
+        same = same & (word.at() == *at) & (word.bytes() == *want);
+    }
+    same & next_word(&mut line).is_none() & (line.at() == text.len() as u64)
+}
+
 #[test]
 fn parts_lines_and_words(rt: HostRuntime) {
-    let mut cursor = Cursor::new(b" aag\t3 \r\n\n\r\nx\0y  z");
     let lines: [(u64, &[u8]); 4] = [(0, b" aag\t3 \r"), (9, b""), (10, b"\r"), (12, b"x\0y  z")];
-    for (at, want) in lines {
-        let line = cursor.next_line().expect(&rt, "a line");
-        assert_eq!(rt; line.at(), at);
-        assert_eq!(rt; line.bytes(), want);
-    }
-    assert!(rt; cursor.next_line().is_none());
-    assert_eq!(rt; cursor.at(), 18);
-
-    let mut line = Cursor::new(b" aag\t3 \rx\0y\r")
-        .next_line()
-        .expect(&rt, "a line");
+    assert!(rt; has_lines(b" aag\t3 \r\n\n\r\nx\0y  z", &lines));
+    let ended: [(u64, &[u8]); 1] = [(0, b"a")];
+    assert!(rt; has_lines(b"a\n", &ended));
     let words: [(u64, &[u8]); 3] = [(1, b"aag"), (5, b"3"), (8, b"x\0y")];
-    for (at, want) in words {
-        let word = next_word(&mut line).expect(&rt, "a word");
-        assert_eq!(rt; word.at(), at);
-        assert_eq!(rt; word.bytes(), want);
-    }
-    assert!(rt; next_word(&mut line).is_none());
-    assert_eq!(rt; line.at(), 12);
-
-    let mut ended = Cursor::new(b"a\n");
-    assert!(rt; ended.next_line().is_some());
-    assert!(rt; ended.next_line().is_none());
+    assert!(rt; has_words(b" aag\t3 \rx\0y\r", &words));
 }
 
 #[test]
 fn takes_no_more_than_is_left(rt: HostRuntime) {
     let mut cursor = Cursor::new(b"abc");
-    assert!(rt; cursor.take(4).is_none());
-    assert_eq!(rt; cursor.at(), 0);
+    assert_eq!(rt; (cursor.take(4).is_none(), cursor.at()), (true, 0));
     assert_eq!(rt;
         cursor.take(2).expect(&rt, "two bytes").bytes(),
         b"ab".as_slice()
     );
-    assert_eq!(rt; cursor.take(1).expect(&rt, "the last byte").at(), 2);
-    assert!(rt; cursor.take(0).is_some());
-    assert!(rt; cursor.take(1).is_none());
+    let last = cursor.take(1).expect(&rt, "the last byte").at();
+    assert_eq!(rt;
+        (last, cursor.take(0).is_some(), cursor.take(1).is_none()),
+        (2, true, true)
+    );
 }
 
 #[test]
