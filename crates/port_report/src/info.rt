@@ -1,15 +1,14 @@
 //! The report of a circuit's functions.
 
 ghost use Rattle.std.specs.Prelude.{◌≡◌, ◌<◌, ◌≤◌, [], ◌∷◌, ◌++◌, length, All, OnOk, OnErr};
-ghost use Rattle.std.specs.Fmt.{decimal};
 ghost use Rattle.port_report.specs.Infos.{IsInRange, count_line, info_text, input_line, input_lines, output_line, output_text, output_texts, pair_line, pair_lines, sym_word, unate_word};
 ghost use Rattle.port_report.specs.Reports.{Extends, names_of};
 
+use crate::pieces::{put_last_number, put_last_word, put_number, put_word};
 use crate::table::put_port;
 use items::Items;
 use net_core::{Name, Named};
 use std::alloc::AllocError;
-use text_core::put_decimal;
 
 /// How an output depends on an input.
 #[derive(Clone, Copy, Debug, Drop, PartialEq, Eq)]
@@ -79,14 +78,13 @@ pub fn put_info(named: &Named, rows: &[OutputInfo], out: &mut Vec<u8>) -> Result
     put_outputs(named, rows, out)
 }
 
+#[tactic(auto, using(crate::proofs::Extending::extends_same, crate::proofs::Extending::extends_twice))]
 fn put_count(word: &[u8], count: usize, out: &mut Vec<u8>) -> Result<(), AllocError>
     ensures ok { OnOk result (out.new.items ≡ out.old.items ++ count_line word.now count) }
     ensures kept { Extends out.old.items out.new.items }
 {
-    out.extend_from_slice(word)?;
-    out.extend_from_slice(b" ")?;
-    put_decimal(count as u64, out)?;
-    out.extend_from_slice(b"\n")
+    put_word(word, out)?;
+    put_last_number(count as u64, out)
 }
 
 // Writes what is known of each output.
@@ -121,6 +119,7 @@ fn put_output(
     put_pairs(&row.pairs, out)
 }
 
+#[tactic(auto, using(crate::proofs::Extending::extends_same, crate::proofs::Extending::extends_twice))]
 fn put_output_line(
     names: &[Name],
     port: usize,
@@ -133,8 +132,7 @@ fn put_output_line(
 {
     put_port(b"output", names, port, out)?;
     out.extend_from_slice(b" support ")?;
-    put_decimal(support as u64, out)?;
-    out.extend_from_slice(b"\n")
+    put_last_number(support as u64, out)
 }
 
 #[tactic(auto, using(crate::proofs::Extending::extends_same, crate::proofs::Extending::extends_twice))]
@@ -149,6 +147,7 @@ fn put_inputs(names: &[Name], support: &[(u32, Unate)], out: &mut Vec<u8>) -> Re
     Ok(())
 }
 
+#[tactic(auto, using(crate::proofs::Extending::extends_same, crate::proofs::Extending::extends_twice))]
 fn put_input(names: &[Name], entry: (u32, Unate), out: &mut Vec<u8>) -> Result<(), AllocError>
     requires { entry.0 < length names.now }
     ensures ok { OnOk result (out.new.items ≡ out.old.items ++ input_line names.now entry) }
@@ -157,8 +156,7 @@ fn put_input(names: &[Name], entry: (u32, Unate), out: &mut Vec<u8>) -> Result<(
     let (input, unate) = entry;
     put_port(b"input", names, input as usize, out)?;
     out.extend_from_slice(b" ")?;
-    out.extend_from_slice(unate.word())?;
-    out.extend_from_slice(b"\n")
+    put_last_word(unate.word(), out)
 }
 
 #[tactic(auto, using(crate::proofs::Extending::extends_same, crate::proofs::Extending::extends_twice))]
@@ -172,23 +170,14 @@ fn put_pairs(pairs: &[(u32, u32, Sym)], out: &mut Vec<u8>) -> Result<(), AllocEr
     Ok(())
 }
 
+#[tactic(auto, using(crate::proofs::Extending::extends_same, crate::proofs::Extending::extends_twice))]
 fn put_pair(pair: (u32, u32, Sym), out: &mut Vec<u8>) -> Result<(), AllocError>
     ensures ok { OnOk result (out.new.items ≡ out.old.items ++ pair_line pair) }
     ensures kept { Extends out.old.items out.new.items }
 {
     let (first, second, symmetry) = pair;
     out.extend_from_slice(b"pair ")?;
-    put_number(first, out)?;
-    put_number(second, out)?;
-    out.extend_from_slice(symmetry.word())?;
-    out.extend_from_slice(b"\n")
-}
-
-// Writes a number with a blank behind it.
-fn put_number(number: u32, out: &mut Vec<u8>) -> Result<(), AllocError>
-    ensures ok { OnOk result (out.new.items ≡ out.old.items ++ (decimal number ++ 32 ∷ [])) }
-    ensures kept { Extends out.old.items out.new.items }
-{
-    put_decimal(number as u64, out)?;
-    out.extend_from_slice(b" ")
+    put_number(first as u64, out)?;
+    put_number(second as u64, out)?;
+    put_last_word(symmetry.word(), out)
 }

@@ -2,6 +2,7 @@
 #![tactic(auto)]
 
 mod info;
+mod pieces;
 mod rejected;
 mod table;
 

@@ -1,10 +1,10 @@
-ghost use Rattle.std.specs.Prelude.{◌≡◌, ◌<◌, ◌≤◌, [], ◌++◌, length, codes, if◌then◌else◌, All, OnOk, OnErr};
+ghost use Rattle.std.specs.Prelude.{◌≡◌, ◌<◌, ◌≤◌, [], ◌∷◌, ◌++◌, length, codes, if◌then◌else◌, All, OnOk, OnErr};
 ghost use Rattle.circuits.specs.Bijections.{IsSignedBijection};
 ghost use Rattle.port_report.specs.Reports.{Extends, port_among, entry_line, entry_lines, match_text, names_of};
 
+use crate::pieces::{put_number, put_text, put_word};
 use net_core::{Matching, Name, Named};
 use std::alloc::AllocError;
-use text_core::put_decimal;
 
 /// Writes at the end of `out` where each port of the first circuit goes: a line for each input in order, then one for
 /// each output, as `input 0 a = not input 1 b`. Names are written byte for byte.
@@ -59,6 +59,7 @@ fn put_entries(
     Ok(())
 }
 
+#[tactic(auto, using(crate::proofs::Extending::extends_same, crate::proofs::Extending::extends_twice))]
 fn put_entry(
     kind: &[u8],
     firsts: &[Name],
@@ -72,26 +73,37 @@ fn put_entry(
     ensures ok { OnOk result (out.new.items ≡ out.old.items ++ entry_line kind.now firsts.now seconds.now port entry) }
     ensures kept { Extends out.old.items out.new.items }
 {
-    let (place, inverted) = entry;
     put_port(kind, firsts, port, out)?;
-    out.extend_from_slice(b" = ")?;
-    put_sign(inverted, out)?;
+    put_text(b" = ", out)?;
+    put_place(kind, seconds, entry, out)
+}
+
+// Writes where a port goes, to the end of its line.
+#[tactic(auto, using(crate::proofs::Extending::extends_same, crate::proofs::Extending::extends_twice))]
+fn put_place(
+    kind: &[u8],
+    seconds: &[Name],
+    entry: (u32, bool),
+    out: &mut Vec<u8>,
+) -> Result<(), AllocError>
+    requires { entry.0 < length seconds.now }
+    ensures ok { OnOk result (out.new.items ≡ out.old.items ++ ((if entry.1 then codes "not " else []) ++ (port_among kind.now seconds.now entry.0 ++ 10 ∷ []))) }
+    ensures kept { Extends out.old.items out.new.items }
+{
+    let (place, inverted) = entry;
+    out.extend_from_slice(sign(inverted))?;
     put_port(kind, seconds, place as usize, out)?;
     out.extend_from_slice(b"\n")
 }
 
-fn put_sign(inverted: bool, out: &mut Vec<u8>) -> Result<(), AllocError>
-    ensures ok { OnOk result (out.new.items ≡ out.old.items ++ (if inverted then codes "not " else [])) }
-    ensures kept { Extends out.old.items out.new.items }
+fn sign(inverted: bool) -> &'static [u8]
+    ensures { result.now ≡ (if inverted then codes "not " else []) }
 {
-    if inverted {
-        out.extend_from_slice(b"not ")
-    } else {
-        Ok(())
-    }
+    if inverted { b"not " } else { b"" }
 }
 
 // Writes a port by its kind, its number and its name.
+#[tactic(auto, using(crate::proofs::Extending::extends_same, crate::proofs::Extending::extends_twice))]
 pub(crate) fn put_port(
     kind: &[u8],
     names: &[Name],
@@ -102,9 +114,7 @@ pub(crate) fn put_port(
     ensures ok { OnOk result (out.new.items ≡ out.old.items ++ port_among kind.now names.now port) }
     ensures kept { Extends out.old.items out.new.items }
 {
-    out.extend_from_slice(kind)?;
-    out.extend_from_slice(b" ")?;
-    put_decimal(port as u64, out)?;
-    out.extend_from_slice(b" ")?;
+    put_word(kind, out)?;
+    put_number(port as u64, out)?;
     out.extend_from_slice(&names[port])
 }
