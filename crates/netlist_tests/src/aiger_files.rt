@@ -1,30 +1,9 @@
+use crate::compared::{has_names, is_graph};
 use aiger_reader::read;
-use items::Items;
-use net_core::{Gate, Lit, Name, NetFault, NetKind, NetStop};
+use net_core::{Lit, NetFault, NetKind, NetStop};
 use std::alloc::Global;
+use std::process::Abort;
 use std::test::Fail;
-
-// The names one after another, each with a comma behind it.
-fn joined(alloc: Global, names: &Items<Name>) -> Result<Vec<u8>, NetStop> {
-    let mut text = Vec::new(alloc);
-    for name in names.iter() {
-        text.extend_from_slice(name.as_slice())?;
-        text.push(b',')?;
-    }
-    Ok(text)
-}
-
-// The gates with these operands.
-fn gates_of(alloc: Global, pairs: &[(u32, u32)]) -> Result<Vec<Gate>, Fail> {
-    let mut gates = Vec::new(alloc);
-    for (a, b) in pairs {
-        gates.push(Gate {
-            a: Lit(*a),
-            b: Lit(*b),
-        })?;
-    }
-    Ok(gates)
-}
 
 // A file, how many inputs it has, its gates, its outputs, and the names of the inputs and of the outputs.
 type File = (
@@ -119,18 +98,18 @@ const NETLISTS: [File; 10] = [
     (b"aig 1 0 0 0 1\n\x82\x00\x00", 0, &[(0, 0)], &[], b"", b""),
 ];
 
+// Whether a file is read as its row says.
+fn reads_as(alloc: Global, file: &File) -> Result<bool, NetStop> {
+    let (text, inputs, gates, outputs, input_names, output_names) = *file;
+    let named = read(alloc, text)?;
+    let is_net = (named.graph.inputs() == inputs) & is_graph(&named.graph, gates, outputs);
+    Ok(is_net & has_names(alloc, &named, input_names, output_names)?)
+}
+
 #[test]
 fn reads_netlists(rt: HostRuntime) -> Result<(), Fail> {
-    for (text, inputs, gates, outputs, input_names, output_names) in NETLISTS {
-        let named = read(rt.alloc(), text)?;
-        let gates = gates_of(rt.alloc(), gates)?;
-        let ins = joined(rt.alloc(), &named.input_names)?;
-        let outs = joined(rt.alloc(), &named.output_names)?;
-        assert_eq!(rt; named.graph.inputs(), inputs, "at {text:?}");
-        assert_eq!(rt; named.graph.gates(), gates.as_slice(), "at {text:?}");
-        assert_eq!(rt; named.graph.outputs(), outputs, "at {text:?}");
-        assert_eq!(rt; ins.as_slice(), input_names, "at {text:?}");
-        assert_eq!(rt; outs.as_slice(), output_names, "at {text:?}");
+    for file in NETLISTS {
+        assert!(rt; reads_as(rt.alloc(), &file)?, "at {:?}", file.0);
     }
     Ok(())
 }
@@ -163,14 +142,17 @@ const NAMES: [Names; 7] = [
     (b"aag 1 1 0 1 0\n2\n2\ni0 \xff\x00\n", b"\xff\x00,", b"o0,"),
 ];
 
+// Whether a file gives its ports the names of its row.
+fn gives_names(alloc: Global, file: &Names) -> Result<bool, NetStop> {
+    let (text, input_names, output_names) = *file;
+    let named = read(alloc, text)?;
+    Ok(has_names(alloc, &named, input_names, output_names)?)
+}
+
 #[test]
 fn reads_names(rt: HostRuntime) -> Result<(), Fail> {
-    for (text, input_names, output_names) in NAMES {
-        let named = read(rt.alloc(), text)?;
-        let inputs = joined(rt.alloc(), &named.input_names)?;
-        let outputs = joined(rt.alloc(), &named.output_names)?;
-        assert_eq!(rt; inputs.as_slice(), input_names, "at {text:?}");
-        assert_eq!(rt; outputs.as_slice(), output_names, "at {text:?}");
+    for file in NAMES {
+        assert!(rt; gives_names(rt.alloc(), &file)?, "at {:?}", file.0);
     }
     Ok(())
 }
@@ -208,11 +190,15 @@ const HEADER_FAULTS: [HeaderFault; 24] = [
     (b"aag 4294967295 0 0 0 0\n", NetKind::TooManyGates),
 ];
 
+fn expect_fault(rt: &impl Abort, alloc: Global, text: &[u8], fault: NetFault) {
+    let stop = NetStop::Fault(fault);
+    assert_eq!(rt; read(alloc, text).err(), Some(stop), "at {text:?}");
+}
+
 #[test]
 fn finds_faults_of_the_header(rt: HostRuntime) {
     for (text, kind) in HEADER_FAULTS {
-        let stop = NetStop::Fault(NetFault { kind, at: 0 });
-        assert_eq!(rt; read(rt.alloc(), text).err(), Some(stop), "at {text:?}");
+        expect_fault(&rt, rt.alloc(), text, NetFault { kind, at: 0 });
     }
 }
 
@@ -287,7 +273,6 @@ const FAULTS: [Fault; 41] = [
 #[test]
 fn finds_the_first_fault(rt: HostRuntime) {
     for (text, kind, at) in FAULTS {
-        let stop = NetStop::Fault(NetFault { kind, at });
-        assert_eq!(rt; read(rt.alloc(), text).err(), Some(stop), "at {text:?}");
+        expect_fault(&rt, rt.alloc(), text, NetFault { kind, at });
     }
 }

@@ -4,136 +4,124 @@ mod covers;
 mod in_order;
 mod nets;
 
-use items::Items;
-use net_core::{Gate, Graph, Graphs, Lit, Matching, Side, lit_value};
+use crate::compared::is_graph;
+use net_core::{Graph, Graphs, Lit, Matching, Side, lit_value};
+use samples::{SampleFault, graph, matching};
+use std::alloc::{AllocError, Global};
 use std::test::Fail;
 
 /// A: output 0 is the AND of its two inputs, output 1 its first input.
-fn first(rt: &HostRuntime) -> Result<Option<Graph>, Fail> {
-    let gates = vec![in rt.alloc();
-        Gate {
-            a: Lit(2),
-            b: Lit(4)
-        },
-    ]?;
-    let outputs = vec![in rt.alloc(); Lit(6), Lit(2)]?;
-    Ok(Graph::new(2, gates, outputs))
+fn first(alloc: Global) -> Result<Graph, SampleFault> {
+    graph(alloc, 2, &[(2, 4)], &[6, 2])
+}
+
+// Whether the signals of A are these on two inputs.
+fn evaluates_to(graph: &Graph, a: bool, b: bool, conjunction: bool) -> bool {
+    if (graph.inputs() != 2) | (graph.signals() != 4) {
+        return false;
+    }
+    let mut values = [false; 4];
+    graph.eval_into([a, b].as_slice(), values.as_mut_slice());
+    (values == [false, a, b, conjunction])
+        & (lit_value(values.as_slice(), Lit(7)) != conjunction)
+        & lit_value(values.as_slice(), Lit(1))
 }
 
 #[test]
 fn evaluates(rt: HostRuntime) -> Result<(), Fail> {
-    let graph = first(&rt)?.ok_or("no graph")?;
-    assert_eq!(rt; graph.inputs(), 2);
-    assert_eq!(rt; graph.signals(), 4);
+    let graph = first(rt.alloc())?;
     for (a, b, conjunction) in [
         (false, false, false),
         (false, true, false),
         (true, false, false),
         (true, true, true),
     ] {
-        let mut values = [false; 4];
-        graph.eval_into([a, b].as_slice(), values.as_mut_slice());
-        assert_eq!(rt; values, [false, a, b, conjunction]);
-        assert_eq!(rt; lit_value(values.as_slice(), Lit(7)), !conjunction);
-        assert_eq!(rt; lit_value(values.as_slice(), Lit(1)), true);
+        assert!(rt; evaluates_to(&graph, a, b, conjunction), "at {a} {b}");
     }
     Ok(())
 }
 
-#[test]
-fn refuses_what_is_out_of_place(rt: HostRuntime) -> Result<(), Fail> {
-    // gate 0 of two inputs is signal 3: it may not read itself, and output literals end at 7
-    for (a, b, output, is_graph) in [
-        (2, 4, 7, true),
-        (6, 4, 2, false),
-        (2, 7, 2, false),
-        (2, 4, 8, false),
-    ] {
-        let gates = vec![in rt.alloc();
-            Gate {
-                a: Lit(a),
-                b: Lit(b)
-            },
-        ]?;
-        let outputs = vec![in rt.alloc(); Lit(output)]?;
-        assert_eq!(rt;
-            Graph::new(2, gates, outputs).is_some(),
-            is_graph,
-            "at {a} {b} {output}"
-        );
+// Whether a table of two inputs and an output moves a vector to another.
+fn moves(table: &Matching, vector: [bool; 2], moved: [bool; 2]) -> bool {
+    if !table.check_shape(2, 1) {
+        return false;
     }
-    Ok(())
+    let mut out = [false; 2];
+    table.move_into(vector.as_slice(), out.as_mut_slice());
+    out == moved
 }
 
 #[test]
 fn moves_vectors(rt: HostRuntime) -> Result<(), Fail> {
     // input 0 goes to input 1 inverted, input 1 to input 0
-    let table = Matching {
-        inputs: Items::from_vec(vec![in rt.alloc(); (1, true), (0, false)]?),
-        outputs: Items::from_vec(vec![in rt.alloc(); (0, false)]?),
-    };
-    assert!(rt; table.check_shape(2, 1));
-    assert!(rt; !table.check_shape(2, 2));
-    assert!(rt; !table.check_shape(1, 1));
-    let mut out = [false; 2];
-    table.move_into([true, false].as_slice(), out.as_mut_slice());
-    assert_eq!(rt; out, [false, false]);
-    table.move_into([false, true].as_slice(), out.as_mut_slice());
-    assert_eq!(rt; out, [true, true]);
-    let twice = Matching {
-        inputs: Items::from_vec(vec![in rt.alloc(); (1, true), (1, false)]?),
-        outputs: Items::from_vec(vec![in rt.alloc()]?),
-    };
-    assert!(rt; !twice.check_shape(2, 0));
+    let table = matching(rt.alloc(), &[(1, true), (0, false)], &[(0, false)])?;
+    let first = moves(&table, [true, false], [false, false]);
+    let second = moves(&table, [false, true], [true, true]);
+    assert_eq!(rt; (first, second), (true, true));
     Ok(())
+}
+
+// Whether a table with these entries of inputs, and one of an output, is one of n inputs and m outputs.
+fn has_shape(alloc: Global, inputs: &[(u32, bool)], n: u32, m: u32) -> Result<bool, AllocError> {
+    Ok(matching(alloc, inputs, &[(0, false)])?.check_shape(n, m))
+}
+
+#[test]
+fn checks_shapes(rt: HostRuntime) -> Result<(), Fail> {
+    for (inputs, n, m, has) in [
+        ([(1, true), (0, false)], 2, 1, true),
+        ([(1, true), (0, false)], 2, 2, false),
+        ([(1, true), (0, false)], 1, 1, false),
+        // two inputs go to one
+        ([(1, true), (1, false)], 2, 1, false),
+    ] {
+        let found = has_shape(rt.alloc(), inputs.as_slice(), n, m)?;
+        assert_eq!(rt; found, has, "at {inputs:?} {n} {m}");
+    }
+    Ok(())
+}
+
+fn copy_of_first(alloc: Global) -> Result<Graph, Fail> {
+    let graph = first(alloc)?;
+    Ok(graph.copy(alloc)?)
 }
 
 #[test]
 fn copies_and_picks_sides(rt: HostRuntime) -> Result<(), Fail> {
-    let graph = first(&rt)?.ok_or("no graph")?;
-    let copy = graph.copy(rt.alloc())?;
-    let alone = Graph::new(1, Vec::new(rt.alloc()), Vec::new(rt.alloc())).ok_or("no graph")?;
     let graphs = Graphs {
-        first: copy,
-        second: alone,
+        first: copy_of_first(rt.alloc())?,
+        second: graph(rt.alloc(), 1, &[], &[])?,
     };
-    assert_eq!(rt; graphs.side(Side::First).gates(), graph.gates());
-    assert_eq!(rt; graphs.side(Side::First).outputs(), graph.outputs());
-    assert_eq!(rt; graphs.side(Side::First).inputs(), 2);
-    assert_eq!(rt; graphs.side(Side::Second).inputs(), 1);
+    let first = graphs.side(Side::First);
+    assert!(rt; is_graph(first, &[(2, 4)], &[Lit(6), Lit(2)]));
+    let inputs = (first.inputs(), graphs.side(Side::Second).inputs());
+    assert_eq!(rt; inputs, (2, 1));
     Ok(())
 }
 
 /// Gate 0 is the AND of the inputs, gate 1 reads it and input 0, and gate 2 reads input 1 alone.
-fn three_gates(rt: &HostRuntime) -> Result<Option<Graph>, Fail> {
-    let gates = vec![in rt.alloc();
-        Gate {
-            a: Lit(2),
-            b: Lit(4)
-        },
-        Gate {
-            a: Lit(7),
-            b: Lit(2)
-        },
-        Gate {
-            a: Lit(4),
-            b: Lit(4)
-        },
-    ]?;
-    let outputs = vec![in rt.alloc(); Lit(8), Lit(11), Lit(6), Lit(3), Lit(1)]?;
-    Ok(Graph::new(2, gates, outputs))
+fn three_gates(alloc: Global) -> Result<Graph, SampleFault> {
+    graph(alloc, 2, &[(2, 4), (7, 2), (4, 4)], &[8, 11, 6, 3, 1])
+}
+
+fn has_cone(alloc: Global, graph: &Graph, output: u32, gates: &[u32]) -> Result<bool, AllocError> {
+    if output as usize >= graph.outputs().len() {
+        return Ok(false);
+    }
+    Ok(graph.cone(alloc, output)?.as_slice() == gates)
 }
 
 #[test]
 fn lists_cones(rt: HostRuntime) -> Result<(), Fail> {
-    let graph = three_gates(&rt)?.ok_or("no graph")?;
-    if graph.outputs().len() != 5 {
-        return Err("five outputs".into());
+    let graph = three_gates(rt.alloc())?;
+    for (output, gates) in [
+        (0, [0, 1].as_slice()),
+        (1, [2].as_slice()),
+        (2, [0].as_slice()),
+        (3, [].as_slice()),
+        (4, [].as_slice()),
+    ] {
+        assert!(rt; has_cone(rt.alloc(), &graph, output, gates)?, "at {output}");
     }
-    assert_eq!(rt; graph.cone(rt.alloc(), 0)?.as_slice(), [0, 1].as_slice());
-    assert_eq!(rt; graph.cone(rt.alloc(), 1)?.as_slice(), [2].as_slice());
-    assert_eq!(rt; graph.cone(rt.alloc(), 2)?.as_slice(), [0].as_slice());
-    assert_eq!(rt; graph.cone(rt.alloc(), 3)?.as_slice(), [].as_slice());
-    assert_eq!(rt; graph.cone(rt.alloc(), 4)?.as_slice(), [].as_slice());
     Ok(())
 }

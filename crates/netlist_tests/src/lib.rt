@@ -6,6 +6,8 @@ mod aiger_files;
 #[cfg(test)]
 mod blif_files;
 #[cfg(test)]
+mod compared;
+#[cfg(test)]
 mod graphs;
 #[cfg(test)]
 mod reports;

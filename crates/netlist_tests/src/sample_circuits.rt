@@ -1,42 +1,49 @@
 //! A sample of each kind, and what is refused.
 
-use net_core::{Gate, Lit};
-use samples::{SampleFault, graph, matching, named};
+use crate::compared::{has_names, is_graph};
+use net_core::{Lit, Named};
+use samples::{SampleFault, graph, named};
+use std::alloc::Global;
 use std::test::Fail;
+
+fn sample(alloc: Global) -> Result<Named, SampleFault> {
+    let and = graph(alloc, 2, &[(2, 4)], &[6, 3])?;
+    named(alloc, and, &[b"a", b"b"], &[b"y", b"not a"])
+}
 
 #[test]
 fn makes_samples(rt: HostRuntime) -> Result<(), Fail> {
-    let alloc = rt.alloc();
-    let and = graph(alloc, 2, &[(2, 4)], &[6, 3])?;
-    let gate = Gate {
-        a: Lit(2),
-        b: Lit(4),
-    };
-    assert_eq!(rt; and.gates(), [gate].as_slice());
-    assert_eq!(rt; and.outputs(), [Lit(6), Lit(3)].as_slice());
-    let table = matching(alloc, &[(1, true), (0, false)], &[(0, true)])?;
-    assert!(rt; table.check_shape(2, 1));
-    let named = named(alloc, and, &[b"a", b"b"], &[b"y", b"not a"])?;
-    assert_eq!(rt; named.input_names[1].as_slice(), b"b".as_slice());
-    assert_eq!(rt; named.output_names[1].as_slice(), b"not a".as_slice());
+    let sample = sample(rt.alloc())?;
+    let is_and = is_graph(&sample.graph, &[(2, 4)], &[Lit(6), Lit(3)]);
+    let has_names = has_names(rt.alloc(), &sample, b"a,b,", b"y,not a,")?;
+    assert_eq!(rt; (is_and, has_names), (true, true));
     Ok(())
+}
+
+fn fault_of(alloc: Global, inputs: u32, gate: (u32, u32), output: u32) -> Option<SampleFault> {
+    graph(alloc, inputs, &[gate], &[output]).err()
+}
+
+fn fault_of_names(alloc: Global) -> Result<Option<SampleFault>, SampleFault> {
+    let wire = graph(alloc, 1, &[], &[2])?;
+    Ok(named(alloc, wire, &[], &[b"y"]).err())
 }
 
 #[test]
 fn refuses_what_is_no_sample(rt: HostRuntime) -> Result<(), Fail> {
-    let alloc = rt.alloc();
-    for (inputs, operand, output, fault) in [
-        (1, 4, 2, SampleFault::OutOfPlace),
-        (1, 2, 6, SampleFault::OutOfPlace),
-        (1_001, 2, 2, SampleFault::TooLarge),
+    // gate 0 of two inputs is signal 3: it may not read itself, and output literals end at 7
+    for (inputs, gate, output, fault) in [
+        (2, (2, 4), 7, None),
+        (2, (6, 4), 2, Some(SampleFault::OutOfPlace)),
+        (2, (2, 7), 2, Some(SampleFault::OutOfPlace)),
+        (2, (2, 4), 8, Some(SampleFault::OutOfPlace)),
+        (1, (2, 4), 2, Some(SampleFault::OutOfPlace)),
+        (1, (2, 2), 6, Some(SampleFault::OutOfPlace)),
+        (1_001, (2, 2), 2, Some(SampleFault::TooLarge)),
     ] {
-        let answer = graph(alloc, inputs, &[(2, operand)], &[output]);
-        assert_eq!(rt; answer.err(), Some(fault));
+        let found = fault_of(rt.alloc(), inputs, gate, output);
+        assert_eq!(rt; found, fault, "at {inputs} {gate:?} {output}");
     }
-    let wire = graph(alloc, 1, &[], &[2])?;
-    assert_eq!(rt;
-        named(alloc, wire, &[], &[b"y"]).err(),
-        Some(SampleFault::Names)
-    );
+    assert_eq!(rt; fault_of_names(rt.alloc())?, Some(SampleFault::Names));
     Ok(())
 }

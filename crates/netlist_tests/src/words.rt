@@ -2,7 +2,7 @@
 
 use net_core::Graph;
 use samples::{SampleFault, graph};
-use std::alloc::Global;
+use std::alloc::{AllocError, Global};
 use std::test::Fail;
 use word_sim::{Tri, Words, simulate, tri_eval};
 
@@ -12,18 +12,17 @@ fn sample(alloc: Global) -> Result<Graph, SampleFault> {
     graph(alloc, 3, gates.as_slice(), &[13, 19, 1])
 }
 
-/// The table with these words, a row for each word.
-fn table(alloc: Global, rows: &[[u64; 3]]) -> Result<Words, Fail> {
-    let mut words = Words::new(alloc, 3, rows.len())?;
+// Writes the rows of three columns, a row for each word. Says whether the table has room for them.
+fn write_rows(rows: &[[u64; 3]], words: &mut Words) -> bool {
     for (word, row) in rows.iter().enumerate() {
         for column in 0..3u32 {
             if word >= words.words() || column as usize >= words.columns() {
-                return Err("too few words".into());
+                return false;
             }
             words.set(column, word, row[column as usize]);
         }
     }
-    Ok(words)
+    true
 }
 
 /// The words of a row.
@@ -34,28 +33,63 @@ fn row(words: &Words, word: usize) -> Option<[u64; 3]> {
     Some([words.get(0, word), words.get(1, word), words.get(2, word)])
 }
 
+fn has_rows(words: &Words, rows: &[[u64; 3]]) -> bool {
+    for (word, expected) in rows.iter().enumerate() {
+        if row(words, word) != Some(*expected) {
+            return false;
+        }
+    }
+    words.words() == rows.len()
+}
+
+// Whether the rows of the outputs are these where those of the inputs are these.
+fn simulates_to(
+    alloc: Global,
+    circuit: &Graph,
+    inputs: &Words,
+    outputs: &[[u64; 3]],
+) -> Result<bool, AllocError> {
+    if inputs.columns() != circuit.inputs() as usize {
+        return Ok(false);
+    }
+    let found = simulate(alloc, circuit, inputs)?;
+    Ok(has_rows(&found, outputs))
+}
+
 #[test]
 fn simulates_words(rt: HostRuntime) -> Result<(), Fail> {
-    let alloc = rt.alloc();
-    let circuit = sample(alloc)?;
+    let circuit = sample(rt.alloc())?;
     let (a, b, s) = (0xaaaa, 0xcccc, 0xf0f0_0000_0000_f0f0);
-    let inputs = table(alloc, &[[0, 0, 0], [a, b, s], [u64::MAX, 0, u64::MAX]])?;
-    if inputs.columns() != circuit.inputs() as usize {
-        return Err("a column for each input".into());
-    }
-    let outputs = simulate(alloc, &circuit, &inputs)?;
-    assert_eq!(rt; outputs.words(), 3);
-    assert_eq!(rt; row(&outputs, 0), Some([0, 0, u64::MAX]));
-    assert_eq!(rt; row(&outputs, 1), Some([0xacac, 0x6666, u64::MAX]));
-    assert_eq!(rt; row(&outputs, 2), Some([u64::MAX, u64::MAX, u64::MAX]));
+    let mut words = Words::new(rt.alloc(), 3, 3)?;
+    let inputs = [[0, 0, 0], [a, b, s], [u64::MAX, 0, u64::MAX]];
+    let has_room = write_rows(inputs.as_slice(), &mut words);
+    let outputs = [
+        [0, 0, u64::MAX],
+        [0xacac, 0x6666, u64::MAX],
+        [u64::MAX, u64::MAX, u64::MAX],
+    ];
+    let are_outputs = simulates_to(rt.alloc(), &circuit, &words, outputs.as_slice())?;
+    assert_eq!(rt; (has_room, are_outputs), (true, true));
     Ok(())
+}
+
+fn evaluates_to(
+    alloc: Global,
+    circuit: &Graph,
+    inputs: [Tri; 3],
+    outputs: [Tri; 3],
+) -> Result<bool, AllocError> {
+    if circuit.inputs() != 3 {
+        return Ok(false);
+    }
+    let values = tri_eval(alloc, circuit, inputs.as_slice())?;
+    Ok(values.as_slice() == outputs.as_slice())
 }
 
 #[test]
 fn evaluates_by_three_values(rt: HostRuntime) -> Result<(), Fail> {
     use Tri::{One, X, Zero};
-    let alloc = rt.alloc();
-    let circuit = sample(alloc)?;
+    let circuit = sample(rt.alloc())?;
     for (inputs, outputs) in [
         ([One, One, X], [X, Zero, One]),
         ([One, X, One], [One, X, One]),
@@ -63,11 +97,10 @@ fn evaluates_by_three_values(rt: HostRuntime) -> Result<(), Fail> {
         ([X, Zero, Zero], [Zero, X, One]),
         ([Zero, One, Zero], [One, One, One]),
     ] {
-        if circuit.inputs() != 3 {
-            return Err("three inputs".into());
-        }
-        let values = tri_eval(alloc, &circuit, inputs.as_slice())?;
-        assert_eq!(rt; values.as_slice(), outputs.as_slice());
+        assert!(rt;
+            evaluates_to(rt.alloc(), &circuit, inputs, outputs)?,
+            "at {inputs:?}"
+        );
     }
     Ok(())
 }

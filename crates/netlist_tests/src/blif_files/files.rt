@@ -1,8 +1,8 @@
 //! Whole tables of files, with the truth tables of their netlists.
 
 use super::read_text;
-use items::Items;
-use net_core::{Graph, Name, NetFault, NetKind, NetStop, lit_value};
+use crate::compared::has_names;
+use net_core::{Graph, NetFault, NetKind, NetStop, lit_value};
 use std::alloc::{AllocError, Global};
 use std::test::Fail;
 use text_core::put_decimal;
@@ -216,16 +216,6 @@ const FAULTS: [FaultRow; 42] = [
     ),
 ];
 
-// The names one after another, each with a comma behind it.
-fn joined(alloc: Global, names: &Items<Name>) -> Result<Vec<u8>, AllocError> {
-    let mut text = Vec::new(alloc);
-    for name in names.iter() {
-        text.extend_from_slice(name.as_slice())?;
-        text.extend_from_slice(b",")?;
-    }
-    Ok(text)
-}
-
 // Adds the bits of the outputs on a vector.
 fn put_outputs(
     alloc: Global,
@@ -249,39 +239,36 @@ fn put_outputs(
     Ok(())
 }
 
-// The bits of all outputs on each vector, where input i is bit i of the vector's number.
-fn truth_table(alloc: Global, graph: &Graph) -> Result<Vec<u8>, AllocError> {
-    let mut table = Vec::new(alloc);
+// Adds the bits of all outputs on each vector, where input i is bit i of the vector's number.
+fn put_table(alloc: Global, graph: &Graph, table: &mut Vec<u8>) -> Result<(), AllocError> {
     let inputs = graph.inputs().min(12);
     for code in 0..1u32 << inputs {
         let vector: Vec<bool> = (0..inputs)
             .map(|input| code >> input & 1 == 1)
             .collect(alloc)?;
-        put_outputs(alloc, graph, &vector, &mut table)?;
+        put_outputs(alloc, graph, &vector, table)?;
     }
-    Ok(table)
+    Ok(())
+}
+
+fn has_table(alloc: Global, graph: &Graph, bits: &[u8]) -> Result<bool, AllocError> {
+    let mut table = Vec::new(alloc);
+    put_table(alloc, graph, &mut table)?;
+    Ok(table.as_slice() == bits)
+}
+
+// Whether a file is read as its row says.
+fn reads_as(alloc: Global, file: &FileRow) -> Result<bool, NetStop> {
+    let (text, inputs, outputs, gates, table) = *file;
+    let named = read_text(alloc, text)?;
+    let is_graph = (named.graph.gates().len() == gates) & has_table(alloc, &named.graph, table)?;
+    Ok(is_graph & has_names(alloc, &named, inputs, outputs)?)
 }
 
 #[test]
 fn reads_covers_of_either_kind(rt: HostRuntime) -> Result<(), Fail> {
-    for (text, inputs, outputs, gates, table) in FILES {
-        let named = read_text(rt.alloc(), text).ok().ok_or("not read")?;
-        assert_eq!(rt;
-            joined(rt.alloc(), &named.input_names)?.as_slice(),
-            inputs,
-            "at {text:?}"
-        );
-        assert_eq!(rt;
-            joined(rt.alloc(), &named.output_names)?.as_slice(),
-            outputs,
-            "at {text:?}"
-        );
-        assert_eq!(rt; named.graph.gates().len(), gates, "at {text:?}");
-        assert_eq!(rt;
-            truth_table(rt.alloc(), &named.graph)?.as_slice(),
-            table,
-            "at {text:?}"
-        );
+    for file in FILES {
+        assert!(rt; reads_as(rt.alloc(), &file)?, "at {:?}", file.0);
     }
     Ok(())
 }
@@ -306,6 +293,25 @@ fn put_ports(word: &[u8], count: u64, out: &mut Vec<u8>) -> Result<(), AllocErro
         put_decimal(port, out)?;
     }
     out.extend_from_slice(b"\n")
+}
+
+// Adds lines of so many inputs and outputs, and covers behind them.
+fn put_file(inputs: u64, outputs: u64, covers: &[u8], out: &mut Vec<u8>) -> Result<(), AllocError> {
+    put_ports(b".inputs", inputs, out)?;
+    put_ports(b".outputs", outputs, out)?;
+    out.extend_from_slice(covers)
+}
+
+// Why such a file isn't read, if it isn't.
+fn stop_by_ports(
+    alloc: Global,
+    inputs: u64,
+    outputs: u64,
+    covers: &[u8],
+) -> Result<Option<NetStop>, AllocError> {
+    let mut text = Vec::new(alloc);
+    put_file(inputs, outputs, covers, &mut text)?;
+    Ok(read_text(alloc, &text).err())
 }
 
 #[test]
@@ -338,12 +344,9 @@ fn counts_ports(rt: HostRuntime) -> Result<(), Fail> {
         ),
     ];
     for (inputs, outputs, covers, fault) in rows {
-        let mut text = Vec::new(rt.alloc());
-        put_ports(b".inputs", inputs, &mut text)?;
-        put_ports(b".outputs", outputs, &mut text)?;
-        text.extend_from_slice(covers)?;
         let stop = fault.map(|(kind, at)| NetStop::Fault(NetFault { kind, at }));
-        assert_eq!(rt; read_text(rt.alloc(), &text).err(), stop);
+        let found = stop_by_ports(rt.alloc(), inputs, outputs, covers)?;
+        assert_eq!(rt; found, stop, "at {inputs} {outputs} {covers:?}");
     }
     Ok(())
 }
@@ -372,23 +375,32 @@ fn put_operands(count: usize, out: &mut Vec<u8>) -> Result<(), AllocError> {
     out.extend_from_slice(b" y\n")
 }
 
+// Adds a file with an output of 1,000,000 gates, and a cover behind it.
+fn put_gates(alloc: Global, cover: &[u8], out: &mut Vec<u8>) -> Result<(), AllocError> {
+    out.extend_from_slice(b".inputs a\n.outputs y\n")?;
+    // each row has a gate less than literals, and each row but one a gate that joins it
+    put_cover(alloc, 101, 9_901, out)?;
+    out.extend_from_slice(cover)
+}
+
+// The length of such a file, and how many gates its graph has, or why it isn't read.
+fn gates_with(alloc: Global, cover: &[u8]) -> Result<(u64, Result<usize, NetStop>), AllocError> {
+    let mut text = Vec::new(alloc);
+    put_gates(alloc, cover, &mut text)?;
+    let gates = read_text(alloc, &text).map(|named| named.graph.gates().len());
+    Ok((text.len() as u64, gates))
+}
+
 #[test]
 fn counts_gates(rt: HostRuntime) -> Result<(), Fail> {
-    let mut text = Vec::new(rt.alloc());
-    text.extend_from_slice(b".inputs a\n.outputs y\n")?;
-    // each row has a gate less than literals, and each row but one a gate that joins it
-    put_cover(rt.alloc(), 101, 9_901, &mut text)?;
-    let named = read_text(rt.alloc(), &text).ok().ok_or("not read")?;
-    assert_eq!(rt; named.graph.gates().len(), 1_000_000);
+    let (_, gates) = gates_with(rt.alloc(), b"")?;
+    assert_eq!(rt; gates, Ok(1_000_000));
     // one gate more; that no output needs it makes no difference
-    text.extend_from_slice(b".names a a z\n11 1\n")?;
+    let (length, gates) = gates_with(rt.alloc(), b".names a a z\n11 1\n")?;
     let fault = NetFault {
         kind: NetKind::TooManyGates,
-        at: text.len() as u64,
+        at: length,
     };
-    assert_eq!(rt;
-        read_text(rt.alloc(), &text).err(),
-        Some(NetStop::Fault(fault))
-    );
+    assert_eq!(rt; gates, Err(NetStop::Fault(fault)));
     Ok(())
 }
