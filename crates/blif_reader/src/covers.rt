@@ -64,12 +64,8 @@ pub(crate) fn read_covers(
     ensures fault { (fault : NetFault) → result ≡ Err (NetStop.Fault fault)
         → IsUndefinedFault (blif_lines input.now) fault.kind fault.at }
 {
-    let mut lines = JoinedLines::new(input);
     let mut covers = Covers::new(alloc);
-    while let Some(first) = lines.next_line() {
-        covers.read_line(alloc, first, &mut lines, names)?;
-    }
-    covers.close()?;
+    covers.read_all(alloc, input, names)?;
     Ok(covers)
 }
 
@@ -83,6 +79,30 @@ impl Covers {
             outputs: Items::new(alloc),
             current: None,
         }
+    }
+
+    // Reads all lines of a file where nothing is read so far.
+    fn read_all(
+        &mut self,
+        alloc: Global,
+        input: &[u8],
+        names: &IndexSet<&[u8]>,
+    ) -> Result<(), NetStop>
+        requires once { AreDefinedOnce (blif_lines input.now) }
+        requires names { names_of names.now ≡ signal_names (blif_lines input.now) }
+        requires few { length (names_of names.now) < 2 ^ 30 }
+        requires nothing { self.old ≡ record { defs = []; places = []; outputs = []; current = None } }
+        ensures built { OnOk result (IsBuilt (signal_names (blif_lines input.now)) (blif_lines input.now) self.new) }
+        ensures known { OnOk result (AreKnown (blif_lines input.now)) }
+        ensures fault { (fault : NetFault) → result ≡ Err (NetStop.Fault fault)
+            → IsUndefinedFault (blif_lines input.now) fault.kind fault.at }
+    {
+        let mut lines = JoinedLines::new(input);
+        while let Some(first) = lines.next_line() {
+            self.read_line(alloc, first, &mut lines, names)?;
+        }
+        self.close()?;
+        Ok(())
     }
 
     // Reads one line, of which `first` is the first word.

@@ -32,15 +32,27 @@ pub(crate) fn name_ports<'a>(alloc: Global, ports: &[Port<'a>]) -> Result<PortNa
         inputs: IndexSet::new(alloc),
         outputs: IndexSet::new(alloc),
     };
+    name_all(ports, &mut named)?;
+    Ok(named)
+}
+
+// Names the ports where none is named so far.
+fn name_all<'a>(ports: &[Port<'a>], named: &mut PortNames<'a>) -> Result<(), NetStop>
+    requires { AreNamed ports.now 0 (names_of named.old.inputs) (names_of named.old.outputs) }
+    ensures named { OnOk result
+        (AreNamed ports.now (length ports.now) (names_of named.new.inputs) (names_of named.new.outputs)) }
+    ensures fault { (fault : NetFault) → result ≡ Err (NetStop.Fault fault)
+        → IsRepeatedPort ports.now fault.kind fault.at }
+{
     for port in ports.iter() {
-        if !add_port(&mut named, port)? {
+        if !add_port(named, port)? {
             return Err(NetStop::Fault(NetFault {
                 kind: NetKind::DuplicatePort,
                 at: port.word.at(),
             }));
         }
     }
-    Ok(named)
+    Ok(())
 }
 
 // Adds the name of a port to those of its kind. Says whether it was added.

@@ -4,7 +4,7 @@ use Rattle.net_core.specs.declared.named.NetKind.TheVariants as fault
 use Rattle.blif_reader.specs.Numbers.{names_of, IsRepeatedPort}
 use Rattle.blif_reader.proofs.SurveyLemmas.{fault_told}
 use Rattle.blif_reader.proofs.NumberLemmas.{AddsPort, named_more, repeated, at_place}
-use Rattle.blif_reader.proofs.names.name_ports.Goals as goal
+use Rattle.blif_reader.proofs.names.name_all.Goals as goal
 
 pub returns-then-not-branch-clause-fault : goal.returns-then-not-branch-clause-fault
 returns-then-not-branch-clause-fault c told e =

@@ -5,11 +5,11 @@ use Rattle.blif_reader.specs.Reading.{lines_left}
 use Rattle.blif_reader.specs.Numbers.{names_of}
 use Rattle.blif_reader.specs.Blif.{blif_lines}
 use Rattle.blif_reader.specs.Building.{IsBuilding}
-use Rattle.blif_reader.proofs.covers.read_covers.Given as goal
+use Rattle.blif_reader.proofs.covers.Covers.read_all.Given as goal
 
 abbrev pub invariant-loop-first : goal.invariant-loop-first
 invariant-loop-first l =
-    IsBuilding (names_of l.names) (blif_lines l.input) (filter has_words (lines_left l.lines)) l.covers
+    IsBuilding (names_of l.names) (blif_lines l.input) (filter has_words (lines_left l.lines)) l.self
 
 abbrev pub decreases-loop-first : goal.decreases-loop-first
 decreases-loop-first l = length (filter has_words (lines_left l.lines))
