@@ -1,33 +1,19 @@
 //! Questions whose answers are known, or found by trying all vectors.
 
-ghost use Rattle.std.specs.Prelude.{◌≡◌, ◌<◌, All, IsTrue, length};
+ghost use Rattle.std.specs.Prelude.{◌≡◌, ◌<◌, All, IsTrue, false, length};
 ghost use Rattle.query_core.specs.Queries.{IsCone, IsQuery, IsWired};
 
+use crate::circuits::{drawn, outputs};
+use crate::refutation::is_refutation;
 use ask_core::{Answer, ask};
-use cnf_core::{Log, Stop};
+use cnf_core::Stop;
 use items::Items;
-use net_core::{Gate, Graph, Graphs, Lit, Side, lit_value};
+use net_core::{Graphs, Side};
 use query_core::{Cone, Feed, Feeds, Ledger, Query, QueryBase};
-use rand_core::utils::NextWord;
 use rand_pcg::Pcg32;
-use refute_check::Refuter;
+use samples::graph;
 use std::alloc::{AllocError, Global};
 use std::test::Fail;
-
-fn graph_of(alloc: Global, inputs: u32, gates: &[(u32, u32)], output: u32) -> Result<Graph, Fail> {
-    let mut list = Vec::new(alloc);
-    for (a, b) in gates {
-        list.push(Gate {
-            a: Lit(*a),
-            b: Lit(*b),
-        })?;
-    }
-    let outputs = vec![in alloc; Lit(output); 1]?;
-    if list.len() > 99 || inputs > 99 {
-        return Err("a larger graph than this test makes".into());
-    }
-    Ok(Graph::new(inputs, list, outputs).ok_or("no graph")?)
-}
 
 fn is_wired(inputs: u32, feed: Feed) -> bool
     ensures { IsTrue result → IsWired inputs feed }
@@ -111,8 +97,7 @@ enum Outcome {
     Vector(u64),
     Refuted(u64),
     Spent(u64),
-    Memory,
-    Unfit,
+    Wrong,
 }
 
 fn number_of(bits: &[bool]) -> u64 {
@@ -126,46 +111,58 @@ fn number_of(bits: &[bool]) -> u64 {
     number >> (63u64.saturating_sub(bits.len() as u64).min(62))
 }
 
-/// Whether a refuter takes each line of a log and is closed then.
-fn is_taken(alloc: Global, base: QueryBase<'_>, log: &Log) -> Result<bool, AllocError> {
-    let mut refuter = Refuter::new(alloc, base)?;
-    for line in log.lines.iter() {
-        refuter.reserve(line.clause.len())?;
-        if let Err(_fault) = refuter.line(line) {
-            return Ok(false);
+/// What an answer to a question comes to, once its log was taken line by line.
+fn outcome_of(
+    alloc: Global,
+    graphs: &Graphs,
+    query: &Query,
+    answer: &Answer,
+    learned: u64,
+) -> Result<Outcome, AllocError>
+    requires { IsQuery graphs.now query.now }
+{
+    match answer {
+        Answer::Vector(bits) => Ok(Outcome::Vector(number_of(bits))),
+        Answer::Refuted(log) => {
+            let base = QueryBase::new(alloc, graphs, query)?;
+            if is_refutation(alloc, base, log)? {
+                return Ok(Outcome::Refuted(learned));
+            }
+            Ok(Outcome::Wrong)
         }
     }
-    Ok(refuter.closed())
 }
 
-fn outcome_of(
+fn outcome_in(
+    alloc: Global,
+    graphs: &Graphs,
+    query: &Query,
+    ledger: &mut Ledger,
+) -> Result<Outcome, AllocError>
+    requires { ledger.old.spent ≡ false }
+{
+    if !is_query(graphs, query) {
+        return Ok(Outcome::Wrong);
+    }
+    match ask(alloc, graphs, query, ledger) {
+        Ok(answer) => outcome_of(alloc, graphs, query, &answer, ledger.learned()),
+        Err(Stop::Spent(learned)) => Ok(Outcome::Spent(learned)),
+        Err(Stop::Memory) => Err(AllocError),
+    }
+}
+
+fn asked(
     alloc: Global,
     graphs: &Graphs,
     query: &Query,
     budget: u64,
 ) -> Result<Outcome, AllocError> {
-    if !is_query(graphs, query) {
-        return Ok(Outcome::Unfit);
-    }
     let mut ledger = Ledger::new(alloc, budget);
-    match ask(alloc, graphs, query, &mut ledger) {
-        Ok(Answer::Vector(bits)) => Ok(Outcome::Vector(number_of(&bits))),
-        Ok(Answer::Refuted(log)) => {
-            let base = QueryBase::new(alloc, graphs, query)?;
-            if is_taken(alloc, base, &log)? {
-                return Ok(Outcome::Refuted(ledger.learned()));
-            }
-            Ok(Outcome::Unfit)
-        }
-        Err(Stop::Spent(learned)) => Ok(Outcome::Spent(learned)),
-        Err(Stop::Memory) => Ok(Outcome::Memory),
-    }
+    outcome_in(alloc, graphs, query, &mut ledger)
 }
 
-/// A question about two circuits of so many inputs, whose gates and output are given as literals.
-#[derive(Clone, Copy, Debug)]
+/// A question about two circuits of two inputs, whose gates and output are given as literals.
 struct Row<'a> {
-    inputs: u32,
     first: &'a [(u32, u32)],
     first_output: u32,
     second: &'a [(u32, u32)],
@@ -175,147 +172,130 @@ struct Row<'a> {
     outcome: Outcome,
 }
 
-fn outcome_of_row(alloc: Global, row: &Row<'_>) -> Result<Outcome, Fail> {
-    let graphs = Graphs {
-        first: graph_of(alloc, row.inputs, row.first, row.first_output)?,
-        second: graph_of(alloc, row.inputs, row.second, row.second_output)?,
-    };
-    let query = if row.falls {
-        falls(alloc, row.inputs)?
+fn graphs_of(alloc: Global, row: &Row<'_>) -> Result<Graphs, Fail> {
+    Ok(Graphs {
+        first: graph(alloc, 2, row.first, &[row.first_output])?,
+        second: graph(alloc, 2, row.second, &[row.second_output])?,
+    })
+}
+
+fn query_of(alloc: Global, row: &Row<'_>) -> Result<Query, AllocError> {
+    if row.falls {
+        falls(alloc, 2)
     } else {
-        exceeds(alloc, row.inputs)?
-    };
-    Ok(outcome_of(alloc, &graphs, &query, row.budget)?)
+        exceeds(alloc, 2)
+    }
+}
+
+fn outcome_of_row(alloc: Global, row: &Row<'_>) -> Result<Outcome, Fail> {
+    let graphs = graphs_of(alloc, row)?;
+    let query = query_of(alloc, row)?;
+    Ok(asked(alloc, &graphs, &query, row.budget)?)
 }
 
 const AND: &[(u32, u32)] = &[(2, 4)];
 
 const XOR: &[(u32, u32)] = &[(2, 5), (3, 4), (7, 9)];
 
+const ROWS: [Row<'static>; 6] = [
+    // the AND doesn't fall where input 0 rises
+    Row {
+        first: AND,
+        first_output: 6,
+        second: AND,
+        second_output: 6,
+        falls: true,
+        budget: 0,
+        outcome: Outcome::Spent(0),
+    },
+    Row {
+        first: AND,
+        first_output: 6,
+        second: AND,
+        second_output: 6,
+        falls: true,
+        budget: 1,
+        outcome: Outcome::Refuted(1),
+    },
+    // gate 0 is outside of both cones
+    Row {
+        first: &[(3, 5), (2, 4)],
+        first_output: 8,
+        second: AND,
+        second_output: 6,
+        falls: true,
+        budget: 9,
+        outcome: Outcome::Refuted(1),
+    },
+    // the exclusive or falls where input 1 is 1
+    Row {
+        first: XOR,
+        first_output: 11,
+        second: AND,
+        second_output: 6,
+        falls: true,
+        budget: 9,
+        outcome: Outcome::Vector(2),
+    },
+    // an AND is below an OR, and is not below a constant
+    Row {
+        first: AND,
+        first_output: 6,
+        second: &[(3, 5)],
+        second_output: 7,
+        falls: false,
+        budget: 9,
+        outcome: Outcome::Refuted(1),
+    },
+    Row {
+        first: AND,
+        first_output: 6,
+        second: &[],
+        second_output: 0,
+        falls: false,
+        budget: 9,
+        outcome: Outcome::Vector(3),
+    },
+];
+
 #[test]
 fn asks_of_small_circuits(rt: HostRuntime) -> Result<(), Fail> {
-    let rows = [
-        // the AND doesn't fall where input 0 rises
-        Row {
-            inputs: 2,
-            first: AND,
-            first_output: 6,
-            second: AND,
-            second_output: 6,
-            falls: true,
-            budget: 0,
-            outcome: Outcome::Spent(0),
-        },
-        Row {
-            inputs: 2,
-            first: AND,
-            first_output: 6,
-            second: AND,
-            second_output: 6,
-            falls: true,
-            budget: 1,
-            outcome: Outcome::Refuted(1),
-        },
-        // gate 0 is outside of both cones
-        Row {
-            inputs: 2,
-            first: &[(3, 5), (2, 4)],
-            first_output: 8,
-            second: AND,
-            second_output: 6,
-            falls: true,
-            budget: 9,
-            outcome: Outcome::Refuted(1),
-        },
-        // the exclusive or falls where input 1 is 1
-        Row {
-            inputs: 2,
-            first: XOR,
-            first_output: 11,
-            second: AND,
-            second_output: 6,
-            falls: true,
-            budget: 9,
-            outcome: Outcome::Vector(2),
-        },
-        // an AND is below an OR, and is not below a constant
-        Row {
-            inputs: 2,
-            first: AND,
-            first_output: 6,
-            second: &[(3, 5)],
-            second_output: 7,
-            falls: false,
-            budget: 9,
-            outcome: Outcome::Refuted(1),
-        },
-        Row {
-            inputs: 2,
-            first: AND,
-            first_output: 6,
-            second: &[],
-            second_output: 0,
-            falls: false,
-            budget: 9,
-            outcome: Outcome::Vector(3),
-        },
-    ];
-    for row in rows.iter() {
+    for row in ROWS.iter() {
         assert_eq!(rt; outcome_of_row(rt.alloc(), row)?, row.outcome);
     }
     Ok(())
 }
 
-/// A circuit of three inputs and six gates, drawn by a seed.
-fn drawn(alloc: Global, numbers: &mut Pcg32) -> Result<Graph, Fail> {
-    let mut gates = Vec::new(alloc);
-    for t in 0..6u32 {
-        let below = 2 * (4 + t);
-        let a = Lit(numbers.next_word() % below);
-        let b = Lit(numbers.next_word() % below);
-        gates.push(Gate { a, b })?;
-    }
-    let outputs = vec![in alloc; Lit(18 + numbers.next_word() % 2); 1]?;
-    if gates.len() > 99 {
-        return Err("a larger graph than this test makes".into());
-    }
-    Ok(Graph::new(3, gates, outputs).ok_or("no graph")?)
+fn drawn_graphs(alloc: Global, numbers: &mut Pcg32) -> Result<Graphs, Fail> {
+    Ok(Graphs {
+        first: drawn(alloc, numbers)?,
+        second: drawn(alloc, numbers)?,
+    })
 }
 
-/// The output of a circuit of three inputs on a vector.
-fn output_on(alloc: Global, graph: &Graph, code: u32) -> Result<bool, Fail> {
-    let vector = [code % 2 == 1, code / 2 % 2 == 1, code / 4 % 2 == 1];
-    if graph.inputs() != 3 || graph.outputs().is_empty() {
-        return Err("another graph".into());
-    }
-    let mut values = vec![in alloc; false; graph.signals()]?;
-    graph.eval_into(&vector, &mut values);
-    Ok(lit_value(&values, graph.outputs()[0]))
+/// Whether the first output is true on some vector where the second one is false.
+fn exceeds_somewhere(first: &[bool], second: &[bool]) -> bool {
+    first.iter().zip(second.iter()).any(|(a, b)| *a & !*b)
 }
 
-/// Whether the first circuit is true on some vector where the second one is false.
-fn exceeds_somewhere(alloc: Global, graphs: &Graphs) -> Result<bool, Fail> {
-    for code in 0..8 {
-        if output_on(alloc, &graphs.first, code)? && !output_on(alloc, &graphs.second, code)? {
-            return Ok(true);
-        }
+/// Whether the answer is what all vectors say.
+fn is_right(alloc: Global, graphs: &Graphs) -> Result<bool, Fail> {
+    let first = outputs(alloc, &graphs.first)?;
+    let second = outputs(alloc, &graphs.second)?;
+    let query = exceeds(alloc, 3)?;
+    match asked(alloc, graphs, &query, 1000)? {
+        Outcome::Vector(_) => Ok(exceeds_somewhere(&first, &second)),
+        Outcome::Refuted(_) => Ok(!exceeds_somewhere(&first, &second)),
+        _ => Ok(false),
     }
-    Ok(false)
 }
 
 #[test]
 fn agrees_with_all_vectors(rt: HostRuntime) -> Result<(), Fail> {
-    let alloc = rt.alloc();
     let mut numbers = Pcg32::new(7, 54);
-    for _ in 0..40 {
-        let graphs = Graphs {
-            first: drawn(alloc, &mut numbers)?,
-            second: drawn(alloc, &mut numbers)?,
-        };
-        let there = exceeds_somewhere(alloc, &graphs)?;
-        let outcome = outcome_of(alloc, &graphs, &exceeds(alloc, 3)?, 1000)?;
-        assert_eq!(rt; matches!(outcome, Outcome::Vector(_)), there);
-        assert_eq!(rt; matches!(outcome, Outcome::Refuted(_)), !there);
+    for round in 0..40 {
+        let graphs = drawn_graphs(rt.alloc(), &mut numbers)?;
+        assert!(rt; is_right(rt.alloc(), &graphs)?, "in round {round}");
     }
     Ok(())
 }

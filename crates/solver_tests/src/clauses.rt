@@ -12,28 +12,45 @@ fn line_of(alloc: Global, literals: &[SatLit], hints: &[u64]) -> Result<LogLine,
     })
 }
 
-#[test]
-fn copies_logs(rt: HostRuntime) -> Result<(), Fail> {
-    let alloc = rt.alloc();
+fn log_of_two_lines(alloc: Global) -> Result<Log, AllocError> {
     let mut lines = Items::new(alloc);
     lines.push(line_of(alloc, &[SatLit(2), SatLit(5)], &[0, 7, 1])?)?;
     lines.push(line_of(alloc, &[], &[])?)?;
-    let log = Log { lines };
-    assert_eq!(rt; log.copy(alloc)?, log);
+    Ok(Log { lines })
+}
+
+#[test]
+fn copies_logs(rt: HostRuntime) -> Result<(), Fail> {
+    let log = log_of_two_lines(rt.alloc())?;
+    assert!(rt; log.copy(rt.alloc())? == log);
     Ok(())
+}
+
+/// Puts three clauses, the second one empty, and answers the numbers of the first two.
+fn put_three(store: &mut ClauseStore) -> Result<(u64, u64), AllocError> {
+    let two = Clause3::two(SatLit::of(3, true), SatLit::of(0, false));
+    let first = store.put(two.literals())?;
+    let second = store.put(&[])?;
+    store.reserve(1)?;
+    store.put_reserved(&[SatLit(9)]);
+    Ok((first, second))
+}
+
+fn holds(store: &ClauseStore, id: u64, clause: &[SatLit]) -> bool {
+    id < store.count() && store.get(id) == clause
 }
 
 #[test]
 fn keeps_clauses(rt: HostRuntime) -> Result<(), Fail> {
     let mut store = ClauseStore::new(rt.alloc());
-    let two = Clause3::two(SatLit::of(3, true), SatLit::of(0, false));
-    assert_eq!(rt; store.put(two.literals())?, 0);
-    assert_eq!(rt; store.put(&[])?, 1);
-    store.reserve(1)?;
-    store.put_reserved(&[SatLit(9)]);
-    assert_eq!(rt; store.count(), 3);
-    assert_eq!(rt; store.get(0), [SatLit(6), SatLit(1)].as_slice());
-    assert!(rt; store.get(1).is_empty());
-    assert_eq!(rt; store.get(2), [SatLit(8).opposite()].as_slice());
+    assert_eq!(rt; (put_three(&mut store)?, store.count()), ((0, 1), 3));
+    let rows: [(u64, &[SatLit]); 3] = [
+        (0, &[SatLit(6), SatLit(1)]),
+        (1, &[]),
+        (2, &[SatLit(8).opposite()]),
+    ];
+    for (id, clause) in rows {
+        assert!(rt; holds(&store, id, clause), "clause {id}");
+    }
     Ok(())
 }

@@ -4,9 +4,13 @@
 #[cfg(test)]
 mod answers;
 #[cfg(test)]
+mod circuits;
+#[cfg(test)]
 mod clauses;
 #[cfg(test)]
 mod queries;
+#[cfg(test)]
+mod refutation;
 #[cfg(test)]
 mod refuters;
 #[cfg(test)]

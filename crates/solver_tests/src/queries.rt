@@ -3,101 +3,150 @@
 ghost use Rattle.std.specs.Prelude.{IfOk, IfSome};
 ghost use Rattle.query_core.specs.Queries.{IsQuery};
 
-use cnf_core::Base;
+use cnf_core::{Base, SatLit};
 use items::Items;
-use net_core::{Gate, Graph, Graphs, Lit, Matching, Pair, PortKind, Side};
+use net_core::{Graphs, Matching, Pair, PortKind, Side};
 use query_core::{
     Claim, Feed, Feeds, Query, QueryBase, Shape, cone_ids, image, of_claim, of_match,
 };
+use samples::{graph, matching};
 use std::alloc::{AllocError, Global};
 use std::collections::HashMap;
 use std::test::Fail;
 
-fn graph_of(alloc: Global, inputs: u32, gates: &[(u32, u32)], output: u32) -> Result<Graph, Fail> {
-    let mut list = Vec::new(alloc);
-    for (a, b) in gates {
-        list.push(Gate {
-            a: Lit(*a),
-            b: Lit(*b),
-        })?;
+fn are_literals(literals: &[SatLit], numbers: &[u64]) -> bool {
+    for (literal, number) in literals.iter().zip(numbers.iter()) {
+        if literal.0 != *number {
+            return false;
+        }
     }
-    let outputs = vec![in alloc; Lit(output); 1]?;
-    if list.len() > 9 || inputs > 9 {
-        return Err("a larger graph than this test makes".into());
-    }
-    Ok(Graph::new(inputs, list, outputs).ok_or("no graph")?)
+    literals.len() == numbers.len()
 }
 
-/// The clauses, each as its literals with a comma behind each, and a bar behind each clause.
-fn clauses_of(alloc: Global, base: &QueryBase<'_>) -> Result<Vec<u64>, AllocError> {
-    let mut numbers = Vec::new(alloc);
-    for id in 0..base.count() {
-        for literal in base.clause(id).literals().iter() {
-            numbers.push(literal.0)?;
-        }
-        numbers.push(99)?;
+fn is_clause(base: &QueryBase<'_>, id: u64, numbers: &[u64]) -> bool {
+    if id >= base.count() {
+        return false;
     }
-    Ok(numbers)
+    are_literals(base.clause(id).literals(), numbers)
+}
+
+/// The number of the first clause that isn't the wanted one, given by the numbers of its literals.
+fn wrong_clause(base: &QueryBase<'_>, wanted: &[&[u64]]) -> Option<u64> {
+    let count = wanted.len() as u64;
+    for id in 0..count {
+        if !is_clause(base, id, wanted[id as usize]) {
+            return Some(id);
+        }
+    }
+    if base.count() == count {
+        None
+    } else {
+        Some(count)
+    }
+}
+
+fn wrong_clause_of(
+    alloc: Global,
+    graphs: &Graphs,
+    query: &Query,
+    wanted: &[&[u64]],
+) -> Result<Option<u64>, AllocError>
+    requires { IsQuery graphs.now query.now }
+{
+    let base = QueryBase::new(alloc, graphs, query)?;
+    Ok(wrong_clause(&base, wanted))
 }
 
 /// The AND of two inputs, and their OR.
 fn and_or(alloc: Global) -> Result<Graphs, Fail> {
     Ok(Graphs {
-        first: graph_of(alloc, 2, &[(2, 4)], 6)?,
-        second: graph_of(alloc, 2, &[(3, 5)], 7)?,
+        first: graph(alloc, 2, &[(2, 4)], &[6])?,
+        second: graph(alloc, 2, &[(3, 5)], &[7])?,
     })
 }
 
-/// Each input goes to its own place, and each port is inverted.
-fn all_inverted(alloc: Global) -> Result<Matching, AllocError> {
-    Ok(Matching {
-        inputs: Items::from_slice(alloc, &[(0, true), (1, true)])?,
-        outputs: Items::from_slice(alloc, &[(0, true)])?,
-    })
-}
-
-/// The clauses of a match's query, or none where these aren't the two circuits' ports.
-fn match_clauses(
+/// The first wrong clause of a match's query for its one output, or clause 0 where these aren't the circuits' ports.
+fn wrong_match_clause(
     alloc: Global,
     graphs: &Graphs,
     matching: &Matching,
     value: bool,
-) -> Result<Vec<u64>, AllocError> {
+    wanted: &[&[u64]],
+) -> Result<Option<u64>, AllocError> {
     if graphs.first.inputs() != graphs.second.inputs() {
-        return Ok(Vec::new(alloc));
+        return Ok(Some(0));
     }
     if graphs.first.outputs().len() != 1 || graphs.second.outputs().len() != 1 {
-        return Ok(Vec::new(alloc));
+        return Ok(Some(0));
     }
     if !matching.check_shape(graphs.first.inputs(), 1) {
-        return Ok(Vec::new(alloc));
+        return Ok(Some(0));
     }
     let query = of_match(alloc, graphs, matching, 0, value)?;
-    let base = QueryBase::new(alloc, graphs, &query)?;
-    clauses_of(alloc, &base)
+    wrong_clause_of(alloc, graphs, &query, wanted)
 }
+
+fn wrong_difference_clause(
+    alloc: Global,
+    value: bool,
+    wanted: &[&[u64]],
+) -> Result<Option<u64>, Fail> {
+    let graphs = and_or(alloc)?;
+    let inverting = matching(alloc, &[(0, true), (1, true)], &[(0, true)])?;
+    Ok(wrong_match_clause(alloc, &graphs, &inverting, value, wanted)?)
+}
+
+/// The clauses of a match that inverts each port of an AND and an OR, where the AND is true. Variables 1 and 2 are the
+/// inputs, 3 and 4 the gates.
+const WHERE_TRUE: [&[u64]; 9] = [
+    &[0],
+    &[7, 2],
+    &[7, 4],
+    &[6, 3, 5],
+    &[9, 2],
+    &[9, 4],
+    &[8, 3, 5],
+    &[6],
+    &[9],
+];
+
+/// The same where the AND is false.
+const WHERE_FALSE: [&[u64]; 9] = [
+    &[0],
+    &[7, 2],
+    &[7, 4],
+    &[6, 3, 5],
+    &[9, 2],
+    &[9, 4],
+    &[8, 3, 5],
+    &[7],
+    &[8],
+];
 
 #[test]
 fn asks_for_a_difference(rt: HostRuntime) -> Result<(), Fail> {
-    let alloc = rt.alloc();
-    let graphs = and_or(alloc)?;
-    let matching = all_inverted(alloc)?;
-    // 99 ends a clause; variables 1 and 2 are the inputs, 3 and 4 the gates
     assert_eq!(rt;
-        match_clauses(alloc, &graphs, &matching, true)?.as_slice(),
-        [
-            0, 99, 7, 2, 99, 7, 4, 99, 6, 3, 5, 99, 9, 2, 99, 9, 4, 99, 8, 3, 5, 99, 6, 99, 9, 99
-        ]
-        .as_slice()
+        wrong_difference_clause(rt.alloc(), true, &WHERE_TRUE)?,
+        None
     );
     assert_eq!(rt;
-        match_clauses(alloc, &graphs, &matching, false)?.as_slice(),
-        [
-            0, 99, 7, 2, 99, 7, 4, 99, 6, 3, 5, 99, 9, 2, 99, 9, 4, 99, 8, 3, 5, 99, 7, 99, 8, 99
-        ]
-        .as_slice()
+        wrong_difference_clause(rt.alloc(), false, &WHERE_FALSE)?,
+        None
     );
     Ok(())
+}
+
+/// A circuit of one output, beside one that isn't asked about.
+fn circuits_of(
+    alloc: Global,
+    inputs: u32,
+    gates: &[(u32, u32)],
+    output: u32,
+) -> Result<Graphs, Fail> {
+    Ok(Graphs {
+        first: graph(alloc, inputs, gates, &[output])?,
+        second: graph(alloc, 0, &[], &[0])?,
+    })
 }
 
 /// The query of whether the first circuit's output falls where input 0 rises. None where it has no input or no output.
@@ -116,70 +165,89 @@ fn rise_query(alloc: Global, graphs: &Graphs) -> Result<Option<Query>, AllocErro
     Ok(Some(query))
 }
 
-fn claim_clauses(alloc: Global, graphs: &Graphs) -> Result<Vec<u64>, AllocError> {
-    let Some(query) = rise_query(alloc, graphs)? else {
-        return Ok(Vec::new(alloc));
-    };
-    let base = QueryBase::new(alloc, graphs, &query)?;
-    clauses_of(alloc, &base)
+fn wrong_rise_clause(
+    alloc: Global,
+    graphs: &Graphs,
+    wanted: &[&[u64]],
+) -> Result<Option<u64>, Fail> {
+    let query = rise_query(alloc, graphs)?.ok_or("no port")?;
+    Ok(wrong_clause_of(alloc, graphs, &query, wanted)?)
 }
 
-fn claim_ids(alloc: Global, graphs: &Graphs) -> Result<Vec<u64>, AllocError> {
-    let Some(query) = rise_query(alloc, graphs)? else {
-        return Ok(Vec::new(alloc));
-    };
-    let base = QueryBase::new(alloc, graphs, &query)?;
-    cone_ids(alloc, &base)
-}
+/// The clauses of an AND of inputs 0 and 1: it reads input 0, whose feeds differ.
+const OWN_GATE: [&[u64]; 9] = [
+    &[0],
+    &[7, 1],
+    &[7, 4],
+    &[6, 0, 5],
+    &[9, 0],
+    &[9, 4],
+    &[8, 1, 5],
+    &[6],
+    &[9],
+];
+
+/// Gate 0 is the AND of inputs 1 and 2, and has the left one's variable 4; gate 1 reads it and input 0.
+const SHARED_GATE: [&[u64]; 15] = [
+    &[0],
+    &[9, 4],
+    &[9, 6],
+    &[8, 5, 7],
+    &[11, 8],
+    &[11, 1],
+    &[10, 9, 0],
+    &[9, 4],
+    &[9, 6],
+    &[8, 5, 7],
+    &[15, 8],
+    &[15, 0],
+    &[14, 9, 1],
+    &[10],
+    &[15],
+];
 
 #[test]
 fn shares_gates_that_reach_no_difference(rt: HostRuntime) -> Result<(), Fail> {
-    let alloc = rt.alloc();
-    // the one gate reads input 0, whose feeds differ
-    assert_eq!(rt;
-        claim_clauses(alloc, &and_or(alloc)?)?.as_slice(),
-        [
-            0, 99, 7, 1, 99, 7, 4, 99, 6, 0, 5, 99, 9, 0, 99, 9, 4, 99, 8, 1, 5, 99, 6, 99, 9, 99
-        ]
-        .as_slice()
-    );
-    // gate 0 is the AND of inputs 1 and 2, and has the left one's variable 4; gate 1 reads it and input 0
-    let graphs = Graphs {
-        first: graph_of(alloc, 3, &[(4, 6), (8, 2)], 10)?,
-        second: graph_of(alloc, 0, &[], 0)?,
-    };
-    assert_eq!(rt;
-        claim_clauses(alloc, &graphs)?.as_slice(),
-        [
-            0, 99, 9, 4, 99, 9, 6, 99, 8, 5, 7, 99, 11, 8, 99, 11, 1, 99, 10, 9, 0, 99, 9, 4, 99,
-            9, 6, 99, 8, 5, 7, 99, 15, 8, 99, 15, 0, 99, 14, 9, 1, 99, 10, 99, 15, 99
-        ]
-        .as_slice()
-    );
+    let own = circuits_of(rt.alloc(), 2, &[(2, 4)], 6)?;
+    assert_eq!(rt; wrong_rise_clause(rt.alloc(), &own, &OWN_GATE)?, None);
+    let shared = circuits_of(rt.alloc(), 3, &[(4, 6), (8, 2)], 10)?;
+    assert_eq!(rt; wrong_rise_clause(rt.alloc(), &shared, &SHARED_GATE)?, None);
     Ok(())
+}
+
+fn has_cone_ids(
+    alloc: Global,
+    graphs: &Graphs,
+    query: &Query,
+    wanted: &[u64],
+) -> Result<bool, AllocError>
+    requires { IsQuery graphs.now query.now }
+{
+    let base = QueryBase::new(alloc, graphs, query)?;
+    let ids = cone_ids(alloc, &base)?;
+    Ok(ids.as_slice() == wanted)
+}
+
+fn has_rise_ids(alloc: Global, graphs: &Graphs, wanted: &[u64]) -> Result<bool, Fail> {
+    let query = rise_query(alloc, graphs)?.ok_or("no port")?;
+    Ok(has_cone_ids(alloc, graphs, &query, wanted)?)
 }
 
 #[test]
 fn numbers_the_clauses_of_cones(rt: HostRuntime) -> Result<(), Fail> {
-    let alloc = rt.alloc();
-    // of gates 0 and 1 the output reads gate 1 alone
-    let graphs = Graphs {
-        first: graph_of(alloc, 2, &[(2, 4), (3, 5)], 9)?,
-        second: graph_of(alloc, 0, &[], 0)?,
-    };
-    assert_eq!(rt;
-        claim_ids(alloc, &graphs)?.as_slice(),
-        [0, 4, 5, 6, 10, 11, 12, 13, 14].as_slice()
-    );
-    // gate 1 reads gate 0
-    let graphs = Graphs {
-        first: graph_of(alloc, 2, &[(2, 4), (3, 6)], 9)?,
-        second: graph_of(alloc, 0, &[], 0)?,
-    };
-    assert_eq!(rt;
-        claim_ids(alloc, &graphs)?.as_slice(),
-        [0, 1, 2, 3, 4, 5, 6, 7, 8, 9, 10, 11, 12, 13, 14].as_slice()
-    );
+    let rows: [(&[(u32, u32)], &[u64]); 2] = [
+        // of gates 0 and 1 the output reads gate 1 alone
+        (&[(2, 4), (3, 5)], &[0, 4, 5, 6, 10, 11, 12, 13, 14]),
+        // gate 1 reads gate 0
+        (
+            &[(2, 4), (3, 6)],
+            &[0, 1, 2, 3, 4, 5, 6, 7, 8, 9, 10, 11, 12, 13, 14],
+        ),
+    ];
+    for (gates, wanted) in rows {
+        let graphs = circuits_of(rt.alloc(), 2, gates, 9)?;
+        assert!(rt; has_rise_ids(rt.alloc(), &graphs, wanted)?, "at {gates:?}");
+    }
     Ok(())
 }
 
@@ -200,6 +268,14 @@ fn claim(side: Side, output: u32, shape: Shape) -> Claim {
     }
 }
 
+fn swap(i: u32, j: u32, a: bool, b: bool) -> Shape {
+    Shape::Swap { i, j, a, b }
+}
+
+fn moved(output: u32, shape: Shape) -> Option<Claim> {
+    Some(claim(Side::Second, output, shape))
+}
+
 #[test]
 fn moves_claims(rt: HostRuntime) -> Result<(), Fail> {
     // output 1 is inverted at its place, output 0 isn't
@@ -209,57 +285,24 @@ fn moves_claims(rt: HostRuntime) -> Result<(), Fail> {
         pair(PortKind::Output, 0, 2, false),
         pair(PortKind::Output, 1, 0, true),
     ];
-    let low = Shape::Swap {
-        i: 0,
-        j: 1,
-        a: false,
-        b: false,
-    };
-    let left_low = Shape::Swap {
-        i: 0,
-        j: 1,
-        a: false,
-        b: true,
-    };
-    let right_low = Shape::Swap {
-        i: 0,
-        j: 1,
-        a: true,
-        b: false,
-    };
-    for (output, shape, place, image_shape) in [
-        (0, Shape::Up(0), 2, Shape::Up(1)),
-        (0, Shape::Up(1), 2, Shape::Down(0)),
-        (0, Shape::Down(1), 2, Shape::Up(0)),
-        (0, low, 2, right_low),
-        (0, left_low, 2, low),
-        (1, Shape::Up(0), 0, Shape::Down(1)),
-        (1, Shape::Up(1), 0, Shape::Up(0)),
-        (1, low, 0, left_low),
+    let low = swap(0, 1, false, false);
+    let left_low = swap(0, 1, false, true);
+    let right_low = swap(0, 1, true, false);
+    for (output, shape, wanted) in [
+        (0, Shape::Up(0), moved(2, Shape::Up(1))),
+        (0, Shape::Up(1), moved(2, Shape::Down(0))),
+        (0, Shape::Down(1), moved(2, Shape::Up(0))),
+        (0, low, moved(2, right_low)),
+        (0, left_low, moved(2, low)),
+        (1, Shape::Up(0), moved(0, Shape::Down(1))),
+        (1, Shape::Up(1), moved(0, Shape::Up(0))),
+        (1, low, moved(0, left_low)),
+        (2, Shape::Up(0), None),
+        (0, Shape::Up(2), None),
+        (0, swap(1, 2, true, true), None),
     ] {
-        assert_eq!(rt;
-            image(&claim(Side::First, output, shape), pairs.as_slice()),
-            Some(claim(Side::Second, place, image_shape)),
-            "at {output} {shape:?}"
-        );
-    }
-    for (output, shape) in [
-        (2, Shape::Up(0)),
-        (0, Shape::Up(2)),
-        (
-            0,
-            Shape::Swap {
-                i: 1,
-                j: 2,
-                a: true,
-                b: true,
-            },
-        ),
-    ] {
-        assert_eq!(rt;
-            image(&claim(Side::First, output, shape), pairs.as_slice()),
-            None
-        );
+        let given = image(&claim(Side::First, output, shape), &pairs);
+        assert!(rt; given == wanted, "at {output} {shape:?}");
     }
     Ok(())
 }
@@ -273,34 +316,50 @@ fn listed(alloc: Global, feeds: &[Feed]) -> Result<Feeds, AllocError> {
     Ok(Feeds::from_items(Items::from_slice(alloc, feeds)?))
 }
 
-#[test]
-fn feeds_are_the_same_in_each_form(rt: HostRuntime) -> Result<(), Fail> {
-    let alloc = rt.alloc();
-    let own = [wire(0), wire(1), wire(2)];
-    let straight = Feeds::straight(3);
-    let valued = Feeds::valued(
-        3,
-        Shape::Swap {
-            i: 0,
-            j: 2,
-            a: true,
-            b: false,
-        },
-    );
+/// The number under which feeds are kept, where those that a caller has are kept under 1 and 2.
+fn number_of(
+    alloc: Global,
+    straight: &Feeds,
+    valued: &Feeds,
+    feeds: &Feeds,
+) -> Result<Option<u32>, Fail> {
     let mut numbers = HashMap::new(alloc);
     numbers.insert(straight.clone()?, 1)?;
     numbers.insert(valued.clone()?, 2)?;
-    for (feeds, number) in [
-        (own, Some(1)),
-        ([Feed::Fixed(true), own[1], Feed::Fixed(false)], Some(2)),
-        ([Feed::Fixed(true), own[1], Feed::Fixed(true)], None),
-        ([Feed::Fixed(true), own[1], own[2]], None),
-    ] {
-        let list = listed(alloc, feeds.as_slice())?;
-        assert_eq!(rt; numbers.get(&list).copied(), number, "{feeds:?}");
-        assert_eq!(rt; list == straight, number == Some(1));
-        assert_eq!(rt; list == valued, number == Some(2));
+    Ok(numbers.get(feeds).copied())
+}
+
+fn equal_number(straight: &Feeds, valued: &Feeds, feeds: &Feeds) -> Option<u32> {
+    if feeds == straight {
+        return Some(1);
     }
-    assert!(rt; straight != Feeds::straight(2));
+    if feeds == valued { Some(2) } else { None }
+}
+
+/// The number under which a map has these feeds, and the number of the equal ones: 1 for those where each input gets its
+/// own bit, 2 for those of a claim.
+fn numbers_of(alloc: Global, feeds: &[Feed]) -> Result<(Option<u32>, Option<u32>), Fail> {
+    let straight = Feeds::straight(3);
+    let valued = Feeds::valued(3, swap(0, 2, true, false));
+    let feeds = listed(alloc, feeds)?;
+    let kept = number_of(alloc, &straight, &valued, &feeds)?;
+    Ok((kept, equal_number(&straight, &valued, &feeds)))
+}
+
+#[test]
+fn feeds_are_the_same_in_each_form(rt: HostRuntime) -> Result<(), Fail> {
+    for (feeds, number) in [
+        ([wire(0), wire(1), wire(2)], Some(1)),
+        ([Feed::Fixed(true), wire(1), Feed::Fixed(false)], Some(2)),
+        ([Feed::Fixed(true), wire(1), Feed::Fixed(true)], None),
+        ([Feed::Fixed(true), wire(1), wire(2)], None),
+    ] {
+        assert_eq!(rt;
+            numbers_of(rt.alloc(), &feeds)?,
+            (number, number),
+            "{feeds:?}"
+        );
+    }
+    assert!(rt; Feeds::straight(3) != Feeds::straight(2));
     Ok(())
 }

@@ -56,60 +56,78 @@ fn line_of(alloc: Global, literals: &[u64], hints: &[u64]) -> Result<LogLine, Al
     Ok(LogLine { clause, hints })
 }
 
-/// What a refuter answers to a line, for which room is made.
+/// What a refuter answers to a line, for which room is made, and whether it is closed then.
+fn answer_to_line(
+    refuter: &mut Refuter<AndOr>,
+    line: &LogLine,
+) -> Result<(Result<(), LineFault>, bool), AllocError> {
+    refuter.reserve(line.clause.len())?;
+    let answer = refuter.line(line);
+    Ok((answer, refuter.closed()))
+}
+
 fn answer_to(
     alloc: Global,
     refuter: &mut Refuter<AndOr>,
     literals: &[u64],
     hints: &[u64],
-) -> Result<Result<(), LineFault>, AllocError> {
+) -> Result<(Result<(), LineFault>, bool), AllocError> {
     let line = line_of(alloc, literals, hints)?;
-    refuter.reserve(line.clause.len())?;
-    Ok(refuter.line(&line))
+    answer_to_line(refuter, &line)
 }
+
+fn first_answer_to(
+    alloc: Global,
+    literals: &[u64],
+    hints: &[u64],
+) -> Result<(Result<(), LineFault>, bool), AllocError> {
+    let mut refuter = Refuter::new(alloc, AndOr)?;
+    answer_to(alloc, &mut refuter, literals, hints)
+}
+
+/// Literals and hints of a first line, and what is answered.
+const FIRST_LINES: [(&[u64], &[u64], Result<(), LineFault>); 13] = [
+    // both outputs are true, so both inputs are, and the OR isn't
+    (&[], &[7, 8, 1, 2, 6], Ok(())),
+    // the AND is false where an input is
+    (&[7, 2], &[1], Ok(())),
+    (&[2], &[7, 1], Ok(())),
+    (&[10], &[0], Err(LineFault::UnknownVariable)),
+    (&[2, 3, 10], &[0], Err(LineFault::UnknownVariable)),
+    (&[2, 3], &[0], Err(LineFault::TwiceVariable)),
+    (&[2, 2], &[0], Err(LineFault::TwiceVariable)),
+    (&[], &[7, 8, 1, 2, 6, 0], Err(LineFault::AfterConflict)),
+    (&[], &[7, 9], Err(LineFault::UnknownHint)),
+    (&[], &[1], Err(LineFault::NotUnit)),
+    (&[], &[0, 0], Err(LineFault::NotUnit)),
+    (&[], &[7, 8], Err(LineFault::NoConflict)),
+    (&[], &[7, 8, 1, 2], Err(LineFault::NoConflict)),
+];
 
 #[test]
 fn takes_and_refuses_lines(rt: HostRuntime) -> Result<(), Fail> {
-    let rows: [(&[u64], &[u64], Result<(), LineFault>); 13] = [
-        // both outputs are true, so both inputs are, and the OR isn't
-        (&[], &[7, 8, 1, 2, 6], Ok(())),
-        // the AND is false where an input is
-        (&[7, 2], &[1], Ok(())),
-        (&[2], &[7, 1], Ok(())),
-        (&[10], &[0], Err(LineFault::UnknownVariable)),
-        (&[2, 3, 10], &[0], Err(LineFault::UnknownVariable)),
-        (&[2, 3], &[0], Err(LineFault::TwiceVariable)),
-        (&[2, 2], &[0], Err(LineFault::TwiceVariable)),
-        (&[], &[7, 8, 1, 2, 6, 0], Err(LineFault::AfterConflict)),
-        (&[], &[7, 9], Err(LineFault::UnknownHint)),
-        (&[], &[1], Err(LineFault::NotUnit)),
-        (&[], &[0, 0], Err(LineFault::NotUnit)),
-        (&[], &[7, 8], Err(LineFault::NoConflict)),
-        (&[], &[7, 8, 1, 2], Err(LineFault::NoConflict)),
-    ];
-    for (literals, hints, answer) in rows {
-        let mut refuter = Refuter::new(rt.alloc(), AndOr)?;
-        let given = answer_to(rt.alloc(), &mut refuter, literals, hints)?;
-        assert_eq!(rt; given, answer, "at {hints:?}");
+    for (literals, hints, answer) in FIRST_LINES.iter() {
+        let given = first_answer_to(rt.alloc(), literals, hints)?;
+        let closed = answer.is_ok() & literals.is_empty();
+        assert_eq!(rt; given, (*answer, closed), "at {hints:?}");
     }
     Ok(())
 }
 
+/// Literals and hints of one line behind the other, what is answered, and whether the log is closed then.
+const LINES: [(&[u64], &[u64], Result<(), LineFault>, bool); 3] = [
+    (&[2], &[7, 1], Ok(()), false),
+    // the line taken has number 9
+    (&[], &[9, 7, 2, 8, 6], Ok(()), true),
+    (&[], &[9, 7, 2, 8, 6], Err(LineFault::Closed), true),
+];
+
 #[test]
 fn uses_lines_and_closes(rt: HostRuntime) -> Result<(), Fail> {
-    let alloc = rt.alloc();
-    let mut refuter = Refuter::new(alloc, AndOr)?;
-    assert_eq!(rt; answer_to(alloc, &mut refuter, &[2], &[7, 1])?, Ok(()));
-    assert!(rt; !refuter.closed());
-    // the line taken has number 9
-    assert_eq!(rt;
-        answer_to(alloc, &mut refuter, &[], &[9, 7, 2, 8, 6])?,
-        Ok(())
-    );
-    assert!(rt; refuter.closed());
-    assert_eq!(rt;
-        answer_to(alloc, &mut refuter, &[], &[9, 7, 2, 8, 6])?,
-        Err(LineFault::Closed)
-    );
+    let mut refuter = Refuter::new(rt.alloc(), AndOr)?;
+    for (literals, hints, answer, closed) in LINES.iter() {
+        let given = answer_to(rt.alloc(), &mut refuter, literals, hints)?;
+        assert_eq!(rt; given, (*answer, *closed), "at {literals:?}");
+    }
     Ok(())
 }

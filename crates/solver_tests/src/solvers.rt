@@ -3,13 +3,13 @@
 ghost use Rattle.std.specs.Prelude.{◌≡◌, ◌%◌, ◌<◌, ◌∷◌, [], ℕ, false, All, IfOk, length, map};
 ghost use Rattle.query_core.specs.Ledgers.{last_asked};
 
-use cnf_core::{Base, Clause3, Log, SatLit, Stop};
+use crate::refutation::is_refutation;
+use cnf_core::{Base, Clause3, SatLit, Stop};
 use learn_solver::{Solver, Verdict, solve};
 use net_core::Side;
 use query_core::{Cone, Feeds, Ledger, Query};
 use rand_core::utils::NextWord;
 use rand_pcg::Pcg32;
-use refute_check::Refuter;
 use std::alloc::{AllocError, Global};
 use std::test::Fail;
 
@@ -47,7 +47,6 @@ enum Outcome {
     Model,
     Refuted,
     Spent,
-    Memory,
     Wrong,
 }
 
@@ -70,16 +69,24 @@ fn meets(values: &[bool], clauses: &[(u64, u64, u64)]) -> bool {
     true
 }
 
-/// Whether a refuter takes each line of a log and is closed then.
-fn is_taken(alloc: Global, base: Triples<'_>, log: &Log) -> Result<bool, AllocError> {
-    let mut refuter = Refuter::new(alloc, base)?;
-    for line in log.lines.iter() {
-        refuter.reserve(line.clause.len())?;
-        if let Err(_fault) = refuter.line(line) {
-            return Ok(false);
-        }
+/// A query of a circuit without inputs.
+fn no_inputs() -> Query {
+    let output = Cone {
+        side: Side::First,
+        output: 0,
+        feed: Feeds::straight(0),
+    };
+    let same = Cone {
+        side: Side::First,
+        output: 0,
+        feed: Feeds::straight(0),
+    };
+    Query {
+        left: output,
+        left_value: true,
+        right: same,
+        right_value: false,
     }
-    Ok(refuter.closed())
 }
 
 /// A ledger whose entry has no lines yet.
@@ -88,22 +95,7 @@ fn opened(alloc: Global, budget: u64) -> Result<Ledger, AllocError>
     ensures lines { IfOk result (λ ledger. (last_asked ledger.asked).lines ≡ []) }
     ensures not_spent { IfOk result (λ ledger. ledger.spent ≡ false) }
 {
-    let left = Cone {
-        side: Side::First,
-        output: 0,
-        feed: Feeds::straight(0),
-    };
-    let right = Cone {
-        side: Side::First,
-        output: 0,
-        feed: Feeds::straight(0),
-    };
-    let query = Query {
-        left,
-        left_value: true,
-        right,
-        right_value: false,
-    };
+    let query = no_inputs();
     let mut ledger = Ledger::new(alloc, budget);
     ledger.open(alloc, &query, &[])?;
     Ok(ledger)
@@ -119,21 +111,50 @@ fn numbers(alloc: Global, count: usize) -> Result<Vec<u64>, AllocError>
     Ok(numbers)
 }
 
+/// What a search's verdict comes to.
+fn judged(
+    alloc: Global,
+    clauses: &[(u64, u64, u64)],
+    verdict: &Verdict,
+) -> Result<Outcome, AllocError> {
+    match verdict {
+        Verdict::Model(values) => Ok(Outcome::Model.if_right(meets(values, clauses))),
+        Verdict::Refuted(log) => {
+            let right = is_refutation(alloc, Triples { clauses }, log)?;
+            Ok(Outcome::Refuted.if_right(right))
+        }
+    }
+}
+
+/// What a search in all of the clauses comes to.
+fn searched(
+    alloc: Global,
+    clauses: &[(u64, u64, u64)],
+    ids: &[u64],
+    ledger: &mut Ledger,
+) -> Result<Outcome, AllocError>
+    requires ids { All (λ id. id < length clauses.now) ids.now }
+    requires asked { 0 < length ledger.old.asked }
+    requires lines { (last_asked ledger.old.asked).lines ≡ [] }
+    requires not_spent { ledger.old.spent ≡ false }
+{
+    let base = Triples { clauses };
+    let mut solver = Solver::new(alloc, &base, ids, &[])?;
+    match solve(alloc, &mut solver, ledger) {
+        Ok(verdict) => judged(alloc, clauses, &verdict),
+        Err(Stop::Spent(_)) => Ok(Outcome::Spent),
+        Err(Stop::Memory) => Err(AllocError),
+    }
+}
+
 fn outcome_of(
     alloc: Global,
     clauses: &[(u64, u64, u64)],
     budget: u64,
 ) -> Result<Outcome, AllocError> {
-    let base = Triples { clauses };
     let ids = numbers(alloc, clauses.len())?;
     let mut ledger = opened(alloc, budget)?;
-    let mut solver = Solver::new(alloc, &base, &ids, &[])?;
-    match solve(alloc, &mut solver, &mut ledger) {
-        Ok(Verdict::Model(values)) => Ok(Outcome::Model.if_right(meets(&values, clauses))),
-        Ok(Verdict::Refuted(log)) => Ok(Outcome::Refuted.if_right(is_taken(alloc, base, &log)?)),
-        Err(Stop::Spent(_)) => Ok(Outcome::Spent),
-        Err(Stop::Memory) => Ok(Outcome::Memory),
-    }
+    searched(alloc, clauses, &ids, &mut ledger)
 }
 
 /// Three pigeons sit in two holes, no two in one (Cook's formulas). Pigeon i sits in hole h where variable 3i + h is
@@ -193,20 +214,19 @@ const ODD_AND_EVEN: [(u64, u64, u64); 8] = [
 
 #[test]
 fn answers_small_formulas(rt: HostRuntime) -> Result<(), Fail> {
-    let alloc = rt.alloc();
     // in the last rows one pigeon fewer is left: then there is a place for each
     let rows: [(&[(u64, u64, u64)], u64, Outcome); 8] = [
         (&[], 0, Outcome::Model),
-        (ODD.as_slice(), 0, Outcome::Model),
-        (ODD_AND_EVEN.as_slice(), 99, Outcome::Refuted),
-        (ODD_AND_EVEN.as_slice(), 0, Outcome::Spent),
-        (THREE_PIGEONS.as_slice(), 99, Outcome::Refuted),
-        (FOUR_PIGEONS.as_slice(), 999, Outcome::Refuted),
+        (&ODD, 0, Outcome::Model),
+        (&ODD_AND_EVEN, 99, Outcome::Refuted),
+        (&ODD_AND_EVEN, 0, Outcome::Spent),
+        (&THREE_PIGEONS, 99, Outcome::Refuted),
+        (&FOUR_PIGEONS, 999, Outcome::Refuted),
         (&THREE_PIGEONS[1..], 99, Outcome::Model),
         (&FOUR_PIGEONS[1..], 999, Outcome::Model),
     ];
     for (clauses, budget, wanted) in rows {
-        assert_eq!(rt; outcome_of(alloc, clauses, budget)?, wanted);
+        assert_eq!(rt; outcome_of(rt.alloc(), clauses, budget)?, wanted);
     }
     Ok(())
 }
@@ -234,18 +254,20 @@ fn drawn(alloc: Global, words: &mut Pcg32, count: u32) -> Result<Vec<(u64, u64, 
     Ok(clauses)
 }
 
+fn agrees(alloc: Global, clauses: &[(u64, u64, u64)]) -> Result<bool, AllocError> {
+    match outcome_of(alloc, clauses, 99)? {
+        Outcome::Model => Ok(has_model(clauses)),
+        Outcome::Refuted => Ok(!has_model(clauses)),
+        _ => Ok(false),
+    }
+}
+
 #[test]
 fn agrees_with_all_assignments(rt: HostRuntime) -> Result<(), Fail> {
-    let alloc = rt.alloc();
     let mut words = Pcg32::new(42, 54);
     for round in 0..60u32 {
-        let clauses = drawn(alloc, &mut words, 4 + round % 9)?;
-        let wanted = if has_model(&clauses) {
-            Outcome::Model
-        } else {
-            Outcome::Refuted
-        };
-        assert_eq!(rt; outcome_of(alloc, &clauses, 99)?, wanted);
+        let clauses = drawn(rt.alloc(), &mut words, 4 + round % 9)?;
+        assert!(rt; agrees(rt.alloc(), &clauses)?, "in round {round}");
     }
     Ok(())
 }

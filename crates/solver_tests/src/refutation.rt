@@ -1,0 +1,25 @@
+//! Logs that are taken line by line.
+
+use cnf_core::{Base, Log};
+use refute_check::Refuter;
+use std::alloc::{AllocError, Global};
+
+/// Whether a refuter takes each line of a log and is closed then.
+pub fn is_refutation<B: Base + Drop>(
+    alloc: Global,
+    base: B,
+    log: &Log,
+) -> Result<bool, AllocError> {
+    let mut refuter = Refuter::new(alloc, base)?;
+    takes(&mut refuter, log)
+}
+
+fn takes<B: Base + Drop>(refuter: &mut Refuter<B>, log: &Log) -> Result<bool, AllocError> {
+    for line in log.lines.iter() {
+        refuter.reserve(line.clause.len())?;
+        if refuter.line(line).is_err() {
+            return Ok(false);
+        }
+    }
+    Ok(refuter.closed())
+}
