@@ -73,9 +73,7 @@ fn push_gate_ids(ids: &mut Vec<u64>, first: u64, gates: &[u32]) -> Result<(), Al
 {
     for gate in gates.iter() {
         let id = first + 3 * u64::from(*gate);
-        ids.push(id)?;
-        ids.push(id + 1)?;
-        ids.push(id + 2)?;
+        ids.extend_from_slice(&[id, id + 1, id + 2])?;
     }
     Ok(())
 }

@@ -184,8 +184,16 @@ fn copied(form: &Form) -> Result<Form, AllocError>
     match form {
         Form::Straight(inputs) => Ok(Form::Straight(*inputs)),
         Form::Valued(inputs, shape) => Ok(Form::Valued(*inputs, *shape)),
-        Form::Listed(items) => Ok(Form::Listed(items.clone()?)),
+        Form::Listed(items) => listed(items),
     }
+}
+
+// Equal feeds, as a list.
+fn listed(items: &Items<Feed>) -> Result<Form, AllocError>
+    ensures { IfOk result (λ copy. copy ≡ Form.Listed items.now) }
+{
+    let copy = items.clone()?;
+    Ok(Form::Listed(copy))
 }
 
 impl PartialEq for Feeds {

@@ -130,14 +130,22 @@ impl Ledger {
 fn opening(alloc: Global, query: &Query, lemmas: &[LogLine]) -> Result<Asked, AllocError>
     ensures { IfOk result (λ entry. entry ≡ entry_of query.now lemmas.now) }
 {
+    let lines = spacious(alloc, lemmas)?;
     let query = query.copy()?;
-    let mut lines = lemmas.to_vec(alloc)?;
-    lines.reserve_exact(1)?;
     Ok(Asked {
         query,
-        lemmas: lines.len() as u64,
-        lines: Items::from_vec(lines),
+        lemmas: lemmas.len() as u64,
+        lines,
     })
+}
+
+// Equal lines, with room for one more.
+fn spacious(alloc: Global, lines: &[LogLine]) -> Result<Items<LogLine>, AllocError>
+    ensures { IfOk result (λ copies. copies ≡ lines.now) }
+{
+    let mut copies = lines.to_vec(alloc)?;
+    copies.reserve_exact(1)?;
+    Ok(Items::from_vec(copies))
 }
 
 // Takes a last entry off for which nothing was learned.
