@@ -81,13 +81,26 @@ fn hunt_drawn(
     requires { output < length graph.now.outputs }
     ensures { IfOk result (λ sightings. AreBroken graph.now output sightings.items) }
 {
-    let mut sightings = Vec::new(alloc);
-    let mut generator = Pcg32::new(seed, output as u64);
     let cone = Cone::new(alloc, graph, output)?;
+    let mut generator = Pcg32::new(seed, output as u64);
+    hunt_rounds(alloc, &cone, &mut generator, rounds)
+}
+
+/// Looks through rounds of drawn vectors.
+fn hunt_rounds(
+    alloc: Global,
+    cone: &Cone<'_>,
+    generator: &mut Pcg32,
+    rounds: u32,
+) -> Result<Vec<Sighting>, AllocError>
+    ensures { IfOk result (λ sightings. AreBroken cone.now.net cone.now.output sightings.items) }
+{
+    let inputs = cone.inputs();
+    let mut sightings = Vec::new(alloc);
     let mut left = claims(alloc, &cone.read_inputs(alloc)?)?;
     for _ in 0..rounds {
-        let row = drawn_vectors(alloc, cone.inputs(), &mut generator)?;
-        let mut round = Round::new(alloc, &cone, row)?;
+        let row = drawn_vectors(alloc, inputs, generator)?;
+        let mut round = Round::new(alloc, cone, row)?;
         left = round.sight_all(&left, &mut sightings)?;
     }
     Ok(sightings)

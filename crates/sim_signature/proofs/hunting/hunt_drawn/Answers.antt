@@ -1,17 +1,9 @@
--- A round adds broken claims alone.
-use Rattle.std.proofs.Common.{◌≡◌, ◌∙◌, ap, subst}
-use Rattle.std.specs.List.{All}
-use Rattle.query_core.specs.Claims.{IsPlaced}
-use Rattle.sim_signature.specs.Rounds.{Simulated, Target}
+-- The rounds look at this circuit's output.
+use Rattle.std.proofs.Common.{IfOk, subst}
+use Rattle.sim_signature.specs.Rounds.{Target}
 use Rattle.sim_signature.specs.Sightings.{AreBroken}
 use Rattle.sim_signature.proofs.hunting.hunt_drawn.Goals as goal
 
-pub loop-preserved : goal.loop-preserved
-loop-preserved c =
-    let target : Target = record { net = c.args.graph.now; output = c.args.output } in
-    let row = c.in_ok-row.row.items in
-    let s : Simulated = record { target = target; row = row } in
-    let same : c.in_ok-round.round ≡ s = c.in_ok-round.ensures ∙ ap (λ (t : Target). record { target = t; row = row }) c.in_ok-cone.ensures in
-    let said = c.in_ok-left-2.ensures in
-    let P : Simulated → Type 0 = λ s. AreBroken s.target.net s.target.output c.loop.sightings.items → AreBroken s.target.net s.target.output c.sight_all.new.sightings.items in
-    (subst P same said.hunted.broken c.loop.invariant.0, subst (λ (s : Simulated). All (IsPlaced s.target.net.inputs) c.in_ok-left-2.left.items) same said.placed)
+pub returns : goal.returns
+returns c =
+    subst (λ (t : Target). IfOk c.hunt_rounds.result (λ sightings. AreBroken t.net t.output sightings.items)) c.in_ok-cone.ensures c.hunt_rounds.ensures

@@ -2,7 +2,7 @@
 use Rattle.std.specs.List.{All}
 use Rattle.query_core.specs.Claims.{IsPlaced}
 use Rattle.sim_signature.specs.Sightings.{AreBroken}
-use Rattle.sim_signature.proofs.hunting.hunt_drawn.Given as goal
+use Rattle.sim_signature.proofs.hunting.hunt_rounds.Given as goal
 
 abbrev pub invariant-loop : goal.invariant-loop
-invariant-loop l = AreBroken l.graph l.output l.sightings.items × All (IsPlaced l.graph.inputs) l.left.items
+invariant-loop l = AreBroken l.cone.net l.cone.output l.sightings.items × All (IsPlaced l.cone.net.inputs) l.left.items
