@@ -1,6 +1,6 @@
 //! Lines that are written out by hand.
 
-ghost use Rattle.std.specs.Prelude.{◌≡◌};
+ghost use Rattle.std.specs.Prelude.{◌≡◌, ◌+◌, ◌<◌, ◌^◌, false, length, OnOk};
 
 use account_core::{Ban, Conclusion, FactHead, Step, Tallied};
 use account_file::{FileStop, Reader, Record, RecordFault, put_record};
@@ -29,22 +29,14 @@ const PAIRS: [Pair; 2] = [
     },
 ];
 
-/// The line of a record.
-fn written(alloc: Global, entry: &Record) -> Result<Vec<u8>, AllocError> {
-    let mut out = b">".to_vec(alloc)?;
-    put_record(entry, &mut out)?;
-    Ok(out)
+/// Writes the line of a record.
+fn put_entry(entry: Record, out: &mut Vec<u8>) -> Result<(), AllocError> {
+    put_record(&entry, out)
 }
 
-/// A ban of the two pairs.
-fn ban(alloc: Global, step: Step) -> Result<Record, AllocError> {
-    let pairs = Few::from_slice(alloc, &PAIRS)?;
-    Ok(Record::Ban(Ban { pairs, step }))
-}
-
-/// A claim about two inputs.
-fn swap() -> Claim {
-    Claim {
+/// Writes a claim about two inputs, which fails.
+fn put_failing_claim(alloc: Global, out: &mut Vec<u8>) -> Result<(), AllocError> {
+    let claim = Claim {
         side: Side::Second,
         output: 2,
         shape: Shape::Swap {
@@ -53,127 +45,100 @@ fn swap() -> Claim {
             a: false,
             b: true,
         },
-    }
-}
-
-/// A claim that fails.
-fn failing(alloc: Global) -> Result<Record, AllocError> {
+    };
     let bits = Bits::from_slice(alloc, &[false, false, true, true, true])?;
-    Ok(Record::Fact(FactHead::Fails {
-        claim: swap(),
-        bits,
-    }))
+    put_entry(Record::Fact(FactHead::Fails { claim, bits }), out)
 }
 
-#[test]
-fn writes_a_claim_that_fails(rt: HostRuntime) -> Result<(), Fail> {
-    let fact = failing(rt.alloc())?;
-    assert_eq!(rt;
-        written(rt.alloc(), &fact)?.as_slice(),
-        b">fails b 2 swap 1 4 01 =00111\n".as_slice()
-    );
-    Ok(())
-}
-
-/// A claim that holds.
-fn holding() -> Record {
+/// Writes a claim about one input, which holds.
+fn put_holding_claim(out: &mut Vec<u8>) -> Result<(), AllocError> {
     let claim = Claim {
         side: Side::First,
         output: 0,
         shape: Shape::Down(10),
     };
-    Record::Fact(FactHead::Holds { claim })
+    put_entry(Record::Fact(FactHead::Holds { claim }), out)
 }
 
-#[test]
-fn writes_a_claim_that_holds(rt: HostRuntime) -> Result<(), Fail> {
-    assert_eq!(rt;
-        written(rt.alloc(), &holding())?.as_slice(),
-        b">holds a 0 down 10\n".as_slice()
-    );
-    Ok(())
+/// Writes a ban of the two pairs.
+fn put_ban(alloc: Global, step: Step, out: &mut Vec<u8>) -> Result<(), AllocError> {
+    let pairs = Few::from_slice(alloc, &PAIRS)?;
+    put_entry(Record::Ban(Ban { pairs, step }), out)
 }
 
-#[test]
-fn writes_a_vector(rt: HostRuntime) -> Result<(), Fail> {
-    let alloc = rt.alloc();
+fn put_vector(alloc: Global, out: &mut Vec<u8>) -> Result<(), AllocError> {
     let bits = Items::from_slice(alloc, &[Tri::Zero, Tri::X, Tri::One])?;
-    let vector = ban(alloc, Step::Vector { output: 3, bits })?;
-    assert_eq!(rt;
-        written(alloc, &vector)?.as_slice(),
-        b">ban i0-12 o3+0 : vector 3 =0x1\n".as_slice()
-    );
-    Ok(())
+    put_ban(alloc, Step::Vector { output: 3, bits }, out)
 }
 
-#[test]
-fn writes_a_tally(rt: HostRuntime) -> Result<(), Fail> {
-    let alloc = rt.alloc();
+fn put_tally(alloc: Global, out: &mut Vec<u8>) -> Result<(), AllocError> {
     let have = Items::from_slice(alloc, &[0, 1])?;
     let lack = Items::new(alloc);
     let kind = Tallied::Binate;
-    let tally = ban(alloc, Step::Tally { kind, have, lack })?;
-    assert_eq!(rt;
-        written(alloc, &tally)?.as_slice(),
-        b">ban i0-12 o3+0 : tally binate 0 1 /\n".as_slice()
-    );
-    Ok(())
+    put_ban(alloc, Step::Tally { kind, have, lack }, out)
 }
 
-#[test]
-fn writes_a_cover(rt: HostRuntime) -> Result<(), Fail> {
-    let alloc = rt.alloc();
-    let from = Items::from_slice(alloc, &[7])?;
-    let to = Items::from_slice(alloc, &[0])?;
-    let refs = Items::from_slice(alloc, &[None, Some(5)])?;
-    let kind = PortKind::Output;
-    let cover = ban(
-        alloc,
-        Step::Cover {
-            kind,
-            from,
-            to,
-            refs,
-        },
-    )?;
-    assert_eq!(rt;
-        written(alloc, &cover)?.as_slice(),
-        b">ban i0-12 o3+0 : cover out 7 / 0 / - 5\n".as_slice()
-    );
-    Ok(())
+fn put_cover(alloc: Global, out: &mut Vec<u8>) -> Result<(), AllocError> {
+    let cover = Step::Cover {
+        kind: PortKind::Output,
+        from: Items::from_slice(alloc, &[7])?,
+        to: Items::from_slice(alloc, &[0])?,
+        refs: Items::from_slice(alloc, &[None, Some(5)])?,
+    };
+    put_ban(alloc, cover, out)
 }
 
-#[test]
-fn writes_a_match(rt: HostRuntime) -> Result<(), Fail> {
-    let alloc = rt.alloc();
+fn put_match(alloc: Global, out: &mut Vec<u8>) -> Result<(), AllocError> {
     let pairs = Items::from_slice(alloc, &PAIRS)?;
-    let found = Record::Conclusion(Conclusion::Match(pairs));
-    assert_eq!(rt;
-        written(alloc, &found)?.as_slice(),
-        b">match i0-12 o3+0\n".as_slice()
-    );
-    Ok(())
+    put_entry(Record::Conclusion(Conclusion::Match(pairs)), out)
 }
 
-#[test]
-fn writes_a_line_of_a_log(rt: HostRuntime) -> Result<(), Fail> {
-    let alloc = rt.alloc();
+fn put_log_line(alloc: Global, out: &mut Vec<u8>) -> Result<(), AllocError> {
     let clause = Items::from_slice(alloc, &[SatLit(7), SatLit(10)])?;
     let hints = Items::from_slice(alloc, &[4])?;
-    let line = Record::Line(LogLine { clause, hints });
-    assert_eq!(rt;
-        written(alloc, &line)?.as_slice(),
-        b">l 7 10 : 4\n".as_slice()
-    );
+    put_entry(Record::Line(LogLine { clause, hints }), out)
+}
+
+/// Writes a line of each kind.
+fn put_lines(alloc: Global, out: &mut Vec<u8>) -> Result<(), AllocError> {
+    put_failing_claim(alloc, out)?;
+    put_holding_claim(out)?;
+    put_vector(alloc, out)?;
+    put_tally(alloc, out)?;
+    put_cover(alloc, out)?;
+    put_match(alloc, out)?;
+    put_log_line(alloc, out)
+}
+
+#[test]
+fn writes_each_kind_of_line(rt: HostRuntime) -> Result<(), Fail> {
+    let mut lines = Vec::new(rt.alloc());
+    put_lines(rt.alloc(), &mut lines)?;
+    assert_eq!(rt; lines.as_slice(), WRITTEN.as_bytes());
     Ok(())
 }
 
-/// What is given of a text: the records, written out again, or the fault, and the number of the last line.
-#[derive(Debug, Drop, PartialEq, Eq)]
-struct Given {
-    text: Vec<u8>,
-    fault: Option<RecordFault>,
-    line: u64,
+/// The lines that `put_lines` writes.
+const WRITTEN: &str = "\
+fails b 2 swap 1 4 01 =00111
+holds a 0 down 10
+ban i0-12 o3+0 : vector 3 =0x1
+ban i0-12 o3+0 : tally binate 0 1 /
+ban i0-12 o3+0 : cover out 7 / 0 / - 5
+match i0-12 o3+0
+l 7 10 : 4
+";
+
+/// Writes out the next record that a reader has, if there is one.
+fn put_next(alloc: Global, reader: &mut Reader, text: &mut Vec<u8>) -> Result<bool, FileStop>
+    ensures finished { reader.new.finished ≡ reader.old.finished }
+    ensures total { reader.new.total ≡ reader.old.total }
+{
+    let Some(entry) = reader.next(alloc)? else {
+        return Ok(false);
+    };
+    put_record(&entry, text)?;
+    Ok(true)
 }
 
 /// Writes out the records that a reader has, up to a fault or to where it waits.
@@ -186,9 +151,9 @@ fn drain(
     ensures total { reader.new.total ≡ reader.old.total }
 {
     for _ in 0..100 {
-        match reader.next(alloc) {
-            Ok(Some(entry)) => put_record(&entry, text)?,
-            Ok(None) => return Ok(None),
+        match put_next(alloc, reader, text) {
+            Ok(true) => {}
+            Ok(false) => return Ok(None),
             Err(FileStop::Fault(fault)) => return Ok(Some(fault)),
             Err(FileStop::Memory) => return Err(AllocError),
         }
@@ -196,49 +161,64 @@ fn drain(
     Ok(None)
 }
 
+/// Takes a piece of a text, and writes out the records that can be read then.
+fn take(
+    alloc: Global,
+    reader: &mut Reader,
+    piece: &[u8],
+    text: &mut Vec<u8>,
+) -> Result<(), AllocError>
+    requires more { reader.old.finished ≡ false }
+    requires fits { reader.old.total + length piece.now < 2 ^ 64 }
+    ensures more { reader.new.finished ≡ false }
+    ensures total { OnOk result (reader.new.total ≡ reader.old.total + length piece.now) }
+{
+    reader.feed(piece)?;
+    let _fault = drain(alloc, reader, text)?;
+    Ok(())
+}
+
+/// What is given of a text besides its records: the fault, and the number of the last line.
+type Ending = (Option<RecordFault>, u64);
+
+/// Takes what there is no more of, and writes out the records that can be read then.
+fn end(alloc: Global, reader: &mut Reader, text: &mut Vec<u8>) -> Result<Ending, AllocError> {
+    reader.finish();
+    let fault = drain(alloc, reader, text)?;
+    Ok((fault, reader.line()))
+}
+
 /// Reads a short account in two pieces, of which the first has so many bytes.
-fn read_cut(alloc: Global, account: &[u8], cut: usize) -> Result<Given, AllocError> {
-    let mut reader = Reader::new(alloc);
-    let mut text = Vec::new(alloc);
+fn read_cut(
+    alloc: Global,
+    account: &[u8],
+    cut: usize,
+    text: &mut Vec<u8>,
+) -> Result<Ending, AllocError> {
     if account.len() > 1000 || cut > account.len() {
         return Err(AllocError);
     }
-    reader.feed(&account[..cut])?;
-    drain(alloc, &mut reader, &mut text)?;
-    reader.feed(&account[cut..])?;
-    drain(alloc, &mut reader, &mut text)?;
-    reader.finish();
-    let fault = drain(alloc, &mut reader, &mut text)?;
-    Ok(Given {
-        text,
-        fault,
-        line: reader.line(),
-    })
+    let mut reader = Reader::new(alloc);
+    take(alloc, &mut reader, &account[..cut], text)?;
+    take(alloc, &mut reader, &account[cut..], text)?;
+    end(alloc, &mut reader, text)
 }
 
 /// Reads a short account byte by byte.
-fn read_bytes(alloc: Global, account: &[u8]) -> Result<Given, AllocError> {
-    let mut reader = Reader::new(alloc);
-    let mut text = Vec::new(alloc);
+fn read_bytes(alloc: Global, account: &[u8], text: &mut Vec<u8>) -> Result<Ending, AllocError> {
     if account.len() > 1000 {
         return Err(AllocError);
     }
+    let mut reader = Reader::new(alloc);
     for byte in account.iter() {
-        reader.feed(&[*byte])?;
-        drain(alloc, &mut reader, &mut text)?;
+        take(alloc, &mut reader, &[*byte], text)?;
     }
-    reader.finish();
-    let fault = drain(alloc, &mut reader, &mut text)?;
-    Ok(Given {
-        text,
-        fault,
-        line: reader.line(),
-    })
+    end(alloc, &mut reader, text)
 }
 
 /// A refusal with each kind of record and step.
-fn refusal() -> &'static [u8] {
-    b"npnp 1
+const REFUSAL: &str = "\
+npnp 1
 fails b 0 up 0 =01
 holds a 0 swap 0 1 10
 l 7 10 : 4
@@ -252,181 +232,145 @@ ban : cover out 0 / 0 1 / 0 - 1 2
 ban : cover in / /
 none ban 4
 end
-"
-}
-
-#[test]
-fn reads_what_was_written_wherever_it_is_cut(rt: HostRuntime) -> Result<(), Fail> {
-    let account = refusal();
-    for cut in 0..account.len() {
-        let given = read_cut(rt.alloc(), account, cut)?;
-        assert_eq!(rt; given.text.as_slice(), account, "cut at {cut}");
-        assert_eq!(rt; given.fault, None);
-        assert_eq!(rt; given.line, 14);
-    }
-    Ok(())
-}
+";
 
 /// A match with the two logs of its output.
-fn a_match() -> &'static [u8] {
-    b"npnp 1
+const MATCH: &str = "\
+npnp 1
 match i0-0 i1-1 o0-0
 l : 7 8 1 2 6
 l 5 : 4
 l : 7 8 4 5 3
 end
-"
+";
+
+const OTHER_PORT_COUNTS: &str = "npnp 1\nnone ports\nend\n";
+
+/// Whether an account of so many lines is read whole, and written out again as it stands, where it is cut there.
+fn is_read_back(alloc: Global, account: &str, cut: usize, lines: u64) -> Result<bool, AllocError> {
+    let mut text = Vec::new(alloc);
+    let ending = read_cut(alloc, account.as_bytes(), cut, &mut text)?;
+    Ok((text.as_slice() == account.as_bytes()) & (ending == (None, lines)))
+}
+
+#[test]
+fn reads_what_was_written_wherever_it_is_cut(rt: HostRuntime) -> Result<(), Fail> {
+    for (account, lines) in [(REFUSAL, 14), (MATCH, 6), (OTHER_PORT_COUNTS, 3)] {
+        for cut in 0..account.len() {
+            assert!(rt;
+                is_read_back(rt.alloc(), account, cut, lines)?,
+                "{account} cut at {cut}"
+            );
+        }
+    }
+    Ok(())
 }
 
 #[test]
 fn reads_what_was_written_byte_by_byte(rt: HostRuntime) -> Result<(), Fail> {
-    let account = a_match();
-    let given = read_bytes(rt.alloc(), account)?;
-    assert_eq!(rt; given.text.as_slice(), account);
-    assert_eq!(rt; given.fault, None);
-    assert_eq!(rt; given.line, 6);
+    let mut text = Vec::new(rt.alloc());
+    let ending = read_bytes(rt.alloc(), MATCH.as_bytes(), &mut text)?;
+    assert_eq!(rt; (text.as_slice(), ending), (MATCH.as_bytes(), (None, 6)));
     Ok(())
 }
 
-#[test]
-fn reads_other_port_counts(rt: HostRuntime) -> Result<(), Fail> {
-    let account = b"npnp 1\nnone ports\nend\n".as_slice();
-    let given = read_cut(rt.alloc(), account, 9)?;
-    assert_eq!(rt; given.text.as_slice(), account);
-    assert_eq!(rt; given.fault, None);
-    Ok(())
+/// How a text ends.
+fn ending_of(alloc: Global, account: &[u8]) -> Result<Ending, AllocError> {
+    let mut text = Vec::new(alloc);
+    read_cut(alloc, account, account.len() / 2, &mut text)
 }
 
-/// Reads the header and these lines, and gives the fault and its line.
-fn fault_in(alloc: Global, lines: &[u8]) -> Result<(Option<RecordFault>, u64), AllocError> {
-    let mut account = b"npnp 1\n".to_vec(alloc)?;
-    account.extend_from_slice(lines)?;
-    let given = read_cut(alloc, &account, account.len() / 2)?;
-    Ok((given.fault, given.line))
-}
-
-/// Texts that don't begin with the header.
-fn no_headers() -> &'static [(&'static [u8], RecordFault)] {
-    &[
-        (b"", RecordFault::Truncated),
-        (b"npnp 1", RecordFault::Truncated),
-        (b"npnp 9\n", RecordFault::Header),
-        (b"\nnpnp 1\n", RecordFault::Header),
-        (b"end\n", RecordFault::Header),
-    ]
-}
+/// Texts that don't begin with the header, and the fault.
+const NO_HEADERS: &[(&str, RecordFault)] = &[
+    ("", RecordFault::Truncated),
+    ("npnp 1", RecordFault::Truncated),
+    ("npnp 9\n", RecordFault::Header),
+    ("\nnpnp 1\n", RecordFault::Header),
+    ("end\n", RecordFault::Header),
+];
 
 #[test]
 fn wants_a_header(rt: HostRuntime) -> Result<(), Fail> {
-    for (account, fault) in no_headers().iter() {
-        let given = read_cut(rt.alloc(), account, account.len() / 2)?;
-        assert_eq!(rt; given.fault, Some(*fault), "at {account:?}");
-        assert_eq!(rt; given.line, 1);
+    for (account, fault) in NO_HEADERS.iter() {
+        let ending = ending_of(rt.alloc(), account.as_bytes())?;
+        assert_eq!(rt; ending, (Some(*fault), 1), "at {account:?}");
     }
     Ok(())
 }
 
-/// Second lines in which a word doesn't fit.
-fn bad_words() -> &'static [&'static [u8]] {
-    &[
-        b"foils b 0 up 0 =01\n",
-        b"\n",
-        b"npnp 7\n",
-        b"none\tports\n",
-        b"match\ti0+0\n",
-        b"match i0+0 \n",
-        b"match i00+0\n",
-        b"match i4294967296+0\n",
-        b"match 7\n",
-        b"l 7 1\n",
-        b"l 7  : 1\n",
-        b"fails c 0 up 0 =01\n",
-        b"fails 7 0 up 0 =01\n",
-        b"fails a 0 up 0 01\n",
-        b"fails a 0 up 0 =x\n",
-        b"fails a 0 swap 0 1 2 =01\n",
-        b"holds a 0 swap 0 1\n",
-        b"holds a 0 up 0 =01\n",
-        b"ban i0+0 7 : mismatch 0 1\n",
-        b"ban : cover in 0 / 0\n",
-        b"ban : cover in 0 / 0 / 1 -0\n",
-        b"none ban\n",
-    ]
+/// How a text of the header and these lines ends.
+fn ending_behind_header(alloc: Global, lines: &str) -> Result<Ending, AllocError> {
+    let mut account = b"npnp 1\n".to_vec(alloc)?;
+    account.extend_from_slice(lines.as_bytes())?;
+    ending_of(alloc, &account)
 }
+
+/// Lines behind the header, the fault of the last, and its number.
+const BAD_LINES: &[(&str, RecordFault, u64)] = &[
+    // a word doesn't fit
+    ("foils b 0 up 0 =01\n", RecordFault::Word, 2),
+    ("\n", RecordFault::Word, 2),
+    ("npnp 7\n", RecordFault::Word, 2),
+    ("none\tports\n", RecordFault::Word, 2),
+    ("match\ti0+0\n", RecordFault::Word, 2),
+    ("match i0+0 \n", RecordFault::Word, 2),
+    ("match i00+0\n", RecordFault::Word, 2),
+    ("match i4294967296+0\n", RecordFault::Word, 2),
+    ("match 7\n", RecordFault::Word, 2),
+    ("l 7 1\n", RecordFault::Word, 2),
+    ("l 7  : 1\n", RecordFault::Word, 2),
+    ("fails c 0 up 0 =01\n", RecordFault::Word, 2),
+    ("fails 7 0 up 0 =01\n", RecordFault::Word, 2),
+    ("fails a 0 up 0 01\n", RecordFault::Word, 2),
+    ("fails a 0 up 0 =x\n", RecordFault::Word, 2),
+    ("fails a 0 swap 0 1 2 =01\n", RecordFault::Word, 2),
+    ("holds a 0 swap 0 1\n", RecordFault::Word, 2),
+    ("holds a 0 up 0 =01\n", RecordFault::Word, 2),
+    ("ban i0+0 7 : mismatch 0 1\n", RecordFault::Word, 2),
+    ("ban : cover in 0 / 0\n", RecordFault::Word, 2),
+    ("ban : cover in 0 / 0 / 1 -0\n", RecordFault::Word, 2),
+    ("none ban\n", RecordFault::Word, 2),
+    // a number is too large or has a leading zero
+    ("l 07 : 1\n", RecordFault::Number, 2),
+    ("l 7 : 18446744073709551616\n", RecordFault::Number, 2),
+    ("fails a 4294967296 up 0 =01\n", RecordFault::Number, 2),
+    ("fails a 007\n", RecordFault::Number, 2),
+    ("holds b 0 swap 0 4294967296 01\n", RecordFault::Number, 2),
+    ("ban : mismatch 0 01\n", RecordFault::Number, 2),
+    (
+        "ban : tally support 0 / 18446744073709551616\n",
+        RecordFault::Number,
+        2,
+    ),
+    ("ban : cover out 0 / 0 / - 00\n", RecordFault::Number, 2),
+    ("none ban 02\n", RecordFault::Number, 2),
+    // the last is out of order
+    ("npnp 1\n", RecordFault::Order, 2),
+    ("end\n", RecordFault::Order, 2),
+    ("l : 0\n", RecordFault::Order, 2),
+    ("match i0-0 i1-1 o0-0\nend\n", RecordFault::Order, 3),
+    ("match\nl : 0\n", RecordFault::Order, 3),
+    ("holds a 0 up 0\nnone ports\n", RecordFault::Order, 3),
+    (
+        "holds a 0 up 0\nl 7 : 1\nban : mismatch 0 1\n",
+        RecordFault::Order,
+        4,
+    ),
+    ("fails a 0 up 0 =0\nl : 0\n", RecordFault::Order, 3),
+    ("none ports\nban : mismatch 0 1\n", RecordFault::Order, 3),
+    // the end comes too early or too late
+    ("match\nend", RecordFault::Truncated, 3),
+    ("holds a 0 up 0\nl : 0\n", RecordFault::Truncated, 4),
+    ("none ports\n", RecordFault::Truncated, 3),
+    ("match\nend\nx", RecordFault::Trailing, 4),
+    ("none ban 0\nend\n\n", RecordFault::Trailing, 4),
+];
 
 #[test]
-fn names_a_bad_word(rt: HostRuntime) -> Result<(), Fail> {
-    for lines in bad_words().iter() {
-        let given = fault_in(rt.alloc(), lines)?;
-        assert_eq!(rt; given, (Some(RecordFault::Word), 2), "at {lines:?}");
-    }
-    Ok(())
-}
-
-/// Second lines in which a number is too large or has a leading zero.
-fn bad_numbers() -> &'static [&'static [u8]] {
-    &[
-        b"l 07 : 1\n",
-        b"l 7 : 18446744073709551616\n",
-        b"fails a 4294967296 up 0 =01\n",
-        b"fails a 007\n",
-        b"holds b 0 swap 0 4294967296 01\n",
-        b"ban : mismatch 0 01\n",
-        b"ban : tally support 0 / 18446744073709551616\n",
-        b"ban : cover out 0 / 0 / - 00\n",
-        b"none ban 02\n",
-    ]
-}
-
-#[test]
-fn names_a_bad_number(rt: HostRuntime) -> Result<(), Fail> {
-    for lines in bad_numbers().iter() {
-        let given = fault_in(rt.alloc(), lines)?;
-        assert_eq!(rt; given, (Some(RecordFault::Number), 2), "at {lines:?}");
-    }
-    Ok(())
-}
-
-/// Lines behind the header of which the last is out of order, with its number.
-fn out_of_order() -> &'static [(&'static [u8], u64)] {
-    &[
-        (b"npnp 1\n", 2),
-        (b"end\n", 2),
-        (b"l : 0\n", 2),
-        (b"match i0-0 i1-1 o0-0\nend\n", 3),
-        (b"match\nl : 0\n", 3),
-        (b"holds a 0 up 0\nnone ports\n", 3),
-        (b"holds a 0 up 0\nl 7 : 1\nban : mismatch 0 1\n", 4),
-        (b"fails a 0 up 0 =0\nl : 0\n", 3),
-        (b"none ports\nban : mismatch 0 1\n", 3),
-    ]
-}
-
-#[test]
-fn names_a_line_out_of_order(rt: HostRuntime) -> Result<(), Fail> {
-    for (lines, line) in out_of_order().iter() {
-        let given = fault_in(rt.alloc(), lines)?;
-        assert_eq!(rt; given, (Some(RecordFault::Order), *line), "at {lines:?}");
-    }
-    Ok(())
-}
-
-/// Lines behind the header that end too early or too late.
-fn bad_ends() -> &'static [(&'static [u8], RecordFault, u64)] {
-    &[
-        (b"match\nend", RecordFault::Truncated, 3),
-        (b"holds a 0 up 0\nl : 0\n", RecordFault::Truncated, 4),
-        (b"none ports\n", RecordFault::Truncated, 3),
-        (b"match\nend\nx", RecordFault::Trailing, 4),
-        (b"none ban 0\nend\n\n", RecordFault::Trailing, 4),
-    ]
-}
-
-#[test]
-fn names_a_bad_end(rt: HostRuntime) -> Result<(), Fail> {
-    for (lines, fault, line) in bad_ends().iter() {
-        let given = fault_in(rt.alloc(), lines)?;
-        assert_eq!(rt; given, (Some(*fault), *line), "at {lines:?}");
+fn names_the_first_fault(rt: HostRuntime) -> Result<(), Fail> {
+    for (lines, fault, line) in BAD_LINES.iter() {
+        let ending = ending_behind_header(rt.alloc(), lines)?;
+        assert_eq!(rt; ending, (Some(*fault), *line), "at {lines:?}");
     }
     Ok(())
 }

@@ -24,22 +24,37 @@ fn crossed(alloc: Global) -> Result<Matching, AllocError>
     })
 }
 
+/// A list of one thing.
+fn one<T: Drop>(alloc: Global, item: T) -> Result<Items<T>, AllocError> {
+    let mut items = Items::new(alloc);
+    items.push(item)?;
+    Ok(items)
+}
+
 /// A log of the empty line alone.
 fn short_log(alloc: Global) -> Result<Log, AllocError> {
     let hints = Items::from_slice(alloc, &[4, 0])?;
     let clause = Items::new(alloc);
-    let mut lines = Items::new(alloc);
-    lines.push(LogLine { clause, hints })?;
+    let lines = one(alloc, LogLine { clause, hints })?;
     Ok(Log { lines })
+}
+
+/// Writes the match with these logs.
+fn put_crossed(alloc: Global, logs: &[Log], out: &mut Vec<u8>) -> Result<(), AllocError> {
+    let matching = crossed(alloc)?;
+    put_match(alloc, &matching, logs, out)
+}
+
+/// Writes the match with one log.
+fn put_short_match(alloc: Global, out: &mut Vec<u8>) -> Result<(), AllocError> {
+    let logs = one(alloc, short_log(alloc)?)?;
+    put_crossed(alloc, &logs, out)
 }
 
 #[test]
 fn writes_a_match(rt: HostRuntime) -> Result<(), Fail> {
-    let alloc = rt.alloc();
-    let mut logs = Items::new(alloc);
-    logs.push(short_log(alloc)?)?;
-    let mut out = Vec::new(alloc);
-    put_match(alloc, &crossed(alloc)?, &logs, &mut out)?;
+    let mut out = Vec::new(rt.alloc());
+    put_short_match(rt.alloc(), &mut out)?;
     put_end(&mut out)?;
     assert_eq!(rt;
         out.as_slice(),
@@ -56,50 +71,64 @@ fn writes_that_ports_differ(rt: HostRuntime) -> Result<(), Fail> {
     Ok(())
 }
 
-/// A claim that fails, and one that holds.
-fn facts(alloc: Global) -> Result<Items<Fact>, AllocError> {
-    let mut facts = Items::new(alloc);
+/// A claim that fails.
+fn failing(alloc: Global) -> Result<Fact, AllocError> {
+    let claim = Claim {
+        side: Side::First,
+        output: 0,
+        shape: Shape::Up(1),
+    };
     let bits = Bits::from_slice(alloc, &[false, true])?;
-    facts.push(Fact {
-        claim: Claim {
-            side: Side::First,
-            output: 0,
-            shape: Shape::Up(1),
-        },
+    Ok(Fact {
+        claim,
         evidence: Evidence::Fails(bits),
-    })?;
-    facts.push(Fact {
-        claim: Claim {
-            side: Side::Second,
-            output: 0,
-            shape: Shape::Down(0),
-        },
+    })
+}
+
+/// A claim that holds.
+fn holding(alloc: Global) -> Result<Fact, AllocError> {
+    let claim = Claim {
+        side: Side::Second,
+        output: 0,
+        shape: Shape::Down(0),
+    };
+    Ok(Fact {
+        claim,
         evidence: Evidence::Holds(short_log(alloc)?),
-    })?;
-    Ok(facts)
+    })
 }
 
 /// A ban of two facts.
-fn mismatch(alloc: Global) -> Result<Items<Ban>, AllocError> {
+fn mismatch(alloc: Global) -> Result<Ban, AllocError> {
     let pair = Pair {
         kind: PortKind::Output,
         from: 0,
         to: 0,
         flip: true,
     };
-    let mut bans = Items::new(alloc);
-    bans.push(Ban {
+    Ok(Ban {
         pairs: Few::from_slice(alloc, &[pair])?,
         step: Step::Mismatch { fails: 0, holds: 1 },
-    })?;
-    Ok(bans)
+    })
+}
+
+/// Writes a refusal of these facts and the ban.
+fn put_banning(alloc: Global, facts: &[Fact], out: &mut Vec<u8>) -> Result<(), AllocError> {
+    let bans = one(alloc, mismatch(alloc)?)?;
+    put_refusal(facts, &bans, 3, out)
+}
+
+/// Writes a refusal of both facts and the ban.
+fn put_short_refusal(alloc: Global, out: &mut Vec<u8>) -> Result<(), AllocError> {
+    let mut facts = one(alloc, failing(alloc)?)?;
+    facts.push(holding(alloc)?)?;
+    put_banning(alloc, &facts, out)
 }
 
 #[test]
 fn writes_a_refusal(rt: HostRuntime) -> Result<(), Fail> {
-    let alloc = rt.alloc();
-    let mut out = Vec::new(alloc);
-    put_refusal(&facts(alloc)?, &mismatch(alloc)?, 3, &mut out)?;
+    let mut out = Vec::new(rt.alloc());
+    put_short_refusal(rt.alloc(), &mut out)?;
     assert_eq!(rt;
         out.as_slice(),
         b"npnp 1\nfails a 0 up 1 =01\nholds b 0 down 0\nl : 4 0\nban o0-0 : mismatch 0 1\nnone ban 3\n".as_slice()
