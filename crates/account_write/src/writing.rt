@@ -47,9 +47,9 @@ fn put_match_lines(
     ensures lines { OnOk result (out.new.items ≡ out.old.items ++ match_lines matching.now logs.now) }
     ensures ports { OnOk result (All HasPorts (pairs_of_matching matching.now)) }
 {
-    put_record(&Record::Header, out)?;
+    put_entry(Record::Header, out)?;
     let pairs = pairs_of(alloc, matching)?;
-    put_record(&Record::Conclusion(Conclusion::Match(pairs)), out)?;
+    put_entry(Record::Conclusion(Conclusion::Match(pairs)), out)?;
     put_logs(logs, out)
 }
 
@@ -77,10 +77,10 @@ fn put_refusal_lines(
 ) -> Result<(), AllocError>
     ensures { OnOk result (out.new.items ≡ out.old.items ++ refusal_lines facts.now bans.now number) }
 {
-    put_record(&Record::Header, out)?;
+    put_entry(Record::Header, out)?;
     put_facts(facts, out)?;
     put_bans(bans, out)?;
-    put_record(&Record::Conclusion(Conclusion::NoneBan(number)), out)
+    put_entry(Record::Conclusion(Conclusion::NoneBan(number)), out)
 }
 
 /// Writes the account that there is no match, since the circuits have other numbers of ports, at the end of `out`, up
@@ -88,15 +88,22 @@ fn put_refusal_lines(
 pub fn put_none_ports(out: &mut Vec<u8>) -> Result<(), AllocError>
     ensures { OnOk result (out.new.items ≡ out.old.items ++ lines_of none_ports_records) }
 {
-    put_record(&Record::Header, out)?;
-    put_record(&Record::Conclusion(Conclusion::NonePorts), out)
+    put_entry(Record::Header, out)?;
+    put_entry(Record::Conclusion(Conclusion::NonePorts), out)
 }
 
 /// Writes the last line of an account at the end of `out`.
 pub fn put_end(out: &mut Vec<u8>) -> Result<(), AllocError>
     ensures { OnOk result (out.new.items ≡ out.old.items ++ record_line End) }
 {
-    put_record(&Record::End, out)
+    put_entry(Record::End, out)
+}
+
+// Writes a record.
+fn put_entry(entry: Record, out: &mut Vec<u8>) -> Result<(), AllocError>
+    ensures { OnOk result (out.new.items ≡ out.old.items ++ record_line entry) }
+{
+    put_record(&entry, out)
 }
 
 // The pairs of a matching.
@@ -155,7 +162,7 @@ fn put_log(log: &Log, out: &mut Vec<u8>) -> Result<(), AllocError>
 fn put_line(line: &LogLine, out: &mut Vec<u8>) -> Result<(), AllocError>
     ensures { OnOk result (out.new.items ≡ out.old.items ++ record_line (AnyRecord.Line line.now)) }
 {
-    put_record(&Record::Line(line.clone()?), out)
+    put_entry(Record::Line(line.clone()?), out)
 }
 
 fn put_facts(facts: &[Fact], out: &mut Vec<u8>) -> Result<(), AllocError>
@@ -175,10 +182,10 @@ fn put_fact(fact: &Fact, out: &mut Vec<u8>) -> Result<(), AllocError>
     match &fact.evidence {
         Evidence::Fails(bits) => {
             let bits = bits.clone()?;
-            put_record(&Record::Fact(FactHead::Fails { claim, bits }), out)
+            put_entry(Record::Fact(FactHead::Fails { claim, bits }), out)
         }
         Evidence::Holds(log) => {
-            put_record(&Record::Fact(FactHead::Holds { claim }), out)?;
+            put_entry(Record::Fact(FactHead::Holds { claim }), out)?;
             put_log(log, out)
         }
     }
@@ -198,7 +205,7 @@ fn put_ban(ban: &Ban, out: &mut Vec<u8>) -> Result<(), AllocError>
 {
     let pairs = ban.pairs.clone()?;
     let step = copied(&ban.step)?;
-    put_record(&Record::Ban(Ban { pairs, step }), out)
+    put_entry(Record::Ban(Ban { pairs, step }), out)
 }
 
 // An equal step.
