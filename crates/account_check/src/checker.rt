@@ -84,11 +84,18 @@ impl<'a> Checker<'a> {
     pub fn new(alloc: Global, graphs: &'a Graphs) -> Result<Checker<'a>, AllocError>
         ensures { IfOk result (λ checker. checker ≡ empty_account graphs.now) }
     {
-        Ok(Checker {
+        Ok(Checker::begun(alloc, graphs))
+    }
+
+    /// The same, for a caller that needn't ask whether memory was wanting.
+    pub(crate) fn begun(alloc: Global, graphs: &'a Graphs) -> Checker<'a>
+        ensures { result ≡ empty_account graphs.now }
+    {
+        Checker {
             graphs,
             given: Given::new(alloc),
             stage: Stage::Empty,
-        })
+        }
     }
 
     /// Takes a record that may stand behind the others, exactly where nothing is wrong with it, unless memory is wanting.

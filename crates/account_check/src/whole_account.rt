@@ -1,22 +1,25 @@
 //! The check of an account's whole bytes.
 
-ghost use Rattle.std.specs.Prelude.{ℕ, List, ◌≡◌, ◌≢◌, ◌<◌, ◌↔◌, true, IfOk, Ok, Err, Some, length};
+ghost use Rattle.std.specs.Prelude.{ℕ, List, ◌≡◌, ◌≢◌, ◌<◌, ◌↔◌, true, IfOk, IsOk, IsSome, OnOk, Ok, Err, None, Some, length};
 ghost use Rattle.circuits.specs.Matches.{HaveNpnpEqualFunctions, IsMatchOfFunctions};
 ghost use Rattle.net_core.specs.declared.graphs.Graphs.{Graphs as TwoGraphs};
 ghost use Rattle.net_core.specs.declared.matching.Matching.{Matching as Table};
 ghost use Rattle.account_file.specs.declared.place.Place.TheVariants.{Ended};
+ghost use Rattle.account_file.specs.Order.{place_behind};
+ghost use Rattle.account_check.specs.declared.reject.RecordStop.TheVariants as taking;
+ghost use Rattle.account_check.specs.declared.reject.Reject.{Reject as AnyReject};
 ghost use Rattle.account_check.specs.declared.verdict.CheckStop.TheVariants as stop;
 ghost use Rattle.account_check.specs.declared.verdict.Verdict.{Verdict as AnyVerdict};
 ghost use Rattle.account_check.specs.declared.verdict.Verdict.TheVariants as verdict;
 ghost use Rattle.account_check.specs.declared.verdict.Why.{Why as Reason};
-ghost use Rattle.account_check.specs.Accounts.{verdict_of};
+ghost use Rattle.account_check.specs.Accounts.{after, verdict_of, HasFault};
 ghost use Rattle.account_check.specs.Checking.{refused, unread, Goes, IsChecking, IsFed, IsUnderCheck};
 ghost use Rattle.account_check.specs.Verdicts.{IsAccepted, IsRejected, IsVerdict};
 
 use crate::checker::Checker;
 use crate::reject::RecordStop;
 use crate::verdict::{CheckStop, Verdict, Why};
-use account_file::{FileStop, Reader};
+use account_file::{FileStop, Reader, Record};
 use net_core::Graphs;
 use std::alloc::{AllocError, Global};
 
@@ -65,7 +68,7 @@ fn verdict_by(alloc: Global, graphs: &Graphs, reader: &mut Reader) -> Result<Ver
     ensures proved { (matching : Table) → result ≡ Ok (verdict.Match matching)
         → IsMatchOfFunctions graphs.now.first graphs.now.second matching.inputs matching.outputs }
 {
-    let mut checker = Checker::new(alloc, graphs)?;
+    let mut checker = Checker::begun(alloc, graphs);
     verdict_behind(alloc, reader, &mut checker)
 }
 
@@ -102,10 +105,21 @@ fn take_next(
         Ok(None) => return Ok(false),
         Err(stop) => return Err(unread(reader.line(), stop)),
     };
-    match checker.record(alloc, &entry) {
+    match take(alloc, checker, entry) {
         Ok(()) => Ok(true),
         Err(stop) => Err(refused(reader.line(), stop)),
     }
+}
+
+// Has a record taken, and lets it go.
+fn take(alloc: Global, checker: &mut Checker<'_>, entry: Record) -> Result<(), RecordStop>
+    requires { IsSome (place_behind checker.old.place entry) }
+    ensures refused { (reject : AnyReject) → result ≢ Err taking.Memory
+        → ((result ≡ Err (taking.Reject reject)) ↔ HasFault checker.old entry (Some reject)) }
+    ensures taken { result ≢ Err taking.Memory → (IsOk result ↔ HasFault checker.old entry None) }
+    ensures after { OnOk result (checker.new ≡ after checker.old entry) }
+{
+    checker.record(alloc, &entry)
 }
 
 // Why an account is given up at a line that isn't read.

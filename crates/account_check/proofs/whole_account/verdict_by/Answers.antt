@@ -7,16 +7,16 @@ verdict_behind-requires c =
     let graphs = c.args.graphs.now in
     let bytes = c.requires.0 in
     let fed = c.requires.1 in
-    (graphs, bytes, begun graphs bytes c.args.reader.now c.in_ok-checker.checker fed.read fed.finished fed.no_fault c.in_ok-checker.ensures)
+    (graphs, bytes, begun graphs bytes c.args.reader.now c.begun-checker.result fed.read fed.finished fed.no_fault c.begun-checker.ensures)
 
 pub returns-clause-verdict : goal.returns-clause-verdict
 returns-clause-verdict c bytes fed =
     let graphs = c.args.graphs.now in
-    c.verdict_behind.ensures.verdict graphs bytes (begun graphs bytes c.args.reader.now c.in_ok-checker.checker fed.read fed.finished fed.no_fault c.in_ok-checker.ensures)
+    c.verdict_behind.ensures.verdict graphs bytes (begun graphs bytes c.args.reader.now c.begun-checker.result fed.read fed.finished fed.no_fault c.begun-checker.ensures)
 
 pub returns-clause-proved : goal.returns-clause-proved
 returns-clause-proved c matching is =
     let graphs = c.args.graphs.now in
     let bytes = c.requires.0 in
     let fed = c.requires.1 in
-    c.verdict_behind.ensures.proved graphs bytes matching (begun graphs bytes c.args.reader.now c.in_ok-checker.checker fed.read fed.finished fed.no_fault c.in_ok-checker.ensures) is
+    c.verdict_behind.ensures.proved graphs bytes matching (begun graphs bytes c.args.reader.now c.begun-checker.result fed.read fed.finished fed.no_fault c.begun-checker.ensures) is
