@@ -3,17 +3,36 @@
 use account_core::{Ban, Step};
 use ban_book::BanBook;
 use circuits::{Pair, PortKind};
-use items::{Few, Items};
+use items::Few;
 use std::alloc::{AllocError, Global};
 
-fn input(from: u32, to: u32, flip: bool) -> Pair {
-    Pair {
-        kind: PortKind::Input,
-        from,
-        to,
-        flip,
-    }
-}
+const CROSSED: Pair = Pair {
+    kind: PortKind::Input,
+    from: 0,
+    to: 1,
+    flip: true,
+};
+
+const BACK: Pair = Pair {
+    kind: PortKind::Input,
+    from: 1,
+    to: 0,
+    flip: false,
+};
+
+const OWN: Pair = Pair {
+    kind: PortKind::Input,
+    from: 2,
+    to: 2,
+    flip: false,
+};
+
+const INVERTED: Pair = Pair {
+    kind: PortKind::Input,
+    from: 2,
+    to: 2,
+    flip: true,
+};
 
 fn ban(alloc: Global, pairs: &[Pair]) -> Result<Ban, AllocError> {
     Ok(Ban {
@@ -22,27 +41,31 @@ fn ban(alloc: Global, pairs: &[Pair]) -> Result<Ban, AllocError> {
     })
 }
 
+fn hold(alloc: Global, pairs: &[Pair], book: &mut BanBook) -> Result<u64, AllocError> {
+    book.hold(ban(alloc, pairs)?)
+}
+
 // Two bans: of two pairs, and of one.
 fn two_bans(alloc: Global) -> Result<BanBook, AllocError> {
     let mut book = BanBook::new(alloc);
-    let _ = book.hold(ban(alloc, &[input(0, 1, true), input(1, 0, false)])?)?;
-    let _ = book.hold(ban(alloc, &[input(2, 2, false)])?)?;
+    let _ = hold(alloc, &[CROSSED, BACK], &mut book)?;
+    let _ = hold(alloc, &[OWN], &mut book)?;
     Ok(book)
 }
+
+/// Pairs, and the number of the first of the two bans that is within them.
+const COVERED: &[(&[Pair], Option<u64>)] = &[
+    (&[CROSSED], None),
+    (&[BACK, CROSSED], Some(0)),
+    (&[CROSSED, OWN], Some(1)),
+    (&[INVERTED], None),
+];
 
 #[test]
 fn bans_within_pairs(rt: HostRuntime) -> Result<(), AllocError> {
     let book = two_bans(rt.alloc())?;
-    assert_eq!(rt; book.bans().len(), 2);
-    assert_eq!(rt; book.covering(&[input(0, 1, true)]), None);
-    assert_eq!(rt;
-        book.covering(&[input(1, 0, false), input(0, 1, true)]),
-        Some(0)
-    );
-    assert_eq!(rt;
-        book.covering(&[input(0, 1, true), input(2, 2, false)]),
-        Some(1)
-    );
-    assert_eq!(rt; book.covering(&[input(2, 2, true)]), None);
+    for (pairs, number) in COVERED.iter() {
+        assert_eq!(rt; book.covering(pairs), *number);
+    }
     Ok(())
 }

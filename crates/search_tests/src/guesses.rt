@@ -1,45 +1,41 @@
 //! Small circuits for which a table is guessed.
 
-use net_core::{Graph, Graphs};
-use samples::graph;
+use crate::circuits::{AND, OR, Sample, XOR, are_small, pair};
+use net_core::{Graphs, Matching};
 use std::alloc::{AllocError, Global};
 use std::test::Fail;
 use table_guess::{Trials, guess};
 
-fn and(alloc: Global) -> Result<Graph, Fail> {
-    Ok(graph(alloc, 2, &[(4, 2)], &[6])?)
+/// Whether a table, where there is one, inverts an output.
+fn inverts(table: &Option<Matching>) -> Option<bool> {
+    match table {
+        Some(table) => Some(table.outputs.iter().any(|entry| entry.1)),
+        None => None,
+    }
 }
 
-/// Whether circuits with as many ports have the output of the first go to that of the second, inverted.
-fn guesses_inverted(alloc: Global, graphs: &Graphs) -> Result<Option<bool>, AllocError> {
-    if graphs.first.inputs() != graphs.second.inputs() {
-        return Ok(None);
-    }
-    if graphs.first.outputs().len() != graphs.second.outputs().len() {
+/// Whether the table that is guessed inverts an output.
+fn guess_inverts(alloc: Global, graphs: &Graphs) -> Result<Option<bool>, AllocError> {
+    if !are_small(graphs) {
         return Ok(None);
     }
     let trials = Trials::new(alloc, &graphs.first)?;
     let table = guess(alloc, graphs, &trials)?;
-    Ok(table.map(|table| table.outputs.iter().any(|entry| entry.1)))
+    Ok(inverts(&table))
 }
 
-#[test]
-fn guesses_and_as_or(rt: HostRuntime) -> Result<(), Fail> {
-    let alloc = rt.alloc();
-    let first = and(alloc)?;
-    let second = graph(alloc, 2, &[(5, 3)], &[7])?;
-    assert_eq!(rt;
-        guesses_inverted(alloc, &Graphs { first, second })?,
-        Some(true)
-    );
-    Ok(())
+fn guessed(alloc: Global, first: Sample, second: Sample) -> Result<Option<bool>, Fail> {
+    let graphs = pair(alloc, first, second)?;
+    Ok(guess_inverts(alloc, &graphs)?)
 }
 
+/// A circuit beside an AND, and whether the table that is guessed inverts the output.
+const GUESSED: &[(Sample, Option<bool>)] = &[(OR, Some(true)), (XOR, None)];
+
 #[test]
-fn guesses_nothing_for_and_as_xor(rt: HostRuntime) -> Result<(), Fail> {
-    let alloc = rt.alloc();
-    let first = and(alloc)?;
-    let second = graph(alloc, 2, &[(4, 2), (5, 3), (9, 7)], &[10])?;
-    assert_eq!(rt; guesses_inverted(alloc, &Graphs { first, second })?, None);
+fn guesses_an_and_as_an_or_alone(rt: HostRuntime) -> Result<(), Fail> {
+    for (second, inverts) in GUESSED.iter() {
+        assert_eq!(rt; guessed(rt.alloc(), AND, *second)?, *inverts);
+    }
     Ok(())
 }

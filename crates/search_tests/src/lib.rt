@@ -4,8 +4,16 @@
 #[cfg(test)]
 mod bans;
 #[cfg(test)]
-mod facts;
+mod circuits;
+#[cfg(test)]
+mod claims;
+#[cfg(test)]
+mod comparisons;
+#[cfg(test)]
+mod fillings;
 #[cfg(test)]
 mod guesses;
 #[cfg(test)]
-mod oracles;
+mod searches;
+#[cfg(test)]
+mod supports;

@@ -1,0 +1,106 @@
+//! Small circuits: by the numbers of their literals, or drawn.
+
+ghost use Rattle.std.specs.Prelude.{◌≤◌, IsTrue};
+ghost use Rattle.account_core.specs.Ports.{HaveAsMany};
+
+use net_core::{Graph, Graphs, lit_value};
+use rand_core::utils::NextWord;
+use rand_pcg::Pcg32;
+use samples::{SampleFault, graph};
+use std::alloc::Global;
+use std::test::Fail;
+
+/// A circuit, by the numbers of its literals.
+#[derive(Clone, Copy)]
+pub(crate) struct Sample {
+    pub(crate) inputs: u32,
+    pub(crate) gates: &'static [(u32, u32)],
+    pub(crate) outputs: &'static [u32],
+}
+
+pub(crate) const AND: Sample = Sample {
+    inputs: 2,
+    gates: &[(4, 2)],
+    outputs: &[6],
+};
+
+pub(crate) const OR: Sample = Sample {
+    inputs: 2,
+    gates: &[(5, 3)],
+    outputs: &[7],
+};
+
+pub(crate) const XOR: Sample = Sample {
+    inputs: 2,
+    gates: &[(4, 2), (5, 3), (9, 7)],
+    outputs: &[10],
+};
+
+/// The second of two inputs.
+pub(crate) const WIRE: Sample = Sample {
+    inputs: 2,
+    gates: &[],
+    outputs: &[4],
+};
+
+/// The AND of the first two of three inputs.
+pub(crate) const AND_OF_THREE: Sample = Sample {
+    inputs: 3,
+    gates: &[(2, 4)],
+    outputs: &[8],
+};
+
+fn graph_of(alloc: Global, sample: Sample) -> Result<Graph, SampleFault> {
+    graph(alloc, sample.inputs, sample.gates, sample.outputs)
+}
+
+/// Two circuits by side.
+pub(crate) fn pair(alloc: Global, first: Sample, second: Sample) -> Result<Graphs, SampleFault> {
+    let first = graph_of(alloc, first)?;
+    Ok(Graphs {
+        first,
+        second: graph_of(alloc, second)?,
+    })
+}
+
+/// Whether two circuits have as many ports, and at most 12 inputs.
+pub(crate) fn are_small(graphs: &Graphs) -> bool
+    ensures ports { IsTrue result → HaveAsMany graphs.now.first graphs.now.second }
+    ensures small { IsTrue result → graphs.now.first.inputs ≤ 12 }
+{
+    let inputs = graphs.first.inputs();
+    let outputs = graphs.first.outputs().len();
+    (inputs == graphs.second.inputs()) & (outputs == graphs.second.outputs().len()) & (inputs <= 12)
+}
+
+/// A circuit of three inputs and six gates, drawn by a number.
+pub(crate) fn drawn(alloc: Global, number: u64) -> Result<Graph, SampleFault> {
+    let mut numbers = Pcg32::new(number, 54);
+    let mut gates = [(0, 0); 6];
+    for t in 0..6u32 {
+        let below = 2 * (4 + t);
+        gates[t as usize] = (numbers.next_word() % below, numbers.next_word() % below);
+    }
+    let output = 18 + numbers.next_word() % 2;
+    graph(alloc, 3, gates.as_slice(), &[output])
+}
+
+/// A drawn circuit beside the next one.
+pub(crate) fn drawn_pair(alloc: Global, number: u64) -> Result<Graphs, SampleFault> {
+    let first = drawn(alloc, number)?;
+    Ok(Graphs {
+        first,
+        second: drawn(alloc, number.wrapping_add(1))?,
+    })
+}
+
+/// The output of a circuit of three inputs on a vector, by the vector's number.
+pub(crate) fn output_on(alloc: Global, graph: &Graph, code: u32) -> Result<bool, Fail> {
+    let vector = [code % 2 == 1, code / 2 % 2 == 1, code / 4 % 2 == 1];
+    if (graph.inputs() != 3) | graph.outputs().is_empty() {
+        return Err("another graph".into());
+    }
+    let mut values = vec![in alloc; false; graph.signals()]?;
+    graph.eval_into(&vector, &mut values);
+    Ok(lit_value(&values, graph.outputs()[0]))
+}

@@ -1,0 +1,93 @@
+//! Supports of outputs, and how many claims are decided for them.
+
+use crate::circuits::{AND_OF_THREE, Sample, WIRE, pair};
+use account_core::Oracle;
+use cnf_core::Stop;
+use fact_tests::{FactBook, info};
+use net_core::Graphs;
+use port_report::{OutputInfo, Unate};
+use query_core::Ledger;
+use std::alloc::{AllocError, Global};
+use std::test::Fail;
+
+/// A constant of three inputs.
+const CONSTANT: Sample = Sample {
+    inputs: 3,
+    gates: &[],
+    outputs: &[1],
+};
+
+/// Input 3, inverted where input 0 chooses a 1 from inputs 1 and 4.
+const CHOICE: Sample = Sample {
+    inputs: 5,
+    gates: &[(2, 4), (3, 10), (13, 15), (17, 8), (16, 9), (19, 21)],
+    outputs: &[22],
+};
+
+/// A circuit of one output; with a budget, how many claims `info` decides of it, and the output's support.
+const INFORMED: &[(Sample, u64, usize, &[(u32, Unate)])] = &[
+    // a constant reaches no input
+    (CONSTANT, 0, 0, &[]),
+    // two claims of either of two inputs, and four swaps, of which the last one fails
+    (
+        AND_OF_THREE,
+        99,
+        8,
+        &[(0, Unate::Positive), (1, Unate::Positive)],
+    ),
+    // each claim of the four inputs fails, and each first swap of the six pairs
+    (
+        CHOICE,
+        0,
+        20,
+        &[
+            (0, Unate::Binate),
+            (1, Unate::Binate),
+            (3, Unate::Binate),
+            (4, Unate::Binate),
+        ],
+    ),
+];
+
+fn is_support(answer: &Result<Vec<OutputInfo>, Stop>, support: &[(u32, Unate)]) -> bool {
+    match answer {
+        Ok(rows) => match rows.as_slice() {
+            [row] => row.support.as_slice() == support,
+            _ => false,
+        },
+        Err(_) => false,
+    }
+}
+
+/// How many claims were decided of a circuit where its one output has this support; None where it is told otherwise.
+fn claims_of(
+    alloc: Global,
+    graphs: &Graphs,
+    budget: u64,
+    support: &[(u32, Unate)],
+) -> Result<Option<usize>, AllocError> {
+    let mut book = FactBook::new(alloc, graphs, 1)?;
+    let mut ledger = Ledger::new(alloc, budget);
+    let answer = info(alloc, graphs, &mut book, &mut ledger);
+    let count = book.facts().len();
+    Ok(is_support(&answer, support).then_some(count))
+}
+
+fn claims_of_sample(
+    alloc: Global,
+    sample: Sample,
+    budget: u64,
+    support: &[(u32, Unate)],
+) -> Result<Option<usize>, Fail> {
+    let graphs = pair(alloc, sample, WIRE)?;
+    Ok(claims_of(alloc, &graphs, budget, support)?)
+}
+
+#[test]
+fn asks_of_reached_inputs_alone(rt: HostRuntime) -> Result<(), Fail> {
+    for (sample, budget, claims, support) in INFORMED.iter() {
+        let decided = claims_of_sample(rt.alloc(), *sample, *budget, support)?;
+        assert_eq!(rt; decided, Some(*claims));
+    }
+    Ok(())
+}
