@@ -1,8 +1,13 @@
 //! Searches whose answers are known, over both oracles.
 
+ghost use Rattle.std.specs.Prelude.{◌≡◌, [], false};
+ghost use Rattle.account_core.specs.Oracles.{Suits};
+ghost use Rattle.account_core.specs.Ports.{HaveAsMany};
+ghost use Rattle.query_core.specs.Ledgers.{Ledgered};
+
 use crate::circuits::{AND, OR, Sample, XOR, are_small, pair};
+use account_core::Oracle;
 use ban_book::BanBook;
-use cnf_core::Stop;
 use fact_tests::FactBook;
 use match_search::{Found, search};
 use net_core::Graphs;
@@ -71,10 +76,26 @@ const ODD_OF_FOUR: Sample = Sample {
     outputs: &[26],
 };
 
-fn is_match(found: &Result<Found, Stop>) -> Option<bool> {
+fn is_match(found: &Found) -> bool {
     match found {
-        Ok(Found::Match(_, _)) => Some(true),
-        Ok(Found::None(_)) => Some(false),
+        Found::Match(_, _) => true,
+        Found::None(_) => false,
+    }
+}
+
+/// What a search over a new oracle finds; None where it is stopped.
+fn found_by<O: Oracle>(alloc: Global, graphs: &Graphs, oracle: &mut O) -> Option<bool>
+    requires graphs { graphs.now ≡ (O.known oracle.old).graphs }
+    requires ports { HaveAsMany graphs.now.first graphs.now.second }
+    requires suits { (ledger : Ledgered)
+        → ledger.asked ≡ []
+        → ledger.spent ≡ false
+        → Suits (O.known oracle.old) ledger }
+{
+    let mut book = BanBook::new(alloc);
+    let mut ledger = Ledger::new(alloc, 1_000_000);
+    match search(alloc, graphs, oracle, &mut book, &mut ledger) {
+        Ok(found) => Some(is_match(&found)),
         Err(_) => None,
     }
 }
@@ -85,10 +106,7 @@ fn by_table(alloc: Global, graphs: &Graphs) -> Result<Option<bool>, AllocError> 
         return Ok(None);
     }
     let mut oracle = TableOracle::new(alloc, graphs)?;
-    let mut book = BanBook::new(alloc);
-    let mut ledger = Ledger::new(alloc, 1_000_000);
-    let found = search(alloc, graphs, &mut oracle, &mut book, &mut ledger);
-    Ok(is_match(&found))
+    Ok(found_by(alloc, graphs, &mut oracle))
 }
 
 /// What a search over the book of facts finds.
@@ -97,10 +115,7 @@ fn by_book(alloc: Global, graphs: &Graphs) -> Result<Option<bool>, AllocError> {
         return Ok(None);
     }
     let mut oracle = FactBook::new(alloc, graphs, 1)?;
-    let mut book = BanBook::new(alloc);
-    let mut ledger = Ledger::new(alloc, 1_000_000);
-    let found = search(alloc, graphs, &mut oracle, &mut book, &mut ledger);
-    Ok(is_match(&found))
+    Ok(found_by(alloc, graphs, &mut oracle))
 }
 
 /// What is found over both oracles.

@@ -2,7 +2,6 @@
 
 use crate::circuits::{AND_OF_THREE, Sample, WIRE, pair};
 use account_core::Oracle;
-use cnf_core::Stop;
 use fact_tests::{FactBook, info};
 use net_core::Graphs;
 use port_report::{OutputInfo, Unate};
@@ -49,13 +48,10 @@ const INFORMED: &[(Sample, u64, usize, &[(u32, Unate)])] = &[
     ),
 ];
 
-fn is_support(answer: &Result<Vec<OutputInfo>, Stop>, support: &[(u32, Unate)]) -> bool {
-    match answer {
-        Ok(rows) => match rows.as_slice() {
-            [row] => row.support.as_slice() == support,
-            _ => false,
-        },
-        Err(_) => false,
+fn is_support(rows: &[OutputInfo], support: &[(u32, Unate)]) -> bool {
+    match rows {
+        [row] => row.support.as_slice() == support,
+        _ => false,
     }
 }
 
@@ -68,9 +64,11 @@ fn claims_of(
 ) -> Result<Option<usize>, AllocError> {
     let mut book = FactBook::new(alloc, graphs, 1)?;
     let mut ledger = Ledger::new(alloc, budget);
-    let answer = info(alloc, graphs, &mut book, &mut ledger);
-    let count = book.facts().len();
-    Ok(is_support(&answer, support).then_some(count))
+    let told = match info(alloc, graphs, &mut book, &mut ledger) {
+        Ok(rows) => is_support(rows.as_slice(), support),
+        Err(_) => false,
+    };
+    Ok(told.then_some(book.facts().len()))
 }
 
 fn claims_of_sample(
