@@ -17,7 +17,7 @@ const REVERSED: &[u8] = b"aag 4 2 0 1 2\n2\n4\n8\n8 6 2\n6 2 4\n";
 /// One input and one output, with symbols and a comment.
 const NAMED: &[u8] = b"aag 1 1 0 1 0\n2\n2\ni0 in put\no0 q\nc\nx";
 
-const MATCHES: [Row; 7] = [
+static MATCHES: [Row; 7] = [
     Row {
         files: [A, B, TABLE],
         status: 0,
@@ -78,7 +78,7 @@ fn accepts_matches(rt: HostRuntime) -> Result<(), Fail> {
 }
 
 /// Accounts of the AND and the OR, with the report on each.
-const BAD_ACCOUNTS: [(&[u8], &[u8]); 16] = [
+static BAD_ACCOUNTS: [(&[u8], &[u8]); 16] = [
     // their form
     (b"", b"rejected line 1 truncated\n"),
     (b"npnp 9\n", b"rejected line 1 header\n"),
@@ -137,8 +137,8 @@ const BAD_ACCOUNTS: [(&[u8], &[u8]); 16] = [
 
 #[test]
 fn rejects_accounts_at_their_first_bad_line(rt: HostRuntime) -> Result<(), Fail> {
-    for (account, report) in BAD_ACCOUNTS {
-        expect(&rt, rt.alloc(), CHECK, [AND, OR, account], 2, report)?;
+    for (account, report) in BAD_ACCOUNTS.iter() {
+        expect(&rt, rt.alloc(), CHECK, [AND, OR, *account], 2, *report)?;
     }
     Ok(())
 }
@@ -162,7 +162,7 @@ const TWO_TO_ONE: &[u8] = b"npnp 1\nmatch i0+0 i1+1 o0+0\nl : 7 8 4 5 3\nl : 7 8
 const MIXED: &[u8] =
     b".names a b y\n11 0\n.names one\n1\n.names zero\n.inputs a \\ # more\nb\n.outputs y one zero\n";
 
-const OF_BOTH_FORMATS: [Row; 5] = [
+static OF_BOTH_FORMATS: [Row; 5] = [
     Row {
         files: [C17, C17_MOVED, C17_ACCOUNT],
         status: 0,
@@ -212,7 +212,7 @@ fn reads_both_formats(rt: HostRuntime) -> Result<(), Fail> {
 }
 
 /// Words of no form, and names of files that aren't there, with the status and the report.
-const MISSING: [(&[&str], u8, &[u8]); 8] = [
+static MISSING: [(&[&str], u8, &[u8]); 8] = [
     (&[], 4, b"usage\n"),
     (&["match", "A", "B", "B"], 4, b"usage\n"),
     (&["check", "A", "B"], 4, b"usage\n"),
@@ -225,14 +225,14 @@ const MISSING: [(&[&str], u8, &[u8]); 8] = [
 
 #[test]
 fn names_what_is_missing(rt: HostRuntime) -> Result<(), Fail> {
-    for (words, status, report) in MISSING {
-        expect(&rt, rt.alloc(), words, [A, B, TABLE], status, report)?;
+    for (words, status, report) in MISSING.iter() {
+        expect(&rt, rt.alloc(), *words, [A, B, TABLE], *status, *report)?;
     }
     Ok(())
 }
 
 /// Words that ask what is known of a netlist, named `A`, with the netlist, the status and the report.
-const INFOS: [(&[&str], &[u8], u8, &[u8]); 8] = [
+static INFOS: [(&[&str], &[u8], u8, &[u8]); 8] = [
     (
         &["info", "A"],
         MIXED,
@@ -278,14 +278,21 @@ const INFOS: [(&[&str], &[u8], u8, &[u8]); 8] = [
 
 #[test]
 fn reports_what_is_known_of_a_netlist(rt: HostRuntime) -> Result<(), Fail> {
-    for (words, netlist, status, report) in INFOS {
-        expect(&rt, rt.alloc(), words, [netlist, B, TABLE], status, report)?;
+    for (words, netlist, status, report) in INFOS.iter() {
+        expect(
+            &rt,
+            rt.alloc(),
+            *words,
+            [*netlist, B, TABLE],
+            *status,
+            *report,
+        )?;
     }
     Ok(())
 }
 
 /// Words that are like those for a netlist, and of no form.
-const NO_INFO: [&[&str]; 8] = [
+static NO_INFO: [&[&str]; 8] = [
     &["info"],
     &["info", ""],
     &["info", "A", ""],
@@ -298,13 +305,13 @@ const NO_INFO: [&[&str]; 8] = [
 
 #[test]
 fn refuses_words_of_no_form(rt: HostRuntime) -> Result<(), Fail> {
-    for words in NO_INFO {
-        expect(&rt, rt.alloc(), words, [MIXED, B, TABLE], 4, b"usage\n")?;
+    for words in NO_INFO.iter() {
+        expect(&rt, rt.alloc(), *words, [MIXED, B, TABLE], 4, b"usage\n")?;
     }
     Ok(())
 }
 
-const MALFORMED_AIGER: [(&[u8], &[u8]); 18] = [
+static MALFORMED_AIGER: [(&[u8], &[u8]); 18] = [
     (b"aag 4294967295 0 0 0 0\n", b"malformed first 6 0\n"),
     (b"aag 4294967296 0 0 0 0\n", b"malformed first 1 0\n"),
     (b"aag 1025 1025 0 0 0\n", b"malformed first 4 0\n"),
@@ -331,7 +338,7 @@ const MALFORMED_AIGER: [(&[u8], &[u8]); 18] = [
     (b"aig 3 2 0 1 1\n6\n\x07\x00", b"malformed first 11 16\n"),
 ];
 
-const MALFORMED_BLIF: [(&[u8], &[u8]); 9] = [
+static MALFORMED_BLIF: [(&[u8], &[u8]); 9] = [
     (b"", b"malformed first 28 0\n"),
     (b"aag", b"malformed first 27 0\n"),
     (b".latch x y\n", b"malformed first 21 0\n"),
@@ -354,16 +361,16 @@ const MALFORMED_BLIF: [(&[u8], &[u8]); 9] = [
 
 #[test]
 fn refuses_malformed_aiger_at_its_place(rt: HostRuntime) -> Result<(), Fail> {
-    for (first, report) in MALFORMED_AIGER {
-        expect(&rt, rt.alloc(), CHECK, [first, B, TABLE], 5, report)?;
+    for (first, report) in MALFORMED_AIGER.iter() {
+        expect(&rt, rt.alloc(), CHECK, [*first, B, TABLE], 5, *report)?;
     }
     Ok(())
 }
 
 #[test]
 fn refuses_malformed_blif_at_its_place(rt: HostRuntime) -> Result<(), Fail> {
-    for (first, report) in MALFORMED_BLIF {
-        expect(&rt, rt.alloc(), CHECK, [first, B, TABLE], 5, report)?;
+    for (first, report) in MALFORMED_BLIF.iter() {
+        expect(&rt, rt.alloc(), CHECK, [*first, B, TABLE], 5, *report)?;
     }
     Ok(())
 }

@@ -17,7 +17,7 @@ fn seek(alloc: Global, netlists: [&[u8]; 2], call: u64) -> Result<Ended, AllocEr
 
 /// What is printed and what stands under the account's name where a call fails: open, read and close of either netlist;
 /// create; the lines, the last line, and the close.
-const OF_NOTHING: [(&[u8], Option<&[u8]>); 10] = [
+static OF_NOTHING: [(&[u8], Option<&[u8]>); 10] = [
     (b"read fault\n", None),
     (b"read fault\n", None),
     (b"read fault\n", None),
@@ -49,7 +49,7 @@ fn leaves_a_first_part_of_the_account(rt: HostRuntime) -> Result<(), Fail> {
 }
 
 /// What is printed where a call fails before the account is made: open, read and close of either netlist, and create.
-const BEFORE_THE_ACCOUNT: [&[u8]; 7] = [
+static BEFORE_THE_ACCOUNT: [&[u8]; 7] = [
     b"read fault\n",
     b"read fault\n",
     b"read fault\n",
@@ -99,16 +99,16 @@ fn fails_at_the_third_read(rt: HostRuntime) -> Result<(), Fail> {
 }
 
 /// How many bytes of the account don't stand where a call fails: all of them, the last line, or none.
-const LEFT_OUT: [(u64, usize); 3] = [(7, usize::MAX), (8, 4), (9, 0)];
+static LEFT_OUT: [(u64, usize); 3] = [(7, usize::MAX), (8, 4), (9, 0)];
 
 #[test]
 fn leaves_first_parts_of_longer_accounts(rt: HostRuntime) -> Result<(), Fail> {
     let whole = seek(rt.alloc(), [A, B], NEVER)?;
     let account = whole.account.as_deref().unwrap_or(b"");
     assert!(rt; (whole.status == 0) & !account.is_empty());
-    for (call, left_out) in LEFT_OUT {
-        let ended = seek(rt.alloc(), [A, B], call)?;
-        let count = account.len().saturating_sub(left_out);
+    for (call, left_out) in LEFT_OUT.iter() {
+        let ended = seek(rt.alloc(), [A, B], *call)?;
+        let count = account.len().saturating_sub(*left_out);
         assert_eq!(rt;
             (
                 ended.status,

@@ -44,7 +44,7 @@ const TWO_OF_FOUR: &[u8] =
 const ODD_OF_FOUR: &[u8] =
     b".inputs a b c d\n.outputs y\n.names a b c d y\n1000 1\n0100 1\n0010 1\n0001 1\n1110 1\n1101 1\n1011 1\n0111 1\n";
 
-const SOUGHT: [Sought; 9] = [
+static SOUGHT: [Sought; 9] = [
     Sought {
         files: [A, B],
         words: MATCH,
@@ -115,7 +115,7 @@ const SOUGHT: [Sought; 9] = [
 
 #[test]
 fn finds_matches_or_that_there_is_none(rt: HostRuntime) -> Result<(), Fail> {
-    for row in &SOUGHT {
+    for row in SOUGHT.iter() {
         seek(&rt, rt.alloc(), row)?;
     }
     Ok(())
@@ -130,7 +130,7 @@ type Written = (
     Option<&'static [u8]>,
 );
 
-const WRITTEN: [Written; 8] = [
+static WRITTEN: [Written; 8] = [
     (
         MATCH,
         [EMPTY, EMPTY],
@@ -179,22 +179,22 @@ const WRITTEN: [Written; 8] = [
 
 #[test]
 fn writes_whole_accounts_or_none(rt: HostRuntime) -> Result<(), Fail> {
-    for (words, files, status, report, account) in WRITTEN {
-        let ended = run_on(rt.alloc(), words, files, None)?;
+    for (words, files, status, report, account) in WRITTEN.iter() {
+        let ended = run_on(rt.alloc(), *words, *files, None)?;
         assert_eq!(rt;
             (
                 ended.status,
                 ended.report.as_slice(),
                 ended.account.as_deref()
             ),
-            (status, report, account)
+            (*status, *report, *account)
         );
     }
     Ok(())
 }
 
 /// The two tables under which the AND is the OR.
-const AND_IS_OR: [&[u8]; 2] = [
+static AND_IS_OR: [&[u8]; 2] = [
     b"matched\ninput 0 i0 = not input 0 i0\ninput 1 i1 = not input 1 i1\noutput 0 o0 = not output 0 o0\n",
     b"matched\ninput 0 i0 = not input 1 i1\ninput 1 i1 = not input 0 i0\noutput 0 o0 = not output 0 o0\n",
 ];

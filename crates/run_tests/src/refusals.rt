@@ -24,7 +24,7 @@ const ZERO_WIRE: &[u8] =
 const BY_SUPPORT: &[u8] =
     b"npnp 1\nfails b 0 down 0 =1\nholds a 0 up 0\nl : 0 1\nholds a 0 down 0\nl : 0 1\nban o0+0 : tally support 0 / 1 2\nban o0-0 : tally support 0 / 1 2\nban : cover out 0 / 0 / 0 1\nnone ban 2\nend\n";
 
-const REFUSALS: [Row; 4] = [
+static REFUSALS: [Row; 4] = [
     Row {
         files: [THREE, TWO, NO_PORTS],
         status: 1,
@@ -117,7 +117,7 @@ fn check_altered(
 }
 
 /// Alterations of the refusal of AND and exclusive or.
-const LINES: [Altered; 23] = [
+static LINES: [Altered; 23] = [
     (1, b"", b"2 truncated"),
     (2, b"", b"3 truncated"),
     (3, b"", b"4 truncated"),
@@ -150,7 +150,7 @@ fn rejects_altered_lines(rt: HostRuntime) -> Result<(), Fail> {
 }
 
 /// Facts of AND and exclusive or that aren't there, or aren't shown.
-const FACTS: [Altered; 9] = [
+static FACTS: [Altered; 9] = [
     (1, b"fails b 1 up 0 =01\n", b"2 id"),
     (1, b"fails b 0 up 2 =01\n", b"2 id"),
     (1, b"fails b 0 swap 1 0 01 =01\n", b"2 rule"),
@@ -169,7 +169,7 @@ fn rejects_facts(rt: HostRuntime) -> Result<(), Fail> {
 }
 
 /// Pairs and vectors of AND and exclusive or. Where all is paired plainly, the vector 11 gives 1 and 0.
-const VECTORS: [Altered; 14] = [
+static VECTORS: [Altered; 14] = [
     (1, b"ban i0+0 i1+1 o0+0 : vector 0 =11\n", b"3 truncated"),
     // the pairs
     (1, b"ban i0+0 i1+1 o0+1 : vector 0 =11\n", b"2 id"),
@@ -196,7 +196,7 @@ fn rejects_pairs_and_vectors(rt: HostRuntime) -> Result<(), Fail> {
 }
 
 /// Facts of AND and exclusive or that are set against one another. The last of them is of the AND.
-const MISMATCHES: [Altered; 9] = [
+static MISMATCHES: [Altered; 9] = [
     (7, b"ban i0+0 o0+0 : mismatch 0 4\n", b"9 truncated"),
     (7, b"ban i0-0 o0-0 : mismatch 0 4\n", b"9 truncated"),
     (7, b"ban i0+0 o0+0 : mismatch 0 5\n", b"8 id"),
@@ -214,7 +214,7 @@ fn rejects_mismatches(rt: HostRuntime) -> Result<(), Fail> {
 }
 
 /// Inputs of AND and exclusive or that are counted.
-const BINATES: [Altered; 9] = [
+static BINATES: [Altered; 9] = [
     (7, b"ban o0+0 : tally binate 0 1 2 3 / 5\n", b"8 id"),
     (7, b"ban o0+0 : tally binate 0 1 0 1 / 4\n", b"8 rule"),
     (7, b"ban o0+0 : tally binate 1 0 2 3 / 4\n", b"8 rule"),
@@ -228,7 +228,7 @@ const BINATES: [Altered; 9] = [
 ];
 
 /// Inputs of constant 0 and the wire.
-const SUPPORTS: [Altered; 4] = [
+static SUPPORTS: [Altered; 4] = [
     (6, b"ban o0+0 : tally support 0 0 / 1 2\n", b"7 rule"),
     (6, b"ban o0+0 : tally support 0 / 2 1\n", b"7 rule"),
     (6, b"ban o0+0 : tally support 0 / 1\n", b"7 rule"),
@@ -242,7 +242,7 @@ fn rejects_tallies(rt: HostRuntime) -> Result<(), Fail> {
 }
 
 /// Ports of AND and exclusive or that are to be paired with one another, behind bans of either pair of outputs.
-const COVERS: [Altered; 13] = [
+static COVERS: [Altered; 13] = [
     (9, b"ban o0+0 : cover out 0 / 0 / 0 -\n", b"11 truncated"),
     (
         9,
@@ -270,26 +270,26 @@ fn rejects_covers(rt: HostRuntime) -> Result<(), Fail> {
 }
 
 /// The first line behind the header is none for these netlists.
-const NOT_EXCLUDED: [Altered; 3] = [
+static NOT_EXCLUDED: [Altered; 3] = [
     (1, b"ban : cover out 0 / 0 / - -\n", b"2 rule"),
     (1, b"ban : cover out 0 / 0 / 0 0\n", b"2 id"),
     (1, b"none ban 0\n", b"2 id"),
 ];
 
-const ALTERED_ZERO_WIRE: [Altered; 2] = [
+static ALTERED_ZERO_WIRE: [Altered; 2] = [
     (6, b"ban i0+0 o0-0 : mismatch 0 1\n", b"7 rule"),
     (5, b"ban i0-0 o0+0 : vector 0 =x\n", b"6 vector"),
 ];
 
 /// The OR stays 1 where one of two inputs that are 1 falls.
-const OF_OR: [Altered; 1] = [(1, b"fails b 0 down 0 =11\n", b"2 vector")];
+static OF_OR: [Altered; 1] = [(1, b"fails b 0 down 0 =11\n", b"2 vector")];
 
-const OF_NOTHING: [Altered; 1] = [(1, b"ban : cover in / /\n", b"2 rule")];
+static OF_NOTHING: [Altered; 1] = [(1, b"ban : cover in / /\n", b"2 rule")];
 
 /// The numbers of ports agree, or differ.
-const AGREE: [Altered; 1] = [(1, b"none ports\nend\n", b"2 conclusion")];
+static AGREE: [Altered; 1] = [(1, b"none ports\nend\n", b"2 conclusion")];
 
-const DIFFER: [Altered; 4] = [
+static DIFFER: [Altered; 4] = [
     (1, b"fails a 0 up 0 =000\n", b"2 conclusion"),
     (1, b"holds a 0 up 0\n", b"2 conclusion"),
     (1, b"ban : cover in 0 1 2 / 0 1 / - -\n", b"2 conclusion"),
