@@ -90,25 +90,29 @@ fn orders_by_hand(rt: HostRuntime) -> Result<(), Fail> {
 
 #[test]
 fn vectors_by_hand(rt: HostRuntime) -> Result<(), Fail> {
-    let alloc = rt.alloc();
     let mut vector = [false; 4];
     write_vector(6, &mut vector);
     assert_eq!(rt; vector, [false, true, true, false]);
     for (entry, bijection) in [((0, false), true), ((1, false), false), ((2, false), false)] {
-        assert_eq!(rt;
-            is_signed_bijection(&[(1, true), entry], 2),
-            bijection,
-            "{entry:?}"
-        );
+        let told = is_signed_bijection(&[(1, true), entry], 2);
+        assert!(rt; told == bijection, "{entry:?}");
     }
     // The second bit to the first place, the first inverted to the second.
     let entries = [(1, true), (0, false)];
-    assert!(rt; is_signed_bijection(&entries, 2));
-    assert_eq!(rt;
-        move_vector(alloc, &entries, &[true, true])?.as_slice(),
-        [true, false].as_slice()
-    );
+    assert!(rt; moves_to(rt.alloc(), &entries, &[true, true], &[true, false])?);
     Ok(())
+}
+
+fn moves_to(
+    alloc: Global,
+    entries: &[(u32, bool); 2],
+    vector: &[bool; 2],
+    want: &[bool],
+) -> Result<bool, AllocError> {
+    if !is_signed_bijection(entries, 2) {
+        return Ok(false);
+    }
+    Ok(move_vector(alloc, entries, vector)?.as_slice() == want)
 }
 
 fn check_matches(

@@ -1,5 +1,5 @@
 ghost use Rattle.std.specs.Prelude.{◌≡◌, ◌≢◌, Err, IfOk, OnOk, string_bytes};
-ghost use Rattle.shelf_core.specs.State.{Closed};
+ghost use Rattle.shelf_core.specs.State.{Closed, Reading};
 
 use shelf_core::{DiskShelf, SafeShelf, SafeSink, Shelf, ShelfStop, Sink, StdSink, Stream};
 use std::alloc::{AllocError, Global};
@@ -25,6 +25,20 @@ fn shelf_of_two(alloc: Global) -> Result<SafeShelf, AllocError>
     SafeShelf::new(alloc, files, 3)
 }
 
+/// Whether a read takes so many bytes, and the buffer holds these then.
+fn reads_so(
+    shelf: &mut SafeShelf,
+    buf: &mut [u8],
+    count: usize,
+    want: &[u8],
+) -> Result<bool, ShelfStop>
+    requires { (⟦<SafeShelf as Shelf>⟧.state shelf.old).mode ≡ Reading }
+    ensures { (⟦<SafeShelf as Shelf>⟧.state shelf.new).mode ≡ Reading }
+{
+    let answer = shelf.read(buf)?;
+    Ok((answer == count) & (&*buf == want))
+}
+
 /// Whether the letter is read as the cut and the buffer have it: six calls.
 fn reads_the_letter(shelf: &mut SafeShelf) -> Result<bool, ShelfStop>
     requires { (⟦<SafeShelf as Shelf>⟧.state shelf.old).mode ≡ Closed }
@@ -34,13 +48,12 @@ fn reads_the_letter(shelf: &mut SafeShelf) -> Result<bool, ShelfStop>
     let Some(len) = shelf.open("letter")? else {
         return Ok(false);
     };
-    let mut same = len == 7;
-    same = same & (shelf.read(&mut buf)? == 3) & (buf.as_slice() == b"sev--".as_slice());
-    same = same & (shelf.read(&mut buf[..2])? == 2) & (buf.as_slice() == b"env--".as_slice());
-    same = same & (shelf.read(&mut buf)? == 2) & (buf.as_slice() == b"!!v--".as_slice());
-    same = same & (shelf.read(&mut buf)? == 0);
+    let first = reads_so(shelf, &mut buf, 3, b"sev--")?;
+    let second = reads_so(shelf, &mut buf[..2], 2, b"en")?;
+    let third = reads_so(shelf, &mut buf, 2, b"!!v--")?;
+    let end = reads_so(shelf, &mut buf, 0, b"!!v--")?;
     shelf.close()?;
-    Ok(same)
+    Ok((len == 7) & first & second & third & end)
 }
 
 /// Makes a report, which wasn't there, and the letter anew: seven calls.

@@ -61,19 +61,28 @@ fn parts_lines_and_words(rt: HostRuntime) {
     assert!(rt; has_words(b" aag\t3 \rx\0y\r", &words));
 }
 
+/// Whether so many bytes are taken and are these, or none are and the cursor stays.
+fn takes_so(cursor: &mut Cursor, count: usize, want: Option<&[u8]>) -> bool {
+    let at = cursor.at();
+    let Some(taken) = cursor.take(count) else {
+        return want.is_none() & (cursor.at() == at);
+    };
+    (taken.at() == at) & (Some(taken.bytes()) == want)
+}
+
 #[test]
 fn takes_no_more_than_is_left(rt: HostRuntime) {
     let mut cursor = Cursor::new(b"abc");
-    assert_eq!(rt; (cursor.take(4).is_none(), cursor.at()), (true, 0));
-    assert_eq!(rt;
-        cursor.take(2).expect(&rt, "two bytes").bytes(),
-        b"ab".as_slice()
-    );
-    let last = cursor.take(1).expect(&rt, "the last byte").at();
-    assert_eq!(rt;
-        (last, cursor.take(0).is_some(), cursor.take(1).is_none()),
-        (2, true, true)
-    );
+    let rows: [(usize, Option<&[u8]>); 5] = [
+        (4, None),
+        (2, Some(b"ab")),
+        (1, Some(b"c")),
+        (0, Some(b"")),
+        (1, None),
+    ];
+    for (count, want) in rows {
+        assert!(rt; takes_so(&mut cursor, count, want), "{count} for {want:?}");
+    }
 }
 
 #[test]
