@@ -15,7 +15,7 @@ type File = (
     &'static [u8],
 );
 
-const NETLISTS: [File; 10] = [
+static NETLISTS: [File; 10] = [
     // an AND gate in both forms
     (
         b"aag 3 2 0 1 1\n2\n4\n6\n6 2 4\n",
@@ -108,8 +108,8 @@ fn reads_as(alloc: Global, file: &File) -> Result<bool, NetStop> {
 
 #[test]
 fn reads_netlists(rt: HostRuntime) -> Result<(), Fail> {
-    for file in NETLISTS {
-        assert!(rt; reads_as(rt.alloc(), &file)?, "at {:?}", file.0);
+    for file in NETLISTS.iter() {
+        assert!(rt; reads_as(rt.alloc(), file)?, "at {:?}", file.0);
     }
     Ok(())
 }
@@ -117,7 +117,7 @@ fn reads_netlists(rt: HostRuntime) -> Result<(), Fail> {
 // A file, and the names of its inputs and of its outputs.
 type Names = (&'static [u8], &'static [u8], &'static [u8]);
 
-const NAMES: [Names; 7] = [
+static NAMES: [Names; 7] = [
     // a name with a blank, and a comment
     (
         b"aag 1 1 0 1 0\n2\n2\ni0 in put\no0 q\nc\nx",
@@ -151,8 +151,8 @@ fn gives_names(alloc: Global, file: &Names) -> Result<bool, NetStop> {
 
 #[test]
 fn reads_names(rt: HostRuntime) -> Result<(), Fail> {
-    for file in NAMES {
-        assert!(rt; gives_names(rt.alloc(), &file)?, "at {:?}", file.0);
+    for file in NAMES.iter() {
+        assert!(rt; gives_names(rt.alloc(), file)?, "at {:?}", file.0);
     }
     Ok(())
 }
@@ -160,7 +160,7 @@ fn reads_names(rt: HostRuntime) -> Result<(), Fail> {
 // A file, and the fault of its header.
 type HeaderFault = (&'static [u8], NetKind);
 
-const HEADER_FAULTS: [HeaderFault; 24] = [
+static HEADER_FAULTS: [HeaderFault; 24] = [
     // no header of either form
     (b"", NetKind::Header),
     (b"aag", NetKind::Header),
@@ -190,22 +190,22 @@ const HEADER_FAULTS: [HeaderFault; 24] = [
     (b"aag 4294967295 0 0 0 0\n", NetKind::TooManyGates),
 ];
 
-fn expect_fault(rt: &impl Abort, alloc: Global, text: &[u8], fault: NetFault) {
-    let stop = NetStop::Fault(fault);
+fn expect_fault(rt: &impl Abort, alloc: Global, text: &[u8], kind: NetKind, at: u64) {
+    let stop = NetStop::Fault(NetFault { kind, at });
     assert_eq!(rt; read(alloc, text).err(), Some(stop), "at {text:?}");
 }
 
 #[test]
 fn finds_faults_of_the_header(rt: HostRuntime) {
-    for (text, kind) in HEADER_FAULTS {
-        expect_fault(&rt, rt.alloc(), text, NetFault { kind, at: 0 });
+    for (text, kind) in HEADER_FAULTS.iter() {
+        expect_fault(&rt, rt.alloc(), text, *kind, 0);
     }
 }
 
 // A file, its first fault, and where that stands.
 type Fault = (&'static [u8], NetKind, u64);
 
-const FAULTS: [Fault; 41] = [
+static FAULTS: [Fault; 41] = [
     // lines that aren't what the header announces
     (b"aag 0 0 0 1 0\nx\n", NetKind::BadLine, 14),
     (b"aag 0 0 0 1 0\n\n", NetKind::BadLine, 14),
@@ -272,7 +272,7 @@ const FAULTS: [Fault; 41] = [
 
 #[test]
 fn finds_the_first_fault(rt: HostRuntime) {
-    for (text, kind, at) in FAULTS {
-        expect_fault(&rt, rt.alloc(), text, NetFault { kind, at });
+    for (text, kind, at) in FAULTS.iter() {
+        expect_fault(&rt, rt.alloc(), text, *kind, *at);
     }
 }

@@ -16,7 +16,7 @@ type FileRow = (
     &'static [u8],
 );
 
-const FILES: [FileRow; 16] = [
+static FILES: [FileRow; 16] = [
     // NAND by the off-set and by the on-set
     (
         b".model nand\n.inputs a b\n.outputs y\n.names a b y\n11 0\n.end\n",
@@ -117,7 +117,7 @@ const FILES: [FileRow; 16] = [
 /// A file, its first fault, and where that stands.
 type FaultRow = (&'static [u8], NetKind, u64);
 
-const FAULTS: [FaultRow; 42] = [
+static FAULTS: [FaultRow; 42] = [
     (b"", NetKind::NoPortLine, 0),
     (b".inputs a\n", NetKind::NoPortLine, 10),
     (b".outputs", NetKind::NoPortLine, 8),
@@ -267,16 +267,19 @@ fn reads_as(alloc: Global, file: &FileRow) -> Result<bool, NetStop> {
 
 #[test]
 fn reads_covers_of_either_kind(rt: HostRuntime) -> Result<(), Fail> {
-    for file in FILES {
-        assert!(rt; reads_as(rt.alloc(), &file)?, "at {:?}", file.0);
+    for file in FILES.iter() {
+        assert!(rt; reads_as(rt.alloc(), file)?, "at {:?}", file.0);
     }
     Ok(())
 }
 
 #[test]
 fn names_the_first_fault(rt: HostRuntime) {
-    for (text, kind, at) in FAULTS {
-        let stop = NetStop::Fault(NetFault { kind, at });
+    for (text, kind, at) in FAULTS.iter() {
+        let stop = NetStop::Fault(NetFault {
+            kind: *kind,
+            at: *at,
+        });
         assert_eq!(rt;
             read_text(rt.alloc(), text).err(),
             Some(stop),
