@@ -66,17 +66,22 @@ fn has_shape(alloc: Global, inputs: &[(u32, bool)], n: u32, m: u32) -> Result<bo
     Ok(matching(alloc, inputs, &[(0, false)])?.check_shape(n, m))
 }
 
+// The entries of two inputs, n and m, and whether a table with them and an output has that shape.
+type Shape = (&'static [(u32, bool)], u32, u32, bool);
+
+static SHAPES: [Shape; 4] = [
+    (&[(1, true), (0, false)], 2, 1, true),
+    (&[(1, true), (0, false)], 2, 2, false),
+    (&[(1, true), (0, false)], 1, 1, false),
+    // two inputs go to one
+    (&[(1, true), (1, false)], 2, 1, false),
+];
+
 #[test]
 fn checks_shapes(rt: HostRuntime) -> Result<(), Fail> {
-    for (inputs, n, m, has) in [
-        ([(1, true), (0, false)], 2, 1, true),
-        ([(1, true), (0, false)], 2, 2, false),
-        ([(1, true), (0, false)], 1, 1, false),
-        // two inputs go to one
-        ([(1, true), (1, false)], 2, 1, false),
-    ] {
-        let found = has_shape(rt.alloc(), inputs.as_slice(), n, m)?;
-        assert_eq!(rt; found, has, "at {inputs:?} {n} {m}");
+    for (inputs, n, m, has) in SHAPES.iter() {
+        let found = has_shape(rt.alloc(), inputs, *n, *m)?;
+        assert_eq!(rt; found, *has, "at {inputs:?} {n} {m}");
     }
     Ok(())
 }

@@ -29,20 +29,25 @@ fn fault_of_names(alloc: Global) -> Result<Option<SampleFault>, SampleFault> {
     Ok(named(alloc, wire, &[], &[b"y"]).err())
 }
 
+// How many inputs there are, the operands of the gate, the output, and why that is no sample, if it isn't.
+type SampleRow = (u32, (u32, u32), u32, Option<SampleFault>);
+
+// gate 0 of two inputs is signal 3: it may not read itself, and output literals end at 7
+static SAMPLES: [SampleRow; 7] = [
+    (2, (2, 4), 7, None),
+    (2, (6, 4), 2, Some(SampleFault::OutOfPlace)),
+    (2, (2, 7), 2, Some(SampleFault::OutOfPlace)),
+    (2, (2, 4), 8, Some(SampleFault::OutOfPlace)),
+    (1, (2, 4), 2, Some(SampleFault::OutOfPlace)),
+    (1, (2, 2), 6, Some(SampleFault::OutOfPlace)),
+    (1_001, (2, 2), 2, Some(SampleFault::TooLarge)),
+];
+
 #[test]
 fn refuses_what_is_no_sample(rt: HostRuntime) -> Result<(), Fail> {
-    // gate 0 of two inputs is signal 3: it may not read itself, and output literals end at 7
-    for (inputs, gate, output, fault) in [
-        (2, (2, 4), 7, None),
-        (2, (6, 4), 2, Some(SampleFault::OutOfPlace)),
-        (2, (2, 7), 2, Some(SampleFault::OutOfPlace)),
-        (2, (2, 4), 8, Some(SampleFault::OutOfPlace)),
-        (1, (2, 4), 2, Some(SampleFault::OutOfPlace)),
-        (1, (2, 2), 6, Some(SampleFault::OutOfPlace)),
-        (1_001, (2, 2), 2, Some(SampleFault::TooLarge)),
-    ] {
-        let found = fault_of(rt.alloc(), inputs, gate, output);
-        assert_eq!(rt; found, fault, "at {inputs} {gate:?} {output}");
+    for (inputs, gate, output, fault) in SAMPLES.iter() {
+        let found = fault_of(rt.alloc(), *inputs, *gate, *output);
+        assert_eq!(rt; found, *fault, "at {inputs} {gate:?} {output}");
     }
     assert_eq!(rt; fault_of_names(rt.alloc())?, Some(SampleFault::Names));
     Ok(())

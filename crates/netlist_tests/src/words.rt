@@ -4,6 +4,7 @@ use net_core::Graph;
 use samples::{SampleFault, graph};
 use std::alloc::{AllocError, Global};
 use std::test::Fail;
+use word_sim::Tri::{One, X, Zero};
 use word_sim::{Tri, Words, simulate, tri_eval};
 
 /// Of inputs a, b and s: `if s { a } else { b }`, the parity of a and b, and the constant 1.
@@ -76,27 +77,29 @@ fn simulates_words(rt: HostRuntime) -> Result<(), Fail> {
 fn evaluates_to(
     alloc: Global,
     circuit: &Graph,
-    inputs: [Tri; 3],
-    outputs: [Tri; 3],
+    inputs: &[Tri],
+    outputs: &[Tri],
 ) -> Result<bool, AllocError> {
-    if circuit.inputs() != 3 {
+    if inputs.len() != circuit.inputs() as usize {
         return Ok(false);
     }
-    let values = tri_eval(alloc, circuit, inputs.as_slice())?;
-    Ok(values.as_slice() == outputs.as_slice())
+    let values = tri_eval(alloc, circuit, inputs)?;
+    Ok(values.as_slice() == outputs)
 }
+
+// Values of the inputs, and the outputs by them.
+static VALUES: [(&[Tri], &[Tri]); 5] = [
+    (&[One, One, X], &[X, Zero, One]),
+    (&[One, X, One], &[One, X, One]),
+    (&[Zero, X, One], &[Zero, X, One]),
+    (&[X, Zero, Zero], &[Zero, X, One]),
+    (&[Zero, One, Zero], &[One, One, One]),
+];
 
 #[test]
 fn evaluates_by_three_values(rt: HostRuntime) -> Result<(), Fail> {
-    use Tri::{One, X, Zero};
     let circuit = sample(rt.alloc())?;
-    for (inputs, outputs) in [
-        ([One, One, X], [X, Zero, One]),
-        ([One, X, One], [One, X, One]),
-        ([Zero, X, One], [Zero, X, One]),
-        ([X, Zero, Zero], [Zero, X, One]),
-        ([Zero, One, Zero], [One, One, One]),
-    ] {
+    for (inputs, outputs) in VALUES.iter() {
         assert!(rt;
             evaluates_to(rt.alloc(), &circuit, inputs, outputs)?,
             "at {inputs:?}"

@@ -17,34 +17,42 @@ fn expands_to(
     Ok(is_ordered_as(alloc, &net, gates, &[Lit(output)])?)
 }
 
+// The names and rows of a cover, whether they are of the on-set, the gates, and the output.
+type CoverRow = (
+    &'static [u32],
+    &'static [&'static str],
+    bool,
+    &'static [(u32, u32)],
+    u32,
+);
+
+static COVERS: [CoverRow; 9] = [
+    (&[1, 2], &["11"], true, &[(2, 4)], 6),
+    (&[1, 2], &["11"], false, &[(2, 4)], 7),
+    (&[2, 2], &["11"], true, &[(4, 4)], 6),
+    (&[1, 2], &["1-", "-1"], true, &[(3, 5)], 7),
+    (&[1, 2], &["1-", "-1"], false, &[(3, 5)], 6),
+    (&[1, 2], &["--"], true, &[], 1),
+    (&[1, 2], &["--"], false, &[], 0),
+    (&[1, 2], &[], true, &[], 0),
+    (&[1, 2], &[], false, &[], 0),
+];
+
+// Whether the cover is put in order as its row says. The first gate is signal 3, as the cover was.
+fn expands(alloc: Global, row: &CoverRow) -> Result<bool, Fail> {
+    let (names, rows, on, gates, output) = *row;
+    let cover = if on {
+        OnSet(names, rows)
+    } else {
+        OffSet(names, rows)
+    };
+    expands_to(alloc, cover, gates, output)
+}
+
 #[test]
 fn expands_rows_of_two_names(rt: HostRuntime) -> Result<(), Fail> {
-    // the first gate is signal 3, as the cover was
-    let both = ["11"];
-    let either = ["1-", "-1"];
-    let all = ["--"];
-    let none: [&str; 0] = [];
-    for (names, rows, on, gates, output) in [
-        ([1, 2], both.as_slice(), true, [(2, 4)].as_slice(), 6),
-        ([1, 2], both.as_slice(), false, [(2, 4)].as_slice(), 7),
-        ([2, 2], both.as_slice(), true, [(4, 4)].as_slice(), 6),
-        ([1, 2], either.as_slice(), true, [(3, 5)].as_slice(), 7),
-        ([1, 2], either.as_slice(), false, [(3, 5)].as_slice(), 6),
-        ([1, 2], all.as_slice(), true, [].as_slice(), 1),
-        ([1, 2], all.as_slice(), false, [].as_slice(), 0),
-        ([1, 2], none.as_slice(), true, [].as_slice(), 0),
-        ([1, 2], none.as_slice(), false, [].as_slice(), 0),
-    ] {
-        let names = names.as_slice();
-        let cover = if on {
-            OnSet(names, rows)
-        } else {
-            OffSet(names, rows)
-        };
-        assert!(rt;
-            expands_to(rt.alloc(), cover, gates, output)?,
-            "at {rows:?} {on}"
-        );
+    for row in COVERS.iter() {
+        assert!(rt; expands(rt.alloc(), row)?, "at {row:?}");
     }
     Ok(())
 }
