@@ -26,7 +26,7 @@ use std::alloc::{AllocError, Global};
 use text_core::Span;
 
 /// A `.names` line and the rows behind it, so far.
-#[derive(Debug, Drop)]
+#[derive(Drop)]
 pub(crate) struct CoverSoFar {
     /// The signals of its operands.
     pub(crate) names: Items<u32>,
@@ -36,7 +36,7 @@ pub(crate) struct CoverSoFar {
 }
 
 /// What is read of the covers and the outputs.
-#[derive(Debug, Drop)]
+#[derive(Drop)]
 pub(crate) struct Covers {
     /// The definitions of the covers that are closed, in the order of the text.
     pub(crate) defs: Items<Def>,

@@ -6,7 +6,7 @@ ghost use Rattle.std.specs.Str.{bytes_eq};
 ghost use Rattle.blif_reader.specs.Directives.{from_word, passed_over};
 
 /// What a joined line of a BLIF file is.
-#[derive(Clone, Copy, Debug, PartialEq, Eq)]
+#[derive(Clone, Copy)]
 pub enum Directive {
     /// `.model`, with a name that isn't read.
     Model,

@@ -9,7 +9,7 @@ ghost use Rattle.blif_reader.specs.Reading.{words_left, lines_left, size_left, T
 use text_core::{Cursor, Span, is_blank, next_word};
 
 /// Goes over the joined lines of a file from its front.
-#[derive(Debug, Drop)]
+#[derive(Drop)]
 pub(crate) struct JoinedLines<'a> {
     /// What is left of the line that is being read, without its comment.
     line: Span<'a>,

@@ -12,7 +12,7 @@ use net_core::NetKind;
 use text_core::Span;
 
 /// What is known of the cover that the last `.names` line opened.
-#[derive(Clone, Copy, Debug)]
+#[derive(Clone, Copy)]
 pub(crate) struct OpenCover {
     /// How many operands it has.
     pub(crate) operands: usize,
@@ -21,7 +21,7 @@ pub(crate) struct OpenCover {
 }
 
 /// The words of a row.
-#[derive(Debug, Drop)]
+#[derive(Drop)]
 pub(crate) struct RowWords<'a> {
     /// A byte for each operand; None where the word for the output stands alone.
     pub(crate) literals: Option<Span<'a>>,

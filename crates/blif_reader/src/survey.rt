@@ -19,14 +19,14 @@ use std::alloc::{AllocError, AllocFailed, Global};
 use text_core::Span;
 
 /// A word that names a port.
-#[derive(Debug, Drop)]
+#[derive(Drop)]
 pub(crate) struct Port<'a> {
     pub(crate) kind: PortKind,
     pub(crate) word: Span<'a>,
 }
 
 /// What is known of the lines that were read.
-#[derive(Debug, Drop)]
+#[derive(Drop)]
 pub(crate) struct Survey<'a> {
     /// The words that name ports, in the order of the text.
     pub(crate) ports: Vec<Port<'a>>,
@@ -231,7 +231,7 @@ fn take_ports<'a>(
 }
 
 /// Why a line was not read. Its fault has no offset: that of the line's first word is known where the line is begun.
-#[derive(Clone, Copy, Debug, PartialEq, Eq)]
+#[derive(Clone, Copy)]
 pub(crate) enum LineStop {
     Fault(NetKind),
     Memory,
