@@ -14,7 +14,7 @@ use std::alloc::{AllocError, Global};
 use text_core::Cursor;
 
 /// The line of a gate: the literal that it defines, and the two literals that it is the AND of.
-#[derive(Clone, Copy, Debug)]
+#[derive(Clone, Copy)]
 pub(crate) struct AndLine {
     pub(crate) lhs: u32,
     pub(crate) a: u32,
@@ -22,7 +22,7 @@ pub(crate) struct AndLine {
 }
 
 /// The literals on the lines of the body, line by line.
-#[derive(Debug, Drop)]
+#[derive(Drop)]
 pub(crate) struct Literals {
     pub(crate) inputs: Vec<u32>,
     pub(crate) outputs: Vec<u32>,
@@ -30,7 +30,7 @@ pub(crate) struct Literals {
 }
 
 /// What is read of the lines behind the header.
-#[derive(Debug, Drop)]
+#[derive(Drop)]
 pub(crate) struct Body<'a> {
     pub(crate) literals: Literals,
     /// For each variable its place among those that are defined, counted from 1, and 0 where it is not defined.

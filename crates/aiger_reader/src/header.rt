@@ -13,7 +13,7 @@ use net_core::NetKind;
 use text_core::{Cursor, Span, next_word};
 
 /// The numbers behind the keyword, M I L O A, and whether one of the others, B C J F, is above 0.
-#[derive(Clone, Copy, Debug)]
+#[derive(Clone, Copy)]
 struct Numbers {
     variables: u32,
     inputs: u32,

@@ -18,7 +18,7 @@ pub(crate) const MOST_VARIABLES: u32 = 4_000_000;
 
 /// What a file announces in a header that is accepted: its form, the greatest variable, and how many inputs,
 /// outputs and gates follow. There are no latches and no properties.
-#[derive(Clone, Copy, Debug)]
+#[derive(Clone, Copy)]
 pub(crate) struct Header {
     pub(crate) binary: bool,
     pub(crate) variables: u32,

@@ -156,7 +156,7 @@ fn number_gates(
 
 /// A netlist in the numbers of its own: signal 0 is the constant, input i is signal i + 1, and then come the
 /// definitions, in the order of the file.
-#[derive(Debug, Drop)]
+#[derive(Drop)]
 pub(crate) struct Numbered {
     pub(crate) inputs: u32,
     pub(crate) defs: Vec<Def>,

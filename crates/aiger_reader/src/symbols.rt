@@ -16,21 +16,21 @@ use std::alloc::{AllocError, Global};
 use text_core::{Cursor, Span, decimal, put_decimal, word_length};
 
 /// The names of all ports, at their positions.
-#[derive(Debug, Drop)]
+#[derive(Drop)]
 pub(crate) struct Symbols {
     pub(crate) inputs: Items<Name>,
     pub(crate) outputs: Items<Name>,
 }
 
 // A slot for each port, at its position, with the name that is given to it so far.
-#[derive(Debug, Drop)]
+#[derive(Drop)]
 struct PortSlots {
     inputs: Vec<Option<Name>>,
     outputs: Vec<Option<Name>>,
 }
 
 // A name that a line gives to a port.
-#[derive(Clone, Copy, Debug)]
+#[derive(Clone, Copy)]
 struct Symbol<'a> {
     kind: PortKind,
     position: u64,
@@ -38,7 +38,7 @@ struct Symbol<'a> {
 }
 
 // Why a line's name was not added.
-#[derive(Clone, Copy, Debug)]
+#[derive(Clone, Copy)]
 enum SymbolStop {
     // The line gives no name, or not to a port that is there and has none.
     Bad,
