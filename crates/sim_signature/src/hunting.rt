@@ -61,11 +61,23 @@ fn hunt_all(alloc: Global, graph: &Graph, output: u32) -> Result<Vec<Sighting>, 
         → ShapeFails graph.now output shape
         → IsSighted shape sightings.items) }
 {
-    let mut sightings = Vec::new(alloc);
     let cone = Cone::new(alloc, graph, output)?;
+    hunt_vectors(alloc, &cone)
+}
+
+/// Looks among all vectors of a circuit's output.
+fn hunt_vectors(alloc: Global, cone: &Cone<'_>) -> Result<Vec<Sighting>, AllocError>
+    requires { cone.now.net.inputs ≤ 6 }
+    ensures broken { IfOk result (λ sightings. AreBroken cone.now.net cone.now.output sightings.items) }
+    ensures all { IfOk result (λ sightings. (shape : Shape)
+        → IsPlaced cone.now.net.inputs shape
+        → ShapeFails cone.now.net cone.now.output shape
+        → IsSighted shape sightings.items) }
+{
+    let mut sightings = Vec::new(alloc);
     let inputs = vec![in alloc; true; cone.inputs() as usize]?;
     let claims = claims(alloc, &inputs)?;
-    let mut round = Round::new(alloc, &cone, all_vectors(alloc, cone.inputs())?)?;
+    let mut round = Round::new(alloc, cone, all_vectors(alloc, cone.inputs())?)?;
     round.sight_all(&claims, &mut sightings)?;
     Ok(sightings)
 }

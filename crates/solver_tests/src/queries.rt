@@ -125,14 +125,9 @@ const WHERE_FALSE: [&[u64]; 9] = [
 
 #[test]
 fn asks_for_a_difference(rt: HostRuntime) -> Result<(), Fail> {
-    assert_eq!(rt;
-        wrong_difference_clause(rt.alloc(), true, &WHERE_TRUE)?,
-        None
-    );
-    assert_eq!(rt;
-        wrong_difference_clause(rt.alloc(), false, &WHERE_FALSE)?,
-        None
-    );
+    let where_true = wrong_difference_clause(rt.alloc(), true, &WHERE_TRUE)?;
+    let where_false = wrong_difference_clause(rt.alloc(), false, &WHERE_FALSE)?;
+    assert_eq!(rt; (where_true, where_false), (None, None));
     Ok(())
 }
 
@@ -165,13 +160,24 @@ fn rise_query(alloc: Global, graphs: &Graphs) -> Result<Option<Query>, AllocErro
     Ok(Some(query))
 }
 
-fn wrong_rise_clause(
+fn wrong_clause_of_rise(
     alloc: Global,
     graphs: &Graphs,
     wanted: &[&[u64]],
 ) -> Result<Option<u64>, Fail> {
     let query = rise_query(alloc, graphs)?.ok_or("no port")?;
     Ok(wrong_clause_of(alloc, graphs, &query, wanted)?)
+}
+
+fn wrong_rise_clause(
+    alloc: Global,
+    inputs: u32,
+    gates: &[(u32, u32)],
+    output: u32,
+    wanted: &[&[u64]],
+) -> Result<Option<u64>, Fail> {
+    let graphs = circuits_of(alloc, inputs, gates, output)?;
+    wrong_clause_of_rise(alloc, &graphs, wanted)
 }
 
 /// The clauses of an AND of inputs 0 and 1: it reads input 0, whose feeds differ.
@@ -208,10 +214,9 @@ const SHARED_GATE: [&[u64]; 15] = [
 
 #[test]
 fn shares_gates_that_reach_no_difference(rt: HostRuntime) -> Result<(), Fail> {
-    let own = circuits_of(rt.alloc(), 2, &[(2, 4)], 6)?;
-    assert_eq!(rt; wrong_rise_clause(rt.alloc(), &own, &OWN_GATE)?, None);
-    let shared = circuits_of(rt.alloc(), 3, &[(4, 6), (8, 2)], 10)?;
-    assert_eq!(rt; wrong_rise_clause(rt.alloc(), &shared, &SHARED_GATE)?, None);
+    let own = wrong_rise_clause(rt.alloc(), 2, &[(2, 4)], 6, &OWN_GATE)?;
+    let shared = wrong_rise_clause(rt.alloc(), 3, &[(4, 6), (8, 2)], 10, &SHARED_GATE)?;
+    assert_eq!(rt; (own, shared), (None, None));
     Ok(())
 }
 
