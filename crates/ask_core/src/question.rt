@@ -1,6 +1,8 @@
 //! One question, asked.
 
-ghost use Rattle.std.specs.Prelude.{◌≡◌, false, IfOk, IfErr};
+ghost use Rattle.std.specs.Prelude.{◌≡◌, ◌<◌, ◌↔◌, ℕ, false, All, Contains, IfOk, IfErr, length};
+ghost use Rattle.query_core.specs.Formulas.{query_clauses};
+ghost use Rattle.query_core.specs.ConeClauses.{IsConeId};
 ghost use Rattle.query_core.specs.Queries.{IsQuery};
 ghost use Rattle.ask_core.specs.Answers.{IsAnswer, IsAskedIn, IsPaidFor, IsStopped};
 
@@ -41,8 +43,31 @@ pub fn ask(
 {
     let base = QueryBase::new(alloc, graphs, query)?;
     let ids = cone_ids(alloc, &base)?;
+    ask_cones(alloc, graphs, query, &base, &ids, ledger)
+}
+
+// Answers a query by the clauses of these numbers, which are those of its cones.
+fn ask_cones(
+    alloc: Global,
+    graphs: &Graphs,
+    query: &Query,
+    base: &QueryBase<'_>,
+    ids: &[u64],
+    ledger: &mut Ledger,
+) -> Result<Answer, Stop>
+    requires fits { IsQuery graphs.now query.now }
+    requires of_query { base.now ≡ record { graphs = graphs.now; query = query.now } }
+    requires there { All (λ id. id < length (query_clauses base.now.graphs base.now.query)) ids.now }
+    requires cones { (id : ℕ) → (Contains ids.now id ↔ IsConeId base.now.graphs base.now.query id) }
+    requires not_spent { ledger.old.spent ≡ false }
+    ensures answer { IfOk result (IsAnswer graphs.now query.now) }
+    ensures asked { IfOk result (λ _. IsAskedIn graphs.now query.now ledger.old ledger.new) }
+    ensures paid_for { IfOk result (IsPaidFor ledger.new) }
+    ensures not_spent { IfOk result (λ _. ledger.new.spent ≡ false) }
+    ensures stop { IfErr result (IsStopped graphs.now query.now ledger.old ledger.new) }
+{
     ledger.open(alloc, query, &[])?;
-    let mut solver = Solver::new(alloc, &base, &ids, &[])?;
+    let mut solver = Solver::new(alloc, base, ids, &[])?;
     match solve(alloc, &mut solver, ledger)? {
         Verdict::Model(values) => {
             let vector = vector_of(alloc, graphs, query, &values)?;

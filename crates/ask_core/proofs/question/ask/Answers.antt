@@ -1,54 +1,15 @@
--- A query's answer is that of a solver for the clauses of its cones.
-use Rattle.std.proofs.Common.{Bool, List, ℕ, All, length, sym, subst, ◌∙◌, ◌<◌}
-use Rattle.learn_solver.specs.declared.verdict.Verdict.{Verdict}
-use Rattle.learn_solver.specs.Solvers.{IsVerdict}
-use Rattle.learn_solver.proofs.StepLemmas.{passed_on}
+-- The numbers are those of the cones' clauses.
+use Rattle.std.proofs.Common.{List, ℕ, All, Contains, length, sym, subst, ◌↔◌, ◌<◌}
 use Rattle.query_core.specs.Formulas.{query_clauses}
-use Rattle.query_core.specs.ConeClauses.{MeetsCones}
-use Rattle.ask_core.specs.Answers.{IsStopped}
-use Rattle.ask_core.proofs.AskLemmas.{asked_in, made_of_cones, meets_cones, stopped_in}
+use Rattle.query_core.specs.ConeClauses.{IsConeId}
 use Rattle.ask_core.proofs.question.ask.Goals as goal
 
-pub new-requires-2-clause-ids : goal.new-requires-2-clause-ids
-new-requires-2-clause-ids c =
+pub ask_cones-requires-clause-there : goal.ask_cones-requires-clause-there
+ask_cones-requires-clause-there c =
     let base = c.in_ok-base.base in
     subst (λ (xs : List ℕ). All (λ id. id < length (query_clauses base.graphs base.query)) xs) (sym c.deref.ensures.value) c.in_ok-ids.ensures.there
 
-pub returns-in_err-values-clause-stop : goal.returns-in_err-values-clause-stop
-returns-in_err-values-clause-stop c =
-    let graphs = c.args.graphs.now in
-    let query = c.args.query.now in
-    let s = c.in_ok-solver.solver in
-    let of = made_of_cones graphs query c.in_ok-base.base c.in_ok-ids.ids.items c.deref.result.now s c.in_ok-base.ensures c.deref.ensures.value c.in_ok-ids.ensures.cones c.in_ok-solver.ensures in
-    let stop = c.in_err-values.field-0.0 in
-    passed_on c.from_residual-in_err-values.result stop (IsStopped graphs query c.args.ledger.now c.solve.new.ledger) c.from_residual-in_err-values.ensures.1 (stopped_in graphs query s c.solve.new.solver c.args.ledger.now c.open.new.self c.solve.new.ledger stop of c.in_ok-open.ensures.opened c.in_err-values.ensures.stop)
-
-pub vector_of-requires-clause-meets : goal.vector_of-requires-clause-meets
-vector_of-requires-clause-meets c =
-    let graphs = c.args.graphs.now in
-    let query = c.args.query.now in
-    let s = c.in_ok-solver.solver in
-    let of = made_of_cones graphs query c.in_ok-base.base c.in_ok-ids.ids.items c.deref.result.now s c.in_ok-base.ensures c.deref.ensures.value c.in_ok-ids.ensures.cones c.in_ok-solver.ensures in
-    let model = subst (λ (v : Verdict). IsVerdict c.solve.new.solver v) c.in-Model.is c.in_ok-values.ensures.verdict in
-    subst (λ (bs : List Bool). MeetsCones graphs query bs) (sym c.deref-in-Model.ensures.value) (meets_cones graphs query s c.solve.new.solver c.open.new.self c.solve.new.ledger c.in-Model.values of c.in_ok-values.ensures.lines model.meets)
-
-pub returns-in-Model-clause-asked : goal.returns-in-Model-clause-asked
-returns-in-Model-clause-asked c =
-    let graphs = c.args.graphs.now in
-    let query = c.args.query.now in
-    let s = c.in_ok-solver.solver in
-    let of = made_of_cones graphs query c.in_ok-base.base c.in_ok-ids.ids.items c.deref.result.now s c.in_ok-base.ensures c.deref.ensures.value c.in_ok-ids.ensures.cones c.in_ok-solver.ensures in
-    asked_in graphs query s c.solve.new.solver c.args.ledger.now c.open.new.self c.solve.new.ledger of c.in_ok-open.ensures.opened c.in_ok-values.ensures.lines
-
-pub returns-clause-asked : goal.returns-clause-asked
-returns-clause-asked c =
-    let graphs = c.args.graphs.now in
-    let query = c.args.query.now in
-    let s = c.in_ok-solver.solver in
-    let of = made_of_cones graphs query c.in_ok-base.base c.in_ok-ids.ids.items c.deref.result.now s c.in_ok-base.ensures c.deref.ensures.value c.in_ok-ids.ensures.cones c.in_ok-solver.ensures in
-    asked_in graphs query s c.solve.new.solver c.args.ledger.now c.open.new.self c.solve.new.ledger of c.in_ok-open.ensures.opened c.in_ok-values.ensures.lines
-
-pub returns-clause-paid_for : goal.returns-clause-paid_for
-returns-clause-paid_for c =
-    let refuted = subst (λ (v : Verdict). IsVerdict c.solve.new.solver v) c.in-Refuted.is c.in_ok-values.ensures.verdict in
-    refuted.lines_are ∙ sym c.in_ok-values.ensures.not_spent.lines_are
+pub ask_cones-requires-clause-cones : goal.ask_cones-requires-clause-cones
+ask_cones-requires-clause-cones c =
+    let base = c.in_ok-base.base in
+    subst (λ (xs : List ℕ). (id : ℕ) → (Contains xs id ↔ IsConeId base.graphs base.query id)) (sym c.deref.ensures.value) c.in_ok-ids.ensures.cones
