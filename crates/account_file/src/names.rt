@@ -9,7 +9,7 @@ use circuits::PortKind;
 use net_core::Side;
 
 /// The first word of a record's line.
-#[derive(Clone, Copy, Debug, Drop, PartialEq, Eq)]
+#[derive(Clone, Copy, Drop)]
 pub enum RecordName {
     Header,
     Fails,
@@ -22,7 +22,7 @@ pub enum RecordName {
 }
 
 /// The name of a claim's shape.
-#[derive(Clone, Copy, Debug, Drop, PartialEq, Eq)]
+#[derive(Clone, Copy, Drop)]
 pub enum ShapeName {
     Up,
     Down,
@@ -30,7 +30,7 @@ pub enum ShapeName {
 }
 
 /// The name of a ban's step.
-#[derive(Clone, Copy, Debug, Drop, PartialEq, Eq)]
+#[derive(Clone, Copy, Drop)]
 pub enum StepName {
     Vector,
     Mismatch,
@@ -39,7 +39,7 @@ pub enum StepName {
 }
 
 /// Why there is no match.
-#[derive(Clone, Copy, Debug, Drop, PartialEq, Eq)]
+#[derive(Clone, Copy, Drop)]
 pub enum NoneName {
     Ports,
     Ban,

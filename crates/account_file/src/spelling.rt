@@ -204,28 +204,44 @@ fn put_step(step: &Step, out: &mut Vec<u8>) -> Result<(), AllocError>
             put_number(*fails, out)?;
             put_number(*holds, out)
         }
-        Step::Tally { kind, have, lack } => {
-            out.extend_from_slice(b" tally")?;
-            put_tallied(*kind, out)?;
-            put_numbers(have, out)?;
-            out.extend_from_slice(b" /")?;
-            put_numbers(lack, out)
-        }
+        Step::Tally { kind, have, lack } => put_tally(*kind, have, lack, out),
         Step::Cover {
             kind,
             from,
             to,
             refs,
-        } => {
-            out.extend_from_slice(b" cover")?;
-            put_port_kind(*kind, out)?;
-            put_ports(from, out)?;
-            out.extend_from_slice(b" /")?;
-            put_ports(to, out)?;
-            out.extend_from_slice(b" /")?;
-            put_references(refs, out)
-        }
+        } => put_cover(*kind, from, to, refs, out),
     }
+}
+
+fn put_tally(kind: Tallied, have: &[u64], lack: &[u64], out: &mut Vec<u8>) -> Result<(), AllocError>
+    ensures { OnOk result (out.new.items ≡ out.old.items
+        ++ spaced (step_words (Step.Tally kind have.now lack.now))) }
+{
+    out.extend_from_slice(b" tally")?;
+    put_tallied(kind, out)?;
+    put_numbers(have, out)?;
+    out.extend_from_slice(b" /")?;
+    put_numbers(lack, out)
+}
+
+fn put_cover(
+    kind: PortKind,
+    from: &[u32],
+    to: &[u32],
+    refs: &[Option<u64>],
+    out: &mut Vec<u8>,
+) -> Result<(), AllocError>
+    ensures { OnOk result (out.new.items ≡ out.old.items
+        ++ spaced (step_words (Step.Cover kind from.now to.now refs.now))) }
+{
+    out.extend_from_slice(b" cover")?;
+    put_port_kind(kind, out)?;
+    put_ports(from, out)?;
+    out.extend_from_slice(b" /")?;
+    put_ports(to, out)?;
+    out.extend_from_slice(b" /")?;
+    put_references(refs, out)
 }
 
 fn put_tallied(kind: Tallied, out: &mut Vec<u8>) -> Result<(), AllocError>

@@ -18,7 +18,7 @@ use std::alloc::Global;
 use text_core::line_length;
 
 /// What is done with the bytes that are left.
-#[derive(Debug, Drop)]
+#[derive(Drop)]
 pub enum Step {
     /// Nothing.
     Wait,
