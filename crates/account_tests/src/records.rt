@@ -137,7 +137,7 @@ fn put_next(alloc: Global, reader: &mut Reader, text: &mut Vec<u8>) -> Result<bo
     let Some(entry) = reader.next(alloc)? else {
         return Ok(false);
     };
-    put_record(&entry, text)?;
+    put_entry(entry, text)?;
     Ok(true)
 }
 
@@ -274,103 +274,112 @@ fn reads_what_was_written_byte_by_byte(rt: HostRuntime) -> Result<(), Fail> {
     Ok(())
 }
 
-/// How a text ends.
-fn ending_of(alloc: Global, account: &[u8]) -> Result<Ending, AllocError> {
+/// How an account ends.
+fn ending_of(alloc: Global, account: &str) -> Result<Ending, AllocError> {
     let mut text = Vec::new(alloc);
-    read_cut(alloc, account, account.len() / 2, &mut text)
+    read_cut(alloc, account.as_bytes(), account.len() / 2, &mut text)
 }
 
-/// Texts that don't begin with the header, and the fault.
-const NO_HEADERS: &[(&str, RecordFault)] = &[
-    ("", RecordFault::Truncated),
-    ("npnp 1", RecordFault::Truncated),
-    ("npnp 9\n", RecordFault::Header),
-    ("\nnpnp 1\n", RecordFault::Header),
-    ("end\n", RecordFault::Header),
-];
-
-#[test]
-fn wants_a_header(rt: HostRuntime) -> Result<(), Fail> {
-    for (account, fault) in NO_HEADERS.iter() {
-        let ending = ending_of(rt.alloc(), account.as_bytes())?;
-        assert_eq!(rt; ending, (Some(*fault), 1), "at {account:?}");
-    }
-    Ok(())
-}
-
-/// How a text of the header and these lines ends.
-fn ending_behind_header(alloc: Global, lines: &str) -> Result<Ending, AllocError> {
-    let mut account = b"npnp 1\n".to_vec(alloc)?;
-    account.extend_from_slice(lines.as_bytes())?;
-    ending_of(alloc, &account)
-}
-
-/// Lines behind the header, the fault of the last, and its number.
-const BAD_LINES: &[(&str, RecordFault, u64)] = &[
+/// Texts whose last line is wrong, its fault and its number.
+static BAD_TEXTS: [(&str, RecordFault, u64); 50] = [
+    // the first line isn't the header
+    ("", RecordFault::Truncated, 1),
+    ("npnp 1", RecordFault::Truncated, 1),
+    ("npnp 9\n", RecordFault::Header, 1),
+    ("\nnpnp 1\n", RecordFault::Header, 1),
+    ("end\n", RecordFault::Header, 1),
     // a word doesn't fit
-    ("foils b 0 up 0 =01\n", RecordFault::Word, 2),
-    ("\n", RecordFault::Word, 2),
-    ("npnp 7\n", RecordFault::Word, 2),
-    ("none\tports\n", RecordFault::Word, 2),
-    ("match\ti0+0\n", RecordFault::Word, 2),
-    ("match i0+0 \n", RecordFault::Word, 2),
-    ("match i00+0\n", RecordFault::Word, 2),
-    ("match i4294967296+0\n", RecordFault::Word, 2),
-    ("match 7\n", RecordFault::Word, 2),
-    ("l 7 1\n", RecordFault::Word, 2),
-    ("l 7  : 1\n", RecordFault::Word, 2),
-    ("fails c 0 up 0 =01\n", RecordFault::Word, 2),
-    ("fails 7 0 up 0 =01\n", RecordFault::Word, 2),
-    ("fails a 0 up 0 01\n", RecordFault::Word, 2),
-    ("fails a 0 up 0 =x\n", RecordFault::Word, 2),
-    ("fails a 0 swap 0 1 2 =01\n", RecordFault::Word, 2),
-    ("holds a 0 swap 0 1\n", RecordFault::Word, 2),
-    ("holds a 0 up 0 =01\n", RecordFault::Word, 2),
-    ("ban i0+0 7 : mismatch 0 1\n", RecordFault::Word, 2),
-    ("ban : cover in 0 / 0\n", RecordFault::Word, 2),
-    ("ban : cover in 0 / 0 / 1 -0\n", RecordFault::Word, 2),
-    ("none ban\n", RecordFault::Word, 2),
-    // a number is too large or has a leading zero
-    ("l 07 : 1\n", RecordFault::Number, 2),
-    ("l 7 : 18446744073709551616\n", RecordFault::Number, 2),
-    ("fails a 4294967296 up 0 =01\n", RecordFault::Number, 2),
-    ("fails a 007\n", RecordFault::Number, 2),
-    ("holds b 0 swap 0 4294967296 01\n", RecordFault::Number, 2),
-    ("ban : mismatch 0 01\n", RecordFault::Number, 2),
+    ("npnp 1\nfoils b 0 up 0 =01\n", RecordFault::Word, 2),
+    ("npnp 1\n\n", RecordFault::Word, 2),
+    ("npnp 1\nnpnp 7\n", RecordFault::Word, 2),
+    ("npnp 1\nnone\tports\n", RecordFault::Word, 2),
+    ("npnp 1\nmatch\ti0+0\n", RecordFault::Word, 2),
+    ("npnp 1\nmatch i0+0 \n", RecordFault::Word, 2),
+    ("npnp 1\nmatch i00+0\n", RecordFault::Word, 2),
+    ("npnp 1\nmatch i4294967296+0\n", RecordFault::Word, 2),
+    ("npnp 1\nmatch 7\n", RecordFault::Word, 2),
+    ("npnp 1\nl 7 1\n", RecordFault::Word, 2),
+    ("npnp 1\nl 7  : 1\n", RecordFault::Word, 2),
+    ("npnp 1\nfails c 0 up 0 =01\n", RecordFault::Word, 2),
+    ("npnp 1\nfails 7 0 up 0 =01\n", RecordFault::Word, 2),
+    ("npnp 1\nfails a 0 up 0 01\n", RecordFault::Word, 2),
+    ("npnp 1\nfails a 0 up 0 =x\n", RecordFault::Word, 2),
+    ("npnp 1\nfails a 0 swap 0 1 2 =01\n", RecordFault::Word, 2),
+    ("npnp 1\nholds a 0 swap 0 1\n", RecordFault::Word, 2),
+    ("npnp 1\nholds a 0 up 0 =01\n", RecordFault::Word, 2),
+    ("npnp 1\nban i0+0 7 : mismatch 0 1\n", RecordFault::Word, 2),
+    ("npnp 1\nban : cover in 0 / 0\n", RecordFault::Word, 2),
     (
-        "ban : tally support 0 / 18446744073709551616\n",
+        "npnp 1\nban : cover in 0 / 0 / 1 -0\n",
+        RecordFault::Word,
+        2,
+    ),
+    ("npnp 1\nnone ban\n", RecordFault::Word, 2),
+    // a number is too large or has a leading zero
+    ("npnp 1\nl 07 : 1\n", RecordFault::Number, 2),
+    (
+        "npnp 1\nl 7 : 18446744073709551616\n",
         RecordFault::Number,
         2,
     ),
-    ("ban : cover out 0 / 0 / - 00\n", RecordFault::Number, 2),
-    ("none ban 02\n", RecordFault::Number, 2),
-    // the last is out of order
-    ("npnp 1\n", RecordFault::Order, 2),
-    ("end\n", RecordFault::Order, 2),
-    ("l : 0\n", RecordFault::Order, 2),
-    ("match i0-0 i1-1 o0-0\nend\n", RecordFault::Order, 3),
-    ("match\nl : 0\n", RecordFault::Order, 3),
-    ("holds a 0 up 0\nnone ports\n", RecordFault::Order, 3),
     (
-        "holds a 0 up 0\nl 7 : 1\nban : mismatch 0 1\n",
+        "npnp 1\nfails a 4294967296 up 0 =01\n",
+        RecordFault::Number,
+        2,
+    ),
+    ("npnp 1\nfails a 007\n", RecordFault::Number, 2),
+    (
+        "npnp 1\nholds b 0 swap 0 4294967296 01\n",
+        RecordFault::Number,
+        2,
+    ),
+    ("npnp 1\nban : mismatch 0 01\n", RecordFault::Number, 2),
+    (
+        "npnp 1\nban : tally support 0 / 18446744073709551616\n",
+        RecordFault::Number,
+        2,
+    ),
+    (
+        "npnp 1\nban : cover out 0 / 0 / - 00\n",
+        RecordFault::Number,
+        2,
+    ),
+    ("npnp 1\nnone ban 02\n", RecordFault::Number, 2),
+    // the last is out of order
+    ("npnp 1\nnpnp 1\n", RecordFault::Order, 2),
+    ("npnp 1\nend\n", RecordFault::Order, 2),
+    ("npnp 1\nl : 0\n", RecordFault::Order, 2),
+    ("npnp 1\nmatch i0-0 i1-1 o0-0\nend\n", RecordFault::Order, 3),
+    ("npnp 1\nmatch\nl : 0\n", RecordFault::Order, 3),
+    (
+        "npnp 1\nholds a 0 up 0\nnone ports\n",
+        RecordFault::Order,
+        3,
+    ),
+    (
+        "npnp 1\nholds a 0 up 0\nl 7 : 1\nban : mismatch 0 1\n",
         RecordFault::Order,
         4,
     ),
-    ("fails a 0 up 0 =0\nl : 0\n", RecordFault::Order, 3),
-    ("none ports\nban : mismatch 0 1\n", RecordFault::Order, 3),
+    ("npnp 1\nfails a 0 up 0 =0\nl : 0\n", RecordFault::Order, 3),
+    (
+        "npnp 1\nnone ports\nban : mismatch 0 1\n",
+        RecordFault::Order,
+        3,
+    ),
     // the end comes too early or too late
-    ("match\nend", RecordFault::Truncated, 3),
-    ("holds a 0 up 0\nl : 0\n", RecordFault::Truncated, 4),
-    ("none ports\n", RecordFault::Truncated, 3),
-    ("match\nend\nx", RecordFault::Trailing, 4),
-    ("none ban 0\nend\n\n", RecordFault::Trailing, 4),
+    ("npnp 1\nmatch\nend", RecordFault::Truncated, 3),
+    ("npnp 1\nholds a 0 up 0\nl : 0\n", RecordFault::Truncated, 4),
+    ("npnp 1\nnone ports\n", RecordFault::Truncated, 3),
+    ("npnp 1\nmatch\nend\nx", RecordFault::Trailing, 4),
+    ("npnp 1\nnone ban 0\nend\n\n", RecordFault::Trailing, 4),
 ];
 
 #[test]
 fn names_the_first_fault(rt: HostRuntime) -> Result<(), Fail> {
-    for (lines, fault, line) in BAD_LINES.iter() {
-        let ending = ending_behind_header(rt.alloc(), lines)?;
-        assert_eq!(rt; ending, (Some(*fault), *line), "at {lines:?}");
+    for (text, fault, line) in BAD_TEXTS.iter() {
+        let ending = ending_of(rt.alloc(), text)?;
+        assert_eq!(rt; ending, (Some(*fault), *line), "in {text:?}");
     }
     Ok(())
 }
