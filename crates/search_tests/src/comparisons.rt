@@ -1,6 +1,7 @@
 //! Outputs that are compared with those that a matching sends them to.
 
 ghost use Rattle.std.specs.Prelude.{◌≡◌, IsTrue, length};
+ghost use Rattle.circuits.specs.Matches.{HavePorts};
 
 use crate::circuits::{AND, OR, pair};
 use account_core::{Compared, Oracle};
@@ -31,14 +32,16 @@ fn told(answer: &Result<Compared, Stop>) -> Comparison {
     }
 }
 
-/// Whether two circuits have as many inputs, and one output each.
-fn have_one_output(graphs: &Graphs) -> bool
-    ensures inputs { IsTrue result → graphs.now.first.inputs ≡ graphs.now.second.inputs }
-    ensures first { IsTrue result → length graphs.now.first.outputs ≡ 1 }
-    ensures second { IsTrue result → length graphs.now.second.outputs ≡ 1 }
+/// Whether a matching is of the ports of two circuits of one output each.
+fn are_ports(graphs: &Graphs, matching: &Matching) -> bool
+    ensures ports { IsTrue result
+        → HavePorts graphs.now.first graphs.now.second matching.now.inputs matching.now.outputs }
+    ensures output { IsTrue result → length graphs.now.first.outputs ≡ 1 }
 {
-    let alike = graphs.first.inputs() == graphs.second.inputs();
-    alike & (graphs.first.outputs().len() == 1) & (graphs.second.outputs().len() == 1)
+    let inputs = graphs.first.inputs();
+    let alike = inputs == graphs.second.inputs();
+    let single = (graphs.first.outputs().len() == 1) & (graphs.second.outputs().len() == 1);
+    alike & single & matching.check_shape(inputs, 1)
 }
 
 /// What a new book says of output 0 and its partner.
@@ -48,10 +51,7 @@ fn compared(
     matching: &Matching,
     budget: u64,
 ) -> Result<Comparison, AllocError> {
-    if !have_one_output(graphs) {
-        return Ok(Comparison::Unfit);
-    }
-    if !matching.check_shape(graphs.first.inputs(), 1) {
+    if !are_ports(graphs, matching) {
         return Ok(Comparison::Unfit);
     }
     let mut book = FactBook::new(alloc, graphs, 1)?;
