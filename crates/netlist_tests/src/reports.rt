@@ -21,7 +21,7 @@ fn circuit(alloc: Global, inputs: &[&[u8]], outputs: &[&[u8]]) -> Result<Named, 
 }
 
 // Whether the port table is written as this text, behind a byte that stands there before.
-fn is_written(
+fn is_table_written(
     alloc: Global,
     first: &Named,
     second: &Named,
@@ -40,6 +40,19 @@ fn is_written(
     Ok(out.as_slice() == text)
 }
 
+// The same of a table with these entries.
+fn is_written(
+    alloc: Global,
+    first: &Named,
+    second: &Named,
+    inputs: &[(u32, bool)],
+    outputs: &[(u32, bool)],
+    text: &[u8],
+) -> Result<bool, AllocError> {
+    let table = matching(alloc, inputs, outputs)?;
+    is_table_written(alloc, first, second, &table, text)
+}
+
 fn first(alloc: Global) -> Result<Named, SampleFault> {
     circuit(alloc, &[b"a b", b"\xff"], &[b""])
 }
@@ -50,19 +63,22 @@ fn second(alloc: Global) -> Result<Named, SampleFault> {
 
 // Whether the table of both circuits is written well, in either direction.
 fn are_written(alloc: Global, first: &Named, second: &Named) -> Result<bool, AllocError> {
-    let table = matching(alloc, &[(1, true), (0, false)], &[(0, true)])?;
+    let inputs = [(1, true), (0, false)];
+    let outputs = [(0, true)];
     let forth = is_written(
         alloc,
         first,
         second,
-        &table,
+        inputs.as_slice(),
+        outputs.as_slice(),
         b">input 0 a b = not input 1 = not \ninput 1 \xff = input 0 i0\noutput 0  = not output 0 y\n",
     )?;
     let back = is_written(
         alloc,
         second,
         first,
-        &table,
+        inputs.as_slice(),
+        outputs.as_slice(),
         b">input 0 i0 = not input 1 \xff\ninput 1 = not  = input 0 a b\noutput 0 y = not output 0 \n",
     )?;
     Ok(forth & back)
@@ -79,8 +95,7 @@ fn writes_port_tables(rt: HostRuntime) -> Result<(), Fail> {
 #[test]
 fn writes_nothing_of_no_ports(rt: HostRuntime) -> Result<(), Fail> {
     let empty = circuit(rt.alloc(), &[], &[])?;
-    let table = matching(rt.alloc(), &[], &[])?;
-    assert!(rt; is_written(rt.alloc(), &empty, &empty, &table, b">")?);
+    assert!(rt; is_written(rt.alloc(), &empty, &empty, &[], &[], b">")?);
     Ok(())
 }
 
