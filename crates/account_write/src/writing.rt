@@ -1,6 +1,6 @@
 //! The account of what a search came to, as text.
 
-ghost use Rattle.std.specs.Prelude.{◌≡◌, ◌++◌, ◌<◌, ◌^◌, All, IfOk, OnOk, length};
+ghost use Rattle.std.specs.Prelude.{◌≡◌, ◌++◌, ◌<◌, ◌^◌, All, IfOk, OnErr, OnOk, length};
 ghost use Rattle.std.specs.List.{flat_map};
 ghost use Rattle.account_file.specs.declared.record.Record.TheVariants as AnyRecord;
 ghost use Rattle.account_file.specs.declared.record.Record.TheVariants.{End};
@@ -92,16 +92,18 @@ pub fn put_none_ports(out: &mut Vec<u8>) -> Result<(), AllocError>
     put_entry(Record::Conclusion(Conclusion::NonePorts), out)
 }
 
-/// Writes the last line of an account at the end of `out`.
+/// Writes the last line of an account at the end of `out`. Want of memory leaves `out` as it was.
 pub fn put_end(out: &mut Vec<u8>) -> Result<(), AllocError>
-    ensures { OnOk result (out.new.items ≡ out.old.items ++ record_line End) }
+    ensures line { OnOk result (out.new.items ≡ out.old.items ++ record_line End) }
+    ensures refused { OnErr result (out.new.items ≡ out.old.items) }
 {
     put_entry(Record::End, out)
 }
 
 // Writes a record.
 fn put_entry(entry: Record, out: &mut Vec<u8>) -> Result<(), AllocError>
-    ensures { OnOk result (out.new.items ≡ out.old.items ++ record_line entry) }
+    ensures line { OnOk result (out.new.items ≡ out.old.items ++ record_line entry) }
+    ensures refused { OnErr result (out.new.items ≡ out.old.items) }
 {
     put_record(&entry, out)
 }

@@ -1,9 +1,10 @@
 //! Vectors that pairs are tried on, before anything is asked.
 
-ghost use Rattle.std.specs.Prelude.{◌≡◌, ◌<◌, All, Contains, IfOk, IfSome, OnOk, length};
+ghost use Rattle.std.specs.Prelude.{◌≡◌, ◌+◌, ◌<◌, ◌%◌, All, Contains, IfOk, IfSome, OnOk, length};
 ghost use Rattle.circuits.specs.declared.port.PortKind.TheVariants.{Input, Output};
 ghost use Rattle.account_core.specs.Ports.{IsKnown};
-ghost use Rattle.table_guess.specs.Trials.{AreTrials, IsSuspect};
+ghost use Rattle.table_guess.specs.Trials.{AreComputed, AreTrials, IsSuspect, IsVectorOf};
+ghost use Rattle.word_sim.specs.Columns.{vector_at};
 
 use crate::rails::{Rails, outputs_of};
 use crate::vectors::{first_vectors, put_vector};
@@ -35,7 +36,8 @@ pub struct Suspect {
 impl Trials {
     /// The vectors that a search begins with.
     pub fn new(alloc: Global, first: &Graph) -> Result<Trials, AllocError>
-        ensures { IfOk result (AreTrials first.now) }
+        ensures trials { IfOk result (AreTrials first.now) }
+        ensures computed { IfOk result (AreComputed first.now) }
     {
         let inputs = first_vectors(alloc, first.inputs())?;
         let outputs = simulate(alloc, first, &inputs)?;
@@ -52,7 +54,9 @@ impl Trials {
     pub fn keep(&mut self, alloc: Global, first: &Graph, vector: &Bits) -> Result<(), AllocError>
         requires trials { AreTrials first.now self.old }
         requires places { length vector.now ≡ first.now.inputs }
-        ensures { OnOk result (AreTrials first.now self.new) }
+        ensures trials { OnOk result (AreTrials first.now self.new) }
+        ensures computed { OnOk result (AreComputed first.now self.new) }
+        ensures next { OnOk result (self.new.next ≡ self.old.next % 64 + 1) }
     {
         let lane = self.next % 64;
         put_vector(vector, first.inputs(), lane, &mut self.inputs);
@@ -61,8 +65,8 @@ impl Trials {
         Ok(())
     }
 
-    /// An output's pair among those that are held, and a vector, on which the partner is said to be wrong whatever the
-    /// inputs have that aren't paired.
+    /// An output's pair among those that are held, and one of the vectors, on which the partner is said to be wrong
+    /// whatever the inputs have that aren't paired.
     pub fn suspect(
         &self,
         alloc: Global,
@@ -71,7 +75,8 @@ impl Trials {
     ) -> Result<Option<Suspect>, AllocError>
         requires trials { AreTrials graphs.now.first self.now }
         requires known { All (IsKnown graphs.now) held.now }
-        ensures { IfOk result (λ found. IfSome found (IsSuspect graphs.now held.now)) }
+        ensures suspect { IfOk result (λ found. IfSome found (IsSuspect graphs.now held.now)) }
+        ensures vector { IfOk result (λ found. IfSome found (λ suspect. IsVectorOf self.now.inputs suspect.vector)) }
     {
         if !have_output(held) {
             return Ok(None);
@@ -95,7 +100,8 @@ impl Trials {
         requires trials { AreTrials graphs.now.first self.now }
         requires known { All (IsKnown graphs.now) held.now }
         requires word { word < self.now.inputs.words }
-        ensures { IfOk result (λ found. IfSome found (IsSuspect graphs.now held.now)) }
+        ensures suspect { IfOk result (λ found. IfSome found (IsSuspect graphs.now held.now)) }
+        ensures vector { IfOk result (λ found. IfSome found (λ suspect. IsVectorOf self.now.inputs suspect.vector)) }
     {
         let mut sent = vec![in alloc; Rails::unknown(); graphs.second.inputs() as usize]?;
         send_all(held, &self.inputs, word, &mut sent);
@@ -116,7 +122,8 @@ impl Trials {
     fn vector(&self, alloc: Global, word: usize, lane: u32) -> Result<Bits, AllocError>
         requires word { word < self.now.inputs.words }
         requires lane { lane < 64 }
-        ensures { IfOk result (λ vector. length vector ≡ length self.now.inputs.columns) }
+        ensures vector { IfOk result (λ vector. vector ≡ vector_at self.now.inputs word lane) }
+        ensures places { IfOk result (λ vector. length vector ≡ length self.now.inputs.columns) }
     {
         let bits = self.inputs.vector(alloc, word, lane)?;
         Bits::from_slice(alloc, &bits)

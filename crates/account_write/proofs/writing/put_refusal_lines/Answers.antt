@@ -11,4 +11,4 @@ pub returns : goal.returns
 returns c =
     four_lines c.put_entry-2.result c.args.out.now.items c.put_entry.new.out.items c.put_facts.new.out.items c.put_bans.new.out.items c.put_entry-2.new.out.items
     (record_line entry.Header) (flat_map fact_lines c.args.facts.now) (flat_map ban_line c.args.bans.now) (record_line (entry.Conclusion (conclusion.NoneBan c.args.number)))
-    c.in_ok-put_entry.ensures c.in_ok-put_facts.ensures c.in_ok-put_bans.ensures c.put_entry-2.ensures
+    c.in_ok-put_entry.ensures.line c.in_ok-put_facts.ensures c.in_ok-put_bans.ensures c.put_entry-2.ensures.line
