@@ -3,7 +3,9 @@
 ghost use Rattle.std.specs.Prelude.{IsTrue};
 ghost use Rattle.query_core.specs.Claims.{IsClaim, IsPlaced};
 
-use crate::circuits::{AND, AND_OF_THREE, Sample, WIRE, are_small, drawn_pair, output_on, pair};
+use crate::sample_circuits::{
+    AND, AND_OF_THREE, Sample, WIRE, are_small, drawn_pair, output_on, pair,
+};
 use account_core::{Evidence, Fact, Oracle};
 use cnf_core::Stop;
 use fact_tests::FactBook;

@@ -3,7 +3,7 @@
 ghost use Rattle.std.specs.Prelude.{◌≡◌, IsTrue, length};
 ghost use Rattle.circuits.specs.Matches.{HavePorts};
 
-use crate::circuits::{AND, OR, pair};
+use crate::sample_circuits::{AND, OR, pair};
 use account_core::{Compared, Oracle};
 use cnf_core::Stop;
 use fact_tests::FactBook;

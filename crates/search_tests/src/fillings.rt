@@ -1,6 +1,6 @@
 //! Evaluation by three values, against all vectors that fill the unknown ones in.
 
-use crate::circuits::{drawn, output_on};
+use crate::sample_circuits::{drawn, output_on};
 use net_core::Graph;
 use std::alloc::Global;
 use std::test::Fail;

@@ -1,6 +1,6 @@
 //! Small circuits for which a table is guessed.
 
-use crate::circuits::{AND, OR, Sample, XOR, are_small, pair};
+use crate::sample_circuits::{AND, OR, Sample, XOR, are_small, pair};
 use net_core::{Graphs, Matching};
 use std::alloc::{AllocError, Global};
 use std::test::Fail;

@@ -4,8 +4,6 @@
 #[cfg(test)]
 mod bans;
 #[cfg(test)]
-mod circuits;
-#[cfg(test)]
 mod claims;
 #[cfg(test)]
 mod comparisons;
@@ -13,6 +11,8 @@ mod comparisons;
 mod fillings;
 #[cfg(test)]
 mod guesses;
+#[cfg(test)]
+mod sample_circuits;
 #[cfg(test)]
 mod searches;
 #[cfg(test)]

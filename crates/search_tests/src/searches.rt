@@ -5,7 +5,7 @@ ghost use Rattle.account_core.specs.Oracles.{Suits};
 ghost use Rattle.account_core.specs.Ports.{HaveAsMany};
 ghost use Rattle.query_core.specs.Ledgers.{Ledgered};
 
-use crate::circuits::{AND, OR, Sample, XOR, are_small, pair};
+use crate::sample_circuits::{AND, OR, Sample, XOR, are_small, pair};
 use account_core::Oracle;
 use ban_book::BanBook;
 use fact_tests::FactBook;

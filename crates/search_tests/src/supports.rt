@@ -1,6 +1,6 @@
 //! Supports of outputs, and how many claims are decided for them.
 
-use crate::circuits::{AND_OF_THREE, Sample, WIRE, pair};
+use crate::sample_circuits::{AND_OF_THREE, Sample, WIRE, pair};
 use account_core::Oracle;
 use fact_tests::{FactBook, info};
 use net_core::Graphs;

@@ -3,7 +3,7 @@
 ghost use Rattle.std.specs.Prelude.{◌≡◌, ◌<◌, All, IsTrue, false, length};
 ghost use Rattle.query_core.specs.Queries.{IsCone, IsQuery, IsWired};
 
-use crate::circuits::{drawn, outputs};
+use crate::drawn_circuits::{drawn, outputs};
 use crate::refutation::is_refutation;
 use ask_core::{Answer, ask};
 use cnf_core::Stop;

@@ -4,9 +4,9 @@
 #[cfg(test)]
 mod answers;
 #[cfg(test)]
-mod circuits;
-#[cfg(test)]
 mod clauses;
+#[cfg(test)]
+mod drawn_circuits;
 #[cfg(test)]
 mod queries;
 #[cfg(test)]

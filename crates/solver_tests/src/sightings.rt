@@ -1,6 +1,6 @@
 //! Claims that are known of an AND gate, or found broken by trying all vectors.
 
-use crate::circuits::{drawn, is_on, outputs};
+use crate::drawn_circuits::{drawn, is_on, outputs};
 use bit_list::Bits;
 use net_core::Graph;
 use query_core::Shape;
