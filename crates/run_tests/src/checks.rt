@@ -1,7 +1,7 @@
 //! Checks of accounts and reports of netlists: what they print and how they end.
 
 ghost use Rattle.std.specs.Prelude.{◌≡◌, false, List, None, [], cond};
-ghost use Rattle.shelf_core.specs.State.{Closed, Reading};
+ghost use Rattle.shelf_core.specs.State.{Closed, Reading, Writing};
 
 use crate::files::{A, AND, AND_OR, B, C17, C17_MOVED, EMPTY, OR, TABLE, WIRE};
 use crate::runs::{CHECK, Row, check_rows, expect, status_of};
@@ -385,6 +385,7 @@ fn names_the_second_netlist_as_malformed(rt: HostRuntime) -> Result<(), Fail> {
 #[derive(Drop)]
 struct TooLong {
     reading: bool,
+    writing: bool,
     calls: u64,
 }
 
@@ -393,7 +394,7 @@ impl Shelf for TooLong {
 
     ghost state = { λ shelf. record {
       held = λ _. None;
-      mode = cond shelf.reading Reading Closed;
+      mode = cond shelf.reading Reading (cond shelf.writing Writing Closed);
       name = [];
       left = 67108865;
       unread = [];
@@ -412,16 +413,20 @@ impl Shelf for TooLong {
     }
 
     fn create(&mut self, _name: &str) -> Result<(), ShelfStop> {
-        Err(ShelfStop::Memory)
+        self.calls = self.calls.saturating_add(1);
+        self.writing = true;
+        Ok(())
     }
 
     fn append(&mut self, _piece: &[u8]) -> Result<(), ShelfStop> {
+        self.calls = self.calls.saturating_add(1);
         Err(ShelfStop::Memory)
     }
 
     fn close(&mut self) -> Result<(), ShelfStop> {
         self.calls = self.calls.saturating_add(1);
         self.reading = false;
+        self.writing = false;
         Ok(())
     }
 }
@@ -430,6 +435,7 @@ impl Shelf for TooLong {
 fn closes_a_long_netlist_unread(rt: HostRuntime) -> Result<(), Fail> {
     let mut shelf = TooLong {
         reading: false,
+        writing: false,
         calls: 0,
     };
     let mut sink = SafeSink::new(rt.alloc());
