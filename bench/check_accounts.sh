@@ -34,7 +34,7 @@ for name in adder96 compare48 alu16 multiply6 multiply7; do
   printf '  beside cec: '
   python3 "$top/bench/measure.py" berkeley-abc -q "cec -n $base.aig $base.again.aig"
 done
-# many facts over one circuit of 4,864 gates: the account has no conclusion, so the last line that is told is the one behind it
+# many facts over one circuit of 4,864 gates: the account has no conclusion, so the last line that is told is the one after it
 for kind in fails holds; do
   base=$work/many_$kind
   [ -e "$base.account" ] || python3 "$top/bench/many_facts.py" "$kind" 100000 "$base.aag" "$base.account"

@@ -1,5 +1,5 @@
 #!/usr/bin/env bash
-# Runs the gate (`rt ci`, or what is given behind it) and prints, behind its output, the processor minutes that each crate
+# Runs the gate (`rt ci`, or what is given after it) and prints, after its output, the processor minutes that each crate
 # took: its proof, its tests' proof, its must-fail edits. Then the longest chain of crates, by the proofs' minutes. The gate
 # prints no times, so this looks every two seconds which provers run. What the gate kept from an earlier run takes none:
 # `bench/gate_times.sh --anew` proves all. Not part of the gate.

@@ -10,7 +10,7 @@ work=$(mktemp -d)
 trap 'rm -rf "$work"' EXIT
 "$top/npnp" --help >/dev/null
 
-# writes a netlist of 100 inputs and so many outputs
+# writes a netlist of 100 inputs and n outputs
 chains() {
   python3 - "$1" <<'PYTHON'
 import random, sys

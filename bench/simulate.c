@@ -121,6 +121,26 @@ static inline uint64_t literal_word(const uint64_t *values, uint32_t literal)
     return values[literal / 2] ^ (literal % 2 ? UINT64_MAX : 0);
 }
 
+/* as many words at once as the program takes; the compiler may use vectors for the inner loops */
+enum { LANES = 8 };
+
+static void simulate_block(const struct netlist *net, const uint64_t *inputs, size_t words, size_t word, uint64_t (*values)[LANES], uint64_t *outputs)
+{
+    memset(values[0], 0, sizeof values[0]);
+    for (uint32_t i = 0; i < net->inputs; i++) memcpy(values[1 + i], inputs + i * words + word, sizeof values[0]);
+    uint64_t (*made)[LANES] = values + 1 + net->inputs;
+    for (uint32_t t = 0; t < net->gates; t++) {
+        const uint64_t *a = values[net->gate[t].a / 2], *b = values[net->gate[t].b / 2];
+        uint64_t flip_a = net->gate[t].a % 2 ? UINT64_MAX : 0, flip_b = net->gate[t].b % 2 ? UINT64_MAX : 0;
+        uint64_t block[LANES];
+        for (int lane = 0; lane < LANES; lane++) block[lane] = (a[lane] ^ flip_a) & (b[lane] ^ flip_b);
+        memcpy(made[t], block, sizeof block);
+    }
+    for (uint32_t k = 0; k < net->outputs; k++)
+        for (int lane = 0; lane < LANES; lane++)
+            outputs[k * words + word + lane] = values[net->out[k] / 2][lane] ^ (net->out[k] % 2 ? UINT64_MAX : 0);
+}
+
 static void simulate_row(const struct netlist *net, const uint64_t *inputs, size_t words, size_t word, uint64_t *values, uint64_t *outputs)
 {
     values[0] = 0;
@@ -145,13 +165,16 @@ int main(int count, char **words_given)
     size_t words = strtoull(words_given[2], 0, 10), rounds = strtoull(words_given[3], 0, 10);
     uint64_t *inputs = zeros(net.inputs * words, sizeof *inputs), *outputs = zeros(net.outputs * words, sizeof *outputs);
     uint64_t *values = zeros(1 + net.inputs + net.gates, sizeof *values);
+    uint64_t (*blocks)[LANES] = zeros(1 + net.inputs + net.gates, sizeof *blocks);
     uint64_t state = 1, sum = 0;
     for (size_t round = 0; round < rounds; round++) {
         for (size_t k = 0; k < net.inputs * words; k++) {
             state = state * 6364136223846793005u + 1442695040888963407u;
             inputs[k] = state ^ state >> 29;
         }
-        for (size_t word = 0; word < words; word++) simulate_row(&net, inputs, words, word, values, outputs);
+        size_t word = 0;
+        for (; word + LANES <= words; word += LANES) simulate_block(&net, inputs, words, word, blocks, outputs);
+        for (; word < words; word++) simulate_row(&net, inputs, words, word, values, outputs);
         for (size_t k = 0; k < net.outputs * words; k++) sum ^= outputs[k];
     }
     printf("%016llx\n", (unsigned long long)sum);

@@ -75,6 +75,16 @@ wants 5 'absent account' check a.aag b.aag unwritten.account
 wants 4 'usage' match a.aag b.aag a.aag
 wants 4 'usage' match a.aag b.aag made.account 1 2 3
 wants 6 '' match a.aag b.aag folder
+# an account's name that leads to a netlist, by another path or a link, is refused, and the netlist stays
+ln -s a.aag link.account
+ln b.aag other.account
+wants 6 '' match a.aag b.aag ./a.aag
+wants 6 '' match a.aag b.aag link.account
+wants 6 '' match a.aag b.aag other.account
+wants 0 'accepted match' check a.aag b.aag a-b.account
+# a device or a pipe takes an account as it can
+wants 6 '' match a.aag b.aag /dev/full
+wants 0 'npnp 1' match a.aag b.aag /dev/stdout
 wants 4 'usage'
 wants 4 'usage' info c17.blif 18446744073709551616
 wants 6 'read fault' check folder b.aag a-b.account

@@ -4,7 +4,7 @@ use Rattle.std.specs.Prelude.{unwrap_or}
 use Rattle.std.proofs.lemmas.List.Sums.{fold_push}
 use Rattle.cnf_core.specs.declared.log.LogLine.{LogLine}
 use Rattle.cnf_core.specs.Derivations.{is_empty}
-use Rattle.net_core.specs.declared.graphs.Graphs.{Graphs}
+use Rattle.net_core.specs.Sides.{Graphs}
 use Rattle.account_core.specs.declared.conclusion.Conclusion.TheVariants as conclusion
 use Rattle.account_core.specs.declared.fact.FactHead.TheVariants as head
 use Rattle.account_file.specs.declared.place.Place.{Place}

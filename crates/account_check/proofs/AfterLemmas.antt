@@ -1,7 +1,7 @@
 -- Where a match leads that a checker takes.
 use Rattle.std.proofs.Common.{◌≡◌, ◌-◌, List, IsSome, ap, ◌∙◌, arith}
 use Rattle.circuits.specs.declared.port.Pair.{Pair}
-use Rattle.net_core.specs.declared.graphs.Graphs.{Graphs}
+use Rattle.net_core.specs.Sides.{Graphs}
 use Rattle.net_core.specs.declared.matching.Matching.{Matching}
 use Rattle.account_core.specs.declared.conclusion.Conclusion.TheVariants as conclusion
 use Rattle.account_core.specs.Given.{Given}

@@ -3,7 +3,9 @@ pub mod LogLemmas
 pub mod PairLemmas
 pub mod FaultLemmas
 pub mod VerdictLemmas
+pub mod CheckingLemmas
 pub mod AccountLemmas
 pub mod RightLemmas
 pub mod RefusalLemmas
 pub mod AfterLemmas
+pub mod MatchLemmas

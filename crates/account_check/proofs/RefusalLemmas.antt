@@ -1,6 +1,6 @@
 -- An account that is accepted as a refusal is one.
 use Rattle.std.proofs.Common.{◌≡◌, ℕ, List, Option, Some, subst}
-use Rattle.net_core.specs.declared.graphs.Graphs.{Graphs}
+use Rattle.net_core.specs.Sides.{Graphs}
 use Rattle.net_core.specs.Graph.{IsGraph}
 use Rattle.account_file.specs.declared.place.Place.{Place}
 use Rattle.account_file.specs.declared.place.Place.TheVariants as place
@@ -13,7 +13,7 @@ use Rattle.account_check.proofs.AccountLemmas.{account_graphs}
 use Rattle.account_check.proofs.RightLemmas.{right_records}
 
 -- an account's verdict is its conclusion
-concluded_so : (place : Place) (concluded : Option Verdict) (told : Verdict) → verdict_at place concluded ≡ Some told → concluded ≡ Some told
+pub concluded_so : (place : Place) (concluded : Option Verdict) (told : Verdict) → verdict_at place concluded ≡ Some told → concluded ≡ Some told
 concluded_so place.Start concluded told e = cc
 concluded_so place.Headed concluded told e = cc
 concluded_so place.FactLog concluded told e = cc

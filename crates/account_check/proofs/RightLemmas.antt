@@ -10,7 +10,7 @@ use Rattle.cnf_core.specs.declared.literal.SatLit.{SatLit}
 use Rattle.cnf_core.specs.declared.log.LogLine.{LogLine}
 use Rattle.cnf_core.specs.Derivations.{is_empty}
 use Rattle.cnf_core.proofs.DerivationLaws.{refuted_unmet}
-use Rattle.net_core.specs.declared.graphs.Graphs.{Graphs}
+use Rattle.net_core.specs.Sides.{Graphs}
 use Rattle.net_core.specs.declared.matching.Matching.{Matching}
 use Rattle.net_core.specs.Graph.{IsGraph}
 use Rattle.net_core.specs.Sides.{graph_of}
@@ -64,7 +64,7 @@ claim_there graphs claim there lesser = record {
   placed = placed (graph_of graphs claim.side).inputs claim.shape there.inputs lesser;
 }
 
--- what passes the tests of a claim is one, and passes those behind
+-- what passes the tests of a claim is one, and passes those after
 pub claim_passed : (graphs : Graphs) (claim : Claim) (Behind : Option Reject → Type 0) → ClaimTests graphs claim Behind None → IsClaim graphs claim × Behind None
 claim_passed graphs claim Behind tests =
     let there = through tests in
@@ -132,11 +132,11 @@ right_holds account claim right tests =
     }
 
 -- a line without a fault is derived
-no_reject : (fault : Option LineFault) → None ≡ refutation_of fault → fault ≡ None
+pub no_reject : (fault : Option LineFault) → None ≡ refutation_of fault → fault ≡ None
 no_reject None e = refl
 no_reject (Some fault) e = cc
 
-last_empty : (taken : List (List SatLit)) (clause : List SatLit) → is_empty clause ≡ true → list_any is_empty (taken ++ clause ∷ []) ≡ true
+pub last_empty : (taken : List (List SatLit)) (clause : List SatLit) → is_empty clause ≡ true → list_any is_empty (taken ++ clause ∷ []) ≡ true
 last_empty taken clause e =
     list_any-append is_empty taken (clause ∷ []) ∙ (ap (λ x. list_any is_empty taken || (x || false)) e ∙ either (list_any is_empty taken))
   where
@@ -239,7 +239,7 @@ right_at_first graphs = record {
     no_verdict : ◌≡◌ {A = Option Verdict} None (Some verdict.None) → ⊥
     no_verdict e = cc
 
--- an account behind valid records
+-- an account after valid records
 first_right : (graphs : Graphs) (records : List Record) (n : ℕ) → IsGraph graphs.first → IsGraph graphs.second → AreValid graphs records → n ≤ length records → IsRight (account_after graphs (take n records))
 first_right graphs records zero first second valid within = right_at_first graphs
 first_right graphs records (suc n) first second valid within =

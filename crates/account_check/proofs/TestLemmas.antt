@@ -15,7 +15,7 @@ one_unless Test reject Behind one a b (inr first) (inr second) = one a b first.1
 some_none : {r : Reject} → None ≡ Some r → ⊥
 some_none {r} e = cc
 
--- where no fault is told, the test is passed, and so are those behind it
+-- where no fault is told, the test is passed, and so are those after it
 pub through : {A B : Type 0} {r : Reject} → (((A → ⊥) × (◌≡◌ {A = Option Reject} None (Some r))) ⊎ (A × B)) → A × B
 through {A} {B} {r} (inl failed) = absurd (some_none failed.1)
 through {A} {B} {r} (inr passed) = passed

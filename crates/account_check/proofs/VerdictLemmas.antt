@@ -1,38 +1,26 @@
 -- The verdict of an account's bytes is one, and each step of the check tells it.
-use Rattle.std.proofs.Common.{◌≡◌, ◌≢◌, ℕ, zero, suc, ◌+◌, ◌<◌, ◌≤◌, Bool, true, cond, List, [], ◌∷◌, ◌++◌, length, get_or, take, slice_index_or, Option, None, Some, IsSome, Result, Ok, Err, refl, sym, ap, subst, ◌∙◌, arith, inl, inr, length-append, length-take, take-suc, take-take, take_all}
-use Rattle.std.specs.Prelude.{is_some}
+use Rattle.std.proofs.Common.{◌≡◌, ◌≢◌, ℕ, zero, suc, ◌+◌, ◌<◌, ◌≤◌, true, List, [], ◌∷◌, ◌++◌, length, get_or, take, slice_index_or, Option, None, Some, Result, Ok, Err, refl, sym, ap, subst, ◌∙◌, arith, inl, inr, length-append, length-take, take-suc, take-take, take_all}
 use Rattle.std.specs.List.{AllZip}
-use Rattle.std.specs.Result.{IsErrAnd}
 use Rattle.std.proofs.lemmas.Bool.{cases_lt}
-use Rattle.std.proofs.lemmas.List.{append-nil, get_or_append_left, get_or-append-add, take-append-le}
+use Rattle.std.proofs.lemmas.List.{get_or_append_left, get_or-append-add, take-append-le}
 use Rattle.std.proofs.Math.Seq.{take-length}
-use Rattle.net_core.specs.declared.graphs.Graphs.{Graphs}
+use Rattle.net_core.specs.Sides.{Graphs}
 use Rattle.account_file.specs.declared.record.Record.{Record}
 use Rattle.account_file.specs.declared.record.Record.TheVariants as record_of
 use Rattle.account_file.specs.declared.fault.RecordFault.{RecordFault}
-use Rattle.account_file.specs.declared.fault.FileStop.{FileStop}
-use Rattle.account_file.specs.declared.fault.FileStop.TheVariants as file
-use Rattle.account_file.specs.declared.place.Place.TheVariants as place
 use Rattle.account_file.specs.Lines.{whole_lines}
-use Rattle.account_file.specs.Order.{place_behind}
-use Rattle.account_file.specs.Accounts.{AreRecords, HasForm, IsAccountOf, IsNextRecord, SaysNext}
-use Rattle.account_file.specs.Reading.{Reading, HasRead, given_by}
-use Rattle.account_file.specs.Texts.{Says}
+use Rattle.account_file.specs.Accounts.{AreRecords, HasForm, IsAccountOf, IsNextRecord}
 use Rattle.account_file.proofs.LawLemmas.{as_many, one_answer, same_records}
-use Rattle.account_file.proofs.OrderLemmas.{place_behind_last, take_in_order}
+use Rattle.account_file.proofs.OrderLemmas.{take_in_order}
 use Rattle.account_check.specs.declared.reject.Reject.{Reject}
-use Rattle.account_check.specs.declared.reject.RecordStop.{RecordStop}
-use Rattle.account_check.specs.declared.reject.RecordStop.TheVariants as stop
 use Rattle.account_check.specs.declared.verdict.Verdict.{Verdict}
 use Rattle.account_check.specs.declared.verdict.Why.{Why}
 use Rattle.account_check.specs.declared.verdict.Why.TheVariants as why
 use Rattle.account_check.specs.declared.verdict.CheckStop.{CheckStop}
 use Rattle.account_check.specs.declared.verdict.CheckStop.TheVariants.{Rejected, Memory}
-use Rattle.account_check.specs.Accounts.{Account, account_after, after, empty_account, verdict_of, HasFault}
+use Rattle.account_check.specs.Accounts.{account_after, verdict_of, HasFault}
 use Rattle.account_check.specs.Accounts.{AreValid}
 use Rattle.account_check.specs.Verdicts.{IsAccepted, IsBad, IsRejected, IsVerdict}
-use Rattle.account_check.specs.Checking.{refused, unread, Goes, IsChecking, IsDone}
-use Rattle.account_check.proofs.AccountLemmas.{account_after-push, account_graphs, account_place}
 use Rattle.account_check.proofs.FaultLemmas.{one_fault}
 
 -- one valid record more
@@ -189,121 +177,3 @@ rejected_exactly graphs bytes (Err (Rejected at because)) line reason is memory 
     let same = one_rejection graphs bytes at line because reason is rejected in
     ap (λ n. Err (Rejected n because)) same.0 ∙ ap (λ w. Err (Rejected line w)) same.1
 rejected_exactly graphs bytes (Err Memory) line reason is memory rejected = absurd (memory refl)
-
--- the line behind the records that were read
-next_line : (records : List Record) (new : Reading) (bytes : List ℕ) (count : ℕ) → HasRead new bytes records → (if_fault : Option RecordFault) → new.fault ≡ if_fault → count ≡ length records + cond (is_some if_fault) 1 0 → new.line ≡ count
-next_line records new bytes count read fault is count_is =
-    read.line ∙ (ap (λ f. length records + cond (is_some f) 1 0) is ∙ sym count_is)
-
--- a record that may stand next
-pub may_stand : (graphs : Graphs) (bytes : List ℕ) (reading : Reading) (account : Account) (entry : Record) → (so_far : IsChecking graphs bytes reading account) → IsNextRecord bytes so_far.records entry → IsSome (place_behind account.place entry)
-may_stand graphs bytes reading account entry so_far next =
-    let place = reading.place in
-    let there : account.place ≡ place = ap (λ (a : Account). a.place) so_far.account_is ∙ account_place graphs so_far.records place so_far.read.place in
-    subst IsSome (place_behind_last so_far.records entry place so_far.read.place ∙ ap (λ p. place_behind p entry) (sym there)) next.order
-
--- a record more was taken
-pub goes_on : (graphs : Graphs) (bytes : List ℕ) (old new : Reading) (account then : Account) (entry : Record) → (so_far : IsChecking graphs bytes old account) → HasRead new bytes (so_far.records ++ entry ∷ []) → new.finished ≡ old.finished → new.fault ≡ None → HasFault account entry None → then ≡ after account entry → IsChecking graphs bytes new then
-goes_on graphs bytes old new account then entry so_far read finished no_fault fine is = record {
-  records = so_far.records ++ entry ∷ [];
-  read = read;
-  finished = finished ∙ so_far.finished;
-  no_fault = no_fault;
-  valid = valid_more graphs so_far.records entry so_far.valid (subst (λ a. HasFault a entry None) so_far.account_is fine);
-  account_is = is ∙ (ap (λ a. after a entry) so_far.account_is ∙ sym (account_after-push graphs so_far.records entry));
-}
-
--- all records were taken
-pub done : (graphs : Graphs) (bytes : List ℕ) (old : Reading) (account : Account) → (so_far : IsChecking graphs bytes old account) → SaysNext bytes old.finished so_far.records (Ok None) → IsDone graphs bytes account
-done graphs bytes old account so_far says = record {
-  records = so_far.records;
-  are = subst (λ b. SaysNext bytes b so_far.records (Ok None)) so_far.finished says;
-  valid = so_far.valid;
-  account_is = so_far.account_is;
-}
-
--- a line isn't read
-pub unread_goes : (graphs : Graphs) (bytes : List ℕ) (old new : Reading) (account then : Account) (file_stop : FileStop) → (so_far : IsChecking graphs bytes old account) → Says {X = Option Record} (Err file_stop) (SaysNext bytes old.finished so_far.records) → HasRead new bytes (so_far.records ++ []) → ((fault : RecordFault) → file_stop ≡ file.Fault fault → new.fault ≡ Some fault) → Goes graphs bytes new then (Err (unread new.line file_stop))
-unread_goes graphs bytes old new account then (file.Fault fault) so_far says read told = record {
-  before = so_far.records;
-  valid = so_far.valid;
-  line_is = next_line so_far.records new bytes (length so_far.records + 1) (subst (HasRead new bytes) (append-nil so_far.records) read) (Some fault) (told fault refl) refl;
-  bad = subst (λ b. SaysNext bytes b so_far.records (Err fault)) so_far.finished says;
-}
-unread_goes graphs bytes old new account then file.Memory so_far says read told = tt
-
--- a record isn't taken
-pub refused_goes : (graphs : Graphs) (bytes : List ℕ) (old new : Reading) (account then : Account) (entry : Record) (record_stop : RecordStop) → (so_far : IsChecking graphs bytes old account) → IsNextRecord bytes so_far.records entry → HasRead new bytes (so_far.records ++ entry ∷ []) → new.fault ≡ None → ((reject : Reject) → record_stop ≡ stop.Reject reject → HasFault account entry (Some reject)) → Goes graphs bytes new then (Err (refused new.line record_stop))
-refused_goes graphs bytes old new account then entry (stop.Reject reject) so_far next read no_fault has = record {
-  before = so_far.records;
-  valid = so_far.valid;
-  line_is = next_line (so_far.records ++ entry ∷ []) new bytes (length so_far.records + 1) read None no_fault (omega (arith, length-append so_far.records (entry ∷ [])));
-  bad = (entry, next, subst (λ a. HasFault a entry (Some reject)) so_far.account_is (has reject refl));
-}
-refused_goes graphs bytes old new account then entry stop.Memory so_far next read no_fault has = tt
-
--- where all records were taken, the account has ended
-pub ended_place : (graphs : Graphs) (bytes : List ℕ) (account : Account) → IsDone graphs bytes account → account.place ≡ place.Ended
-ended_place graphs bytes account is =
-    ap (λ (a : Account). a.place) is.account_is ∙ account_place graphs is.records place.Ended is.are.ended
-
--- and its verdict is that of the bytes
-pub verdict_there : (graphs : Graphs) (bytes : List ℕ) (account : Account) (told : Verdict) → IsDone graphs bytes account → Some told ≡ verdict_of account → IsVerdict graphs bytes (Ok told)
-verdict_there graphs bytes account told_ is told = record {
-  records = is.records;
-  account = is.are;
-  valid = is.valid;
-  verdict_is = ap (λ (a : Account). verdict_of a) (sym is.account_is) ∙ sym told;
-}
-
-pub done_graphs : (graphs : Graphs) (bytes : List ℕ) (account : Account) → IsDone graphs bytes account → account.graphs ≡ graphs
-done_graphs graphs bytes account is =
-    ap (λ (a : Account). a.graphs) is.account_is ∙ account_graphs graphs is.records
-
--- the record that was read is the next
-pub next_read : (bytes : List ℕ) (finished : Bool) (records : List Record) (entry : Record) (given : Option Record) → given ≡ Some entry → Says {X = Option Record} (Ok given) (SaysNext bytes finished records) → IsNextRecord bytes records entry
-next_read bytes finished records entry given is says =
-    subst (λ o. SaysNext bytes finished records (Ok o)) is says
-
-pub read_on : (new : Reading) (bytes : List ℕ) (records : List Record) (entry : Record) (given : Option Record) → given ≡ Some entry → HasRead new bytes (records ++ given_by {E = FileStop} (Ok given)) → HasRead new bytes (records ++ entry ∷ [])
-read_on new bytes records entry given is read =
-    subst (λ o. HasRead new bytes (records ++ given_by {E = FileStop} (Ok o))) is read
-
--- a refusal tells the record's fault
-pub refusal_told : (account : Account) (entry : Record) (record_stop : RecordStop) → ((r : Reject) → (◌≡◌ {A = Result (Unit {0}) RecordStop} (Err record_stop) (Err stop.Memory) → ⊥) → (◌≡◌ {A = Result (Unit {0}) RecordStop} (Err record_stop) (Err (stop.Reject r)) → HasFault account entry (Some r)) × (HasFault account entry (Some r) → ◌≡◌ {A = Result (Unit {0}) RecordStop} (Err record_stop) (Err (stop.Reject r)))) → (reject : Reject) → record_stop ≡ stop.Reject reject → HasFault account entry (Some reject)
-refusal_told account entry record_stop told reject is =
-    (told reject (no_memory record_stop reject is)).0 (ap (λ (s : RecordStop). Err s) is)
-  where
-    no_memory : (s : RecordStop) (r : Reject) → s ≡ stop.Reject r → ◌≡◌ {A = Result (Unit {0}) RecordStop} (Err s) (Err stop.Memory) → ⊥
-    no_memory s r e m = cc
-
--- Whatever the text and the circuits are, an account that was under check still is.
-pub record StaysUnderCheck (reading : Reading) (account : Account) (now : Reading) (account_now : Account) : Type 0 where
-  pub stays : (graphs : Graphs) (bytes : List ℕ) → IsChecking graphs bytes reading account → IsChecking graphs bytes now account_now
-
--- a check before its first record
-pub begun : (graphs : Graphs) (bytes : List ℕ) (reading : Reading) (account : Account) → HasRead reading bytes [] → reading.finished ≡ true → reading.fault ≡ None → account ≡ empty_account graphs → IsChecking graphs bytes reading account
-begun graphs bytes reading account read finished no_fault is = record {
-  records = [];
-  read = read;
-  finished = finished;
-  no_fault = no_fault;
-  valid = λ k d below. absurd (omega (arith, below));
-  account_is = is;
-}
-
--- the reason that `?` hands on is the verdict
-pub stopped : (graphs : Graphs) (bytes : List ℕ) (reading : Reading) (account : Account) (check_stop : CheckStop) (result : Result Verdict CheckStop) → Goes graphs bytes reading account (Err check_stop) → IsErrAnd result (λ handed. handed ≡ check_stop) → IsVerdict graphs bytes result
-stopped graphs bytes reading account check_stop result goes same =
-    by result same
-  where
-    told : (s : CheckStop) → Goes graphs bytes reading account (Err s) → IsVerdict graphs bytes (Err s)
-    told (Rejected line reason) rejected = rejected
-    told Memory none = tt
-
-    by : (result : Result Verdict CheckStop) → IsErrAnd result (λ handed. handed ≡ check_stop) → IsVerdict graphs bytes result
-    by (Ok verdict) none = absurd none
-    by (Err handed) is = subst (λ (s : CheckStop). IsVerdict graphs bytes (Err s)) (sym is) (told check_stop goes)
-
-pub same_verdict : (a b : Verdict) → ◌≡◌ {A = Result Verdict CheckStop} (Ok a) (Ok b) → a ≡ b
-same_verdict a b e = cc

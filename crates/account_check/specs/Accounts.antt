@@ -1,9 +1,9 @@
 -- What the records of an account come to, and what is wrong with one.
-use Rattle.std.specs.Prelude.{◌≡◌, true, false, List, [], ◌∷◌, ◌++◌, take, fold, Option, None, Some, unwrap_or, if◌then◌else◌}
+use Rattle.std.specs.Prelude.{◌≡◌, true, false, List, [], ◌∷◌, ◌++◌, take, fold, Option, None, Some, unwrap_or, if◌then◌else◌, Result, Err, OnOk, OnErr}
 use Rattle.circuits.specs.Literals.{EachAt}
 use Rattle.cnf_core.specs.declared.log.LogLine.{LogLine}
 use Rattle.cnf_core.specs.Derivations.{is_empty}
-use Rattle.net_core.specs.declared.graphs.Graphs.{Graphs}
+use Rattle.net_core.specs.Sides.{Graphs}
 use Rattle.account_core.specs.declared.conclusion.Conclusion.{Conclusion}
 use Rattle.account_core.specs.declared.conclusion.Conclusion.TheVariants as conclusion
 use Rattle.account_core.specs.declared.fact.FactHead.{FactHead}
@@ -15,6 +15,8 @@ use Rattle.account_file.specs.declared.record.Record.{Record}
 use Rattle.account_file.specs.declared.record.Record.TheVariants as entry
 use Rattle.account_file.specs.Order.{place_behind}
 use Rattle.account_check.specs.declared.reject.Reject.{Reject}
+use Rattle.account_check.specs.declared.reject.RecordStop.{RecordStop}
+use Rattle.account_check.specs.declared.reject.RecordStop.TheVariants as stop
 use Rattle.account_check.specs.declared.verdict.Verdict.{Verdict}
 use Rattle.account_check.specs.declared.verdict.Verdict.TheVariants as verdict
 use Rattle.account_check.specs.Tests.{Passed}
@@ -44,7 +46,7 @@ empty_account graphs = record {
   concluded = None;
 }
 
--- What is wrong with a record that may stand there. A line of a log stands only behind a fact or a match that was taken, so that
+-- What is wrong with a record that may stand there. A line of a log stands only after a fact or a match that was taken, so that
 -- the circuits have as many ports.
 abbrev pub HasFault : Account → Record → Option Reject → Type 0
 HasFault account entry.Header fault = Passed fault
@@ -54,7 +56,7 @@ HasFault account (entry.Ban ban) fault = PortsTest account.graphs (BanTests acco
 HasFault account (entry.Conclusion conclusion) fault = ConclusionTests account.graphs account.given conclusion fault
 HasFault account entry.End fault = Passed fault
 
--- where a line of the open log leads: behind the empty one the fact is given
+-- where a line of the open log leads: after the empty one the fact is given
 abbrev pub behind_line : Account → Option OpenFact → LogLine → Account
 behind_line account None line = record account { proof = with_line account.proof line }
 behind_line account (Some fact) line =
@@ -87,7 +89,15 @@ abbrev pub after : Account → Record → Account
 after account entry =
     record (behind account entry) { place = unwrap_or (place_behind account.place entry) account.place }
 
--- what an account has come to behind its first records
+-- Taking a record that may stand next: a record that is refused has the fault that is told, one that is taken has none, and what
+-- isn't taken changes nothing.
+pub record Takes (old : Account) (entry : Record) (new : Account) (result : Result (Unit {0}) RecordStop) : Type 0 where
+  pub refused : (reject : Reject) → result ≡ Err (stop.Reject reject) → HasFault old entry (Some reject)
+  pub taken : OnOk result (HasFault old entry None)
+  pub leads : OnOk result (new ≡ after old entry)
+  pub unchanged : OnErr result (new ≡ old)
+
+-- what an account has come to after its first records
 abbrev pub account_after : Graphs → List Record → Account
 account_after graphs records = fold after (empty_account graphs) records
 

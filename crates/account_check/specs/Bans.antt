@@ -1,6 +1,6 @@
 -- What is wrong with a ban (this project's format).
 use Rattle.std.specs.Prelude.{All, Option}
-use Rattle.net_core.specs.declared.graphs.Graphs.{Graphs}
+use Rattle.net_core.specs.Sides.{Graphs}
 use Rattle.account_core.specs.declared.step.Ban.{Ban}
 use Rattle.account_core.specs.Ports.{AreOrdered, IsKnown}
 use Rattle.account_core.specs.Given.{Given}

@@ -1,52 +1,85 @@
--- How far the check of an account's whole bytes has come.
-use Rattle.std.specs.Prelude.{◌≡◌, ℕ, Bool, true, false, List, [], None, Result, Ok, Err}
-use Rattle.net_core.specs.declared.graphs.Graphs.{Graphs}
+-- How far the check of an account has come, whose bytes come in pieces.
+use Rattle.std.specs.Prelude.{◌≡◌, ℕ, Bool, true, false, List, ◌++◌, None, Result, Ok, Err}
+use Rattle.net_core.specs.Sides.{Graphs}
 use Rattle.account_file.specs.declared.record.Record.{Record}
 use Rattle.account_file.specs.declared.fault.FileStop.{FileStop}
 use Rattle.account_file.specs.declared.fault.FileStop.TheVariants as file
-use Rattle.account_file.specs.Accounts.{IsAccountOf}
+use Rattle.account_file.specs.Accounts.{AreRecords, IsAccountOf}
+use Rattle.account_file.specs.Lines.{whole_lines}
 use Rattle.account_file.specs.Reading.{Reading, HasRead}
 use Rattle.account_check.specs.declared.reject.RecordStop.{RecordStop}
 use Rattle.account_check.specs.declared.reject.RecordStop.TheVariants as stop
+use Rattle.account_check.specs.declared.verdict.Why.{Why}
 use Rattle.account_check.specs.declared.verdict.Why.TheVariants as why
 use Rattle.account_check.specs.declared.verdict.CheckStop.{CheckStop}
 use Rattle.account_check.specs.declared.verdict.CheckStop.TheVariants.{Rejected, Memory}
-use Rattle.account_check.specs.Accounts.{Account, account_after}
-use Rattle.account_check.specs.Accounts.{AreValid}
+use Rattle.account_check.specs.Accounts.{Account, account_after, AreValid}
 use Rattle.account_check.specs.Verdicts.{IsRejected}
 
--- A whole text came to a reader, and none of it was read.
-pub record IsFed (bytes : List ℕ) (reading : Reading) : Type 0 where
-  pub read : HasRead reading bytes []
-  pub finished : reading.finished ≡ true
-  pub no_fault : reading.fault ≡ None
-
--- Some records of a whole text were read and taken, without a fault.
-pub record IsChecking (graphs : Graphs) (bytes : List ℕ) (reading : Reading) (account : Account) : Type 0 where
+-- Some records of a text were read and taken, without a fault. More bytes may come, or none (`finished`).
+pub record IsChecking (finished : Bool) (graphs : Graphs) (bytes : List ℕ) (reading : Reading) (account : Account) : Type 0 where
   pub records : List Record
   pub read : HasRead reading bytes records
-  pub finished : reading.finished ≡ true
+  pub finished_is : reading.finished ≡ finished
   pub no_fault : reading.fault ≡ None
   pub valid : AreValid graphs records
   pub account_is : account ≡ account_after graphs records
 
 -- the same, of some text and circuits
 abbrev pub IsUnderCheck : Reading → Account → Type 0
-IsUnderCheck reading account = (graphs : Graphs) × (bytes : List ℕ) × IsChecking graphs bytes reading account
+IsUnderCheck reading account =
+    (finished : Bool) × (graphs : Graphs) × (bytes : List ℕ) × IsChecking finished graphs bytes reading account
 
--- All records of a text were taken.
+-- All records of a text were taken, of which more bytes may come.
+pub record AreTaken (graphs : Graphs) (bytes : List ℕ) (reading : Reading) (account : Account) : Type 0 where
+  pub so_far : IsChecking false graphs bytes reading account
+  pub lines : AreRecords (whole_lines bytes) so_far.records
+
+-- All records of a text were taken, and it is whole.
 pub record IsDone (graphs : Graphs) (bytes : List ℕ) (account : Account) : Type 0 where
   pub records : List Record
   pub are : IsAccountOf bytes records
   pub valid : AreValid graphs records
   pub account_is : account ≡ account_after graphs records
 
+abbrev pub IsThrough : Bool → Graphs → List ℕ → Reading → Account → Type 0
+IsThrough true graphs bytes reading account = IsDone graphs bytes account
+IsThrough false graphs bytes reading account = AreTaken graphs bytes reading account
+
+-- the first bad line of a text, whatever comes after it where more bytes may come
+abbrev pub IsBadLine : Bool → Graphs → List ℕ → ℕ → Why → Type 0
+IsBadLine true graphs bytes line reason = IsRejected graphs bytes line reason
+IsBadLine false graphs bytes line reason = (more : List ℕ) → IsRejected graphs (bytes ++ more) line reason
+
 -- what a step tells: one record more was taken, or all are, or the next line is bad
-abbrev pub Goes : Graphs → List ℕ → Reading → Account → Result Bool CheckStop → Type 0
-Goes graphs bytes reading account (Ok true) = IsChecking graphs bytes reading account
-Goes graphs bytes reading account (Ok false) = IsDone graphs bytes account
-Goes graphs bytes reading account (Err (Rejected line reason)) = IsRejected graphs bytes line reason
-Goes graphs bytes reading account (Err Memory) = Unit {0}
+abbrev pub Goes : Bool → Graphs → List ℕ → Reading → Account → Result Bool CheckStop → Type 0
+Goes finished graphs bytes reading account (Ok true) = IsChecking finished graphs bytes reading account
+Goes finished graphs bytes reading account (Ok false) = IsThrough finished graphs bytes reading account
+Goes finished graphs bytes reading account (Err (Rejected line reason)) = IsBadLine finished graphs bytes line reason
+Goes finished graphs bytes reading account (Err Memory) = Unit {0}
+
+-- what all steps tell: all records are taken, or a line is bad
+abbrev pub TakesAll : Bool → Graphs → List ℕ → Reading → Account → Result (Unit {0}) CheckStop → Type 0
+TakesAll finished graphs bytes reading account (Ok done) = IsThrough finished graphs bytes reading account
+TakesAll finished graphs bytes reading account (Err (Rejected line reason)) = IsBadLine finished graphs bytes line reason
+TakesAll finished graphs bytes reading account (Err Memory) = Unit {0}
+
+-- How far an account was read, and what its records came to.
+pub record Progress : Type 0 where
+  pub reading : Reading
+  pub account : Account
+
+-- Of these bytes of an account of two circuits, all whole lines are valid records, and were taken.
+abbrev pub HasTaken : Graphs → List ℕ → Progress → Type 0
+HasTaken graphs bytes progress = AreTaken graphs bytes progress.reading progress.account
+
+-- more bytes may be fed
+abbrev pub IsUnderWay : Progress → Type 0
+IsUnderWay progress = (graphs : Graphs) × (bytes : List ℕ) × HasTaken graphs bytes progress
+
+-- Feeding: of the bytes so far all whole lines are valid records; or one of them is the first bad line, whatever comes after it.
+abbrev pub Feeds : Graphs → List ℕ → Progress → Result (Unit {0}) CheckStop → Type 0
+Feeds graphs bytes progress result = TakesAll false graphs bytes progress.reading progress.account result
 
 -- why an account is given up at a line
 abbrev pub unread : ℕ → FileStop → CheckStop

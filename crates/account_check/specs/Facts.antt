@@ -1,6 +1,6 @@
 -- What is wrong with the line of a fact (this project's format).
 use Rattle.std.specs.Prelude.{ℕ, ◌<◌, length, Option}
-use Rattle.net_core.specs.declared.graphs.Graphs.{Graphs}
+use Rattle.net_core.specs.Sides.{Graphs}
 use Rattle.net_core.specs.Sides.{graph_of}
 use Rattle.query_core.specs.declared.claims.Shape.{Shape}
 use Rattle.query_core.specs.declared.claims.Shape.TheVariants.{Up, Down, Swap}
@@ -29,7 +29,7 @@ IsLesserFirst (Up i) = Unit {0}
 IsLesserFirst (Down i) = Unit {0}
 IsLesserFirst (Swap i j a b) = i < j
 
--- the tests of a claim, and those behind them
+-- the tests of a claim, and those after them
 abbrev pub ClaimTests : Graphs → Claim → (Option Reject → Type 0) → Option Reject → Type 0
 ClaimTests graphs claim Behind fault =
     Unless (ArePortsThere graphs claim) reject.UnknownId (Unless (IsLesserFirst claim.shape) reject.Rule Behind) fault

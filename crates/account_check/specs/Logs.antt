@@ -4,7 +4,7 @@ use Rattle.cnf_core.specs.declared.literal.SatLit.{SatLit}
 use Rattle.cnf_core.specs.declared.log.LogLine.{LogLine}
 use Rattle.cnf_core.specs.declared.fault.LineFault.{LineFault}
 use Rattle.cnf_core.specs.Derivations.{is_empty, line_fault}
-use Rattle.net_core.specs.declared.graphs.Graphs.{Graphs}
+use Rattle.net_core.specs.Sides.{Graphs}
 use Rattle.net_core.specs.declared.matching.Matching.{Matching}
 use Rattle.query_core.specs.declared.claims.Claim.{Claim}
 use Rattle.query_core.specs.declared.query.Query.{Query}
@@ -51,7 +51,7 @@ abbrev pub refutation_of : Option LineFault → Option Reject
 refutation_of None = None
 refutation_of (Some fault) = Some (reject.Refutation fault)
 
--- what is wrong with a line of a query's log, behind lines with these clauses
+-- what is wrong with a line of a query's log, after lines with these clauses
 abbrev pub log_reject : Graphs → Query → List (List SatLit) → LogLine → Option Reject
 log_reject graphs query taken line = refutation_of (line_fault (formula_of graphs query) taken line)
 

@@ -5,7 +5,7 @@ use Rattle.circuits.specs.Matches.{HavePorts}
 use Rattle.cnf_core.specs.declared.literal.SatLit.{SatLit}
 use Rattle.cnf_core.specs.declared.log.LogLine.{LogLine}
 use Rattle.cnf_core.specs.Derivations.{is_empty, clauses_of, AreDerived}
-use Rattle.net_core.specs.declared.graphs.Graphs.{Graphs}
+use Rattle.net_core.specs.Sides.{Graphs}
 use Rattle.net_core.specs.declared.matching.Matching.{Matching}
 use Rattle.query_core.specs.declared.claims.Claim.{Claim}
 use Rattle.query_core.specs.declared.query.Query.{Query}
@@ -58,7 +58,7 @@ abbrev pub IsLog : Graphs → Matching → ℕ → Option LogSoFar → Type 0
 IsLog graphs matching c None = c ≡ log_count matching
 IsLog graphs matching c (Some log) = IsOpen graphs matching c log
 
--- each of the first so many logs refutes its query
+-- each of the first n logs refutes its query
 abbrev pub AreRefuted : Graphs → Matching → ℕ → Type 0
 AreRefuted graphs matching closed = (c : ℕ) → c < closed → IsRefuted graphs (log_query graphs matching c)
 

@@ -2,7 +2,7 @@
 -- account concludes that there is no match, there is none.
 use Rattle.std.specs.Prelude.{◌≡◌, Option, None, Some}
 use Rattle.circuits.specs.Matches.{HaveNpnpEqualFunctions}
-use Rattle.net_core.specs.declared.graphs.Graphs.{Graphs}
+use Rattle.net_core.specs.Sides.{Graphs}
 use Rattle.query_core.specs.Claims.{IsClaim}
 use Rattle.query_core.specs.ClaimQueries.{claim_query}
 use Rattle.account_core.specs.Exclusions.{AreRight}

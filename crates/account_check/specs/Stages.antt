@@ -1,6 +1,6 @@
 -- What a checker keeps of an account.
 use Rattle.std.specs.Prelude.{◌≡◌, ◌-◌, Option, None, Some}
-use Rattle.net_core.specs.declared.graphs.Graphs.{Graphs}
+use Rattle.net_core.specs.Sides.{Graphs}
 use Rattle.account_file.specs.declared.place.Place.{Place}
 use Rattle.account_file.specs.declared.place.Place.TheVariants as place
 use Rattle.account_check.specs.declared.checker.Stage.{Stage}

@@ -1,6 +1,6 @@
 -- The verdict of an account's whole bytes (this project's format): what it proves, or its first bad line.
 use Rattle.std.specs.Prelude.{◌≡◌, ℕ, ◌+◌, List, length, Some, Result, Ok, Err}
-use Rattle.net_core.specs.declared.graphs.Graphs.{Graphs}
+use Rattle.net_core.specs.Sides.{Graphs}
 use Rattle.account_file.specs.declared.record.Record.{Record}
 use Rattle.account_file.specs.Accounts.{HasFormFault, IsAccountOf, IsNextRecord}
 use Rattle.account_check.specs.declared.verdict.Verdict.{Verdict}
@@ -10,7 +10,7 @@ use Rattle.account_check.specs.declared.verdict.CheckStop.{CheckStop}
 use Rattle.account_check.specs.declared.verdict.CheckStop.TheVariants.{Rejected, Memory}
 use Rattle.account_check.specs.Accounts.{account_after, verdict_of, AreValid, HasFault}
 
--- What is wrong with the line behind these records: its form; or it is a record that may stand there, and that has this fault.
+-- What is wrong with the line after these records: its form; or it is a record that may stand there, and that has this fault.
 abbrev pub IsBad : Graphs → List ℕ → List Record → Why → Type 0
 IsBad graphs bytes before (why.Form fault) = HasFormFault bytes before fault
 IsBad graphs bytes before (why.Record reject) =
@@ -23,14 +23,14 @@ pub record IsRejected (graphs : Graphs) (bytes : List ℕ) (line : ℕ) (reason 
   pub line_is : line ≡ length before + 1
   pub bad : IsBad graphs bytes before reason
 
--- An account proves its verdict: all its lines are valid records, up to the end, and nothing stands behind.
+-- An account proves its verdict: all its lines are valid records, up to the end, and nothing stands after.
 pub record IsAccepted (graphs : Graphs) (bytes : List ℕ) (verdict : Verdict) : Type 0 where
   pub records : List Record
   pub account : IsAccountOf bytes records
   pub valid : AreValid graphs records
   pub verdict_is : verdict_of (account_after graphs records) ≡ Some verdict
 
--- an answer is the verdict, or memory is wanting
+-- an answer is the verdict, or memory ran out
 abbrev pub IsVerdict : Graphs → List ℕ → Result Verdict CheckStop → Type 0
 IsVerdict graphs bytes (Ok verdict) = IsAccepted graphs bytes verdict
 IsVerdict graphs bytes (Err (Rejected line reason)) = IsRejected graphs bytes line reason

@@ -17,7 +17,7 @@ use std::alloc::{AllocError, Global};
 /// order; what its step names isn't there; the step's rule is broken; the step's vector shows no difference.
 pub(crate) fn test_ban(
     alloc: Global,
-    graphs: &Graphs,
+    graphs: &Graphs<'_>,
     given: &Given,
     ban: &Ban,
 ) -> Result<Option<Reject>, AllocError>
@@ -38,7 +38,7 @@ pub(crate) fn test_ban(
 // What is wrong with a ban's step.
 fn test_step(
     alloc: Global,
-    graphs: &Graphs,
+    graphs: &Graphs<'_>,
     given: &Given,
     ban: &Ban,
 ) -> Result<Option<Reject>, AllocError>

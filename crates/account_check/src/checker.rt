@@ -1,11 +1,11 @@
 //! The checker of an account.
 
 ghost use Rattle.std.specs.Prelude.{◌≡◌, ◌≢◌, ◌↔◌, IsOk, IsSome, IfOk, OnOk, OnErr, Ok, Err, None, Some};
-ghost use Rattle.circuits.specs.Matches.{HaveNpnpEqualFunctions, IsMatchOfFunctions};
+ghost use Rattle.circuits.specs.Matches.{IsMatchOfFunctions};
 ghost use Rattle.account_core.specs.declared.conclusion.Conclusion.TheVariants as conclusion;
 ghost use Rattle.account_core.specs.declared.fact.FactHead.TheVariants as head;
 ghost use Rattle.account_file.specs.Order.{place_behind};
-ghost use Rattle.account_check.specs.Accounts.{after, empty_account, verdict_of, HasFault};
+ghost use Rattle.account_check.specs.Accounts.{after, empty_account, verdict_of, HasFault, Takes};
 ghost use Rattle.account_file.specs.declared.place.Place.TheVariants as place;
 ghost use Rattle.account_file.specs.declared.record.Record.TheVariants as entry;
 ghost use Rattle.account_check.specs.declared.reject.RecordStop.TheVariants as stop;
@@ -56,7 +56,7 @@ pub(crate) enum Stage<'a> {
 /// which for a match has two logs for each of its outputs; the end.
 #[derive(Drop)]
 pub struct Checker<'a> {
-    graphs: &'a Graphs,
+    graphs: &'a Graphs<'a>,
     given: Given,
     stage: Stage<'a>,
 }
@@ -81,25 +81,18 @@ impl<'a> Model for Checker<'a> {
 
 impl<'a> Checker<'a> {
     /// No record was taken.
-    pub fn new(alloc: Global, graphs: &'a Graphs) -> Result<Checker<'a>, AllocError>
+    pub fn new(alloc: Global, graphs: &'a Graphs<'a>) -> Result<Checker<'a>, AllocError>
         ensures { IfOk result (λ checker. checker ≡ empty_account graphs.now) }
     {
-        Ok(Checker::begun(alloc, graphs))
-    }
-
-    /// The same, for a caller that needn't ask whether memory was wanting.
-    pub(crate) fn begun(alloc: Global, graphs: &'a Graphs) -> Checker<'a>
-        ensures { result ≡ empty_account graphs.now }
-    {
-        Checker {
+        Ok(Checker {
             graphs,
             given: Given::new(alloc),
             stage: Stage::Empty,
-        }
+        })
     }
 
-    /// Takes a record that may stand behind the others, exactly where nothing is wrong with it, unless memory is wanting.
-    /// What is refused changes nothing, nor does want of memory.
+    /// Takes a record that may stand after the others, exactly where nothing is wrong with it, unless out of memory.
+    /// What is refused changes nothing, nor does running out of memory.
     pub fn record(&mut self, alloc: Global, entry: &Record) -> Result<(), RecordStop>
         requires { IsSome (place_behind self.old.place entry.now) }
         ensures refused { (reject : AnyReject) → result ≢ Err stop.Memory
@@ -125,14 +118,10 @@ impl<'a> Checker<'a> {
         }
     }
 
-    // Takes a record, or refuses it.
-    fn take(&mut self, alloc: Global, entry: &Record) -> Result<(), RecordStop>
+    /// Takes a record that may stand after the others, or refuses it.
+    pub(crate) fn take(&mut self, alloc: Global, entry: &Record) -> Result<(), RecordStop>
         requires { IsSome (place_behind self.old.place entry.now) }
-        ensures refused { (reject : AnyReject) → result ≡ Err (stop.Reject reject)
-            → HasFault self.old entry.now (Some reject) }
-        ensures taken { OnOk result (HasFault self.old entry.now None) }
-        ensures after { OnOk result (self.new ≡ after self.old entry.now) }
-        ensures unchanged { OnErr result (self.new ≡ self.old) }
+        ensures { Takes self.old entry.now self.new result }
     {
         match entry {
             Record::Header => {
@@ -153,11 +142,7 @@ impl<'a> Checker<'a> {
     // Takes a fact.
     fn fact(&mut self, alloc: Global, head: &FactHead) -> Result<(), RecordStop>
         requires { IsSome (place_behind self.old.place (entry.Fact head.now)) }
-        ensures refused { (reject : AnyReject) → result ≡ Err (stop.Reject reject)
-            → HasFault self.old (entry.Fact head.now) (Some reject) }
-        ensures taken { OnOk result (HasFault self.old (entry.Fact head.now) None) }
-        ensures after { OnOk result (self.new ≡ after self.old (entry.Fact head.now)) }
-        ensures unchanged { OnErr result (self.new ≡ self.old) }
+        ensures { Takes self.old (entry.Fact head.now) self.new result }
     {
         match head {
             FactHead::Fails { claim, bits } => self.fails(alloc, claim, bits),
@@ -168,11 +153,7 @@ impl<'a> Checker<'a> {
     // Takes a claim that fails.
     fn fails(&mut self, alloc: Global, claim: &Claim, bits: &Bits) -> Result<(), RecordStop>
         requires { IsSome (place_behind self.old.place (entry.Fact (head.Fails claim.now bits.now))) }
-        ensures refused { (reject : AnyReject) → result ≡ Err (stop.Reject reject)
-            → HasFault self.old (entry.Fact (head.Fails claim.now bits.now)) (Some reject) }
-        ensures taken { OnOk result (HasFault self.old (entry.Fact (head.Fails claim.now bits.now)) None) }
-        ensures after { OnOk result (self.new ≡ after self.old (entry.Fact (head.Fails claim.now bits.now))) }
-        ensures unchanged { OnErr result (self.new ≡ self.old) }
+        ensures { Takes self.old (entry.Fact (head.Fails claim.now bits.now)) self.new result }
     {
         if let Some(reject) = test_fails(alloc, self.graphs, claim, bits)? {
             return Err(RecordStop::Reject(reject));
@@ -184,11 +165,7 @@ impl<'a> Checker<'a> {
     // Takes a claim that holds, whose log follows.
     fn holds(&mut self, alloc: Global, claim: &Claim) -> Result<(), RecordStop>
         requires { IsSome (place_behind self.old.place (entry.Fact (head.Holds claim.now))) }
-        ensures refused { (reject : AnyReject) → result ≡ Err (stop.Reject reject)
-            → HasFault self.old (entry.Fact (head.Holds claim.now)) (Some reject) }
-        ensures taken { OnOk result (HasFault self.old (entry.Fact (head.Holds claim.now)) None) }
-        ensures after { OnOk result (self.new ≡ after self.old (entry.Fact (head.Holds claim.now))) }
-        ensures unchanged { OnErr result (self.new ≡ self.old) }
+        ensures { Takes self.old (entry.Fact (head.Holds claim.now)) self.new result }
     {
         if let Some(reject) = test_holds(self.graphs, claim) {
             return Err(RecordStop::Reject(reject));
@@ -201,11 +178,7 @@ impl<'a> Checker<'a> {
     // Takes a line of the open log.
     fn line(&mut self, alloc: Global, line: &LogLine) -> Result<(), RecordStop>
         requires { IsSome (place_behind self.old.place (entry.Line line.now)) }
-        ensures refused { (reject : AnyReject) → result ≡ Err (stop.Reject reject)
-            → HasFault self.old (entry.Line line.now) (Some reject) }
-        ensures taken { OnOk result (HasFault self.old (entry.Line line.now) None) }
-        ensures after { OnOk result (self.new ≡ after self.old (entry.Line line.now)) }
-        ensures unchanged { OnErr result (self.new ≡ self.old) }
+        ensures { Takes self.old (entry.Line line.now) self.new result }
     {
         if let Stage::Showing(_) = &self.stage {
             return self.fact_line(line);
@@ -213,14 +186,10 @@ impl<'a> Checker<'a> {
         self.match_line(alloc, line)
     }
 
-    // Takes a line of a fact's log. Behind the empty line the fact is given.
+    // Takes a line of a fact's log. After the empty line the fact is given.
     fn fact_line(&mut self, line: &LogLine) -> Result<(), RecordStop>
         requires { self.old.place ≡ place.FactLog }
-        ensures refused { (reject : AnyReject) → result ≡ Err (stop.Reject reject)
-            → HasFault self.old (entry.Line line.now) (Some reject) }
-        ensures taken { OnOk result (HasFault self.old (entry.Line line.now) None) }
-        ensures after { OnOk result (self.new ≡ after self.old (entry.Line line.now)) }
-        ensures unchanged { OnErr result (self.new ≡ self.old) }
+        ensures { Takes self.old (entry.Line line.now) self.new result }
     {
         let Stage::Showing(log) = &mut self.stage else {
             unreachable!()
@@ -241,11 +210,7 @@ impl<'a> Checker<'a> {
     fn match_line(&mut self, alloc: Global, line: &LogLine) -> Result<(), RecordStop>
         requires place { IsSome (place_behind self.old.place (entry.Line line.now)) }
         requires other { self.old.place ≢ place.FactLog }
-        ensures refused { (reject : AnyReject) → result ≡ Err (stop.Reject reject)
-            → HasFault self.old (entry.Line line.now) (Some reject) }
-        ensures taken { OnOk result (HasFault self.old (entry.Line line.now) None) }
-        ensures after { OnOk result (self.new ≡ after self.old (entry.Line line.now)) }
-        ensures unchanged { OnErr result (self.new ≡ self.old) }
+        ensures { Takes self.old (entry.Line line.now) self.new result }
     {
         let Stage::Proving(logs) = &mut self.stage else {
             unreachable!()
@@ -256,11 +221,7 @@ impl<'a> Checker<'a> {
     // Takes a ban.
     fn ban(&mut self, alloc: Global, ban: &Ban) -> Result<(), RecordStop>
         requires { IsSome (place_behind self.old.place (entry.Ban ban.now)) }
-        ensures refused { (reject : AnyReject) → result ≡ Err (stop.Reject reject)
-            → HasFault self.old (entry.Ban ban.now) (Some reject) }
-        ensures taken { OnOk result (HasFault self.old (entry.Ban ban.now) None) }
-        ensures after { OnOk result (self.new ≡ after self.old (entry.Ban ban.now)) }
-        ensures unchanged { OnErr result (self.new ≡ self.old) }
+        ensures { Takes self.old (entry.Ban ban.now) self.new result }
     {
         if let Some(reject) = test_ban(alloc, self.graphs, &self.given, ban)? {
             return Err(RecordStop::Reject(reject));
@@ -272,11 +233,7 @@ impl<'a> Checker<'a> {
     // Takes a conclusion. Of a match the logs follow.
     fn conclude(&mut self, alloc: Global, conclusion: &Conclusion) -> Result<(), RecordStop>
         requires { IsSome (place_behind self.old.place (entry.Conclusion conclusion.now)) }
-        ensures refused { (reject : AnyReject) → result ≡ Err (stop.Reject reject)
-            → HasFault self.old (entry.Conclusion conclusion.now) (Some reject) }
-        ensures taken { OnOk result (HasFault self.old (entry.Conclusion conclusion.now) None) }
-        ensures after { OnOk result (self.new ≡ after self.old (entry.Conclusion conclusion.now)) }
-        ensures unchanged { OnErr result (self.new ≡ self.old) }
+        ensures { Takes self.old (entry.Conclusion conclusion.now) self.new result }
     {
         match conclusion {
             Conclusion::NonePorts => self.conclude_by_ports(),
@@ -288,11 +245,7 @@ impl<'a> Checker<'a> {
     // Takes the conclusion that there is no match since the circuits have other numbers of ports.
     fn conclude_by_ports(&mut self) -> Result<(), RecordStop>
         requires { IsSome (place_behind self.old.place (entry.Conclusion conclusion.NonePorts)) }
-        ensures refused { (reject : AnyReject) → result ≡ Err (stop.Reject reject)
-            → HasFault self.old (entry.Conclusion conclusion.NonePorts) (Some reject) }
-        ensures taken { OnOk result (HasFault self.old (entry.Conclusion conclusion.NonePorts) None) }
-        ensures after { OnOk result (self.new ≡ after self.old (entry.Conclusion conclusion.NonePorts)) }
-        ensures unchanged { OnErr result (self.new ≡ self.old) }
+        ensures { Takes self.old (entry.Conclusion conclusion.NonePorts) self.new result }
     {
         if let Some(reject) = test_ports(self.graphs) {
             return Err(RecordStop::Reject(reject));
@@ -304,11 +257,7 @@ impl<'a> Checker<'a> {
     // Takes the conclusion that there is no match since a ban has no pairs.
     fn conclude_by_ban(&mut self, ban: u64) -> Result<(), RecordStop>
         requires { IsSome (place_behind self.old.place (entry.Conclusion (conclusion.NoneBan ban))) }
-        ensures refused { (reject : AnyReject) → result ≡ Err (stop.Reject reject)
-            → HasFault self.old (entry.Conclusion (conclusion.NoneBan ban)) (Some reject) }
-        ensures taken { OnOk result (HasFault self.old (entry.Conclusion (conclusion.NoneBan ban)) None) }
-        ensures after { OnOk result (self.new ≡ after self.old (entry.Conclusion (conclusion.NoneBan ban))) }
-        ensures unchanged { OnErr result (self.new ≡ self.old) }
+        ensures { Takes self.old (entry.Conclusion (conclusion.NoneBan ban)) self.new result }
     {
         if let Some(reject) = test_empty_ban(self.graphs, &self.given, ban) {
             return Err(RecordStop::Reject(reject));
@@ -320,11 +269,7 @@ impl<'a> Checker<'a> {
     // Takes a match, whose logs follow.
     fn conclude_match(&mut self, alloc: Global, pairs: &[Pair]) -> Result<(), RecordStop>
         requires { IsSome (place_behind self.old.place (entry.Conclusion (conclusion.Match pairs.now))) }
-        ensures refused { (reject : AnyReject) → result ≡ Err (stop.Reject reject)
-            → HasFault self.old (entry.Conclusion (conclusion.Match pairs.now)) (Some reject) }
-        ensures taken { OnOk result (HasFault self.old (entry.Conclusion (conclusion.Match pairs.now)) None) }
-        ensures after { OnOk result (self.new ≡ after self.old (entry.Conclusion (conclusion.Match pairs.now))) }
-        ensures unchanged { OnErr result (self.new ≡ self.old) }
+        ensures { Takes self.old (entry.Conclusion (conclusion.Match pairs.now)) self.new result }
     {
         let matching = matching(alloc, self.graphs, pairs)?;
         let logs = Logs::new(alloc, self.graphs, matching)?;

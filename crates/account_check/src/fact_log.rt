@@ -38,7 +38,7 @@ impl<'a> FactLog<'a> {
     /// No line was taken.
     pub(crate) fn new(
         alloc: Global,
-        graphs: &'a Graphs,
+        graphs: &'a Graphs<'a>,
         claim: &Claim,
     ) -> Result<FactLog<'a>, AllocError>
         requires { IsClaim graphs.now claim.now }
@@ -56,7 +56,7 @@ impl<'a> FactLog<'a> {
         self.claim
     }
 
-    /// Takes a line exactly where it is derived. What is refused changes nothing, nor does want of memory.
+    /// Takes a line exactly where it is derived. What is refused changes nothing, nor does running out of memory.
     pub(crate) fn line(&mut self, line: &LogLine) -> Result<(), RecordStop>
         ensures refused { (reject : AnyReject) → result ≡ Err (stop.Reject reject)
             → Some reject ≡ fact_reject self.old.graphs self.old.fact line.now }

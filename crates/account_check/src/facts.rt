@@ -15,7 +15,7 @@ use std::alloc::{AllocError, Global};
 /// What is wrong with the line of a claim that fails: what would be wrong with it where it holds; or that its vector doesn't break it.
 pub(crate) fn test_fails(
     alloc: Global,
-    graphs: &Graphs,
+    graphs: &Graphs<'_>,
     claim: &Claim,
     bits: &Bits,
 ) -> Result<Option<Reject>, AllocError>
@@ -32,7 +32,7 @@ pub(crate) fn test_fails(
 
 /// What is wrong with the line of a claim that holds: the circuits have other numbers of ports; the claim names an output or an input
 /// that doesn't exist, or a swap's greater input first.
-pub(crate) fn test_holds(graphs: &Graphs, claim: &Claim) -> Option<Reject>
+pub(crate) fn test_holds(graphs: &Graphs<'_>, claim: &Claim) -> Option<Reject>
     ensures { PortsTest graphs.now (FactTests graphs.now (head.Holds claim.now)) result }
 {
     if !have_as_many(graphs) {
@@ -48,14 +48,14 @@ pub(crate) fn test_holds(graphs: &Graphs, claim: &Claim) -> Option<Reject>
 }
 
 // Whether a claim's output and inputs exist.
-fn are_ports_there(graphs: &Graphs, claim: &Claim) -> bool
+fn are_ports_there(graphs: &Graphs<'_>, claim: &Claim) -> bool
     ensures { IsTrue result ↔ ArePortsThere graphs.now claim.now }
 {
     let graph = graphs.side(claim.side);
     ((claim.output as usize) < graph.outputs().len()) & are_inputs(graph.inputs(), claim.shape)
 }
 
-// Whether a shape's inputs are some of so many.
+// Whether a shape's inputs are some of n.
 fn are_inputs(inputs: u32, shape: Shape) -> bool
     ensures { IsTrue result ↔ AreInputs inputs shape }
 {

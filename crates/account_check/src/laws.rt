@@ -1,14 +1,15 @@
 //! What the definitions of this crate say together. Each function does nothing; its contract is the law.
 
 ghost use Rattle.std.specs.Prelude.{ℕ, ◌≡◌, List, Option};
-ghost use Rattle.circuits.specs.Matches.{HaveNpnpEqualFunctions};
+ghost use Rattle.circuits.specs.Matches.{HaveNpnpEqualFunctions, IsMatchOfFunctions};
 ghost use Rattle.net_core.specs.Graph.{IsGraph};
 ghost use Rattle.account_core.specs.Exclusions.{AreRight};
-ghost use Rattle.net_core.specs.declared.graphs.Graphs.{Graphs as TwoGraphs};
+ghost use Rattle.net_core.specs.Sides.{Graphs as TwoGraphs};
+ghost use Rattle.net_core.specs.declared.matching.Matching.{Matching as Table};
 ghost use Rattle.account_file.specs.declared.record.Record.{Record as Entry};
 ghost use Rattle.account_check.specs.declared.reject.Reject.{Reject as AnyReject};
 ghost use Rattle.account_check.specs.declared.verdict.Verdict.{Verdict as AnyVerdict};
-ghost use Rattle.account_check.specs.declared.verdict.Verdict.TheVariants.{None as NoMatch};
+ghost use Rattle.account_check.specs.declared.verdict.Verdict.TheVariants.{None as NoMatch, Match as Proved};
 ghost use Rattle.account_check.specs.declared.verdict.Why.{Why as Reason};
 ghost use Rattle.account_check.specs.Accounts.{account_after, Account, HasFault};
 ghost use Rattle.account_check.specs.Accounts.{AreValid};
@@ -31,7 +32,7 @@ pub fn one_verdict()
         → IsAccepted graphs bytes verdict → IsRejected graphs bytes line why → ⊥ }
 {}
 
-/// Behind valid records, whoever wrote them, each fact given is true, where one that holds counts only behind the last line of its
+/// After valid records, whoever wrote them, each fact given is true, where one that holds counts only after the last line of its
 /// log, and no match has all pairs of any ban given.
 pub fn every_prefix_is_right()
     ensures { (graphs : TwoGraphs) (records : List Entry)
@@ -48,4 +49,12 @@ pub fn accepted_refusal_is_right()
         → IsAccepted graphs bytes NoMatch
         → HaveNpnpEqualFunctions graphs.first graphs.second
         → ⊥ }
+{}
+
+/// Where an account of a table is accepted, whoever wrote it, the table is a match of the circuits' functions.
+pub fn accepted_match_is_right()
+    ensures { (graphs : TwoGraphs) (bytes : List ℕ) (table : Table)
+        → IsGraph graphs.first → IsGraph graphs.second
+        → IsAccepted graphs bytes (Proved table)
+        → IsMatchOfFunctions graphs.first graphs.second table.inputs table.outputs }
 {}

@@ -11,6 +11,7 @@ mod laws;
 mod logs;
 mod open_log;
 mod pairs;
+mod pieces;
 mod reject;
 mod verdict;
 mod whole_account;
@@ -21,6 +22,7 @@ pub use checker::Checker;
 pub use laws::{
     accepted_refusal_is_right, every_prefix_is_right, one_fault_of_a_record, one_verdict,
 };
+pub use pieces::AccountCheck;
 pub use reject::{RecordStop, Reject};
 pub use verdict::{CheckStop, Verdict, Why};
 pub use whole_account::check;

@@ -20,7 +20,7 @@ use std::marker::Model;
 /// where c is even; it ends with the empty clause.
 #[derive(Drop)]
 pub(crate) struct Logs<'a> {
-    graphs: &'a Graphs,
+    graphs: &'a Graphs<'a>,
     matching: Matching,
     /// How many logs are closed.
     closed: u64,
@@ -45,13 +45,13 @@ impl<'a> Logs<'a> {
     /// No line was taken.
     pub(crate) fn new(
         alloc: Global,
-        graphs: &'a Graphs,
+        graphs: &'a Graphs<'a>,
         matching: Matching,
     ) -> Result<Logs<'a>, AllocError>
         requires { HavePorts graphs.now.first graphs.now.second matching.inputs matching.outputs }
         ensures { IfOk result (λ logs. logs ≡ record { graphs = graphs.now; proof = unproved matching }) }
     {
-        let _outputs = graphs.first.outputs();
+        let _outputs = graphs.first().outputs();
         let log = first_log(alloc, graphs, &matching)?;
         Ok(Logs {
             graphs,
@@ -62,7 +62,7 @@ impl<'a> Logs<'a> {
     }
 
     /// Takes a line of the open log exactly where it is derived; the empty line closes the log. What is refused changes
-    /// nothing, nor does want of memory.
+    /// nothing, nor does running out of memory.
     pub(crate) fn line(&mut self, alloc: Global, line: &LogLine) -> Result<(), RecordStop>
         requires { self.old.proof.closed < log_count self.old.proof.matching }
         ensures refused { (reject : AnyReject) → result ≡ Err (stop.Reject reject)
@@ -92,8 +92,8 @@ impl<'a> Logs<'a> {
         ensures proved { self.now.proof.closed ≡ log_count self.now.proof.matching
             → IsMatchOfFunctions self.now.graphs.first self.now.graphs.second result.now.inputs result.now.outputs }
     {
-        let _first = self.graphs.first.inputs();
-        let _second = self.graphs.second.inputs();
+        let _first = self.graphs.first();
+        let _second = self.graphs.second();
         &self.matching
     }
 }
@@ -101,7 +101,7 @@ impl<'a> Logs<'a> {
 // The first log before its first line, or None where there is no output.
 fn first_log<'a>(
     alloc: Global,
-    graphs: &'a Graphs,
+    graphs: &'a Graphs<'a>,
     matching: &Matching,
 ) -> Result<Option<OpenLog<'a>>, AllocError>
     requires { HavePorts graphs.now.first graphs.now.second matching.now.inputs matching.now.outputs }

@@ -42,7 +42,7 @@ impl<'a> OpenLog<'a> {
     /// No line was taken.
     pub(crate) fn new(
         alloc: Global,
-        graphs: &'a Graphs,
+        graphs: &'a Graphs<'a>,
         query: &Query,
     ) -> Result<OpenLog<'a>, AllocError>
         requires { IsQuery graphs.now query.now }
@@ -81,7 +81,7 @@ impl<'a> OpenLog<'a> {
     }
 
     /// Takes a line exactly where it is derived, and tells whether it is the empty one: then the query is refuted. What is
-    /// refused changes nothing, nor does want of memory.
+    /// refused changes nothing, nor does running out of memory.
     pub(crate) fn line(&mut self, line: &LogLine) -> Result<bool, RecordStop>
         ensures refused { (reject : AnyReject) → result ≡ Err (stop.Reject reject)
             → Some reject ≡ refutation_of

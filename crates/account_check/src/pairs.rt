@@ -15,7 +15,7 @@ use net_core::{Graph, Graphs, Matching};
 use std::alloc::{AllocError, Global};
 
 /// What is wrong with the conclusion that there is no match since the circuits have other numbers of ports: that they have as many.
-pub(crate) fn test_ports(graphs: &Graphs) -> Option<Reject>
+pub(crate) fn test_ports(graphs: &Graphs<'_>) -> Option<Reject>
     ensures { OtherPortsTest graphs.now result }
 {
     if have_as_many(graphs) {
@@ -26,7 +26,7 @@ pub(crate) fn test_ports(graphs: &Graphs) -> Option<Reject>
 
 /// What is wrong with the conclusion that there is no match since a ban has no pairs: the circuits have other numbers of ports; the
 /// ban wasn't given; it has pairs.
-pub(crate) fn test_empty_ban(graphs: &Graphs, given: &Given, ban: u64) -> Option<Reject>
+pub(crate) fn test_empty_ban(graphs: &Graphs<'_>, given: &Given, ban: u64) -> Option<Reject>
     ensures { PortsTest graphs.now (EmptyBanTests given.now ban) result }
 {
     if !have_as_many(graphs) {
@@ -46,7 +46,7 @@ pub(crate) fn test_empty_ban(graphs: &Graphs, given: &Given, ban: u64) -> Option
 /// then each output, in order, and no two go to one port.
 pub(crate) fn matching(
     alloc: Global,
-    graphs: &Graphs,
+    graphs: &Graphs<'_>,
     pairs: &[Pair],
 ) -> Result<Matching, RecordStop>
     ensures refused { (reject : AnyReject) → result ≡ Err (stop.Reject reject)
@@ -62,11 +62,11 @@ pub(crate) fn matching(
     if !are_known(graphs, pairs) {
         return Err(RecordStop::Reject(Reject::UnknownId));
     }
-    if !are_in_order(&graphs.first, pairs) {
+    if !are_in_order(graphs.first(), pairs) {
         return Err(RecordStop::Reject(Reject::Conclusion));
     }
-    let inputs = graphs.first.inputs();
-    let outputs = graphs.first.outputs().len() as u32;
+    let inputs = graphs.first().inputs();
+    let outputs = graphs.first().outputs().len() as u32;
     let matching = split(alloc, inputs as usize, pairs)?;
     if !matching.check_shape(inputs, outputs) {
         return Err(RecordStop::Reject(Reject::Conclusion));
@@ -100,7 +100,7 @@ fn are_of_kind(kind: PortKind, pairs: &[Pair]) -> bool
     true
 }
 
-// The matching of pairs, of which the first so many are of inputs.
+// The matching of pairs, of which the first n are of inputs.
 fn split(alloc: Global, inputs: usize, pairs: &[Pair]) -> Result<Matching, AllocError>
     requires { inputs ≤ length pairs.now }
     ensures { IfOk result (λ matching. matching ≡ matching_of inputs pairs.now) }

@@ -18,7 +18,7 @@ pub enum Reject {
     Conclusion,
 }
 
-/// Why a record isn't taken: it is refused, or memory is wanting.
+/// Why a record isn't taken: it is refused, or memory ran out.
 #[derive(Clone, Copy, Debug, Drop, PartialEq, Eq)]
 pub enum RecordStop {
     Reject(Reject),

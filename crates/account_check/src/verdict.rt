@@ -64,10 +64,10 @@ fn reject_word(reject: Reject) -> &'static str
     }
 }
 
-/// Why an account has no verdict: a line is wrong, or memory is wanting.
+/// Why an account has no verdict: a line is wrong, or memory ran out.
 #[derive(Clone, Copy, Debug, Drop, PartialEq, Eq, Error)]
 pub enum CheckStop {
-    /// The first line that is wrong, counted from 1; behind the last where one is missing.
+    /// The first line that is wrong, counted from 1; after the last where one is missing.
     #[error("line {line} is wrong")]
     Rejected { line: u64, why: Why },
     #[error("out of memory")]

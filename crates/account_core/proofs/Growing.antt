@@ -1,10 +1,10 @@
--- That a valid step stays valid when more facts and bans come behind.
+-- That a valid step stays valid when more facts and bans come after.
 use Rattle.std.proofs.Common.{◌≡◌, ◌⊎◌, ℕ, suc, Bool, List, [], ◌∷◌, slice_index_or, All, Option, None, Some, refl, sym, ap, subst, ◌∙◌, arith, length-append}
 use Rattle.std.specs.Prelude.{Contains}
 use Rattle.std.specs.List.{AllZip}
 use Rattle.std.proofs.lemmas.List.{get_or_append_left}
 use Rattle.circuits.specs.declared.port.Pair.{Pair}
-use Rattle.net_core.specs.declared.graphs.Graphs.{Graphs}
+use Rattle.net_core.specs.Sides.{Graphs}
 use Rattle.net_core.specs.declared.graphs.Side.{Side}
 use Rattle.query_core.specs.declared.claims.Shape.{Shape}
 use Rattle.account_core.specs.declared.step.Tallied.{Tallied}

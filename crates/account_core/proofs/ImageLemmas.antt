@@ -9,7 +9,7 @@ use Rattle.circuits.specs.declared.port.PortKind.TheVariants.{Input, Output}
 use Rattle.circuits.specs.Literals.{differ}
 use Rattle.circuits.specs.Bijections.{place_of, sign_of}
 use Rattle.circuits.specs.Matches.{IsMatchOfFunctions}
-use Rattle.net_core.specs.declared.graphs.Graphs.{Graphs}
+use Rattle.net_core.specs.Sides.{Graphs}
 use Rattle.net_core.specs.declared.graphs.Side.TheVariants.{First}
 use Rattle.net_core.specs.Sides.{graph_of}
 use Rattle.query_core.specs.declared.claims.Claim.{Claim}

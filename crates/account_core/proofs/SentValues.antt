@@ -10,7 +10,7 @@ use Rattle.circuits.specs.Literals.{bit, differ}
 use Rattle.circuits.specs.Netlists.{Net, IsOrdered, function_of}
 use Rattle.circuits.specs.Bijections.{IsSignedBijection, Moves, moved, place_of, sign_of}
 use Rattle.circuits.proofs.Places.{moved-moves, length-moved}
-use Rattle.net_core.specs.declared.graphs.Graphs.{Graphs}
+use Rattle.net_core.specs.Sides.{Graphs}
 use Rattle.net_core.specs.Graph.{IsGraph}
 use Rattle.query_core.specs.Images.{HasPair, Extends, entries_of, same_kind}
 use Rattle.word_sim.specs.declared.tri.Tri.{Tri}
@@ -54,7 +54,7 @@ signed_bit true One true is = refl
 signed_bit true One false is = cc
 signed_bit true X b is = tt
 
--- a value behind the end is X
+-- a value after the end is X
 value_bit : (values : List Tri) (x : List Bool) (k : ℕ) → FillsIn values x → IsBitOf (value_at values k) (bit x k)
 value_bit values x k fills =
     elim (cases_lt k (length values)) [

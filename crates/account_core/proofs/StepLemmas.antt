@@ -6,7 +6,7 @@ use Rattle.std.proofs.lemmas.List.Elements.{All-nil, All-push}
 use Rattle.circuits.specs.declared.port.Pair.{Pair}
 use Rattle.circuits.specs.Netlists.{Net}
 use Rattle.circuits.specs.Matches.{HaveNpnpEqualFunctions}
-use Rattle.net_core.specs.declared.graphs.Graphs.{Graphs}
+use Rattle.net_core.specs.Sides.{Graphs}
 use Rattle.net_core.specs.Graph.{IsGraph}
 use Rattle.account_core.specs.declared.step.Step.{Step}
 use Rattle.account_core.specs.declared.step.Step.TheVariants as step
@@ -35,7 +35,7 @@ pub ban_contradicts : (graphs : Graphs) (given : Given) (ban : Ban) → IsGraph 
 ban_contradicts graphs given ban first second right valid =
     step_contradicts graphs given ban.pairs ban.step first second right valid.names valid.rule valid.shown
 
--- the first so many bans, each by those before it
+-- the first n bans, each by those before it
 first_bans : (graphs : Graphs) (facts : List Decided) (bans : List Ban) (count : ℕ) → IsGraph graphs.first → IsGraph graphs.second → All (IsTrueFact graphs) facts → AreValidBans graphs facts bans → count ≤ length bans → All (Excludes graphs) (pairs_of (take count bans))
 first_bans graphs facts bans zero first second right valid within = All-nil (Excludes graphs)
 first_bans graphs facts bans (suc count) first second right valid within =

@@ -8,7 +8,7 @@ use Rattle.circuits.specs.declared.port.PortKind.TheVariants.{Output}
 use Rattle.circuits.specs.Netlists.{Net}
 use Rattle.circuits.specs.Bijections.{place_of}
 use Rattle.circuits.specs.Matches.{IsMatchOfFunctions}
-use Rattle.net_core.specs.declared.graphs.Graphs.{Graphs}
+use Rattle.net_core.specs.Sides.{Graphs}
 use Rattle.net_core.specs.declared.graphs.Side.{Side}
 use Rattle.net_core.specs.declared.graphs.Side.TheVariants.{First, Second}
 use Rattle.net_core.specs.Sides.{graph_of}

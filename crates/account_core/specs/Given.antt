@@ -1,7 +1,7 @@
 -- What was given of two circuits so far: facts and bans, each numbered from 0 in its own order (this project's format).
 use Rattle.std.specs.Prelude.{ℕ, ◌<◌, Bool, true, false, List, [], ◌++◌, length, map, slice_index_or}
 use Rattle.circuits.specs.declared.port.Pair.{Pair}
-use Rattle.net_core.specs.declared.graphs.Graphs.{Graphs}
+use Rattle.net_core.specs.Sides.{Graphs}
 use Rattle.net_core.specs.declared.graphs.Side.TheVariants.{First}
 use Rattle.query_core.specs.declared.claims.Claim.{Claim}
 use Rattle.query_core.specs.declared.claims.Shape.TheVariants.{Up}
@@ -58,7 +58,7 @@ pairs_of bans = map (λ ban. ban.pairs) bans
 abbrev pub given_of : List Decided → List Ban → Given
 given_of facts bans = record { facts = facts; bans = pairs_of bans }
 
--- what is given when more facts and bans came behind
+-- what is given when more facts and bans came after
 abbrev pub with_more : Given → List Decided → List (List Pair) → Given
 with_more given facts bans = record { facts = given.facts ++ facts; bans = given.bans ++ bans }
 

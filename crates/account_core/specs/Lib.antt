@@ -6,15 +6,12 @@ pub mod Mismatches
 pub mod Tallies
 pub mod Covers
 pub mod Steps
-pub mod Work
-pub mod Oracles
+pub mod Facts
+pub mod Shown
 pub use Rattle.query_core.specs.Claims
 pub use Rattle.query_core.specs.Images
 pub use Rattle.word_sim.specs.ThreeValues
-pub use Rattle.query_core.specs.Queries
 pub use Rattle.query_core.specs.Formulas
 pub use Rattle.query_core.specs.MatchQueries
 pub use Rattle.query_core.specs.ClaimQueries
-pub use Rattle.query_core.specs.ConeClauses
-pub use Rattle.query_core.specs.Ledgers
 pub use Rattle.cnf_core.specs.Derivations

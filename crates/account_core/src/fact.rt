@@ -20,7 +20,7 @@ pub struct Fact {
     pub evidence: Evidence,
 }
 
-/// The line of an account that gives a fact. Behind a claim that holds, the lines of its log follow.
+/// The line of an account that gives a fact. After a claim that holds, the lines of its log follow.
 #[derive(Clone, Debug, Drop, PartialEq, Eq)]
 pub enum FactHead {
     /// The claim fails: the vector of these bits breaks it.

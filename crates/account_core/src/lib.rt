@@ -3,11 +3,9 @@
 
 mod conclusion;
 mod fact;
-mod oracle;
 mod step;
 pub mod step_laws;
 
 pub use conclusion::Conclusion;
 pub use fact::{Evidence, Fact, FactHead};
-pub use oracle::{Compared, Oracle};
 pub use step::{Ban, Step, Tallied};

@@ -8,7 +8,7 @@ ghost use Rattle.circuits.specs.declared.port.PortKind.TheVariants.{Input};
 ghost use Rattle.circuits.specs.Matches.{HaveNpnpEqualFunctions};
 ghost use Rattle.circuits.specs.Netlists.{Net};
 ghost use Rattle.net_core.specs.Graph.{IsGraph};
-ghost use Rattle.net_core.specs.declared.graphs.Graphs.{Graphs as TwoGraphs};
+ghost use Rattle.net_core.specs.Sides.{Graphs as TwoGraphs};
 ghost use Rattle.query_core.specs.Images.{Agree};
 ghost use Rattle.word_sim.specs.declared.tri.Tri.{Tri as AnyTri};
 ghost use Rattle.account_core.specs.declared.step.Ban.{Ban as AnyBan};
@@ -101,7 +101,7 @@ pub fn other_counts_refuse()
         → ⊥ }
 {}
 
-/// A valid ban stays valid when more facts and bans are given behind those that it was valid by.
+/// A valid ban stays valid when more facts and bans are given after those that it was valid by.
 pub fn valid_ban_stays()
     ensures { (graphs : TwoGraphs) (given : Given) (facts : List Decided) (bans : List (List AnyPair)) (ban : AnyBan)
         → IsValidBan graphs given ban

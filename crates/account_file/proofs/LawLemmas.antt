@@ -1,4 +1,4 @@
--- What a text says behind records is one thing: one list of records, one answer, and an account or one first fault.
+-- What a text says after records is one thing: one list of records, one answer, and an account or one first fault.
 use Rattle.std.proofs.Common.{◌≡◌, ◌≢◌, ◌⊎◌, append_assoc, append-nil, ℕ, zero, suc, ◌+◌, ◌<◌, Bool, true, false, cond, codes, List, [], ◌∷◌, ◌++◌, length, get_or, take, Option, Some, None, IsSome, Result, Ok, Err, refl, sym, ap, subst, ◌∙◌, arith, inl, inr, length-append, length-take, get_or-take, take-suc, take-take, take_all}
 use Rattle.std.specs.List.{AllZip}
 use Rattle.std.specs.Str.{bytes_eq}
@@ -137,7 +137,7 @@ said_fault Ended line fault.Order h = absurd (h.1 refl)
 said_fault Ended line fault.Truncated h = absurd h
 said_fault Ended line fault.Trailing h = refl
 
--- the code's step at a line behind records
+-- the code's step at a line after records
 line_step : (before : List Record) (place : Place) (line : List ℕ) (entry : Record) → place_after before ≡ Some place → HasForm line entry → MayStand before entry
     → (behind : Place) × (step_at_line place line ≡ Read entry behind (length line + 1))
 line_step before place line entry at' form may = by (place_behind place entry) refl
@@ -176,7 +176,7 @@ same_end_fault before rest fault.Order second f s = absurd f
 same_end_fault before rest fault.Truncated second f s = absurd s
 same_end_fault before rest fault.Trailing second f s = absurd s
 
--- Behind the lines of some records stands the line of another, which may stand there.
+-- After the lines of some records stands the line of another, which may stand there.
 record IsNext (lines : List (List ℕ)) (before : List Record) (entry : Record) : Type 0 where
   pub below : length before < length lines
   pub form : HasForm (get_or lines (length before) []) entry
@@ -243,7 +243,7 @@ module _ (bytes : List ℕ) (before : List Record) where
   next_and_all : (entry : Record) → IsNext (whole_lines bytes) before entry → AreRecords (whole_lines bytes) before → ⊥
   next_and_all entry next all = let count = as_many (whole_lines bytes) before all.form in absurd (omega (arith, count, next.below))
 
--- behind records a text says one thing
+-- after records a text says one thing
 pub one_answer : (bytes : List ℕ) (finished : Bool) (before : List Record) (first second : Result (Option Record) RecordFault) → SaysNext bytes finished before first → SaysNext bytes finished before second → first ≡ second
 one_answer bytes finished before (Ok (Some a)) (Ok (Some b)) f s =
     let first = next_record (whole_lines bytes) before a f in
@@ -300,7 +300,7 @@ account_or_fault bytes records before fault account has =
 abbrev pub SaysSomething : List ℕ → Type 0
 SaysSomething bytes = ((records : List Record) × IsAccountOf bytes records) ⊎ ((before : List Record) × ((fault : RecordFault) × HasFormFault bytes before fault))
 
--- the first lines are those of records, behind which an account stands so
+-- the first lines are those of records, after which an account stands so
 module _ (bytes : List ℕ) (done left : List (List ℕ)) (before : List Record) (place : Place) (lines : whole_lines bytes ≡ done ++ left) (form : AllZip HasForm done before) (at' : place_after before ≡ Some place) where
   done_are : AreRecords (take (length before) (whole_lines bytes)) before
   done_are =

@@ -3,6 +3,7 @@ pub mod BadWordLemmas
 pub mod GrammarLemmas
 pub mod LawLemmas
 pub mod LineLemmas
+pub mod ListLemmas
 pub mod NameLemmas
 pub mod NumberLemmas
 pub mod OrderLemmas

@@ -1,4 +1,4 @@
--- Where an account stands behind one record more, and what its places say.
+-- Where an account stands after one record more, and what its places say.
 use Rattle.std.proofs.Common.{◌≡◌, ℕ, eqb, Bool, true, false, cond, List, [], ◌∷◌, ◌++◌, take, drop, fold, Option, Some, None, IsSome, refl, sym, ap, subst, ◌∙◌, take-append-drop}
 use Rattle.std.proofs.lemmas.Bool.{false≢true}
 use Rattle.std.proofs.lemmas.List.Sums.{fold_push, fold-append}
@@ -34,7 +34,7 @@ front_in_order records more all = by (place_after records) refl
 pub take_in_order : (k : ℕ) (records : List Record) → AreInOrder records → AreInOrder (take k records)
 take_in_order k records all = front_in_order (take k records) (drop k records) (subst AreInOrder (sym (take-append-drop k records)) all)
 
--- where records are in order, there is a place behind them
+-- where records are in order, there is a place after them
 pub place_there : (records : List Record) → AreInOrder records → (place : Place) × (place_after records ≡ Some place)
 place_there records all = by (place_after records) refl
   where
@@ -42,7 +42,7 @@ place_there records all = by (place_after records) refl
     by None e = absurd (false≢true (subst IsSome e all))
     by (Some place) e = (place, e)
 
--- behind a record nothing starts
+-- after a record nothing starts
 not_start : (place : Place) (entry : Record) → place_behind place entry ≡ Some Start → ⊥
 not_start (Logs logs) (record_of.Line line) e = by (eqb logs 0) e
   where

@@ -28,7 +28,7 @@ abbrev pub stops : List (List ℕ) → Bool
 stops [] = true
 stops (word ∷ words) = is_separator word
 
--- some words that may stand behind a list are read
+-- some words that may stand after a list are read
 pub record CanEnd (p : Behind) : Type 0 where
   pub words : List (List ℕ)
   pub entry : Record
@@ -45,7 +45,7 @@ pub record IsStuck (p : Behind) (words : List (List ℕ)) : Type 0 where
   pub stuck : (behind : List (List ℕ)) → p (front ++ word ∷ behind) ≡ Err Number
   pub fits : (n : ℕ) → n < 2 ^ 32 → CanRead (λ behind. p (front ++ decimal n ∷ behind))
 
--- a word behind others is a bad number, or fits
+-- a word after others is a bad number, or fits
 abbrev pub Decides : Behind → List (List ℕ) → List ℕ → Type 0
 Decides p front word = ((behind : List (List ℕ)) → p (front ++ word ∷ behind) ≡ Err Number) ⊎ CanRead (λ behind. p (front ++ word ∷ behind))
 

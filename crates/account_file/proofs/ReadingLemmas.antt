@@ -1,4 +1,4 @@
--- What a step says of the whole text, and how far the text was read behind it.
+-- What a step says of the whole text, and how far the text was read after it.
 use Rattle.std.proofs.Common.{◌≡◌, ◌≢◌, ℕ, ◌+◌, ◌<◌, ◌≤◌, Bool, true, false, cond, List, [], ◌∷◌, ◌++◌, length, get_or, take, drop, All, Option, Some, None, IsSome, IfSome, is_some, Result, Ok, Err, refl, sym, ap, subst, ◌∙◌, arith, append_assoc, append-nil, length-append, length-take-le}
 use Rattle.std.specs.List.{AllZip, flat_map, before_first, after_first, position_or_len}
 use Rattle.std.proofs.Math.Seq.{take-append-add, take-append_seam, get_or-append_seam}
@@ -29,7 +29,7 @@ use Rattle.account_file.proofs.AccountLemmas.{texts_of, length_texts, lines_of_r
 use Rattle.account_file.proofs.LineLemmas.{lines_first, lines_none, behind_none, cut_first, before_first_is_line, no_line_feed_is_line, lines_stay}
 use Rattle.account_file.proofs.OrderLemmas.{place_behind_last}
 
--- a text that begins with the lines of records, behind which an account stands so
+-- a text that begins with the lines of records, after which an account stands so
 module _ (bytes left : List ℕ) (records : List Record) (place : Place) (text : bytes ≡ flat_map record_line records ++ left) (w : All IsWritable records) (at' : place_after records ≡ Some place) where
   lines_are : whole_lines bytes ≡ texts_of records ++ whole_lines left
   lines_are = ap whole_lines text ∙ lines_of_records records left w
@@ -150,7 +150,7 @@ waits left finished place e = by (has_line left) refl
         absurd (subst (StepSays place line) wait (step_says place line))
     by false missing = ltb-false (position_or_len is_line_feed left) (length left) missing
 
--- the fault of a text stays where the text goes on behind its line
+-- the fault of a text stays where the text goes on after its line
 pub fault_stays : (bytes piece : List ℕ) (records : List Record) (wrong : RecordFault) → SaysNext bytes false records (Err wrong) → SaysNext (bytes ++ piece) false records (Err wrong)
 fault_stays bytes piece records wrong said =
     let k = length records in
@@ -215,7 +215,7 @@ next_says reading bytes records has = by reading.fault has.fault
 abbrev faults_given : Option RecordFault → ℕ
 faults_given given = cond (is_some given) 1 0
 
--- what is left behind a record
+-- what is left after a record
 record StepLeaves (place : Place) (left : List ℕ) (entry : Record) (behind : Place) (used : ℕ) : Type 0 where
   pub writable : IsWritable entry
   pub text : left ≡ record_line entry ++ drop used left
@@ -297,7 +297,7 @@ module _ (reading : Reading) (bytes : List ℕ) (records : List Record) (has : H
           (step_of_says bytes reading.left records reading.place reading.finished has.text has.writable has.place)
       by (Some wrong) given = reads_nothing
 
--- where an answer is what the step says, or memory is wanting
+-- where an answer is what the step says, or memory ran out
 
 pub answer_says : (result : Result (Option Record) FileStop) (meant : Result (Option Record) RecordFault) (P : Result (Option Record) RecordFault → Type 0) → Answers (λ found. found) result meant → P meant → Says result P
 answer_says (Ok found) meant P is h = subst P is h

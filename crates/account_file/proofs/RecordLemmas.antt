@@ -31,7 +31,7 @@ use Rattle.account_file.proofs.ValueLemmas.{IsSpelled, AreItems, port_spelled, p
 
 -- what is read is written
 
--- a part was read in front of the words behind it
+-- a part was read in front of the words after it
 pub record Taken {X Y : Type 0} (print : X → List (List ℕ)) (IsFit : X → Type 0) (words : List (List ℕ)) (k : X → List (List ℕ) → Result Y RecordFault) (y : Y) : Type 0 where
   pub value : X
   pub behind : List (List ℕ)

@@ -65,7 +65,7 @@ digits_visible (c ∷ cs) e =
     let above : 32 < c = omega (arith, least) in
     All-cons (λ byte. 32 < byte) c cs above (digits_visible cs k.1)
 
--- what stands behind the first byte that is no digit
+-- what stands after the first byte that is no digit
 pub digits_front : (ds : List ℕ) (s : ℕ) (rest : List ℕ) → all_ascii_digits ds ≡ true → is_ascii_digit s ≡ false → prefix_len is_ascii_digit (ds ++ s ∷ rest) ≡ length ds
 digits_front [] s rest d other = ap (λ b. cond b (1 + prefix_len is_ascii_digit rest) 0) other
 digits_front (c ∷ cs) s rest d other =

@@ -61,7 +61,7 @@ pub counted_more : (given : Option RecordFault) (line left total used : ℕ) →
 counted_more None line left total used none counted two within = omega (arith, counted, two, within)
 counted_more (Some fault) line left total used none counted two within = absurd (none fault refl)
 
--- a line feed that is none of the first bytes is sought behind them
+-- a line feed that is none of the first bytes is sought after them
 pub line_end_within : (bytes : List ℕ) (looked : ℕ) → looked ≤ position_or_len is_line_feed bytes → looked ≤ length bytes
 line_end_within bytes looked none = omega (arith, none, prefix_len-le-length (λ byte. not (is_line_feed byte)) bytes)
 
@@ -76,7 +76,7 @@ line_end_behind (byte ∷ bytes) (suc looked) none = by (not (is_line_feed byte)
     by true below more = let rest = more (omega (arith, below)) in omega (arith, rest)
     by false below more = absurd (omega (arith, below))
 
--- more bytes behind
+-- more bytes after
 later_line_end : (bytes piece : List ℕ) (looked : ℕ) → looked ≤ position_or_len is_line_feed bytes → looked ≤ position_or_len is_line_feed (bytes ++ piece)
 later_line_end bytes piece looked none =
     let p : ℕ → Bool = λ byte. not (is_line_feed byte) in

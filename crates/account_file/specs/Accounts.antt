@@ -20,7 +20,7 @@ pub record AreRecords (lines : List (List ℕ)) (records : List Record) : Type 0
   pub form : AllZip HasForm lines records
   pub order : AreInOrder records
 
--- Records stand behind the header, and their account hasn't ended.
+-- Records stand after the header, and their account hasn't ended.
 pub record AreUnderWay (records : List Record) : Type 0 where
   pub begun : records ≢ []
   pub not_ended : HaveEnded records → ⊥
@@ -48,13 +48,13 @@ pub record HasBadWord (line : List ℕ) : Type 0 where
   pub no_record : (entry : Record) → HasForm line entry → ⊥
   pub no_number : HasBadNumber line → ⊥
 
--- a line has the form of a record that may not stand behind these
+-- a line has the form of a record that may not stand after these
 pub record IsOutOfOrder (before : List Record) (line : List ℕ) : Type 0 where
   pub entry : Record
   pub form : HasForm line entry
   pub out_of_order : MayStand before entry → ⊥
 
--- what is wrong with a whole line behind records
+-- what is wrong with a whole line after records
 abbrev pub LineFault : List Record → List ℕ → RecordFault → Type 0
 LineFault before line fault.Header = (before ≡ []) × (line ≢ codes "npnp 1")
 LineFault before line fault.Word = AreUnderWay before × HasBadWord line
@@ -63,7 +63,7 @@ LineFault before line fault.Order = AreUnderWay before × IsOutOfOrder before li
 LineFault before line fault.Truncated = ⊥
 LineFault before line fault.Trailing = HaveEnded before
 
--- what is wrong where no whole line is left behind records, but this rest
+-- what is wrong where no whole line is left after records, but this rest
 abbrev pub EndFault : List Record → List ℕ → RecordFault → Type 0
 EndFault before rest fault.Header = ⊥
 EndFault before rest fault.Word = ⊥
@@ -72,7 +72,7 @@ EndFault before rest fault.Order = ⊥
 EndFault before rest fault.Truncated = HaveEnded before → ⊥
 EndFault before rest fault.Trailing = HaveEnded before × (rest ≢ [])
 
--- The first fault of form of a text is behind the lines of these records: at the next line, or where the whole lines
+-- The first fault of form of a text is after the lines of these records: at the next line, or where the whole lines
 -- end.
 pub record HasFormFault (bytes : List ℕ) (before : List Record) (fault : RecordFault) : Type 0 where
   pub records : AreRecords (take (length before) (whole_lines bytes)) before
@@ -80,18 +80,18 @@ pub record HasFormFault (bytes : List ℕ) (before : List Record) (fault : Recor
       → LineFault before (slice_index_or (whole_lines bytes) (length before) []) fault
   pub at_end : length (whole_lines bytes) ≤ length before → EndFault before (behind_lines bytes) fault
 
--- A text has no fault of form: its lines are these records, the last is the end, and nothing stands behind.
+-- A text has no fault of form: its lines are these records, the last is the end, and nothing stands after.
 pub record IsAccountOf (bytes : List ℕ) (records : List Record) : Type 0 where
   pub records_are : AreRecords (whole_lines bytes) records
   pub ended : HaveEnded records
   pub nothing_behind : behind_lines bytes ≡ []
 
--- The next record of a text behind these: the next line has its form, and it may stand there.
+-- The next record of a text after these: the next line has its form, and it may stand there.
 abbrev pub IsNextRecord : List ℕ → List Record → Record → Type 0
 IsNextRecord bytes before entry = AreRecords (take (length before + 1) (whole_lines bytes)) (before ++ entry ∷ [])
 
--- What a text says behind the lines of these records: the next record, nothing, or the first fault. Where more bytes
--- may come, what stands behind the last line feed says nothing yet.
+-- What a text says after the lines of these records: the next record, nothing, or the first fault. Where more bytes
+-- may come, what stands after the last line feed says nothing yet.
 abbrev pub SaysNext : List ℕ → Bool → List Record → Result (Option Record) RecordFault → Type 0
 SaysNext bytes finished before (Ok (Some entry)) = IsNextRecord bytes before entry
 SaysNext bytes true before (Ok None) = IsAccountOf bytes before

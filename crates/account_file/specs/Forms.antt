@@ -90,7 +90,7 @@ abbrev pub pair_by : Option PortKind → Option ℕ → Option Bool → Option �
 pair_by (Some kind) (Some from) (Some flip) (Some to) = Some (record { kind = kind; from = from; to = to; flip = flip })
 pair_by kind from flip to = None
 
--- by the digits in front, and by what stands behind them: the sign, and the second number
+-- by the digits in front, and by what stands after them: the sign, and the second number
 abbrev pub pair_behind : Option PortKind → List ℕ → List ℕ → Option Pair
 pair_behind kind from [] = None
 pair_behind kind from (sign ∷ to) =
@@ -123,7 +123,7 @@ abbrev pub digits_by : {X : Type 0} → (ℕ → Result X RecordFault) → List 
 digits_by {X} read [] = Ok []
 digits_by {X} read (digit ∷ digits) = with_digit (read digit) (digits_by read digits)
 
--- the digits behind `=`
+-- the digits after `=`
 abbrev pub digits_behind : List ℕ → Result (List ℕ) RecordFault
 digits_behind [] = Err fault.Word
 digits_behind (sign ∷ digits) = if sign == 61 then Ok digits else Err fault.Word
@@ -202,7 +202,7 @@ record_name_of word =
 abbrev pub named : List ℕ → List ℕ → Result Bool RecordFault
 named name word = if bytes_eq word name then Ok true else Err fault.Word
 
--- A part of a line with the words behind it, or what is wrong with the first word that doesn't fit.
+-- A part of a line with the words after it, or what is wrong with the first word that doesn't fit.
 abbrev pub Parsed : Type 0 → Type 0
 Parsed X = Result (X × List (List ℕ)) RecordFault
 
@@ -234,7 +234,7 @@ list_by {X} read [] = Ok ([], [])
 list_by {X} read (word ∷ words) =
     if is_separator word then Ok ([], word ∷ words) else with_item (read word) (list_by read words)
 
--- the last part of a line, behind which no word stands
+-- the last part of a line, after which no word stands
 abbrev pub last_part : {X : Type 0} → X → List (List ℕ) → Result X RecordFault
 last_part {X} x [] = Ok x
 last_part {X} x (word ∷ words) = Err fault.Word
@@ -287,7 +287,7 @@ step_by step_name.Cover words =
 abbrev pub step_of : List (List ℕ) → Parsed Step
 step_of words = followed (next_by step_name_of words) (λ name words. step_by name words)
 
--- records, by the words behind the first
+-- records, by the words after the first
 abbrev pub none_by : NoneName → List (List ℕ) → Parsed Record
 none_by none_name.Ports words = Ok (record_of.Conclusion NonePorts, words)
 none_by none_name.Ban words =

@@ -3,7 +3,7 @@ use Rattle.std.specs.Prelude.{ℕ, ◌-◌, List, [], length, take, slice_index_
 use Rattle.std.specs.List.{slice_split}
 use Rattle.text_core.specs.Bytes.{is_line_feed}
 
--- what stands before the first line feed, between each two, and behind the last
+-- what stands before the first line feed, between each two, and after the last
 abbrev pub pieces_of : List ℕ → List (List ℕ)
 pieces_of bytes = slice_split is_line_feed bytes
 
@@ -11,6 +11,6 @@ pieces_of bytes = slice_split is_line_feed bytes
 abbrev pub whole_lines : List ℕ → List (List ℕ)
 whole_lines bytes = take (length (pieces_of bytes) - 1) (pieces_of bytes)
 
--- what stands behind the last line feed: the last piece
+-- what stands after the last line feed: the last piece
 abbrev pub behind_lines : List ℕ → List ℕ
 behind_lines bytes = slice_index_or (pieces_of bytes) (length (pieces_of bytes) - 1) []

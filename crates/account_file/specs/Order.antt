@@ -1,4 +1,4 @@
--- What may stand after what in an account (this project's format): the header; facts and bans in any order, behind a fact
+-- What may stand after what in an account (this project's format): the header; facts and bans in any order, after a fact
 -- that holds the lines of its log; a conclusion; the logs that prove it; the end.
 use Rattle.std.specs.Prelude.{◌≡◌, ℕ, ◌-◌, ◌*◌, ◌==◌, Bool, true, false, List, [], ◌∷◌, ◌++◌, count_by, fold, Option, None, Some, IsSome, option_and_then, if◌then◌else◌}
 use Rattle.circuits.specs.declared.port.Pair.{Pair}
@@ -25,7 +25,7 @@ logs_asked NonePorts = 0
 logs_asked (NoneBan ban) = 0
 logs_asked (Match pairs) = 2 * count_by is_output pairs
 
--- how many logs are left behind a line of a log: the empty clause ends a log
+-- how many logs are left after a line of a log: the empty clause ends a log
 abbrev pub logs_behind : {X : Type 0} → ℕ → List X → ℕ
 logs_behind {X} logs [] = logs - 1
 logs_behind {X} logs (literal ∷ clause) = logs
@@ -35,7 +35,7 @@ abbrev pub place_in_log : {X : Type 0} → List X → Place
 place_in_log {X} [] = Headed
 place_in_log {X} (literal ∷ clause) = FactLog
 
--- where an account stands behind a record that may stand there
+-- where an account stands after a record that may stand there
 abbrev pub place_behind : Place → Record → Option Place
 place_behind Start record_of.Header = Some Headed
 place_behind Headed (record_of.Fact (Fails claim bits)) = Some Headed
@@ -51,7 +51,7 @@ place_behind place entry = None
 abbrev pub place_after_one : Option Place → Record → Option Place
 place_after_one place entry = option_and_then (λ p. place_behind p entry) place
 
--- where an account stands behind records, if each may stand where it does
+-- where an account stands after records, if each may stand where it does
 abbrev pub place_after : List Record → Option Place
 place_after records = fold place_after_one (Some Start) records
 
@@ -59,7 +59,7 @@ place_after records = fold place_after_one (Some Start) records
 abbrev pub AreInOrder : List Record → Type 0
 AreInOrder records = IsSome (place_after records)
 
--- a record may stand behind others
+-- a record may stand after others
 abbrev pub MayStand : List Record → Record → Type 0
 MayStand before entry = AreInOrder (before ++ entry ∷ [])
 

@@ -19,7 +19,7 @@ pub record Reading : Type 0 where
   pub fault : Option RecordFault
   pub total : ℕ
 
--- Of the text `bytes`, which came in whatever pieces, these records were given, and perhaps the fault behind them.
+-- Of the text `bytes`, which came in whatever pieces, these records were given, and perhaps the fault after them.
 pub record HasRead (reading : Reading) (bytes : List ℕ) (records : List Record) : Type 0 where
   pub text : bytes ≡ flat_map record_line records ++ reading.left
   pub writable : All IsWritable records
@@ -39,7 +39,7 @@ abbrev pub IsCounted : Option RecordFault → ℕ → ℕ → ℕ → Type 0
 IsCounted None line left total = 2 * line + left ≤ total
 IsCounted (Some fault) line left total = Unit {0}
 
--- What each reader keeps: of the bytes that it holds, the first were read, and no line feed is among the first behind
+-- What each reader keeps: of the bytes that it holds, the first were read, and no line feed is among the first after
 -- them.
 pub record IsReader (bytes : List ℕ) (start looked line : ℕ) (fault : Option RecordFault) (total : ℕ) : Type 0 where
   pub within : start ≤ length bytes

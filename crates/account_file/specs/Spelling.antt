@@ -101,7 +101,7 @@ first_word (record_of.Conclusion (NoneBan ban)) = codes "none"
 first_word (record_of.Conclusion (Match pairs)) = codes "match"
 first_word record_of.End = codes "end"
 
--- the words behind it
+-- the words after it
 abbrev pub other_words : Record → List (List ℕ)
 other_words record_of.Header = codes "1" ∷ []
 other_words (record_of.Fact (Fails claim bits)) = claim_words claim ++ bits_word bits ∷ []

@@ -16,7 +16,7 @@ use Rattle.account_file.specs.Words.{words_of}
 use Rattle.account_file.specs.Order.{place_behind}
 use Rattle.account_file.specs.Reading.{Reading}
 
--- what a line is: a record and where the account stands behind it, or a fault
+-- what a line is: a record and where the account stands after it, or a fault
 abbrev pub placed : Record → Option Place → Result (Record × Place) RecordFault
 placed entry None = Err fault.Order
 placed entry (Some place) = Ok (entry, place)

@@ -7,18 +7,18 @@ use Rattle.account_file.specs.declared.fault.FileStop.{FileStop}
 use Rattle.account_file.specs.declared.fault.FileStop.TheVariants.{Fault, Memory}
 use Rattle.account_file.specs.Forms.{Parsed, digits_behind, list_by, with_item}
 
--- the answer is what is meant, or memory is wanting
+-- the answer is what is meant, or memory ran out
 abbrev pub Answers : {X Y : Type 0} → (X → Y) → Result X FileStop → Result Y RecordFault → Type 0
 Answers {X} {Y} view (Ok x) meant = meant ≡ Ok (view x)
 Answers {X} {Y} view (Err (Fault fault)) meant = meant ≡ Err fault
 Answers {X} {Y} view (Err Memory) meant = Unit {0}
 
--- the part of a line is what is meant, with these words behind it
+-- the part of a line is what is meant, with these words after it
 abbrev pub Gives : {X : Type 0} → Result X RecordFault → List (List ℕ) → Parsed X → Type 0
 Gives {X} (Ok x) words meant = meant ≡ Ok (x, words)
 Gives {X} (Err fault) words meant = meant ≡ Err fault
 
--- the same, or memory is wanting
+-- the same, or memory ran out
 abbrev pub GivesOrStops : {X : Type 0} → Result X FileStop → List (List ℕ) → Parsed X → Type 0
 GivesOrStops {X} (Ok x) words meant = meant ≡ Ok (x, words)
 GivesOrStops {X} (Err (Fault fault)) words meant = meant ≡ Err fault
@@ -32,7 +32,7 @@ GivesItem {X} read (Ok (Some x)) old new =
     (list_by read old ≡ with_item (Ok x) (list_by read new)) × (length new < length old)
 GivesItem {X} read (Err fault) old new = list_by read old ≡ Err fault
 
--- the digits behind `=`
+-- the digits after `=`
 abbrev pub GivesDigits : Result (Bor (List ℕ)) RecordFault → List ℕ → Type 0
 GivesDigits (Ok digits) word = digits_behind word ≡ Ok digits.now
 GivesDigits (Err fault) word = digits_behind word ≡ Err fault
@@ -42,13 +42,13 @@ abbrev pub in_front : {X : Type 0} → List X → Parsed (List X) → Parsed (Li
 in_front {X} front (Ok rest) = Ok (front ++ rest.0, rest.1)
 in_front {X} front (Err fault) = Err fault
 
--- the step is what is meant, or memory is wanting
+-- the step is what is meant, or memory ran out
 abbrev pub AnswersStep : Result Step FileStop → Step → Type 0
 AnswersStep (Ok step) meant = step ≡ meant
 AnswersStep (Err (Fault fault)) meant = ⊥
 AnswersStep (Err Memory) meant = Unit {0}
 
--- the answer is what is said, or memory is wanting
+-- the answer is what is said, or memory ran out
 abbrev pub Says : {X : Type 0} → Result X FileStop → (Result X RecordFault → Type 0) → Type 0
 Says {X} (Ok x) IsSaid = IsSaid (Ok x)
 Says {X} (Err (Fault fault)) IsSaid = IsSaid (Err fault)

@@ -23,7 +23,7 @@ pub enum RecordFault {
     /// The file ends before the line feed of `end`.
     #[error("the file ends before the line `end`")]
     Truncated,
-    /// Something stands behind `end`.
+    /// Something stands after `end`.
     #[error("something stands behind the line `end`")]
     Trailing,
 }
@@ -34,7 +34,7 @@ pub enum FileStop {
     /// The line is wrong.
     #[error("{0}")]
     Fault(RecordFault),
-    /// Memory is wanting.
+    /// Out of memory.
     #[error("out of memory")]
     Memory,
 }

@@ -21,7 +21,7 @@ pub fn one_list_of_records()
         → first ≡ second }
 {}
 
-/// A text says one thing behind the records that were read of it: the next record, the first fault, or nothing.
+/// A text says one thing after the records that were read of it: the next record, the first fault, or nothing.
 pub fn one_answer()
     ensures { (bytes : List ℕ) (finished : Bool) (before : List Entry)
         → (first second : Result (Option Entry) AnyFault)

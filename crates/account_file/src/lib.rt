@@ -17,4 +17,4 @@ pub use fault::{FileStop, RecordFault};
 pub use laws::{account_or_fault, one_answer, one_fault, one_list_of_records, one_record};
 pub use reader::Reader;
 pub use record::Record;
-pub use spelling::put_record;
+pub use spelling::{put_ban, put_fails, put_holds, put_log_line, put_record};

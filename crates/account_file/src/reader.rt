@@ -21,7 +21,7 @@ pub struct Reader {
     bytes: Vec<u8>,
     /// How many of these bytes were read.
     start: usize,
-    /// In how many bytes behind them a line feed was sought, and there was none.
+    /// In how many bytes after them a line feed was sought, and there was none.
     looked: usize,
     finished: bool,
     line: u64,
@@ -101,9 +101,9 @@ impl Reader {
         self.line
     }
 
-    /// What the text says behind the records that were given: the next record, or the first fault. It is None where no
-    /// whole line is left and more may come, and behind the end where nothing is left. After a fault it is that fault
-    /// again; want of memory changes nothing.
+    /// What the text says after the records that were given: the next record, or the first fault. It is None where no
+    /// whole line is left and more may come, and after the end where nothing is left. After a fault it is that fault
+    /// again; running out of memory changes nothing.
     pub fn next(&mut self, alloc: Global) -> Result<Option<Record>, FileStop>
         ensures answer { (bytes : List ℕ) (records : List Entry) → HasRead self.old bytes records
             → Says result (SaysNext bytes self.old.finished records) }

@@ -1,7 +1,8 @@
 //! The lines that records are written as.
 
-ghost use Rattle.std.specs.Prelude.{◌≡◌, [], ◌∷◌, ◌++◌, codes, OnOk, OnErr, map};
+ghost use Rattle.std.specs.Prelude.{◌≡◌, [], ◌∷◌, ◌++◌, codes, All, OnOk, OnErr, map};
 ghost use Rattle.std.specs.Fmt.{decimal as digits_of_number};
+ghost use Rattle.account_file.specs.Spelling.{BanHasNumbers, ClaimHasPorts, HasNumbers, HasPorts, IsNumber, IsPort, IsReference, IsWritable, ShapeHasPorts, StepHasNumbers};
 ghost use Rattle.account_file.specs.Spelling.{bit_digit, bits_word, claim_words, kind_letter, kind_word, line_text, pair_word, record_line, reference_word, shape_words, side_word, sign_of, spaced, step_words, tallied_word, tri_digit, tris_word};
 
 use crate::record::Record;
@@ -20,9 +21,10 @@ use word_sim::Tri;
 /// `fails b 0 swap 1 4 01 =01101`. A line of a log is `l`, the literals, `:` and the hints. A ban is `ban`, its pairs,
 /// `:` and its step. A conclusion is `none ports`, `none ban` and a ban's number, or `match` and the pairs of ports.
 /// The last line is `end`. A pair is `i3+5` where input 3 goes to input 5, and `o0-1` where output 0 goes to output 1
-/// inverted. Numbers have no leading zeros. Want of memory leaves `out` as it was.
+/// inverted. Numbers have no leading zeros. Running out of memory leaves `out` as it was.
 pub fn put_record(entry: &Record, out: &mut Vec<u8>) -> Result<(), AllocError>
     ensures line { OnOk result (out.new.items ≡ out.old.items ++ record_line entry.now) }
+    ensures writable { OnOk result (IsWritable entry.now) }
     ensures refused { OnErr result (out.new.items ≡ out.old.items) }
 {
     let mut line = Vec::new(*out.allocator());
@@ -31,39 +33,88 @@ pub fn put_record(entry: &Record, out: &mut Vec<u8>) -> Result<(), AllocError>
     out.extend_from_slice(&line)
 }
 
-// Writes the line of a record without its line feed. Here and below a first part may stand in `out` where memory is
-// wanting.
+/// Writes the line of a claim that fails, and of the bits that break it. Where memory runs out, a first part may stand in
+/// `out`, here and below.
+pub fn put_fails(claim: Claim, bits: &Bits, out: &mut Vec<u8>) -> Result<(), AllocError>
+    ensures line { OnOk result (out.new.items ≡ out.old.items ++ record_line (Record.Fact (FactHead.Fails claim bits.now))) }
+    ensures writable { OnOk result (IsWritable (Record.Fact (FactHead.Fails claim bits.now))) }
+{
+    put_fails_text(claim, bits, out)?;
+    out.extend_from_slice(b"\n")
+}
+
+/// Writes the line of a claim that holds, which the lines of its log follow.
+pub fn put_holds(claim: Claim, out: &mut Vec<u8>) -> Result<(), AllocError>
+    ensures line { OnOk result (out.new.items ≡ out.old.items ++ record_line (Record.Fact (FactHead.Holds claim))) }
+    ensures writable { OnOk result (IsWritable (Record.Fact (FactHead.Holds claim))) }
+{
+    put_holds_text(claim, out)?;
+    out.extend_from_slice(b"\n")
+}
+
+/// Writes a line of a log.
+pub fn put_log_line(line: &LogLine, out: &mut Vec<u8>) -> Result<(), AllocError>
+    ensures line { OnOk result (out.new.items ≡ out.old.items ++ record_line (Record.Line line.now)) }
+    ensures writable { OnOk result (IsWritable (Record.Line line.now)) }
+{
+    put_log_text(line, out)?;
+    out.extend_from_slice(b"\n")
+}
+
+/// Writes the line of a ban.
+pub fn put_ban(ban: &Ban, out: &mut Vec<u8>) -> Result<(), AllocError>
+    ensures line { OnOk result (out.new.items ≡ out.old.items ++ record_line (Record.Ban ban.now)) }
+    ensures writable { OnOk result (IsWritable (Record.Ban ban.now)) }
+{
+    put_ban_text(ban, out)?;
+    out.extend_from_slice(b"\n")
+}
+
+// Writes the line of a record without its line feed.
 fn put_text(entry: &Record, out: &mut Vec<u8>) -> Result<(), AllocError>
-    ensures { OnOk result (out.new.items ≡ out.old.items ++ line_text entry.now) }
+    ensures text { OnOk result (out.new.items ≡ out.old.items ++ line_text entry.now) }
+    ensures writable { OnOk result (IsWritable entry.now) }
 {
     match entry {
         Record::Header => out.extend_from_slice(b"npnp 1"),
-        Record::Fact(fact) => put_fact(fact, out),
-        Record::Line(line) => put_log_line(line, out),
-        Record::Ban(ban) => put_ban(ban, out),
+        Record::Fact(fact) => put_fact_text(fact, out),
+        Record::Line(line) => put_log_text(line, out),
+        Record::Ban(ban) => put_ban_text(ban, out),
         Record::Conclusion(conclusion) => put_conclusion(conclusion, out),
         Record::End => out.extend_from_slice(b"end"),
     }
 }
 
-fn put_fact(fact: &FactHead, out: &mut Vec<u8>) -> Result<(), AllocError>
-    ensures { OnOk result (out.new.items ≡ out.old.items ++ line_text (Record.Fact fact.now)) }
+fn put_fact_text(fact: &FactHead, out: &mut Vec<u8>) -> Result<(), AllocError>
+    ensures text { OnOk result (out.new.items ≡ out.old.items ++ line_text (Record.Fact fact.now)) }
+    ensures writable { OnOk result (IsWritable (Record.Fact fact.now)) }
 {
     match fact {
-        FactHead::Fails { claim, bits } => {
-            out.extend_from_slice(b"fails")?;
-            put_claim(*claim, out)?;
-            put_bits(bits, out)
-        }
-        FactHead::Holds { claim } => {
-            out.extend_from_slice(b"holds")?;
-            put_claim(*claim, out)
-        }
+        FactHead::Fails { claim, bits } => put_fails_text(*claim, bits, out),
+        FactHead::Holds { claim } => put_holds_text(*claim, out),
     }
 }
 
+fn put_fails_text(claim: Claim, bits: &Bits, out: &mut Vec<u8>) -> Result<(), AllocError>
+    ensures text { OnOk result (out.new.items ≡ out.old.items ++ line_text (Record.Fact (FactHead.Fails claim bits.now))) }
+    ensures ports { OnOk result (ClaimHasPorts claim) }
+{
+    out.extend_from_slice(b"fails")?;
+    put_claim(claim, out)?;
+    put_bits(bits, out)
+}
+
+fn put_holds_text(claim: Claim, out: &mut Vec<u8>) -> Result<(), AllocError>
+    ensures text { OnOk result (out.new.items ≡ out.old.items ++ line_text (Record.Fact (FactHead.Holds claim))) }
+    ensures ports { OnOk result (ClaimHasPorts claim) }
+{
+    out.extend_from_slice(b"holds")?;
+    put_claim(claim, out)
+}
+
 fn put_claim(claim: Claim, out: &mut Vec<u8>) -> Result<(), AllocError>
-    ensures { OnOk result (out.new.items ≡ out.old.items ++ spaced (claim_words claim)) }
+    ensures text { OnOk result (out.new.items ≡ out.old.items ++ spaced (claim_words claim)) }
+    ensures ports { OnOk result (ClaimHasPorts claim) }
 {
     put_side(claim.side, out)?;
     put_number(u64::from(claim.output), out)?;
@@ -80,7 +131,8 @@ fn put_side(side: Side, out: &mut Vec<u8>) -> Result<(), AllocError>
 }
 
 fn put_shape(shape: Shape, out: &mut Vec<u8>) -> Result<(), AllocError>
-    ensures { OnOk result (out.new.items ≡ out.old.items ++ spaced (shape_words shape)) }
+    ensures ports { OnOk result (ShapeHasPorts shape) }
+    ensures text { OnOk result (out.new.items ≡ out.old.items ++ spaced (shape_words shape)) }
 {
     match shape {
         Shape::Up(i) => {
@@ -136,9 +188,9 @@ fn put_tris(tris: &[Tri], out: &mut Vec<u8>) -> Result<(), AllocError>
     Ok(())
 }
 
-// Writes a line of a log.
-fn put_log_line(line: &LogLine, out: &mut Vec<u8>) -> Result<(), AllocError>
-    ensures { OnOk result (out.new.items ≡ out.old.items ++ line_text (Record.Line line.now)) }
+fn put_log_text(line: &LogLine, out: &mut Vec<u8>) -> Result<(), AllocError>
+    ensures text { OnOk result (out.new.items ≡ out.old.items ++ line_text (Record.Line line.now)) }
+    ensures numbers { OnOk result (HasNumbers line.now) }
 {
     out.extend_from_slice(b"l")?;
     put_literals(&line.clause, out)?;
@@ -147,7 +199,8 @@ fn put_log_line(line: &LogLine, out: &mut Vec<u8>) -> Result<(), AllocError>
 }
 
 fn put_literals(literals: &[SatLit], out: &mut Vec<u8>) -> Result<(), AllocError>
-    ensures { OnOk result (out.new.items ≡ out.old.items
+    ensures numbers { OnOk result (All (λ literal. IsNumber literal.0) literals.now) }
+    ensures text { OnOk result (out.new.items ≡ out.old.items
         ++ spaced (map (λ literal. digits_of_number literal.0) literals.now)) }
 {
     for literal in literals.iter() {
@@ -157,7 +210,8 @@ fn put_literals(literals: &[SatLit], out: &mut Vec<u8>) -> Result<(), AllocError
 }
 
 fn put_numbers(numbers: &[u64], out: &mut Vec<u8>) -> Result<(), AllocError>
-    ensures { OnOk result (out.new.items ≡ out.old.items ++ spaced (map digits_of_number numbers.now)) }
+    ensures numbers { OnOk result (All IsNumber numbers.now) }
+    ensures text { OnOk result (out.new.items ≡ out.old.items ++ spaced (map digits_of_number numbers.now)) }
 {
     for number in numbers.iter() {
         put_number(*number, out)?;
@@ -166,7 +220,8 @@ fn put_numbers(numbers: &[u64], out: &mut Vec<u8>) -> Result<(), AllocError>
 }
 
 fn put_ports(ports: &[u32], out: &mut Vec<u8>) -> Result<(), AllocError>
-    ensures { OnOk result (out.new.items ≡ out.old.items ++ spaced (map digits_of_number ports.now)) }
+    ensures ports { OnOk result (All IsPort ports.now) }
+    ensures text { OnOk result (out.new.items ≡ out.old.items ++ spaced (map digits_of_number ports.now)) }
 {
     for port in ports.iter() {
         put_number(u64::from(*port), out)?;
@@ -175,14 +230,16 @@ fn put_ports(ports: &[u32], out: &mut Vec<u8>) -> Result<(), AllocError>
 }
 
 fn put_number(number: u64, out: &mut Vec<u8>) -> Result<(), AllocError>
-    ensures { OnOk result (out.new.items ≡ out.old.items ++ 32 ∷ digits_of_number number) }
+    ensures number { IsNumber number }
+    ensures text { OnOk result (out.new.items ≡ out.old.items ++ 32 ∷ digits_of_number number) }
 {
     out.extend_from_slice(b" ")?;
     put_decimal(number, out)
 }
 
-fn put_ban(ban: &Ban, out: &mut Vec<u8>) -> Result<(), AllocError>
-    ensures { OnOk result (out.new.items ≡ out.old.items ++ line_text (Record.Ban ban.now)) }
+fn put_ban_text(ban: &Ban, out: &mut Vec<u8>) -> Result<(), AllocError>
+    ensures text { OnOk result (out.new.items ≡ out.old.items ++ line_text (Record.Ban ban.now)) }
+    ensures numbers { OnOk result (BanHasNumbers ban.now) }
 {
     out.extend_from_slice(b"ban")?;
     put_pairs(&ban.pairs, out)?;
@@ -191,7 +248,8 @@ fn put_ban(ban: &Ban, out: &mut Vec<u8>) -> Result<(), AllocError>
 }
 
 fn put_step(step: &Step, out: &mut Vec<u8>) -> Result<(), AllocError>
-    ensures { OnOk result (out.new.items ≡ out.old.items ++ spaced (step_words step.now)) }
+    ensures numbers { OnOk result (StepHasNumbers step.now) }
+    ensures text { OnOk result (out.new.items ≡ out.old.items ++ spaced (step_words step.now)) }
 {
     match step {
         Step::Vector { output, bits } => {
@@ -215,7 +273,8 @@ fn put_step(step: &Step, out: &mut Vec<u8>) -> Result<(), AllocError>
 }
 
 fn put_tally(kind: Tallied, have: &[u64], lack: &[u64], out: &mut Vec<u8>) -> Result<(), AllocError>
-    ensures { OnOk result (out.new.items ≡ out.old.items
+    ensures numbers { OnOk result (StepHasNumbers (Step.Tally kind have.now lack.now)) }
+    ensures text { OnOk result (out.new.items ≡ out.old.items
         ++ spaced (step_words (Step.Tally kind have.now lack.now))) }
 {
     out.extend_from_slice(b" tally")?;
@@ -232,7 +291,8 @@ fn put_cover(
     refs: &[Option<u64>],
     out: &mut Vec<u8>,
 ) -> Result<(), AllocError>
-    ensures { OnOk result (out.new.items ≡ out.old.items
+    ensures numbers { OnOk result (StepHasNumbers (Step.Cover kind from.now to.now refs.now)) }
+    ensures text { OnOk result (out.new.items ≡ out.old.items
         ++ spaced (step_words (Step.Cover kind from.now to.now refs.now))) }
 {
     out.extend_from_slice(b" cover")?;
@@ -263,7 +323,8 @@ fn put_port_kind(kind: PortKind, out: &mut Vec<u8>) -> Result<(), AllocError>
 }
 
 fn put_references(references: &[Option<u64>], out: &mut Vec<u8>) -> Result<(), AllocError>
-    ensures { OnOk result (out.new.items ≡ out.old.items ++ spaced (map reference_word references.now)) }
+    ensures numbers { OnOk result (All IsReference references.now) }
+    ensures text { OnOk result (out.new.items ≡ out.old.items ++ spaced (map reference_word references.now)) }
 {
     for reference in references.iter() {
         put_reference(*reference, out)?;
@@ -272,7 +333,8 @@ fn put_references(references: &[Option<u64>], out: &mut Vec<u8>) -> Result<(), A
 }
 
 fn put_reference(reference: Option<u64>, out: &mut Vec<u8>) -> Result<(), AllocError>
-    ensures { OnOk result (out.new.items ≡ out.old.items ++ 32 ∷ reference_word reference) }
+    ensures number { IsReference reference }
+    ensures text { OnOk result (out.new.items ≡ out.old.items ++ 32 ∷ reference_word reference) }
 {
     match reference {
         Some(ban) => put_number(ban, out),
@@ -281,7 +343,8 @@ fn put_reference(reference: Option<u64>, out: &mut Vec<u8>) -> Result<(), AllocE
 }
 
 fn put_conclusion(conclusion: &Conclusion, out: &mut Vec<u8>) -> Result<(), AllocError>
-    ensures { OnOk result (out.new.items ≡ out.old.items ++ line_text (Record.Conclusion conclusion.now)) }
+    ensures writable { OnOk result (IsWritable (Record.Conclusion conclusion.now)) }
+    ensures text { OnOk result (out.new.items ≡ out.old.items ++ line_text (Record.Conclusion conclusion.now)) }
 {
     match conclusion {
         Conclusion::NonePorts => out.extend_from_slice(b"none ports"),
@@ -297,7 +360,8 @@ fn put_conclusion(conclusion: &Conclusion, out: &mut Vec<u8>) -> Result<(), Allo
 }
 
 fn put_pairs(pairs: &[Pair], out: &mut Vec<u8>) -> Result<(), AllocError>
-    ensures { OnOk result (out.new.items ≡ out.old.items ++ spaced (map pair_word pairs.now)) }
+    ensures ports { OnOk result (All HasPorts pairs.now) }
+    ensures text { OnOk result (out.new.items ≡ out.old.items ++ spaced (map pair_word pairs.now)) }
 {
     for pair in pairs.iter() {
         put_pair(*pair, out)?;
@@ -306,7 +370,8 @@ fn put_pairs(pairs: &[Pair], out: &mut Vec<u8>) -> Result<(), AllocError>
 }
 
 fn put_pair(pair: Pair, out: &mut Vec<u8>) -> Result<(), AllocError>
-    ensures { OnOk result (out.new.items ≡ out.old.items ++ 32 ∷ pair_word pair) }
+    ensures ports { HasPorts pair }
+    ensures text { OnOk result (out.new.items ≡ out.old.items ++ 32 ∷ pair_word pair) }
 {
     out.extend_from_slice(b" ")?;
     put_kind(pair.kind, out)?;

@@ -22,7 +22,7 @@ use text_core::line_length;
 pub enum Step {
     /// Nothing.
     Wait,
-    /// A record is read: so many bytes are used, and the account stands there.
+    /// A record is read: n bytes are used, and the account stands there.
     Read {
         entry: Record,
         place: Place,
@@ -99,7 +99,7 @@ fn step_at_line(alloc: Global, place: Place, line: &[u8]) -> Result<Step, FileSt
     }
 }
 
-// The record of a line, and where the account stands behind it.
+// The record of a line, and where the account stands after it.
 fn line_at(alloc: Global, place: Place, line: &[u8]) -> Result<(Record, Place), FileStop>
     ensures { Answers (λ found. found) result (line_at place line.now) }
 {
@@ -129,7 +129,7 @@ fn in_place(place: Place, entry: Record) -> Result<(Record, Place), RecordFault>
     Ok((entry, place))
 }
 
-// Where the account stands behind a record, if the record may stand there.
+// Where the account stands after a record, if the record may stand there.
 fn place_behind(place: Place, entry: &Record) -> Option<Place>
     ensures { result ≡ place_behind place entry.now }
 {
@@ -148,7 +148,7 @@ fn place_behind(place: Place, entry: &Record) -> Option<Place>
     }
 }
 
-// Where the account stands behind a line of a fact's log, which the empty clause ends.
+// Where the account stands after a line of a fact's log, which the empty clause ends.
 fn place_in_log(line: &LogLine) -> Place
     ensures { result ≡ place_in_log line.now.clause }
 {
@@ -159,7 +159,7 @@ fn place_in_log(line: &LogLine) -> Place
     }
 }
 
-// Where the account stands behind a line of a conclusion's logs, of which so many are left.
+// Where the account stands after a line of a conclusion's logs, of which n are left.
 fn place_in_logs(logs: u64, line: &LogLine) -> Option<Place>
     ensures { result ≡ place_behind (Place.Logs logs) (Record.Line line.now) }
 {

@@ -114,7 +114,7 @@ fn pair_in(word: &[u8]) -> Option<Pair>
     pair_behind(kind_of_letter(*letter), &rest[..count], &rest[count..])
 }
 
-// The pair of a kind and a first number, by what stands behind the number.
+// The pair of a kind and a first number, by what stands after the number.
 fn pair_behind(kind: Option<PortKind>, from: &[u8], behind: &[u8]) -> Option<Pair>
     ensures { result ≡ pair_behind kind from.now behind.now }
 {
@@ -184,7 +184,7 @@ fn tri_of(digit: u8) -> Result<Tri, RecordFault>
     }
 }
 
-// The digits behind `=`.
+// The digits after `=`.
 fn digits_of(word: &[u8]) -> Result<&[u8], RecordFault>
     ensures { GivesDigits result word.now }
 {

@@ -130,7 +130,7 @@ impl<'a> Words<'a> {
     }
 }
 
-// The first word, and what stands behind the blank behind it, if there is a blank.
+// The first word, and what stands after the blank after it, if there is a blank.
 fn cut(line: &[u8]) -> Option<(&[u8], &[u8])>
     ensures words { IfSome result (λ parts. words_of line.now ≡ parts.0.now ∷ words_of parts.1.now) }
     ensures alone { IfNone result (words_of line.now ≡ line.now ∷ []) }

@@ -8,7 +8,7 @@ use std::alloc::{AllocError, Global};
 use std::test::Fail;
 
 /// The first bad line of an account, and the word for it.
-fn bad_line(alloc: Global, graphs: &Graphs, account: &str) -> Option<(u64, &'static str)> {
+fn bad_line(alloc: Global, graphs: &Graphs<'_>, account: &str) -> Option<(u64, &'static str)> {
     match check(alloc, graphs, account.as_bytes()) {
         Err(CheckStop::Rejected { line, why }) => Some((line, why.word())),
         _ => None,
@@ -22,7 +22,7 @@ fn is_inverting(matching: &Matching) -> bool {
 }
 
 /// Whether an account proves this matching.
-fn proves_inverting(alloc: Global, graphs: &Graphs, account: &str) -> bool {
+fn proves_inverting(alloc: Global, graphs: &Graphs<'_>, account: &str) -> bool {
     match check(alloc, graphs, account.as_bytes()) {
         Ok(Verdict::Match(matching)) => is_inverting(&matching),
         _ => false,
@@ -69,7 +69,8 @@ static BAD_MATCHES: [(&str, u64, &str); 12] = [
 
 #[test]
 fn accepts_a_match_and_finds_bad_lines(rt: HostRuntime) -> Result<(), Fail> {
-    let graphs = and_or(rt.alloc())?;
+    let both = and_or(rt.alloc())?;
+    let graphs = both.graphs();
     let good = "npnp 1\nmatch i0-0 i1-1 o0-0\nl : 7 8 1 2 6\nl : 7 8 4 5 3\nend\n";
     assert!(rt; proves_inverting(rt.alloc(), &graphs, good));
     for (account, line, word) in BAD_MATCHES.iter() {
@@ -115,7 +116,7 @@ fn put_refusal_with(line: usize, text: &str, account: &mut Text) -> Result<(), A
 }
 
 /// Whether the refusal proves that there is no match.
-fn proves_refusal(alloc: Global, graphs: &Graphs) -> bool {
+fn proves_refusal(alloc: Global, graphs: &Graphs<'_>) -> bool {
     let mut account = Text::new(alloc);
     if put_refusal_with(0, "", &mut account).is_err() {
         return false;
@@ -126,10 +127,10 @@ fn proves_refusal(alloc: Global, graphs: &Graphs) -> bool {
     }
 }
 
-/// The first bad line of the refusal with another line in the place of one; none where memory is wanting.
+/// The first bad line of the refusal with another line in the place of one; none when out of memory.
 fn bad_line_with(
     alloc: Global,
-    graphs: &Graphs,
+    graphs: &Graphs<'_>,
     line: usize,
     text: &str,
 ) -> Option<(u64, &'static str)> {
@@ -161,7 +162,8 @@ static BAD_LINES: [(usize, &str, &str); 14] = [
 
 #[test]
 fn accepts_a_refusal_and_finds_bad_lines(rt: HostRuntime) -> Result<(), Fail> {
-    let graphs = zero_wire(rt.alloc())?;
+    let both = zero_wire(rt.alloc())?;
+    let graphs = both.graphs();
     assert!(rt; proves_refusal(rt.alloc(), &graphs));
     for (line, text, word) in BAD_LINES.iter() {
         let found = bad_line_with(rt.alloc(), &graphs, *line, text);

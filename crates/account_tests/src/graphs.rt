@@ -1,6 +1,7 @@
 //! Small circuits.
 
-use net_core::{Gate, Graph, Graphs, Lit};
+use net_core::{Gate, Graph, Lit};
+use samples::GraphPair;
 use std::alloc::{AllocError, Global};
 use std::test::Fail;
 
@@ -16,8 +17,8 @@ fn gate_of(alloc: Global, a: u32, b: u32, output: u32) -> Result<Graph, Fail> {
 }
 
 /// The AND of two inputs, and their OR.
-pub fn and_or(alloc: Global) -> Result<Graphs, Fail> {
-    Ok(Graphs {
+pub fn and_or(alloc: Global) -> Result<GraphPair, Fail> {
+    Ok(GraphPair {
         first: gate_of(alloc, 2, 4, 6)?,
         second: gate_of(alloc, 3, 5, 7)?,
     })
@@ -30,8 +31,8 @@ fn wire(alloc: Global, output: u32) -> Result<Graph, Fail> {
 }
 
 /// Constant 0, and the one input: no match exists.
-pub fn zero_wire(alloc: Global) -> Result<Graphs, Fail> {
-    Ok(Graphs {
+pub fn zero_wire(alloc: Global) -> Result<GraphPair, Fail> {
+    Ok(GraphPair {
         first: wire(alloc, 0)?,
         second: wire(alloc, 2)?,
     })

@@ -188,7 +188,7 @@ fn end(alloc: Global, reader: &mut Reader, text: &mut Vec<u8>) -> Result<Ending,
     Ok((fault, reader.line()))
 }
 
-/// Reads a short account in two pieces, of which the first has so many bytes.
+/// Reads a short account in two pieces, of which the first has n bytes.
 fn read_cut(
     alloc: Global,
     account: &[u8],
@@ -246,7 +246,7 @@ end
 
 const OTHER_PORT_COUNTS: &str = "npnp 1\nnone ports\nend\n";
 
-/// Whether an account of so many lines is read whole, and written out again as it stands, where it is cut there.
+/// Whether an account of n lines is read whole, and written out again as it stands, where it is cut there.
 fn is_read_back(alloc: Global, account: &str, cut: usize, lines: u64) -> Result<bool, AllocError> {
     let mut text = Vec::new(alloc);
     let ending = read_cut(alloc, account.as_bytes(), cut, &mut text)?;

@@ -48,7 +48,7 @@ fn pairs_of(input_inverted: bool, output_inverted: bool) -> [Pair; 2] {
 /// Whether a step shows a ban of some pairs.
 fn is_shown(
     alloc: Global,
-    graphs: &Graphs,
+    graphs: &Graphs<'_>,
     given: &Given,
     pairs: &[Pair],
     step: &Step,
@@ -66,7 +66,7 @@ fn is_shown(
 /// Whether a vector shows a ban: the AND of a 0 is 0, and the OR of a 1 is 1.
 fn shown_by_vector(
     alloc: Global,
-    graphs: &Graphs,
+    graphs: &Graphs<'_>,
     given: &Given,
     pairs: &[Pair],
 ) -> Result<bool, AllocError> {
@@ -83,7 +83,7 @@ fn shown_by_vector(
 /// Whether fact 0 and another one show a ban.
 fn shown_by_facts(
     alloc: Global,
-    graphs: &Graphs,
+    graphs: &Graphs<'_>,
     given: &Given,
     pairs: &[Pair],
     holds: u64,
@@ -100,7 +100,7 @@ fn shown_by_facts(
 /// Whether a ban is shown by a vector, by two facts, and by a fact that isn't there.
 fn ways_shown(
     alloc: Global,
-    graphs: &Graphs,
+    graphs: &Graphs<'_>,
     given: &Given,
     pairs: &[Pair],
 ) -> Result<(bool, bool, bool), AllocError> {
@@ -114,7 +114,7 @@ fn ways_shown(
 /// The same where both facts are given.
 fn ways_shown_by_both(
     alloc: Global,
-    graphs: &Graphs,
+    graphs: &Graphs<'_>,
     pairs: &[Pair],
 ) -> Result<(bool, bool, bool), AllocError> {
     let mut given = Given::new(alloc);
@@ -124,7 +124,8 @@ fn ways_shown_by_both(
 
 #[test]
 fn steps_show_bans(rt: HostRuntime) -> Result<(), Fail> {
-    let graphs = and_or(rt.alloc())?;
+    let both = and_or(rt.alloc())?;
+    let graphs = both.graphs();
     assert!(rt; have_as_many(&graphs) & are_ordered(&[]));
     for (input_inverted, output_inverted, by_vector, by_mismatch) in [
         (false, false, false, true),

@@ -38,7 +38,7 @@ head_derived : (formula : Formula) (taken : List (List SatLit)) (line : LogLine)
 head_derived formula taken line lines derived =
     subst (λ t. line_fault formula t line ≡ None) (append-nil taken) (derived 0 line (omega arith))
 
--- behind the empty line there is none
+-- after the empty line there is none
 last_line : (formula : Formula) (taken : List (List SatLit)) (lines : List LogLine) → list_any is_empty taken ≡ true → AreDerivedBehind formula taken lines → lines ≡ []
 last_line formula taken [] closed derived = refl
 last_line formula taken (line ∷ lines) closed derived = absurd (closed_fault (list_any is_empty taken) _ closed (head_derived formula taken line lines derived))

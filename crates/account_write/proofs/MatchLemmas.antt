@@ -8,13 +8,13 @@ use Rattle.circuits.specs.Matches.{HavePorts}
 use Rattle.cnf_core.specs.declared.literal.SatLit.{SatLit}
 use Rattle.cnf_core.specs.declared.log.Log.{Log}
 use Rattle.cnf_core.specs.Derivations.{IsRefutation}
-use Rattle.net_core.specs.declared.graphs.Graphs.{Graphs}
+use Rattle.net_core.specs.Sides.{Graphs}
 use Rattle.net_core.specs.declared.matching.Matching.{Matching}
 use Rattle.query_core.specs.Formulas.{formula_of}
 use Rattle.query_core.specs.MatchQueries.{match_query}
 use Rattle.account_core.specs.declared.conclusion.Conclusion.TheVariants as conclusion
 use Rattle.account_core.specs.Given.{Given}
-use Rattle.account_core.specs.Oracles.{AreSame}
+use Rattle.account_core.specs.Shown.{AreSame, AreLogs, IsShownMatch}
 use Rattle.account_core.specs.Ports.{HaveAsMany}
 use Rattle.account_file.specs.declared.place.Place.{Place}
 use Rattle.account_file.specs.declared.place.Place.TheVariants as place
@@ -27,20 +27,19 @@ use Rattle.account_check.specs.Accounts.{Account, after, empty_account}
 use Rattle.account_check.specs.Logs.{log_query, nothing, refutation_of}
 use Rattle.account_check.specs.Verdicts.{IsAccepted}
 use Rattle.account_check.proofs.PairLemmas.{outputs_counted}
-use Rattle.match_search.specs.Founds.{AreLogs, IsShownMatch}
 use Rattle.account_write.specs.Records.{account_of, log_records, match_records, pairs_of_matching}
 use Rattle.account_write.proofs.TakenLemmas.{IsTaken, Lead, accepted_at_end, lead_first, lead_from, lead_none, lead_on, lead_one}
 use Rattle.account_write.proofs.LogLemmas.{IsOpenLog, refutation_leads}
 use Rattle.account_write.proofs.PairLemmas.{matching_back, pairs_in_order, pairs_known, pairs_whole}
 
--- an account behind its header, with facts and bans
+-- an account after its header, with facts and bans
 abbrev pub headed : Graphs → Given → Account
 headed graphs given = record { graphs = graphs; place = place.Headed; given = given; fact = None; proof = nothing; concluded = None }
 
 abbrev pub none_given : Given
 none_given = record { facts = []; bans = [] }
 
--- an account that concludes in a match, with so many logs left and closed, and these clauses of the open one
+-- an account that concludes in a match, with n logs left and closed, and these clauses of the open one
 abbrev pub proving : Graphs → Given → Matching → ℕ → ℕ → List (List SatLit) → Account
 proving graphs given matching left closed taken = record {
   graphs = graphs;

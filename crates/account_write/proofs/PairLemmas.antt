@@ -7,7 +7,7 @@ use Rattle.circuits.specs.declared.port.PortKind.{PortKind}
 use Rattle.circuits.specs.declared.port.PortKind.TheVariants.{Input, Output}
 use Rattle.circuits.specs.Bijections.{IsSignedBijection}
 use Rattle.circuits.specs.Matches.{HavePorts}
-use Rattle.net_core.specs.declared.graphs.Graphs.{Graphs}
+use Rattle.net_core.specs.Sides.{Graphs}
 use Rattle.net_core.specs.declared.matching.Matching.{Matching}
 use Rattle.account_core.specs.Covers.{way}
 use Rattle.account_core.specs.Ports.{ports_in, IsKnown}

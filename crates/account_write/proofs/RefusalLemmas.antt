@@ -6,7 +6,7 @@ use Rattle.std.proofs.lemmas.List.Elements.{All-cons, All-head, All-nil, All-tai
 use Rattle.circuits.specs.declared.port.Pair.{Pair}
 use Rattle.circuits.specs.Literals.{EachAt}
 use Rattle.cnf_core.specs.declared.literal.SatLit.{SatLit}
-use Rattle.net_core.specs.declared.graphs.Graphs.{Graphs}
+use Rattle.net_core.specs.Sides.{Graphs}
 use Rattle.net_core.specs.Sides.{graph_of}
 use Rattle.query_core.specs.declared.claims.Claim.{Claim}
 use Rattle.query_core.specs.declared.claims.Shape.{Shape}
@@ -22,7 +22,7 @@ use Rattle.account_core.specs.declared.fact.FactHead.TheVariants as head
 use Rattle.account_core.specs.declared.step.Ban.{Ban}
 use Rattle.account_core.specs.declared.step.Step.TheVariants.{Mismatch}
 use Rattle.account_core.specs.Given.{Decided, Given, decided_by, pairs_of, shown_by}
-use Rattle.account_core.specs.Oracles.{AreFacts, IsEvidence, IsFact}
+use Rattle.account_core.specs.Facts.{AreFacts, IsEvidence, IsFact}
 use Rattle.account_core.specs.Ports.{HaveAsMany}
 use Rattle.account_core.specs.Steps.{AreValidBans, IsValidBan}
 use Rattle.account_file.specs.declared.place.Place.TheVariants as place
@@ -34,7 +34,7 @@ use Rattle.account_check.specs.Accounts.{Account, empty_account}
 use Rattle.account_check.specs.Facts.{AreInputs, IsLesserFirst}
 use Rattle.account_check.specs.Logs.{nothing, refutation_of, with_fact}
 use Rattle.account_check.specs.Verdicts.{IsAccepted}
-use Rattle.match_search.specs.Founds.{IsEmptyBan}
+use Rattle.account_core.specs.Shown.{IsEmptyBan}
 use Rattle.account_write.specs.Records.{account_of, fact_records, none_ports_records, refusal_records, shown_records}
 use Rattle.account_write.proofs.TakenLemmas.{IsTaken, Lead, accepted_at_end, lead_first, lead_none, lead_on, lead_one}
 use Rattle.account_write.proofs.LogLemmas.{IsOpenLog, refutation_leads}

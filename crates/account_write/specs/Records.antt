@@ -1,4 +1,4 @@
--- The records of the account of what a search came to (this project's format): behind the header, for a match its pairs and the
+-- The records of the account of what a search came to (this project's format): after the header, for a match its pairs and the
 -- logs that show it; for none the facts and bans, up to a ban without pairs; or that the circuits have other numbers of ports.
 use Rattle.std.specs.Prelude.{ℕ, ◌+◌, Bool, List, [], ◌∷◌, ◌++◌, map}
 use Rattle.std.specs.List.{flat_map}
@@ -36,7 +36,7 @@ log_records log = map (λ line. entry.Line line) log.lines
 abbrev pub lines_of : List Record → List ℕ
 lines_of records = flat_map record_line records
 
--- a fact, and behind one that holds the lines of its log
+-- a fact, and after one that holds the lines of its log
 abbrev pub shown_records : Claim → Evidence → List Record
 shown_records claim (evidence.Fails bits) = entry.Fact (head.Fails claim bits) ∷ []
 shown_records claim (evidence.Holds log) = entry.Fact (head.Holds claim) ∷ log_records log

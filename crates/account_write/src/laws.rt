@@ -2,18 +2,18 @@
 
 ghost use Rattle.std.specs.Prelude.{ℕ, List, All, map};
 ghost use Rattle.cnf_core.specs.declared.log.Log.{Log as AnyLog};
-ghost use Rattle.net_core.specs.declared.graphs.Graphs.{Graphs as TwoGraphs};
+ghost use Rattle.net_core.specs.Sides.{Graphs as TwoGraphs};
 ghost use Rattle.net_core.specs.declared.matching.Matching.{Matching as Table};
 ghost use Rattle.account_core.specs.declared.fact.Fact.{Fact as AnyFact};
 ghost use Rattle.account_core.specs.declared.step.Ban.{Ban as AnyBan};
 ghost use Rattle.account_core.specs.Given.{decided_by};
 ghost use Rattle.account_core.specs.Ports.{HaveAsMany};
-ghost use Rattle.account_core.specs.Oracles.{AreFacts};
+ghost use Rattle.account_core.specs.Facts.{AreFacts};
 ghost use Rattle.account_core.specs.Steps.{AreValidBans};
 ghost use Rattle.account_file.specs.Spelling.{IsWritable};
 ghost use Rattle.account_check.specs.declared.verdict.Verdict.TheVariants as verdict;
 ghost use Rattle.account_check.specs.Verdicts.{IsAccepted};
-ghost use Rattle.match_search.specs.Founds.{IsEmptyBan, IsShownMatch};
+ghost use Rattle.account_core.specs.Shown.{IsEmptyBan, IsShownMatch};
 ghost use Rattle.account_write.specs.Records.{account_of, match_records, none_ports_records, refusal_records};
 
 /// The account of a match that logs show is accepted, and proves the match.

@@ -19,7 +19,7 @@ use net_core::Matching;
 use std::alloc::{AllocError, Global};
 
 /// Writes the account of a match at the end of `out`, up to the line `end`: the header, the pairs of all ports, and the
-/// lines of the logs, two for each output, in order. Where memory is wanting, a first part may stand in `out`, here and
+/// lines of the logs, two for each output, in order. When out of memory, a first part may stand in `out`, here and
 /// below.
 pub fn put_match(
     alloc: Global,
@@ -92,7 +92,7 @@ pub fn put_none_ports(out: &mut Vec<u8>) -> Result<(), AllocError>
     put_entry(Record::Conclusion(Conclusion::NonePorts), out)
 }
 
-/// Writes the last line of an account at the end of `out`. Want of memory leaves `out` as it was.
+/// Writes the last line of an account at the end of `out`. Running out of memory leaves `out` as it was.
 pub fn put_end(out: &mut Vec<u8>) -> Result<(), AllocError>
     ensures line { OnOk result (out.new.items ≡ out.old.items ++ record_line End) }
     ensures refused { OnErr result (out.new.items ≡ out.old.items) }
@@ -176,7 +176,7 @@ fn put_facts(facts: &[Fact], out: &mut Vec<u8>) -> Result<(), AllocError>
     Ok(())
 }
 
-// Writes a fact, and behind one that holds the lines of its log.
+// Writes a fact, and after one that holds the lines of its log.
 fn put_fact(fact: &Fact, out: &mut Vec<u8>) -> Result<(), AllocError>
     ensures { OnOk result (out.new.items ≡ out.old.items ++ fact_lines fact.now) }
 {

@@ -41,7 +41,7 @@ last_group most byte n bytes rest here below same some = record {
   short = omega arith;
 }
 
--- a group with others behind it
+-- a group with others after it
 pub group_before : (most less byte low high : ℕ) (bytes middle rest : List ℕ) → bytes ≡ byte ∷ middle → 128 ≤ byte → low ≡ byte - 128 → most ≡ less + 1 → BeginsGroups less middle high rest → BeginsGroups most bytes (low + 128 * high) rest
 group_before most less byte low high bytes middle rest here above same count behind = record {
   groups = byte ∷ behind.groups;
@@ -50,7 +50,7 @@ group_before most less byte low high bytes middle rest here above same count beh
   short = omega (arith, behind.short);
 }
 
--- what stands behind a group that isn't the last
+-- what stands after a group that isn't the last
 behind_group : (byte n : ℕ) (groups middle rest : List ℕ) → byte ∷ middle ≡ groups ++ rest → 128 ≤ byte → IsInGroups groups n → (others : List ℕ) × (high : ℕ) × (middle ≡ others ++ rest) × IsInGroups others high × (length groups ≡ length others + 1)
 behind_group byte n [] middle rest same above value = absurd value
 behind_group byte n (one ∷ []) middle rest same above value =

@@ -10,7 +10,7 @@ use Rattle.aiger_reader.specs.Words.{numbers_on, AreSmall}
 use Rattle.aiger_reader.specs.Headers.{AigerHeader, header_numbers, keyword, line_behind, WritesHeader, HasHeader}
 use Rattle.aiger_reader.specs.Numbers.{header_from, WritesNumbers, IsCounted}
 
--- behind as many numbers as a row has, nothing is left
+-- after as many numbers as a row has, nothing is left
 none_left : (done numbers : List ℕ) (whole left : List (Option ℕ)) → whole ≡ map Some done ++ left → length numbers ≤ length done → whole ≡ map Some numbers → left ≡ []
 none_left done numbers whole left front all same =
     nil_from_length left (omega (arith, ap length front, ap length same, length-append (map Some done) left, length-map done (λ (n : ℕ). Some n), length-map numbers (λ (n : ℕ). Some n)))
@@ -29,7 +29,7 @@ pub small_more : (row : List ℕ) (i n : ℕ) → i < length row → n < 2 ^ 32 
 small_more row i n h small front =
     subst AreSmall (sym (take_more_set row i n h)) (All-append (λ n. n < 2 ^ 32) (take i row) (n ∷ []) front (All-cons (λ n. n < 2 ^ 32) n [] small (All-nil (λ n. n < 2 ^ 32))))
 
--- numbers that fill a row with a word behind them are more than the row has room for
+-- numbers that fill a row with a word after them are more than the row has room for
 pub no_room : (done numbers : List ℕ) (whole left : List (Option ℕ)) → whole ≡ map Some done ++ left → (left ≡ [] → ⊥) → length numbers ≤ length done → whole ≡ map Some numbers → ⊥
 no_room done numbers whole left front some few same = some (none_left done numbers whole left front few same)
 
@@ -38,7 +38,7 @@ pub line_behind-first : (bytes left line : List ℕ) (rest : List (List ℕ)) �
 line_behind-first bytes left line rest behind next =
     ap (λ (ls : List (List ℕ)). get_or ls 0 []) (ap lines (sym behind) ∙ next)
 
--- a file with nothing behind the keyword has no numbers
+-- a file with nothing after the keyword has no numbers
 pub no_line : (bytes left : List ℕ) → left ≡ drop 4 bytes → lines left ≡ [] → (h : AigerHeader) → WritesHeader (line_behind bytes) h → ⊥
 no_line bytes left behind none h writes =
     let empty : line_behind bytes ≡ [] = ap (λ (ls : List (List ℕ)). get_or ls 0 []) (ap lines (sym behind) ∙ none) in

@@ -47,7 +47,7 @@ below_or_not zero (suc b) = inl (omega arith)
 below_or_not (suc a) (suc b) =
     elim (below_or_not a b) [ inl h ↦ inl (omega arith) | inr h ↦ inr (omega arith) ]
 
--- the offset behind a line, where anything is left there
+-- the offset after a line, where anything is left there
 offset_behind : (left line : Piece) → first_line left ≡ Some line → ((after_line left).bytes ≡ []) ⊎ ((after_line left).at ≡ left.at + (length line.bytes + 1))
 offset_behind left line first =
     let n = line_length left.bytes in

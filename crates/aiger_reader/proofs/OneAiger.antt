@@ -3,7 +3,7 @@ use Rattle.std.proofs.Common.{◌≡◌, ℕ, ◌+◌, ◌⊎◌, Bool, true, fa
 use Rattle.circuits.specs.Circuits.{Circuit}
 use Rattle.circuits.specs.Levels.{IsAcyclic, IsFirstLooped}
 use Rattle.circuits.proofs.OneOrder.{one_first_looped, acyclic_not_looped}
-use Rattle.net_core.specs.declared.named.NetKind.{NetKind}
+use Rattle.net_file.specs.declared.fault.NetKind.{NetKind}
 use Rattle.aiger_reader.specs.Headers.{AigerHeader, Begins}
 use Rattle.aiger_reader.specs.Bodies.{IsBody, IsBodyFault, IsUndefined, line_offset}
 use Rattle.aiger_reader.specs.Deltas.{IsDeltaFault, binary_circuit}
@@ -43,7 +43,7 @@ one_netlist bytes a b i o j p one other =
     let names = names_same one.h.inputs one.h.outputs one.rest i j o p one.names named in
     (same.1, names.0, names.1)
 
--- the lines behind some accepted header are good
+-- the lines after some accepted header are good
 abbrev HasBody : List ℕ → Type 0
 HasBody bytes = (h : AigerHeader) × Begins bytes h × (rows : List (List ℕ)) × IsBody bytes h rows
 

@@ -3,8 +3,8 @@ use Rattle.std.proofs.Common.{◌≡◌, ◌≢◌, ℕ, suc, ◌+◌, ◌/◌, 
 use Rattle.std.proofs.lemmas.List.{ext_get_or, get_or_append_left}
 use Rattle.std.proofs.lemmas.Bool.Decides.{eqb_tells, leb_tells}
 use Rattle.std.proofs.Math.Seq.{get_or-append_seam}
-use Rattle.net_core.specs.declared.named.NetKind.{NetKind}
-use Rattle.net_core.specs.declared.named.NetKind.TheVariants as kind
+use Rattle.net_file.specs.declared.fault.NetKind.{NetKind}
+use Rattle.net_file.specs.declared.fault.NetKind.TheVariants as kind
 use Rattle.aiger_reader.specs.Headers.{AigerHeader, header_numbers, HasHeader}
 use Rattle.aiger_reader.specs.Bodies.{Role, Input, Output, Gate, roles_of, role_at, defines, defined, body_lines, line_offset, first_of, Writes, IsGoodRow, AreGood, IsBadLine, IsBadLiteral, IsRedefined, IsLineFault, IsBodyFault, IsBody}
 use Rattle.aiger_reader.proofs.HeaderLemmas.{map_same, keyword_same}
@@ -59,7 +59,7 @@ not_before : (vs rest : List ℕ) (v : ℕ) → AllPairs (λ one other. one ≢ 
 not_before vs rest v distinct before =
     distinct before.0 (length vs) v before.1 (omega (arith, length-append vs (v ∷ rest))) (get_or_append_left vs (v ∷ rest) v before.0 before.1 ∙ (before.2 ∙ sym (get_or-append_seam vs v rest v)))
 
--- the row behind the good ones, where more are good
+-- the row after the good ones, where more are good
 abbrev next_row : List (List ℕ) → List (List ℕ) → List ℕ
 next_row xs ys = get_or xs (length ys) []
 
@@ -87,7 +87,7 @@ not_redefined bytes h xs ys more fewer below again =
     ap (defined roles) parts ∙ (front.1 ∙ (ap (λ vs. vs ++ front.0) one ∙ append_assoc (defined roles ys) (first_of x / 2 ∷ []) front.0)) in
     not_before (defined roles ys) front.0 (first_of x / 2) (subst (AllPairs (λ one other. one ≢ other)) all more.distinct) (subst (λ row. Contains (defined roles ys) (first_of row / 2)) (sym same) again.before)
 
--- What is said of the line behind fewer good lines is not so where more lines are good.
+-- What is said of the line after fewer good lines is not so where more lines are good.
 pub not_behind : (bytes : List ℕ) (h : AigerHeader) (xs ys : List (List ℕ)) (fault : NetKind) (at : ℕ) → AreGood h (body_lines bytes) xs → AreGood h (body_lines bytes) ys → length ys < length xs → IsLineFault bytes h ys fault at → ⊥
 not_behind bytes h xs ys kind.Truncated at more fewer below why =
     omega (arith, why.0, more.there)

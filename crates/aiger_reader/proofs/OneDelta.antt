@@ -34,7 +34,7 @@ one_are_gates bytes x y h gates more one other =
     let here : behind_outputs bytes h ≡ behind_outputs bytes h = refl in
     one_gates (h.inputs + 1) (behind_outputs bytes h) (behind_outputs bytes h) x y gates more here (one.count ∙ sym other.count) one.read other.read
 
--- gates that go on past others have a pair behind them
+-- gates that go on past others have a pair after them
 pub pair_behind : (variable : ℕ) (bytes others x y : List ℕ) (gates more : List (ℕ × ℕ)) → bytes ≡ others → length gates < length more → BeginsGates variable bytes gates x → BeginsGates variable others more y → (pair : ℕ × ℕ) × (rest : List ℕ) × BeginsPair (2 * (variable + length gates)) x pair rest
 pair_behind variable bytes others x y gates [] same fewer one other = absurd (omega (arith, fewer))
 pair_behind variable bytes others x y [] (q ∷ qs) same fewer one other =

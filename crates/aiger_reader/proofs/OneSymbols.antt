@@ -74,7 +74,7 @@ give_front inputs outputs (suc n) (suc m) (line ∷ all) before after within giv
     let rest = give_front inputs outputs n m all (before ++ given.0) after (omega arith) given.4 in
     (rest.0, (given.0, given.1, given.2, given.3, rest.1))
 
--- the lines before a fault don't reach behind another
+-- the lines before a fault don't reach after another
 not_behind : (inputs outputs base : ℕ) (text : List ℕ) (at m : ℕ) (after : List Entry) → (fault : IsSymbolFault inputs outputs base text at) → fault.place < m → GiveNames inputs outputs (take m (symbol_lines text)) [] after → ⊥
 not_behind inputs outputs base text at m after fault below given =
     let front = give_front inputs outputs (fault.place + 1) m (symbol_lines text) [] after (omega (arith, below)) given in

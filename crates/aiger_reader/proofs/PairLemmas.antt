@@ -20,7 +20,7 @@ no_second (Some b) first delta bytes behind greater read = tt
 abbrev pub BeginsPair : ℕ → List ℕ → ℕ × ℕ → List ℕ → Type 0
 BeginsPair literal bytes pair rest = (middle : List ℕ) × BeginsFirst literal bytes pair.0 middle × BeginsSecond pair.0 middle pair.1 rest
 
--- a pair behind some gates
+-- a pair after some gates
 pub gates_push : (variable literal : ℕ) (bytes middle rest : List ℕ) (gates : List (ℕ × ℕ)) (pair : ℕ × ℕ) → BeginsGates variable bytes gates middle → literal ≡ 2 * (variable + length gates) → BeginsPair literal middle pair rest → BeginsGates variable bytes (gates ++ pair ∷ []) rest
 gates_push variable literal bytes middle rest [] pair begins place next =
     let e : literal ≡ 2 * variable = omega arith in
@@ -31,7 +31,7 @@ gates_push variable literal bytes middle rest [] pair begins place next =
 gates_push variable literal bytes middle rest (gate ∷ gates) pair begins place next =
     (begins.0, begins.1, begins.2, begins.3, gates_push (variable + 1) literal begins.1 middle rest gates pair begins.4 (omega arith) next)
 
--- a bad pair behind some gates
+-- a bad pair after some gates
 pub pair_fault : (variable count literal total end at : ℕ) (bytes middle : List ℕ) (gates : List (ℕ × ℕ)) → BeginsGates variable bytes gates middle → length gates < count → literal ≡ 2 * (variable + length gates) → end ≡ total → IsBadPair literal middle end at → IsPairFault variable count bytes total at
 pair_fault variable count literal total end at bytes middle gates begins fewer place same bad =
     let P : ℕ → Type 0 = λ n. IsBadPair n middle end at in
@@ -44,7 +44,7 @@ pair_fault variable count literal total end at bytes middle gates begins fewer p
       why = subst Q same (subst P place bad);
     }
 
--- a bad pair behind the outputs of a file is the file's fault
+-- a bad pair after the outputs of a file is the file's fault
 pub file_fault : (bytes left : List ℕ) (h : AigerHeader) (inputs count total at : ℕ) → left ≡ behind_outputs bytes h → inputs ≡ h.inputs → count ≡ h.gates → total ≡ length bytes → IsPairFault (inputs + 1) count left total at → IsDeltaFault bytes h at
 file_fault bytes left h inputs count total at here same as_many end fault =
     let P : List ℕ → Type 0 = λ xs. IsPairFault (inputs + 1) count xs total at in

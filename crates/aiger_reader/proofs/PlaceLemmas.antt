@@ -10,7 +10,7 @@ use Rattle.text_core.proofs.LineLemmas.{lines-front}
 use Rattle.aiger_reader.specs.Bodies.{body_lines, line_offset}
 use Rattle.aiger_reader.specs.Reading.{IsAtLine, next_line_of}
 
--- what stands at a place, and what behind it
+-- what stands at a place, and what after it
 place_of : {X : Type 0} (k : ℕ) (xs ys : List X) (y : X) → drop k xs ≡ y ∷ ys → (k < length xs) × (get_or xs k y ∷ drop (k + 1) xs ≡ y ∷ ys)
 place_of k xs ys y e =
     let h : k < length xs = omega (arith, ap length e, length-drop k xs) in
@@ -38,7 +38,7 @@ offset-next bytes k line rest e =
     let more = ap text_of_lines (take_next k (lines bytes) rest line e) ∙ flat_map-append (λ (l : List ℕ). l ++ 10 ∷ []) (take k (lines bytes)) (line ∷ []) in
     omega (arith, ap length more, length-append (text_of_lines (take k (lines bytes))) (text_of_lines (line ∷ [])), length-append (line ++ 10 ∷ []) [], length-append line (10 ∷ []))
 
--- behind the next line
+-- after the next line
 pub place_more : (bytes : List ℕ) (k : ℕ) (p : Piece) → 0 < length p.bytes → IsAtLine bytes k p → IsAtLine bytes (k + 1) (after_line p)
 place_more bytes k p some at =
     let count = line_length p.bytes in
@@ -76,7 +76,7 @@ pub file_ends : (bytes : List ℕ) (k : ℕ) (p : Piece) → lines p.bytes ≡ [
 file_ends bytes k p none at =
     omega (arith, at.offset, ap length at.rest, length-drop p.at bytes, no_lines p.bytes none)
 
--- a file is at its first line, and behind that at the second
+-- a file is at its first line, and after that at the second
 pub place_first : (bytes : List ℕ) (p : Piece) → p ≡ record { bytes = bytes; at = 0 } → IsAtLine bytes 1 (after_line p)
 place_first [] p is =
     subst (λ q. IsAtLine [] 1 (after_line q)) (sym is) (record { left = refl; rest = refl; offset = omega arith })

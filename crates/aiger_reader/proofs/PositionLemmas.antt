@@ -34,7 +34,7 @@ word_before_blank : (digits tail : List ℕ) (blank : ℕ) → ((k : ℕ) → k 
 word_before_blank digits tail blank none is =
     position_or_len_is is_blank (digits ++ blank ∷ tail) (length digits) 0 (omega (arith, length-append digits (blank ∷ tail))) (λ k below. ap is_blank (get_or_append_left digits (blank ∷ tail) 0 k below) ∙ none k below) (λ _. ap is_blank (get_or_at digits blank tail 0 (length digits) refl) ∙ is)
 
--- the digits, and what stands behind the blank
+-- the digits, and what stands after the blank
 pub record Parts (bytes digits tail : List ℕ) : Type 0 where
   pub there : word_length bytes < length bytes
   pub front : take (word_length bytes) bytes ≡ digits
@@ -62,7 +62,7 @@ position_same bytes x y p q one other =
     let same : Some p ≡ Some q = sym one.place ∙ (ap number digits ∙ other.place) in
     (cc, sym a.behind ∙ b.behind)
 
--- where a blank stands behind a number
+-- where a blank stands after a number
 pub position_here : (bytes tail : List ℕ) (position : ℕ) → word_length bytes < length bytes → number (take (word_length bytes) bytes) ≡ Some position → tail ≡ take (length bytes - (word_length bytes + 1)) (drop (word_length bytes + 1) bytes) → BeginsPosition bytes position tail
 position_here bytes tail position there place behind =
     let n = word_length bytes in

@@ -1,7 +1,7 @@
 -- The properties in a header say nothing of its body.
 use Rattle.std.proofs.Common.{ℕ, List}
-use Rattle.net_core.specs.declared.named.NetKind.{NetKind}
-use Rattle.net_core.specs.declared.named.NetKind.TheVariants as kind
+use Rattle.net_file.specs.declared.fault.NetKind.{NetKind}
+use Rattle.net_file.specs.declared.fault.NetKind.TheVariants as kind
 use Rattle.aiger_reader.specs.declared.limits.Header.{Header}
 use Rattle.aiger_reader.specs.Bodies.{Role, IsGoodRow, AreGood, IsLineFault, IsBodyFault, IsBody}
 use Rattle.aiger_reader.specs.Numbers.{header_of}

@@ -45,7 +45,7 @@ none_there zero v = refl
 none_there (suc n) zero = refl
 none_there (suc n) (suc v) = none_there n v
 
--- behind the header no line of the body is read
+-- after the header no line of the body is read
 pub reading_first : (bytes : List ℕ) (h : AigerHeader) (p : Piece) (later : List ℕ) → p ≡ record { bytes = bytes; at = 0 } → later ≡ replicate (h.variables + 1) 0 → IsReading bytes h [] (after_line p) later 0
 reading_first bytes h p later start zeros =
     let none : defined (roles_of h) [] ≡ [] = defined_none (roles_of h) in

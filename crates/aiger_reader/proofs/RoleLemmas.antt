@@ -8,7 +8,7 @@ use Rattle.aiger_reader.specs.Headers.{AigerHeader}
 use Rattle.aiger_reader.specs.Bodies.{Role, Input, Output, Gate, roles_of, role_at, wanted, defines}
 use Rattle.aiger_reader.specs.Reading.{row_of, rows_of, input_lines_of, gate_lines_of, IsWanted, IsAtInput, IsAtOutput, IsAtGate}
 
--- so many inputs, then outputs, then gates
+-- n inputs, then outputs, then gates
 abbrev roles : ℕ → ℕ → ℕ → List Role
 roles i o g = replicate i Input ++ replicate o Output ++ replicate g Gate
 

@@ -3,8 +3,8 @@ use Rattle.std.proofs.Common.{◌≡◌, ℕ, ◌+◌, ◌-◌, ◌≤◌, ◌�
 use Rattle.circuits.specs.Circuits.{Circuit}
 use Rattle.circuits.specs.Levels.{IsAcyclic}
 use Rattle.circuits.proofs.Looped.{acyclic_or_looped}
-use Rattle.net_core.specs.declared.named.NetKind.{NetKind}
-use Rattle.net_core.specs.declared.named.NetKind.TheVariants as kind
+use Rattle.net_file.specs.declared.fault.NetKind.{NetKind}
+use Rattle.net_file.specs.declared.fault.NetKind.TheVariants as kind
 use Rattle.aiger_reader.specs.Headers.{AigerHeader, Begins}
 use Rattle.aiger_reader.specs.Bodies.{IsBody, text_circuit, line_offset}
 use Rattle.aiger_reader.specs.Deltas.{binary_circuit}
@@ -17,7 +17,7 @@ use Rattle.aiger_reader.proofs.SomeNames.{names_or_bad}
 abbrev HasFault : List ℕ → Type 0
 HasFault bytes = (fault : NetKind) × (at : ℕ) × IsAigerFault bytes fault at
 
--- the netlist and what stands behind it, which is no longer than the file
+-- the netlist and what stands after it, which is no longer than the file
 abbrev HasForm : Bool → List ℕ → AigerHeader → List (List ℕ) → Type 0
 HasForm binary bytes h rows =
     (circuit : Circuit) × (rest : List ℕ) × (length rest ≤ length bytes) × IsOfForm binary bytes h rows circuit rest

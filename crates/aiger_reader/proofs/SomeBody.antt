@@ -3,8 +3,8 @@ use Rattle.std.proofs.Common.{◌≡◌, ◌≢◌, ℕ, zero, suc, ◌+◌, ◌
 use Rattle.std.proofs.lemmas.Bool.{cases_lt}
 use Rattle.std.proofs.lemmas.List.{get_or_default, length_push}
 use Rattle.std.proofs.lemmas.List.Quantifiers.{all_pairs_push}
-use Rattle.net_core.specs.declared.named.NetKind.{NetKind}
-use Rattle.net_core.specs.declared.named.NetKind.TheVariants as kind
+use Rattle.net_file.specs.declared.fault.NetKind.{NetKind}
+use Rattle.net_file.specs.declared.fault.NetKind.TheVariants as kind
 use Rattle.aiger_reader.specs.Words.{numbers_on}
 use Rattle.aiger_reader.specs.Headers.{AigerHeader}
 use Rattle.aiger_reader.specs.Bodies.{Role, Input, Output, Gate, roles_of, role_at, wanted, defines, defined, body_lines, line_offset, first_of, Writes, IsGoodRow, AreGood, IsBodyFault, IsBody, IsKnown, IsKnownRow, IsUndefined, reads}
@@ -49,7 +49,7 @@ distinct_then variables role row distinct fresh =
       | inr not_so ↦ subst AreDistinct (sym (ap (λ vs. variables ++ vs) (defines_none role row not_so) ∙ append-nil variables)) distinct
     ]
 
--- so many good lines, or a first fault
+-- n good lines, or a first fault
 abbrev Front : List ℕ → AigerHeader → ℕ → Type 0
 Front bytes h n = (rows : List (List ℕ)) × AreGood h (body_lines bytes) rows × (length rows ≡ n)
 

@@ -74,7 +74,7 @@ pair_or_bad literal total bytes within =
           ]
     ]
 
--- so many gates at the front of the bytes
+-- n gates at the front of the bytes
 abbrev Front : ℕ → ℕ → List ℕ → ℕ → Type 0
 Front variable total bytes n = (gates : List (ℕ × ℕ)) × (rest : List ℕ) × (length gates ≡ n) × (length rest ≤ total) × BeginsGates variable bytes gates rest
 

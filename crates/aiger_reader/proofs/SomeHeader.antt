@@ -1,7 +1,7 @@
 -- Each file begins with a header that is accepted, or has a fault there.
 use Rattle.std.proofs.Common.{◌≡◌, ℕ, ◌+◌, ◌^◌, ◌<◌, ◌≤◌, ◌⊎◌, Bool, true, false, List, [], ◌∷◌, length, map, take, Option, None, Some, inl, inr, refl, sym, ap, ap₂, ◌∙◌, subst, arith}
-use Rattle.net_core.specs.declared.named.NetKind.{NetKind}
-use Rattle.net_core.specs.declared.named.NetKind.TheVariants as kind
+use Rattle.net_file.specs.declared.fault.NetKind.{NetKind}
+use Rattle.net_file.specs.declared.fault.NetKind.TheVariants as kind
 use Rattle.aiger_reader.specs.Words.{numbers_on}
 use Rattle.aiger_reader.specs.Headers.{AigerHeader, header_numbers, keyword, line_behind, HasHeader, header_fault, Begins}
 use Rattle.aiger_reader.specs.Numbers.{IsHeaderFault}

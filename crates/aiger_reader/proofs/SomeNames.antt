@@ -127,7 +127,7 @@ told_adds inputs outputs line before =
       | inl new ↦ told_by (λ both. (before ++ new.0, (new.0, new.1, both.0, both.1, refl))) (λ adds. subst (AreFree inputs outputs before) (gives_same line adds.1.0 new.0 adds.1.1 new.1) (adds.1.2, adds.1.3)) (told_free inputs outputs before new.0)
     ]
 
--- the names that so many lines give
+-- the names that n lines give
 abbrev Front : ℕ → ℕ → List ℕ → ℕ → Type 0
 Front inputs outputs text n = (entries : List Entry) × GiveNames inputs outputs (take n (symbol_lines text)) [] entries
 

@@ -33,7 +33,7 @@ return_same text a b one other =
       ]
     ]
 
--- what stands behind the letter
+-- what stands after the letter
 pub behind_letter : (line rest name : List ℕ) (port : Port) → (named : NamesPort line port name) → rest ≡ drop 1 line → BeginsPosition rest port.position named.tail
 behind_letter line rest name port named same =
     let P : List ℕ → Type 0 = λ xs. BeginsPosition xs port.position named.tail in
@@ -48,7 +48,7 @@ named_same line a b p q one other =
     let P : List ℕ → Type 0 = λ tail. IsWithoutReturn tail b in
     (ap₂ port_at kind behind.0, return_same one.tail a b one.name_is (subst P (sym behind.1) other.name_is))
 
--- a line with no name, where a carriage return alone stands behind the blank, or nothing
+-- a line with no name, where a carriage return alone stands after the blank, or nothing
 pub unnamed : (line rest tail name none : List ℕ) (position : ℕ) (port : Port) → rest ≡ drop 1 line → BeginsPosition rest position tail → IsWithoutReturn tail none → none ≡ [] → NamesPort line port name → ⊥
 unnamed line rest tail name none position port same begins without empty named =
     let behind = position_same rest tail named.tail position port.position begins (behind_letter line rest name port named same) in

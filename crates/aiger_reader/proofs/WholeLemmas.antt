@@ -10,8 +10,8 @@ use Rattle.circuits.specs.declared.definition.Def.TheVariants.{And}
 use Rattle.circuits.specs.Circuits.{Circuit}
 use Rattle.circuits.specs.Expansion.{def_gates, gates_in}
 use Rattle.circuits.specs.Levels.{IsAcyclic, IsFirstLooped}
-use Rattle.net_core.specs.declared.named.NetFault.{NetFault}
-use Rattle.net_core.specs.declared.named.NetKind.TheVariants as kind
+use Rattle.net_file.specs.declared.fault.NetFault.{NetFault}
+use Rattle.net_file.specs.declared.fault.NetKind.TheVariants as kind
 use Rattle.aiger_reader.specs.declared.limits.Header.{Header}
 use Rattle.aiger_reader.specs.declared.body.Literals.{Literals}
 use Rattle.aiger_reader.specs.Numbers.{header_of}
@@ -31,7 +31,7 @@ use Rattle.aiger_reader.proofs.BinaryNetLemmas.{begins_below, binary_is, not_loo
 use Rattle.aiger_reader.proofs.LimitLemmas.{KeepsLimits}
 use Rattle.aiger_reader.proofs.NetlistLemmas.{HasSizes, net_sizes}
 
--- what is left behind k lines
+-- what is left after k lines
 pub rest_is : (bytes : List ℕ) (k : ℕ) (p : Piece) → IsAtLine bytes k p → p.bytes ≡ drop (line_offset bytes k) bytes
 rest_is bytes k p at =
     at.rest ∙ (ap (λ n. drop n bytes) at.offset ∙ drop_min (line_offset bytes k) bytes)
@@ -87,7 +87,7 @@ text_is bytes header literals signals rest circuit text begun read known same =
       },
     )
 
--- what is left behind the lines of the binary form begins with the gates
+-- what is left after the lines of the binary form begins with the gates
 behind_is : (bytes : List ℕ) (header : Header) (literals : Literals) (signals : List ℕ) (rest : Piece) (properties : List ℕ) → header.binary ≡ true → AreLinesRead bytes header literals signals rest → rest.bytes ≡ behind_outputs bytes (header_of header properties)
 behind_is bytes header literals signals rest properties binary read =
     let counts = read.sound.counts in

@@ -4,15 +4,15 @@ use Rattle.circuits.specs.Circuits.{Circuit}
 use Rattle.circuits.specs.Functions.{Computes}
 use Rattle.circuits.specs.Levels.{IsOrderOf, IsFirstLooped, IsAcyclic}
 use Rattle.circuits.specs.Netlists.{Net}
-use Rattle.net_core.specs.declared.named.NetKind.{NetKind}
-use Rattle.net_core.specs.declared.named.NetKind.TheVariants as kind
+use Rattle.net_file.specs.declared.fault.NetKind.{NetKind}
+use Rattle.net_file.specs.declared.fault.NetKind.TheVariants as kind
 use Rattle.aiger_reader.specs.Headers.{AigerHeader, Begins}
 use Rattle.aiger_reader.specs.Bodies.{IsBody, IsBodyFault, IsKnownRow, IsUndefined, text_circuit, line_offset}
 use Rattle.aiger_reader.specs.Deltas.{AreGates, IsDeltaFault, binary_circuit}
 use Rattle.aiger_reader.specs.Numbers.{IsHeaderFault}
 use Rattle.aiger_reader.specs.Symbols.{AreNames, IsSymbolFault}
 
--- The ASCII form: its lines read only what some line defines, and give this netlist; the rest stands behind them.
+-- The ASCII form: its lines read only what some line defines, and give this netlist; the rest stands after them.
 pub record IsText (bytes : List ℕ) (h : AigerHeader) (rows : List (List ℕ)) (circuit : Circuit) (rest : List ℕ)
     : Type 0 where
   pub known : (k : ℕ) → k < length rows → IsKnownRow h rows k

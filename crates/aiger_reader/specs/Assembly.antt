@@ -16,14 +16,14 @@ use Rattle.aiger_reader.specs.Aiger.{IsNetlist}
 abbrev pub IsBegun : List ℕ → Header → Type 0
 IsBegun bytes header = (properties : List ℕ) × Begins bytes (header_of header properties)
 
--- All lines behind the header are read, and the piece is what is left behind them.
+-- All lines after the header are read, and the piece is what is left after them.
 pub record AreLinesRead (bytes : List ℕ) (header : Header) (literals : Literals) (signals : List ℕ) (rest : Piece)
     : Type 0 where
   pub body : (properties : List ℕ) → IsBody bytes (header_of header properties) (rows_of literals)
   pub sound : IsSound (header_of header []) literals signals
   pub left : IsAtLine bytes (length (rows_of literals) + 1) rest
 
--- the file up to the symbols is this netlist, and the rest stands behind it
+-- the file up to the symbols is this netlist, and the rest stands after it
 abbrev pub IsNetOf : List ℕ → Header → Circuit → List ℕ → Type 0
 IsNetOf bytes header circuit rest = (properties : List ℕ) × IsNetlist bytes (header_of header properties) circuit rest
 

@@ -1,4 +1,4 @@
--- The lines behind the header of an AIGER file (AIGER 1.9): inputs, outputs and AND gates of the ASCII form, whose
+-- The lines after the header of an AIGER file (AIGER 1.9): inputs, outputs and AND gates of the ASCII form, whose
 -- gates may stand in any order; of the binary form only the outputs.
 use Rattle.std.specs.Prelude.{◌≡◌, ◌≢◌, ℕ, ◌+◌, ◌*◌, ◌/◌, ◌%◌, ◌<◌, ◌≤◌, ◌==◌, Bool, true, false, IsTrue, List, [], ◌∷◌, ◌++◌, length, map, take, drop, All, AllPairs, Contains, Some, slice_index_or, replicate, if◌then◌else◌}
 use Rattle.std.specs.List.{position_or_len}
@@ -7,8 +7,8 @@ use Rattle.circuits.specs.declared.netlist.Lit.{Lit}
 use Rattle.circuits.specs.declared.definition.Def.{Def}
 use Rattle.circuits.specs.declared.definition.Def.TheVariants.{And}
 use Rattle.circuits.specs.Circuits.{Circuit}
-use Rattle.net_core.specs.declared.named.NetKind.{NetKind}
-use Rattle.net_core.specs.declared.named.NetKind.TheVariants as kind
+use Rattle.net_file.specs.declared.fault.NetKind.{NetKind}
+use Rattle.net_file.specs.declared.fault.NetKind.TheVariants as kind
 use Rattle.aiger_reader.specs.Words.{numbers_on}
 use Rattle.aiger_reader.specs.Headers.{AigerHeader}
 
@@ -40,7 +40,7 @@ defines Input = true
 defines Output = false
 defines Gate = true
 
--- the lines behind the header's, and the offset of line k of a text
+-- the lines after the header's, and the offset of line k of a text
 abbrev pub body_lines : List ℕ → List (List ℕ)
 body_lines bytes = drop 1 (lines bytes)
 
@@ -74,7 +74,7 @@ pub record AreGood (h : AigerHeader) (body rows : List (List ℕ)) : Type 0 wher
   pub good : (k : ℕ) → k < length rows → IsGoodRow h (role_at h k) (slice_index_or rows k [])
   pub distinct : AllPairs (λ one other. one ≢ other) (defined (roles_of h) rows)
 
--- what is wrong with the line behind the good ones
+-- what is wrong with the line after the good ones
 pub record IsBadLine (h : AigerHeader) (body rows : List (List ℕ)) : Type 0 where
   pub there : length rows < length body
   pub unwritten : (row : List ℕ) → Writes (slice_index_or body (length rows) []) (role_at h (length rows)) row → ⊥
@@ -93,7 +93,7 @@ pub record IsRedefined (h : AigerHeader) (body rows : List (List ℕ)) : Type 0 
   pub defining : IsTrue (defines (role_at h (length rows)))
   pub before : Contains (defined (roles_of h) rows) (first_of row / 2)
 
--- how the line behind the good ones is refused, and where: at its first byte, or at the file's end where it is missing
+-- how the line after the good ones is refused, and where: at its first byte, or at the file's end where it is missing
 abbrev pub IsLineFault : List ℕ → AigerHeader → List (List ℕ) → NetKind → ℕ → Type 0
 IsLineFault bytes h rows kind.BadLine at =
     IsBadLine h (body_lines bytes) rows × (at ≡ line_offset bytes (length rows + 1))

@@ -14,7 +14,7 @@ IsInGroups (byte ∷ []) n = (byte < 128) × (n ≡ byte)
 IsInGroups (byte ∷ next ∷ bytes) n =
     (128 ≤ byte) × (high : ℕ) × (n ≡ byte - 128 + 128 * high) × IsInGroups (next ∷ bytes) high
 
--- The bytes begin with a number of at most so many groups.
+-- The bytes begin with a number of at most n groups.
 pub record BeginsGroups (most : ℕ) (bytes : List ℕ) (n : ℕ) (rest : List ℕ) : Type 0 where
   pub groups : List ℕ
   pub spelled : bytes ≡ groups ++ rest
@@ -50,11 +50,11 @@ BeginsGates variable bytes (gate ∷ gates) rest =
     × BeginsSecond gate.0 middle gate.1 behind
     × BeginsGates (variable + 1) behind gates rest
 
--- what stands behind the header's line and the outputs' lines
+-- what stands after the header's line and the outputs' lines
 abbrev pub behind_outputs : List ℕ → AigerHeader → List ℕ
 behind_outputs bytes h = drop (line_offset bytes (1 + h.outputs)) bytes
 
--- The gates of a file in the binary form, and what stands behind them.
+-- The gates of a file in the binary form, and what stands after them.
 pub record AreGates (bytes : List ℕ) (h : AigerHeader) (gates : List (ℕ × ℕ)) (rest : List ℕ) : Type 0 where
   pub count : length gates ≡ h.gates
   pub read : BeginsGates (h.inputs + 1) (behind_outputs bytes h) gates rest
@@ -68,7 +68,7 @@ IsBadPair literal bytes total at =
     × ((b : ℕ) (rest : List ℕ) → BeginsSecond a middle b rest → ⊥)
     × (at + length middle ≡ total))
 
--- Fewer than `count` gates, whose variables begin at `variable`, stand at the front of the bytes, and the pair behind
+-- Fewer than `count` gates, whose variables begin at `variable`, stand at the front of the bytes, and the pair after
 -- them is bad. The file ends at the offset `total`.
 pub record IsPairFault (variable count : ℕ) (bytes : List ℕ) (total at : ℕ) : Type 0 where
   pub gates : List (ℕ × ℕ)

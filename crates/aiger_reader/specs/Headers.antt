@@ -2,8 +2,8 @@
 use Rattle.std.specs.Prelude.{◌≡◌, ℕ, ◌+◌, ◌≤◌, ◌||◌, Bool, IsTrue, List, [], ◌∷◌, length, map, take, drop, Option, None, Some, nat_lt, codes, slice_index_or, if◌then◌else◌}
 use Rattle.std.specs.List.{list_any}
 use Rattle.text_core.specs.Lines.{lines}
-use Rattle.net_core.specs.declared.named.NetKind.{NetKind}
-use Rattle.net_core.specs.declared.named.NetKind.TheVariants as kind
+use Rattle.net_file.specs.declared.fault.NetKind.{NetKind}
+use Rattle.net_file.specs.declared.fault.NetKind.TheVariants as kind
 use Rattle.aiger_reader.specs.Words.{numbers_on, AreSmall}
 
 pub record AigerHeader : Type 0 where
@@ -25,7 +25,7 @@ header_numbers h = h.variables ∷ h.inputs ∷ h.latches ∷ h.outputs ∷ h.ga
 abbrev pub keyword : Bool → List ℕ
 keyword binary = if binary then codes "aig " else codes "aag "
 
--- the first line of a file behind the keyword
+-- the first line of a file after the keyword
 abbrev pub line_behind : List ℕ → List ℕ
 line_behind bytes = slice_index_or (lines (drop 4 bytes)) 0 []
 

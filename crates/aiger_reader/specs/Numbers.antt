@@ -1,8 +1,8 @@
 -- The header as it is read: its numbers, and what is kept of it (AIGER 1.9).
 use Rattle.std.specs.Prelude.{◌≡◌, ℕ, ◌+◌, ◌≤◌, ◌⊎◌, Bool, IsTrue, List, Some, nat_lt}
 use Rattle.std.specs.List.{list_any}
-use Rattle.net_core.specs.declared.named.NetKind.{NetKind}
-use Rattle.net_core.specs.declared.named.NetKind.TheVariants as kind
+use Rattle.net_file.specs.declared.fault.NetKind.{NetKind}
+use Rattle.net_file.specs.declared.fault.NetKind.TheVariants as kind
 use Rattle.aiger_reader.specs.declared.limits.Header.{Header}
 use Rattle.aiger_reader.specs.declared.header.Numbers.{Numbers}
 use Rattle.aiger_reader.specs.Headers.{AigerHeader, WritesHeader, HasHeader, header_fault}
@@ -20,7 +20,7 @@ header_of header properties =
       properties = properties;
     }
 
--- the whole header of a form and the numbers behind its keyword
+-- the whole header of a form and the numbers after its keyword
 abbrev pub header_from : Bool → Numbers → List ℕ → AigerHeader
 header_from binary numbers properties =
     record {

@@ -3,10 +3,10 @@ use Rattle.std.specs.Prelude.{◌≡◌, ℕ, ◌+◌, ◌*◌, ◌%◌, ◌<◌
 use Rattle.std.specs.Option.{option_map}
 use Rattle.text_core.specs.Piece.{Piece}
 use Rattle.text_core.specs.Lines.{lines}
-use Rattle.net_core.specs.declared.named.NetKind.{NetKind}
-use Rattle.net_core.specs.declared.named.NetKind.TheVariants as kind
-use Rattle.net_core.specs.declared.named.NetStop.{NetStop}
-use Rattle.net_core.specs.declared.named.NetStop.TheVariants.{Fault, Memory}
+use Rattle.net_file.specs.declared.fault.NetKind.{NetKind}
+use Rattle.net_file.specs.declared.fault.NetKind.TheVariants as kind
+use Rattle.net_file.specs.declared.fault.NetStop.{NetStop}
+use Rattle.net_file.specs.declared.fault.NetStop.TheVariants.{Fault, Memory}
 use Rattle.aiger_reader.specs.declared.body.AndLine.{AndLine}
 use Rattle.aiger_reader.specs.declared.body.Literals.{Literals}
 use Rattle.aiger_reader.specs.Words.{numbers_on}
@@ -31,7 +31,7 @@ input_lines_of h = if h.binary then 0 else h.inputs
 abbrev pub gate_lines_of : AigerHeader → ℕ
 gate_lines_of h = if h.binary then 0 else h.gates
 
--- The piece is what is left of the bytes behind their first k lines.
+-- The piece is what is left of the bytes after their first k lines.
 pub record IsAtLine (bytes : List ℕ) (k : ℕ) (p : Piece) : Type 0 where
   pub left : lines p.bytes ≡ drop k (lines bytes)
   pub rest : p.bytes ≡ drop p.at bytes
@@ -43,7 +43,7 @@ pub record IsNumbering (greatest : ℕ) (variables signals : List ℕ) : Type 0 
   pub places : (k : ℕ) → k < length variables → slice_index_or signals (slice_index_or variables k 0) 0 ≡ k + 1
   pub others : (v : ℕ) → 0 < slice_index_or signals v 0 → Contains variables v
 
--- The rows are those of good lines, the first of the body; the piece is what is left behind them, and the signals and
+-- The rows are those of good lines, the first of the body; the piece is what is left after them, and the signals and
 -- the count are of the variables that they define.
 pub record IsReading (bytes : List ℕ) (h : AigerHeader) (rows : List (List ℕ)) (rest : Piece) (signals : List ℕ)
     (count : ℕ) : Type 0 where
@@ -52,7 +52,7 @@ pub record IsReading (bytes : List ℕ) (h : AigerHeader) (rows : List (List ℕ
   pub numbered : IsNumbering h.variables (defined (roles_of h) rows) signals
   pub counted : count ≡ length (defined (roles_of h) rows)
 
--- One more line is announced, with so many words, and it defines a variable or doesn't.
+-- One more line is announced, with n words, and it defines a variable or doesn't.
 pub record IsWanted (h : AigerHeader) (rows : List (List ℕ)) (width : ℕ) (defining : Bool) : Type 0 where
   pub announced : length rows < length (roles_of h)
   pub wide : wanted (role_at h (length rows)) ≡ width
@@ -76,7 +76,7 @@ pub record IsAtGate (h : AigerHeader) (literals : Literals) : Type 0 where
   pub outputs : length literals.outputs.items ≡ h.outputs
   pub gates : length literals.gates.items < gate_lines_of h
 
--- so many lines of each role are read
+-- n lines of each role are read
 pub record HasCounts (literals : Literals) (inputs outputs gates : ℕ) : Type 0 where
   pub inputs_read : length literals.inputs.items ≡ inputs
   pub outputs_read : length literals.outputs.items ≡ outputs
@@ -101,7 +101,7 @@ pub record IsRowOn (line : List ℕ) (greatest : ℕ) (defining : Bool) (row : L
   pub in_range : All (λ literal. literal ≤ greatest) row
   pub plain : IsTrue defining → (first_of row % 2 ≡ 0) × (2 ≤ first_of row)
 
--- what is wrong with a line of so many words
+-- what is wrong with a line of n words
 abbrev pub IsRowFault : List ℕ → ℕ → Bool → ℕ → NetKind → Type 0
 IsRowFault line greatest defining width kind.BadLine =
     (row : List ℕ) → length row ≡ width → numbers_on line ≡ map Some row → ⊥
@@ -115,7 +115,7 @@ IsNextFault p greatest defining width kind.Truncated = lines p.bytes ≡ []
 IsNextFault p greatest defining width fault =
     (0 < length p.bytes) × IsRowFault (next_line_of p) greatest defining width fault
 
--- The next line of the body writes this row, and the piece is what is left behind it.
+-- The next line of the body writes this row, and the piece is what is left after it.
 pub record IsRowRead (bytes : List ℕ) (h : AigerHeader) (rows : List (List ℕ)) (defining : Bool) (row : List ℕ)
     (rest : Piece) : Type 0 where
   pub there : length rows < length (body_lines bytes)

@@ -1,4 +1,4 @@
--- The symbols behind the body of an AIGER file (AIGER 1.9): a line for each port that has a name, then a comment.
+-- The symbols after the body of an AIGER file (AIGER 1.9): a line for each port that has a name, then a comment.
 use Rattle.std.specs.Prelude.{◌≡◌, ◌≢◌, ℕ, ◌+◌, ◌<◌, ◌⊎◌, ◌==◌, Bool, true, not, List, [], ◌∷◌, ◌++◌, length, take, All, Option, None, Some, slice_index_or, slice_set, take_while}
 use Rattle.std.specs.Fmt.{decimal}
 use Rattle.circuits.specs.Literals.{EachAt}
@@ -35,7 +35,7 @@ abbrev pub letter_of : PortKind → ℕ
 letter_of Input = 105
 letter_of Output = 111
 
--- The bytes begin with a position in digits and one blank, and this stands behind them.
+-- The bytes begin with a position in digits and one blank, and this stands after them.
 pub record BeginsPosition (bytes : List ℕ) (position : ℕ) (tail : List ℕ) : Type 0 where
   pub digits : List ℕ
   pub blank : ℕ

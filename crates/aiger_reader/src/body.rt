@@ -1,4 +1,4 @@
-//! The lines behind the header: of the ASCII form the inputs, outputs and gates, of the binary form the outputs.
+//! The lines after the header: of the ASCII form the inputs, outputs and gates, of the binary form the outputs.
 
 ghost use Rattle.std.specs.Prelude.{true, ◌≡◌, ℕ, ◌+◌, ◌<◌, ◌++◌, List, [], ◌∷◌, length, IfOk, IfErr, OnOk, vec_len, replicate, slice_index_or, slice_set};
 ghost use Rattle.std.specs.Bool.{OnTrue, OnFalse};
@@ -9,7 +9,7 @@ ghost use Rattle.aiger_reader.specs.Reading.{rows_of, input_lines_of, gate_lines
 
 use crate::limits::Header;
 use crate::literals::read_line;
-use net_core::{NetFault, NetKind, NetStop};
+use net_file::{NetFault, NetKind, NetStop};
 use std::alloc::{AllocError, Global};
 use text_core::Cursor;
 
@@ -29,7 +29,7 @@ pub(crate) struct Literals {
     pub(crate) gates: Vec<AndLine>,
 }
 
-/// What is read of the lines behind the header.
+/// What is read of the lines after the header.
 #[derive(Drop)]
 pub(crate) struct Body<'a> {
     pub(crate) literals: Literals,
@@ -37,7 +37,7 @@ pub(crate) struct Body<'a> {
     pub(crate) signals: Vec<u32>,
     /// How many variables are defined.
     pub(crate) count: u32,
-    /// What is left behind the lines.
+    /// What is left after the lines.
     pub(crate) rest: Cursor<'a>,
 }
 
@@ -202,7 +202,7 @@ impl<'a> Body<'a> {
     }
 }
 
-/// Reads the lines behind the header's, in their order: of the ASCII form a line for each input, output and gate,
+/// Reads the lines after the header's, in their order: of the ASCII form a line for each input, output and gate,
 /// of the binary form one for each output. A line of an input or an output has one literal, a line of a gate the
 /// literal that it defines and the two that it is the AND of. The literals are numbers in base ten, up to that of
 /// the greatest variable, negated; what an input or a gate defines is a plain literal, not the constant's, and of
@@ -234,7 +234,7 @@ pub(crate) fn read_body<'a>(
     Ok(body)
 }
 
-// Behind the header's line, with nothing read of the body.
+// After the header's line, with nothing read of the body.
 fn start<'a>(alloc: Global, input: &'a [u8], header: Header) -> Result<Body<'a>, NetStop>
     ensures reading { IfOk result (λ body. IsReading input.now (header_of header [])
         (rows_of body.literals) body.rest body.signals.items body.count) }
@@ -257,7 +257,7 @@ fn start<'a>(alloc: Global, input: &'a [u8], header: Header) -> Result<Body<'a>,
     })
 }
 
-// So many zeros.
+// That many zeros.
 fn zeros(alloc: Global, count: usize) -> Result<Vec<u32>, AllocError>
     ensures { IfOk result (λ list. list.items ≡ replicate count 0) }
 {

@@ -2,10 +2,10 @@
 
 ghost use Rattle.std.specs.Prelude.{◌≡◌, ℕ, ◌+◌, ◌-◌, ◌^◌, ◌<◌, ◌≤◌, List, [], ◌∷◌, length, IfSome, IfNone, IfOk, IfErr, vec_len};
 ghost use Rattle.std.specs.Option.{SomeIff};
-ghost use Rattle.net_core.specs.declared.named.NetFault.{NetFault};
+ghost use Rattle.net_file.specs.declared.fault.NetFault.{NetFault};
 ghost use Rattle.aiger_reader.specs.Deltas.{BeginsGroups, BeginsDelta, BeginsNoDelta, BeginsFirst, BeginsSecond, BeginsGates, IsBadPair, IsPairFault};
 
-use net_core::{NetFault, NetKind, NetStop};
+use net_file::{NetFault, NetKind, NetStop};
 use std::alloc::Global;
 use text_core::Cursor;
 
@@ -22,7 +22,7 @@ fn next_byte(cursor: &mut Cursor<'_>) -> Option<u8>
     piece.bytes().first().copied()
 }
 
-// The number that the next bytes write in at most so many groups of seven bits, and moves past them.
+// The number that the next bytes write in at most n groups of seven bits, and moves past them.
 fn next_groups(cursor: &mut Cursor<'_>, most: u32) -> Option<u64>
     requires { most ≤ 5 }
     ensures number { IfSome result (λ n. BeginsGroups most cursor.old.bytes n cursor.new.bytes) }
@@ -114,13 +114,13 @@ fn bad_delta(at: u64) -> NetStop
     })
 }
 
-/// The operands of so many gates, as literals, and moves past them. The variables of the inputs come first, then
+/// The operands of n gates, as literals, and moves past them. The variables of the inputs come first, then
 /// those of the gates, and each gate's operands are below its own literal, the second at most the first.
 ///
 /// # Errors
 ///
 /// A fault of the kind [`NetKind::Delta`] at the first delta that is cut off, longer than five bytes or out of
-/// range, and [`NetStop::Memory`] for want of memory alone.
+/// range, and [`NetStop::Memory`] only when out of memory.
 pub(crate) fn read_gates(
     alloc: Global,
     cursor: &mut Cursor<'_>,

@@ -9,10 +9,10 @@ ghost use Rattle.aiger_reader.specs.Numbers.{header_of, header_from, WritesNumbe
 pub(crate) use crate::limits::Header;
 use crate::limits::{MOST_GATES, MOST_INPUTS, MOST_OUTPUTS, MOST_VARIABLES};
 use crate::words::{has_no_word, small_number};
-use net_core::NetKind;
+use net_file::NetKind;
 use text_core::{Cursor, Span, next_word};
 
-/// The numbers behind the keyword, M I L O A, and whether one of the others, B C J F, is above 0.
+/// The numbers after the keyword, M I L O A, and whether one of the others, B C J F, is above 0.
 #[derive(Clone, Copy)]
 struct Numbers {
     variables: u32,
@@ -77,7 +77,7 @@ impl Numbers {
     }
 }
 
-/// The header that a file of either form begins with: `aag` or `aig` and a space, and behind them on the first
+/// The header that a file of either form begins with: `aag` or `aig` and a space, and after them on the first
 /// line five to nine numbers below 2^32, the greatest variable, the inputs, latches, outputs and gates, and the
 /// bad states, constraints, justice and fairness properties (AIGER 1.9).
 ///
@@ -126,7 +126,7 @@ fn form_of(input: &[u8]) -> Option<bool>
     None
 }
 
-// The first line behind the keyword.
+// The first line after the keyword.
 fn line_behind_keyword(input: &[u8]) -> Option<Span<'_>>
     requires { 4 ≤ length input.now }
     ensures line { IfSome result (λ line. line_behind input.now ≡ line.bytes) }
@@ -135,7 +135,7 @@ fn line_behind_keyword(input: &[u8]) -> Option<Span<'_>>
     Cursor::new(&input[4..]).next_line()
 }
 
-// The numbers on the first line behind the keyword, where these are five to nine of 32 bits.
+// The numbers on the first line after the keyword, where these are five to nine of 32 bits.
 fn read_numbers(input: &[u8]) -> Option<Numbers>
     requires { 4 ≤ length input.now }
     ensures numbers { IfSome result (WritesNumbers (line_behind input.now)) }

@@ -3,7 +3,7 @@
 ghost use Rattle.std.specs.Prelude.{◌≡◌, ℕ, ◌≤◌, ◌⊎◌, List, length};
 ghost use Rattle.circuits.specs.Circuits.{Circuit, IsClosed};
 ghost use Rattle.circuits.specs.Levels.{IsAcyclic};
-ghost use Rattle.net_core.specs.declared.named.NetKind.{NetKind};
+ghost use Rattle.net_file.specs.declared.fault.NetKind.{NetKind};
 ghost use Rattle.aiger_reader.specs.Aiger.{IsAiger, IsAigerFault};
 
 /// A file is one netlist at most, with one name for each port.

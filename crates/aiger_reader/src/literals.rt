@@ -7,7 +7,7 @@ ghost use Rattle.text_core.specs.Numbers.{number};
 ghost use Rattle.aiger_reader.specs.Reading.{capped_on, next_line_of, IsRowOn, IsRowFault, IsNextFault};
 
 use crate::words::has_no_word;
-use net_core::{NetFault, NetKind};
+use net_file::{NetFault, NetKind};
 use text_core::{Cursor, NumberFault, Span, decimal, next_word};
 
 // The number that a word writes, or the limit where it is greater. `None` where the word is no number.
@@ -21,7 +21,7 @@ fn capped_number(word: Span<'_>, limit: u32) -> Option<u32>
     }
 }
 
-// Fills the row with the numbers on a line, if the line has so many and nothing else, with the limit for each
+// Fills the row with the numbers on a line, if the line has that many and nothing else, with the limit for each
 // that is greater.
 fn read_capped(line: &mut Span<'_>, row: &mut [u32], limit: u32) -> Option<()>
     ensures row { OnSome result (capped_on limit line.old.bytes ≡ map Some row.new) }

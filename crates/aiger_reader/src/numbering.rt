@@ -11,7 +11,7 @@ ghost use Rattle.aiger_reader.specs.Numbered.{IsSound, has_place, have_places, l
 use crate::body::{AndLine, Body, gate_lines, input_lines};
 use crate::limits::Header;
 use circuits::{Def, Lit};
-use net_core::NetStop;
+use net_file::NetStop;
 use std::alloc::{AllocFailed, Global};
 use text_core::Cursor;
 

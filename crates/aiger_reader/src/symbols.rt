@@ -1,17 +1,17 @@
-//! The symbols behind the body of an AIGER file: lines that name its ports.
+//! The symbols after the body of an AIGER file: lines that name its ports.
 
 ghost use Rattle.std.specs.Prelude.{◌≡◌, ◌≢◌, ℕ, ◌+◌, ◌<◌, ◌^◌, List, [], ◌∷◌, ◌++◌, length, Option, IfSome, IfNone, IfOk, OnOk, IsErrOf, replicate, slice_index_or};
 ghost use Rattle.std.specs.Fmt.{decimal as digits_of_number};
 ghost use Rattle.circuits.specs.declared.port.PortKind.{PortKind};
 ghost use Rattle.circuits.specs.declared.port.PortKind.TheVariants.{Input, Output};
-ghost use Rattle.net_core.specs.declared.named.NetFault.{NetFault};
+ghost use Rattle.net_file.specs.declared.fault.NetFault.{NetFault};
 ghost use Rattle.aiger_reader.specs.declared.symbols.SymbolStop.TheVariants.{Memory};
 ghost use Rattle.aiger_reader.specs.Symbols.{is_comment, IsWithoutReturn, Port, Entry, NamesPort, BeginsPosition, letter_of, port_at, IsFree, AddsName, AreSlots, ArePortSlots, Puts, ArePortNames, name_or, AreSymbols, IsSymbolFault, AreNames};
 
 use crate::words::has_no_word;
 use circuits::PortKind;
 use items::Items;
-use net_core::{Name, NetFault, NetKind, NetStop};
+use net_file::{Name, NetFault, NetKind, NetStop};
 use std::alloc::{AllocError, Global};
 use text_core::{Cursor, Span, decimal, put_decimal, word_length};
 
@@ -92,7 +92,7 @@ fn kind_by_letter(letter: u8) -> Option<PortKind>
     }
 }
 
-// The position that the bytes begin with, and what stands behind the blank that follows it.
+// The position that the bytes begin with, and what stands after the blank that follows it.
 // `None` where they don't begin so, or the position is greater than any of 64 bits.
 fn position_at_front(bytes: &[u8]) -> Option<(u64, &[u8])>
     ensures position { IfSome result (λ found. BeginsPosition bytes.now found.0 found.1.now) }
@@ -320,18 +320,18 @@ fn all_names(alloc: Global, ports: &PortSlots) -> Result<Symbols, AllocError>
     })
 }
 
-/// The names of so many inputs and outputs, by the symbols that stand in what is left of a file.
+/// The names of n inputs and outputs, by the symbols that stand in what is left of a file.
 ///
 /// A line that begins with `i` or `o` names an input or an output: the letter, the port's position in digits,
 /// counted from 0, one blank (a space, a tab or a carriage return), and the name, which goes to the line's end
 /// without a last carriage return and isn't empty. Lines of blanks alone are passed over. A line that begins with
-/// `c` opens the comment, and nothing behind it is read. A port that no line names is called by its letter and its
+/// `c` opens the comment, and nothing after it is read. A port that no line names is called by its letter and its
 /// position, as `i0` and `o12`.
 ///
 /// # Errors
 ///
 /// A fault of the kind [`NetKind::BadSymbol`] at the first other line, and at the first that names a port which
-/// isn't there or has a name already; [`NetStop::Memory`] for want of memory alone.
+/// isn't there or has a name already; [`NetStop::Memory`] only when out of memory.
 pub(crate) fn read_symbols(
     alloc: Global,
     cursor: &mut Cursor<'_>,

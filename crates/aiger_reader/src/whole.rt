@@ -3,7 +3,7 @@
 ghost use Rattle.std.specs.Prelude.{◌≡◌, ℕ, ◌+◌, ◌<◌, false, List, [], length, map, IfOk, IfErr};
 ghost use Rattle.circuits.specs.Functions.{Computes};
 ghost use Rattle.circuits.specs.Levels.{IsAcyclic, IsOrderOf};
-ghost use Rattle.net_core.specs.declared.named.NetFault.{NetFault};
+ghost use Rattle.net_file.specs.declared.fault.NetFault.{NetFault};
 ghost use Rattle.aiger_reader.specs.Numbers.{header_of};
 ghost use Rattle.aiger_reader.specs.Reading.{rows_of};
 ghost use Rattle.aiger_reader.specs.Bodies.{IsKnownRow, lit_from, text_circuit};
@@ -21,7 +21,8 @@ use crate::numbering::{Numbered, find_undefined, number_circuit, offset_of_line}
 use crate::symbols::{Symbols, read_symbols};
 use circuits::{Def, Lit};
 use items::Items;
-use net_core::{Graph, Named, NetFault, NetKind, NetStop, OrderFault, PlainNet, order};
+use net_core::{Graph, OrderFault, PlainNet, order};
+use net_file::{Named, NetFault, NetKind, NetStop};
 use std::alloc::{AllocFailed, Global};
 use text_core::Cursor;
 
@@ -30,9 +31,9 @@ use text_core::Cursor;
 ///
 /// # Errors
 ///
-/// [`NetStop::Fault`] with the first fault of the file: of its header, whose faults stand at 0; of the lines behind
+/// [`NetStop::Fault`] with the first fault of the file: of its header, whose faults stand at 0; of the lines after
 /// it; of the deltas of the binary form; a variable that no line defines; a gate on a cycle or above one, at the
-/// line of the first such gate; or of the symbols. [`NetStop::Memory`] for want of memory alone.
+/// line of the first such gate; or of the symbols. [`NetStop::Memory`] only when out of memory.
 pub fn read(alloc: Global, input: &[u8]) -> Result<Named, NetStop>
     ensures netlist { IfOk result (λ named. ReadAs input.now named.graph named.input_names named.output_names) }
     ensures fault { (fault : NetFault) → result ≡ Err (NetStop.Fault fault)
@@ -55,7 +56,7 @@ fn read_front(input: &[u8]) -> Result<Header, NetStop>
     read_header(input).map_err(|kind| NetStop::Fault(NetFault { kind, at: 0 }))
 }
 
-// The netlist of the file, and moves behind the gates of the binary form.
+// The netlist of the file, and moves after the gates of the binary form.
 fn read_net(
     alloc: Global,
     input: &[u8],

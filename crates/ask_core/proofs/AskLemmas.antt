@@ -8,12 +8,14 @@ use Rattle.cnf_core.specs.declared.stop.Stop.{Stop}
 use Rattle.cnf_core.specs.declared.stop.Stop.TheVariants.{Spent, Memory}
 use Rattle.cnf_core.specs.Clauses.{Formula, Meets, clause_at, is_met}
 use Rattle.cnf_core.specs.Derivations.{clauses_of, line_fault}
-use Rattle.net_core.specs.declared.graphs.Graphs.{Graphs}
+use Rattle.net_core.specs.Sides.{Graphs}
 use Rattle.query_core.specs.declared.query.Query.{Query}
 use Rattle.query_core.specs.Queries.{vector_in}
 use Rattle.query_core.specs.Formulas.{Asking, formula_of}
 use Rattle.query_core.specs.ConeClauses.{AllOfCones, IsConeId, MeetsCones}
-use Rattle.query_core.specs.Ledgers.{Ledgered, opened, with_lines}
+use Rattle.cnf_core.specs.Charges.{Charging}
+use Rattle.query_core.specs.Ledgers.{Ledgered, charging_of, one_if, opened, with_lines}
+use Rattle.query_core.proofs.ChargingLemmas.{asked_after, is_opened}
 use Rattle.learn_solver.specs.Analyses.{has_all}
 use Rattle.learn_solver.specs.Solvers.{IsExtended, Solving, wanted}
 use Rattle.learn_solver.specs.Solvers.{IsStopped as IsSolverStopped}
@@ -31,7 +33,7 @@ wanted-each P formula ids id all (k, within, is) =
     let here : k < length (wanted formula ids) = omega (arith, within, length-map ids (clause_at formula.clauses)) in
     subst (λ j. P (clause_at formula.clauses j)) is (subst P (get_or-map (clause_at formula.clauses) ids k id [] within) (all k [] here))
 
--- what holds of all holds of those in front and of those behind
+-- what holds of all holds of those in front and of those after
 front-all : (P : List SatLit → Type 0) (xs ys : List (List SatLit)) → All P (xs ++ ys) → All P xs
 front-all P xs ys all k d within =
     subst P (get_or_append_left xs ys d k within) (all k d (omega (arith, within, length-append xs ys)))
@@ -51,13 +53,13 @@ all-cones : (P : List SatLit → Type 0) (graphs : Graphs) (query : Query) (s : 
 all-cones P graphs query s of all id cone =
     subst (λ (f : Formula). P (clause_at f.clauses id)) of.formula (wanted-each P s.formula s.ids id all (of.ids id cone))
 
-pub meets_cones : (graphs : Graphs) (query : Query) (s new : Solving) (first after : Ledgered) (values : List Bool) → IsOfCones graphs query s → IsExtended s new first after → Meets values (wanted new.formula new.ids) → MeetsCones graphs query values
-meets_cones graphs query s new first after values of extended meets =
+pub meets_cones : {O : Type 0} (graphs : Graphs) (query : Query) (s new : Solving) (first after : Charging O) (values : List Bool) → IsOfCones graphs query s → IsExtended s new first after → Meets values (wanted new.formula new.ids) → MeetsCones graphs query values
+meets_cones {O} graphs query s new first after values of extended meets =
     let same = ap (λ f. wanted f new.ids) extended.formula ∙ ap (wanted s.formula) extended.ids in
     all-cones (λ clause. is_met values clause ≡ true) graphs query s of (subst (λ (cs : List (List SatLit)). Meets values cs) same meets)
 
-pub asked_in : (graphs : Graphs) (query : Query) (s new : Solving) (old first after : Ledgered) → IsOfCones graphs query s → first ≡ record old { asked = opened query [] old.asked } → IsExtended s new first after → IsAskedIn graphs query old after
-asked_in graphs query s new old first after of opened_is extended = record {
+pub asked_in : (graphs : Graphs) (query : Query) (s new : Solving) (old first after : Ledgered) → IsOfCones graphs query s → 0 < length first.asked → first ≡ record old { asked = opened query [] old.asked } → IsExtended s new (charging_of first) (charging_of after) → IsAskedIn graphs query old after
+asked_in graphs query s new old first after of there opened_is extended = record {
   lines = new.lines;
   learned = λ k d within.
       let added = extended.added k d (omega (arith, ap length of.lines)) within in
@@ -68,15 +70,16 @@ asked_in graphs query s new old first after of opened_is extended = record {
         unlike_earlier = behind-all P (wanted s.formula s.ids) (clauses_of (take k new.lines)) added.fresh;
       };
   budget = extended.budget ∙ ap (λ (l : Ledgered). l.budget) opened_is;
-  asked = extended.asked ∙ ap (λ (l : Ledgered). with_lines new.lines l.asked) opened_is;
+  asked = asked_after first after new.lines (is_opened first there) (extended.opened ∙ is_opened first there) extended.lines_are extended.others ∙ ap (λ (l : Ledgered). with_lines new.lines l.asked) opened_is;
 }
 
-pub stopped_in : (graphs : Graphs) (query : Query) (s new : Solving) (old first after : Ledgered) (stop : Stop) → IsOfCones graphs query s → first ≡ record old { asked = opened query [] old.asked } → IsSolverStopped s new first after stop → IsStopped graphs query old after stop
-stopped_in graphs query s new old first after Memory of opened_is stopped = tt
-stopped_in graphs query s new old first after (Spent learned) of opened_is stopped = record {
-  asked_in = asked_in graphs query s new old first after of opened_is stopped.extended;
+pub stopped_in : (graphs : Graphs) (query : Query) (s new : Solving) (old first after : Ledgered) (stop : Stop) → IsOfCones graphs query s → 0 < length first.asked → first ≡ record old { asked = opened query [] old.asked } → IsSolverStopped s new (charging_of first) (charging_of after) stop → IsStopped graphs query old after stop
+stopped_in graphs query s new old first after Memory of there opened_is stopped = tt
+stopped_in graphs query s new old first after (Spent learned) of there opened_is stopped = record {
+  asked_in = asked_in graphs query s new old first after of there opened_is stopped.extended;
   learned_is = stopped.learned_is ∙ ap (λ (l : Ledgered). l.budget) opened_is;
-  used = stopped.used ∙ ap (λ (l : Ledgered). l.budget) opened_is;
+  used = omega (arith, stopped.used, ap one_if stopped.spent, ap (λ (l : Ledgered). l.budget) opened_is);
+  made = omega (arith, stopped.used, ap (λ (l : Ledgered). l.budget) opened_is);
   spent = stopped.spent;
 }
 

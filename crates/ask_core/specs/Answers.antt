@@ -1,16 +1,16 @@
 -- What an answer to a query says, and what the ledger says of it.
-use Rattle.std.specs.Prelude.{◌≡◌, ℕ, ◌<◌, Bool, true, false, List, [], length, take, All, None, slice_index_or}
+use Rattle.std.specs.Prelude.{◌≡◌, ℕ, ◌+◌, ◌<◌, Bool, true, false, List, [], length, take, All, None, slice_index_or}
 use Rattle.cnf_core.specs.declared.log.LogLine.{LogLine}
 use Rattle.cnf_core.specs.declared.stop.Stop.{Stop}
 use Rattle.cnf_core.specs.declared.stop.Stop.TheVariants.{Spent, Memory}
 use Rattle.cnf_core.specs.Derivations.{IsRefutation, clauses_of, line_fault}
 use Rattle.learn_solver.specs.Analyses.{has_all}
-use Rattle.net_core.specs.declared.graphs.Graphs.{Graphs}
+use Rattle.net_core.specs.Sides.{Graphs}
 use Rattle.query_core.specs.declared.query.Query.{Query}
 use Rattle.query_core.specs.Queries.{MeetsQuery, bits_in}
 use Rattle.query_core.specs.Formulas.{formula_of}
 use Rattle.query_core.specs.ConeClauses.{AllOfCones}
-use Rattle.query_core.specs.Ledgers.{Ledgered, last_asked, learned_in, opened, with_lines}
+use Rattle.query_core.specs.Ledgers.{Ledgered, last_asked, learned_in, lines_in, opened, with_lines}
 use Rattle.ask_core.specs.declared.question.Answer.{Answer}
 use Rattle.ask_core.specs.declared.question.Answer.TheVariants.{Vector, Refuted}
 
@@ -50,9 +50,10 @@ pub record IsSpentOn (graphs : Graphs) (query : Query) (old new : Ledgered) (lea
   pub asked_in : IsAskedIn graphs query old new
   pub learned_is : learned ≡ old.budget
   pub used : learned_in new ≡ old.budget
+  pub made : lines_in new ≡ old.budget + 1
   pub spent : new.spent ≡ true
 
--- no answer: the budget is spent, or memory is wanting
+-- no answer: the budget is spent, or memory ran out
 abbrev pub IsStopped : Graphs → Query → Ledgered → Ledgered → Stop → Type 0
 IsStopped graphs query old new (Spent learned) = IsSpentOn graphs query old new learned
 IsStopped graphs query old new Memory = Unit {0}

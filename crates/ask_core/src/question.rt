@@ -25,11 +25,11 @@ pub enum Answer {
 
 /// Answers a query that fits two circuits by the clauses of its two cones. The ledger gets an entry for it, in place
 /// of a last one for which nothing was learned, with one line for each conflict; a log that refutes has these lines. Spent comes at a conflict that is met
-/// with the budget spent; its line is kept as the refused one. Where memory is wanting, nothing is said of the last
+/// with the budget spent; its line is kept as the refused one. When out of memory, nothing is said of the last
 /// entry.
 pub fn ask(
     alloc: Global,
-    graphs: &Graphs,
+    graphs: &Graphs<'_>,
     query: &Query,
     ledger: &mut Ledger,
 ) -> Result<Answer, Stop>
@@ -49,7 +49,7 @@ pub fn ask(
 // Answers a query by the clauses of these numbers, which are those of its cones.
 fn ask_cones(
     alloc: Global,
-    graphs: &Graphs,
+    graphs: &Graphs<'_>,
     query: &Query,
     base: &QueryBase<'_>,
     ids: &[u64],

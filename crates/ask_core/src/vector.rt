@@ -14,7 +14,7 @@ use std::alloc::{AllocError, Global};
 /// The bits of the input variables, where the values meet the clauses of a query's cones.
 pub(crate) fn vector_of(
     alloc: Global,
-    graphs: &Graphs,
+    graphs: &Graphs<'_>,
     query: &Query,
     values: &[bool],
 ) -> Result<Items<bool>, AllocError>
@@ -23,8 +23,8 @@ pub(crate) fn vector_of(
     requires meets { MeetsCones graphs.now query.now values.now }
     ensures { IfOk result (IsVector graphs.now query.now) }
 {
-    let _inputs = graphs.first.inputs();
-    let _inputs = graphs.second.inputs();
+    let _first = graphs.first();
+    let _second = graphs.second();
     let inputs = query.left.feed.len();
     let mut vector = Items::new(alloc);
     for input in 0..inputs {

@@ -187,7 +187,7 @@ front_two [] long = absurd (omega (arith, long))
 front_two (x ∷ []) long = absurd (omega (arith, long))
 front_two (x ∷ y ∷ xs) long = refl
 
--- what is left behind the first two
+-- what is left after the first two
 pub behind_two : (xs : List ℕ) → take (length xs - 2) (drop 2 xs) ≡ drop 2 xs
 behind_two xs = take_all (length xs - 2) (drop 2 xs) (omega (arith, length-drop 2 xs))
 

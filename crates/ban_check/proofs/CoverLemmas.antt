@@ -5,7 +5,7 @@ use Rattle.std.specs.List.{AllZip}
 use Rattle.std.proofs.lemmas.List.{get_or_default}
 use Rattle.circuits.specs.declared.port.Pair.{Pair}
 use Rattle.circuits.specs.declared.port.PortKind.{PortKind}
-use Rattle.net_core.specs.declared.graphs.Graphs.{Graphs}
+use Rattle.net_core.specs.Sides.{Graphs}
 use Rattle.account_core.specs.Covers.{AreCoverNames, IsImpossible, IsReference}
 use Rattle.account_core.specs.Given.{Given, IsBanGiven, ban_at}
 use Rattle.account_core.specs.Ports.{ports_in}

@@ -15,10 +15,10 @@ use std::alloc::{AllocError, Global};
 ///
 /// # Errors
 ///
-/// For want of memory alone.
+/// Only when out of memory.
 pub fn breaks(
     alloc: Global,
-    graphs: &Graphs,
+    graphs: &Graphs<'_>,
     claim: &Claim,
     bits: &Bits,
 ) -> Result<bool, AllocError>

@@ -15,7 +15,7 @@ use net_core::Graphs;
 
 /// Whether the ports exist that a cover names, and its bans were given.
 pub(crate) fn are_cover_names(
-    graphs: &Graphs,
+    graphs: &Graphs<'_>,
     given: &Given,
     kind: PortKind,
     from: &[u32],
@@ -24,12 +24,12 @@ pub(crate) fn are_cover_names(
 ) -> bool
     ensures { IsTrue result ↔ AreCoverNames graphs.now given.now kind from.now to.now refs.now }
 {
-    are_below(ports_in(&graphs.first, kind), from)
-        & are_below(ports_in(&graphs.second, kind), to)
+    are_below(ports_in(graphs.first(), kind), from)
+        & are_below(ports_in(graphs.second(), kind), to)
         & are_given(given, refs)
 }
 
-// Whether ports are some of so many.
+// Whether ports are some of n.
 fn are_below(count: usize, ports: &[u32]) -> bool
     ensures { IsTrue result ↔ All (λ port. port < count) ports.now }
 {
@@ -56,7 +56,7 @@ fn is_given(given: &Given, reference: Option<u64>) -> bool
 /// Whether both lists ascend and have more ports than there are of the kind, and each way to pair one of `from` with
 /// one of `to` has its reference.
 pub(crate) fn is_cover(
-    graphs: &Graphs,
+    graphs: &Graphs<'_>,
     given: &Given,
     pairs: &[Pair],
     kind: PortKind,
@@ -68,7 +68,7 @@ pub(crate) fn is_cover(
 {
     ascend(from)
         & ascend(to)
-        & (from.len() + to.len() > ports_in(&graphs.first, kind))
+        & (from.len() + to.len() > ports_in(graphs.first(), kind))
         & are_referred(given, pairs, kind, from, to, refs)
 }
 
@@ -93,7 +93,7 @@ fn are_referred(
     left.is_empty()
 }
 
-// What is left of references behind those for one port of `from`, if these are there.
+// What is left of references after those for one port of `from`, if these are there.
 fn behind_row<'a>(
     given: &Given,
     pairs: &[Pair],

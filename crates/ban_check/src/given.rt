@@ -92,7 +92,7 @@ impl Given {
     ///
     /// # Errors
     ///
-    /// For want of memory alone; then nothing changes.
+    /// Only when out of memory; then nothing changes.
     pub fn add_fact(&mut self, claim: Claim, holds: bool) -> Result<(), AllocError>
         ensures added { OnOk result (self.new ≡ with_fact self.old claim holds) }
         ensures unchanged { OnErr result (self.new ≡ self.old) }
@@ -113,7 +113,7 @@ impl Given {
     ///
     /// # Errors
     ///
-    /// For want of memory alone; then nothing changes.
+    /// Only when out of memory; then nothing changes.
     pub fn add_ban(&mut self, alloc: Global, pairs: &[Pair]) -> Result<(), AllocError>
         ensures added { OnOk result (self.new ≡ with_ban self.old pairs.now) }
         ensures unchanged { OnErr result (self.new ≡ self.old) }

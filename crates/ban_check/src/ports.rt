@@ -8,26 +8,26 @@ use circuits::{Pair, PortKind};
 use net_core::{Graph, Graphs};
 
 /// Whether two circuits have as many inputs, and as many outputs.
-pub fn have_as_many(graphs: &Graphs) -> bool
+pub fn have_as_many(graphs: &Graphs<'_>) -> bool
     ensures { IsTrue result ↔ HaveAsMany graphs.now.first graphs.now.second }
 {
-    (graphs.first.inputs() == graphs.second.inputs())
-        & (graphs.first.outputs().len() == graphs.second.outputs().len())
+    (graphs.first().inputs() == graphs.second().inputs())
+        & (graphs.first().outputs().len() == graphs.second().outputs().len())
 }
 
 /// Whether the ports exist that the pairs name.
-pub fn are_known(graphs: &Graphs, pairs: &[Pair]) -> bool
+pub fn are_known(graphs: &Graphs<'_>, pairs: &[Pair]) -> bool
     ensures { IsTrue result ↔ All (IsKnown graphs.now) pairs.now }
 {
     pairs.iter().all(|pair| is_known(graphs, *pair))
 }
 
-fn is_known(graphs: &Graphs, pair: Pair) -> bool
+fn is_known(graphs: &Graphs<'_>, pair: Pair) -> bool
     ensures { IsTrue result ↔ IsKnown graphs.now pair }
 {
     let from = pair.from as usize;
     let to = pair.to as usize;
-    (from < ports_in(&graphs.first, pair.kind)) & (to < ports_in(&graphs.second, pair.kind))
+    (from < ports_in(graphs.first(), pair.kind)) & (to < ports_in(graphs.second(), pair.kind))
 }
 
 /// How many ports of a kind a circuit has.
@@ -52,7 +52,7 @@ pub fn are_ordered(pairs: &[Pair]) -> bool
     true
 }
 
-// Whether a pair may stand behind others.
+// Whether a pair may stand after others.
 fn stands_behind(before: &[Pair], pair: Pair) -> bool
     ensures { IsTrue result ↔ All (λ other. StandInOrder other pair) before.now }
 {

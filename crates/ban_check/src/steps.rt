@@ -17,11 +17,11 @@ use net_core::Graphs;
 use std::alloc::{AllocError, Global};
 
 /// Whether the output, the ports, the facts and the bans are there that a step names.
-pub fn are_names_known(graphs: &Graphs, given: &Given, step: &Step) -> bool
+pub fn are_names_known(graphs: &Graphs<'_>, given: &Given, step: &Step) -> bool
     ensures { IsTrue result ↔ AreNamesKnown graphs.now given.now step.now }
 {
     match step {
-        Step::Vector { output, .. } => (*output as usize) < graphs.first.outputs().len(),
+        Step::Vector { output, .. } => (*output as usize) < graphs.first().outputs().len(),
         Step::Mismatch { fails, holds } => given.has_fact(*fails) & given.has_fact(*holds),
         Step::Tally { have, lack, .. } => have_facts(given, have) & have_facts(given, lack),
         Step::Cover {
@@ -42,7 +42,7 @@ fn have_facts(given: &Given, numbers: &[u64]) -> bool
 
 /// Whether a step keeps its rule: a vector is of a paired output; a mismatch is of a failing claim and its image; a
 /// tally counts too many inputs; a cover excludes each way.
-pub fn keeps_rule(graphs: &Graphs, given: &Given, pairs: &[Pair], step: &Step) -> bool
+pub fn keeps_rule(graphs: &Graphs<'_>, given: &Given, pairs: &[Pair], step: &Step) -> bool
     ensures { IsTrue result ↔ KeepsRule graphs.now given.now pairs.now step.now }
 {
     match step {
@@ -62,10 +62,10 @@ pub fn keeps_rule(graphs: &Graphs, given: &Given, pairs: &[Pair], step: &Step) -
 ///
 /// # Errors
 ///
-/// For want of memory alone.
+/// Only when out of memory.
 pub fn has_shown(
     alloc: Global,
-    graphs: &Graphs,
+    graphs: &Graphs<'_>,
     pairs: &[Pair],
     step: &Step,
 ) -> Result<bool, AllocError>

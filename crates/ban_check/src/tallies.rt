@@ -13,7 +13,7 @@ use query_core::{Claim, Shape};
 /// Whether facts tell that one of two paired outputs has some inputs, and facts of the other one that it lacks others,
 /// which are together more than a circuit has.
 pub(crate) fn is_tally(
-    graphs: &Graphs,
+    graphs: &Graphs<'_>,
     given: &Given,
     pairs: &[Pair],
     kind: Tallied,
@@ -33,7 +33,7 @@ pub(crate) fn is_tally(
     are_paired(pairs, one, other)
         & say_of(given, have, false, one)
         & say_of(given, lack, true, other)
-        & have_too_many(graphs.first.inputs(), given, kind, have, lack)
+        & have_too_many(graphs.first().inputs(), given, kind, have, lack)
 }
 
 // Whether two claims are of paired outputs of the two circuits.

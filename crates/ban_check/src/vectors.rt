@@ -17,7 +17,7 @@ use word_sim::{Tri, tri_eval};
 /// and differ by the sign of their pair.
 pub(crate) fn shows_difference(
     alloc: Global,
-    graphs: &Graphs,
+    graphs: &Graphs<'_>,
     pairs: &[Pair],
     output: u32,
     values: &[Tri],
@@ -29,12 +29,13 @@ pub(crate) fn shows_difference(
     let Some(pair) = pair_of(pairs, PortKind::Output, output) else {
         return Ok(false);
     };
-    if values.len() != graphs.first.inputs() as usize {
+    if values.len() != graphs.first().inputs() as usize {
         return Ok(false);
     }
-    let first = output_value(alloc, &graphs.first, values, output)?;
-    let sent = values_sent(alloc, pairs, graphs.second.inputs(), values)?;
-    let second = output_value(alloc, &graphs.second, &sent, pair.to)?;
+    let first = output_value(alloc, graphs.first(), values, output)?;
+    let partners = graphs.second();
+    let sent = values_sent(alloc, pairs, partners.inputs(), values)?;
+    let second = output_value(alloc, partners, &sent, pair.to)?;
     Ok(are_opposite(first, signed(pair.flip, second)))
 }
 

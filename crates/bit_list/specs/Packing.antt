@@ -6,11 +6,11 @@ use Rattle.std.specs.List.{range_with_len}
 abbrev pub word_bit : ℕ → ℕ → Bool
 word_bit v word = word / 2 ^ v % 2 == 1
 
--- bit i of words is bit i % 64 of word i / 64; behind the last word all bits are 0
+-- bit i of words is bit i % 64 of word i / 64; after the last word all bits are 0
 abbrev pub packed_bit : List ℕ → ℕ → Bool
 packed_bit words i = word_bit (i % 64) (slice_index_or words (i / 64) 0)
 
--- the first bits of words, so many
+-- the first n bits of words
 abbrev pub bits_of : List ℕ → ℕ → List Bool
 bits_of words count = map (packed_bit words) (range_with_len 0 count)
 

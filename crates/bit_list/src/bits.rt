@@ -47,7 +47,7 @@ impl Bits {
     ///
     /// # Errors
     ///
-    /// For want of memory alone.
+    /// Only when out of memory.
     pub fn from_slice(alloc: Global, bits: &[bool]) -> Result<Bits, AllocError>
         ensures { IfOk result (λ list. list ≡ bits.now) }
     {
@@ -58,11 +58,11 @@ impl Bits {
         Ok(list)
     }
 
-    /// The empty list with room for so many bits.
+    /// The empty list with room for n bits.
     ///
     /// # Errors
     ///
-    /// For want of memory alone.
+    /// Only when out of memory.
     pub fn with_capacity(alloc: Global, bits: usize) -> Result<Bits, AllocError>
         ensures { IfOk result (λ list. list ≡ []) }
     {
@@ -70,11 +70,11 @@ impl Bits {
         Ok(Bits { words, count: 0 })
     }
 
-    /// Adds a bit at the end. Where memory is wanting, the list stays as it was.
+    /// Adds a bit at the end. When out of memory, the list stays as it was.
     ///
     /// # Errors
     ///
-    /// For want of memory alone: no memory holds 2^64 bits.
+    /// Only when out of memory: no memory holds 2^64 bits.
     pub fn push(&mut self, bit: bool) -> Result<(), AllocError>
         ensures pushed { OnOk result (self.new ≡ self.old ++ bit ∷ []) }
         ensures refused { OnErr result (self.new ≡ self.old) }

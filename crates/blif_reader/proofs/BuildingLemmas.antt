@@ -8,8 +8,8 @@ use Rattle.text_core.specs.Piece.{Piece}
 use Rattle.circuits.specs.declared.definition.Trit.{Trit}
 use Rattle.circuits.specs.declared.definition.Def.{Def}
 use Rattle.circuits.specs.declared.definition.Def.TheVariants.{Cover}
-use Rattle.net_core.specs.declared.named.NetKind.{NetKind}
-use Rattle.net_core.specs.declared.named.NetKind.TheVariants as fault
+use Rattle.net_file.specs.declared.fault.NetKind.{NetKind}
+use Rattle.net_file.specs.declared.fault.NetKind.TheVariants as fault
 use Rattle.blif_reader.specs.declared.directive.Directive.{Directive}
 use Rattle.blif_reader.specs.declared.directive.Directive.TheVariants.{Names, Row}
 use Rattle.blif_reader.specs.declared.covers.CoverSoFar.{CoverSoFar}
@@ -83,7 +83,7 @@ unknown_fault names word left rest all kind at c e told = record {
   why = subst (IsUnknownAt names all) (sym told.1) (c.unknown word.at (subst (λ ws. IsUnknownAt names ws word.at) (sym e) (unknown_here names word rest told.2)));
 }
 
--- the operands of a `.names` line are the words behind the first, but for the last
+-- the operands of a `.names` line are the words after the first, but for the last
 pub operands-but_last : (first : Piece) (words : List Piece) → operands (first ∷ words) ≡ but_last words
 operands-but_last first words =
     let e : length (first ∷ words) - 2 ≡ length words - 1 = omega arith in
@@ -98,7 +98,7 @@ no_more new old h = h ∙ sym (append-nil old)
 pub one_place : (new between old : List ℕ) (at place : ℕ) → new ≡ between ++ at ∷ [] → between ≡ old → at ≡ place → new ≡ old ++ place ∷ []
 one_place new between old at place n b a = n ∙ (ap (λ ps. ps ++ at ∷ []) b ∙ ap (λ p. old ++ p ∷ []) a)
 
--- words that are known, and those behind them
+-- words that are known, and those after them
 pub Continues-append : (names : List (List ℕ)) (words rest all : List Piece) → All (IsKnownIn names) words → Continues names (words ++ rest) all → Continues names rest all
 Continues-append names [] rest all known c = c
 Continues-append names (word ∷ words) rest all known c =

@@ -13,8 +13,8 @@ use Rattle.circuits.specs.declared.port.PortKind.TheVariants.{Input, Output}
 use Rattle.circuits.specs.declared.definition.Def.{Def}
 use Rattle.circuits.specs.Literals.{signal_of}
 use Rattle.circuits.specs.Circuits.{IsClosed, named_by, signals_in, HasWideRows}
-use Rattle.net_core.specs.declared.named.NetKind.{NetKind}
-use Rattle.net_core.specs.declared.named.NetKind.TheVariants as fault
+use Rattle.net_file.specs.declared.fault.NetKind.{NetKind}
+use Rattle.net_file.specs.declared.fault.NetKind.TheVariants as fault
 use Rattle.blif_reader.specs.declared.directive.Directive.{Directive}
 use Rattle.blif_reader.specs.declared.directive.Directive.TheVariants.{Inputs, Outputs, Names, Row}
 use Rattle.blif_reader.specs.declared.survey.Port.{Port}
@@ -30,7 +30,7 @@ use Rattle.blif_reader.proofs.SurveyLemmas.{behind, not_row, row_more, opening_o
 use Rattle.blif_reader.proofs.NumberLemmas.{any_place, length-map}
 use Rattle.blif_reader.proofs.BuildingLemmas.{covers_skip, covers_take, no_rows, one_row}
 
--- a name that is known has a signal behind the constant
+-- a name that is known has a signal after the constant
 pub known_signal : (names : List (List ℕ)) (word : Piece) → IsKnownIn names word → signal_named names word < 1 + length names
 known_signal names word k =
     let place = any_place (bytes_eq word.bytes) names ∙ k in
@@ -128,7 +128,7 @@ one_more pre line rest sound = subst (NoneIs is_faulty) (sym (append_assoc pre (
 abbrev HasWidths : ℕ → List Piece → Type 0
 HasWidths operands row = has_widths operands row ≡ true
 
--- the rows behind a `.names` line have its widths
+-- the rows after a `.names` line have its widths
 mutual_rows : (t : Bool) (pre : List (List Piece)) (line row : List Piece) (rest : List (List Piece)) → is_row (directive_of row) ≡ t → opening pre ≡ line → NoneIs is_faulty (pre ++ row ∷ rest) → (opening (pre ++ row ∷ []) ≡ line → All (HasWidths (operand_count line)) (leading_rows rest)) → All (HasWidths (operand_count line)) (leading_rows (row ∷ rest))
 mutual_rows true pre line row rest e o sound tail =
     let here = sound_row pre row (row_kind (directive_of row) e) (sound_line pre row rest sound) in

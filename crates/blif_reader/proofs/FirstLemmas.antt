@@ -5,7 +5,7 @@ use Rattle.std.proofs.lemmas.List.{take-append-le, get_or_append_left, length_pu
 use Rattle.std.proofs.Math.Seq.{take-append_seam, get_or-append_seam}
 use Rattle.blif_reader.specs.Firsts.{IsFirst, NoneIs}
 
--- what a test says of an element does not change by what stands behind it
+-- what a test says of an element does not change by what stands after it
 pub found-append : {X B : Type 0} (found : List X → X → B) (xs ys : List X) (k : ℕ) (d : X) → k < length xs → found (take k (xs ++ ys)) (get_or (xs ++ ys) k d) ≡ found (take k xs) (get_or xs k d)
 found-append found xs ys k d h =
     ap (λ before. found before (get_or (xs ++ ys) k d)) (take-append-le k xs ys (omega arith)) ∙ ap (found (take k xs)) (get_or_append_left xs ys d k h)

@@ -12,7 +12,7 @@ use Rattle.std.proofs.lemmas.List.Elements.{filter-append}
 use Rattle.text_core.specs.Piece.{Piece}
 use Rattle.circuits.specs.declared.port.PortKind.{PortKind}
 use Rattle.circuits.specs.declared.port.PortKind.TheVariants.{Input, Output}
-use Rattle.net_core.specs.declared.named.NetKind.TheVariants as fault
+use Rattle.net_file.specs.declared.fault.NetKind.TheVariants as fault
 use Rattle.blif_reader.specs.declared.survey.Port.{Port}
 use Rattle.blif_reader.specs.Names.{is_same_kind, same_name, repeats_port, is_redefined, words_of_kind}
 use Rattle.blif_reader.specs.Numbers.{IsAdded, bytes_of, port_names, NoneBefore, AreNamed, AreDefined, IsRepeatedPort, IsRepeatedName}
@@ -242,7 +242,7 @@ self_kind kind port rest e =
     let test = λ (p : Port). is_same_kind p.kind kind in
     ap (λ t. map (λ (p : Port). p.word) (cond t (port ∷ filter test rest) (filter test rest))) (ap (λ t. is_same_kind t kind) e ∙ self_same kind)
 
--- a port behind as many as the limit is the first beyond it
+-- a port after as many as the limit is the first beyond it
 pub excess : (kind : PortKind) (ports : List Port) (k : ℕ) (port : Port) (at : ℕ) → k < length ports → ((d : Port) → get_or ports k d ≡ port) → port.kind ≡ kind → length (words_of_kind kind (take k ports)) ≡ 1024 → at ≡ port.word.at → IsExcess (words_of_kind kind ports) at
 excess kind ports k port at h is e full a =
     let before = words_of_kind kind (take k ports) in

@@ -6,7 +6,7 @@ use Rattle.circuits.specs.Circuits.{Circuit}
 use Rattle.circuits.specs.Expansion.{gates_in}
 use Rattle.circuits.specs.Levels.{IsAcyclic}
 use Rattle.circuits.proofs.OneOrder.{one_first_looped, acyclic_not_looped}
-use Rattle.net_core.specs.declared.named.NetKind.{NetKind}
+use Rattle.net_file.specs.declared.fault.NetKind.{NetKind}
 use Rattle.blif_reader.specs.declared.survey.Port.{Port}
 use Rattle.blif_reader.specs.JoinedLines.{word_of}
 use Rattle.blif_reader.specs.Firsts.{NoneIs}

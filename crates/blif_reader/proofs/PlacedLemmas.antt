@@ -43,7 +43,7 @@ behind_by_test : (t : Bool) (at b : ℕ) (bs : List ℕ) (n : ℕ) → is_blank 
 behind_by_test true at b bs n e h = sym (words_from-blank at b bs e)
 behind_by_test false at b bs n e h = rw (drop-one_more n b bs) h
 
--- a blank, or nothing, stands behind the first part
+-- a blank, or nothing, stands after the first part
 words_from-behind : (at : ℕ) (bs : List ℕ) → filter filled (placed (at + 1) (parts_behind (drop (word_length bs) bs))) ≡ words_from at (drop (word_length bs) bs)
 words_from-behind at [] = refl
 words_from-behind at (b ∷ bs) = behind_by_test (is_blank b) at b bs (word_length bs) refl (words_from-behind at bs)
@@ -73,14 +73,14 @@ words_from-front at bs some word =
     ∙ (filter-cons (piece (take n bs) at) (placed (at + length (take n bs) + 1) (parts_behind (drop n bs))) (omega arith)
     ∙ ap (λ rest. piece (take n bs) at ∷ rest) (ap (λ m. filter filled (placed (at + m + 1) (parts_behind (drop n bs)))) long ∙ words_from-behind (at + n) bs))
 
--- a line's words from behind its blanks
+-- a line's words from after its blanks
 words_at-blanks : (p : Piece) → words_at p ≡ words_at (without_blanks p)
 words_at-blanks p =
     let n = prefix_len is_blank p.bytes in
     let few : n ≤ length p.bytes = prefix_len-le-length is_blank p.bytes in
     words_from-blanks p.at p.bytes ∙ ap (λ m. words_from (p.at + m) (drop n p.bytes)) (let e : n ≡ min n (length p.bytes) = omega arith in e)
 
--- the next word of a line, and the words behind it
+-- the next word of a line, and the words after it
 pub words_at-first : (p word : Piece) → first_word p ≡ Some word → words_at p ≡ word ∷ words_at (after_word p)
 words_at-first p word h =
     let rest = without_blanks p in
@@ -106,7 +106,7 @@ words_at-no_first p h =
 pub words_at-empty : (p : Piece) → p.bytes ≡ [] → words_at p ≡ []
 words_at-empty p h = no_words p h
 
--- the offset of what stands behind the last line makes no difference
+-- the offset of what stands after the last line makes no difference
 behind_line : (p : Piece) → placed (p.at + length (take (line_length p.bytes) p.bytes) + 1) (lines (drop (line_length p.bytes + 1) p.bytes)) ≡ lines_at (after_line p)
 behind_line p =
     let n = line_length p.bytes in
@@ -115,7 +115,7 @@ behind_line p =
       | inr last ↦ let none : drop (n + 1) p.bytes ≡ [] = nil_from_length (drop (n + 1) p.bytes) (omega (arith, length-drop (n + 1) p.bytes)) in ap (λ bytes. placed (p.at + length (take n p.bytes) + 1) (lines bytes)) none ∙ sym (ap (λ bytes. placed (p.at + min (n + 1) (length p.bytes)) (lines bytes)) none)
     ]
 
--- the next line of a text, and the lines behind it
+-- the next line of a text, and the lines after it
 pub lines_at-first : (p line : Piece) → first_line p ≡ Some line → lines_at p ≡ line ∷ lines_at (after_line p)
 lines_at-first p line h =
     let n = line_length p.bytes in

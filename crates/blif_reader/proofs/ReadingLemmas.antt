@@ -9,7 +9,7 @@ use Rattle.blif_reader.specs.JoinedLines.{lines_at, words_at, line_words, goes_o
 use Rattle.blif_reader.specs.Reading.{words_left, lines_left}
 use Rattle.blif_reader.proofs.PlacedLemmas.{lines_at-first, lines_at-no_first, words_at-first}
 
--- a line is being read, that goes on or not, and this is behind it
+-- a line is being read, that goes on or not, and this is after it
 abbrev reading : Piece → Bool → Piece → JoinedLines
 reading line on rest = record { line = line; goes_on = on; rest = rest }
 
@@ -39,7 +39,7 @@ entered_as p line content rest on h words o r =
     entered p line content (sym h) words
     ∙ (ap (λ t. words_left (reading content t (after_line p)) ∷ lines_left (reading content t (after_line p))) (sym o) ∙ ap (λ q. words_left (reading content on q) ∷ lines_left (reading content on q)) (sym r))
 
--- between joined lines those behind are left
+-- between joined lines those after are left
 pub between : (lines : JoinedLines) → lines.goes_on ≡ false → lines_left lines ≡ joined (lines_at lines.rest)
 between lines h = ap (λ t. lines_left (reading lines.line t lines.rest)) h
 

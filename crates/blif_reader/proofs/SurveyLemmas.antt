@@ -8,11 +8,11 @@ use Rattle.std.proofs.lemmas.List.Folds.{list_any-append}
 use Rattle.std.proofs.Math.Seq.{get_or-append_seam}
 use Rattle.std.proofs.lemmas.List.Elements.{All-cons, All-nil, All-head, All-tail}
 use Rattle.text_core.specs.Piece.{Piece}
-use Rattle.net_core.specs.declared.named.NetFault.{NetFault}
-use Rattle.net_core.specs.declared.named.NetStop.{NetStop}
-use Rattle.net_core.specs.declared.named.NetStop.TheVariants as stop
-use Rattle.net_core.specs.declared.named.NetKind.{NetKind}
-use Rattle.net_core.specs.declared.named.NetKind.TheVariants as fault
+use Rattle.net_file.specs.declared.fault.NetFault.{NetFault}
+use Rattle.net_file.specs.declared.fault.NetStop.{NetStop}
+use Rattle.net_file.specs.declared.fault.NetStop.TheVariants as stop
+use Rattle.net_file.specs.declared.fault.NetKind.{NetKind}
+use Rattle.net_file.specs.declared.fault.NetKind.TheVariants as fault
 use Rattle.blif_reader.specs.declared.directive.Directive.{Directive}
 use Rattle.blif_reader.specs.declared.directive.Directive.TheVariants.{Names, Row}
 use Rattle.blif_reader.specs.declared.rows.OpenCover.{OpenCover}
@@ -150,7 +150,7 @@ cover_more nearest line cover Names k o f = opened_names nearest line k
 cover_more nearest line cover Row k o f = opened_more nearest line cover Row k o (f refl) refl
 cover_more nearest line cover other k o f = closed_as nearest line other k refl refl
 
--- what stands behind a test for `.end`
+-- what stands after a test for `.end`
 pub not_ended : (ended : Bool) (kind : NetKind) (other : Option NetKind) → cond ended (Some kind) other ≡ None → other ≡ None
 not_ended true kind other h = absurd (cc h)
 not_ended false kind other h = h

@@ -7,8 +7,8 @@ use Rattle.circuits.specs.Expansion.{gates_in}
 use Rattle.circuits.specs.Functions.{Computes}
 use Rattle.circuits.specs.Levels.{IsAcyclic, IsFirstLooped, IsOrderOf}
 use Rattle.circuits.specs.Netlists.{Net}
-use Rattle.net_core.specs.declared.named.NetKind.{NetKind}
-use Rattle.net_core.specs.declared.named.NetKind.TheVariants as fault
+use Rattle.net_file.specs.declared.fault.NetKind.{NetKind}
+use Rattle.net_file.specs.declared.fault.NetKind.TheVariants as fault
 use Rattle.blif_reader.specs.JoinedLines.{joined_lines, word_of}
 use Rattle.blif_reader.specs.Names.{input_words, output_words}
 use Rattle.blif_reader.specs.Faults.{AreFew, IsLineFault, IsPortLineFault, IsPortFault, IsRedefinedFault, IsUndefinedFault, IsInputsFault, IsOutputsFault}

@@ -7,8 +7,8 @@ use Rattle.text_core.specs.Piece.{Piece}
 use Rattle.circuits.specs.declared.netlist.Lit.{Lit}
 use Rattle.circuits.specs.declared.definition.Def.{Def}
 use Rattle.circuits.specs.declared.definition.Def.TheVariants.{Cover}
-use Rattle.net_core.specs.declared.named.NetKind.{NetKind}
-use Rattle.net_core.specs.declared.named.NetKind.TheVariants as fault
+use Rattle.net_file.specs.declared.fault.NetKind.{NetKind}
+use Rattle.net_file.specs.declared.fault.NetKind.TheVariants as fault
 use Rattle.blif_reader.specs.declared.directive.Directive.{Directive}
 use Rattle.blif_reader.specs.declared.directive.Directive.TheVariants.{Names, Outputs, Row}
 use Rattle.blif_reader.specs.declared.covers.CoverSoFar.{CoverSoFar}
@@ -60,7 +60,7 @@ with_row (Some cover) row = Some (record {
   on = cover.on && (output_byte row == 49);
 })
 
--- the cover that is open behind a line
+-- the cover that is open after a line
 abbrev pub open_behind : List (List ℕ) → Option CoverSoFar → Directive → List Piece → Option CoverSoFar
 open_behind names cover Row line = with_row cover line
 open_behind names cover Names line =
@@ -88,7 +88,7 @@ pub record Builds (names : List (List ℕ)) (directive : Directive) (line : List
   pub places : new.places ≡ old.places ++ places_by directive line
   pub known : All (IsKnownIn names) (read_on directive line)
 
--- the words left are the last of all, behind this one if some were read
+-- the words left are the last of all, after this one if some were read
 abbrev pub EndsAs : Option Piece → List Piece → List Piece → Type 0
 EndsAs None left all = all ≡ left
 EndsAs (Some last) left all = (before : List Piece) × (all ≡ before ++ last ∷ left)
@@ -105,7 +105,7 @@ pub record ReadsOperands (names : List (List ℕ)) (signals : List ℕ) (operand
       ≡ map (signal_named names) (but_last all)
   pub words : Continues names (but_last (operand ∷ left)) (but_last all)
 
--- what the lines that are left add to the definitions, behind the cover that is open
+-- what the lines that are left add to the definitions, after the cover that is open
 abbrev pub continued : List (List ℕ) → Option CoverSoFar → List (List Piece) → List Def
 continued names None left = covers_of names left
 continued names (Some cover) left =

@@ -3,8 +3,8 @@
 use Rattle.std.specs.Prelude.{◌≡◌, ℕ, ◌<◌, ◌≤◌, ◌==◌, Bool, true, List, [], length, take, Option, None, Some, is_some, slice_index_or, if◌then◌else◌}
 use Rattle.std.specs.List.{list_any}
 use Rattle.text_core.specs.Piece.{Piece}
-use Rattle.net_core.specs.declared.named.NetKind.{NetKind}
-use Rattle.net_core.specs.declared.named.NetKind.TheVariants as fault
+use Rattle.net_file.specs.declared.fault.NetKind.{NetKind}
+use Rattle.net_file.specs.declared.fault.NetKind.TheVariants as fault
 use Rattle.blif_reader.specs.declared.directive.Directive.{Directive}
 use Rattle.blif_reader.specs.declared.directive.Directive.TheVariants.{Model, Inputs, Outputs, Names, End, Latch, DontCares, PassedOver, Unknown, Row}
 use Rattle.blif_reader.specs.declared.survey.Port.{Port}
@@ -36,11 +36,11 @@ abbrev pub fault_before_end : List (List Piece) → List Piece → Directive →
 fault_before_end earlier line directive =
     fault_by_directive (has_line is_model earlier) (row_fault earlier line) line directive
 
--- nothing may stand behind `.end`; a model there is a second one, also where the first has no `.model` line
+-- nothing may stand after `.end`; a model there is a second one, also where the first has no `.model` line
 abbrev pub fault_behind_end : Directive → Option NetKind
 fault_behind_end directive = if is_model directive then Some fault.SecondModel else Some fault.Directive
 
--- what is wrong with a line that stands behind these
+-- what is wrong with a line that stands after these
 abbrev pub line_fault : List (List Piece) → List Piece → Option NetKind
 line_fault earlier line =
     if has_line is_end earlier then fault_behind_end (directive_of line)
@@ -116,7 +116,7 @@ pub record IsUndefinedFault (lines : List (List Piece)) (kind : NetKind) (at : �
   pub is : kind ≡ fault.NameUndefined
   pub why : IsAtFirst (is_undefined (input_words lines) (defined_words lines)) (read_words lines) at
 
--- More inputs than the limit, at the first behind it.
+-- More inputs than the limit, at the first after it.
 pub record IsInputsFault (lines : List (List Piece)) (kind : NetKind) (at : ℕ) : Type 0 where
   pub known : AreKnown lines
   pub is : kind ≡ fault.TooManyInputs

@@ -26,7 +26,7 @@ is_same_kind one other = false
 abbrev pub named_ports : PortKind → List Piece → List Port
 named_ports kind words = map (λ word. record { kind = kind; word = word }) words
 
--- the ports that a line names, by what it is: the words behind its first
+-- the ports that a line names, by what it is: the words after its first
 abbrev pub ports_on : Directive → List Piece → List Port
 ports_on Inputs line = named_ports Input (drop 1 line)
 ports_on Outputs line = named_ports Output (drop 1 line)

@@ -9,8 +9,8 @@ use Rattle.indexmap.specs.IndexSet.{IndexSet}
 use Rattle.text_core.specs.Piece.{Piece}
 use Rattle.circuits.specs.declared.port.PortKind.{PortKind}
 use Rattle.circuits.specs.declared.port.PortKind.TheVariants.{Input, Output}
-use Rattle.net_core.specs.declared.named.NetKind.{NetKind}
-use Rattle.net_core.specs.declared.named.NetKind.TheVariants as fault
+use Rattle.net_file.specs.declared.fault.NetKind.{NetKind}
+use Rattle.net_file.specs.declared.fault.NetKind.TheVariants as fault
 use Rattle.blif_reader.specs.declared.survey.Port.{Port}
 use Rattle.blif_reader.specs.Firsts.{IsFirst}
 use Rattle.blif_reader.specs.Names.{is_same_kind, repeats_port, is_redefined}
@@ -43,7 +43,7 @@ pub record AreNamed (ports : List Port) (count : ℕ) (inputs outputs : List (Li
   pub inputs_are : inputs ≡ port_names Input (take count ports)
   pub outputs_are : outputs ≡ port_names Output (take count ports)
 
--- The first of the defined names are numbered behind the inputs, each once.
+-- The first of the defined names are numbered after the inputs, each once.
 pub record AreDefined (inputs defined : List Piece) (count : ℕ) (names : List (List ℕ)) : Type 0 where
   pub once : NoneBefore (is_redefined inputs) defined count
   pub names_are : names ≡ bytes_of (inputs ++ take count defined)

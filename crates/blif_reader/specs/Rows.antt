@@ -4,8 +4,8 @@ use Rattle.std.specs.Prelude.{ℕ, ◌-◌, ◌==◌, ◌&&◌, ◌||◌, not, B
 use Rattle.std.specs.List.{list_all, list_any}
 use Rattle.std.specs.Str.{bytes_eq}
 use Rattle.text_core.specs.Piece.{Piece}
-use Rattle.net_core.specs.declared.named.NetKind.{NetKind}
-use Rattle.net_core.specs.declared.named.NetKind.TheVariants as fault
+use Rattle.net_file.specs.declared.fault.NetKind.{NetKind}
+use Rattle.net_file.specs.declared.fault.NetKind.TheVariants as fault
 use Rattle.blif_reader.specs.JoinedLines.{word_of}
 use Rattle.blif_reader.specs.Directives.{directive_of, is_row, is_names}
 
@@ -48,7 +48,7 @@ rows_before earlier = take_while (λ line. is_row (directive_of line)) (reverse 
 abbrev pub opening : List (List Piece) → List Piece
 opening earlier = slice_index_or (reverse earlier) (length (rows_before earlier)) []
 
--- what is wrong with a row of a cover of so many operands, by whether the rows before have the other byte for the
+-- what is wrong with a row of a cover of n operands, by whether the rows before have the other byte for the
 -- output: the first of these
 abbrev pub fault_in_cover : ℕ → Bool → List Piece → Option NetKind
 fault_in_cover operands mixed row =
@@ -61,7 +61,7 @@ fault_in_cover operands mixed row =
 abbrev pub differs_from : ℕ → List Piece → Bool
 differs_from byte row = not (output_byte row == byte)
 
--- what is wrong with a row that stands behind these lines
+-- what is wrong with a row that stands after these lines
 abbrev pub row_fault : List (List Piece) → List Piece → Option NetKind
 row_fault earlier row =
     let mixed = list_any (differs_from (output_byte row)) (rows_before earlier) in

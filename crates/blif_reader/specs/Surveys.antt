@@ -1,8 +1,8 @@
 -- What a first pass over a BLIF file knows of the lines that it has read.
 use Rattle.std.specs.Prelude.{◌≡◌, ◌≢◌, ℕ, ◌==◌, ◌||◌, Bool, true, false, not, List, [], ◌∷◌, ◌++◌, All, Option, None, Some, if◌then◌else◌}
 use Rattle.text_core.specs.Piece.{Piece}
-use Rattle.net_core.specs.declared.named.NetKind.{NetKind}
-use Rattle.net_core.specs.declared.named.NetKind.TheVariants as fault
+use Rattle.net_file.specs.declared.fault.NetKind.{NetKind}
+use Rattle.net_file.specs.declared.fault.NetKind.TheVariants as fault
 use Rattle.blif_reader.specs.declared.directive.Directive.{Directive}
 use Rattle.blif_reader.specs.declared.directive.Directive.TheVariants.{Names, Row}
 use Rattle.blif_reader.specs.declared.rows.OpenCover.{OpenCover}
@@ -40,7 +40,7 @@ fault_known survey line directive =
 abbrev pub fault_of : Survey → List Piece → Directive → Option NetKind
 fault_of survey line directive = if survey.ended then fault_behind_end directive else fault_known survey line directive
 
--- the cover that is open behind a line
+-- the cover that is open after a line
 abbrev pub cover_behind : Option OpenCover → Directive → List Piece → Option OpenCover
 cover_behind cover Names line = Some (record { operands = operand_count line; output = None })
 cover_behind None Row line = None
@@ -63,7 +63,7 @@ abbrev pub HaveOutput : Option ℕ → List (List Piece) → Type 0
 HaveOutput None rows = rows ≡ []
 HaveOutput (Some byte) rows = (rows ≢ []) × All (λ row. output_byte row ≡ byte) rows
 
--- the cover that is open behind these lines, if there is one
+-- the cover that is open after these lines, if there is one
 abbrev pub IsOpen : List (List Piece) → Option OpenCover → Type 0
 IsOpen earlier None = is_names (directive_of (opening earlier)) ≡ false
 IsOpen earlier (Some cover) =

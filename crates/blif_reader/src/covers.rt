@@ -4,7 +4,7 @@ ghost use Rattle.std.specs.Prelude.{◌≡◌, ◌≢◌, ◌+◌, ◌-◌, ◌<
 ghost use Rattle.std.specs.List.{list_any, position_or_len};
 ghost use Rattle.std.specs.Str.{bytes_eq};
 ghost use Rattle.circuits.specs.declared.netlist.Lit.{Lit};
-ghost use Rattle.net_core.specs.declared.named.NetFault.{NetFault};
+ghost use Rattle.net_file.specs.declared.fault.NetFault.{NetFault};
 ghost use Rattle.blif_reader.specs.JoinedLines.{word_of};
 ghost use Rattle.blif_reader.specs.Directives.{directive_of};
 ghost use Rattle.blif_reader.specs.Names.{read_on};
@@ -21,11 +21,11 @@ use crate::names::find_name;
 use circuits::{Def, Lit, Trit};
 use indexmap::IndexSet;
 use items::Items;
-use net_core::{NetFault, NetKind, NetStop};
+use net_file::{NetFault, NetKind, NetStop};
 use std::alloc::{AllocError, Global};
 use text_core::Span;
 
-/// A `.names` line and the rows behind it, so far.
+/// A `.names` line and the rows after it, so far.
 #[derive(Drop)]
 pub(crate) struct CoverSoFar {
     /// The signals of its operands.
@@ -295,7 +295,7 @@ fn operand_signals(
         (but_last (words_left lines.old)) fault.kind fault.at }
 {
     let mut signals = Items::new(alloc);
-    // A word is an operand only if another stands behind it, so it is looked up one word later.
+    // A word is an operand only if another stands after it, so it is looked up one word later.
     let Some(mut operand) = lines.next_word() else {
         return Ok(signals);
     };

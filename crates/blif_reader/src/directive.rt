@@ -16,7 +16,7 @@ pub enum Directive {
     Outputs,
     /// `.names`: operands, and the name of a signal that the rows of a cover define by them.
     Names,
-    /// `.end`, behind which nothing may stand.
+    /// `.end`, after which nothing may stand.
     End,
     /// `.latch`, which is refused.
     Latch,

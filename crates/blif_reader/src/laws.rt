@@ -4,7 +4,7 @@
 ghost use Rattle.std.specs.Prelude.{◌≡◌, ℕ, ◌≤◌, ◌⊎◌, List, length};
 ghost use Rattle.circuits.specs.Circuits.{Circuit, IsClosed};
 ghost use Rattle.circuits.specs.Levels.{IsAcyclic};
-ghost use Rattle.net_core.specs.declared.named.NetKind.{NetKind};
+ghost use Rattle.net_file.specs.declared.fault.NetKind.{NetKind};
 ghost use Rattle.blif_reader.specs.Blif.{IsBlif, IsBlifFault};
 
 /// A file is one netlist at most, with one name for each port.

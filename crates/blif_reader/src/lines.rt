@@ -15,7 +15,7 @@ pub(crate) struct JoinedLines<'a> {
     line: Span<'a>,
     /// Whether that line goes on on the next one.
     goes_on: bool,
-    /// The lines behind it.
+    /// The lines after it.
     rest: Cursor<'a>,
 }
 

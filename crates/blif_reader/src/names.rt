@@ -4,13 +4,13 @@ ghost use Rattle.std.specs.Prelude.{◌≡◌, ◌<◌, List, true, false, lengt
 ghost use Rattle.std.specs.List.{list_any, position_or_len};
 ghost use Rattle.std.specs.Str.{bytes_eq};
 ghost use Rattle.text_core.specs.Piece.{Piece};
-ghost use Rattle.net_core.specs.declared.named.NetFault.{NetFault};
+ghost use Rattle.net_file.specs.declared.fault.NetFault.{NetFault};
 ghost use Rattle.blif_reader.specs.Numbers.{names_of, bytes_of, IsAdded, AreNamed, AreDefined, IsRepeatedPort, IsRepeatedName};
 
 use crate::survey::Port;
 use circuits::PortKind;
 use indexmap::IndexSet;
-use net_core::{NetFault, NetKind, NetStop};
+use net_file::{NetFault, NetKind, NetStop};
 use std::alloc::{AllocError, Global};
 use text_core::Span;
 
@@ -70,7 +70,7 @@ fn add_port<'a>(named: &mut PortNames<'a>, port: &Port<'a>) -> Result<bool, Allo
     }
 }
 
-/// Numbers the names that are defined behind those of the inputs. The fault is at the first name that is there already.
+/// Numbers the names that are defined after those of the inputs. The fault is at the first name that is there already.
 pub(crate) fn add_defined<'a>(
     names: &mut IndexSet<&'a [u8]>,
     defined: &[Span<'a>],

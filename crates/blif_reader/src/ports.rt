@@ -8,7 +8,7 @@ ghost use Rattle.blif_reader.specs.Ports.{IsExcess};
 use crate::survey::Port;
 use circuits::PortKind;
 use items::Items;
-use net_core::Name;
+use net_file::Name;
 use std::alloc::{AllocError, Global};
 
 /// The limit of inputs, and that of outputs.

@@ -8,7 +8,7 @@ ghost use Rattle.blif_reader.specs.Reading.{words_left, lines_left};
 ghost use Rattle.blif_reader.specs.Surveys.{words_in_row, is_mixed, fault_by_cover};
 
 use crate::lines::JoinedLines;
-use net_core::NetKind;
+use net_file::NetKind;
 use text_core::Span;
 
 /// What is known of the cover that the last `.names` line opened.

@@ -2,7 +2,7 @@
 
 ghost use Rattle.std.specs.Prelude.{◌≡◌, ◌≢◌, ℕ, ◌∷◌, ◌++◌, List, [], length, map, true, false, None, Some, OnOk, OnErr, IsOk, IfOk, IfErr};
 ghost use Rattle.text_core.specs.Piece.{Piece};
-ghost use Rattle.net_core.specs.declared.named.NetFault.{NetFault};
+ghost use Rattle.net_file.specs.declared.fault.NetFault.{NetFault};
 ghost use Rattle.blif_reader.specs.Blif.{blif_lines};
 ghost use Rattle.blif_reader.specs.Directives.{directive_of};
 ghost use Rattle.blif_reader.specs.Faults.{fault_behind_end, IsLineFault};
@@ -14,7 +14,7 @@ use crate::directive::Directive;
 use crate::lines::JoinedLines;
 use crate::rows::{OpenCover, words_of_row};
 use circuits::PortKind;
-use net_core::{NetFault, NetKind, NetStop};
+use net_file::{NetFault, NetKind, NetStop};
 use std::alloc::{AllocError, AllocFailed, Global};
 use text_core::Span;
 
@@ -184,7 +184,7 @@ impl<'a> Survey<'a> {
         Ok(())
     }
 
-    // Reads an `.end` line, behind which no other may stand.
+    // Reads an `.end` line, after which no other may stand.
     fn read_end(&mut self)
         requires { self.old.ended ≡ false }
         ensures { (line : List Piece) → Advances Directive.End line self.old self.new }
@@ -278,7 +278,7 @@ pub(crate) fn survey_lines<'a>(alloc: Global, input: &'a [u8]) -> Result<Survey<
     Ok(survey)
 }
 
-// What is wrong with a line behind `.end`.
+// What is wrong with a line after `.end`.
 fn kind_behind_end(directive: Directive) -> NetKind
     ensures { fault_behind_end directive ≡ Some result }
 {

@@ -3,7 +3,7 @@
 ghost use Rattle.std.specs.Prelude.{◌≡◌, ◌+◌, ◌<◌, ◌≤◌, ◌^◌, length, IfOk, OnOk};
 ghost use Rattle.circuits.specs.Expansion.{gates_in};
 ghost use Rattle.circuits.specs.Levels.{IsAcyclic, IsOrderOf};
-ghost use Rattle.net_core.specs.declared.named.NetFault.{NetFault};
+ghost use Rattle.net_file.specs.declared.fault.NetFault.{NetFault};
 ghost use Rattle.blif_reader.specs.Names.{input_words};
 ghost use Rattle.blif_reader.specs.Numbers.{names_of};
 ghost use Rattle.blif_reader.specs.Covers.{blif_circuit, signal_names};
@@ -18,7 +18,8 @@ use crate::ports::{find_excess, names_of_kind};
 use crate::survey::{Survey, survey_lines};
 use circuits::PortKind;
 use indexmap::IndexSet;
-use net_core::{Graph, Named, NetFault, NetKind, NetStop, OrderFault, PlainNet, order};
+use net_core::{Graph, OrderFault, PlainNet, order};
+use net_file::{Named, NetFault, NetKind, NetStop};
 use std::alloc::Global;
 
 // That both kinds of port have a line.
@@ -149,7 +150,7 @@ fn name_net(
 ///
 /// [`NetStop::Fault`] with the first fault of the file: of its lines; a kind of port without a line; a name that is
 /// given to two ports of a kind, defined twice, or read and not known; more ports than 1,024 of a kind; a cover on a
-/// cycle or above one, at its `.names` line; or more than 1,000,000 gates. [`NetStop::Memory`] for want of memory.
+/// cycle or above one, at its `.names` line; or more than 1,000,000 gates. [`NetStop::Memory`] when out of memory.
 pub fn read(alloc: Global, input: &[u8]) -> Result<Named, NetStop>
     requires file { length input.now ≤ 67108864 }
     ensures netlist { IfOk result (λ named. ReadAs input.now named.graph named.input_names named.output_names) }
@@ -163,7 +164,7 @@ pub fn read(alloc: Global, input: &[u8]) -> Result<Named, NetStop>
     let names = number_names(alloc, input, &survey)?;
     // Names have numbers only now, so the covers are read in a second pass: a cover may name what a later one defines.
     let covers = read_covers(alloc, input, &names)?;
-    // The limits come behind the names, so a file that is malformed is told so however many ports it has.
+    // The limits come after the names, so a file that is malformed is told so however many ports it has.
     check_limits(input, &survey)?;
     name_net(alloc, input, &survey, covers)
 }

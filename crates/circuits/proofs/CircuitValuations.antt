@@ -60,7 +60,7 @@ rounds-stay circuit x (suc l) k s len (inr only) =
     let low = next_round-def circuit x (rounds circuit x l) only.place (Cover [] [] true) len only.there in
     ap (λ n. bit (rounds circuit x n) s) later ∙ (ap (bit (rounds circuit x (suc (l + k)))) only.at ∙ (high ∙ (agree ∙ (sym low ∙ ap (bit (rounds circuit x (suc l))) (sym only.at)))))
 
--- one level that the first so many definitions are within
+-- one level that the first n definitions are within
 pub common_level : (circuit : Circuit) (n : ℕ) → IsAcyclic circuit → n ≤ length circuit.defs → (level : ℕ) × ((d : ℕ) → d < n → IsWithin circuit level (signal_at circuit d))
 common_level circuit zero acyclic h = (0, λ d l. absurd (omega arith))
 common_level circuit (suc n) acyclic h =

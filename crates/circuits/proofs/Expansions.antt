@@ -134,7 +134,7 @@ bits-at x gates gate =
 abbrev pub IsRead : List Bool → List Gate → Lit → Type 0
 IsRead x gates l = signal_of l < 1 + length x + length gates
 
--- What is made behind the gates g: the bits before stay, each gate reads earlier signals, and the value has the bit b.
+-- What is made after the gates g: the bits before stay, each gate reads earlier signals, and the value has the bit b.
 pub record IsMade (x : List Bool) (g : List Gate) (p : Made) (b : Bool) : Type 0 where
   pub longer : length g ≤ length p.gates
   pub same : (s : ℕ) → s < 1 + length x + length g → bit (bits x p.gates) s ≡ bit (bits x g) s

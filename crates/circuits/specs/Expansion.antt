@@ -51,7 +51,7 @@ row_made first names gates row = and_all first gates (row_literals names row)
 abbrev pub inverted : Made → Made
 inverted s = made s.gates (inverse s.value)
 
--- s = NOT AND(NOT s, NOT r), where r has been made behind s
+-- s = NOT AND(NOT s, NOT r), where r has been made after s
 abbrev pub or_with : ℕ → Lit → Made → Made
 or_with first s r = inverted (and_with first (made r.gates (inverse s)) (inverse r.value))
 

@@ -65,7 +65,7 @@ pub record Names (circuit : Circuit) (s u : ℕ) : Type 0 where
   pub at : s ≡ signal_at circuit place
   pub named : Contains (names_of circuit place) u
 
--- a way of so many steps from s to t, each to a signal that is named
+-- a way of n steps from s to t, each to a signal that is named
 abbrev pub Reaches : Circuit → ℕ → ℕ → ℕ → Type 0
 Reaches circuit zero s t = s ≡ t
 Reaches circuit (suc steps) s t = (u : ℕ) × Names circuit s u × Reaches circuit steps u t

@@ -135,7 +135,7 @@ fn operands_are_earlier(first_gate: usize, gates: &[Gate]) -> bool
     true
 }
 
-/// Whether each output reads one of so many signals.
+/// Whether each output reads one of n signals.
 fn outputs_are_signals(signals: usize, outputs: &[Lit]) -> bool
     ensures { IsTrue result ↔ All (λ output. signal_of output < signals) outputs.now }
 {

@@ -43,7 +43,7 @@ pub fn gate_bit(values: &[bool], gate: Gate) -> bool
 ///
 /// # Errors
 ///
-/// For want of memory alone.
+/// Only when out of memory.
 pub fn valuation(alloc: Global, net: &Netlist, vector: &[bool]) -> Result<Vec<bool>, AllocError>
     requires ordered { IsOrdered net.now }
     requires inputs { length vector.now ≡ net.now.inputs }
@@ -74,7 +74,7 @@ fn add_gates(values: &mut Vec<bool>, gates: &[Gate]) -> Result<(), AllocError>
 ///
 /// # Errors
 ///
-/// For want of memory alone.
+/// Only when out of memory.
 pub fn outputs(alloc: Global, net: &Netlist, vector: &[bool]) -> Result<Vec<bool>, AllocError>
     requires ordered { IsOrdered net.now }
     requires inputs { length vector.now ≡ net.now.inputs }
@@ -140,7 +140,7 @@ fn places_are_distinct(entries: &[(u32, bool)]) -> bool
 ///
 /// # Errors
 ///
-/// For want of memory alone.
+/// Only when out of memory.
 pub fn move_vector(
     alloc: Global,
     entries: &[(u32, bool)],
@@ -162,7 +162,7 @@ pub fn move_vector(
 ///
 /// # Errors
 ///
-/// For want of memory alone.
+/// Only when out of memory.
 pub fn is_match(
     alloc: Global,
     first: &Netlist,
@@ -281,7 +281,7 @@ fn outputs_agree(q: &[(u32, bool)], first: &[bool], second: &[bool]) -> bool
 ///
 /// # Errors
 ///
-/// For want of memory alone.
+/// Only when out of memory.
 pub fn are_npnp_equal(alloc: Global, first: &Netlist, second: &Netlist) -> Result<bool, AllocError>
     requires first_ordered { IsOrdered first.now }
     requires second_ordered { IsOrdered second.now }

@@ -76,7 +76,7 @@ both : (a b : Bool) → (a && b) ≡ true → a ≡ true
 both true b e = refl
 both false b e = e
 
--- behind a clause that is met there is a fault, where there is one behind each true literal that it makes
+-- after a clause that is met there is a fault, where there is one after each true literal that it makes
 behind_met : (a : List Bool) (made open_ones : List SatLit) (hints : List ℕ) (go_on : SatLit → Option LineFault) → list_any (literal_bit a) open_ones ≡ true → ((l : SatLit) → literal_bit a l ≡ true → go_on l ≢ None) → fault_behind (effect_by made open_ones) hints go_on ≢ None
 behind_met a made [] hints go_on met behind none = absurd (false≢true met)
 behind_met a made (l ∷ others) hints go_on met behind none =
@@ -123,7 +123,7 @@ not_taken false f other none = none
 empty_line : LogLine
 empty_line = record { clause = []; hints = [] }
 
--- a line without a fault has none of its hints, and stands behind no empty clause
+-- a line without a fault has none of its hints, and stands after no empty clause
 pub hints_sound : (formula : Formula) (taken : List (List SatLit)) (line : LogLine) → line_fault formula taken line ≡ None → hint_fault (formula.clauses ++ taken) (map opposite line.clause) line.hints ≡ None
 hints_sound formula taken line none =
     let hint = hint_fault (formula.clauses ++ taken) (map opposite line.clause) line.hints in
@@ -140,7 +140,7 @@ derived_met formula taken line a none meets =
       | inr unmet ↦ absurd (no_conflict a (formula.clauses ++ taken) line.hints (map opposite line.clause) meets (negation_holds a line.clause unmet) (hints_sound formula taken line none))
     ]
 
--- what meets a formula meets the first so many lines of a derivation
+-- what meets a formula meets the first n lines of a derivation
 pub lines_met : (formula : Formula) (lines : List LogLine) (a : List Bool) (k : ℕ) → AreDerived formula lines → Meets a formula.clauses → k ≤ length lines → Meets a (formula.clauses ++ clauses_of (take k lines))
 lines_met formula lines a zero derived meets within = subst (Meets a) (sym (append-nil formula.clauses)) meets
 lines_met formula lines a (suc k) derived meets within =

@@ -1,4 +1,4 @@
--- Parts of a list, one behind the other.
+-- Parts of a list, one after the other.
 use Rattle.std.proofs.Common.{◌≡◌, ℕ, zero, suc, ◌+◌, ◌-◌, ◌<◌, ◌≤◌, List, [], ◌∷◌, ◌++◌, length, take, drop, slice_index_or, Vec, vec_len, vec_capacity, refl, ◌∙◌, ap, arith}
 use Rattle.std.proofs.lemmas.List.{take-append-le, drop-append-le, length-drop}
 use Rattle.std.proofs.Math.Seq.{take-length, drop-append_seam}
@@ -6,13 +6,13 @@ use Rattle.std.specs.declared.alloc.Global.{Global}
 use Rattle.cnf_core.specs.declared.literal.SatLit.{SatLit}
 use Rattle.cnf_core.specs.Stores.{pieces, start_at, AreEnds}
 
--- the first so many of more elements were added, and no memory was taken
+-- the first n of more elements were added, and no memory was taken
 pub record IsAppended (old new : Vec SatLit Global) (more : List SatLit) (count : ℕ) : Type 0 where
   pub items : new.items ≡ old.items ++ take count more
   pub len : vec_len new ≡ vec_len old + count
   pub capacity : vec_capacity new ≡ vec_capacity old
 
--- the ends ascend, and none is behind the last
+-- the ends ascend, and none is after the last
 pub starts_within : (start last : ℕ) (ends : List ℕ) → AreEnds start ends last → start ≤ last
 starts_within start last [] are = omega (arith, are)
 starts_within start last (end ∷ ends) are = omega (arith, are.0, starts_within end last ends are.1)
@@ -39,7 +39,7 @@ pub ends_more : (start last more : ℕ) (ends : List ℕ) → AreEnds start ends
 ends_more start last more [] are = (omega (arith, are), refl)
 ends_more start last more (end ∷ ends) are = (are.0, ends_more end last more ends are.1)
 
--- what stands behind a place is not in a part before it
+-- what stands after a place is not in a part before it
 part_stays : {X : Type 0} (start end : ℕ) (xs more : List X) → start ≤ end → end ≤ length xs → take (end - start) (drop start (xs ++ more)) ≡ take (end - start) (drop start xs)
 part_stays start end xs more ascend within =
     ap (take (end - start)) (drop-append-le start xs more (omega (arith, ascend, within)))

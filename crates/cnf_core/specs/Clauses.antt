@@ -39,7 +39,7 @@ is_met assignment clause = list_any (literal_bit assignment) clause
 abbrev pub Meets : List Bool → List (List SatLit) → Type 0
 Meets assignment clauses = All (λ clause. is_met assignment clause ≡ true) clauses
 
--- Clauses over so many variables.
+-- Clauses over n variables.
 pub record Formula : Type 0 where
   pub variables : ℕ
   pub clauses : List (List SatLit)

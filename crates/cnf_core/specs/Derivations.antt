@@ -30,7 +30,7 @@ effect_by made (literal ∷ others) = if list_all (is_same literal) others && no
 abbrev pub effect_of : List SatLit → List SatLit → Effect
 effect_of made clause = effect_by made (filter (λ literal. not (is_false made literal)) clause)
 
--- what is wrong behind a clause with this effect, where hints are left; a literal that is made goes on
+-- what is wrong after a clause with this effect, where hints are left; a literal that is made goes on
 abbrev pub fault_behind : Effect → List ℕ → (SatLit → Option LineFault) → Option LineFault
 fault_behind Conflict [] go_on = None
 fault_behind Conflict (hint ∷ hints) go_on = Some fault.AfterConflict
@@ -52,7 +52,7 @@ abbrev pub repeats_variable : List SatLit → Bool
 repeats_variable [] = false
 repeats_variable (literal ∷ others) = list_any (λ other. variable_of other == variable_of literal) others || repeats_variable others
 
--- what is wrong with a line that stands behind these clauses of a log
+-- what is wrong with a line that stands after these clauses of a log
 abbrev pub line_fault : Formula → List (List SatLit) → LogLine → Option LineFault
 line_fault formula taken line =
     if list_any is_empty taken then Some fault.Closed

@@ -1,3 +1,4 @@
+pub mod Charges
 pub mod Clauses
 pub mod Derivations
 pub mod Stores

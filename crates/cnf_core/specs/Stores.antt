@@ -4,17 +4,17 @@ use Rattle.std.specs.declared.alloc.Global.{Global}
 use Rattle.std.specs.Prelude.{Vec}
 use Rattle.cnf_core.specs.declared.literal.SatLit.{SatLit}
 
--- Clauses in the order in which they were put, and the room for one more: none, or so many literals at most.
+-- Clauses in the order in which they were put, and the room for one more: none, or n literals at most.
 pub record Stored : Type 0 where
   pub clauses : List (List SatLit)
   pub room : Option ℕ
 
--- there is room for a clause of so many literals
+-- there is room for a clause of n literals
 abbrev pub HasRoom : Option ℕ → ℕ → Type 0
 HasRoom None literals = ⊥
 HasRoom (Some most) literals = literals ≤ most
 
--- the parts of a list, one behind the other, that end at these places
+-- the parts of a list, one after the other, that end at these places
 abbrev pub pieces : {X : Type 0} → ℕ → List ℕ → List X → List (List X)
 pieces {X} start [] xs = []
 pieces {X} start (end ∷ ends) xs = take (end - start) (drop start xs) ∷ pieces end ends xs

@@ -8,8 +8,8 @@ use crate::literal::SatLit;
 use std::alloc::{AllocError, Global};
 use std::marker::Model;
 
-/// Clauses, numbered from 0 in the order in which they were put. Their literals lie in one arena, one clause behind the
-/// other, and are lent as slices. There may be room for one clause more, of so many literals at most: that one is put
+/// Clauses, numbered from 0 in the order in which they were put. Their literals lie in one arena, one clause after the
+/// other, and are lent as slices. There may be room for one clause more, of n literals at most: that one is put
 /// without memory.
 #[derive(Debug, Drop)]
 pub struct ClauseStore {
@@ -56,7 +56,7 @@ impl ClauseStore {
         piece(&self.literals, &self.ends, id as usize)
     }
 
-    /// Puts a clause behind the others and answers its number. It uses up the room. A refusal changes nothing.
+    /// Puts a clause after the others and answers its number. It uses up the room. A refusal changes nothing.
     pub fn put(&mut self, clause: &[SatLit]) -> Result<u64, AllocError>
         ensures number { IfOk result (λ id. id ≡ length self.old.clauses) }
         ensures put { OnOk result (self.new ≡ record { clauses = self.old.clauses ++ clause.now ∷ []; room = None }) }
@@ -68,7 +68,7 @@ impl ClauseStore {
         Ok(id)
     }
 
-    /// Makes room for a clause of at least so many literals. A larger room stays, and a refusal changes nothing.
+    /// Makes room for a clause of at least n literals. A larger room stays, and a refusal changes nothing.
     pub fn reserve(&mut self, literals: usize) -> Result<(), AllocError>
         ensures clauses { self.new.clauses ≡ self.old.clauses }
         ensures room { OnOk result (HasRoom self.new.room literals) }
@@ -84,7 +84,7 @@ impl ClauseStore {
         Ok(())
     }
 
-    /// Puts a clause, for which there is room, behind the others. It uses up the room and takes no memory.
+    /// Puts a clause, for which there is room, after the others. It uses up the room and takes no memory.
     pub fn put_reserved(&mut self, clause: &[SatLit])
         requires { HasRoom self.old.room (length clause.now) }
         ensures { self.new ≡ record { clauses = self.old.clauses ++ clause.now ∷ []; room = None } }
@@ -95,7 +95,7 @@ impl ClauseStore {
     }
 }
 
-// Whether there is room for a clause of so many literals.
+// Whether there is room for a clause of n literals.
 fn has_room(room: Option<usize>, literals: usize) -> bool
     ensures { IsTrue result ↔ HasRoom room literals }
 {

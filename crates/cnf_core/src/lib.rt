@@ -2,6 +2,7 @@
 #![tactic(auto)]
 
 mod base;
+mod charge;
 mod clause;
 mod clause_store;
 mod effect;
@@ -12,6 +13,7 @@ mod log;
 mod stop;
 
 pub use base::Base;
+pub use charge::Charge;
 pub use clause::Clause3;
 pub use clause_store::ClauseStore;
 pub use effect::Effect;

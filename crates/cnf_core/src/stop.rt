@@ -6,10 +6,10 @@ use thiserror::Error;
 /// Why a search for a refutation ends without one.
 #[derive(Clone, Copy, Debug, Drop, PartialEq, Eq, Error)]
 pub enum Stop {
-    /// The budget is spent, and so many lines were learned.
+    /// The budget is spent, and n lines were learned.
     #[error("the budget is spent: {0} lines were learned")]
     Spent(u64),
-    /// Memory is wanting.
+    /// Out of memory.
     #[error("out of memory")]
     Memory,
 }

@@ -1,11 +1,11 @@
 -- What an answered query, and one refuted by its outputs, make of a ledger.
-use Rattle.std.proofs.Common.{◌≡◌, ℕ, zero, suc, ◌<◌, [], ◌∷◌, take, slice_index_or, ap, ◌∙◌, arith}
+use Rattle.std.proofs.Common.{◌≡◌, ℕ, zero, suc, ◌<◌, [], ◌∷◌, take, slice_index_or, ap, ◌∙◌, arith, ◌+◌}
 use Rattle.circuits.specs.Netlists.{signals_of}
 use Rattle.cnf_core.specs.declared.log.LogLine.{LogLine}
 use Rattle.cnf_core.specs.declared.stop.Stop.{Stop}
 use Rattle.cnf_core.specs.declared.stop.Stop.TheVariants.{Spent, Memory}
 use Rattle.cnf_core.specs.Derivations.{IsRefutation, clauses_of}
-use Rattle.net_core.specs.declared.graphs.Graphs.{Graphs}
+use Rattle.net_core.specs.Sides.{Graphs}
 use Rattle.net_core.specs.Cones.{output_signal}
 use Rattle.net_core.specs.Graph.{IsGraph}
 use Rattle.net_core.specs.Sides.{graph_of}
@@ -17,7 +17,7 @@ use Rattle.query_core.specs.Formulas.{formula_of}
 use Rattle.query_core.specs.Ledgers.{Ledgered, opened, with_line, IsRefused}
 use Rattle.query_core.specs.Queries.{IsQuery}
 use Rattle.query_core.proofs.ClaimQueryLemmas.{claim_query_fits}
-use Rattle.account_core.specs.Work.{IsLearned, IsWorkOn}
+use Rattle.oracle_core.specs.Work.{IsLearned, IsWorkOn}
 use Rattle.ask_core.specs.Answers.{IsAskedIn, IsStopped}
 use Rattle.fact_tests.specs.Asking.{IsAsked, IsHalted, entry_with}
 use Rattle.fact_tests.specs.Supports.{IsOutside, closing_line}
@@ -52,6 +52,7 @@ halted_of graphs query before after (Spent learned) fits stopped = record {
   asked = asked_of graphs query before after fits stopped.asked_in;
   learned_is = stopped.learned_is;
   used = stopped.used;
+  made = stopped.made;
   refused = stopped.spent;
 }
 
@@ -110,5 +111,6 @@ closed_halted graphs claim query line before mid after (Spent learned) closed qu
       asked = closed_asked graphs claim query line before mid after closed query_is line_is open_is (ap (λ (l : Ledgered). l.asked) refused.refused) (ap (λ (l : Ledgered). l.budget) refused.refused);
       learned_is = refused.learned_is ∙ budget;
       used = refused.counted ∙ budget;
+      made = refused.made ∙ ap (λ (n : ℕ). n + 1) budget;
       refused = ap (λ (l : Ledgered). l.spent) refused.refused;
     }

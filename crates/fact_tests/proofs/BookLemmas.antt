@@ -10,7 +10,7 @@ use Rattle.std.proofs.lemmas.List.Elements.{All-push}
 use Rattle.std.proofs.lemmas.List.Quantifiers.{all_pairs_push}
 use Rattle.cnf_core.specs.declared.stop.Stop.{Stop}
 use Rattle.cnf_core.specs.declared.stop.Stop.TheVariants.{Spent, Memory}
-use Rattle.net_core.specs.declared.graphs.Graphs.{Graphs}
+use Rattle.net_core.specs.Sides.{Graphs}
 use Rattle.net_core.specs.declared.graphs.Side.TheVariants.{First, Second}
 use Rattle.net_core.specs.Sides.{graph_of}
 use Rattle.query_core.specs.declared.claims.Claim.{Claim}
@@ -28,8 +28,9 @@ use Rattle.query_core.proofs.MatchLemmas.{straight_count}
 use Rattle.account_core.specs.declared.fact.Evidence.{Evidence}
 use Rattle.account_core.specs.declared.fact.Evidence.TheVariants.{Fails}
 use Rattle.account_core.specs.declared.fact.Fact.{Fact}
-use Rattle.account_core.specs.Work.{IsCharged, IsOfClaim, IsOfMatch, IsWorkOfClaimsAndMatches}
-use Rattle.account_core.specs.Oracles.{AreFacts, Claims, Grows, IsAnswered, IsEvidence, IsFact, IsNumberOf, IsStopped, Keeps, Known, Serves, Suits, entry_at}
+use Rattle.oracle_core.specs.Work.{IsCharged, IsOfClaim, IsOfMatch, IsWorkOfClaimsAndMatches}
+use Rattle.account_core.specs.Facts.{AreFacts, IsEvidence, IsFact}
+use Rattle.oracle_core.specs.Oracles.{Claims, Grows, IsAnswered, IsNumberOf, IsStopped, Keeps, Known, Serves, Suits, entry_at}
 use Rattle.ask_core.specs.declared.question.Answer.{Answer}
 use Rattle.ask_core.specs.declared.question.Answer.TheVariants.{Vector}
 use Rattle.ask_core.specs.Answers.{IsAnswer}
@@ -312,6 +313,7 @@ halted_stopped known query before after (Spent learned) unanswered kind halted s
     record {
       learned_is = halted.learned_is;
       used = halted.used;
+      made = halted.made;
       refused = halted.refused;
       work = asked_work known query before after new suits;
       keeps = asked_keeps known query before after new;
@@ -331,7 +333,7 @@ serves_ok {X} {Y} old new before after r x y is serves =
     let s : Serves {X = X} old new before after (Ok x) = subst (λ (q : Result X Stop). Serves {X = X} old new before after q) is serves in
     record { grows = s.grows; suits = s.suits; keeps = s.keeps; stopped = tt }
 
--- ---- one call behind another
+-- ---- one call after another
 
 keeps_then : (old mid : Known) (before between after : Ledgered) → Grows old mid → Keeps old before between → Keeps mid between after → Keeps old before after
 keeps_then old mid before between after grows one other = record {
@@ -356,6 +358,7 @@ stopped_then old mid before between after Memory grows keeps stopped = tt
 stopped_then old mid before between after (Spent learned) grows keeps stopped = record {
   learned_is = stopped.learned_is ∙ keeps.budget;
   used = stopped.used ∙ keeps.budget;
+  made = stopped.made ∙ ap (λ (n : ℕ). n + 1) keeps.budget;
   refused = stopped.refused;
   work = subst (λ (g : Graphs). IsWorkOfClaimsAndMatches g after) grows.graphs stopped.work;
   keeps = keeps_then old mid before between after grows keeps stopped.keeps;

@@ -3,7 +3,7 @@ use Rattle.std.proofs.Common.{◌≡◌, ℕ, ◌<◌, Bool, true, false, not, L
 use Rattle.std.proofs.lemmas.Bool.{false≢true}
 use Rattle.std.specs.Bool.{Decides}
 use Rattle.circuits.specs.Netlists.{Net}
-use Rattle.net_core.specs.declared.graphs.Graphs.{Graphs}
+use Rattle.net_core.specs.Sides.{Graphs}
 use Rattle.query_core.specs.declared.claims.Claim.{Claim}
 use Rattle.query_core.specs.declared.claims.Shape.{Shape}
 use Rattle.query_core.specs.declared.claims.Shape.TheVariants.{Up, Down, Swap}
@@ -13,7 +13,8 @@ use Rattle.net_core.specs.Sides.{graph_of}
 use Rattle.account_core.specs.declared.fact.Evidence.{Evidence}
 use Rattle.account_core.specs.declared.fact.Evidence.TheVariants.{Fails, Holds as HoldsBy}
 use Rattle.account_core.specs.declared.fact.Fact.{Fact}
-use Rattle.account_core.specs.Oracles.{AreFacts, IsEvidence, IsFact, IsNumberOf}
+use Rattle.account_core.specs.Facts.{AreFacts, IsEvidence, IsFact}
+use Rattle.oracle_core.specs.Oracles.{IsNumberOf}
 use Rattle.query_core.specs.ClaimQueries.{claim_query}
 use Rattle.query_core.specs.Claims.{output_bit, Holds, IsClaim, IsPlaced, ShapeHolds, ShapeFails}
 use Rattle.query_core.specs.Formulas.{formula_of}

@@ -8,7 +8,7 @@ use Rattle.circuits.specs.declared.netlist.Gate.{Gate}
 use Rattle.circuits.specs.Literals.{bit}
 use Rattle.circuits.specs.Netlists.{Net, IsOrdered, signals_of}
 use Rattle.cnf_core.specs.declared.literal.SatLit.{SatLit}
-use Rattle.net_core.specs.declared.graphs.Graphs.{Graphs}
+use Rattle.net_core.specs.Sides.{Graphs}
 use Rattle.net_core.specs.declared.graphs.Side.{Side}
 use Rattle.net_core.specs.declared.graphs.Side.TheVariants.{First, Second}
 use Rattle.net_core.specs.Cones.{ReachesGate, IsFanIn, output_signal}
@@ -19,7 +19,7 @@ use Rattle.query_core.specs.Queries.{IsQuery, circuit_of}
 use Rattle.query_core.specs.Formulas.{query_clauses, gate_clauses, half_clauses, left_literals, right_literals}
 use Rattle.query_core.specs.ConeClauses.{AllOfCones, IsConeId}
 use Rattle.query_core.proofs.FormulaLemmas.{count_of}
-use Rattle.account_core.specs.Work.{IsNewBeside}
+use Rattle.oracle_core.specs.Work.{IsNewBeside}
 
 -- an output reaches no gate that isn't there
 gate_there : (net : Net) (k t : ℕ) → IsOrdered net → k < length net.outputs → ReachesGate net k t → t < length net.gates

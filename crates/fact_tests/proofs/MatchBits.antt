@@ -7,14 +7,14 @@ use Rattle.circuits.specs.Literals.{bit, differ}
 use Rattle.circuits.specs.Matches.{HavePorts}
 use Rattle.circuits.specs.Netlists.{function_of}
 use Rattle.circuits.proofs.Places.{moved-only}
-use Rattle.net_core.specs.declared.graphs.Graphs.{Graphs}
+use Rattle.net_core.specs.Sides.{Graphs}
 use Rattle.net_core.specs.declared.matching.Matching.{Matching}
 use Rattle.query_core.specs.declared.query.Feed.{Feed}
 use Rattle.query_core.specs.declared.query.Feed.TheVariants.{Wire}
 use Rattle.query_core.specs.Queries.{MeetsQuery, feed_bit}
 use Rattle.query_core.specs.MatchQueries.{match_query, moved_feed, straight}
 use Rattle.query_core.proofs.MatchLemmas.{list_by_bits, moved_is, straight_count}
-use Rattle.account_core.specs.Oracles.{IsDifference}
+use Rattle.oracle_core.specs.Oracles.{IsDifference}
 
 differ_false : (b : Bool) → differ b false ≡ b
 differ_false true = refl

@@ -3,11 +3,11 @@ use Rattle.std.proofs.Common.{◌≡◌, ◌⊎◌, ℕ, zero, suc, ◌<◌, Boo
 use Rattle.std.proofs.lemmas.List.{get_or_default, set-get_or}
 use Rattle.circuits.specs.Literals.{bit}
 use Rattle.query_core.specs.Claims.{NoFall, with_input}
-use Rattle.port_report.specs.declared.info.OutputInfo.{OutputInfo}
-use Rattle.port_report.specs.declared.info.Unate.{Unate}
-use Rattle.port_report.specs.declared.info.Unate.TheVariants.{Positive, Negative, Binate}
-use Rattle.port_report.specs.declared.info.Sym.{Sym}
-use Rattle.port_report.specs.declared.info.Sym.TheVariants.{Symmetric, Skew, Both}
+use Rattle.output_info.specs.declared.info.OutputInfo.{OutputInfo}
+use Rattle.output_info.specs.declared.info.Unate.{Unate}
+use Rattle.output_info.specs.declared.info.Unate.TheVariants.{Positive, Negative, Binate}
+use Rattle.output_info.specs.declared.info.Sym.{Sym}
+use Rattle.output_info.specs.declared.info.Sym.TheVariants.{Symmetric, Skew, Both}
 use Rattle.fact_tests.specs.Functions.{InSupport, IsPositive, IsNegative, IsSymmetric, IsSkew}
 use Rattle.fact_tests.specs.Rows.{IsUnate, IsSym, IsEntry, ListsSupport, IsPair, IsBefore, ListsPairs, IsRow}
 
@@ -34,7 +34,7 @@ module _ {X : Type 0} (R : X → X → Type 0) (one_way : (x y : X) → R x y �
   heads x y xs ys one other (inr there) (inl same) = same
   heads x y xs ys one other (inr there) (inr back) = absurd (one_way x y (ahead x y xs one back) (ahead y x ys other there))
 
-  -- what is behind the head of one list is behind the head of the other
+  -- what is after the head of one list is after the head of the other
   tails : (x y : X) (xs ys : List X) → x ≡ y → AllPairs R (x ∷ xs) → ((z : X) → Contains (x ∷ xs) z → Contains (y ∷ ys) z) → (z : X) → Contains xs z → Contains ys z
   tails x y xs ys same ascending there z inside =
       elim (in_tail z y ys (there z (later z x xs inside))) [

@@ -9,10 +9,10 @@ use Rattle.circuits.specs.Functions.{Computes}
 use Rattle.circuits.specs.Literals.{EachAt, bit}
 use Rattle.circuits.specs.Netlists.{Net}
 use Rattle.query_core.specs.Claims.{output_bit}
-use Rattle.port_report.specs.declared.info.OutputInfo.{OutputInfo}
-use Rattle.port_report.specs.declared.info.Unate.{Unate}
-use Rattle.port_report.specs.declared.info.Unate.TheVariants.{Positive}
-use Rattle.port_report.specs.declared.info.Sym.{Sym}
+use Rattle.output_info.specs.declared.info.OutputInfo.{OutputInfo}
+use Rattle.output_info.specs.declared.info.Unate.{Unate}
+use Rattle.output_info.specs.declared.info.Unate.TheVariants.{Positive}
+use Rattle.output_info.specs.declared.info.Sym.{Sym}
 use Rattle.fact_tests.specs.Functions.{InSupport, IsSymmetric, IsSkew}
 use Rattle.fact_tests.specs.Rows.{IsEntry, ListsSupport, IsPair, IsBefore, ListsPairs, IsRow, AreRows, AreRowsOf}
 use Rattle.fact_tests.specs.Outputs.{IsDependence, IsSymmetry, entry_of, pair_of}
@@ -61,7 +61,7 @@ support_more n f start end entries (Some unate) lists low there depends =
           ];
     }
 
--- the input at a place of the support; behind the last one, the number of inputs
+-- the input at a place of the support; after the last one, the number of inputs
 abbrev pub input_at : ℕ → List (ℕ × Unate) → ℕ → ℕ
 input_at n entries t = (get_or entries t (n, Positive)).0
 
@@ -83,7 +83,7 @@ ascending_at n f start entries i j lists le h =
       | inr past ↦ let same : i ≡ j = omega (arith, le) in omega (arith, ap (input_at n entries) same)
     ]
 
--- no input of the support lies before the one at a place and behind those in front of it
+-- no input of the support lies before the one at a place and after those in front of it
 pub support_gap : (n : ℕ) (f : List Bool → Bool) (start : ℕ) (entries : List (ℕ × Unate)) (t b : ℕ)
     → ListsSupport n f start n entries
     → start ≤ b
@@ -114,7 +114,7 @@ support_next n f start entries t b lists there behind before inside =
     support_gap n f start entries (t + 1) b lists (omega (arith, (lists.within t (n, Positive) there).0, behind))
     (λ k less h. omega (arith, ascending_at n f start entries k t lists (omega (arith, less)) there, behind)) before inside
 
--- what stands behind an entry is the rest of the support
+-- what stands after an entry is the rest of the support
 pub support_behind : (n : ℕ) (f : List Bool → Bool) (entries : List (ℕ × Unate)) (t : ℕ) → ListsSupport n f 0 n entries → t < length entries → ListsSupport n f (input_at n entries t + 1) n (drop (t + 1) entries)
 support_behind n f entries t lists there =
     let P : ℕ × Unate → Type 0 = λ entry. (input_at n entries t + 1 ≤ entry.0) × (entry.0 < n) in
@@ -340,7 +340,7 @@ input_step n f support t pairs lists there so_far =
 pub inputs_end : (n : ℕ) (f : List Bool → Bool) (support : List (ℕ × Unate)) (t : ℕ) (pairs : List (ℕ × ℕ × Sym)) → length support ≤ t → ListsPairs n f (input_at n support t) 0 pairs → ListsPairs n f n 0 pairs
 inputs_end n f support t pairs past so_far = subst (λ i. ListsPairs n f i 0 pairs) (ap (λ (entry : ℕ × Unate). entry.0) (get_or_past support t (n, Positive) past)) so_far
 
--- what is behind an entry, as a slice of the support
+-- what is after an entry, as a slice of the support
 pub behind_slice : (n : ℕ) (f : List Bool → Bool) (support : List (ℕ × Unate)) (t : ℕ) → ListsSupport n f 0 n support → t < length support → ListsSupport n f ((get_or support t (0, Positive)).0 + 1) n (take (length support - (t + 1)) (drop (t + 1) support))
 behind_slice n f support t lists there =
     let here = read_at n support t there in

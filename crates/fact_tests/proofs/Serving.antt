@@ -1,11 +1,12 @@
 -- Calls of an oracle, one after the other.
-use Rattle.std.proofs.Common.{◌≡◌, [], ◌++◌, Result, Ok, Err, refl, sym, ap, subst, ◌∙◌, inl, inr, append_assoc, append-nil}
+use Rattle.std.proofs.Common.{◌≡◌, [], ◌++◌, Result, Ok, Err, refl, sym, ap, subst, ◌∙◌, inl, inr, append_assoc, append-nil, ℕ, ◌+◌}
 use Rattle.cnf_core.specs.declared.stop.Stop.{Stop}
 use Rattle.cnf_core.specs.declared.stop.Stop.TheVariants.{Spent, Memory}
-use Rattle.net_core.specs.declared.graphs.Graphs.{Graphs}
+use Rattle.net_core.specs.Sides.{Graphs}
 use Rattle.query_core.specs.Ledgers.{Ledgered}
-use Rattle.account_core.specs.Work.{IsCharged, IsWorkOfClaimsAndMatches}
-use Rattle.account_core.specs.Oracles.{AreFacts, Grows, IsAnswered, IsStopped, Keeps, Known, Serves, entry_at}
+use Rattle.oracle_core.specs.Work.{IsCharged, IsWorkOfClaimsAndMatches}
+use Rattle.account_core.specs.Facts.{AreFacts}
+use Rattle.oracle_core.specs.Oracles.{Grows, IsAnswered, IsStopped, Keeps, Known, Serves, entry_at}
 use Rattle.fact_tests.specs.Outputs.{MayAsk, Served}
 
 grows_same : (known : Known) → AreFacts known.graphs known.facts → Grows known known
@@ -55,6 +56,7 @@ stopped_then old mid a b c Memory grows keeps is = tt
 stopped_then old mid a b c (Spent learned) grows keeps is = record {
   learned_is = is.learned_is ∙ keeps.budget;
   used = is.used ∙ keeps.budget;
+  made = is.made ∙ ap (λ (n : ℕ). n + 1) keeps.budget;
   refused = is.refused;
   work = subst (λ graphs. IsWorkOfClaimsAndMatches graphs c) grows.graphs is.work;
   keeps = keeps_then old mid a b c grows keeps is.keeps;
@@ -101,7 +103,7 @@ pub serves_ok : {X : Type 0} (old new : Known) (a b : Ledgered) (result : Result
 serves_ok old new a b (Ok y) x is served = record { grows = served.grows; suits = served.suits; keeps = served.keeps; stopped = tt }
 serves_ok old new a b (Err stop) x is served = absurd (never_both (Err stop) x stop is refl)
 
--- a call that ends the others without an answer, behind some that were answered
+-- a call that ends the others without an answer, after some that were answered
 pub serves_err : {X Y : Type 0} (old mid new : Known) (a b c : Ledgered) (result : Result Y Stop) (stop : Stop) → result ≡ Err stop → Served old mid a b → Serves {X = X} mid new b c (Err stop) → Serves old new a c result
 serves_err old mid new a b c (Ok y) stop is served serves = absurd (never_both (Ok y) y stop refl is)
 serves_err old mid new a b c (Err other) stop is served serves =
@@ -119,7 +121,7 @@ serves_last old mid new a b c (Ok x) served serves =
     serves_ok old new a c (Ok x) x refl (served_then old mid new a b c served (served_one mid new b c x serves))
 serves_last old mid new a b c (Err stop) served serves = serves_err old mid new a b c (Err stop) stop refl served serves
 
--- memory is wanting behind calls that were answered
+-- memory ran out after calls that were answered
 pub serves_memory : {Y : Type 0} (old new : Known) (a b : Ledgered) (result : Result Y Stop) → result ≡ Err Memory → Served old new a b → Serves old new a b result
 serves_memory old new a b (Ok y) is served = absurd (never_both (Ok y) y Memory refl is)
 serves_memory old new a b (Err other) is served =

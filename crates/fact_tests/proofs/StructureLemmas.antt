@@ -18,7 +18,7 @@ use Rattle.cnf_core.specs.declared.effect.Effect.{Effect}
 use Rattle.cnf_core.specs.declared.effect.Effect.TheVariants.{Conflict}
 use Rattle.cnf_core.specs.Clauses.{Formula, clause_at, opposite}
 use Rattle.cnf_core.specs.Derivations.{IsRefutation, clauses_of, effect_by, effect_of, fault_behind, hint_fault, line_fault}
-use Rattle.net_core.specs.declared.graphs.Graphs.{Graphs}
+use Rattle.net_core.specs.Sides.{Graphs}
 use Rattle.net_core.specs.declared.graphs.Side.{Side}
 use Rattle.net_core.specs.declared.graphs.Side.TheVariants.{First, Second}
 use Rattle.net_core.specs.Cones.{output_signal}

@@ -6,13 +6,13 @@ use Rattle.std.proofs.lemmas.List.{get_or-take, get_or_append_left, get_or-appen
 use Rattle.std.proofs.lemmas.List.Elements.{All-push, All-take}
 use Rattle.std.proofs.lemmas.List.Quantifiers.{all_pairs_push}
 use Rattle.cnf_core.specs.declared.log.LogLine.{LogLine}
-use Rattle.net_core.specs.declared.graphs.Graphs.{Graphs}
+use Rattle.net_core.specs.Sides.{Graphs}
 use Rattle.query_core.specs.declared.query.Query.{Query}
 use Rattle.query_core.specs.declared.ledger.Asked.{Asked}
 use Rattle.query_core.specs.Ledgers.{Ledgered, charged_front, entry_of, last_asked, nothing_asked, opened, with_line, with_lines}
-use Rattle.account_core.specs.Work.{AreApart, IsCharged, IsOfClaim, IsOfMatch, IsWorkOn, IsWorkOfClaimsAndMatches}
+use Rattle.oracle_core.specs.Work.{AreApart, IsCharged, IsOfClaim, IsOfMatch, IsWorkOn, IsWorkOfClaimsAndMatches}
 use Rattle.fact_tests.specs.Asking.{entry_with}
-use Rattle.account_core.specs.Oracles.{Known, IsAnswered, IsAsBefore, Keeps, Suits, entry_at}
+use Rattle.oracle_core.specs.Oracles.{Known, IsAnswered, IsAsBefore, Keeps, Suits, entry_at}
 
 -- the last one of a list with one more
 last_set : (asked : List Asked) (e f : Asked) → slice_set (asked ++ e ∷ []) (length (asked ++ e ∷ []) - 1) f ≡ asked ++ f ∷ []
@@ -26,7 +26,7 @@ last_is asked e =
     let n : length (asked ++ e ∷ []) - 1 ≡ length asked + 0 = omega (arith, length-append asked (e ∷ [])) in
     ap (λ k. slice_index_or (asked ++ e ∷ []) k nothing_asked) n ∙ get_or-append-add asked (e ∷ []) 0 nothing_asked
 
--- a query is asked: its entry stands behind those for which lines were learned
+-- a query is asked: its entry stands after those for which lines were learned
 pub asked_last : (query : Query) (lines : List LogLine) (asked : List Asked) → with_lines lines (opened query [] asked) ≡ charged_front asked ++ entry_with query lines ∷ []
 asked_last query lines asked =
     let front = charged_front asked in
@@ -70,7 +70,7 @@ front_is asked =
         let last : IsCharged (last_asked asked) = subst (λ j. IsCharged (entry_at asked j)) n charged in
         absurd (omega (arith, same, last))
 
--- A query was asked that wasn't answered before: the ledger is that before with one entry more, behind those for which lines
+-- A query was asked that wasn't answered before: the ledger is that before with one entry more, after those for which lines
 -- were learned.
 pub record IsAskedNew (known : Known) (query : Query) (before after : Ledgered) : Type 0 where
   pub lines : List LogLine

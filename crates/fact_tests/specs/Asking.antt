@@ -1,19 +1,19 @@
 -- What deciding a query makes of a ledger.
-use Rattle.std.specs.Prelude.{◌≡◌, ◌⊎◌, ℕ, true, List, [], ◌∷◌, ◌++◌}
+use Rattle.std.specs.Prelude.{◌≡◌, ◌⊎◌, ℕ, ◌+◌, true, List, [], ◌∷◌, ◌++◌}
 use Rattle.cnf_core.specs.declared.log.LogLine.{LogLine}
 use Rattle.cnf_core.specs.declared.stop.Stop.{Stop}
 use Rattle.cnf_core.specs.declared.stop.Stop.TheVariants.{Spent, Memory}
-use Rattle.net_core.specs.declared.graphs.Graphs.{Graphs}
+use Rattle.net_core.specs.Sides.{Graphs}
 use Rattle.query_core.specs.declared.query.Query.{Query}
 use Rattle.query_core.specs.declared.ledger.Asked.{Asked}
-use Rattle.query_core.specs.Ledgers.{Ledgered, charged_front, learned_in}
-use Rattle.account_core.specs.Work.{IsWorkOn}
+use Rattle.query_core.specs.Ledgers.{Ledgered, charged_front, learned_in, lines_in}
+use Rattle.oracle_core.specs.Work.{IsWorkOn}
 
 -- the entry of a query with lines that were learned for it
 abbrev pub entry_with : Query → List LogLine → Asked
 entry_with query lines = record { query = query; lemmas = 0; lines = lines }
 
--- A query was asked: its entry, which is work, stands behind those for which lines were learned.
+-- A query was asked: its entry, which is work, stands after those for which lines were learned.
 pub record IsAsked (graphs : Graphs) (query : Query) (before after : Ledgered) : Type 0 where
   pub lines : List LogLine
   pub work : IsWorkOn graphs (entry_with query lines)
@@ -25,9 +25,10 @@ pub record IsSpent (graphs : Graphs) (query : Query) (before after : Ledgered) (
   pub asked : IsAsked graphs query before after
   pub learned_is : learned ≡ before.budget
   pub used : learned_in after ≡ before.budget
+  pub made : lines_in after ≡ before.budget + 1
   pub refused : after.spent ≡ true
 
--- no answer: the budget is spent, or memory is wanting
+-- no answer: the budget is spent, or memory ran out
 abbrev pub IsHalted : Graphs → Query → Ledgered → Ledgered → Stop → Type 0
 IsHalted graphs query before after (Spent learned) = IsSpent graphs query before after learned
 IsHalted graphs query before after Memory = Unit {0}

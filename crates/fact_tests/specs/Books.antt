@@ -1,11 +1,12 @@
 -- A book of facts about two circuits: what it means, and what it keeps.
 use Rattle.std.specs.Prelude.{◌≡◌, List, ◌++◌, map, All}
 use Rattle.circuits.specs.Netlists.{Net}
-use Rattle.net_core.specs.declared.graphs.Graphs.{Graphs}
+use Rattle.net_core.specs.Sides.{Graphs}
 use Rattle.query_core.specs.ClaimQueries.{claim_query}
 use Rattle.account_core.specs.declared.fact.Fact.{Fact}
-use Rattle.account_core.specs.Work.{IsOfMatch}
-use Rattle.account_core.specs.Oracles.{AreFacts, Known}
+use Rattle.oracle_core.specs.Work.{IsOfMatch}
+use Rattle.account_core.specs.Facts.{AreFacts}
+use Rattle.oracle_core.specs.Oracles.{Known}
 use Rattle.ask_core.specs.Answers.{IsAnswer}
 use Rattle.fact_tests.specs.Kept.{Kept}
 use Rattle.fact_tests.specs.declared.deciding.Source.{Source}

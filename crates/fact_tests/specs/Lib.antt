@@ -6,8 +6,9 @@ pub mod Books
 pub mod Functions
 pub mod Rows
 pub mod Outputs
-pub use Rattle.account_core.specs.Oracles
-pub use Rattle.account_core.specs.Work
+pub use Rattle.account_core.specs.Facts as DecidedFacts
+pub use Rattle.oracle_core.specs.Oracles
+pub use Rattle.oracle_core.specs.Work
 pub use Rattle.ask_core.specs.Answers
 pub use Rattle.query_core.specs.Claims
 pub use Rattle.query_core.specs.ClaimQueries

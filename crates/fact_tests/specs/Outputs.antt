@@ -1,16 +1,17 @@
 -- What an oracle is asked about an output of the first of its two circuits.
 use Rattle.std.specs.Prelude.{◌≡◌, ℕ, Bool, true, false, List, [], ◌∷◌, Option, None, Some}
 use Rattle.net_core.specs.Graph.{IsGraph}
-use Rattle.net_core.specs.declared.graphs.Graphs.{Graphs}
+use Rattle.net_core.specs.Sides.{Graphs}
 use Rattle.query_core.specs.Ledgers.{Ledgered}
-use Rattle.account_core.specs.Oracles.{AreFacts, Grows, Keeps, Known, Suits}
+use Rattle.account_core.specs.Facts.{AreFacts}
+use Rattle.oracle_core.specs.Oracles.{Grows, Keeps, Known, Suits}
 use Rattle.account_core.specs.declared.fact.Evidence.{Evidence}
 use Rattle.account_core.specs.declared.fact.Evidence.TheVariants.{Fails, Holds}
 use Rattle.query_core.specs.Claims.{output_bit}
-use Rattle.port_report.specs.declared.info.Unate.{Unate}
-use Rattle.port_report.specs.declared.info.Unate.TheVariants.{Positive, Negative, Binate}
-use Rattle.port_report.specs.declared.info.Sym.{Sym}
-use Rattle.port_report.specs.declared.info.Sym.TheVariants.{Symmetric, Skew, Both}
+use Rattle.output_info.specs.declared.info.Unate.{Unate}
+use Rattle.output_info.specs.declared.info.Unate.TheVariants.{Positive, Negative, Binate}
+use Rattle.output_info.specs.declared.info.Sym.{Sym}
+use Rattle.output_info.specs.declared.info.Sym.TheVariants.{Symmetric, Skew, Both}
 use Rattle.fact_tests.specs.Functions.{InSupport, IsSymmetric, IsSkew}
 use Rattle.fact_tests.specs.Rows.{IsUnate, IsSym}
 

@@ -5,11 +5,11 @@ use Rattle.circuits.specs.Circuits.{Circuit, FitsCircuit, circuit_outputs}
 use Rattle.circuits.specs.Literals.{EachAt, bit}
 use Rattle.circuits.specs.Netlists.{Net}
 use Rattle.query_core.specs.Claims.{output_bit}
-use Rattle.port_report.specs.declared.info.OutputInfo.{OutputInfo}
-use Rattle.port_report.specs.declared.info.Unate.{Unate}
-use Rattle.port_report.specs.declared.info.Unate.TheVariants.{Positive, Negative, Binate}
-use Rattle.port_report.specs.declared.info.Sym.{Sym}
-use Rattle.port_report.specs.declared.info.Sym.TheVariants.{Symmetric, Skew, Both}
+use Rattle.output_info.specs.declared.info.OutputInfo.{OutputInfo}
+use Rattle.output_info.specs.declared.info.Unate.{Unate}
+use Rattle.output_info.specs.declared.info.Unate.TheVariants.{Positive, Negative, Binate}
+use Rattle.output_info.specs.declared.info.Sym.{Sym}
+use Rattle.output_info.specs.declared.info.Sym.TheVariants.{Symmetric, Skew, Both}
 use Rattle.fact_tests.specs.Functions.{InSupport, IsPositive, IsNegative, IsBinate, IsSymmetric, IsSkew}
 
 -- how a function is unate in an input of its support, or that it isn't

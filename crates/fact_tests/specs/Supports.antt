@@ -7,7 +7,7 @@ use Rattle.circuits.specs.Netlists.{Net}
 use Rattle.cnf_core.specs.declared.log.LogLine.{LogLine}
 use Rattle.net_core.specs.Cones.{output_signal}
 use Rattle.net_core.specs.Sides.{graph_of}
-use Rattle.net_core.specs.declared.graphs.Graphs.{Graphs}
+use Rattle.net_core.specs.Sides.{Graphs}
 use Rattle.query_core.specs.declared.claims.Claim.{Claim}
 use Rattle.query_core.specs.declared.claims.Shape.{Shape}
 use Rattle.query_core.specs.declared.claims.Shape.TheVariants.{Up, Down, Swap}

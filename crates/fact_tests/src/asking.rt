@@ -21,7 +21,7 @@ use std::alloc::{AllocError, Global};
 /// Finds a vector that meets a query, or a log that refutes it.
 pub(crate) fn answer_to(
     alloc: Global,
-    graphs: &Graphs,
+    graphs: &Graphs<'_>,
     query: &Query,
     ledger: &mut Ledger,
 ) -> Result<Answer, Stop>
@@ -40,7 +40,7 @@ pub(crate) fn answer_to(
 /// the empty line follows from them. It costs one unit of the budget.
 pub(crate) fn refute_outside(
     alloc: Global,
-    graphs: &Graphs,
+    graphs: &Graphs<'_>,
     claim: &Claim,
     ledger: &mut Ledger,
 ) -> Result<Log, Stop>
@@ -53,8 +53,8 @@ pub(crate) fn refute_outside(
     ensures unspent { IfOk result (λ _. ledger.new.spent ≡ false) }
     ensures stop { IfErr result (IsHalted graphs.now (claim_query graphs.now claim.now) ledger.old ledger.new) }
 {
-    let _first = graphs.first.inputs();
-    let _second = graphs.second.inputs();
+    let _first = graphs.first();
+    let _second = graphs.second();
     let query = of_claim(alloc, graphs, claim)?;
     let gates = graphs.side(claim.side).gates().len() as u64;
     let line = line_of_outputs(alloc, gates)?;
@@ -68,7 +68,7 @@ pub(crate) fn refute_outside(
     }
 }
 
-/// The empty line, by the clauses of the two outputs, which are the last ones of a query of so many gates on either
+/// The empty line, by the clauses of the two outputs, which are the last ones of a query of n gates on either
 /// side.
 fn line_of_outputs(alloc: Global, gates: u64) -> Result<LogLine, AllocError>
     requires { gates < 2 ^ 32 }

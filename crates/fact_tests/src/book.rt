@@ -8,18 +8,19 @@ ghost use Rattle.query_core.specs.Formulas.{formula_of};
 ghost use Rattle.query_core.specs.Ledgers.{Ledgered};
 ghost use Rattle.query_core.specs.MatchQueries.{match_query};
 ghost use Rattle.query_core.specs.Queries.{IsQuery};
-ghost use Rattle.account_core.specs.Oracles.{Claims, Compares, IsAnswered, Serves, Suits};
-ghost use Rattle.account_core.specs.Work.{IsOfMatch};
+ghost use Rattle.oracle_core.specs.Oracles.{Claims, Compares, IsAnswered, Serves, Suits};
+ghost use Rattle.oracle_core.specs.Work.{IsOfMatch};
 ghost use Rattle.ask_core.specs.Answers.{IsAnswer};
 
 use crate::answers::{AnswerMap, copied};
 use crate::decide::Decide;
 use crate::facts::FactList;
-use account_core::{Compared, Fact, Oracle};
+use account_core::Fact;
 use ask_core::Answer;
 use bit_list::Bits;
 use cnf_core::{Log, Stop};
 use net_core::Matching;
+use oracle_core::{Compared, Oracle};
 use query_core::{Claim, Ledger, Query, of_match};
 use std::alloc::Global;
 use std::marker::Model;
@@ -35,7 +36,7 @@ pub struct Book<D: Decide> {
 }
 
 impl<D: Decide> Model for Book<D> {
-    ghost use Rattle.account_core.specs.Oracles.{Known};
+    ghost use Rattle.oracle_core.specs.Oracles.{Known};
     ghost use Rattle.fact_tests.specs.Books.{IsBook, known_by};
 
     ghost Value = { Known };

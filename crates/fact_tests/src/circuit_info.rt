@@ -1,16 +1,16 @@
 //! What is known of the outputs of one circuit.
 
 ghost use Rattle.std.specs.Prelude.{◌≡◌, IfOk};
-ghost use Rattle.account_core.specs.Oracles.{Serves, Suits};
+ghost use Rattle.oracle_core.specs.Oracles.{Serves, Suits};
 ghost use Rattle.fact_tests.specs.Rows.{AreRows};
 
 use crate::fact_book::FactBook;
 use crate::rows::rows_by;
 use crate::structure::Supports;
-use account_core::Oracle;
 use cnf_core::Stop;
 use net_core::Graphs;
-use port_report::OutputInfo;
+use oracle_core::Oracle;
+use output_info::OutputInfo;
 use query_core::Ledger;
 use std::alloc::Global;
 
@@ -21,10 +21,10 @@ use std::alloc::Global;
 /// # Errors
 ///
 /// `Spent` where a line had to be learned and the budget was spent; the ledger keeps it as the refused line. `Memory`
-/// where memory is wanting; nothing is said of the ledger then.
+/// when out of memory; nothing is said of the ledger then.
 pub fn info(
     alloc: Global,
-    graphs: &Graphs,
+    graphs: &Graphs<'_>,
     book: &mut FactBook<'_>,
     ledger: &mut Ledger,
 ) -> Result<Vec<OutputInfo>, Stop>
@@ -34,6 +34,6 @@ pub fn info(
     ensures rows { IfOk result (λ rows. AreRows graphs.now.first rows.items) }
 {
     let _facts = book.facts();
-    let supports = Supports::new(alloc, &graphs.first)?;
+    let supports = Supports::new(alloc, graphs.first())?;
     rows_by(alloc, graphs, &supports, book, ledger)
 }

@@ -1,12 +1,12 @@
 //! What decides claims and answers queries.
 
 ghost use Rattle.std.specs.Prelude.{◌≡◌, false, IfOk, IfErr};
-ghost use Rattle.net_core.specs.declared.graphs.Graphs.{Graphs as AnyGraphs};
+ghost use Rattle.net_core.specs.Sides.{Graphs as AnyGraphs};
 ghost use Rattle.query_core.specs.Claims.{IsClaim};
 ghost use Rattle.query_core.specs.ClaimQueries.{claim_query};
 ghost use Rattle.query_core.specs.Queries.{IsQuery};
-ghost use Rattle.account_core.specs.Oracles.{IsEvidence};
-ghost use Rattle.account_core.specs.Work.{IsOfMatch};
+ghost use Rattle.account_core.specs.Facts.{IsEvidence};
+ghost use Rattle.oracle_core.specs.Work.{IsOfMatch};
 ghost use Rattle.ask_core.specs.Answers.{IsAnswer};
 ghost use Rattle.fact_tests.specs.Asking.{IsDecided, IsHalted};
 
@@ -24,7 +24,7 @@ pub trait Decide {
     ghost circuits: { Self → AnyGraphs };
 
     /// The two circuits.
-    fn graphs(&self) -> &Graphs
+    fn graphs(&self) -> &Graphs<'_>
         ensures { result.now ≡ circuits self.now };
 
     /// Evidence for a claim, or against it.
@@ -32,7 +32,7 @@ pub trait Decide {
     /// # Errors
     ///
     /// `Spent` where a line had to be learned and the budget was spent; the ledger keeps it as the refused line.
-    /// `Memory` where memory is wanting; nothing is said of the ledger then.
+    /// `Memory` when out of memory; nothing is said of the ledger then.
     fn evidence(
         &mut self,
         alloc: Global,

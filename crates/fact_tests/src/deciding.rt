@@ -4,7 +4,7 @@ ghost use Rattle.std.specs.Prelude.{◌≡◌, ◌<◌, false, IsTrue, IfOk, IfE
 ghost use Rattle.net_core.specs.Sides.{graph_of};
 ghost use Rattle.query_core.specs.Claims.{IsClaim, IsPlaced, with_values};
 ghost use Rattle.query_core.specs.ClaimQueries.{claim_query};
-ghost use Rattle.account_core.specs.Oracles.{IsEvidence};
+ghost use Rattle.account_core.specs.Facts.{IsEvidence};
 ghost use Rattle.fact_tests.specs.Asking.{IsDecided, IsHalted};
 ghost use Rattle.fact_tests.specs.Books.{IsSource};
 ghost use Rattle.fact_tests.specs.Supports.{IsOutside};
@@ -47,13 +47,13 @@ impl<'a> Source<'a> {
 /// it as the circuits.
 #[derive(Drop)]
 pub struct Sources<'a> {
-    graphs: &'a Graphs,
+    graphs: &'a Graphs<'a>,
     first: Source<'a>,
     second: Source<'a>,
 }
 
 impl<'a> Model for Sources<'a> {
-    ghost use Rattle.net_core.specs.declared.graphs.Graphs.{Graphs as AnyGraphs};
+    ghost use Rattle.net_core.specs.Sides.{Graphs as AnyGraphs};
     ghost use Rattle.fact_tests.specs.Books.{AreSources};
 
     ghost Value = { AnyGraphs };
@@ -67,15 +67,15 @@ impl<'a> Sources<'a> {
     /// The supports of all outputs; nothing was hunted. The seed chooses the vectors that are simulated.
     pub(crate) fn new(
         alloc: Global,
-        graphs: &'a Graphs,
+        graphs: &'a Graphs<'a>,
         seed: u64,
     ) -> Result<Sources<'a>, AllocError>
         ensures { IfOk result (λ sources. sources ≡ graphs.now) }
     {
         Ok(Sources {
             graphs,
-            first: Source::new(alloc, &graphs.first, seed)?,
-            second: Source::new(alloc, &graphs.second, seed)?,
+            first: Source::new(alloc, graphs.first(), seed)?,
+            second: Source::new(alloc, graphs.second(), seed)?,
         })
     }
 }
@@ -83,7 +83,7 @@ impl<'a> Sources<'a> {
 impl<'a> Decide for Sources<'a> {
     ghost circuits = { λ sources. sources };
 
-    fn graphs(&self) -> &Graphs {
+    fn graphs(&self) -> &Graphs<'_> {
         self.graphs
     }
 
@@ -109,7 +109,7 @@ impl<'a> Decide for Sources<'a> {
 /// seen to break it; and else by asking.
 fn decide(
     alloc: Global,
-    graphs: &Graphs,
+    graphs: &Graphs<'_>,
     source: &mut Source<'_>,
     claim: &Claim,
     ledger: &mut Ledger,
@@ -156,7 +156,7 @@ fn is_outside(supports: &Supports<'_>, output: u32, shape: &Shape) -> bool
 /// That a claim holds whose output reaches none of the shape's inputs.
 fn by_structure(
     alloc: Global,
-    graphs: &Graphs,
+    graphs: &Graphs<'_>,
     claim: &Claim,
     ledger: &mut Ledger,
 ) -> Result<Evidence, Stop>
@@ -178,7 +178,7 @@ fn by_structure(
 /// What the answer of a claim's query says of the claim.
 fn by_asking(
     alloc: Global,
-    graphs: &Graphs,
+    graphs: &Graphs<'_>,
     claim: &Claim,
     ledger: &mut Ledger,
 ) -> Result<Evidence, Stop>

@@ -2,13 +2,14 @@
 
 ghost use Rattle.std.specs.Prelude.{◌≡◌, [], false, IfOk};
 ghost use Rattle.query_core.specs.Ledgers.{Ledgered};
-ghost use Rattle.account_core.specs.Oracles.{Suits};
+ghost use Rattle.oracle_core.specs.Oracles.{Suits};
 
 use crate::book::Book;
 use crate::deciding::Sources;
-use account_core::{Compared, Fact, Oracle};
+use account_core::Fact;
 use cnf_core::Stop;
 use net_core::{Graphs, Matching};
+use oracle_core::{Compared, Oracle};
 use query_core::{Claim, Ledger};
 use std::alloc::{AllocError, Global};
 use std::marker::Model;
@@ -22,7 +23,7 @@ pub struct FactBook<'a> {
 }
 
 impl<'a> Model for FactBook<'a> {
-    ghost use Rattle.account_core.specs.Oracles.{Known};
+    ghost use Rattle.oracle_core.specs.Oracles.{Known};
 
     ghost Value = { Known };
 
@@ -35,8 +36,8 @@ impl<'a> FactBook<'a> {
     ///
     /// # Errors
     ///
-    /// For want of memory alone.
-    pub fn new(alloc: Global, graphs: &'a Graphs, seed: u64) -> Result<FactBook<'a>, AllocError>
+    /// Only when out of memory.
+    pub fn new(alloc: Global, graphs: &'a Graphs<'a>, seed: u64) -> Result<FactBook<'a>, AllocError>
         ensures empty { IfOk result (λ book. book ≡ record { graphs = graphs.now; facts = []; answered = [] }) }
         ensures suits { IfOk result (λ book. (ledger : Ledgered)
             → ledger.asked ≡ []

@@ -1,7 +1,7 @@
 //! Facts under their numbers.
 
 ghost use Rattle.std.specs.Prelude.{◌≡◌, ◌≢◌, ◌∷◌, [], ◌++◌, All, IfSome, IfNone, IfOk, OnOk, OnErr, length, map};
-ghost use Rattle.account_core.specs.Oracles.{IsNumberOf};
+ghost use Rattle.oracle_core.specs.Oracles.{IsNumberOf};
 
 use account_core::Fact;
 use indexmap::IndexSet;

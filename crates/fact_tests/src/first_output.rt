@@ -2,22 +2,23 @@
 
 ghost use Rattle.std.specs.Prelude.{◌≡◌, ◌<◌, IfOk, length};
 ghost use Rattle.std.specs.Bool.{Decides};
-ghost use Rattle.account_core.specs.Oracles.{Serves};
+ghost use Rattle.oracle_core.specs.Oracles.{Serves};
 ghost use Rattle.query_core.specs.Claims.{IsPlaced, ShapeHolds};
 ghost use Rattle.fact_tests.specs.Outputs.{MayAsk, is_for};
 ghost use Rattle.fact_tests.specs.Supports.{output_reaches};
 
 use crate::structure::Supports;
-use account_core::{Evidence, Oracle};
+use account_core::Evidence;
 use cnf_core::Stop;
 use net_core::{Graphs, Side};
+use oracle_core::Oracle;
 use query_core::{Claim, Ledger, Shape};
 use std::alloc::Global;
 
 /// An output of the first of two circuits.
 #[derive(Clone, Copy)]
 pub(crate) struct FirstOutput<'a> {
-    pub graphs: &'a Graphs,
+    pub graphs: &'a Graphs<'a>,
     /// What the outputs of the first circuit reach.
     pub supports: &'a Supports<'a>,
     pub number: u32,

@@ -1,16 +1,16 @@
 //! The support of an output.
 
 ghost use Rattle.std.specs.Prelude.{◌≡◌, ◌<◌, ◌++◌, IfOk, OnOk, length};
-ghost use Rattle.account_core.specs.Oracles.{Serves};
+ghost use Rattle.oracle_core.specs.Oracles.{Serves};
 ghost use Rattle.fact_tests.specs.Outputs.{MayAsk, entry_of, function_at, inputs_in};
 ghost use Rattle.fact_tests.specs.Rows.{ListsSupport};
 
 use crate::first_output::FirstOutput;
 use crate::unate_test::unateness;
-use account_core::Oracle;
 use cnf_core::Stop;
 use items::Items;
-use port_report::Unate;
+use oracle_core::Oracle;
+use output_info::Unate;
 use query_core::Ledger;
 use std::alloc::{AllocError, Global};
 
@@ -29,7 +29,7 @@ pub(crate) fn support<O: Oracle>(
         (function_at output.now.graphs.now output.now.number) 0 (inputs_in output.now.graphs.now)) }
 {
     let mut entries = Items::new(alloc);
-    let inputs = output.graphs.first.inputs();
+    let inputs = output.graphs.first().inputs();
     for input in 0..inputs {
         let unate = unateness(alloc, output, input, oracle, ledger)?;
         note(input, unate, &mut entries)?;

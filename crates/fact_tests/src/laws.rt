@@ -7,7 +7,7 @@ ghost use Rattle.circuits.specs.Literals.{bit};
 ghost use Rattle.circuits.specs.Netlists.{IsOrdered, Net};
 ghost use Rattle.query_core.specs.Claims.{output_bit};
 ghost use Rattle.query_core.specs.Facts as of_net;
-ghost use Rattle.port_report.specs.declared.info.OutputInfo.{OutputInfo as Row};
+ghost use Rattle.output_info.specs.declared.info.OutputInfo.{OutputInfo as Row};
 ghost use Rattle.fact_tests.specs.Functions.{InSupport, IsPositive, IsNegative, IsBinate, IsSymmetric, IsSkew};
 ghost use Rattle.fact_tests.specs.Rows.{AreRows, AreRowsOf, IsRow};
 ghost use Rattle.fact_tests.specs.Supports.{output_reaches};

@@ -1,7 +1,7 @@
 //! What is known of each output of a circuit.
 
 ghost use Rattle.std.specs.Prelude.{◌≡◌, ◌<◌, IfOk, length};
-ghost use Rattle.account_core.specs.Oracles.{Serves, Suits};
+ghost use Rattle.oracle_core.specs.Oracles.{Serves, Suits};
 ghost use Rattle.fact_tests.specs.Outputs.{MayAsk, function_at, inputs_in};
 ghost use Rattle.fact_tests.specs.Rows.{AreRows, IsRow};
 
@@ -9,17 +9,17 @@ use crate::first_output::FirstOutput;
 use crate::func_support::support;
 use crate::structure::Supports;
 use crate::symmetry_test::symmetries;
-use account_core::Oracle;
 use cnf_core::Stop;
 use net_core::Graphs;
-use port_report::OutputInfo;
+use oracle_core::Oracle;
+use output_info::OutputInfo;
 use query_core::Ledger;
 use std::alloc::Global;
 
 /// What an oracle knows of each output of the first circuit: a row for each.
 pub(crate) fn rows_by<'a, O: Oracle>(
     alloc: Global,
-    graphs: &'a Graphs,
+    graphs: &'a Graphs<'a>,
     supports: &'a Supports<'a>,
     oracle: &mut O,
     ledger: &mut Ledger,
@@ -31,9 +31,9 @@ pub(crate) fn rows_by<'a, O: Oracle>(
     ensures rows { IfOk result (λ rows. AreRows graphs.now.first rows.items) }
 {
     let _facts = oracle.facts();
-    let _inputs = graphs.second.inputs();
+    let _second = graphs.second();
     let mut rows = Vec::new(alloc);
-    let count = graphs.first.outputs().len() as u32;
+    let count = graphs.first().outputs().len() as u32;
     for number in 0..count {
         let output = FirstOutput {
             graphs,

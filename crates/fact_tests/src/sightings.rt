@@ -13,10 +13,11 @@ use sim_signature::{Sighting, hunt};
 use std::alloc::{AllocError, Global};
 use std::marker::Model;
 
-/// How often 64 vectors are drawn for an output of more than six inputs.
-const ROUNDS: u32 = 4;
+/// How often 512 vectors are drawn for an output of more than six inputs: once, since a claim that they all keep is nearly
+/// always one that holds.
+const ROUNDS: u32 = 1;
 
-/// Before an output is hunted with so many sightings held, they are forgotten: they take about 9 megabytes then.
+/// Before an output is hunted with that many sightings held, they are forgotten: they take about 9 megabytes then.
 const MOST: usize = 65_536;
 
 /// What was seen of an output.
@@ -91,7 +92,7 @@ impl<'a> Sightings<'a> {
     }
 }
 
-/// So many entries of outputs that weren't hunted.
+/// That many entries of outputs that weren't hunted.
 fn unseen(alloc: Global, count: usize) -> Result<Vec<Option<Seen>>, AllocError>
     ensures count { IfOk result (λ outputs. length outputs.items ≡ count) }
     ensures none { IfOk result (λ outputs. All (λ entry. entry ≡ None) outputs.items) }

@@ -2,17 +2,17 @@
 
 ghost use Rattle.std.specs.Prelude.{◌≡◌, ◌+◌, ◌<◌, ◌++◌, IfOk, OnOk, length};
 ghost use Rattle.std.specs.Bool.{Decides};
-ghost use Rattle.account_core.specs.Oracles.{Serves};
+ghost use Rattle.oracle_core.specs.Oracles.{Serves};
 ghost use Rattle.query_core.specs.declared.claims.Shape.TheVariants.{Swap as swap_of};
 ghost use Rattle.fact_tests.specs.Outputs.{IsAlike, IsSymmetry, MayAsk, function_at, inputs_in, pair_of, symmetry};
 ghost use Rattle.fact_tests.specs.Functions.{InSupport};
 ghost use Rattle.fact_tests.specs.Rows.{ListsPairs, ListsSupport};
 
 use crate::first_output::FirstOutput;
-use account_core::Oracle;
 use cnf_core::Stop;
 use items::Items;
-use port_report::{Sym, Unate};
+use oracle_core::Oracle;
+use output_info::{Sym, Unate};
 use query_core::{Ledger, Shape};
 use std::alloc::{AllocError, Global};
 
@@ -40,7 +40,7 @@ pub(crate) fn symmetries<O: Oracle>(
     Ok(pairs)
 }
 
-/// Adds the pairs whose lesser input is `first`: the other ones are the inputs of the support behind it.
+/// Adds the pairs whose lesser input is `first`: the other ones are the inputs of the support after it.
 fn add_pairs<O: Oracle>(
     alloc: Global,
     output: &FirstOutput<'_>,

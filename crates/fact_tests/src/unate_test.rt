@@ -1,13 +1,13 @@
 //! How an output depends on an input.
 
 ghost use Rattle.std.specs.Prelude.{◌≡◌, ◌<◌, IfOk, length};
-ghost use Rattle.account_core.specs.Oracles.{Serves};
+ghost use Rattle.oracle_core.specs.Oracles.{Serves};
 ghost use Rattle.fact_tests.specs.Outputs.{IsDependence, MayAsk, dependence, function_at, inputs_in};
 
 use crate::first_output::FirstOutput;
-use account_core::Oracle;
 use cnf_core::Stop;
-use port_report::Unate;
+use oracle_core::Oracle;
+use output_info::Unate;
 use query_core::{Ledger, Shape};
 use std::alloc::Global;
 

@@ -1,4 +1,4 @@
-//! Bits of which every third is 1, in lists that end within a word, at its end and behind it.
+//! Bits of which every third is 1, in lists that end within a word, at its end and after it.
 
 use bit_list::Bits;
 use std::alloc::{AllocError, Global};
@@ -18,7 +18,7 @@ fn third_bits(alloc: Global, count: usize) -> Result<Bits, AllocError> {
     Bits::from_slice(alloc, &every_third(alloc, count)?)
 }
 
-/// Whether there are so many bits, of which every third is 1.
+/// Whether there are n bits, of which every third is 1.
 fn are_thirds(bits: &Bits, count: usize) -> bool {
     let mut same = bits.len() == count;
     for place in 0..bits.len() {
@@ -37,7 +37,7 @@ fn copies_to(alloc: Global, bits: &Bits, given: &[bool]) -> Result<bool, AllocEr
     Ok(all_at_once(alloc, bits)?.as_slice() == given)
 }
 
-/// Whether a list of so many bits gives back each of them, one by one and all at once.
+/// Whether a list of n bits gives back each of them, one by one and all at once.
 fn gives_back(alloc: Global, count: usize) -> Result<bool, AllocError> {
     let given = every_third(alloc, count)?;
     let bits = Bits::from_slice(alloc, &given)?;

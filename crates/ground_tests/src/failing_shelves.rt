@@ -44,7 +44,7 @@ fn stops_at(shelf: &mut MemShelf, call: u64, read: &[u8], report: Option<&[u8]>)
         & (shelf.file("letter") == Some(b"seven".as_slice()))
 }
 
-/// Each call fails in turn: what was written before it stands, and none is made behind it.
+/// Each call fails in turn: what was written before it stands, and none is made after it.
 #[test]
 fn fails_at_each_call(rt: HostRuntime) -> Result<(), Fail> {
     let rows = [
@@ -90,7 +90,7 @@ fn reads_on(shelf: &mut MemShelf) -> Result<bool, ShelfStop>
     )
 }
 
-/// A call that isn't told to fail does what it does elsewhere, also behind one that failed.
+/// A call that isn't told to fail does what it does elsewhere, also after one that failed.
 #[test]
 fn goes_on_behind_a_failure(rt: HostRuntime) -> Result<(), Fail> {
     let mut shelf = shelf_failing_at(rt.alloc(), &[9, 1, 4])?;

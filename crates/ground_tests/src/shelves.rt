@@ -25,7 +25,7 @@ fn shelf_of_two(alloc: Global) -> Result<SafeShelf, AllocError>
     SafeShelf::new(alloc, files, 3)
 }
 
-/// Whether a read takes so many bytes, and the buffer holds these then.
+/// Whether a read takes n bytes, and the buffer holds these then.
 fn reads_so(
     shelf: &mut SafeShelf,
     buf: &mut [u8],
@@ -168,6 +168,42 @@ fn reaches_the_disk(rt: HostRuntime) -> Result<(), Fail> {
     assert!(rt; reads_back(&mut shelf, name)?);
     fs::remove_file(&rt, name)?;
     assert!(rt; finds_no_file(&mut shelf, name)?);
+    Ok(())
+}
+
+/// Whether a file is read, and is refused then to a writer by a name that leads to it, and holds what it held.
+fn keeps_what_it_read(
+    shelf: &mut DiskShelf<HostRuntime>,
+    name: &str,
+    other: &str,
+) -> Result<bool, ShelfStop>
+    requires { (⟦<DiskShelf<HostRuntime> as Shelf>⟧.state shelf.old).mode ≡ Closed }
+    ensures { OnOk result ((⟦<DiskShelf<HostRuntime> as Shelf>⟧.state shelf.new).mode ≡ Closed) }
+{
+    let before = reads_back(shelf, name)?;
+    let Err(refused) = shelf.create(other) else {
+        shelf.close()?;
+        return Ok(false);
+    };
+    let after = reads_back(shelf, name)?;
+    Ok(before & after & (refused == ShelfStop::Failed))
+}
+
+/// A file that was read is not written, by whatever name. Another run may write it.
+#[test]
+fn writes_no_file_that_it_read(rt: HostRuntime) -> Result<(), Fail> {
+    let name = "shelf_core_read_by_a_test";
+    let link = "shelf_core_linked_by_a_test";
+    let mut shelf = DiskShelf::new(rt);
+    write_letter(&mut shelf, name)?;
+    fs::hard_link(&rt, name, link)?;
+    assert!(rt; keeps_what_it_read(&mut shelf, name, name)?);
+    assert!(rt; keeps_what_it_read(&mut shelf, name, "./shelf_core_read_by_a_test")?);
+    assert!(rt; keeps_what_it_read(&mut shelf, name, link)?);
+    let mut another = DiskShelf::new(rt);
+    write_letter(&mut another, link)?;
+    fs::remove_file(&rt, name)?;
+    fs::remove_file(&rt, link)?;
     Ok(())
 }
 

@@ -61,7 +61,7 @@ fn parts_lines_and_words(rt: HostRuntime) {
     assert!(rt; has_words(b" aag\t3 \rx\0y\r", &words));
 }
 
-/// Whether so many bytes are taken and are these, or none are and the cursor stays.
+/// Whether n bytes are taken and are these, or none are and the cursor stays.
 fn takes_so(cursor: &mut Cursor, count: usize, want: Option<&[u8]>) -> bool {
     let at = cursor.at();
     let Some(taken) = cursor.take(count) else {

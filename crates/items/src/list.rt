@@ -45,7 +45,7 @@ impl<T> Items<T> {
         }
     }
 
-    /// The empty list with room for `capacity` elements. The error says that memory is wanting.
+    /// The empty list with room for `capacity` elements. The error says that memory ran out.
     pub fn with_capacity(alloc: Global, capacity: usize) -> Result<Items<T>, AllocError>
         ensures { IfOk result (λ items. items ≡ []) }
     {
@@ -68,7 +68,7 @@ impl<T> Items<T> {
         inside
     }
 
-    /// Adds an element at the end. Where memory is wanting, the list stays as it was and the error has the element.
+    /// Adds an element at the end. When out of memory, the list stays as it was and the error has the element.
     pub fn push(&mut self, item: T) -> Result<(), AllocFailed<T>>
         ensures ok { OnOk result (self.new ≡ self.old ++ item ∷ []) }
         ensures err { OnErr result (self.new ≡ self.old) }
@@ -145,7 +145,7 @@ impl<T> Items<T> {
 }
 
 impl<T: Copy> Items<T> {
-    /// A list of copies of a slice's elements. The error says that memory is wanting.
+    /// A list of copies of a slice's elements. The error says that memory ran out.
     pub fn from_slice(alloc: Global, slice: &[T]) -> Result<Items<T>, AllocError>
         ensures { IfOk result (λ items. items ≡ slice.now) }
     {
@@ -153,7 +153,7 @@ impl<T: Copy> Items<T> {
         Ok(Items { inside })
     }
 
-    /// Adds copies of a slice's elements at the end. Where memory is wanting, the list stays as it was.
+    /// Adds copies of a slice's elements at the end. When out of memory, the list stays as it was.
     pub fn extend_from_slice(&mut self, slice: &[T]) -> Result<(), AllocError>
         ensures ok { OnOk result (self.new ≡ self.old ++ slice.now) }
         ensures err { OnErr result (self.new ≡ self.old) }

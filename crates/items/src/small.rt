@@ -79,7 +79,7 @@ impl<T: MadeWith<Global> + Drop, const N: usize> Few<T, N> {
         }
     }
 
-    /// Adds an element at the end. Where memory is wanting, the list stays as it was and the error has the element.
+    /// Adds an element at the end. When out of memory, the list stays as it was and the error has the element.
     pub fn push(&mut self, item: T) -> Result<(), AllocFailed<T>>
         ensures ok { OnOk result (self.new ≡ self.old ++ item ∷ []) }
         ensures err { OnErr result (self.new ≡ self.old) }
@@ -99,7 +99,7 @@ impl<T: MadeWith<Global> + Drop, const N: usize> Few<T, N> {
 }
 
 impl<T: MadeWith<Global> + Copy, const N: usize> Few<T, N> {
-    /// A list of copies of a slice's elements. The error says that memory is wanting.
+    /// A list of copies of a slice's elements. The error says that memory ran out.
     pub fn from_slice(alloc: Global, slice: &[T]) -> Result<Few<T, N>, AllocError>
         ensures { IfOk result (λ items. items ≡ slice.now) }
     {

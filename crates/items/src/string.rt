@@ -42,7 +42,7 @@ impl Text {
         }
     }
 
-    /// A copy of a text. The error says that memory is wanting.
+    /// A copy of a text. The error says that memory ran out.
     pub fn from_str(alloc: Global, text: &str) -> Result<Text, AllocError>
         ensures { IfOk result (λ copy. copy ≡ text.now) }
     {
@@ -65,7 +65,7 @@ impl Text {
         inside
     }
 
-    /// Adds a text at the end. Where memory is wanting, this text stays as it was.
+    /// Adds a text at the end. When out of memory, this text stays as it was.
     pub fn push_str(&mut self, text: &str) -> Result<(), AllocError>
         ensures ok { OnOk result (self.new ≡ self.old ++ text.now) }
         ensures err { OnErr result (self.new ≡ self.old) }

@@ -3,7 +3,7 @@ use Rattle.std.proofs.Common.{◌≡◌, ℕ, suc, ◌+◌, ◌-◌, ◌*◌, �
 use Rattle.std.specs.List.{list_any}
 use Rattle.std.proofs.Math.Nat.{mul-suc}
 use Rattle.std.proofs.lemmas.Bool.{cases_lt, leb-true, or_from}
-use Rattle.std.proofs.lemmas.List.{get_or_append_left, get_or-take, length-append, length-set, length-take, set-get_or, take-map, take-take, take_all}
+use Rattle.std.proofs.lemmas.List.{get_or_append_left, get_or-take, length-append, length-take, take-map, take-take, take_all}
 use Rattle.std.proofs.lemmas.List.Elements.{All-push, filter_passes}
 use Rattle.std.proofs.lemmas.List.Folds.{list_any-append}
 use Rattle.cnf_core.specs.declared.literal.SatLit.{SatLit}
@@ -14,28 +14,24 @@ use Rattle.cnf_core.specs.declared.effect.Effect.TheVariants.{Neither}
 use Rattle.cnf_core.specs.Derivations.{AreDerived, clauses_of, effect_of, is_empty, line_fault}
 use Rattle.trail_core.specs.declared.assigned.Assigned.{Assigned}
 use Rattle.trail_core.specs.Trails.{Trailing, entry_at, literals, nothing}
-use Rattle.query_core.specs.declared.ledger.Asked.{Asked}
-use Rattle.query_core.specs.Ledgers.{Ledgered, last_asked, learned_in, nothing_asked, with_line, with_lines}
-use Rattle.learn_solver.specs.Propagations.{IsJustified, IsQuiet, before}
-use Rattle.learn_solver.specs.Searches.{IsDecided, IsLearnt, IsLesson, IsSearching, last_line, remaining}
+use Rattle.cnf_core.specs.Charges.{Charging, IsCharged}
+use Rattle.watch_lists.specs.Propagations.{IsJustified, IsQuiet, before}
+use Rattle.learn_solver.specs.declared.search.Search.{Search}
+use Rattle.learn_solver.specs.Searches.{IsLearnt, IsLesson, IsRunning, IsSearching, remaining}
 use Rattle.learn_solver.specs.Solvers.{IsAdded, IsAsking, IsExtended, IsStopped, Solving, active}
-use Rattle.learn_solver.proofs.WalkLemmas.{sound_more}
+use Rattle.watch_lists.proofs.GrowLemmas.{sound_more}
 use Rattle.learn_solver.proofs.SolverLemmas.{active_more, clauses_more}
-use Rattle.learn_solver.proofs.StepLemmas.{extended_one, last_is, last_lines, lines_twice}
+use Rattle.learn_solver.proofs.StepLemmas.{asking_charged, extended_charged}
 
 -- after a decision
-pub decided : (s : Solving) (old new : Trailing) (l : SatLit) → IsSearching s old → IsQuiet (active s.formula s.ids s.lines) (literals old.entries) → new ≡ record old { entries = old.entries ++ record { literal = l; level = old.level + 1; reason = None } ∷ []; level = old.level + 1 } → length old.entries < old.variables → IsDecided s old new
-decided s old new l searching quiet new_is room =
+pub decided : (s : Solving) (old new : Trailing) (l : SatLit) → IsSearching s old → IsQuiet (active s.formula s.ids s.lines) (literals old.entries) → new ≡ record old { entries = old.entries ++ record { literal = l; level = old.level + 1; reason = None } ∷ []; level = old.level + 1 } → IsSearching s new
+decided s old new l searching quiet new_is =
     let e : Assigned = record { literal = l; level = old.level + 1; reason = None } in
     let entries : new.entries ≡ old.entries ++ e ∷ [] = ap (λ (t : Trailing). t.entries) new_is in
     record {
-      searching = record {
-        variables = ap (λ (t : Trailing). t.variables) new_is ∙ searching.variables;
-        unrefuted = searching.unrefuted;
-        sound = sound_more (active s.formula s.ids s.lines) old new e searching.sound quiet entries;
-      };
-      longer = omega (arith, ap length entries, length-append old.entries (e ∷ []));
-      most = omega (arith, ap length entries, length-append old.entries (e ∷ []), ap (λ (t : Trailing). t.variables) new_is, room);
+      variables = ap (λ (t : Trailing). t.variables) new_is ∙ searching.variables;
+      unrefuted = searching.unrefuted;
+      sound = sound_more (active s.formula s.ids s.lines) old new e searching.sound quiet entries;
     }
 
 -- what stands before a place of the front
@@ -50,11 +46,16 @@ justified_more clauses clause made l (Some id) reason more = record {
   makes = ap (effect_of made) (get_or_append_left clauses (clause ∷ []) [] id reason.there) ∙ reason.makes;
 }
 
+-- a line that isn't empty refutes nothing
+pub unrefuted_more : (lines : List LogLine) (line : LogLine) → list_any is_empty (clauses_of lines) ≡ false → is_empty line.clause ≡ false → list_any is_empty (clauses_of (lines ++ line ∷ [])) ≡ false
+unrefuted_more lines line unrefuted filled =
+    ap (list_any is_empty) (clauses_more lines line) ∙ (list_any-append is_empty (clauses_of lines) (line.clause ∷ []) ∙ or_from (list_any is_empty (clauses_of lines)) (is_empty line.clause || false) unrefuted (or_from (is_empty line.clause) false filled refl))
+
 -- after going back with a learned line
 pub gone_back : (old new : Solving) (line : LogLine) (t back : Trailing) (level : ℕ) → IsSearching old t → IsLesson old t line level → is_empty line.clause ≡ false → new ≡ record old { lines = old.lines ++ line ∷ [] } → back.variables ≡ t.variables → back.entries ≡ filter (λ e. nat_le e.level level) t.entries → back.entries ≡ take (length back.entries) t.entries → IsSearching new back
 gone_back old new line t back level searching lesson filled added variables kept front = subst (λ (s : Solving). IsSearching s back) (sym added) (record {
   variables = variables ∙ searching.variables;
-  unrefuted = ap (list_any is_empty) (clauses_more old.lines line) ∙ (list_any-append is_empty (clauses_of old.lines) (line.clause ∷ []) ∙ or_from (list_any is_empty (clauses_of old.lines)) (is_empty line.clause || false) searching.unrefuted (or_from (is_empty line.clause) false filled refl));
+  unrefuted = unrefuted_more old.lines line searching.unrefuted filled;
   sound = record {
     justified = λ k within.
         let n = length back.entries in
@@ -71,43 +72,40 @@ gone_back old new line t back level searching lesson filled added variables kept
 })
 
 -- less is left to do after a decision, and after a learned line
-pub less_decided : (ledger : Ledgered) (old new : Trailing) → new.variables ≡ old.variables → length old.entries < length new.entries → length new.entries ≤ new.variables → remaining ledger new < remaining ledger old
-less_decided ledger old new variables longer most =
-    omega (arith, ap (λ v. (v + 1) * (ledger.budget + 1 - learned_in ledger)) variables, variables, longer, most)
+pub less_decided : {O : Type 0} (charging : Charging O) (old new : Trailing) → new.variables ≡ old.variables → length old.entries < length new.entries → length new.entries ≤ new.variables → remaining charging new < remaining charging old
+less_decided {O} charging old new variables longer most =
+    omega (arith, ap (λ v. (v + 1) * (charging.budget + 1 - charging.made)) variables, variables, longer, most)
 
-pub less_learned : (first after : Ledgered) (old new : Trailing) → new.variables ≡ old.variables → after.budget ≡ first.budget → learned_in first < first.budget → learned_in after ≡ learned_in first + 1 → remaining after new < remaining first old
-less_learned first after old new variables budget within counted =
+pub less_learned : {O : Type 0} (line : LogLine) (first after : Charging O) (old new : Trailing) → new.variables ≡ old.variables → IsCharged first line after → remaining after new < remaining first old
+less_learned {O} line first after old new variables charged =
     let n = old.variables + 1 in
-    let left = first.budget - learned_in first in
-    let next : first.budget + 1 - learned_in first ≡ suc left = omega (arith, within) in
-    let now : after.budget + 1 - learned_in after ≡ left = omega (arith, budget, counted, within) in
-    let whole : n * (first.budget + 1 - learned_in first) ≡ n * left + n = ap (λ m. n * m) next ∙ mul-suc n left in
-    let rest : (new.variables + 1) * (after.budget + 1 - learned_in after) ≡ n * left = ap (λ v. (v + 1) * (after.budget + 1 - learned_in after)) variables ∙ ap (λ m. n * m) now in
+    let left = first.budget - first.made in
+    let budget : after.budget ≡ first.budget = ap (λ (c : Charging O). c.budget) charged.charged in
+    let counted : after.made ≡ first.made + 1 = ap (λ (c : Charging O). c.made) charged.charged in
+    let next : first.budget + 1 - first.made ≡ suc left = omega (arith, charged.within) in
+    let now : after.budget + 1 - after.made ≡ left = omega (arith, budget, counted, charged.within) in
+    let whole : n * (first.budget + 1 - first.made) ≡ n * left + n = ap (λ m. n * m) next ∙ mul-suc n left in
+    let rest : (new.variables + 1) * (after.budget + 1 - after.made) ≡ n * left = ap (λ v. (v + 1) * (after.budget + 1 - after.made)) variables ∙ ap (λ m. n * m) now in
     omega (arith, whole, rest, variables)
 
--- the ledger goes on with the lines
-pub asking_after : (old new : Solving) (first after : Ledgered) → IsAsking first old.lines → IsExtended old new first after → after.spent ≡ false → IsAsking after new.lines
-asking_after old new first after asking extended fresh = record {
-  asked = omega (arith, asking.asked, ap length extended.asked, length-set first.asked (length first.asked - 1) (record (last_asked first.asked) { lines = new.lines }));
-  lines_are = ap (λ (xs : List Asked). (last_asked xs).lines) extended.asked ∙ last_lines first.asked new.lines asking.asked;
-  not_spent = fresh;
-}
-
 -- nothing was added
-pub extended_none : (s : Solving) (first : Ledgered) → IsAsking first s.lines → IsExtended s s first first
-extended_none s first asking = record {
+pub extended_none : {O : Type 0} (s : Solving) (first : Charging O) → IsAsking first s.lines → IsExtended s s first first
+extended_none {O} s first asking = record {
   formula = refl;
   ids = refl;
   longer = omega arith;
   kept = take_all (length s.lines) s.lines (omega arith);
   added = λ k d late within. absurd (omega (arith, late, within));
   budget = refl;
-  asked = sym (ap (λ ls. with_lines ls first.asked) (sym asking.lines_are) ∙ set-get_or first.asked (length first.asked - 1) nothing_asked);
+  opened = refl;
+  others = refl;
+  lines_are = asking.lines_are;
+  counted = refl;
 }
 
 -- lines were added twice
-pub extended_twice : (one two three : Solving) (first second third : Ledgered) → IsAsking first one.lines → IsExtended one two first second → IsExtended two three second third → IsExtended one three first third
-extended_twice one two three first second third asking before_it after_it = record {
+pub extended_twice : {O : Type 0} (one two three : Solving) (first second third : Charging O) → IsExtended one two first second → IsExtended two three second third → IsExtended one three first third
+extended_twice {O} one two three first second third before_it after_it = record {
   formula = after_it.formula ∙ before_it.formula;
   ids = after_it.ids ∙ before_it.ids;
   longer = omega (arith, before_it.longer, after_it.longer);
@@ -120,33 +118,39 @@ extended_twice one two three first second third asking before_it after_it = reco
     | inr later ↦ subst (λ f. IsAdded f one.ids (take k three.lines) (slice_index_or three.lines k d)) before_it.formula (subst (λ i. IsAdded two.formula i (take k three.lines) (slice_index_or three.lines k d)) before_it.ids (after_it.added k d later within))
   ];
   budget = after_it.budget ∙ before_it.budget;
-  asked = after_it.asked ∙ (ap (with_lines three.lines) before_it.asked ∙ lines_twice first.asked two.lines three.lines asking.asked);
+  opened = after_it.opened ∙ before_it.opened;
+  others = after_it.others ∙ before_it.others;
+  lines_are = after_it.lines_are;
+  counted = omega (arith, before_it.counted, after_it.counted);
 }
 
-pub stopped_after : (one two three : Solving) (first second third : Ledgered) (stop : Stop) → IsAsking first one.lines → IsExtended one two first second → IsStopped two three second third stop → IsStopped one three first third stop
-stopped_after one two three first second third Memory asking extended stopped = tt
-stopped_after one two three first second third (Spent learned) asking extended stopped = record {
-  extended = extended_twice one two three first second third asking extended stopped.extended;
+pub stopped_after : {O : Type 0} (one two three : Solving) (first second third : Charging O) (stop : Stop) → IsExtended one two first second → IsStopped two three second third stop → IsStopped one three first third stop
+stopped_after {O} one two three first second third Memory extended stopped = tt
+stopped_after {O} one two three first second third (Spent learned) extended stopped = record {
+  extended = extended_twice one two three first second third extended stopped.extended;
   learned_is = stopped.learned_is ∙ extended.budget;
   spent = stopped.spent;
-  used = stopped.used ∙ extended.budget;
+  used = omega (arith, stopped.used, extended.budget);
 }
 
 -- a learned line extends the lines
-pub extended_learnt : (old new : Solving) (first after : Ledgered) (t : Trailing) (back : Option ℕ) → IsAsking first old.lines → IsLearnt old new first after t back → IsExtended old new first after
-extended_learnt old new first after t back asking learnt =
-    let last : last_line new.lines ≡ learnt.line = ap (λ (s : Solving). last_line s.lines) learnt.added ∙ last_is old.lines learnt.line in
-    extended_one old new learnt.line first after asking learnt.added learnt.learned_is (ap (λ (l : Ledgered). l.budget) learnt.charged) (ap (λ (l : Ledgered). l.asked) learnt.charged ∙ ap (λ l. with_line l first.asked) (sym last))
+pub extended_learnt : {O : Type 0} (old new : Solving) (first after : Charging O) (t : Trailing) (back : Option ℕ) → IsAsking first old.lines → IsLearnt old new first after t back → IsExtended old new first after
+extended_learnt {O} old new first after t back asking learnt =
+    extended_charged old new learnt.line first after asking learnt.added learnt.learned_is learnt.charged
+
+pub asking_learnt : {O : Type 0} (old new : Solving) (first after : Charging O) (t : Trailing) (back : Option ℕ) → IsAsking first old.lines → IsLearnt old new first after t back → IsAsking after new.lines
+asking_learnt {O} old new first after t back asking learnt =
+    subst (λ (s : Solving). IsAsking after s.lines) (sym learnt.added) (asking_charged old.lines learnt.line first after asking learnt.charged)
 
 -- A search that has come from the first lines to these.
-pub record IsUnderWay (old now : Solving) (first ledger : Ledgered) (trail : Trailing) : Type 0 where
-  pub searching : IsSearching now trail
-  pub extended : IsExtended old now first ledger
-  pub asking : IsAsking ledger now.lines
+pub record IsUnderWay {O : Type 0} (old now : Solving) (first charging : Charging O) (search : Search) : Type 0 where
+  pub running : IsRunning now search.trail search.watches search.occurring.items search.marks.items
+  pub extended : IsExtended old now first charging
+  pub asking : IsAsking charging now.lines
 
 -- lines that were added to derived ones are derived
-pub derived_after : (old new : Solving) (first after : Ledgered) → AreDerived old.formula old.lines → IsExtended old new first after → AreDerived new.formula new.lines
-derived_after old new first after derived extended k d within = subst (λ f. line_fault f (clauses_of (take k new.lines)) (slice_index_or new.lines k d) ≡ None) (sym extended.formula) (elim (cases_lt k (length old.lines)) [
+pub derived_after : {O : Type 0} (old new : Solving) (first after : Charging O) → AreDerived old.formula old.lines → IsExtended old new first after → AreDerived new.formula new.lines
+derived_after {O} old new first after derived extended k d within = subst (λ f. line_fault f (clauses_of (take k new.lines)) (slice_index_or new.lines k d) ≡ None) (sym extended.formula) (elim (cases_lt k (length old.lines)) [
   | inl early ↦
       let at : slice_index_or new.lines k d ≡ slice_index_or old.lines k d = sym (get_or-take (length old.lines) new.lines k d early) ∙ ap (λ ls. slice_index_or ls k d) extended.kept in
       let front : take k new.lines ≡ take k old.lines = sym (take-take k (length old.lines) new.lines (omega (arith, early))) ∙ ap (take k) extended.kept in

@@ -13,12 +13,13 @@ use Rattle.cnf_core.specs.Clauses.{clause_at, opposite, variable_of}
 use Rattle.cnf_core.specs.Derivations.{effect_of, is_false, is_true, is_same}
 use Rattle.trail_core.specs.declared.assigned.Assigned.{Assigned}
 use Rattle.trail_core.specs.Trails.{IsTrail, Trailing, entry_at, literals, nothing}
-use Rattle.learn_solver.specs.Propagations.{IsJustified, IsReason, IsSound, before}
+use Rattle.watch_lists.specs.Propagations.{IsJustified, IsReason, IsSound, before}
 use Rattle.learn_solver.specs.Analyses.{AreBefore, AreMarked, IsAnalysed, StayMarked, here_in, is_marked, kept_here}
 use Rattle.learn_solver.proofs.MarkLemmas.{none_pass}
-use Rattle.learn_solver.proofs.EffectLemmas.{conflict_from, conflict_says, makes_says, same_literal}
+use Rattle.watch_lists.proofs.EffectLemmas.{conflict_from, conflict_says, makes_says, same_literal}
 use Rattle.learn_solver.proofs.DeriveLemmas.{derive_conflict, derive_reason, derive_unmarked}
-use Rattle.learn_solver.proofs.PlaceLemmas.{ascend, before_whole, counted_here, decision_level, decision_raises, found_here, is_counted, last_decision, low_level, place_of_false, stands, true_before, variable_of-opposite}
+use Rattle.watch_lists.proofs.GrowLemmas.{low_level}
+use Rattle.learn_solver.proofs.PlaceLemmas.{ascend, before_whole, counted_here, decision_level, decision_raises, found_here, is_counted, last_decision, place_of_false, stands, true_before, variable_of-opposite}
 
 abbrev no_literal : SatLit
 no_literal = record { 0 = 0 }

@@ -19,7 +19,7 @@ pub record IsResolving (clauses : List (List SatLit)) (trail : Trailing) (marked
 pub unmarked_on_trail : (es : List Assigned) (n : ℕ) → AreOnTrail es (replicate n false)
 unmarked_on_trail es n v was = absurd (false≢true (sym (unmarked_bit n v) ∙ was))
 
--- the marks of the first so many literals were taken away
+-- the marks of the first n literals were taken away
 pub record IsClearing (trail : Trailing) (marked : List Bool) (count : ℕ) : Type 0 where
   pub size : length marked ≡ trail.variables
   pub on_trail : AreOnTrail trail.entries marked

@@ -6,7 +6,7 @@ use Rattle.std.proofs.lemmas.List.{get_or_default, get_or-set_same, get_or-set_o
 use Rattle.circuits.specs.Literals.{bit}
 use Rattle.cnf_core.specs.declared.literal.SatLit.{SatLit}
 use Rattle.cnf_core.specs.Clauses.{clause_at, variable_of}
-use Rattle.learn_solver.specs.Propagations.{AreKnown}
+use Rattle.watch_lists.specs.Propagations.{AreKnown}
 use Rattle.learn_solver.specs.Analyses.{AreMarked, AreMarkedPlaces, StayMarked}
 use Rattle.learn_solver.specs.Solvers.{HaveVariables}
 
@@ -18,7 +18,7 @@ stays marked v there u is =
       | inr (found, apart) ↦ get_or-set_other marked v u true false apart ∙ is
     ]
 
--- The variables of the first so many literals of a clause are marked.
+-- The variables of the first n literals of a clause are marked.
 pub record IsMarkingClause (old marked : List Bool) (clause : List SatLit) (count : ℕ) : Type 0 where
   pub size : length marked ≡ length old
   pub stay : StayMarked old marked
@@ -41,7 +41,7 @@ literal_marked old marked clause count none v known marking within v_is = record
     there : v < length marked
     there = omega (arith, v_is, known count none within, marking.size)
 
--- The variables of the first so many clauses are marked.
+-- The variables of the first n clauses are marked.
 pub record IsMarkingAll (old marked : List Bool) (clauses : List (List SatLit)) (count : ℕ) : Type 0 where
   pub size : length marked ≡ length old
   pub marked_are : (k : ℕ) (d : List SatLit) → k < count → AreMarked marked (slice_index_or clauses k d)

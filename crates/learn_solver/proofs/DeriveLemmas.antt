@@ -13,9 +13,9 @@ use Rattle.cnf_core.specs.Clauses.{clause_at, opposite, variable_of}
 use Rattle.cnf_core.specs.Derivations.{effect_of, fault_behind, hint_fault, is_false, is_same, is_true}
 use Rattle.trail_core.specs.declared.assigned.Assigned.{Assigned}
 use Rattle.trail_core.specs.Trails.{entry_at, literals}
-use Rattle.learn_solver.specs.Propagations.{IsReason, before}
+use Rattle.watch_lists.specs.Propagations.{IsReason, before}
 use Rattle.learn_solver.specs.Analyses.{AreMarked, IsBetween, StayMarked, is_marked}
-use Rattle.learn_solver.proofs.EffectLemmas.{IsMaker, conflict_from, conflict_says, makes_from, makes_says, same_itself, same_literal}
+use Rattle.watch_lists.proofs.EffectLemmas.{IsMaker, conflict_from, conflict_says, makes_from, makes_says, same_itself, same_literal}
 use Rattle.learn_solver.proofs.PlaceLemmas.{before_whole, stands, true_before, true_further, variable_of-opposite}
 
 abbrev nothing_there : SatLit

@@ -10,7 +10,7 @@ use Rattle.cnf_core.specs.Derivations.{is_same, is_true}
 use Rattle.trail_core.specs.declared.assigned.Assigned.{Assigned}
 use Rattle.trail_core.specs.Trails.{entry_at, literals, nothing}
 use Rattle.learn_solver.specs.Analyses.{is_marked, kept_literals}
-use Rattle.learn_solver.proofs.EffectLemmas.{same_itself, same_literal}
+use Rattle.watch_lists.proofs.EffectLemmas.{same_itself, same_literal}
 use Rattle.learn_solver.proofs.PlaceLemmas.{opposite_twice}
 
 abbrev pub no_literal : SatLit

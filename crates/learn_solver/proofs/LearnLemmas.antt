@@ -11,11 +11,12 @@ use Rattle.cnf_core.specs.Clauses.{opposite, variable_of}
 use Rattle.cnf_core.specs.Derivations.{effect_of, hint_fault, is_empty, is_false, is_same, is_true, repeats_variable}
 use Rattle.trail_core.specs.declared.assigned.Assigned.{Assigned}
 use Rattle.trail_core.specs.Trails.{IsTrail, Trailing, entry_at}
-use Rattle.learn_solver.specs.Propagations.{IsJustified, IsSound, before}
+use Rattle.watch_lists.specs.Propagations.{IsJustified, IsSound, before}
 use Rattle.learn_solver.specs.Analyses.{IsAnalysed, IsBackLevel, IsBetween, IsLearnedAs, has_all, here_in, is_marked, kept_here, kept_literals}
-use Rattle.learn_solver.proofs.EffectLemmas.{neither_two, not_neither, same_itself}
+use Rattle.watch_lists.proofs.EffectLemmas.{neither_two, not_neither, same_itself}
 use Rattle.learn_solver.proofs.KeptLemmas.{kept_at, kept_there, learned_at, no_literal, opposite_there, opposites_twice}
-use Rattle.learn_solver.proofs.PlaceLemmas.{IsHere, ascend, counted_here, decision_level, decision_raises, found_here, last_decision, low_level, only_here, opposite_twice, same_place, stands, true_before, variable_of-opposite}
+use Rattle.watch_lists.proofs.GrowLemmas.{low_level}
+use Rattle.learn_solver.proofs.PlaceLemmas.{IsHere, ascend, counted_here, decision_level, decision_raises, found_here, last_decision, only_here, opposite_twice, same_place, stands, true_before, variable_of-opposite}
 
 -- all marked literals that are left, and no others, are true where the clause is negated
 kept_between : (es : List Assigned) (marked : List Bool) (p : ℕ) → IsBetween es marked p (kept_literals es marked p)
@@ -185,6 +186,19 @@ learned clauses t marked p here level steps is back =
       closing = closing clauses t marked p here steps is;
       low = low_back;
       not_single = not_single clauses t marked p here level steps is back;
+      asserting = record {
+        last = λ above.
+            let u = found_here t marked p (omega (arith, is.analysed.count, is.analysed.present above)) in
+            record { place = u.at; within = u.within; level_there = u.level_there; there = opposite_there kept (entry_at es u.at).literal (kept_there es marked p u.at u.early u.within u.marked_there) };
+        lower = λ above. elim (cases_eq level 0) [
+          | inl none ↦ omega (arith, none, above)
+          | inr some ↦ let w = back.reached (omega (arith, some)) in omega (arith, w.below)
+        ];
+        reached = λ some.
+            let w = back.reached some in
+            let inside : w.at < length es = omega (arith, w.early, is.analysed.within) in
+            record { place = w.at; within = inside; level_there = w.level_there; there = opposite_there kept (entry_at es w.at).literal (kept_there es marked p w.at w.early inside w.marked_there) };
+      };
     }
   where
     low_back : level ≤ t.level

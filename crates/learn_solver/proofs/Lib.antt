@@ -1,5 +1,3 @@
-pub mod WalkLemmas
-pub mod EffectLemmas
 pub mod MarkLemmas
 pub mod PlaceLemmas
 pub mod DeriveLemmas
@@ -13,3 +11,6 @@ pub mod StepLemmas
 pub mod ModelLemmas
 pub mod AdvanceLemmas
 pub mod DecisionLemmas
+pub mod GoneLemmas
+pub mod StartLemmas
+pub mod RunLemmas

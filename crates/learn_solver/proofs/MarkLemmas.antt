@@ -11,7 +11,7 @@ use Rattle.trail_core.specs.declared.assigned.Assigned.{Assigned}
 use Rattle.trail_core.specs.Trails.{IsPlace, IsTrail, Trailing, entry_at, nothing}
 use Rattle.learn_solver.specs.Analyses.{AreBefore, AreOnTrail, HasPlace, StayMarked, here_in}
 
--- the variables of the first so many literals were marked
+-- the variables of the first n literals were marked
 pub record IsMarking (trail : Trailing) (old now : List Bool) (clause : List SatLit) (count here : ℕ) : Type 0 where
   pub size : length now ≡ length old
   pub stay : StayMarked old now

@@ -11,10 +11,10 @@ use Rattle.cnf_core.specs.declared.effect.Effect.TheVariants.{Conflict, Neither}
 use Rattle.cnf_core.specs.Clauses.{is_negated, literal_bit, literal_of, opposite, variable_of}
 use Rattle.cnf_core.specs.Derivations.{clauses_of, effect_of, is_false, is_true}
 use Rattle.trail_core.specs.Trails.{Trailing, literals, value_in}
-use Rattle.learn_solver.specs.Propagations.{AreKnown, IsQuiet}
+use Rattle.watch_lists.specs.Propagations.{AreKnown, IsQuiet}
 use Rattle.learn_solver.specs.Searches.{AreValues, IsAssigned, IsSearching}
-use Rattle.learn_solver.specs.Solvers.{HaveVariables, IsDeciding, IsModel, Solving, active, wanted}
-use Rattle.learn_solver.proofs.EffectLemmas.{conflict_from}
+use Rattle.learn_solver.specs.Solvers.{HaveVariables, IsModel, IsSolver, Solving, active, wanted}
+use Rattle.watch_lists.proofs.EffectLemmas.{conflict_from}
 use Rattle.learn_solver.proofs.PlaceLemmas.{opposite_twice}
 
 -- a literal is that of its variable with its sign, and its opposite that with the other one
@@ -79,11 +79,10 @@ wanted_assigned : (s : Solving) (t : Trailing) (occurring : List ℕ) → HaveVa
 wanted_assigned s t occurring have assigned k d within j e inside =
     All-contains (IsAssigned t) occurring (variable_of (slice_index_or (slice_index_or (wanted s.formula s.ids) k d) j e)) assigned (have.all k d within j e inside)
 
-pub model_from : (s : Solving) (clauses : List (List SatLit)) (occurring : List ℕ) (marks : List Bool) (t : Trailing) (values : List Bool) → IsDeciding s.formula s.ids s.lines clauses occurring marks → IsSearching s t → IsQuiet (active s.formula s.ids s.lines) (literals t.entries) → All (IsAssigned t) occurring → AreValues t values → IsModel s values
-model_from s clauses occurring marks t values deciding searching quiet assigned are = record {
+pub model_from : (s : Solving) (clauses : List (List SatLit)) (occurring : List ℕ) (t : Trailing) (values : List Bool) → IsSolver s.formula s.ids s.lines clauses → HaveVariables s.formula.variables (wanted s.formula s.ids) occurring → IsSearching s t → IsQuiet (active s.formula s.ids s.lines) (literals t.entries) → All (IsAssigned t) occurring → AreValues t values → IsModel s values
+model_from s clauses occurring t values is have searching quiet assigned are = record {
   variables = are.count ∙ searching.variables;
   meets = λ k d within.
-      let is = deciding.solver in
       let want = wanted s.formula s.ids in
       let c = slice_index_or want k d in
       let at = get_or_append_left want (clauses_of s.lines) d k within in
@@ -91,7 +90,7 @@ model_from s clauses occurring marks t values deciding searching quiet assigned 
       let known : AreKnown s.formula.variables c = subst (AreKnown s.formula.variables) at (subst (λ (cs : List (List SatLit)). All (AreKnown s.formula.variables) cs) is.stored is.known k d inside) in
       let open_one : effect_of (literals t.entries) c ≡ Neither = ap (effect_of (literals t.entries)) (sym at) ∙ quiet k d inside in
       true_from_ne_false (list_any (literal_bit values) c) (λ unmet.
-      let falsity = all_false t values are c (wanted_assigned s t occurring deciding.variables assigned k d within) (λ j e h. omega (arith, known j e h, searching.variables)) unmet in
+      let falsity = all_false t values are c (wanted_assigned s t occurring have assigned k d within) (λ j e h. omega (arith, known j e h, searching.variables)) unmet in
       let clash : Conflict ≡ Neither = sym (conflict_from (literals t.entries) c falsity) ∙ open_one in
       cc);
 }

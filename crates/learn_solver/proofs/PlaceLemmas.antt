@@ -12,10 +12,10 @@ use Rattle.cnf_core.specs.Clauses.{opposite, variable_of}
 use Rattle.cnf_core.specs.Derivations.{effect_of, is_false, is_same, is_true}
 use Rattle.trail_core.specs.declared.assigned.Assigned.{Assigned}
 use Rattle.trail_core.specs.Trails.{IsTrail, Trailing, decisions, entry_at, literals, nothing}
-use Rattle.learn_solver.specs.Propagations.{before}
+use Rattle.watch_lists.specs.Propagations.{before}
 use Rattle.learn_solver.specs.Analyses.{AreBefore, HasPlace, here_in, is_marked}
 use Rattle.learn_solver.proofs.MarkLemmas.{apart, counts_one, counts_two, passes_somewhere}
-use Rattle.learn_solver.proofs.EffectLemmas.{conflict_says, same_itself, same_literal}
+use Rattle.watch_lists.proofs.EffectLemmas.{conflict_says, same_itself, same_literal}
 
 pub opposite_twice : (l : SatLit) → opposite (opposite l) ≡ l
 opposite_twice l = ap (λ n. record { 0 = n }) (number l.0)
@@ -85,10 +85,6 @@ ascend t is j k order within =
     let fewer = sum_by-take-le (λ (x : Assigned). cond (is_none x.reason) 1 0) (take (k + 1) es) (j + 1) in
     let front : take (j + 1) (take (k + 1) es) ≡ take (j + 1) es = take-take (j + 1) (k + 1) es (omega (arith, order)) in
     omega (arith, is.levels j (omega (arith, order, within)), is.levels k within, fewer, ap decisions front)
-
--- no level is above the present one
-pub low_level : (t : Trailing) → IsTrail t → (k : ℕ) → k < length t.entries → (entry_at t.entries k).level ≤ t.level
-low_level t is k within = omega (arith, is.levels k within, sum_by-take-le (λ (x : Assigned). cond (is_none x.reason) 1 0) t.entries (k + 1), is.level)
 
 pub decision_counts : (es : List Assigned) (q : ℕ) → q < length es → (entry_at es q).reason ≡ None → decisions (take (q + 1) es) ≡ decisions (take q es) + 1
 decision_counts es q within none =

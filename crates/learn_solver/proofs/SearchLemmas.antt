@@ -4,7 +4,7 @@ use Rattle.cnf_core.specs.Clauses.{literal_of}
 use Rattle.cnf_core.specs.Derivations.{is_true}
 use Rattle.trail_core.specs.Trails.{Trailing, literals}
 
--- the values of the first so many variables
+-- the values of the first n variables
 pub record AreFirst (trail : Trailing) (values : List Bool) (count : ℕ) : Type 0 where
   pub counted : length values ≡ count
   pub each : (v : ℕ) (d : Bool) → v < length values → slice_index_or values v d ≡ is_true (literals trail.entries) (literal_of v true)

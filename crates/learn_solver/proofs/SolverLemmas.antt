@@ -13,7 +13,7 @@ use Rattle.cnf_core.specs.declared.fault.LineFault.{LineFault}
 use Rattle.cnf_core.specs.declared.fault.LineFault.TheVariants as fault
 use Rattle.cnf_core.specs.Clauses.{Formula, clause_at, opposite, variable_of}
 use Rattle.cnf_core.specs.Derivations.{AreDerived, clauses_of, effect_of, fault_behind, hint_fault, is_empty, line_fault, repeats_variable}
-use Rattle.learn_solver.specs.Propagations.{AreKnown}
+use Rattle.watch_lists.specs.Propagations.{AreKnown}
 use Rattle.learn_solver.specs.Solvers.{ArePut, IsSolver, active, id_at, wanted}
 
 -- What it says that a line has no fault.
@@ -40,12 +40,12 @@ line_from formula taken line is =
     ∙ (ap (λ b. cond (not b) (Some fault.UnknownVariable) (cond (repeats_variable line.clause) (Some fault.TwiceVariable) (hint_fault (formula.clauses ++ taken) (map opposite line.clause) line.hints))) is.known
     ∙ (ap (λ b. cond b (Some fault.TwiceVariable) (hint_fault (formula.clauses ++ taken) (map opposite line.clause) line.hints)) is.once ∙ is.hints))
 
-line_known : (formula : Formula) (taken : List (List SatLit)) (line : LogLine) → line_fault formula taken line ≡ None → AreKnown formula.variables line.clause
+pub line_known : (formula : Formula) (taken : List (List SatLit)) (line : LogLine) → line_fault formula taken line ≡ None → AreKnown formula.variables line.clause
 line_known formula taken line e k d within =
     ltb-true (variable_of (slice_index_or line.clause k d)) formula.variables (and_at (list_all (λ l. nat_lt (variable_of l) formula.variables)) (λ l. nat_lt (variable_of l) formula.variables) refl (λ _ _. refl) line.clause k d within (line_says formula taken line e).known)
 
 -- one line more
-derived_more : (formula : Formula) (lines : List LogLine) (line : LogLine) → AreDerived formula lines → line_fault formula (clauses_of lines) line ≡ None → AreDerived formula (lines ++ line ∷ [])
+pub derived_more : (formula : Formula) (lines : List LogLine) (line : LogLine) → AreDerived formula lines → line_fault formula (clauses_of lines) line ≡ None → AreDerived formula (lines ++ line ∷ [])
 derived_more formula lines line derived good k d within =
     elim (cases_eq k (length lines)) [
       | inl last ↦

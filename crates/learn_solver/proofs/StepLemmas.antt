@@ -1,9 +1,9 @@
 -- One step of a search: a line is learned from a conflict.
-use Rattle.std.proofs.Common.{◌≡◌, ℕ, zero, suc, ◌-◌, ◌<◌, ◌≤◌, false, List, [], ◌∷◌, ◌++◌, length, map, take, All, Result, Ok, Err, IfErr, nat_lt, slice_index_or, slice_set, refl, sym, ◌∙◌, ap, subst, arith}
+use Rattle.std.proofs.Common.{◌≡◌, ℕ, zero, suc, ◌+◌, ◌-◌, ◌<◌, ◌≤◌, Bool, true, false, List, [], ◌∷◌, ◌++◌, length, map, take, All, Result, Ok, Err, IfErr, nat_lt, slice_index_or, refl, sym, ◌∙◌, ap, subst, arith}
 use Rattle.std.specs.Result.{IsErrAnd}
 use Rattle.std.specs.List.{list_any, list_all}
 use Rattle.std.proofs.lemmas.Bool.{lt-ltb, or_parts}
-use Rattle.std.proofs.lemmas.List.{get_or_at, get_or-set_same, length-append, length-set, set-set, take_at}
+use Rattle.std.proofs.lemmas.List.{get_or_at, length-append, take_at}
 use Rattle.std.proofs.lemmas.List.Elements.{All-append}
 use Rattle.std.proofs.lemmas.List.Recursion.{and_from_places}
 use Rattle.cnf_core.specs.declared.literal.SatLit.{SatLit}
@@ -13,8 +13,7 @@ use Rattle.cnf_core.specs.declared.stop.Stop.TheVariants.{Spent, Memory}
 use Rattle.cnf_core.specs.Clauses.{Formula, clause_at, opposite, variable_of}
 use Rattle.cnf_core.specs.Derivations.{clauses_of, hint_fault, is_empty}
 use Rattle.trail_core.specs.Trails.{Trailing}
-use Rattle.query_core.specs.declared.ledger.Asked.{Asked}
-use Rattle.query_core.specs.Ledgers.{IsRefused, Ledgered, last_asked, nothing_asked, with_line, with_lines}
+use Rattle.cnf_core.specs.Charges.{Charging, IsCharged, IsRefused}
 use Rattle.learn_solver.specs.Analyses.{IsLearnedAs, has_all}
 use Rattle.learn_solver.specs.Solvers.{IsAdded, IsAsking, IsExtended, IsSolver, IsStopped, Solving, id_at, wanted}
 use Rattle.learn_solver.specs.Searches.{IsLesson, IsSearching, last_line, no_line}
@@ -45,6 +44,8 @@ lesson_from s t clauses line steps level is searching learned hints = record {
   fresh = subst (λ (cs : List (List SatLit)). All (λ c. has_all line.clause c ≡ false) cs) is.stored learned.fresh;
   low = learned.low;
   not_single = learned.not_single;
+  asserting = learned.asserting;
+  closing = λ lowest. ap is_empty (learned.closing lowest);
 }
   where
     same : (k : ℕ) → k < length clauses → (id_at s.formula s.ids k < length (s.formula.clauses ++ clauses_of s.lines)) × (clause_at (s.formula.clauses ++ clauses_of s.lines) (id_at s.formula s.ids k) ≡ clause_at clauses k)
@@ -53,40 +54,28 @@ lesson_from s t clauses line steps level is searching learned hints = record {
         (there.0, there.1 ∙ ap (λ cs. clause_at cs k) (sym is.stored))
 
 -- the last of lines with one more
-pub last_is : (lines : List LogLine) (line : LogLine) → last_line (lines ++ line ∷ []) ≡ line
+last_is : (lines : List LogLine) (line : LogLine) → last_line (lines ++ line ∷ []) ≡ line
 last_is lines line = get_or_at lines line [] no_line (length (lines ++ line ∷ []) - 1) (omega (arith, length-append lines (line ∷ [])))
 
--- lines given twice to the last entry
-pub lines_twice : (asked : List Asked) (first second : List LogLine) → 0 < length asked → with_lines second (with_lines first asked) ≡ with_lines second asked
-lines_twice asked first second there =
-    let at = length asked - 1 in
-    let e = last_asked asked in
-    let size = length-set asked at (record e { lines = first }) in
-    let last : length (with_lines first asked) - 1 ≡ at = omega (arith, size) in
-    let entry : last_asked (with_lines first asked) ≡ record e { lines = first } = ap (λ k. slice_index_or (with_lines first asked) k nothing_asked) last ∙ get_or-set_same asked at (record e { lines = first }) nothing_asked (omega (arith, there)) in
-    ap (λ k. slice_set (with_lines first asked) k (record (last_asked (with_lines first asked)) { lines = second })) last
-    ∙ (ap (λ (x : Asked). slice_set (with_lines first asked) at (record x { lines = second })) entry ∙ set-set asked at (record e { lines = first }) (record e { lines = second }))
+-- the line that was added is the last one
+pub last_added : (old new : Solving) (line : LogLine) → new ≡ record old { lines = old.lines ++ line ∷ [] } → last_line new.lines ≡ line
+last_added old new line added = ap (λ (s : Solving). last_line s.lines) added ∙ last_is old.lines line
 
-pub last_lines : (asked : List Asked) (lines : List LogLine) → 0 < length asked → (last_asked (with_lines lines asked)).lines ≡ lines
-last_lines asked lines there =
-    let at = length asked - 1 in
-    let e = last_asked asked in
-    let last : length (with_lines lines asked) - 1 ≡ at = omega (arith, length-set asked at (record e { lines = lines })) in
-    ap (λ k. (slice_index_or (with_lines lines asked) k nothing_asked).lines) last ∙ ap (λ (x : Asked). x.lines) (get_or-set_same asked at (record e { lines = lines }) nothing_asked (omega (arith, there)))
-
--- one line was added
-pub extended_one : (old new : Solving) (line : LogLine) (first after : Ledgered) → IsAsking first old.lines → new ≡ record old { lines = old.lines ++ line ∷ [] } → IsAdded old.formula old.ids old.lines line → after.budget ≡ first.budget → after.asked ≡ with_line (last_line new.lines) first.asked → IsExtended old new first after
-extended_one old new line first after asking added fresh budget asked =
+-- one line was added, charged or refused
+extended_one : {O : Type 0} (old new : Solving) (line : LogLine) (first after : Charging O) (spent : Bool) → IsAsking first old.lines → new ≡ record old { lines = old.lines ++ line ∷ [] } → IsAdded old.formula old.ids old.lines line → after ≡ record first { lines = first.lines ++ line ∷ []; made = first.made + 1; spent = spent } → IsExtended old new first after
+extended_one {O} old new line first after spent asking added fresh is =
     let lines : new.lines ≡ old.lines ++ line ∷ [] = ap (λ (s : Solving). s.lines) added in
-    let last : last_line new.lines ≡ line = ap last_line lines ∙ last_is old.lines line in
     record {
       formula = ap (λ (s : Solving). s.formula) added;
       ids = ap (λ (s : Solving). s.ids) added;
       longer = omega (arith, ap length lines, length-append old.lines (line ∷ []));
       kept = ap (take (length old.lines)) lines ∙ take_at old.lines (line ∷ []) (length old.lines) refl;
       added = subst (λ (ls : List LogLine). (k : ℕ) (d : LogLine) → length old.lines ≤ k → k < length ls → IsAdded old.formula old.ids (take k ls) (slice_index_or ls k d)) (sym lines) one;
-      budget = budget;
-      asked = asked ∙ (ap (λ (ls : List LogLine). with_lines (ls ++ last_line new.lines ∷ []) first.asked) asking.lines_are ∙ (ap (λ l. with_lines (old.lines ++ l ∷ []) first.asked) last ∙ ap (λ ls. with_lines ls first.asked) (sym lines)));
+      budget = ap (λ (c : Charging O). c.budget) is;
+      opened = ap (λ (c : Charging O). c.opened) is;
+      others = ap (λ (c : Charging O). c.others) is;
+      lines_are = ap (λ (c : Charging O). c.lines) is ∙ (ap (λ (ls : List LogLine). ls ++ line ∷ []) asking.lines_are ∙ sym lines);
+      counted = omega (arith, ap (λ (c : Charging O). c.made) is, ap length lines, length-append old.lines (line ∷ []));
     }
   where
     one : (k : ℕ) (d : LogLine) → length old.lines ≤ k → k < length (old.lines ++ line ∷ []) → IsAdded old.formula old.ids (take k (old.lines ++ line ∷ [])) (slice_index_or (old.lines ++ line ∷ []) k d)
@@ -94,14 +83,26 @@ extended_one old new line first after asking added fresh budget asked =
         let here : k ≡ length old.lines = omega (arith, late, within, length-append old.lines (line ∷ [])) in
         subst (λ (l : LogLine). IsAdded old.formula old.ids (take k (old.lines ++ line ∷ [])) l) (sym (get_or_at old.lines line [] d k (sym here))) (subst (λ ls. IsAdded old.formula old.ids ls line) (sym (take_at old.lines (line ∷ []) k (sym here))) fresh)
 
+-- a line was charged
+pub extended_charged : {O : Type 0} (old new : Solving) (line : LogLine) (first after : Charging O) → IsAsking first old.lines → new ≡ record old { lines = old.lines ++ line ∷ [] } → IsAdded old.formula old.ids old.lines line → IsCharged first line after → IsExtended old new first after
+extended_charged {O} old new line first after asking added fresh charged =
+    extended_one old new line first after first.spent asking added fresh charged.charged
+
+pub asking_charged : {O : Type 0} (lines : List LogLine) (line : LogLine) (first after : Charging O) → IsAsking first lines → IsCharged first line after → IsAsking after (lines ++ line ∷ [])
+asking_charged {O} lines line first after asking charged = record {
+  opened = ap (λ (c : Charging O). c.opened) charged.charged ∙ asking.opened;
+  lines_are = ap (λ (c : Charging O). c.lines) charged.charged ∙ ap (λ (ls : List LogLine). ls ++ line ∷ []) asking.lines_are;
+  not_spent = ap (λ (c : Charging O). c.spent) charged.charged ∙ asking.not_spent;
+}
+
 -- a line that is refused ends the search
-pub stopped_one : (old new : Solving) (line : LogLine) (first after : Ledgered) (stop : Stop) → IsAsking first old.lines → new ≡ record old { lines = old.lines ++ line ∷ [] } → IsAdded old.formula old.ids old.lines line → IsRefused first (last_line new.lines) after stop → IsStopped old new first after stop
-stopped_one old new line first after Memory asking added fresh refused = tt
-stopped_one old new line first after (Spent learned) asking added fresh refused = record {
-  extended = extended_one old new line first after asking added fresh (ap (λ (l : Ledgered). l.budget) refused.refused) (ap (λ (l : Ledgered). l.asked) refused.refused);
-  learned_is = refused.learned_is;
-  spent = ap (λ (l : Ledgered). l.spent) refused.refused;
-  used = refused.counted;
+pub stopped_one : {O : Type 0} (old new : Solving) (line : LogLine) (first after : Charging O) (stop : Stop) → IsAsking first old.lines → new ≡ record old { lines = old.lines ++ line ∷ [] } → IsAdded old.formula old.ids old.lines line → IsRefused first line after stop → IsStopped old new first after stop
+stopped_one {O} old new line first after Memory asking added fresh refused = tt
+stopped_one {O} old new line first after (Spent learned) asking added fresh refused = record {
+  extended = extended_one old new line first after true asking added fresh refused.refused;
+  learned_is = refused.told;
+  spent = ap (λ (c : Charging O). c.spent) refused.refused;
+  used = omega (arith, ap (λ (c : Charging O). c.made) refused.refused, refused.spent);
 }
 
 -- a stop that is passed on

@@ -10,7 +10,7 @@ use Rattle.trail_core.specs.declared.assigned.Assigned.{Assigned}
 use Rattle.trail_core.specs.Trails.{Trailing, entry_at}
 use Rattle.learn_solver.specs.declared.conflict.Analysis.{Analysis}
 use Rattle.learn_solver.specs.declared.conflict.Learned.{Learned}
-use Rattle.learn_solver.specs.Propagations.{AreKnown, before}
+use Rattle.watch_lists.specs.Propagations.{AreKnown, before}
 
 -- whether a clause has all the literals of another
 abbrev pub has_all : List SatLit → List SatLit → Bool
@@ -19,6 +19,20 @@ has_all clause other = list_all (is_true clause) other
 -- how many literals of the present level a learned clause keeps
 abbrev pub kept_here : ℕ → ℕ
 kept_here level = if level == 0 then 0 else 1
+
+-- A clause has a literal that became false at this level.
+pub record IsFalseAt (trail : Trailing) (clause : List SatLit) (level : ℕ) : Type 0 where
+  pub place : ℕ
+  pub within : place < length trail.entries
+  pub level_there : (entry_at trail.entries place).level ≡ level
+  pub there : is_true clause (opposite (entry_at trail.entries place).literal) ≡ true
+
+-- A clause has a literal that became false at the present level, which is above the level to go back to, and, where that
+-- isn't 0, one that became false there.
+pub record IsAsserting (trail : Trailing) (clause : List SatLit) (level : ℕ) : Type 0 where
+  pub last : 0 < trail.level → IsFalseAt trail clause trail.level
+  pub lower : 0 < trail.level → level < trail.level
+  pub reached : 0 < level → IsFalseAt trail clause level
 
 -- What is learned: a clause without a repeated variable that the steps derive, and that has all the literals of none of
 -- the clauses. It is empty at level 0. At each decision up to the level to go back to it left more than a single
@@ -36,6 +50,7 @@ pub record IsLearnedAs (clauses : List (List SatLit)) (trail : Trailing) (clause
       → (entry_at trail.entries k).reason ≡ None
       → (entry_at trail.entries k).level ≤ level
       → effect_of (before trail.entries k) clause ≡ Neither
+  pub asserting : IsAsserting trail clause level
 
 abbrev pub IsLearned : List (List SatLit) → Trailing → Learned → Type 0
 IsLearned clauses trail learned = IsLearnedAs clauses trail learned.clause learned.steps.items learned.level
@@ -44,12 +59,12 @@ IsLearned clauses trail learned = IsLearnedAs clauses trail learned.clause learn
 abbrev pub is_marked : List Bool → Assigned → Bool
 is_marked marked entry = bit marked (variable_of entry.literal)
 
--- how many of the first so many literals are marked and of the present level
+-- how many of the first n literals are marked and of the present level
 abbrev pub here_in : Trailing → List Bool → ℕ → ℕ
 here_in trail marked place =
     count_by (λ entry. is_marked marked entry && (entry.level == trail.level)) (take place trail.entries)
 
--- the marked ones of the first so many literals
+-- the marked ones of the first n literals
 abbrev pub kept_literals : List Assigned → List Bool → ℕ → List SatLit
 kept_literals entries marked place = filter (λ literal. bit marked (variable_of literal)) (before entries place)
 
@@ -76,12 +91,12 @@ AreOnTrail entries marked = (variable : ℕ) → bit marked variable ≡ true �
 abbrev pub StayMarked : List Bool → List Bool → Type 0
 StayMarked old new = (variable : ℕ) → bit old variable ≡ true → bit new variable ≡ true
 
--- these are the marked ones of the first so many places
+-- these are the marked ones of the first n places
 pub record AreMarkedPlaces (marked : List Bool) (count : ℕ) (places : List ℕ) : Type 0 where
   pub below : All (λ place. place < count) places
   pub all : (place : ℕ) → place < count → bit marked place ≡ true → Contains places place
 
--- these are true: the marked ones of the first so many literals, and at most all of the first so many
+-- these are true: the marked ones of the first n literals, and at most all of the first n
 pub record IsBetween (entries : List Assigned) (marked : List Bool) (place : ℕ) (made : List SatLit) : Type 0 where
   pub needed : (k : ℕ)
       → k < place
@@ -106,7 +121,7 @@ abbrev pub IsAnalysis : List (List SatLit) → Trailing → List Bool → Analys
 IsAnalysis clauses trail marked analysis =
     IsAnalysed clauses trail marked analysis.below analysis.here analysis.steps.items
 
--- A marked literal of the first so many has this level, which is below the present one.
+-- A marked literal of the first n has this level, which is below the present one.
 pub record IsReached (trail : Trailing) (marked : List Bool) (place level : ℕ) : Type 0 where
   pub at : ℕ
   pub early : at < place
@@ -114,7 +129,7 @@ pub record IsReached (trail : Trailing) (marked : List Bool) (place level : ℕ)
   pub level_there : (entry_at trail.entries at).level ≡ level
   pub below : level < trail.level
 
--- The level to go back to: the greatest one below the present one among the marked literals of the first so many, or 0.
+-- The level to go back to: the greatest one below the present one among the marked literals of the first n, or 0.
 pub record IsBackLevel (trail : Trailing) (marked : List Bool) (place level : ℕ) : Type 0 where
   pub most : (k : ℕ)
       → k < place

@@ -1,8 +1,10 @@
-pub mod Propagations
 pub mod Analyses
 pub mod Solvers
 pub mod Searches
+pub mod Starts
 pub use Rattle.cnf_core.specs.Clauses
 pub use Rattle.cnf_core.specs.Derivations
 pub use Rattle.trail_core.specs.Trails
-pub use Rattle.query_core.specs.Ledgers
+pub use Rattle.cnf_core.specs.Charges
+pub use Rattle.watch_lists.specs.Propagations
+pub use Rattle.watch_lists.specs.Watched

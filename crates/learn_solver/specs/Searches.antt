@@ -5,11 +5,14 @@ use Rattle.cnf_core.specs.declared.log.LogLine.{LogLine}
 use Rattle.cnf_core.specs.Clauses.{literal_of}
 use Rattle.cnf_core.specs.declared.effect.Effect.TheVariants.{Neither}
 use Rattle.cnf_core.specs.Derivations.{clauses_of, effect_of, is_empty, is_true, line_fault}
-use Rattle.query_core.specs.Ledgers.{Ledgered, learned_in, with_line}
+use Rattle.cnf_core.specs.Charges.{Charging, IsCharged}
 use Rattle.trail_core.specs.Trails.{Trailing, entry_at, literals, value_in}
-use Rattle.learn_solver.specs.Propagations.{IsSound, before}
-use Rattle.learn_solver.specs.Analyses.{has_all}
-use Rattle.learn_solver.specs.Solvers.{IsAdded, Solving, active}
+use Rattle.watch_lists.specs.Propagations.{IsSound, before}
+use Rattle.learn_solver.specs.Analyses.{IsAsserting, has_all}
+use Rattle.learn_solver.specs.Solvers.{IsAdded, IsSolver, Solving, active}
+use Rattle.learn_solver.specs.declared.search.Search.{Search}
+use Rattle.learn_solver.specs.Starts.{AreTools}
+use Rattle.watch_lists.specs.Watched.{Fits, IsCovered, IsPresent, Watching}
 
 -- a variable is assigned
 abbrev pub IsAssigned : Trailing → ℕ → Type 0
@@ -35,6 +38,30 @@ no_line = record { clause = []; hints = [] }
 abbrev pub last_line : List LogLine → LogLine
 last_line lines = slice_index_or lines (length lines - 1) no_line
 
+-- A search is under way: the watches fit the trail, and each clause is attached or has a literal that is true at level 0.
+pub record IsRunning (solving : Solving) (trail : Trailing) (watching : Watching) (occurring : List ℕ) (marks : List Bool)
+    : Type 0 where
+  pub searching : IsSearching solving trail
+  pub solver : IsSolver solving.formula solving.ids solving.lines watching.clauses
+  pub fits : Fits watching trail
+  pub present : IsPresent trail
+  pub covered : (id : ℕ) → id < length watching.clauses → IsCovered watching trail.entries id
+  pub tools : AreTools solving occurring marks
+
+-- What a line can be learned from.
+pub record IsLearning (solving : Solving) (trail : Trailing) (watching : Watching) (occurring : List ℕ) (marks : List Bool)
+    : Type 0 where
+  pub searching : IsSearching solving trail
+  pub solver : IsSolver solving.formula solving.ids solving.lines watching.clauses
+  pub tools : AreTools solving occurring marks
+
+-- A search stays as it is.
+pub record IsSame (old new : Search) : Type 0 where
+  pub trail : new.trail ≡ old.trail
+  pub watches : new.watches ≡ old.watches
+  pub occurring : new.occurring.items ≡ old.occurring.items
+  pub marks : new.marks.items ≡ old.marks.items
+
 -- A derived line that has all the literals of no clause that is looked at, and the level to go back to with it.
 pub record IsLesson (solving : Solving) (trail : Trailing) (line : LogLine) (level : ℕ) : Type 0 where
   pub good : line_fault solving.formula (clauses_of solving.lines) line ≡ None
@@ -45,6 +72,8 @@ pub record IsLesson (solving : Solving) (trail : Trailing) (line : LogLine) (lev
       → (entry_at trail.entries k).reason ≡ None
       → (entry_at trail.entries k).level ≤ level
       → effect_of (before trail.entries k) line.clause ≡ Neither
+  pub asserting : IsAsserting trail line.clause level
+  pub closing : trail.level ≡ 0 → is_empty line.clause ≡ true
 
 -- the level to go back to, or none where the line is empty
 abbrev pub IsWayBack : Solving → Trailing → LogLine → Option ℕ → Type 0
@@ -52,27 +81,27 @@ IsWayBack solving trail line None = is_empty line.clause ≡ true
 IsWayBack solving trail line (Some level) = (is_empty line.clause ≡ false) × IsLesson solving trail line level
 
 -- A line was learned and charged.
-pub record IsLearnt (old new : Solving) (first after : Ledgered) (trail : Trailing) (back : Option ℕ) : Type 0 where
+pub record IsLearnt {Others : Type 0} (old new : Solving) (first after : Charging Others) (trail : Trailing) (back : Option ℕ) : Type 0 where
   pub line : LogLine
   pub learned_is : IsAdded old.formula old.ids old.lines line
   pub added : new ≡ record old { lines = old.lines ++ line ∷ [] }
-  pub charged : after ≡ record first { asked = with_line line first.asked }
-  pub within : learned_in first < first.budget
-  pub counted : learned_in after ≡ learned_in first + 1
+  pub charged : IsCharged first line after
   pub way : IsWayBack old trail line back
 
--- A trail has one literal more at least, and is sound.
-pub record IsDecided (solving : Solving) (old new : Trailing) : Type 0 where
-  pub searching : IsSearching solving new
+-- A trail has one literal more at least, and the search goes on.
+pub record IsDecided (solving : Solving) (old new : Trailing) (watching : Watching) (occurring : List ℕ) (marks : List Bool)
+    : Type 0 where
+  pub running : IsRunning solving new watching occurring marks
   pub longer : length old.entries < length new.entries
   pub most : length new.entries ≤ new.variables
 
 -- how much is left to do: each line that may be learned, and in between each variable that may be assigned
-abbrev pub remaining : Ledgered → Trailing → ℕ
-remaining ledger trail =
-    (trail.variables + 1) * (ledger.budget + 1 - learned_in ledger) + (trail.variables - length trail.entries)
+abbrev pub remaining : {Others : Type 0} → Charging Others → Trailing → ℕ
+remaining {Others} charging trail =
+    (trail.variables + 1) * (charging.budget + 1 - charging.made) + (trail.variables - length trail.entries)
 
 -- The search goes on, with less to do.
-pub record IsAdvanced (solving : Solving) (first after : Ledgered) (old new : Trailing) : Type 0 where
-  pub searching : IsSearching solving new
+pub record IsAdvanced {Others : Type 0} (solving : Solving) (first after : Charging Others) (old new : Trailing)
+    (watching : Watching) (occurring : List ℕ) (marks : List Bool) : Type 0 where
+  pub running : IsRunning solving new watching occurring marks
   pub less : remaining after new < remaining first old

@@ -1,15 +1,15 @@
 -- What a solver is, and what its answers say.
-use Rattle.std.specs.Prelude.{◌≡◌, ℕ, ◌+◌, ◌-◌, ◌<◌, ◌≤◌, Bool, true, false, List, ◌++◌, length, map, take, replicate, All, Contains, None, nat_lt, slice_index_or, if◌then◌else◌}
+use Rattle.std.specs.Prelude.{◌≡◌, ℕ, ◌+◌, ◌-◌, ◌<◌, ◌≤◌, Bool, true, false, List, ◌++◌, length, map, take, All, Contains, None, nat_lt, slice_index_or, if◌then◌else◌}
 use Rattle.cnf_core.specs.declared.literal.SatLit.{SatLit}
 use Rattle.cnf_core.specs.declared.log.LogLine.{LogLine}
 use Rattle.cnf_core.specs.declared.stop.Stop.{Stop}
 use Rattle.cnf_core.specs.declared.stop.Stop.TheVariants.{Spent, Memory}
 use Rattle.cnf_core.specs.Clauses.{Formula, Meets, clause_at, variable_of}
 use Rattle.cnf_core.specs.Derivations.{AreDerived, IsRefutation, clauses_of, is_empty, line_fault}
-use Rattle.query_core.specs.Ledgers.{Ledgered, last_asked, learned_in, with_lines}
+use Rattle.cnf_core.specs.Charges.{Charging}
 use Rattle.learn_solver.specs.declared.verdict.Verdict.{Verdict}
 use Rattle.learn_solver.specs.declared.verdict.Verdict.TheVariants.{Model, Refuted}
-use Rattle.learn_solver.specs.Propagations.{AreKnown}
+use Rattle.watch_lists.specs.Propagations.{AreKnown}
 use Rattle.learn_solver.specs.Analyses.{has_all}
 
 -- The formula, the numbers of the clauses that are looked at, and the lines: lemmas, then learned ones.
@@ -31,7 +31,7 @@ abbrev pub id_at : Formula → List ℕ → ℕ → ℕ
 id_at formula ids k =
     if nat_lt k (length ids) then slice_index_or ids k 0 else length formula.clauses + (k - length ids)
 
--- What each solver keeps.
+-- These are the clauses that are looked at.
 pub record IsSolver (formula : Formula) (ids : List ℕ) (lines : List LogLine) (clauses : List (List SatLit))
     : Type 0 where
   pub stored : clauses ≡ active formula ids lines
@@ -45,26 +45,24 @@ pub record HaveVariables (variables : ℕ) (clauses : List (List SatLit)) (occur
   pub known : All (λ v. v < variables) occurring
   pub all : All (λ clause. All (λ literal. Contains occurring (variable_of literal)) clause) clauses
 
--- What each solver keeps, with the variables that it decides, and a mark for each variable, none of which is set.
-pub record IsDeciding (formula : Formula) (ids : List ℕ) (lines : List LogLine) (clauses : List (List SatLit))
-    (occurring : List ℕ) (marks : List Bool) : Type 0 where
-  pub solver : IsSolver formula ids lines clauses
-  pub variables : HaveVariables formula.variables (wanted formula ids) occurring
-  pub unmarked : marks ≡ replicate formula.variables false
+-- What each solver keeps of what it was given, and of what it derived.
+pub record IsGiven (formula : Formula) (ids : List ℕ) (lines : List LogLine) : Type 0 where
+  pub there : All (λ id. id < length formula.clauses) ids
+  pub derived : AreDerived formula lines
 
--- The ledger's last entry has these lines, and none of the ledger's lines is refused.
-pub record IsAsking (ledger : Ledgered) (lines : List LogLine) : Type 0 where
-  pub asked : 0 < length ledger.asked
-  pub lines_are : (last_asked ledger.asked).lines ≡ lines
-  pub not_spent : ledger.spent ≡ false
+-- An entry is open for charges and has these lines, none of which is refused.
+pub record IsAsking {Others : Type 0} (charging : Charging Others) (lines : List LogLine) : Type 0 where
+  pub opened : charging.opened ≡ true
+  pub lines_are : charging.lines ≡ lines
+  pub not_spent : charging.spent ≡ false
 
 -- A line that may be added: it is derived, and has all the literals of no clause that is looked at.
 pub record IsAdded (formula : Formula) (ids : List ℕ) (lines : List LogLine) (line : LogLine) : Type 0 where
   pub derived : line_fault formula (clauses_of lines) line ≡ None
   pub fresh : All (λ clause. has_all line.clause clause ≡ false) (active formula ids lines)
 
--- Lines were added at the end, to the ledger's last entry too.
-pub record IsExtended (old new : Solving) (before after : Ledgered) : Type 0 where
+-- Lines were added at the end, and to the open entry too.
+pub record IsExtended {Others : Type 0} (old new : Solving) (before after : Charging Others) : Type 0 where
   pub formula : new.formula ≡ old.formula
   pub ids : new.ids ≡ old.ids
   pub longer : length old.lines ≤ length new.lines
@@ -74,7 +72,10 @@ pub record IsExtended (old new : Solving) (before after : Ledgered) : Type 0 whe
       → k < length new.lines
       → IsAdded old.formula old.ids (take k new.lines) (slice_index_or new.lines k d)
   pub budget : after.budget ≡ before.budget
-  pub asked : after.asked ≡ with_lines new.lines before.asked
+  pub opened : after.opened ≡ before.opened
+  pub others : after.others ≡ before.others
+  pub lines_are : after.lines ≡ new.lines
+  pub counted : after.made + length old.lines ≡ before.made + length new.lines
 
 -- A value for each variable that meets the wanted clauses.
 pub record IsModel (solving : Solving) (values : List Bool) : Type 0 where
@@ -92,16 +93,16 @@ IsVerdict solving (Model values) = IsModel solving values
 IsVerdict solving (Refuted log) = IsRefuted solving log.lines
 
 -- The budget is spent, and the last line is the refused one.
-pub record IsSpentAt (old new : Solving) (before after : Ledgered) (learned : ℕ) : Type 0 where
+pub record IsSpentAt {Others : Type 0} (old new : Solving) (before after : Charging Others) (learned : ℕ) : Type 0 where
   pub extended : IsExtended old new before after
   pub learned_is : learned ≡ before.budget
   pub spent : after.spent ≡ true
-  pub used : learned_in after ≡ before.budget
+  pub used : after.made ≡ before.budget + 1
 
--- a search ends without an answer: the budget is spent, or memory is wanting
-abbrev pub IsStopped : Solving → Solving → Ledgered → Ledgered → Stop → Type 0
-IsStopped old new before after (Spent learned) = IsSpentAt old new before after learned
-IsStopped old new before after Memory = Unit {0}
+-- a search ends without an answer: the budget is spent, or memory ran out
+abbrev pub IsStopped : {Others : Type 0} → Solving → Solving → Charging Others → Charging Others → Stop → Type 0
+IsStopped {Others} old new before after (Spent learned) = IsSpentAt old new before after learned
+IsStopped {Others} old new before after Memory = Unit {0}
 
 -- These clauses are those of the numbers. Their variables are known, and none is empty.
 pub record ArePut (formula : Formula) (ids : List ℕ) (clauses : List (List SatLit)) : Type 0 where

@@ -4,7 +4,7 @@ ghost use Rattle.std.specs.Prelude.{◌≡◌, ◌+◌, ◌<◌, ◌≤◌, ◌=
 ghost use Rattle.cnf_core.specs.Clauses.{opposite};
 ghost use Rattle.cnf_core.specs.Derivations.{is_empty};
 ghost use Rattle.trail_core.specs.Trails.{IsPlace, IsTrail, entry_at, literals};
-ghost use Rattle.learn_solver.specs.Propagations.{AreKnown, IsConflict, IsSound};
+ghost use Rattle.watch_lists.specs.Propagations.{AreKnown, IsConflict, IsSound};
 ghost use Rattle.learn_solver.specs.Analyses.{AreBefore, AreMarked, AreOnTrail, HasPlace, IsAnalysis, IsBackLevel, IsLearned, StayMarked, here_in, kept_literals, kept_here};
 
 use cnf_core::{ClauseStore, SatLit};
@@ -35,7 +35,7 @@ struct Analysis {
 /// Learns from a clause all of whose literals are false. The clause is resolved with reasons, from the last literal of the
 /// trail down, up to the first literal of the level through which all of the conflict goes (the first unique implication
 /// point; Marques-Silva and Sakallah, GRASP, 1999). At level 0 everything is resolved. There is a mark for each
-/// variable; none of them is set before and behind. The work grows with the trail and the clauses, not with the
+/// variable; none of them is set before and after. The work grows with the trail and the clauses, not with the
 /// variables.
 pub(crate) fn analyse(
     alloc: Global,
@@ -180,7 +180,7 @@ impl Analysis {
     }
 }
 
-/// No variable of so many is marked.
+/// No variable of n is marked.
 pub(crate) fn no_marks(alloc: Global, count: usize) -> Result<Vec<bool>, AllocError>
     ensures { IfOk result (λ marked. marked.items ≡ replicate count false) }
 {

@@ -5,7 +5,7 @@
 
 mod conflict;
 mod decision;
-mod propagation;
+mod search;
 mod solver;
 mod verdict;
 

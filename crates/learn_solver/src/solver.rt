@@ -5,22 +5,20 @@ ghost use Rattle.std.specs.List.{list_any};
 ghost use Rattle.cnf_core.specs.Clauses.{clause_at};
 ghost use Rattle.cnf_core.specs.Derivations.{AreDerived, clauses_of, is_empty, line_fault};
 ghost use Rattle.trail_core.specs.Trails.{literals};
-ghost use Rattle.learn_solver.specs.Propagations.{IsConflict, IsQuiet, IsSound};
+ghost use Rattle.watch_lists.specs.Propagations.{IsConflict, IsQuiet};
 ghost use Rattle.learn_solver.specs.Analyses.{has_all};
-ghost use Rattle.query_core.specs.Ledgers.{IsRefused, learned_in, with_line};
-ghost use Rattle.learn_solver.specs.Searches.{IsAdvanced, IsDecided, IsLearnt, IsLesson, IsSearching, last_line};
+ghost use Rattle.cnf_core.specs.Charges.{IsCharged, IsRefused};
+ghost use Rattle.learn_solver.specs.Searches.{IsAdvanced, IsDecided, IsLearning, IsLearnt, IsLesson, IsRunning, IsSame, last_line};
 ghost use Rattle.learn_solver.specs.Solvers.{IsAsking, IsExtended, IsModel, IsRefuted, IsStopped, IsVerdict, ArePut, active, id_at, wanted};
 
-use crate::conflict::{Learned, analyse, no_marks};
-use crate::decision::{next_decision, values, variables_of};
-use crate::propagation::propagate;
+use crate::conflict::{Learned, analyse};
+use crate::decision::{next_decision, values};
+use crate::search::{Search, begun};
 use crate::verdict::Verdict;
-use cnf_core::{Base, ClauseStore, Log, LogLine, Stop};
+use cnf_core::{Base, Charge, Log, LogLine, Stop};
 use items::Items;
-use query_core::Ledger;
 use std::alloc::{AllocError, Global};
 use std::marker::Model;
-use trail_core::Trail;
 
 /// A formula, some of its clauses, and lines that were derived from it: lemmas, then learned ones. The solver looks for a
 /// model of these clauses, and keeps the reference to the formula.
@@ -29,23 +27,16 @@ pub struct Solver<'a, B: Base> {
     base: &'a B,
     ids: Vec<u64>,
     lines: Vec<LogLine>,
-    /// The clauses that are looked at: those of the numbers, then those of the lines.
-    clauses: ClauseStore,
-    /// The variables of the clauses of the numbers. No others are decided.
-    occurring: Vec<u64>,
-    /// A mark for each variable, for the analysis of a conflict. Between two of them none is set.
-    marks: Vec<bool>,
 }
 
 impl<'a, B: Base> Model for Solver<'a, B> {
-    ghost use Rattle.learn_solver.specs.Solvers.{Solving, IsDeciding};
+    ghost use Rattle.learn_solver.specs.Solvers.{Solving, IsGiven};
 
     ghost Value = { Solving };
 
     ghost view = { λ a. record { formula = B.formula a.base.now; ids = a.ids.items; lines = a.lines.items } };
 
-    ghost invariant = { λ a. IsDeciding (B.formula a.base.now) a.ids.items a.lines.items a.clauses.clauses
-        a.occurring.items a.marks.items };
+    ghost invariant = { λ a. IsGiven (B.formula a.base.now) a.ids.items a.lines.items };
 }
 
 impl<'a, B: Base> Solver<'a, B> {
@@ -62,21 +53,9 @@ impl<'a, B: Base> Solver<'a, B> {
         requires filled { list_any is_empty (clauses_of lemmas.now) ≡ false }
         ensures { IfOk result (λ solver. solver ≡ record { formula = B.formula base.now; ids = ids.now; lines = lemmas.now }) }
     {
-        let mut clauses = ClauseStore::new(alloc);
-        put_wanted(base, ids, &mut clauses)?;
-        let occurring = variables_of(alloc, &clauses, base.variables())?;
-        let marks = no_marks(alloc, base.variables() as usize)?;
-        put_lines(lemmas, &mut clauses)?;
         let ids = Vec::from_slice(alloc, ids)?;
         let lines = copied(alloc, lemmas)?;
-        Ok(Solver {
-            base,
-            ids,
-            lines,
-            clauses,
-            occurring,
-            marks,
-        })
+        Ok(Solver { base, ids, lines })
     }
 
     // The number that a clause that is looked at has in the formula and its log.
@@ -104,39 +83,55 @@ impl<'a, B: Base> Solver<'a, B> {
     }
 
     // Derives a line from a conflict.
-    fn derive(&mut self, alloc: Global, trail: &Trail, conflict: u64) -> Result<Lesson, AllocError>
-        requires searching { IsSearching self.old trail.now }
-        requires conflict { IsConflict (active self.old.formula self.old.ids self.old.lines)
-            (literals trail.now.entries) conflict }
-        ensures same { self.new ≡ self.old }
-        ensures lesson { IfOk result (λ lesson. IsLesson self.old trail.now lesson.line lesson.level) }
+    fn derive(
+        &self,
+        alloc: Global,
+        search: &mut Search,
+        conflict: u64,
+    ) -> Result<Lesson, AllocError>
+        requires learning { IsLearning self.now search.old.trail search.old.watches search.old.occurring.items
+            search.old.marks.items }
+        requires conflict { IsConflict (active self.now.formula self.now.ids self.now.lines)
+            (literals search.old.trail.entries) conflict }
+        ensures lesson { IfOk result (λ lesson. IsLesson self.now search.old.trail lesson.line lesson.level) }
+        ensures same { IsSame search.old search.new }
     {
         let Learned {
             clause,
             steps,
             level,
-        } = analyse(alloc, &self.clauses, trail, &mut self.marks, conflict)?;
+        } = analyse(
+            alloc,
+            search.watches.store(),
+            &search.trail,
+            &mut search.marks,
+            conflict,
+        )?;
         let hints = self.hints(alloc, &steps)?;
         let line = LogLine { clause, hints };
         Ok(Lesson { line, level })
     }
 
     // Learns a line from a conflict. It answers the level to go back to, or None where the line is empty.
-    fn learn(
+    fn learn<L: Charge>(
         &mut self,
         alloc: Global,
-        trail: &Trail,
+        search: &mut Search,
         conflict: u64,
-        ledger: &mut Ledger,
+        ledger: &mut L,
     ) -> Result<Option<u64>, Stop>
-        requires searching { IsSearching self.old trail.now }
-        requires asking { IsAsking ledger.old self.old.lines }
+        requires learning { IsLearning self.old search.old.trail search.old.watches search.old.occurring.items
+            search.old.marks.items }
+        requires asking { IsAsking (L.charging ledger.old) self.old.lines }
         requires conflict { IsConflict (active self.old.formula self.old.ids self.old.lines)
-            (literals trail.now.entries) conflict }
-        ensures learnt { IfOk result (IsLearnt self.old self.new ledger.old ledger.new trail.now) }
-        ensures stop { IfErr result (IsStopped self.old self.new ledger.old ledger.new) }
+            (literals search.old.trail.entries) conflict }
+        ensures learnt { IfOk result
+            (IsLearnt self.old self.new (L.charging ledger.old) (L.charging ledger.new) search.old.trail) }
+        ensures same { IfOk result (λ _. IsSame search.old search.new) }
+        ensures stop { IfErr result
+            (IsStopped self.old self.new (L.charging ledger.old) (L.charging ledger.new)) }
     {
-        let Lesson { line, level } = self.derive(alloc, trail, conflict)?;
+        let Lesson { line, level } = self.derive(alloc, search, conflict)?;
         let closing = line.clause.is_empty();
         self.add(line)?;
         self.charge_last(ledger)?;
@@ -147,19 +142,22 @@ impl<'a, B: Base> Solver<'a, B> {
     }
 
     // Decides the next variable that occurs, or answers a model where all of them are assigned.
-    fn decide(&self, alloc: Global, trail: &mut Trail) -> Result<Option<Verdict>, AllocError>
-        requires searching { IsSearching self.now trail.old }
+    fn decide(&self, alloc: Global, search: &mut Search) -> Result<Option<Verdict>, AllocError>
+        requires running { IsRunning self.now search.old.trail search.old.watches search.old.occurring.items
+            search.old.marks.items }
         requires quiet { IsQuiet (active self.now.formula self.now.ids self.now.lines)
-            (literals trail.old.entries) }
+            (literals search.old.trail.entries) }
+        requires walked { search.old.trail.walked ≡ length search.old.trail.entries }
         ensures { IfOk result (λ answer. MatchOption answer
-            (IsDecided self.now trail.old trail.new) (IsVerdict self.now)) }
+            (IsDecided self.now search.old.trail search.new.trail search.new.watches search.new.occurring.items
+            search.new.marks.items) (IsVerdict self.now)) }
     {
-        let Some(literal) = next_decision(trail, &self.occurring) else {
+        let Some(literal) = next_decision(&search.trail, &search.occurring) else {
             let variables = self.base.variables();
-            let values = values(alloc, trail, variables)?;
+            let values = values(alloc, &search.trail, variables)?;
             return Ok(Some(Verdict::Model(values)));
         };
-        trail.decide(literal);
+        search.trail.decide(literal);
         Ok(None)
     }
 
@@ -174,42 +172,73 @@ impl<'a, B: Base> Solver<'a, B> {
     }
 
     // One step of the search: propagation, then a decision or a learned line.
-    fn advance(
+    fn advance<L: Charge>(
         &mut self,
         alloc: Global,
-        trail: &mut Trail,
-        ledger: &mut Ledger,
+        search: &mut Search,
+        ledger: &mut L,
     ) -> Result<Option<Verdict>, Stop>
-        requires searching { IsSearching self.old trail.old }
-        requires asking { IsAsking ledger.old self.old.lines }
-        ensures extended { IfOk result (λ _. IsExtended self.old self.new ledger.old ledger.new) }
-        ensures asking { IfOk result (λ _. IsAsking ledger.new self.new.lines) }
+        requires running { IsRunning self.old search.old.trail search.old.watches search.old.occurring.items
+            search.old.marks.items }
+        requires asking { IsAsking (L.charging ledger.old) self.old.lines }
+        ensures extended { IfOk result
+            (λ _. IsExtended self.old self.new (L.charging ledger.old) (L.charging ledger.new)) }
+        ensures asking { IfOk result (λ _. IsAsking (L.charging ledger.new) self.new.lines) }
         ensures answer { IfOk result (λ answer. MatchOption answer
-            (IsAdvanced self.new ledger.old ledger.new trail.old trail.new) (IsVerdict self.new)) }
-        ensures stop { IfErr result (IsStopped self.old self.new ledger.old ledger.new) }
+            (IsAdvanced self.new (L.charging ledger.old) (L.charging ledger.new) search.old.trail search.new.trail
+            search.new.watches search.new.occurring.items search.new.marks.items) (IsVerdict self.new)) }
+        ensures stop { IfErr result
+            (IsStopped self.old self.new (L.charging ledger.old) (L.charging ledger.new)) }
     {
-        let Some(conflict) = propagate(&self.clauses, trail) else {
-            let answer = self.decide(alloc, trail)?;
+        let Some(conflict) = search.propagate() else {
+            let answer = self.decide(alloc, search)?;
             return Ok(answer);
         };
-        let Some(level) = self.learn(alloc, trail, conflict, ledger)? else {
+        let Some(level) = self.learn(alloc, search, conflict, ledger)? else {
             let verdict = self.refute(alloc)?;
             return Ok(Some(verdict));
         };
-        trail.back_to(level);
+        search.go_back(&self.lines[self.lines.len() - 1].clause, level)?;
         Ok(None)
     }
 
+    // Learns from a conflict at level 0: its line is empty.
+    fn close<L: Charge>(
+        &mut self,
+        alloc: Global,
+        search: &mut Search,
+        conflict: u64,
+        ledger: &mut L,
+    ) -> Result<Verdict, Stop>
+        requires learning { IsLearning self.old search.old.trail search.old.watches search.old.occurring.items
+            search.old.marks.items }
+        requires lowest { search.old.trail.level ≡ 0 }
+        requires asking { IsAsking (L.charging ledger.old) self.old.lines }
+        requires conflict { IsConflict (active self.old.formula self.old.ids self.old.lines)
+            (literals search.old.trail.entries) conflict }
+        ensures verdict { IfOk result (IsVerdict self.new) }
+        ensures extended { IfOk result
+            (λ _. IsExtended self.old self.new (L.charging ledger.old) (L.charging ledger.new)) }
+        ensures asking { IfOk result (λ _. IsAsking (L.charging ledger.new) self.new.lines) }
+        ensures stop { IfErr result
+            (IsStopped self.old self.new (L.charging ledger.old) (L.charging ledger.new)) }
+    {
+        let None = self.learn(alloc, search, conflict, ledger)? else {
+            unreachable!()
+        };
+        let verdict = self.refute(alloc)?;
+        Ok(verdict)
+    }
+
     // Charges the last line.
-    fn charge_last(&self, ledger: &mut Ledger) -> Result<(), Stop>
+    fn charge_last<L: Charge>(&self, ledger: &mut L) -> Result<(), Stop>
         requires some { 0 < length self.now.lines }
-        requires asked { 0 < length ledger.old.asked }
-        requires not_spent { ledger.old.spent ≡ false }
-        ensures within { OnOk result (learned_in ledger.old < ledger.old.budget) }
-        ensures counted { OnOk result (learned_in ledger.new ≡ learned_in ledger.old + 1) }
-        ensures charged { OnOk result (ledger.new
-            ≡ record ledger.old { asked = with_line (last_line self.now.lines) ledger.old.asked }) }
-        ensures refused { IfErr result (IsRefused ledger.old (last_line self.now.lines) ledger.new) }
+        requires opened { (L.charging ledger.old).opened ≡ true }
+        requires not_spent { (L.charging ledger.old).spent ≡ false }
+        ensures charged { OnOk result
+            (IsCharged (L.charging ledger.old) (last_line self.now.lines) (L.charging ledger.new)) }
+        ensures refused { IfErr result
+            (IsRefused (L.charging ledger.old) (last_line self.now.lines) (L.charging ledger.new)) }
     {
         ledger.charge(&self.lines[self.lines.len() - 1])
     }
@@ -221,30 +250,32 @@ impl<'a, B: Base> Solver<'a, B> {
         ensures refused { OnErr result (self.new ≡ self.old) }
     {
         self.lines.reserve(1)?;
-        self.clauses.put(&line.clause)?;
         self.lines.push_reserved(line);
         Ok(())
     }
 }
 
-/// Looks for a model of the solver's clauses. The lines of the ledger's last entry are the solver's lemmas, and each learned
+/// Looks for a model of the solver's clauses. The lines of the ledger's open entry are the solver's lemmas, and each learned
 /// line is charged to it, the closing empty one too. Spent comes at a conflict that is met with the budget spent: its line
-/// is the solver's last one, and the ledger's refused one. Want of memory may leave both anyhow.
-pub fn solve<B: Base>(
+/// is the solver's last one, and the ledger's refused one. Running out of memory may leave both anyhow.
+pub fn solve<B: Base, L: Charge>(
     alloc: Global,
     solver: &mut Solver<'_, B>,
-    ledger: &mut Ledger,
+    ledger: &mut L,
 ) -> Result<Verdict, Stop>
     requires unrefuted { list_any is_empty (clauses_of solver.old.lines) ≡ false }
-    requires asking { IsAsking ledger.old solver.old.lines }
+    requires asking { IsAsking (L.charging ledger.old) solver.old.lines }
     ensures verdict { IfOk result (IsVerdict solver.new) }
-    ensures lines { IfOk result (λ _. IsExtended solver.old solver.new ledger.old ledger.new) }
-    ensures not_spent { IfOk result (λ _. IsAsking ledger.new solver.new.lines) }
-    ensures stop { IfErr result (IsStopped solver.old solver.new ledger.old ledger.new) }
+    ensures lines { IfOk result (λ _. IsExtended solver.old solver.new (L.charging ledger.old) (L.charging ledger.new)) }
+    ensures not_spent { IfOk result (λ _. IsAsking (L.charging ledger.new) solver.new.lines) }
+    ensures stop { IfErr result (IsStopped solver.old solver.new (L.charging ledger.old) (L.charging ledger.new)) }
 {
-    let mut trail = Trail::with_variables(alloc, solver.base.variables())?;
+    let mut search = begun(alloc, solver.base, &solver.ids, &solver.lines)?;
+    if let Some(conflict) = search.start() {
+        return solver.close(alloc, &mut search, conflict, ledger);
+    }
     loop {
-        if let Some(verdict) = solver.advance(alloc, &mut trail, ledger)? {
+        if let Some(verdict) = solver.advance(alloc, &mut search, ledger)? {
             return Ok(verdict);
         }
     }
@@ -255,29 +286,6 @@ pub fn solve<B: Base>(
 struct Lesson {
     line: LogLine,
     level: u64,
-}
-
-// Puts the clauses of these numbers into an empty store.
-fn put_wanted<B: Base>(base: &B, ids: &[u64], clauses: &mut ClauseStore) -> Result<(), AllocError>
-    requires ids { All (λ id. id < length (B.formula base.now).clauses) ids.now }
-    requires empty { clauses.old.clauses ≡ [] }
-    ensures { OnOk result (ArePut (B.formula base.now) ids.now clauses.new.clauses) }
-{
-    for id in ids.iter() {
-        let clause = base.clause(*id);
-        let _ = clauses.put(clause.literals())?;
-    }
-    Ok(())
-}
-
-// Puts the clauses of lines into a store.
-fn put_lines(lines: &[LogLine], clauses: &mut ClauseStore) -> Result<(), AllocError>
-    ensures { OnOk result (clauses.new.clauses ≡ clauses.old.clauses ++ clauses_of lines.now) }
-{
-    for line in lines.iter() {
-        let _ = clauses.put(&line.clause)?;
-    }
-    Ok(())
 }
 
 // Equal lines.

@@ -11,7 +11,7 @@ use Rattle.match_search.specs.declared.level.Level.{Level}
 use Rattle.match_search.specs.Levels.{nth_way, AreClosed, ClosesImpossible, IsOpen}
 use Rattle.match_search.proofs.ClosedLemmas.{closed_by_clash, closed_more}
 
--- So many ways are closed at a level, those before among them.
+-- That many ways are closed at a level, those before among them.
 pub record IsClosing (held : List Pair) (before after : Level) (number : ℕ) : Type 0 where
   pub side_is : after.side ≡ before.side
   pub kind_is : after.kind ≡ before.kind

@@ -3,21 +3,23 @@ use Rattle.std.proofs.Common.{◌≡◌, ◌⊎◌, ℕ, ◌+◌, ◌*◌, ◌<�
 use Rattle.std.proofs.lemmas.Bool.{cases_lt}
 use Rattle.std.proofs.lemmas.List.{get_or_append_left, get_or-append-add, length-append}
 use Rattle.cnf_core.specs.declared.log.Log.{Log}
-use Rattle.net_core.specs.declared.graphs.Graphs.{Graphs}
+use Rattle.net_core.specs.Sides.{Graphs}
 use Rattle.net_core.specs.declared.matching.Matching.{Matching}
 use Rattle.query_core.specs.Ledgers.{Ledgered}
-use Rattle.account_core.specs.Oracles.{AreFacts, AreSame, Known, Suits}
+use Rattle.account_core.specs.Facts.{AreFacts}
+use Rattle.account_core.specs.Shown.{AreSame, AreLogs, AreLogsOf, IsShownMatch}
+use Rattle.oracle_core.specs.Oracles.{Known, Suits}
 use Rattle.circuits.specs.Matches.{HavePorts}
 use Rattle.net_core.specs.Graph.{IsGraph}
 use Rattle.query_core.specs.Formulas.{IsRefuted}
 use Rattle.query_core.specs.MatchQueries.{match_query}
 use Rattle.query_core.proofs.MatchLemmas.{match_query_fits}
 use Rattle.query_core.proofs.RefutedLemmas.{match_of_refuted}
-use Rattle.match_search.specs.Founds.{AddsLogs, AreLogs, AreLogsOf, IsShownMatch}
+use Rattle.match_search.specs.Founds.{AddsLogs}
 use Rattle.match_search.specs.States.{HasServed}
 use Rattle.match_search.proofs.ServeLemmas.{served_same}
 
--- So many outputs were compared, and agree with their partners.
+-- That many outputs were compared, and agree with their partners.
 pub record IsComparing (graphs : Graphs) (matching : Matching) (old now : Known) (before after : Ledgered) (count : ℕ) (logs : List Log) : Type 0 where
   pub served : HasServed old now before after
   pub shown : AreLogsOf graphs matching count logs

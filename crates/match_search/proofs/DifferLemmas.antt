@@ -14,7 +14,7 @@ use Rattle.circuits.specs.Netlists.{function_of}
 use Rattle.circuits.specs.Bijections.{IsSignedBijection, moved, place_of, sign_of}
 use Rattle.circuits.specs.Matches.{HavePorts}
 use Rattle.circuits.proofs.Places.{moved-moves, length-moved, IsSignedBijection-onto}
-use Rattle.net_core.specs.declared.graphs.Graphs.{Graphs}
+use Rattle.net_core.specs.Sides.{Graphs}
 use Rattle.net_core.specs.declared.graphs.Side.TheVariants.{First}
 use Rattle.net_core.specs.declared.matching.Matching.{Matching}
 use Rattle.net_core.specs.Graph.{IsGraph}
@@ -23,7 +23,7 @@ use Rattle.word_sim.specs.declared.tri.Tri.{Tri}
 use Rattle.word_sim.specs.declared.tri.Tri.TheVariants.{X}
 use Rattle.word_sim.specs.ThreeValues.{tri_outputs}
 use Rattle.account_core.specs.Ports.{IsKnown, AreOrdered, StandInOrder}
-use Rattle.account_core.specs.Oracles.{IsDifference}
+use Rattle.oracle_core.specs.Oracles.{IsDifference}
 use Rattle.account_core.specs.Vectors.{first_value, second_value, signed, value_at, AreSent}
 use Rattle.account_core.specs.declared.step.Step.TheVariants as step
 use Rattle.account_core.specs.Given.{Given}

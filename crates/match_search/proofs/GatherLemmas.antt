@@ -26,7 +26,7 @@ gather_more held before now later way pairs i d below is part stays here = recor
   among = All-more (Contains (way ∷ later)) pairs i d below (All-weaker (Contains (way ∷ now)) (Contains (way ∷ later)) (λ x. cons_more way now later x stays) (take i pairs) is.among) here;
 }
 
--- The pairs gathered so far close so many ways.
+-- The pairs gathered so far close n ways.
 pub record AreNeeded (bans : List Ban) (held : List Pair) (level : Level) (needed : List Pair) (number : ℕ) : Type 0 where
   pub part : IsPart held needed
   pub closed : (k : ℕ) (d : Option ℕ) → k < number → IsClosed bans needed (nth_way level.side level.kind level.port k) (get_or level.refs k d)

@@ -1,25 +1,20 @@
 -- The search under way.
 use Rattle.std.proofs.Common.{◌≡◌, List, [], refl, sym, subst, arith}
-use Rattle.net_core.specs.declared.graphs.Graphs.{Graphs}
+use Rattle.net_core.specs.Sides.{Graphs}
 use Rattle.query_core.specs.Ledgers.{Ledgered}
 use Rattle.account_core.specs.declared.step.Ban.{Ban}
-use Rattle.account_core.specs.Oracles.{AreFacts, Known, Suits}
+use Rattle.account_core.specs.Facts.{AreFacts}
+use Rattle.oracle_core.specs.Oracles.{Known, Suits}
 use Rattle.match_search.specs.declared.state.State.{State}
 use Rattle.table_guess.specs.declared.trials.Trials.{Trials}
 use Rattle.table_guess.specs.Trials.{AreTrials}
 use Rattle.match_search.specs.States.{AreValid, HasServed, IsSearchState}
 use Rattle.match_search.proofs.ServeLemmas.{served_same}
 
--- Guesses were compared, and none is a match.
-pub record AreGuessed (graphs : Graphs) (old now : Known) (before after : Ledgered) (vectors : Trials) : Type 0 where
-  pub served : HasServed old now before after
-  pub trials : AreTrials graphs.first vectors
-
-pub guessing_start : (graphs : Graphs) (known : Known) (ledger : Ledgered) (trials : Trials) → graphs ≡ known.graphs → AreFacts graphs known.facts → Suits known ledger → AreTrials graphs.first trials → AreGuessed graphs known known ledger ledger trials
-guessing_start graphs known ledger trials are lawful suits vectors = record {
-  served = served_same known ledger (subst (λ (g : Graphs). AreFacts g known.facts) are lawful) suits;
-  trials = vectors;
-}
+-- nothing was compared yet
+pub guessing_start : (graphs : Graphs) (known : Known) (ledger : Ledgered) → graphs ≡ known.graphs → AreFacts graphs known.facts → Suits known ledger → HasServed known known ledger ledger
+guessing_start graphs known ledger are lawful suits =
+    served_same known ledger (subst (λ (g : Graphs). AreFacts g known.facts) are lawful) suits
 
 -- Nothing was found yet.
 pub record IsSearching (graphs : Graphs) (old now : Known) (before after : Ledgered) (book : List Ban) (state : State) (vectors : Trials) : Type 0 where

@@ -1,12 +1,13 @@
 -- Calls of an oracle, one after the other.
-use Rattle.std.proofs.Common.{◌≡◌, List, map, take, get_or, [], ◌++◌, Result, Ok, Err, refl, sym, ap, subst, ◌∙◌, inl, inr, append_assoc, append-nil}
+use Rattle.std.proofs.Common.{◌≡◌, List, map, take, get_or, [], ◌++◌, Result, Ok, Err, refl, sym, ap, subst, ◌∙◌, inl, inr, append_assoc, append-nil, ℕ, ◌+◌}
 use Rattle.std.proofs.lemmas.List.{map-append}
 use Rattle.cnf_core.specs.declared.stop.Stop.{Stop}
 use Rattle.cnf_core.specs.declared.stop.Stop.TheVariants.{Spent, Memory}
-use Rattle.net_core.specs.declared.graphs.Graphs.{Graphs}
+use Rattle.net_core.specs.Sides.{Graphs}
 use Rattle.query_core.specs.Ledgers.{Ledgered}
-use Rattle.account_core.specs.Work.{IsCharged, IsWorkOfClaimsAndMatches}
-use Rattle.account_core.specs.Oracles.{AreFacts, Grows, IsAnswered, IsStopped, Keeps, Known, Serves, Suits, entry_at}
+use Rattle.oracle_core.specs.Work.{IsCharged, IsWorkOfClaimsAndMatches}
+use Rattle.account_core.specs.Facts.{AreFacts}
+use Rattle.oracle_core.specs.Oracles.{Grows, IsAnswered, IsStopped, Keeps, Known, Serves, Suits, entry_at}
 use Rattle.circuits.specs.declared.port.Pair.{Pair}
 use Rattle.account_core.specs.declared.step.Ban.{Ban}
 use Rattle.account_core.specs.Given.{Decided, decided_by, given_of, pairs_of}
@@ -62,6 +63,7 @@ stopped_then old mid a b c Memory grows keeps is = tt
 stopped_then old mid a b c (Spent learned) grows keeps is = record {
   learned_is = is.learned_is ∙ keeps.budget;
   used = is.used ∙ keeps.budget;
+  made = is.made ∙ ap (λ (n : ℕ). n + 1) keeps.budget;
   refused = is.refused;
   work = subst (λ graphs. IsWorkOfClaimsAndMatches graphs c) grows.graphs is.work;
   keeps = keeps_then old mid a b c grows keeps is.keeps;
@@ -86,6 +88,18 @@ served_then old mid new a b c one other = record {
   keeps = keeps_then old mid a b c one.grows one.keeps other.keeps;
 }
 
+-- a call after others that were answered
+pub serves_after : {X : Type 0} (old mid new : Known) (a b c : Ledgered) (result : Result X Stop) → HasServed old mid a b → Serves mid new b c result → Serves old new a c result
+serves_after old mid new a b c (Ok x) one other =
+    let then = served_then old mid new a b c one (served_one mid new b c x other) in
+    record { grows = then.grows; suits = then.suits; keeps = then.keeps; stopped = tt }
+serves_after old mid new a b c (Err stop) one other = record {
+  grows = grows_then old mid new one.grows other.grows;
+  suits = tt;
+  keeps = tt;
+  stopped = stopped_then old mid a b c stop one.grows one.keeps other.stopped;
+}
+
 -- one result
 err_same : {X : Type 0} (result : Result X Stop) (one other : Stop) → result ≡ Err one → result ≡ Err other → other ≡ one
 err_same result one other is same = cc
@@ -98,7 +112,7 @@ pub serves_ok : {X : Type 0} (old new : Known) (a b : Ledgered) (result : Result
 serves_ok old new a b (Ok y) x is served = record { grows = served.grows; suits = served.suits; keeps = served.keeps; stopped = tt }
 serves_ok old new a b (Err stop) x is served = absurd (never_both (Err stop) x stop is refl)
 
--- a call that ends the others without an answer, behind some that were answered
+-- a call that ends the others without an answer, after some that were answered
 pub serves_err : {X Y : Type 0} (old mid new : Known) (a b c : Ledgered) (result : Result Y Stop) (stop : Stop) → result ≡ Err stop → HasServed old mid a b → Serves {X = X} mid new b c (Err stop) → Serves old new a c result
 serves_err old mid new a b c (Ok y) stop is served serves = absurd (never_both (Ok y) y stop refl is)
 serves_err old mid new a b c (Err other) stop is served serves =
@@ -116,7 +130,7 @@ serves_last old mid new a b c (Ok x) served serves =
     serves_ok old new a c (Ok x) x refl (served_then old mid new a b c served (served_one mid new b c x serves))
 serves_last old mid new a b c (Err stop) served serves = serves_err old mid new a b c (Err stop) stop refl served serves
 
--- memory is wanting behind calls that were answered
+-- memory ran out after calls that were answered
 pub serves_memory : {Y : Type 0} (old new : Known) (a b : Ledgered) (result : Result Y Stop) → result ≡ Err Memory → HasServed old new a b → Serves old new a b result
 serves_memory old new a b (Ok y) is served = absurd (never_both (Ok y) y Memory refl is)
 serves_memory old new a b (Err other) is served =
@@ -128,7 +142,7 @@ serves_memory old new a b (Err other) is served =
       stopped = subst (IsStopped old a b) same tt;
     }
 
--- facts that come behind leave bans valid
+-- facts that come after leave bans valid
 pub valid_later : (old new : Known) (graphs : Graphs) (bans : List Ban) → Grows old new → AreValidBans graphs (map decided_by old.facts) bans → AreValidBans graphs (map decided_by new.facts) bans
 valid_later old new graphs bans grows valid k d below =
     subst (λ (facts : List Decided). IsValidBan graphs (given_of facts (take k bans)) (get_or bans k d)) (sym split) (subst (λ (l : List (List Pair)). IsValidBan graphs (record { facts = map decided_by old.facts ++ map decided_by grows.added; bans = l }) (get_or bans k d)) (append-nil (pairs_of (take k bans))) (ban_stays_valid (given_of (map decided_by old.facts) (take k bans)) (map decided_by grows.added) [] graphs (get_or bans k d) (valid k d below)))
@@ -139,6 +153,6 @@ valid_later old new graphs bans grows valid k d below =
 pub valid_grows : (old new : Known) (graphs : Graphs) (bans : List Ban) → Grows old new → AreValid graphs old bans → AreValid graphs new bans
 valid_grows old new graphs bans grows valid = record { each = valid_later old new graphs bans grows valid.each }
 
--- and so do bans that come behind
+-- and so do bans that come after
 pub valid_holds : (known : Known) (graphs : Graphs) (before after : List Ban) → HoldsMore graphs before after → AreValid graphs known before → AreValid graphs known after
 valid_holds known graphs before after more valid = record { each = more.valid (map decided_by known.facts) valid.each }

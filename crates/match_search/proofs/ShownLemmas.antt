@@ -7,7 +7,7 @@ use Rattle.std.proofs.lemmas.List.Elements.{All-append, All-take, All-drop}
 use Rattle.std.proofs.lemmas.List.Quantifiers.{all_pairs_remove}
 use Rattle.circuits.specs.declared.port.Pair.{Pair}
 use Rattle.circuits.specs.declared.port.PortKind.TheVariants.{Input, Output}
-use Rattle.net_core.specs.declared.graphs.Graphs.{Graphs}
+use Rattle.net_core.specs.Sides.{Graphs}
 use Rattle.word_sim.specs.declared.tri.Tri.{Tri}
 use Rattle.account_core.specs.Ports.{IsKnown, AreOrdered, StandInOrder}
 use Rattle.match_search.specs.Differences.{IsLeftOut, IsShown}

@@ -9,7 +9,7 @@ use Rattle.circuits.specs.declared.port.Pair.{Pair}
 use Rattle.circuits.specs.declared.port.PortKind.{PortKind}
 use Rattle.circuits.specs.declared.port.PortKind.TheVariants.{Input, Output}
 use Rattle.circuits.specs.Literals.{EachAt}
-use Rattle.net_core.specs.declared.graphs.Graphs.{Graphs}
+use Rattle.net_core.specs.Sides.{Graphs}
 use Rattle.net_core.specs.declared.graphs.Side.{Side}
 use Rattle.net_core.specs.declared.graphs.Side.TheVariants.{First, Second}
 use Rattle.account_core.specs.declared.step.Ban.{Ban}
@@ -21,7 +21,7 @@ use Rattle.match_search.specs.declared.level.Level.{Level}
 use Rattle.match_search.specs.declared.state.State.{State}
 use Rattle.match_search.specs.Held.{AreApart, IsOf, IsTaken}
 use Rattle.match_search.specs.Levels.{nth_way, ways_of, chosen, ClosesImpossible, HoldsMore, IsClosed, IsOpen, IsSearch, IsTried}
-use Rattle.match_search.specs.Founds.{IsEmptyBan}
+use Rattle.account_core.specs.Shown.{IsEmptyBan}
 use Rattle.match_search.specs.Progress.{left_at, left_in, most_ways}
 use Rattle.match_search.specs.States.{GoesOn, IsSearchState}
 use Rattle.match_search.proofs.ListLemmas.{any_of_contained, contains_cons}

@@ -6,7 +6,7 @@ use Rattle.std.proofs.lemmas.List.Elements.{All-contains}
 use Rattle.circuits.specs.declared.port.Pair.{Pair}
 use Rattle.circuits.specs.declared.port.PortKind.{PortKind}
 use Rattle.circuits.specs.Bijections.{IsSignedBijection}
-use Rattle.net_core.specs.declared.graphs.Graphs.{Graphs}
+use Rattle.net_core.specs.Sides.{Graphs}
 use Rattle.net_core.specs.declared.graphs.Side.TheVariants.{First}
 use Rattle.account_core.specs.Ports.{ports_in, IsKnown}
 use Rattle.match_search.specs.Held.{AreHeld, IsEntryOf, IsOf, IsWhole}

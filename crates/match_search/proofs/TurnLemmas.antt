@@ -1,7 +1,7 @@
 -- Going back from a ban.
 use Rattle.std.proofs.Common.{◌≡◌, ℕ, ◌+◌, ◌-◌, ◌<◌, ◌≤◌, List, [], ◌∷◌, ◌++◌, length, take, get_or, sym, ap, subst, ◌∙◌, arith}
 use Rattle.std.proofs.lemmas.List.{length_push, length-map, take_all, take_more, map_push, same_from_push}
-use Rattle.net_core.specs.declared.graphs.Graphs.{Graphs}
+use Rattle.net_core.specs.Sides.{Graphs}
 use Rattle.account_core.specs.declared.step.Ban.{Ban}
 use Rattle.ban_book.specs.Covering.{Covers}
 use Rattle.match_search.specs.declared.level.Level.{Level}

@@ -10,7 +10,7 @@ use Rattle.std.proofs.lemmas.Nat.{row_fits}
 use Rattle.circuits.specs.declared.port.Pair.{Pair}
 use Rattle.circuits.specs.declared.port.PortKind.{PortKind}
 use Rattle.circuits.specs.declared.port.PortKind.TheVariants.{Input, Output}
-use Rattle.net_core.specs.declared.graphs.Graphs.{Graphs}
+use Rattle.net_core.specs.Sides.{Graphs}
 use Rattle.account_core.specs.Ports.{ports_in, IsKnown}
 use Rattle.account_core.specs.declared.step.Ban.{Ban}
 use Rattle.match_search.specs.declared.state.State.{State}
@@ -43,7 +43,7 @@ weight_more radix (suc depth) [] digit within below =
     omega (arith, one, other, weight_none radix depth, whole_some radix depth (omega (arith, below)))
 weight_more radix (suc depth) (x ∷ digits) digit within below = omega (arith, weight_more radix depth digits digit (omega (arith, within)) below)
 
--- a lesser digit, and none behind it
+-- a lesser digit, and none after it
 weight_back : (radix depth : ℕ) (digits : List ℕ) (place digit : ℕ) → 0 < radix → place < length digits → length digits ≤ depth → digit < get_or digits place 0 → weight radix depth (take place digits ++ digit ∷ []) < weight radix depth digits
 weight_back radix depth [] place digit some there within less = absurd (omega (arith, there))
 weight_back radix zero (x ∷ digits) place digit some there within less = absurd (omega (arith, within))

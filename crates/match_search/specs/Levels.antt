@@ -4,7 +4,7 @@ use Rattle.std.specs.List.{range_with_len}
 use Rattle.circuits.specs.declared.port.Pair.{Pair}
 use Rattle.circuits.specs.declared.port.PortKind.{PortKind}
 use Rattle.circuits.specs.Literals.{EachAt}
-use Rattle.net_core.specs.declared.graphs.Graphs.{Graphs}
+use Rattle.net_core.specs.Sides.{Graphs}
 use Rattle.net_core.specs.declared.graphs.Side.{Side}
 use Rattle.net_core.specs.declared.graphs.Side.TheVariants.{First, Second}
 use Rattle.account_core.specs.declared.step.Ban.{Ban}
@@ -70,7 +70,7 @@ pub record IsSearch (graphs : Graphs) (bans : List Ban) (held : List Pair) (leve
 abbrev pub IsOpen : List Pair → Pair → Type 0
 IsOpen pairs pair = IsImpossible pairs pair → ⊥
 
--- Of the ways behind those that were closed, the ones that are impossible are closed until the first that isn't.
+-- Of the ways after those that were closed, the ones that are impossible are closed until the first that isn't.
 pub record ClosesImpossible (held : List Pair) (ways : ℕ) (before after : Level) (open' : Bool) : Type 0 where
   pub side_is : after.side ≡ before.side
   pub kind_is : after.kind ≡ before.kind
@@ -80,7 +80,7 @@ pub record ClosesImpossible (held : List Pair) (ways : ℕ) (before after : Leve
   pub found : open' ≡ true → (length after.refs < ways) × IsOpen held (chosen after)
   pub none : open' ≡ false → length after.refs ≡ ways
 
--- Bans came behind those that were held, and where those were valid all are, in view of any facts.
+-- Bans came after those that were held, and where those were valid all are, in view of any facts.
 pub record HoldsMore (graphs : Graphs) (before after : List Ban) : Type 0 where
   pub added : List Ban
   pub more : after ≡ before ++ added

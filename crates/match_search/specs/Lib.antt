@@ -5,6 +5,8 @@ pub mod States
 pub mod Founds
 pub mod Differences
 pub use Rattle.table_guess.specs.Trials
-pub use Rattle.account_core.specs.Oracles
+pub use Rattle.account_core.specs.Facts
+pub use Rattle.account_core.specs.Shown
+pub use Rattle.oracle_core.specs.Oracles
 pub use Rattle.account_core.specs.Steps
 pub use Rattle.ban_book.specs.Covering

@@ -1,6 +1,6 @@
 -- How much of a search is left: a number in a mixed radix, whose digits are the ways that are left at each level.
 use Rattle.std.specs.Prelude.{◌≡◌, ℕ, suc, zero, ◌+◌, ◌-◌, ◌*◌, ◌<◌, List, [], ◌∷◌, ◌++◌, length, map, take, slice_index_or}
-use Rattle.net_core.specs.declared.graphs.Graphs.{Graphs}
+use Rattle.net_core.specs.Sides.{Graphs}
 use Rattle.account_core.specs.Ports.{ports_in}
 use Rattle.circuits.specs.declared.port.PortKind.TheVariants.{Input, Output}
 use Rattle.match_search.specs.declared.level.Level.{Level}
@@ -29,7 +29,7 @@ abbrev pub whole : ℕ → ℕ → ℕ
 whole radix zero = 1
 whole radix (suc depth) = radix * whole radix depth
 
--- the number that has these digits in front, and as much as it can behind them
+-- the number that has these digits in front, and as much as it can after them
 abbrev pub weight : ℕ → ℕ → List ℕ → ℕ
 weight radix zero [] = 1
 weight radix zero (digit ∷ digits) = 0
@@ -39,7 +39,7 @@ weight radix (suc depth) (digit ∷ digits) = digit * whole radix depth + weight
 abbrev pub left : Graphs → List Level → ℕ
 left graphs levels = weight (radix_of graphs) (depth_of graphs) (left_in graphs levels)
 
--- A level has fewer ways left than before, and the levels behind it are gone.
+-- A level has fewer ways left than before, and the levels after it are gone.
 pub record TurnsBack (before after : List ℕ) : Type 0 where
   pub level : ℕ
   pub within : level < length before

@@ -1,23 +1,23 @@
 -- What a step of a search leaves.
 use Rattle.std.specs.Prelude.{◌≡◌, ℕ, ◌≤◌, List, [], ◌∷◌, ◌++◌, map, Option, Some, None}
-use Rattle.net_core.specs.declared.graphs.Graphs.{Graphs}
+use Rattle.net_core.specs.Sides.{Graphs}
 use Rattle.query_core.specs.Ledgers.{Ledgered}
 use Rattle.account_core.specs.declared.step.Ban.{Ban}
 use Rattle.account_core.specs.Given.{decided_by}
-use Rattle.account_core.specs.Oracles.{Known, Grows, Suits, Keeps}
+use Rattle.oracle_core.specs.Oracles.{Known, Grows, Suits, Keeps}
 use Rattle.account_core.specs.Steps.{AreValidBans}
 use Rattle.ban_book.specs.Covering.{Covers}
 use Rattle.match_search.specs.declared.state.State.{State}
 use Rattle.match_search.specs.Levels.{IsSearch}
 use Rattle.match_search.specs.declared.ahead.Ahead.{Ahead}
 use Rattle.match_search.specs.declared.ahead.Ahead.TheVariants as ahead
-use Rattle.match_search.specs.Founds.{IsEmptyBan, IsShownMatch}
+use Rattle.account_core.specs.Shown.{IsEmptyBan, IsShownMatch}
 use Rattle.match_search.specs.Progress.{left_in, most_ways, TurnsBack}
 
 abbrev pub IsSearchState : Graphs → List Ban → State → Type 0
 IsSearchState graphs bans state = IsSearch graphs bans state.held state.levels
 
--- One more way is held, of a port that has so many ways left.
+-- One more way is held, of a port that has n ways left.
 pub record GoesOn (graphs : Graphs) (bans : List Ban) (before after : State) (limit : ℕ) : Type 0 where
   pub search : IsSearchState graphs bans after
   pub left_there : ℕ
@@ -46,7 +46,7 @@ IsAhead graphs bans before after ahead.Deeper = GoesOn graphs bans before after 
 IsAhead graphs bans before after (ahead.Match matching logs) = IsShownMatch graphs matching logs
 IsAhead graphs bans before after (ahead.Ban ban) = RunsInto graphs bans before after ban
 
--- Where pairs run into a ban: another way is held at one of their levels, with those behind it gone; or the ban of this number
+-- Where pairs run into a ban: another way is held at one of their levels, with those after it gone; or the ban of this number
 -- has no pairs.
 abbrev pub GoesBack : Graphs → List Ban → State → State → Option ℕ → Type 0
 GoesBack graphs bans before after None =

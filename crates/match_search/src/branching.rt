@@ -2,7 +2,8 @@
 
 ghost use Rattle.std.specs.Prelude.{◌≡◌, ◌<◌, [], IfNone, IfOk, IfSome, OnOk, map};
 ghost use Rattle.account_core.specs.Given.{decided_by};
-ghost use Rattle.account_core.specs.Oracles.{AreFacts, Serves, Suits};
+ghost use Rattle.account_core.specs.Facts.{AreFacts};
+ghost use Rattle.oracle_core.specs.Oracles.{Serves, Suits};
 ghost use Rattle.account_core.specs.Ports.{HaveAsMany};
 ghost use Rattle.account_core.specs.Steps.{AreValidBans};
 ghost use Rattle.match_search.specs.Founds.{IsFound};
@@ -15,34 +16,33 @@ use crate::ahead::Ahead;
 use crate::candidate::compare_whole;
 use crate::foresight::foresee;
 use crate::found::Found;
-use crate::guessed::compare_guesses;
 use crate::guide::Guide;
 use crate::level::Level;
 use crate::next_port::next_port;
 use crate::state::State;
 use crate::tries::{advance, turn_back};
-use account_core::Oracle;
 use ban_book::BanBook;
 use cnf_core::Stop;
 use net_core::Graphs;
+use oracle_core::Oracle;
 use query_core::Ledger;
 use std::alloc::{AllocError, Global};
 
-/// Looks for a match of two circuits with as many ports. Tables that are guessed are compared first. Where none of them
-/// is a match, the ports are decided one by one, the outputs of whole tables are compared, and a ban is held for each
-/// table that is no match and for each port that has no way left. From a ban it goes back to the last port that the ban
-/// needs.
+/// Looks for a match of two circuits with as many ports by branching. The ports are decided one by one, the outputs of whole
+/// tables are compared, and a ban is held for each table that is no match and for each port that has no way left. From a
+/// ban it goes back to the last port that the ban needs. Pairs are tried on vectors; another seed draws other ones.
 ///
 /// The book's bans are valid in view of the oracle's facts, whatever is answered.
 ///
 /// # Errors
 ///
-/// `Spent` where a line had to be learned and the ledger's budget was spent. `Memory` for want of memory.
+/// `Spent` where a line had to be learned and the ledger's budget was spent. `Memory` when out of memory.
 pub fn search<O: Oracle>(
     alloc: Global,
-    graphs: &Graphs,
+    graphs: &Graphs<'_>,
     oracle: &mut O,
     book: &mut BanBook,
+    seed: u64,
     ledger: &mut Ledger,
 ) -> Result<Found, Stop>
     requires graphs { graphs.now ≡ (O.known oracle.old).graphs }
@@ -54,16 +54,7 @@ pub fn search<O: Oracle>(
     ensures found { IfOk result (IsFound graphs.now book.new) }
 {
     let _facts = oracle.facts();
-    let mut guide = Guide::new(alloc, graphs)?;
-    if let Some((table, logs)) = compare_guesses(
-        alloc,
-        graphs,
-        oracle,
-        &mut guide.trials,
-        ledger,
-    )? {
-        return Ok(Found::Match(table, logs));
-    }
+    let mut guide = Guide::new(alloc, graphs, seed)?;
     let mut state = State::new(alloc);
     loop {
         if let Some(found) = turn(alloc, graphs, oracle, &mut guide, &mut state, book, ledger)? {
@@ -76,7 +67,7 @@ pub fn search<O: Oracle>(
 // before.
 fn turn<O: Oracle>(
     alloc: Global,
-    graphs: &Graphs,
+    graphs: &Graphs<'_>,
     oracle: &mut O,
     guide: &mut Guide,
     state: &mut State,
@@ -113,7 +104,7 @@ fn turn<O: Oracle>(
 // where no port is left the outputs are compared.
 fn ahead<O: Oracle>(
     alloc: Global,
-    graphs: &Graphs,
+    graphs: &Graphs<'_>,
     oracle: &mut O,
     guide: &mut Guide,
     state: &mut State,
@@ -162,7 +153,7 @@ fn ahead<O: Oracle>(
 // Tries the ways of a port.
 fn descend(
     alloc: Global,
-    graphs: &Graphs,
+    graphs: &Graphs<'_>,
     state: &mut State,
     level: Level,
     book: &mut BanBook,

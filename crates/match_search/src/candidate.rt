@@ -1,10 +1,12 @@
 //! Whole tables, which are compared output by output.
 
 ghost use Rattle.std.specs.Prelude.{◌≡◌, ◌<◌, [], IfNone, IfOk, IfSome, OnOk, length};
-ghost use Rattle.account_core.specs.Oracles.{AreFacts, IsDifference, Serves, Suits};
+ghost use Rattle.account_core.specs.Facts.{AreFacts};
+ghost use Rattle.oracle_core.specs.Oracles.{IsDifference, Serves, Suits};
 ghost use Rattle.account_core.specs.Ports.{HaveAsMany};
 ghost use Rattle.circuits.specs.Matches.{HavePorts};
-ghost use Rattle.match_search.specs.Founds.{AreLogs, IsComparison};
+ghost use Rattle.account_core.specs.Shown.{AreLogs};
+ghost use Rattle.match_search.specs.Founds.{IsComparison};
 ghost use Rattle.match_search.specs.Held.{IsWhole};
 ghost use Rattle.match_search.specs.States.{AreValid, IsAhead, IsSearchState};
 ghost use Rattle.table_guess.specs.Trials.{AreTrials};
@@ -13,12 +15,12 @@ use crate::ahead::Ahead;
 use crate::difference::exclude;
 use crate::state::State;
 use crate::table::table;
-use account_core::{Compared, Oracle};
 use ban_book::BanBook;
 use bit_list::Bits;
 use cnf_core::{Log, Stop};
 use items::Items;
 use net_core::{Graphs, Matching};
+use oracle_core::{Compared, Oracle};
 use query_core::Ledger;
 use std::alloc::Global;
 use table_guess::Trials;
@@ -34,7 +36,7 @@ pub(crate) struct Difference {
 /// so, and keeps the vector.
 pub(crate) fn compare_whole<O: Oracle>(
     alloc: Global,
-    graphs: &Graphs,
+    graphs: &Graphs<'_>,
     oracle: &mut O,
     trials: &mut Trials,
     state: &State,
@@ -54,24 +56,24 @@ pub(crate) fn compare_whole<O: Oracle>(
     ensures trials { OnOk result (AreTrials graphs.now.first trials.new) }
     ensures ahead { IfOk result (IsAhead graphs.now book.new state.now state.now) }
 {
-    let _first = graphs.first.inputs();
-    let _second = graphs.second.inputs();
+    let _first = graphs.first();
+    let _second = graphs.second();
     let matching = table(alloc, graphs, &state.held)?;
     let mut logs = Items::new(alloc);
     match compare_all(alloc, graphs, oracle, &matching, ledger, &mut logs)? {
         None => Ok(Ahead::Match(matching, logs)),
         Some(found) => {
-            trials.keep(alloc, &graphs.first, &found.vector)?;
+            trials.keep(alloc, graphs.first(), &found.vector)?;
             let ban = exclude(alloc, graphs, &matching, found.output, &found.vector, book)?;
             Ok(Ahead::Ban(ban))
         }
     }
 }
 
-/// Compares the outputs in order, until one differs. The logs of those that agree come behind those given.
+/// Compares the outputs in order, until one differs. The logs of those that agree come after those given.
 pub(crate) fn compare_all<O: Oracle>(
     alloc: Global,
-    graphs: &Graphs,
+    graphs: &Graphs<'_>,
     oracle: &mut O,
     matching: &Matching,
     ledger: &mut Ledger,
@@ -89,7 +91,7 @@ pub(crate) fn compare_all<O: Oracle>(
     ensures vector { IfOk result (λ found. IfSome found
         (λ difference. IsDifference graphs.now matching.now difference.output difference.vector)) }
 {
-    let outputs = graphs.first.outputs().len() as u32;
+    let outputs = graphs.first().outputs().len() as u32;
     for output in 0..outputs {
         if let Some(vector) = compare_one(alloc, oracle, matching, output, ledger, logs)? {
             return Ok(Some(Difference { output, vector }));

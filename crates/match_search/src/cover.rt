@@ -26,7 +26,7 @@ use std::alloc::{AllocError, Global};
 /// the ways need to be closed.
 pub(crate) fn cover(
     alloc: Global,
-    graphs: &Graphs,
+    graphs: &Graphs<'_>,
     held: &[Pair],
     level: Level,
     book: &mut BanBook,
@@ -46,7 +46,7 @@ pub(crate) fn cover(
 // The ban that a port of which all ways are closed is for.
 fn cover_ban(
     alloc: Global,
-    graphs: &Graphs,
+    graphs: &Graphs<'_>,
     held: &[Pair],
     level: Level,
     bans: &[Ban],
@@ -58,7 +58,7 @@ fn cover_ban(
     ensures valid { IfOk result (λ ban. (facts : List AnyFact) → IsValidBan graphs.now (given_of facts bans.now) ban) }
     ensures within { IfOk result (IsWithin held.now) }
 {
-    let count = ports_in(&graphs.second, level.kind);
+    let count = ports_in(graphs.second(), level.kind);
     let pairs = needed(alloc, held, &level, bans)?;
     let from = ports_tried(alloc, level.side, level.port, count)?;
     let to = ports_tried(alloc, opposite(level.side), level.port, count)?;

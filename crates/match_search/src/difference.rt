@@ -6,7 +6,7 @@ ghost use Rattle.circuits.specs.declared.port.PortKind.TheVariants.{Input};
 ghost use Rattle.word_sim.specs.declared.tri.Tri.TheVariants.{X};
 ghost use Rattle.circuits.specs.Matches.{HavePorts};
 ghost use Rattle.query_core.specs.Images.{Extends};
-ghost use Rattle.account_core.specs.Oracles.{IsDifference};
+ghost use Rattle.oracle_core.specs.Oracles.{IsDifference};
 ghost use Rattle.account_core.specs.Ports.{AreOrdered, IsKnown};
 ghost use Rattle.account_core.specs.Vectors.{first_value, signed, value_at, values_sent};
 ghost use Rattle.ban_book.specs.Covering.{Covers};
@@ -29,7 +29,7 @@ use word_sim::{Tri, tri_eval};
 /// matching sends it to, and answers its number. The pairs of inputs that the difference doesn't need are left out.
 pub(crate) fn exclude(
     alloc: Global,
-    graphs: &Graphs,
+    graphs: &Graphs<'_>,
     matching: &Matching,
     output: u32,
     vector: &Bits,
@@ -44,8 +44,8 @@ pub(crate) fn exclude(
         → Extends held matching.now.inputs matching.now.outputs
         → IfOk result (Covers book.new held) }
 {
-    let _first = graphs.first.inputs();
-    let _second = graphs.second.inputs();
+    let _first = graphs.first();
+    let _second = graphs.second();
     let values = definite(alloc, vector)?;
     let pair = pair_from(PortKind::Output, &matching.outputs, output);
     let whole = inputs_and(alloc, matching, pair)?;
@@ -93,7 +93,7 @@ fn pair_from(kind: PortKind, entries: &[(u32, bool)], port: u32) -> Pair
     }
 }
 
-// The pairs of all inputs, in order, and one pair of an output behind them.
+// The pairs of all inputs, in order, and one pair of an output after them.
 fn inputs_and(alloc: Global, matching: &Matching, pair: Pair) -> Result<Vec<Pair>, AllocError>
     requires few { length matching.now.inputs < 2 ^ 32 }
     ensures { IfOk result (λ pairs. pairs.items ≡ pairs_from Input matching.now.inputs ++ pair ∷ []) }
@@ -109,7 +109,7 @@ fn inputs_and(alloc: Global, matching: &Matching, pair: Pair) -> Result<Vec<Pair
 /// Leaves out each input's pair without which the values show the difference too.
 pub(crate) fn leave_out(
     alloc: Global,
-    graphs: &Graphs,
+    graphs: &Graphs<'_>,
     whole: Vec<Pair>,
     pair: Pair,
     values: &[Tri],
@@ -118,7 +118,7 @@ pub(crate) fn leave_out(
     requires shown { IsShown graphs.now whole.items pair values.now whole.items }
     ensures { IfOk result (λ pairs. IsShown graphs.now whole.items pair values.now pairs.items) }
 {
-    let first = output_value(alloc, &graphs.first, values, pair.from)?;
+    let first = output_value(alloc, graphs.first(), values, pair.from)?;
     let mut pairs = whole;
     let mut place = pairs.len();
     while place > 0 {
@@ -131,7 +131,7 @@ pub(crate) fn leave_out(
 // The pairs, without that at a place where the difference doesn't need it.
 fn without_needless(
     alloc: Global,
-    graphs: &Graphs,
+    graphs: &Graphs<'_>,
     pairs: Vec<Pair>,
     place: usize,
     pair: Pair,
@@ -157,7 +157,7 @@ fn without_needless(
 // The pairs without that at a place, where it is of an input and the values show the difference without it.
 fn without(
     alloc: Global,
-    graphs: &Graphs,
+    graphs: &Graphs<'_>,
     pairs: &[Pair],
     place: usize,
     pair: Pair,
@@ -196,7 +196,7 @@ fn removed(alloc: Global, pairs: &[Pair], place: usize) -> Result<Vec<Pair>, All
 /// Whether the values make the partner of an output definite and wrong, whatever the inputs have that aren't paired.
 pub(crate) fn is_wrong(
     alloc: Global,
-    graphs: &Graphs,
+    graphs: &Graphs<'_>,
     pairs: &[Pair],
     pair: Pair,
     values: &[Tri],
@@ -209,8 +209,9 @@ pub(crate) fn is_wrong(
     requires first { first ≡ first_value graphs.now values.now pair.from }
     ensures { IfOk result (λ wrong. IsTrue wrong ↔ IsWrong graphs.now pairs.now pair values.now) }
 {
-    let sent = sent(alloc, pairs, graphs.second.inputs(), values)?;
-    let value = output_value(alloc, &graphs.second, &sent, pair.to)?;
+    let second = graphs.second();
+    let sent = sent(alloc, pairs, second.inputs(), values)?;
+    let value = output_value(alloc, second, &sent, pair.to)?;
     Ok((value != Tri::X) & (first != signed(value, pair.flip)))
 }
 

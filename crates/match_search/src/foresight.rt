@@ -25,7 +25,7 @@ use word_sim::Tri;
 /// aren't paired: holds a ban that says so, and answers its number.
 pub(crate) fn foresee(
     alloc: Global,
-    graphs: &Graphs,
+    graphs: &Graphs<'_>,
     held: &[Pair],
     trials: &Trials,
     book: &mut BanBook,
@@ -46,7 +46,7 @@ pub(crate) fn foresee(
 // this doesn't need are left out.
 fn exclude_suspect(
     alloc: Global,
-    graphs: &Graphs,
+    graphs: &Graphs<'_>,
     held: &[Pair],
     suspect: &Suspect,
     book: &mut BanBook,
@@ -56,11 +56,11 @@ fn exclude_suspect(
     ensures more { HoldsMore graphs.now book.old book.new }
     ensures covers { IfOk result (λ found. IfSome found (Covers book.new held.now)) }
 {
-    let _first = graphs.first.inputs();
+    let _first = graphs.first();
     let pair = suspect.pair;
     let values = definite(alloc, &suspect.vector)?;
     let pairs = inputs_and(alloc, held, pair)?;
-    let first = output_value(alloc, &graphs.first, &values, pair.from)?;
+    let first = output_value(alloc, graphs.first(), &values, pair.from)?;
     if !is_wrong(alloc, graphs, &pairs, pair, &values, first)? {
         return Ok(None);
     }

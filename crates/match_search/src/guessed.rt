@@ -1,19 +1,20 @@
-//! A first phase, which leaves no ban: tables that are guessed are compared.
+//! The first phase, which leaves no ban: tables that are guessed are compared.
 
-ghost use Rattle.std.specs.Prelude.{◌≡◌, IfOk, IfSome, OnOk};
-ghost use Rattle.account_core.specs.Oracles.{AreFacts, Serves, Suits};
+ghost use Rattle.std.specs.Prelude.{◌≡◌, IfOk, IfSome};
+ghost use Rattle.account_core.specs.Facts.{AreFacts};
+ghost use Rattle.oracle_core.specs.Oracles.{Serves, Suits};
 ghost use Rattle.account_core.specs.Ports.{HaveAsMany};
-ghost use Rattle.match_search.specs.Founds.{IsGuessed, IsShownMatch};
-ghost use Rattle.table_guess.specs.Trials.{AreTrials};
+ghost use Rattle.account_core.specs.Shown.{IsShownMatch};
+ghost use Rattle.match_search.specs.Founds.{IsGuessed};
 
 use crate::candidate::compare_all;
-use account_core::Oracle;
 use cnf_core::{Log, Stop};
 use items::Items;
 use net_core::{Graphs, Matching};
+use oracle_core::Oracle;
 use query_core::Ledger;
 use std::alloc::Global;
-use table_guess::{Trials, guess};
+use table_guess::Guesser;
 
 /// How many guessed tables are compared.
 const MOST_GUESSES: u32 = 16;
@@ -30,25 +31,44 @@ pub(crate) enum Guessed {
 }
 
 /// Compares tables that are guessed, a bounded number of them, and answers one that is a match, with its logs. None says
-/// nothing of whether there is a match.
+/// nothing of whether there is a match. Another seed draws other vectors.
 pub(crate) fn compare_guesses<O: Oracle>(
     alloc: Global,
-    graphs: &Graphs,
+    graphs: &Graphs<'_>,
     oracle: &mut O,
-    trials: &mut Trials,
+    seed: u64,
     ledger: &mut Ledger,
 ) -> Result<Option<(Matching, Items<Log>)>, Stop>
     requires graphs { graphs.now ≡ (O.known oracle.old).graphs }
     requires lawful { AreFacts graphs.now (O.known oracle.old).facts }
     requires ports { HaveAsMany graphs.now.first graphs.now.second }
-    requires trials { AreTrials graphs.now.first trials.old }
     requires suits { Suits (O.known oracle.old) ledger.old }
     ensures serves { Serves (O.known oracle.old) (O.known oracle.new) ledger.old ledger.new result }
-    ensures trials { OnOk result (AreTrials graphs.now.first trials.new) }
+    ensures shown { IfOk result (λ found. IfSome found (λ shown. IsShownMatch graphs.now shown.0 shown.1)) }
+{
+    match Guesser::new(alloc, graphs, seed)? {
+        Some(mut guesser) => compare_by(alloc, graphs, oracle, &mut guesser, ledger),
+        None => Ok(None),
+    }
+}
+
+// Compares what a guesser finds.
+fn compare_by<O: Oracle>(
+    alloc: Global,
+    graphs: &Graphs<'_>,
+    oracle: &mut O,
+    guesser: &mut Guesser<'_>,
+    ledger: &mut Ledger,
+) -> Result<Option<(Matching, Items<Log>)>, Stop>
+    requires graphs { graphs.now ≡ (O.known oracle.old).graphs }
+    requires lawful { AreFacts graphs.now (O.known oracle.old).facts }
+    requires ports { HaveAsMany graphs.now.first graphs.now.second }
+    requires suits { Suits (O.known oracle.old) ledger.old }
+    ensures serves { Serves (O.known oracle.old) (O.known oracle.new) ledger.old ledger.new result }
     ensures shown { IfOk result (λ found. IfSome found (λ shown. IsShownMatch graphs.now shown.0 shown.1)) }
 {
     for _ in 0..MOST_GUESSES {
-        match compare_guess(alloc, graphs, oracle, trials, ledger)? {
+        match compare_guess(alloc, graphs, oracle, guesser, ledger)? {
             Guessed::Match(table, logs) => return Ok(Some((table, logs))),
             Guessed::Fails => {}
             Guessed::Nothing => return Ok(None),
@@ -61,30 +81,28 @@ pub(crate) fn compare_guesses<O: Oracle>(
 // agrees on it.
 fn compare_guess<O: Oracle>(
     alloc: Global,
-    graphs: &Graphs,
+    graphs: &Graphs<'_>,
     oracle: &mut O,
-    trials: &mut Trials,
+    guesser: &mut Guesser<'_>,
     ledger: &mut Ledger,
 ) -> Result<Guessed, Stop>
     requires graphs { graphs.now ≡ (O.known oracle.old).graphs }
     requires lawful { AreFacts graphs.now (O.known oracle.old).facts }
     requires ports { HaveAsMany graphs.now.first graphs.now.second }
-    requires trials { AreTrials graphs.now.first trials.old }
     requires suits { Suits (O.known oracle.old) ledger.old }
     ensures serves { Serves (O.known oracle.old) (O.known oracle.new) ledger.old ledger.new result }
-    ensures trials { OnOk result (AreTrials graphs.now.first trials.new) }
     ensures guessed { IfOk result (IsGuessed graphs.now) }
 {
-    let _first = graphs.first.inputs();
-    let _second = graphs.second.inputs();
-    let Some(table) = guess(alloc, graphs, trials)? else {
+    let _first = graphs.first();
+    let _second = graphs.second();
+    let Some(table) = guesser.guess(alloc, graphs)? else {
         return Ok(Guessed::Nothing);
     };
     let mut logs = Items::new(alloc);
     match compare_all(alloc, graphs, oracle, &table, ledger, &mut logs)? {
         None => Ok(Guessed::Match(table, logs)),
         Some(found) => {
-            trials.keep(alloc, &graphs.first, &found.vector)?;
+            guesser.keep(&found.vector);
             Ok(Guessed::Fails)
         }
     }

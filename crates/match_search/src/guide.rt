@@ -18,12 +18,12 @@ pub(crate) struct Guide {
 }
 
 impl Guide {
-    /// What a search begins with.
-    pub(crate) fn new(alloc: Global, graphs: &Graphs) -> Result<Guide, AllocError>
+    /// What a search begins with. Another seed draws other vectors.
+    pub(crate) fn new(alloc: Global, graphs: &Graphs<'_>, seed: u64) -> Result<Guide, AllocError>
         ensures { IfOk result (λ guide. AreTrials graphs.now.first guide.trials) }
     {
-        let trials = Trials::new(alloc, &graphs.first)?;
-        let reads = reads(alloc, &graphs.second)?;
+        let trials = Trials::new(alloc, graphs.first(), seed)?;
+        let reads = reads(alloc, graphs.second())?;
         Ok(Guide { trials, reads })
     }
 }

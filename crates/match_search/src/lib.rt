@@ -1,4 +1,4 @@
-//! Looks for a match of two circuits, by branching and jumping back.
+//! Looks for a match of two circuits: compares tables that are guessed, and then branches and jumps back.
 #![tactic(auto)]
 
 mod ahead;
@@ -6,6 +6,7 @@ mod branching;
 mod candidate;
 mod clash;
 mod cover;
+mod deciding;
 mod difference;
 mod foresight;
 mod found;
@@ -22,4 +23,5 @@ mod table;
 mod tries;
 
 pub use branching::search;
+pub use deciding::decide;
 pub use found::Found;

@@ -8,7 +8,7 @@ use circuits::{Pair, PortKind};
 use net_core::Side;
 use std::alloc::{AllocError, Global};
 
-/// Marks on so many ports of a kind of a circuit: those are marked that are in a pair.
+/// Marks on n ports of a kind of a circuit: those are marked that are in a pair.
 pub(crate) fn marks(
     alloc: Global,
     held: &[Pair],

@@ -15,7 +15,7 @@ use net_core::{Graphs, Side};
 /// reads, since the partner is known once these have pairs; else an output of the first circuit, in order, and at last an
 /// input. It is None where each port is in a pair. `reads` are the inputs that the second circuit's outputs read.
 pub(crate) fn next_port(
-    graphs: &Graphs,
+    graphs: &Graphs<'_>,
     reads: &[Items<u32>],
     held: &[Pair],
 ) -> Option<(Side, PortKind, u32)>
@@ -24,11 +24,12 @@ pub(crate) fn next_port(
     ensures free { IfSome result (λ next. IsTaken next.0 held.now next.1 next.2 → ⊥) }
     ensures none { IfNone result (IsWhole graphs.now held.now) }
 {
-    let inputs = ports_in(&graphs.first, PortKind::Input);
+    let first = graphs.first();
+    let inputs = ports_in(first, PortKind::Input);
     if let Some(input) = first_read(reads, held, inputs) {
         return Some((Side::Second, PortKind::Input, input));
     }
-    let outputs = ports_in(&graphs.first, PortKind::Output);
+    let outputs = ports_in(first, PortKind::Output);
     if let Some(output) = first_free(held, PortKind::Output, outputs) {
         return Some((Side::First, PortKind::Output, output));
     }
@@ -38,7 +39,7 @@ pub(crate) fn next_port(
     }
 }
 
-// One of so many inputs of the second circuit that is in no pair, and that the partner of a paired output reads.
+// One of n inputs of the second circuit that is in no pair, and that the partner of a paired output reads.
 fn first_read(reads: &[Items<u32>], held: &[Pair], inputs: u32) -> Option<u32>
     ensures port { IfSome result (λ input. input < inputs) }
     ensures free { IfSome result (λ input. IsTaken AnySide.Second held.now PortKind.Input input → ⊥) }
@@ -78,14 +79,14 @@ fn free_of(read: &[u32], held: &[Pair], inputs: u32) -> Option<u32>
     None
 }
 
-// Whether an input of the second circuit is one of so many, and in no pair.
+// Whether an input of the second circuit is one of n, and in no pair.
 fn is_free(held: &[Pair], input: u32, inputs: u32) -> bool
     ensures { IsTrue result → (input < inputs) × (IsTaken AnySide.Second held.now PortKind.Input input → ⊥) }
 {
     (input < inputs) & !is_taken(held, Side::Second, PortKind::Input, input)
 }
 
-// The first of so many ports of a kind of the first circuit that is in no pair.
+// The first of n ports of a kind of the first circuit that is in no pair.
 fn first_free(held: &[Pair], kind: PortKind, count: u32) -> Option<u32>
     ensures port { IfSome result (λ port. port < count) }
     ensures free { IfSome result (λ port. IsTaken AnySide.First held.now kind port → ⊥) }

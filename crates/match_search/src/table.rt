@@ -14,22 +14,27 @@ use net_core::{Graphs, Matching};
 use std::alloc::{AllocError, Global};
 
 /// The matching that has each of the pairs, where each port is in one.
-pub(crate) fn table(alloc: Global, graphs: &Graphs, held: &[Pair]) -> Result<Matching, AllocError>
+pub(crate) fn table(
+    alloc: Global,
+    graphs: &Graphs<'_>,
+    held: &[Pair],
+) -> Result<Matching, AllocError>
     requires ports { HaveAsMany graphs.now.first graphs.now.second }
     requires held { AreHeld graphs.now held.now }
     requires whole { IsWhole graphs.now held.now }
     ensures ports { IfOk result (λ table. HavePorts graphs.now.first graphs.now.second table.inputs table.outputs) }
     ensures extends { IfOk result (λ table. Extends held.now table.inputs table.outputs) }
 {
-    let inputs = ports_in(&graphs.first, PortKind::Input);
-    let outputs = ports_in(&graphs.first, PortKind::Output);
+    let first = graphs.first();
+    let inputs = ports_in(first, PortKind::Input);
+    let outputs = ports_in(first, PortKind::Output);
     Ok(Matching {
         inputs: entries(alloc, held, PortKind::Input, inputs)?,
         outputs: entries(alloc, held, PortKind::Output, outputs)?,
     })
 }
 
-// Where each of so many ports of a kind goes.
+// Where each of n ports of a kind goes.
 fn entries(
     alloc: Global,
     held: &[Pair],

@@ -22,7 +22,7 @@ use std::alloc::{AllocError, Global};
 /// None. Where all are closed, it holds a ban that says so, and answers its number.
 pub(crate) fn advance(
     alloc: Global,
-    graphs: &Graphs,
+    graphs: &Graphs<'_>,
     state: &mut State,
     level: Level,
     book: &mut BanBook,
@@ -34,7 +34,7 @@ pub(crate) fn advance(
     ensures tries { IfOk result (Tries graphs.now book.new state.old state.new (left_at graphs.now level)) }
 {
     let mut level = level;
-    let count = ports_in(&graphs.second, level.kind);
+    let count = ports_in(graphs.second(), level.kind);
     let marks = marks(alloc, &state.held, opposite(level.side), level.kind, count)?;
     if level.close_clashing(&state.held, &marks)? {
         state.hold(level)?;
@@ -49,7 +49,7 @@ pub(crate) fn advance(
 /// where a way is held, and a ban without pairs where no level is left.
 pub(crate) fn turn_back(
     alloc: Global,
-    graphs: &Graphs,
+    graphs: &Graphs<'_>,
     state: &mut State,
     ban: u64,
     book: &mut BanBook,
@@ -74,7 +74,7 @@ pub(crate) fn turn_back(
 // tried. Else the ban is answered, since the pairs before it run into it too.
 fn resume(
     alloc: Global,
-    graphs: &Graphs,
+    graphs: &Graphs<'_>,
     state: &mut State,
     level: Level,
     pair: Pair,

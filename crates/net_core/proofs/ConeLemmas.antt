@@ -199,7 +199,7 @@ marked-more marks count places is_marked are = record {
               subst P (sym (get_or_push places count d k (sym e))) last
         ]
 
--- the marked places behind the inputs are the gates that the output reaches
+-- the marked places after the inputs are the gates that the output reaches
 pub cone-gates : (net : Net) (k signals : ℕ) (marks : List Bool) (places : List ℕ) → output_signal net k < signals → IsReached (1 + net.inputs) net.gates 0 (only signals (output_signal net k)) marks → AreMarked (drop (1 + net.inputs) marks) (length (drop (1 + net.inputs) marks)) places → (t : ℕ) → Contains places t ↔ ReachesGate net k t
 cone-gates net k signals marks places there reached are t = (
   λ listed. reaches-in net k signals marks reached t (sym (get_or-drop (1 + net.inputs) marks t false) ∙ All-contains (λ n. bit (drop (1 + net.inputs) marks) n ≡ true) places t are.marked listed),

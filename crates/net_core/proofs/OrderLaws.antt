@@ -47,7 +47,7 @@ IsAcyclic-levels circuit placed levels d h =
     let default : Placed = record { level = 0; position = 0 } in
     ((get_or placed d default).level, (levels.listed d default h).1)
 
--- an entry that does not come behind another one
+-- an entry that does not come after another one
 pub placed-le : (one other : Placed) → is_lt (placed_cmp other one) ≡ false → (one.level < other.level) ⊎ ((one.level ≡ other.level) × (one.position ≤ other.position))
 placed-le one other h =
     by_ranked (other.level < one.level) (other.level ≡ one.level) (one.level < other.level) (nat_cmp other.level one.level) (ranked other.level one.level (nat_cmp other.level one.level) refl) lower same higher

@@ -31,7 +31,7 @@ ReachesGate net k t = Reaches net k (1 + net.inputs + t)
 abbrev pub IsPart : List Bool → List Bool → Type 0
 IsPart set other = (s : ℕ) → bit set s ≡ true → bit other s ≡ true
 
--- one signal of so many
+-- one signal of n
 abbrev pub only : ℕ → ℕ → List Bool
 only signals s = slice_set (replicate signals false) s true
 
@@ -48,7 +48,7 @@ pub record IsReached (first : ℕ) (gates : List Gate) (from : ℕ) (start set :
       × (bit set (signal_of (slice_index_or gates t d).b) ≡ true)
   pub least : (other : List Bool) → HasOperands first gates other → IsPart start other → IsPart set other
 
--- These are the marked ones of the first so many places, in ascending order.
+-- These are the marked ones of the first n places, in ascending order.
 pub record AreMarked (marks : List Bool) (count : ℕ) (places : List ℕ) : Type 0 where
   pub ascending : AllPairs (λ one other. one < other) places
   pub below : All (λ place. place < count) places

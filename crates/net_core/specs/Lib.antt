@@ -1,5 +1,4 @@
 pub mod Graph
-pub mod Kinds
 pub mod PlainNets
 pub mod Search
 pub mod Orders

@@ -6,7 +6,7 @@ use Rattle.circuits.specs.Circuits.{Circuit, signal_at}
 use Rattle.circuits.specs.Levels.{HasLevel}
 use Rattle.net_core.specs.declared.levels.Placed.{Placed}
 
--- the first so many definitions are listed, each at its own position and with its level
+-- the first n definitions are listed, each at its own position and with its level
 abbrev pub AreListed : Circuit → ℕ → List Placed → Type 0
 AreListed circuit count placed = (k : ℕ) (d : Placed)
     → k < count

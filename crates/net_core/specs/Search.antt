@@ -49,7 +49,7 @@ pub record Knows (circuit : Circuit) (visits : List Visit) (stack : List ℕ) : 
       → IsFound circuit (left visits stack) (signal_at circuit k) level
   pub opens : (k : ℕ) → visit_of visits k ≡ Open → Contains stack k
 
--- the first so many definitions were met
+-- the first n definitions were met
 abbrev pub AreMet : ℕ → List Visit → Type 0
 AreMet count visits = (k : ℕ) → k < count → visit_of visits k ≢ New
 
@@ -66,7 +66,7 @@ pub record IsUnderWay (circuit : Circuit) (root : ℕ) (visits : List Visit) (st
   pub looked : All (IsLooked circuit (left visits (positions stack))) stack
   pub met : AreMet (root + 1) visits
 
--- no search is under way, and the first so many definitions were met
+-- no search is under way, and the first n definitions were met
 pub record IsReady (circuit : Circuit) (count : ℕ) (visits : List Visit) (stack : List Frame) : Type 0 where
   pub knows : Knows circuit visits (positions stack)
   pub no_stack : length stack ≡ 0

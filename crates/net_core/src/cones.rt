@@ -15,7 +15,7 @@ impl Graph {
     ///
     /// # Errors
     ///
-    /// For want of memory alone.
+    /// Only when out of memory.
     pub fn cone(&self, alloc: Global, output: u32) -> Result<Vec<u32>, AllocError>
         requires { output < length self.now.outputs }
         ensures ascending { IfOk result (λ gates. AllPairs (λ one other. one < other) gates.items) }

@@ -247,7 +247,7 @@ impl Expansion {
     }
 }
 
-/// Literals that stand for themselves: those of the first so many signals.
+/// Literals that stand for themselves: those of the first n signals.
 fn own_literals(alloc: Global, signals: u32) -> Result<Vec<Lit>, AllocError>
     requires { signals < 2 ^ 31 }
     ensures { IfOk result (λ literals. literals.items ≡ map plain_literal (range_with_len 0 signals)) }

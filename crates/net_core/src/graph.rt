@@ -1,4 +1,4 @@
-//! Graphs of AND gates, each of which stands behind its operands.
+//! Graphs of AND gates, each of which stands after its operands.
 
 ghost use Rattle.std.specs.Prelude.{◌≡◌, ◌+◌, ◌^◌, ◌<◌, ◌↔◌, IsSome, IfOk, IfSome, false, ◌∷◌, length, take, vec_len};
 ghost use Rattle.circuits.specs.Literals.{literal_bit, signal_of};

@@ -14,7 +14,7 @@ pub enum OrderFault {
     /// There is no cycle, but the definitions have more than 1,000,000 gates.
     #[error("more than 1,000,000 gates")]
     TooManyGates,
-    /// Memory is wanting.
+    /// Out of memory.
     #[error("out of memory")]
     Memory,
 }

@@ -24,7 +24,7 @@ const MOST_GATES: usize = 1_000_000;
 /// above one has no level, and the first of these is refused; then more than 1,000,000 gates are refused.
 ///
 /// An AND is one gate. Of a cover each row is the AND of its literals, left to right, and the rows are
-/// joined one by one by OR, each behind its own gates, without simplification; so a cover may be stood for
+/// joined one by one by OR, each after its own gates, without simplification; so a cover may be stood for
 /// by a literal of the constant or of a signal before it.
 pub fn order(alloc: Global, net: &PlainNet) -> Result<Graph, OrderFault>
     ensures graph { IfOk result (λ graph. IsOrderOf net.now graph) }
@@ -37,7 +37,7 @@ pub fn order(alloc: Global, net: &PlainNet) -> Result<Graph, OrderFault>
         → IsAcyclic net.now × (1000000 < gates_in net.now) }
 {
     let placed = find_levels(alloc, net)?;
-    // Behind the levels, since a cycle is the fault that comes first; and before any gate is made, so that
+    // After the levels, since a cycle is the fault that comes first; and before any gate is made, so that
     // what is refused takes no memory for gates.
     if gate_count(net) > MOST_GATES {
         return Err(OrderFault::TooManyGates);

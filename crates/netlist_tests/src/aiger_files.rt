@@ -1,6 +1,7 @@
 use crate::compared::{has_names, is_graph};
 use aiger_reader::read;
-use net_core::{Lit, NetFault, NetKind, NetStop};
+use net_core::Lit;
+use net_file::{NetFault, NetKind, NetStop};
 use std::alloc::Global;
 use std::process::Abort;
 use std::test::Fail;
@@ -51,7 +52,7 @@ static NETLISTS: [File; 10] = [
         b"i0,",
         b"o0,",
     ),
-    // gates behind those that read them: the first is of level 2
+    // gates after those that read them: the first is of level 2
     (
         b"aag 4 2 0 1 2\n2\n4\n8\n8 6 2\n6 2 4\n",
         2,
@@ -68,7 +69,7 @@ static NETLISTS: [File; 10] = [
         b"i0,i1,",
         b"o0,",
     ),
-    // six NAND gates of five inputs, each numbered behind its operands
+    // six NAND gates of five inputs, each numbered after its operands
     (
         b"aig 11 5 0 2 6\n23\n21\n\x04\x03\x08\x01\x03\x03\x05\x0b\x03\x02\x03\x02",
         5,

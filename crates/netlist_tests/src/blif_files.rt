@@ -4,7 +4,8 @@ mod files;
 
 use crate::compared::is_graph;
 use blif_reader::read;
-use net_core::{Lit, Named, NetStop};
+use net_core::Lit;
+use net_file::{Named, NetStop};
 use std::alloc::Global;
 use std::test::Fail;
 

@@ -1,7 +1,8 @@
 //! What the tests compare of netlists.
 
 use items::Items;
-use net_core::{Gate, Graph, Lit, Name, Named};
+use net_core::{Gate, Graph, Lit};
+use net_file::{Name, Named};
 use std::alloc::{AllocError, Global};
 
 /// Whether the gates have these operands.
@@ -19,7 +20,7 @@ pub(crate) fn is_graph(graph: &Graph, operands: &[(u32, u32)], outputs: &[Lit]) 
     have_operands(graph.gates(), operands) & (graph.outputs() == outputs)
 }
 
-/// Whether the ports have these names, written one after another, each with a comma behind it.
+/// Whether the ports have these names, written one after another, each with a comma after it.
 pub(crate) fn has_names(
     alloc: Global,
     named: &Named,

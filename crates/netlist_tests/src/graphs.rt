@@ -93,10 +93,9 @@ fn copy_of_first(alloc: Global) -> Result<Graph, Fail> {
 
 #[test]
 fn copies_and_picks_sides(rt: HostRuntime) -> Result<(), Fail> {
-    let graphs = Graphs {
-        first: copy_of_first(rt.alloc())?,
-        second: graph(rt.alloc(), 1, &[], &[])?,
-    };
+    let first = copy_of_first(rt.alloc())?;
+    let second = graph(rt.alloc(), 1, &[], &[])?;
+    let graphs = Graphs::new(&first, &second);
     let first = graphs.side(Side::First);
     assert!(rt; is_graph(first, &[(2, 4)], &[Lit(6), Lit(2)]));
     let inputs = (first.inputs(), graphs.side(Side::Second).inputs());

@@ -10,6 +10,8 @@ mod compared;
 #[cfg(test)]
 mod graphs;
 #[cfg(test)]
+mod named_circuits;
+#[cfg(test)]
 mod reports;
 #[cfg(test)]
 mod sample_circuits;

@@ -3,10 +3,13 @@
 ghost use Rattle.std.specs.Prelude.{◌<◌, ◌↔◌, All, IsTrue};
 ghost use Rattle.port_report.specs.Infos.{IsInRange};
 
+use crate::named_circuits::named;
 use items::Items;
-use net_core::{Matching, Named};
-use port_report::{OutputInfo, Sym, Unate, put_info, put_match, put_rejected};
-use samples::{SampleFault, graph, matching, named};
+use net_core::Matching;
+use net_file::Named;
+use output_info::{OutputInfo, Sym, Unate};
+use port_report::{put_info, put_match, put_rejected};
+use samples::{SampleFault, graph, matching};
 use std::alloc::{AllocError, Global};
 use std::test::Fail;
 
@@ -17,10 +20,10 @@ fn circuit(alloc: Global, inputs: &[&[u8]], outputs: &[&[u8]]) -> Result<Named, 
     }
     let zeros = vec![in alloc; 0; outputs.len()]?;
     let wires = graph(alloc, inputs.len() as u32, &[], &zeros)?;
-    named(alloc, wires, inputs, outputs)
+    Ok(named(alloc, wires, inputs, outputs)?)
 }
 
-// Whether the port table is written as this text, behind a byte that stands there before.
+// Whether the port table is written as this text, after a byte that stands there before.
 fn is_table_written(
     alloc: Global,
     first: &Named,
@@ -156,7 +159,7 @@ fn put_rows(alloc: Global, rows: &mut Vec<OutputInfo>) -> Result<(), Fail> {
     put_row(alloc, &[], &[], rows)
 }
 
-// Whether the rows are written as this text, behind a byte that stands there before.
+// Whether the rows are written as this text, after a byte that stands there before.
 fn are_told(
     alloc: Global,
     circuit: &Named,
@@ -176,7 +179,7 @@ fn are_told(
 
 fn four_outputs(alloc: Global) -> Result<Named, SampleFault> {
     let gate = graph(alloc, 2, &[(2, 4)], &[7, 1, 6, 0])?;
-    named(alloc, gate, &[b"a", b"b"], &[b"y", b"one", b"z", b"zero"])
+    Ok(named(alloc, gate, &[b"a", b"b"], &[b"y", b"one", b"z", b"zero"])?)
 }
 
 #[test]

@@ -1,14 +1,16 @@
 //! A sample of each kind, and what is refused.
 
 use crate::compared::{has_names, is_graph};
-use net_core::{Lit, Named};
-use samples::{SampleFault, graph, named};
+use crate::named_circuits::named;
+use net_core::Lit;
+use net_file::Named;
+use samples::{SampleFault, graph};
 use std::alloc::Global;
 use std::test::Fail;
 
 fn sample(alloc: Global) -> Result<Named, SampleFault> {
     let and = graph(alloc, 2, &[(2, 4)], &[6, 3])?;
-    named(alloc, and, &[b"a", b"b"], &[b"y", b"not a"])
+    Ok(named(alloc, and, &[b"a", b"b"], &[b"y", b"not a"])?)
 }
 
 #[test]
@@ -22,11 +24,6 @@ fn makes_samples(rt: HostRuntime) -> Result<(), Fail> {
 
 fn fault_of(alloc: Global, inputs: u32, gate: (u32, u32), output: u32) -> Option<SampleFault> {
     graph(alloc, inputs, &[gate], &[output]).err()
-}
-
-fn fault_of_names(alloc: Global) -> Result<Option<SampleFault>, SampleFault> {
-    let wire = graph(alloc, 1, &[], &[2])?;
-    Ok(named(alloc, wire, &[], &[b"y"]).err())
 }
 
 // How many inputs there are, the operands of the gate, the output, and why that is no sample, if it isn't.
@@ -49,6 +46,5 @@ fn refuses_what_is_no_sample(rt: HostRuntime) -> Result<(), Fail> {
         let found = fault_of(rt.alloc(), *inputs, *gate, *output);
         assert_eq!(rt; found, *fault, "at {inputs} {gate:?} {output}");
     }
-    assert_eq!(rt; fault_of_names(rt.alloc())?, Some(SampleFault::Names));
     Ok(())
 }

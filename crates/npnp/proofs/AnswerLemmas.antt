@@ -2,12 +2,12 @@
 use Rattle.std.proofs.Common.{◌≡◌, ℕ, inl, inr, List, ◌++◌, All, map, refl, sym, subst}
 use Rattle.cnf_core.specs.declared.log.Log.{Log}
 use Rattle.net_core.specs.Graph.{IsGraph}
-use Rattle.net_core.specs.declared.graphs.Graphs.{Graphs}
+use Rattle.net_core.specs.Sides.{Graphs}
 use Rattle.net_core.specs.declared.matching.Matching.{Matching}
 use Rattle.account_core.specs.declared.fact.Fact.{Fact}
 use Rattle.account_core.specs.declared.step.Ban.{Ban}
 use Rattle.account_core.specs.Given.{decided_by}
-use Rattle.account_core.specs.Oracles.{AreFacts}
+use Rattle.account_core.specs.Facts.{AreFacts}
 use Rattle.account_core.specs.Ports.{HaveAsMany}
 use Rattle.account_core.specs.Steps.{AreValidBans}
 use Rattle.account_file.specs.Spelling.{IsWritable}
@@ -17,7 +17,7 @@ use Rattle.account_check.proofs.RefusalLemmas.{right_refusal}
 use Rattle.account_write.specs.Records.{lines_of, match_records, none_ports_records, refusal_records}
 use Rattle.account_write.proofs.MatchLemmas.{match_accepted}
 use Rattle.account_write.proofs.RefusalLemmas.{none_ports_accepted, refusal_accepted}
-use Rattle.match_search.specs.Founds.{IsEmptyBan, IsShownMatch}
+use Rattle.account_core.specs.Shown.{IsEmptyBan, IsShownMatch}
 use Rattle.npnp.specs.Steps.{IsAnswered, last_line}
 use Rattle.npnp.specs.declared.outcome.Outcome.TheVariants.{Matched, NoMatching}
 

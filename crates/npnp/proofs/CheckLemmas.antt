@@ -5,9 +5,9 @@ use Rattle.shelf_core.specs.Fault.{Rose}
 use Rattle.circuits.specs.Levels.{IsOrderOf}
 use Rattle.circuits.specs.Netlists.{Net}
 use Rattle.circuits.proofs.OneOrder.{one_order}
-use Rattle.net_core.specs.declared.graphs.Graphs.{Graphs}
+use Rattle.net_core.specs.Sides.{Graphs}
 use Rattle.net_core.specs.declared.matching.Matching.{Matching}
-use Rattle.net_core.specs.declared.named.NetKind.{NetKind}
+use Rattle.net_file.specs.declared.fault.NetKind.{NetKind}
 use Rattle.account_check.specs.Verdicts.{IsAccepted as Proves, IsRejected as IsBadAt}
 use Rattle.account_check.specs.declared.verdict.Verdict.{Verdict}
 use Rattle.account_check.specs.declared.verdict.Verdict.TheVariants as verdict
@@ -21,7 +21,7 @@ use Rattle.circuits.specs.Matches.{AreNpnpEqual}
 use Rattle.npnp.specs.Check.{IsAsked, HasAccount, LacksAccount}
 use Rattle.npnp.specs.Held.{Netlist, HoldsNetlist, HoldsGraph, HoldsFault, HoldsTooMuch}
 use Rattle.npnp.specs.Outcomes.{EndsAt, EndsEarly, IsAskedOf, IsSpentOn, IsOfOne, IsOfMatch, IsRight, IsDecided, IsTold, Leaves}
-use Rattle.net_core.specs.declared.named.Named.{Named}
+use Rattle.net_file.specs.declared.named.Named.{Named}
 use Rattle.shelf_core.specs.State.{ShelfState, Closed}
 use Rattle.npnp.specs.Report.{IsReport}
 use Rattle.npnp.specs.Steps.{Ask, ReadAs, IsVerdict, IsEarly, IsOfReading, IsStopOf, ReadsNetlist, Decides, sought_by}
@@ -559,7 +559,7 @@ module _ (held : List ℕ → Option (List ℕ)) (words : List (List ℕ)) (aske
     ],
   )
 
--- outcomes between which and the words no fault and no want of memory came
+-- outcomes between which and the words no fault came and memory did not run out
 
 pub decided_accepted : (table : Matching) → IsDecided (AcceptedMatch table)
 decided_accepted table = record { read = λ e. cc; told = record { written = λ e. cc; room = λ e. cc } }

@@ -2,9 +2,9 @@
 use Rattle.std.proofs.Common.{◌≡◌, ℕ, ◌≤◌, inl, inr, List, length, Result, Ok, Err, IfOk}
 use Rattle.circuits.specs.Circuits.{Circuit}
 use Rattle.circuits.specs.Levels.{IsAcyclic}
-use Rattle.net_core.specs.declared.named.NetKind.{NetKind}
-use Rattle.net_core.specs.declared.named.NetStop.{NetStop}
-use Rattle.net_core.specs.declared.named.Named.{Named}
+use Rattle.net_file.specs.declared.fault.NetKind.{NetKind}
+use Rattle.net_file.specs.declared.fault.NetStop.{NetStop}
+use Rattle.net_file.specs.declared.named.Named.{Named}
 use Rattle.aiger_reader.proofs.OneAiger.{one_netlist, netlist_or_fault, one_fault}
 use Rattle.aiger_reader.proofs.FewPorts.{few_outputs as few_in_aiger, few_inputs as few_inputs_in_aiger, aiger_acyclic}
 use Rattle.blif_reader.proofs.OneBlif.{one_netlist as one_blif, netlist_or_fault as blif_or_fault, one_fault as one_blif_fault}

@@ -1,18 +1,18 @@
 -- What is known of a netlist, and what a budget was spent on.
-use Rattle.std.proofs.Common.{◌≡◌, ℕ, inl, inr, false, Bool, List, [], All, Option, Result, Ok, Err, IfOk, IfErr, refl, sym, ◌∙◌, ap, subst, arith}
+use Rattle.std.proofs.Common.{◌≡◌, ℕ, inl, inr, false, Bool, List, [], All, Option, Result, Ok, Err, IfOk, IfErr, refl, sym, ◌∙◌, ap, subst, arith, ◌+◌}
 use Rattle.circuits.specs.Netlists.{Net}
-use Rattle.net_core.specs.declared.graphs.Graphs.{Graphs}
+use Rattle.net_core.specs.Sides.{Graphs}
 use Rattle.net_core.specs.declared.matching.Matching.{Matching}
-use Rattle.net_core.specs.declared.named.Named.{Named}
+use Rattle.net_file.specs.declared.named.Named.{Named}
 use Rattle.cnf_core.specs.declared.stop.Stop.{Stop}
 use Rattle.cnf_core.specs.declared.stop.Stop.TheVariants as stop
 use Rattle.shelf_core.specs.State.{ShelfState}
 use Rattle.query_core.specs.Ledgers.{Ledgered}
-use Rattle.account_core.specs.Oracles.{IsSpentWork, Known, Suits}
-use Rattle.account_core.specs.Work.{IsWorkOfClaimsAndMatches}
+use Rattle.oracle_core.specs.Oracles.{IsSpentWork, Known, Suits}
+use Rattle.oracle_core.specs.Work.{IsWorkOfClaimsAndMatches}
 use Rattle.fact_tests.specs.Rows.{AreRows}
 use Rattle.fact_tests.proofs.RowLemmas.{rows_of}
-use Rattle.port_report.specs.declared.info.OutputInfo.{OutputInfo}
+use Rattle.output_info.specs.declared.info.OutputInfo.{OutputInfo}
 use Rattle.port_report.specs.Infos.{IsInRange, info_text}
 use Rattle.npnp.specs.Held.{HoldsGraph}
 use Rattle.npnp.specs.Outcomes.{IsRight, Leaves}
@@ -50,7 +50,7 @@ is_new ledger budget is = subst IsNew (sym is) refl
 pub budget_of_new : (graphs : Graphs) (ledger after : Ledgered) (budget : ℕ) → ledger ≡ record { budget = budget; asked = []; spent = false } → IsSpentOf graphs ledger.budget after → IsSpentOf graphs budget after
 budget_of_new graphs ledger after budget is spent = subst (λ budget. IsSpentOf graphs budget after) (ap (λ (ledger : Ledgered). ledger.budget) is) spent
 
--- want of memory is no spent budget
+-- running out of memory is no spent budget
 pub memory_stops : {X : Type 0} (P : ℕ → Type 0) (result : Result X Stop) → result ≡ Err stop.Memory → (learned : ℕ) → result ≡ Err (stop.Spent learned) → P learned
 memory_stops P result memory learned spent = absurd (cc (memory, spent))
 
@@ -70,6 +70,7 @@ spent_is two graphs known before after budget learned same is empty spent =
     record {
       budget_is = spent.keeps.budget ∙ first;
       learned = spent.used ∙ first;
+      made = spent.made ∙ ap (λ (n : ℕ). n + 1) first;
       refused = spent.refused;
       work = subst (λ graphs. IsWorkOfClaimsAndMatches graphs after) are spent.work;
     }

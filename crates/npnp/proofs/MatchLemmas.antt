@@ -5,7 +5,7 @@ use Rattle.std.proofs.lemmas.List.{take_all}
 use Rattle.std.proofs.lemmas.Slice.Eq.{bytes_eq-Decides}
 use Rattle.std.specs.Str.{bytes_eq}
 use Rattle.circuits.proofs.MatchLaws.{match_from_functions, functions_from_equal}
-use Rattle.net_core.specs.declared.named.Named.{Named}
+use Rattle.net_file.specs.declared.named.Named.{Named}
 use Rattle.shelf_core.specs.State.{ShelfState}
 use Rattle.account_check.specs.Verdicts.{IsAccepted as Proves}
 use Rattle.account_check.specs.declared.verdict.Verdict.{Verdict}
@@ -193,7 +193,7 @@ module _ (tells : Bool) (asked : MatchWords) (old new : ShelfState) (first secon
   unchanged : IsTrue tells → new.held asked.account.now ≡ old.held asked.account.now → (n : List ℕ) → new.held n ≡ old.held n
   unchanged t same n = everywhere old.held new.held asked.account.now (others t) same n (bytes_eq n asked.account.now) refl
 
-  -- a budget that was spent, or want of memory, is right
+  -- a budget that was spent, or running out of memory, is right
 
   stop_right : (o : Outcome) → IsStopWithin (graphs_of first second) asked.budget o → IsTrue tells → (words : List (List ℕ)) → AsksMatch words (sought_by asked) → IsRight old.held words o
   stop_right o stop t words asks =

@@ -14,7 +14,7 @@ take_plus : (m k : ℕ) (xs : List ℕ) → take (m + k) xs ≡ take m xs ++ tak
 take_plus m k xs =
     sym (take-append-drop m (take (m + k) xs)) ∙ (ap (λ ys. ys ++ drop m (take (m + k) xs)) (take-take m (m + k) xs (omega arith)) ∙ ap (λ ys. take m xs ++ ys) (drop-take m k xs))
 
--- the next piece behind what was written
+-- the next piece after what was written
 pub fill_more : (text : List ℕ) (done end : ℕ) → done ≤ end → take done text ++ between done end text ≡ take end text
 fill_more text done end le =
     ap (λ ys. take done text ++ ys) (between_is text done end) ∙ (ap (λ ys. ys ++ drop done (take end text)) (sym (take-take done end text le)) ∙ take-append-drop done (take end text))
@@ -118,7 +118,7 @@ not_filled tells lines last old new stop result is fills =
       failed = λ e. fills.failed e;
     })
 
--- the last line is written behind them, or refused
+-- the last line is written after them, or refused
 pub filled : (tells : Bool) (lines last : List ℕ) (old middle new : ShelfState) (result : Result (Unit {0}) ShelfStop)
     → FillsFile tells lines old middle (Ok tt)
     → Appends tells last middle new result

@@ -4,7 +4,7 @@ use Rattle.circuits.specs.Matches.{IsMatch, AreNpnpEqual}
 use Rattle.account_check.specs.Verdicts.{IsAccepted as Proves, IsRejected as IsBadAt}
 use Rattle.account_check.specs.declared.verdict.Verdict.{Verdict}
 use Rattle.account_check.specs.declared.verdict.Why.{Why}
-use Rattle.net_core.specs.declared.graphs.Graphs.{Graphs}
+use Rattle.net_core.specs.Sides.{Graphs}
 use Rattle.net_core.specs.declared.matching.Matching.{Matching}
 use Rattle.npnp.specs.Held.{Netlist, HoldsNetlist, HoldsGraph}
 use Rattle.npnp.specs.Words.{AsksCheck}

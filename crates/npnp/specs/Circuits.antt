@@ -1,7 +1,7 @@
 -- The circuit that a file is: an AIGER file where its first four bytes say so, else a BLIF file.
 use Rattle.std.specs.Prelude.{◌≡◌, ℕ, ◌⊎◌, Bool, List, take}
 use Rattle.circuits.specs.Circuits.{Circuit}
-use Rattle.net_core.specs.declared.named.NetKind.{NetKind}
+use Rattle.net_file.specs.declared.fault.NetKind.{NetKind}
 use Rattle.aiger_reader.specs.Headers.{keyword}
 use Rattle.aiger_reader.specs.Aiger.{IsAiger, IsAigerFault}
 use Rattle.blif_reader.specs.Blif.{IsBlif, IsBlifFault}

@@ -15,7 +15,7 @@ Tells limit held Absent = held ≡ None
 Tells limit held TooLong = (bytes : List ℕ) × (held ≡ Some bytes) × (limit < length bytes)
 Tells limit held (Bytes bytes) = (held ≡ Some bytes.items) × (length bytes.items ≤ limit)
 
--- the bytes of a file are at most so many
+-- a file has at most n bytes
 abbrev pub IsWithin : ℕ → File → Type 0
 IsWithin limit (Bytes bytes) = length bytes.items ≤ limit
 IsWithin limit other = Unit {0}
@@ -69,7 +69,7 @@ pub record FillsFile (tells : Bool) (text : List ℕ) (old new : ShelfState) (re
   pub faults : old.faults ≤ new.faults
   pub failed : result ≡ Err Failed → Rose old.faults new.faults
 
--- Writing the next piece of a text to the open file, which held its first bytes, and holds so many afterwards.
+-- Writing the next piece of a text to the open file, which held its first bytes, and holds n afterwards.
 pub record FillsOn (tells : Bool) (text : List ℕ) (done : ℕ) (old new : ShelfState) (result : Result ℕ ShelfStop) : Type 0 where
   pub others : IsTrue tells → (n : List ℕ) → n ≢ old.name → new.held n ≡ old.held n
   pub writing : IfOk result (λ end. new.mode ≡ Writing)

@@ -3,7 +3,7 @@ use Rattle.std.specs.Prelude.{◌≡◌, ℕ, ◌<◌, ◌≤◌, List, length, 
 use Rattle.circuits.specs.Circuits.{Circuit}
 use Rattle.circuits.specs.Levels.{IsOrderOf}
 use Rattle.circuits.specs.Netlists.{Net}
-use Rattle.net_core.specs.declared.named.NetKind.{NetKind}
+use Rattle.net_file.specs.declared.fault.NetKind.{NetKind}
 use Rattle.npnp.specs.Circuits.{IsCircuit, IsCircuitFault}
 
 -- A netlist as its file has it, with the names of its ports.

@@ -15,7 +15,7 @@ pub use Rattle.port_report.specs.Reports
 pub use Rattle.port_report.specs.Infos
 pub use Rattle.text_core.specs.Numbers
 pub use Rattle.query_core.specs.Ledgers
-pub use Rattle.account_core.specs.Work
+pub use Rattle.oracle_core.specs.Work
 pub use Rattle.fact_tests.specs.Rows
 pub use Rattle.account_write.specs.Records
 pub use Rattle.match_search.specs.Founds

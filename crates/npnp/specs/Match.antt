@@ -3,7 +3,7 @@ use Rattle.std.specs.Prelude.{◌≡◌, ℕ, List, take, Option, Some}
 use Rattle.circuits.specs.Matches.{IsMatch, AreNpnpEqual}
 use Rattle.account_check.specs.Verdicts.{IsAccepted as Proves}
 use Rattle.account_check.specs.declared.verdict.Verdict.{Verdict}
-use Rattle.net_core.specs.declared.graphs.Graphs.{Graphs}
+use Rattle.net_core.specs.Sides.{Graphs}
 use Rattle.net_core.specs.declared.matching.Matching.{Matching}
 use Rattle.query_core.specs.Ledgers.{Ledgered}
 use Rattle.npnp.specs.Check.{IsAccepted}

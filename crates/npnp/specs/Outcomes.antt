@@ -15,7 +15,7 @@ use Rattle.npnp.specs.declared.outcome.Outcome.{Outcome}
 use Rattle.npnp.specs.declared.outcome.Outcome.TheVariants.{AcceptedMatch, AcceptedRefusal, Rejected, Matched, NoMatching, Spent, Usage, Absent, TooLarge, Malformed, Informed, ReadFault, WriteFault, Memory}
 
 -- What a file that is no netlist ends the run with, where a name holds it: `file` says which one it is. Faults of the
--- outside and want of memory say nothing of it.
+-- outside and running out of memory say nothing of it.
 abbrev pub EndsAt : Which → Option (List ℕ) → Outcome → Type 0
 EndsAt file content (Absent which) = (which ≡ file) × (content ≡ None)
 EndsAt file content (TooLarge which) = (which ≡ file) × HoldsTooMuch content
@@ -84,7 +84,7 @@ IsOfMatch outcome =
 abbrev pub IsAbsent : (List ℕ → Option (List ℕ)) → List (List ℕ) → Which → Type 0
 IsAbsent held words which = EndsEarly held words (Absent which) ⊎ ((which ≡ Account) × LacksAccount held words)
 
--- what an outcome says of the words and the files; the faults and the want of memory say nothing of them
+-- what an outcome says of the words and the files; the faults and the running out of memory say nothing of them
 abbrev pub IsRight : (List ℕ → Option (List ℕ)) → List (List ℕ) → Outcome → Type 0
 IsRight held words (Matched table) = IsMatchFound held words table
 IsRight held words NoMatching = HasNoMatch held words
@@ -110,12 +110,12 @@ pub record IsTold (outcome : Outcome) : Type 0 where
   pub written : outcome ≢ WriteFault
   pub room : outcome ≢ Memory
 
--- no fault and no want of memory came between
+-- no fault came between and memory did not run out
 pub record IsDecided (outcome : Outcome) : Type 0 where
   pub read : outcome ≢ ReadFault
   pub told : IsTold outcome
 
--- no fault, no want of memory and no spent budget came between
+-- no fault came between, memory did not run out and no budget was spent
 pub record IsSettled (outcome : Outcome) : Type 0 where
   pub decided : IsDecided outcome
   pub unspent : (ledger : Ledgered) → outcome ≢ Spent ledger
@@ -126,7 +126,7 @@ pub record LeavesFiles (outcome : Outcome) : Type 0 where
   pub no_refusal : outcome ≢ NoMatching
   pub told : IsTold outcome
 
--- a fault or want of memory came, which leaves no file changed, or a first part of the account
+-- a fault came or memory ran out, which leaves no file changed, or a first part of the account
 abbrev pub MayBeCut : (List ℕ → Option (List ℕ)) → (List ℕ → Option (List ℕ)) → List (List ℕ) → Type 0
 MayBeCut before after words = ((name : List ℕ) → after name ≡ before name) ⊎ HoldsPart after words
 

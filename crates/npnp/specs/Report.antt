@@ -2,9 +2,9 @@
 use Rattle.std.specs.Prelude.{◌≡◌, ◌≢◌, ℕ, ◌⊎◌, Bool, IsTrue, List, [], ◌∷◌, ◌++◌, codes, Option}
 use Rattle.circuits.specs.Circuits.{Circuit}
 use Rattle.std.specs.Fmt.{decimal}
-use Rattle.net_core.specs.Kinds.{kind_number}
+use Rattle.net_file.specs.Kinds.{kind_number}
 use Rattle.net_core.specs.declared.matching.Matching.{Matching}
-use Rattle.net_core.specs.declared.named.Named.{Named}
+use Rattle.net_file.specs.declared.named.Named.{Named}
 use Rattle.query_core.specs.Ledgers.{learned_in}
 use Rattle.port_report.specs.Reports.{PortNames, match_text, rejected_text}
 use Rattle.account_check.specs.Words.{word_of}
@@ -50,7 +50,7 @@ pub record IsOneLine (outcome : Outcome) : Type 0 where
   pub no_table : (table : Matching) → HasTable outcome table → ⊥
   pub no_rows : outcome ≢ Informed
 
--- the report of an outcome of two netlists: its line, and behind that of a match the port table
+-- the report of an outcome of two netlists: its line, and after that of a match the port table
 abbrev pub report_on : PortNames → PortNames → Outcome → List ℕ
 report_on first second (AcceptedMatch table) = line_of (AcceptedMatch table) ++ match_text first second table
 report_on first second (Matched table) = line_of (Matched table) ++ match_text first second table

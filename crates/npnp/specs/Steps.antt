@@ -7,9 +7,9 @@ use Rattle.circuits.specs.Matches.{IsMatchOfFunctions, HaveNpnpEqualFunctions}
 use Rattle.circuits.specs.Netlists.{Net}
 use Rattle.shelf_core.specs.Fault.{Rose}
 use Rattle.shelf_core.specs.State.{ShelfState, SinkState, Closed}
-use Rattle.net_core.specs.declared.graphs.Graphs.{Graphs}
+use Rattle.net_core.specs.Sides.{Graphs}
 use Rattle.net_core.specs.declared.matching.Matching.{Matching}
-use Rattle.net_core.specs.declared.named.Named.{Named}
+use Rattle.net_file.specs.declared.named.Named.{Named}
 use Rattle.query_core.specs.Ledgers.{Ledgered}
 use Rattle.account_check.specs.Verdicts.{IsAccepted as Proves, IsRejected as IsBadAt}
 use Rattle.account_check.specs.declared.verdict.Verdict.{Verdict}
@@ -87,7 +87,7 @@ pub record ReadsNetlist (tells : Bool) (file : Which) (name : List ℕ) (old new
   pub faults : old.faults ≤ new.faults
   pub failed : result ≡ Err ReadFault → Rose old.faults new.faults
 
--- what ends a run that asks about two graphs: the budget is spent on them, or memory is wanting
+-- what ends a run that asks about two graphs: the budget is spent on them, or memory ran out
 abbrev pub IsStopWithin : Graphs → ℕ → Outcome → Type 0
 IsStopWithin graphs budget outcome =
     ((ledger : Ledgered) × (outcome ≡ Spent ledger) × IsSpentOf graphs budget ledger) ⊎ (outcome ≡ Memory)
@@ -158,7 +158,7 @@ IsAnswered graphs account outcome =
 abbrev pub last_line : List ℕ
 last_line = record_line entry.End
 
--- Searching two graphs for a match: an answer with its account, or the budget is spent or memory is wanting.
+-- Searching two graphs for a match: an answer with its account, or the budget is spent or memory ran out.
 pub record Solves (graphs : Graphs) (budget : ℕ) (result : Result Solved Outcome) : Type 0 where
   pub answer : IfOk result (λ solved. IsAnswered graphs (solved.account.items ++ last_line) solved.outcome)
   pub stopped : IfErr result (IsStopWithin graphs budget)

@@ -19,7 +19,7 @@ pub record IsNumber (word : List ℕ) (value : ℕ) : Type 0 where
   pub short : length word ≤ 20
   pub fits : value < 2 ^ 64
 
--- What is sought: a match of two netlists, of which an account is written, with so many learned clauses at most, and by vectors
+-- What is sought: a match of two netlists, of which an account is written, with n learned clauses at most, and by vectors
 -- that are drawn from a seed.
 pub record Sought : Type 0 where
   pub first : List ℕ

@@ -10,12 +10,14 @@ ghost use Rattle.npnp.specs.Steps.{Decides, InformsOf, IsNew, asked_info};
 
 use crate::netlists::read_netlist;
 use crate::outcome::{Outcome, Which};
-use crate::run::{Ending, copy_graphs};
+use crate::run::Ending;
 use crate::words::Info;
 use cnf_core::Stop;
 use fact_tests::FactBook;
-use net_core::Named;
-use port_report::{OutputInfo, put_info};
+use net_core::Graphs;
+use net_file::Named;
+use output_info::OutputInfo;
+use port_report::put_info;
 use query_core::Ledger;
 use shelf_core::Shelf;
 use std::alloc::{AllocError, Global};
@@ -53,7 +55,7 @@ fn rows_of(alloc: Global, named: &Named, ledger: &mut Ledger) -> Result<Vec<Outp
         → IsSpentOf (with_itself named.now.graph) ledger.old.budget ledger.new }
 {
     // the circuit is set against itself: claims of its first side are all that is asked
-    let graphs = copy_graphs(alloc, named, named)?;
+    let graphs = Graphs::new(&named.graph, &named.graph);
     let mut book = FactBook::new(alloc, &graphs, SEED)?;
     fact_tests::info(alloc, &graphs, &mut book, ledger)
 }

@@ -3,10 +3,11 @@
 ghost use Rattle.std.specs.Prelude.{◌≡◌, ℕ, ◌++◌, ◌↔◌, Err, IfOk, IsTrue, map};
 ghost use Rattle.cnf_core.specs.declared.stop.Stop.TheVariants.{Spent};
 ghost use Rattle.account_core.specs.Given.{decided_by};
-ghost use Rattle.account_core.specs.Oracles.{AreFacts};
+ghost use Rattle.account_core.specs.Facts.{AreFacts};
 ghost use Rattle.account_core.specs.Ports.{HaveAsMany};
 ghost use Rattle.account_core.specs.Steps.{AreValidBans};
-ghost use Rattle.match_search.specs.Founds.{IsEmptyBan, IsFound, IsShownMatch};
+ghost use Rattle.account_core.specs.Shown.{IsEmptyBan, IsShownMatch};
+ghost use Rattle.match_search.specs.Founds.{IsFound};
 ghost use Rattle.shelf_core.specs.State.{Closed};
 ghost use Rattle.npnp.specs.Info.{IsSpentOf};
 ghost use Rattle.npnp.specs.Stops.{unwritten};
@@ -15,16 +16,18 @@ ghost use Rattle.npnp.specs.Steps.{Concludes, Decides, Finds, IsAnswered, IsNew,
 use crate::netlists::read_netlist;
 use crate::outcome::{Outcome, Which};
 use crate::report::report_named;
-use crate::run::{Ending, copy_graphs};
+use crate::run::Ending;
 use crate::words::Match;
 use crate::writing::write_account;
-use account_core::{Ban, Fact, Oracle};
+use account_core::{Ban, Fact};
 use account_write::{put_match, put_none_ports, put_refusal};
 use ban_book::BanBook;
 use cnf_core::{Log, Stop};
 use fact_tests::FactBook;
-use match_search::{Found, search};
-use net_core::{Graphs, Matching, Named};
+use match_search::{Found, decide};
+use net_core::{Graphs, Matching};
+use net_file::Named;
+use oracle_core::Oracle;
 use query_core::Ledger;
 use shelf_core::{Shelf, ShelfStop};
 use std::alloc::{AllocError, Global};
@@ -60,7 +63,7 @@ fn find_of<S: Shelf>(
     ensures { Finds S.tells first.now second.now asked.now.account.now asked.now.budget
         (S.state shelf.old) (S.state shelf.new) result }
 {
-    let graphs = copy_graphs(alloc, first, second)?;
+    let graphs = Graphs::new(&first.graph, &second.graph);
     let solved = solve(alloc, asked, &graphs)?;
     let report = report_named(alloc, first, second, &solved.outcome)?;
     let Solved { outcome, account } = solved;
@@ -95,7 +98,7 @@ fn unwritten(stop: ShelfStop) -> Outcome
 }
 
 /// Looks for a match of two graphs. Where they have other numbers of ports there is nothing to search.
-fn solve(alloc: Global, asked: &Match<'_>, graphs: &Graphs) -> Result<Solved, Outcome>
+fn solve(alloc: Global, asked: &Match<'_>, graphs: &Graphs<'_>) -> Result<Solved, Outcome>
     ensures { Solves graphs.now asked.now.budget result }
 {
     if have_as_many_ports(graphs) {
@@ -106,17 +109,17 @@ fn solve(alloc: Global, asked: &Match<'_>, graphs: &Graphs) -> Result<Solved, Ou
 }
 
 /// Whether two graphs have as many inputs, and as many outputs.
-fn have_as_many_ports(graphs: &Graphs) -> bool
+fn have_as_many_ports(graphs: &Graphs<'_>) -> bool
     ensures { IsTrue result ↔ HaveAsMany graphs.now.first graphs.now.second }
 {
-    (graphs.first.inputs() == graphs.second.inputs())
-        & (graphs.first.outputs().len() == graphs.second.outputs().len())
+    (graphs.first().inputs() == graphs.second().inputs())
+        & (graphs.first().outputs().len() == graphs.second().outputs().len())
 }
 
 /// Searches two graphs with as many ports, with at most `budget` learned clauses.
 fn solve_by_search(
     alloc: Global,
-    graphs: &Graphs,
+    graphs: &Graphs<'_>,
     seed: u64,
     budget: u64,
 ) -> Result<Solved, Outcome>
@@ -132,7 +135,12 @@ fn solve_by_search(
 }
 
 /// Searches two graphs with as many ports, and asks in a new ledger.
-fn search_in(alloc: Global, graphs: &Graphs, seed: u64, ledger: &mut Ledger) -> Result<Solved, Stop>
+fn search_in(
+    alloc: Global,
+    graphs: &Graphs<'_>,
+    seed: u64,
+    ledger: &mut Ledger,
+) -> Result<Solved, Stop>
     requires ports { HaveAsMany graphs.now.first graphs.now.second }
     requires new { IsNew ledger.old }
     ensures answer { IfOk result (λ solved. IsAnswered graphs.now (solved.account.items ++ last_line) solved.outcome) }
@@ -141,14 +149,14 @@ fn search_in(alloc: Global, graphs: &Graphs, seed: u64, ledger: &mut Ledger) -> 
 {
     let mut book = FactBook::new(alloc, graphs, seed)?;
     let mut bans = BanBook::new(alloc);
-    let found = search(alloc, graphs, &mut book, &mut bans, ledger)?;
+    let found = decide(alloc, graphs, &mut book, &mut bans, seed, ledger)?;
     Ok(answered(alloc, graphs, found, book.facts(), bans.bans())?)
 }
 
 /// The answer that a search came to by facts and bans, with its account.
 fn answered(
     alloc: Global,
-    graphs: &Graphs,
+    graphs: &Graphs<'_>,
     found: Found,
     facts: &[Fact],
     bans: &[Ban],
@@ -168,7 +176,7 @@ fn answered(
 /// The answer that a port table is a match, with its account.
 fn matched(
     alloc: Global,
-    graphs: &Graphs,
+    graphs: &Graphs<'_>,
     matching: Matching,
     logs: &[Log],
 ) -> Result<Solved, AllocError>
@@ -176,7 +184,7 @@ fn matched(
     ensures { IfOk result (λ solved. IsAnswered graphs.now (solved.account.items ++ last_line) solved.outcome) }
 {
     // a graph's ports are numbers of 32 bits
-    let _inputs = graphs.first.inputs();
+    let _first = graphs.first();
     let mut account = Vec::new(alloc);
     put_match(alloc, &matching, logs, &mut account)?;
     Ok(Solved {
@@ -188,7 +196,7 @@ fn matched(
 /// The answer that there is no match, by a ban without pairs, with its account.
 fn refused(
     alloc: Global,
-    graphs: &Graphs,
+    graphs: &Graphs<'_>,
     facts: &[Fact],
     bans: &[Ban],
     number: u64,
@@ -199,8 +207,8 @@ fn refused(
     requires empty { IsEmptyBan bans.now number }
     ensures { IfOk result (λ solved. IsAnswered graphs.now (solved.account.items ++ last_line) solved.outcome) }
 {
-    let _first = graphs.first.inputs();
-    let _second = graphs.second.inputs();
+    let _first = graphs.first();
+    let _second = graphs.second();
     let mut account = Vec::new(alloc);
     put_refusal(facts, bans, number, &mut account)?;
     Ok(Solved {
@@ -210,12 +218,12 @@ fn refused(
 }
 
 /// The answer that there is no match, since the graphs have other numbers of ports, with its account.
-fn other_ports(alloc: Global, graphs: &Graphs) -> Result<Solved, AllocError>
+fn other_ports(alloc: Global, graphs: &Graphs<'_>) -> Result<Solved, AllocError>
     requires { HaveAsMany graphs.now.first graphs.now.second → ⊥ }
     ensures { IfOk result (λ solved. IsAnswered graphs.now (solved.account.items ++ last_line) solved.outcome) }
 {
-    let _first = graphs.first.inputs();
-    let _second = graphs.second.inputs();
+    let _first = graphs.first();
+    let _second = graphs.second();
     let mut account = Vec::new(alloc);
     put_none_ports(&mut account)?;
     Ok(Solved {

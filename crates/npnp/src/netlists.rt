@@ -2,13 +2,13 @@
 
 ghost use Rattle.std.specs.Prelude.{◌≡◌, ◌↔◌, ◌≤◌, IsTrue, Err, IfOk, IfErr, length};
 ghost use Rattle.shelf_core.specs.State.{Closed};
-ghost use Rattle.net_core.specs.declared.named.NetFault.{NetFault};
+ghost use Rattle.net_file.specs.declared.fault.NetFault.{NetFault};
 ghost use Rattle.npnp.specs.Circuits.{BeginsAsAiger, IsCircuitFault};
 ghost use Rattle.npnp.specs.Steps.{ReadAs, ReadsNetlist, IsStopOf};
 
 use crate::files::{File, read_file};
 use crate::outcome::{Outcome, Which};
-use net_core::{Named, NetStop};
+use net_file::{Named, NetStop};
 use shelf_core::Shelf;
 use std::alloc::Global;
 

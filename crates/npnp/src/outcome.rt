@@ -5,7 +5,8 @@ ghost use Rattle.npnp.specs.Status.{status_of};
 
 use crate::files::Stop;
 use account_check::Why;
-use net_core::{Matching, NetKind};
+use net_core::Matching;
+use net_file::NetKind;
 use query_core::Ledger;
 use std::alloc::AllocError;
 
@@ -27,7 +28,7 @@ pub enum Outcome {
     AcceptedMatch(Matching),
     /// The account proves that no port table is a match of the circuits.
     AcceptedRefusal,
-    /// The first line of the account that is wrong, counted from 1, and why. Where a line is missing it is the one behind the
+    /// The first line of the account that is wrong, counted from 1, and why. Where a line is missing it is the one after the
     /// last.
     Rejected {
         line: u64,

@@ -7,12 +7,12 @@ ghost use Rattle.npnp.specs.Report.{file_word, line_of, report_on};
 ghost use Rattle.npnp.specs.Steps.{IsMatchIfTable};
 
 use crate::outcome::{Outcome, Which};
-use net_core::{Named, NetKind};
+use net_file::{Named, NetKind};
 use port_report::{put_match, put_rejected};
 use std::alloc::{AllocError, Global};
 use text_core::put_decimal;
 
-/// The report of an outcome of two netlists: a line that names it, and behind that of a match a line for each input
+/// The report of an outcome of two netlists: a line that names it, and after that of a match a line for each input
 /// and each output of the first netlist that says where it goes.
 pub fn report_named(
     alloc: Global,

@@ -2,7 +2,7 @@
 
 ghost use Rattle.std.specs.Prelude.{◌≡◌, ◌≢◌, ℕ, ◌++◌, ◌↔◌, ◌⊎◌, List, IsTrue, IfOk, Some, Err, map, string_bytes};
 ghost use Rattle.net_core.specs.declared.matching.Matching.{Matching as Table};
-ghost use Rattle.net_core.specs.declared.named.NetKind.{NetKind};
+ghost use Rattle.net_file.specs.declared.fault.NetKind.{NetKind};
 ghost use Rattle.shelf_core.specs.Fault.{Rose};
 ghost use Rattle.shelf_core.specs.State.{Closed};
 ghost use Rattle.account_check.specs.declared.verdict.Why.{Why as Reason};
@@ -14,7 +14,7 @@ ghost use Rattle.npnp.specs.Check.{IsAccepted, IsRejected, IsMatchOfFiles, Lacks
 ghost use Rattle.npnp.specs.Match.{HasNoMatch, IsAskedToMatch, IsMatchFound, IsProved, IsSpentOnTwo, NamesAccount};
 ghost use Rattle.npnp.specs.Outcomes.{EndsEarly, IsAbsent, IsAskedOf, IsDecided, IsOfMatch, IsRight, IsSettled, IsSound, IsSpentOn, IsTold, Leaves, LeavesFiles, MayBeCut};
 ghost use Rattle.npnp.specs.Report.{IsReport, line_of};
-ghost use Rattle.npnp.specs.Steps.{IsVerdict, IsMatchIfTable, IsUnequalIfRefused, IsJudged, Judges, Decides, asked_check, TellsLine, PutsText, WritesPart, graphs_of};
+ghost use Rattle.npnp.specs.Steps.{IsVerdict, IsMatchIfTable, IsUnequalIfRefused, IsJudged, Judges, Decides, asked_check, TellsLine, PutsText, WritesPart};
 
 use crate::files::{File, Stop, read_file};
 use crate::info::inform;
@@ -24,9 +24,10 @@ use crate::outcome::{Outcome, Which};
 use crate::report::{report_line, report_named};
 use crate::words::{Check, Command, command_asked};
 use account_check::{CheckStop, Verdict, check};
-use net_core::{Graphs, Named};
+use net_core::Graphs;
+use net_file::Named;
 use shelf_core::{Shelf, ShelfStop, Sink};
-use std::alloc::{AllocError, Global};
+use std::alloc::Global;
 
 /// What is printed where there is no memory.
 const OUT_OF_MEMORY: &[u8] = b"out of memory\n";
@@ -70,20 +71,20 @@ pub fn run<S: Shelf, K: Sink>(
         → IsProved (S.state shelf.new).held (map string_bytes words.now) (Verdict.Match table) }
 
     // There is said to be no match exactly where no signed bijections make the two netlists equal, unless the budget
-    // was spent, or a fault or want of memory came; and the account that is held afterwards proves it.
+    // was spent, a fault came or memory ran out; and the account that is held afterwards proves it.
     ensures no_matching { IsTrue S.tells → IsSettled result
         → ((result ≡ Outcome.NoMatching)
         ↔ HasNoMatch (S.state shelf.old).held (map string_bytes words.now)) }
     ensures no_matching_account { IsTrue S.tells → result ≡ Outcome.NoMatching
         → IsProved (S.state shelf.new).held (map string_bytes words.now) Verdict.None }
 
-    // Where a match of two netlists is sought and no fault and no want of memory came, one of the two is answered, or
+    // Where a match of two netlists is sought and no fault came and memory did not run out, one of the two is answered, or
     // the budget was spent.
     ensures answered { IsTrue S.tells → IsDecided result
         → IsAskedToMatch (S.state shelf.old).held (map string_bytes words.now)
         → IsOfMatch result }
 
-    // Where no fault and no want of memory came between, the words and the files decide the outcome.
+    // Where no fault came between and memory did not run out, the words and the files decide the outcome.
     ensures accepted { IsTrue S.tells → IsDecided result → (table : Table)
         → ((result ≡ Outcome.AcceptedMatch table)
         ↔ IsAccepted (S.state shelf.old).held (map string_bytes words.now) (Verdict.Match table)) }
@@ -145,7 +146,7 @@ pub fn run<S: Shelf, K: Sink>(
     ensures cut { IsTrue S.tells → (result ≡ Outcome.WriteFault) ⊎ (result ≡ Outcome.Memory)
         → MayBeCut (S.state shelf.old).held (S.state shelf.new).held (map string_bytes words.now) }
 
-    // The report is put whole, or after a failed write or want of memory a first part of a right one.
+    // The report is put whole, or after a failed write or running out of memory a first part of a right one.
     ensures report { IsTrue K.tells → IsTold result
         → (text : List ℕ)
         × IsReport S.tells (S.state shelf.old).held (map string_bytes words.now) result text
@@ -153,6 +154,7 @@ pub fn run<S: Shelf, K: Sink>(
     ensures part { IsTrue S.tells → IsTrue K.tells
         → (asked : AnyOutcome) × (text : List ℕ)
         × IsRight (S.state shelf.old).held (map string_bytes words.now) asked
+        × IsSound (S.state shelf.old).held (map string_bytes words.now) asked
         × IsReport S.tells (S.state shelf.old).held (map string_bytes words.now) asked text
         × WritesPart (K.state out.old) (K.state out.new) text }
 {
@@ -243,7 +245,7 @@ fn judge<S: Shelf>(
     ensures { Judges S.tells first.now second.now name.now
         (S.state shelf.old) (S.state shelf.new) result }
 {
-    let graphs = copy_graphs(alloc, first, second)?;
+    let graphs = Graphs::new(&first.graph, &second.graph);
     match read_file(alloc, shelf, name, u64::MAX)? {
         File::Absent => Ok(Outcome::Absent(Which::Account)),
         // no length is above this limit
@@ -252,22 +254,8 @@ fn judge<S: Shelf>(
     }
 }
 
-/// The graphs of two netlists, side by side.
-pub(crate) fn copy_graphs(
-    alloc: Global,
-    first: &Named,
-    second: &Named,
-) -> Result<Graphs, AllocError>
-    ensures { IfOk result (λ graphs. graphs ≡ graphs_of first.now second.now) }
-{
-    Ok(Graphs {
-        first: first.graph.copy(alloc)?,
-        second: second.graph.copy(alloc)?,
-    })
-}
-
 /// What the bytes of an account say of two circuits.
-fn settle(alloc: Global, graphs: &Graphs, account: &[u8]) -> Result<Outcome, Stop>
+fn settle(alloc: Global, graphs: &Graphs<'_>, account: &[u8]) -> Result<Outcome, Stop>
     ensures verdict { IfOk result (IsVerdict graphs.now (Some account.now)) }
     ensures matches { IfOk result (IsMatchIfTable graphs.now.first graphs.now.second) }
     ensures refuses { IfOk result (IsUnequalIfRefused graphs.now.first graphs.now.second) }

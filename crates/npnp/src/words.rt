@@ -100,7 +100,7 @@ fn check_asked(words: &[String]) -> Option<Check<'_>>
     }
 }
 
-/// The match that the words ask for: `match`, three names, and perhaps a budget, and behind it perhaps a seed.
+/// The match that the words ask for: `match`, three names, and perhaps a budget, and after it perhaps a seed.
 fn match_asked(words: &[String]) -> Option<Match<'_>>
     ensures asked { IfSome result (λ asked. AsksMatch (map string_bytes words.now) (sought_by asked)) }
     ensures not_asked { IfNone result
@@ -114,7 +114,7 @@ fn match_asked(words: &[String]) -> Option<Match<'_>>
     }
 }
 
-/// The match that three names and the words behind them ask for.
+/// The match that three names and the words after them ask for.
 fn match_of<'a>(
     first: &'a str,
     second: &'a str,

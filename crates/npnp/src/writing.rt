@@ -48,7 +48,7 @@ fn append_pieces<S: Shelf>(shelf: &mut S, text: &[u8]) -> Result<(), ShelfStop>
     Ok(())
 }
 
-/// Writes the next piece of a text to the open file, which holds so many bytes of it, and answers how many it holds
+/// Writes the next piece of a text to the open file, which holds n bytes of it, and answers how many it holds
 /// then.
 fn append_next<S: Shelf>(shelf: &mut S, text: &[u8], done: usize) -> Result<usize, ShelfStop>
     requires writing { (S.state shelf.old).mode ≡ Writing }

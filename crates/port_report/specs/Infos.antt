@@ -2,12 +2,12 @@
 -- project's own text).
 use Rattle.std.specs.Prelude.{ℕ, ◌+◌, ◌<◌, List, [], ◌∷◌, ◌++◌, length, codes, All}
 use Rattle.std.specs.Fmt.{decimal}
-use Rattle.net_core.specs.declared.named.Named.{Named}
-use Rattle.port_report.specs.declared.info.OutputInfo.{OutputInfo}
-use Rattle.port_report.specs.declared.info.Unate.{Unate}
-use Rattle.port_report.specs.declared.info.Unate.TheVariants.{Positive, Negative, Binate}
-use Rattle.port_report.specs.declared.info.Sym.{Sym}
-use Rattle.port_report.specs.declared.info.Sym.TheVariants.{Symmetric, Skew, Both}
+use Rattle.net_file.specs.declared.named.Named.{Named}
+use Rattle.output_info.specs.declared.info.OutputInfo.{OutputInfo}
+use Rattle.output_info.specs.declared.info.Unate.{Unate}
+use Rattle.output_info.specs.declared.info.Unate.TheVariants.{Positive, Negative, Binate}
+use Rattle.output_info.specs.declared.info.Sym.{Sym}
+use Rattle.output_info.specs.declared.info.Sym.TheVariants.{Symmetric, Skew, Both}
 use Rattle.port_report.specs.Reports.{PortNames, names_of, port_among}
 
 abbrev pub unate_word : Unate → List ℕ

@@ -1,7 +1,7 @@
 -- Report texts: where each port of a circuit goes, and which line of an account is rejected (this project's own texts).
 use Rattle.std.specs.Prelude.{◌≡◌, ℕ, ◌+◌, Bool, List, [], ◌∷◌, ◌++◌, length, take, codes, if◌then◌else◌, slice_index_or}
 use Rattle.std.specs.Fmt.{decimal}
-use Rattle.net_core.specs.declared.named.Named.{Named}
+use Rattle.net_file.specs.declared.named.Named.{Named}
 use Rattle.net_core.specs.declared.matching.Matching.{Matching}
 
 -- what stood there stands in front of what stands there now

@@ -6,65 +6,33 @@ ghost use Rattle.port_report.specs.Reports.{Extends, names_of};
 
 use crate::pieces::{put_last_number, put_last_word, put_number, put_word};
 use crate::table::put_port;
-use items::Items;
-use net_core::{Name, Named};
+use net_file::{Name, Named};
+use output_info::{OutputInfo, Sym, Unate};
 use std::alloc::AllocError;
 
-/// How an output depends on an input.
-#[derive(Clone, Copy, Debug, Drop, PartialEq, Eq)]
-pub enum Unate {
-    /// It never falls where the input rises.
-    Positive,
-    /// It never rises where the input rises.
-    Negative,
-    /// It does both.
-    Binate,
-}
-
-impl Unate {
-    fn word(self) -> &'static [u8]
-        ensures { result.now ≡ unate_word self }
-    {
-        match self {
-            Unate::Positive => b"positive",
-            Unate::Negative => b"negative",
-            Unate::Binate => b"binate",
-        }
+fn word_of_unate(unate: Unate) -> &'static [u8]
+    ensures { result.now ≡ unate_word unate }
+{
+    match unate {
+        Unate::Positive => b"positive",
+        Unate::Negative => b"negative",
+        Unate::Binate => b"binate",
     }
 }
 
-/// In which way two inputs may be exchanged: as they are, each inverted, or both ways.
-#[derive(Clone, Copy, Debug, Drop, PartialEq, Eq)]
-pub enum Sym {
-    Symmetric,
-    Skew,
-    Both,
-}
-
-impl Sym {
-    fn word(self) -> &'static [u8]
-        ensures { result.now ≡ sym_word self }
-    {
-        match self {
-            Sym::Symmetric => b"symmetric",
-            Sym::Skew => b"skew",
-            Sym::Both => b"both",
-        }
+fn word_of_sym(sym: Sym) -> &'static [u8]
+    ensures { result.now ≡ sym_word sym }
+{
+    match sym {
+        Sym::Symmetric => b"symmetric",
+        Sym::Skew => b"skew",
+        Sym::Both => b"both",
     }
-}
-
-/// What is known of an output.
-#[derive(Debug, Drop)]
-pub struct OutputInfo {
-    /// The inputs that it depends on, and how.
-    pub support: Items<(u32, Unate)>,
-    /// Pairs of these inputs, the lesser one first, that may be exchanged.
-    pub pairs: Items<(u32, u32, Sym)>,
 }
 
 /// Writes at the end of `out` how many inputs, outputs and gates the circuit has, and then of each output how it
 /// depends on which inputs, and which pairs of them may be exchanged. Names are written byte for byte.
-/// Where memory is wanting, a first part of the text may stand behind what stood in `out`.
+/// When out of memory, a first part of the text may stand after what stood in `out`.
 #[tactic(auto, using(crate::proofs::Extending::extends_same, crate::proofs::Extending::extends_twice))]
 pub fn put_info(named: &Named, rows: &[OutputInfo], out: &mut Vec<u8>) -> Result<(), AllocError>
     requires rows { length rows.now ≡ length named.now.graph.outputs }
@@ -156,7 +124,7 @@ fn put_input(names: &[Name], entry: (u32, Unate), out: &mut Vec<u8>) -> Result<(
     let (input, unate) = entry;
     put_port(b"input", names, input as usize, out)?;
     out.extend_from_slice(b" ")?;
-    put_last_word(unate.word(), out)
+    put_last_word(word_of_unate(unate), out)
 }
 
 #[tactic(auto, using(crate::proofs::Extending::extends_same, crate::proofs::Extending::extends_twice))]
@@ -179,5 +147,5 @@ fn put_pair(pair: (u32, u32, Sym), out: &mut Vec<u8>) -> Result<(), AllocError>
     out.extend_from_slice(b"pair ")?;
     put_number(first as u64, out)?;
     put_number(second as u64, out)?;
-    put_last_word(symmetry.word(), out)
+    put_last_word(word_of_sym(symmetry), out)
 }

@@ -6,6 +6,6 @@ mod pieces;
 mod rejected;
 mod table;
 
-pub use info::{OutputInfo, Sym, Unate, put_info};
+pub use info::put_info;
 pub use rejected::put_rejected;
 pub use table::put_match;

@@ -15,7 +15,7 @@ pub(crate) fn put_text(text: &[u8], out: &mut Vec<u8>) -> Result<(), AllocError>
     out.extend_from_slice(text)
 }
 
-/// Writes a word with a blank behind it.
+/// Writes a word with a blank after it.
 pub(crate) fn put_word(word: &[u8], out: &mut Vec<u8>) -> Result<(), AllocError>
     ensures ok { OnOk result (out.new.items ≡ out.old.items ++ (word.now ++ 32 ∷ [])) }
     ensures kept { Extends out.old.items out.new.items }
@@ -24,7 +24,7 @@ pub(crate) fn put_word(word: &[u8], out: &mut Vec<u8>) -> Result<(), AllocError>
     out.extend_from_slice(b" ")
 }
 
-/// Writes a number with a blank behind it.
+/// Writes a number with a blank after it.
 pub(crate) fn put_number(number: u64, out: &mut Vec<u8>) -> Result<(), AllocError>
     ensures ok { OnOk result (out.new.items ≡ out.old.items ++ (decimal number ++ 32 ∷ [])) }
     ensures kept { Extends out.old.items out.new.items }

@@ -3,12 +3,13 @@ ghost use Rattle.circuits.specs.Bijections.{IsSignedBijection};
 ghost use Rattle.port_report.specs.Reports.{Extends, port_among, entry_line, entry_lines, match_text, names_of};
 
 use crate::pieces::{put_number, put_text, put_word};
-use net_core::{Matching, Name, Named};
+use net_core::Matching;
+use net_file::{Name, Named};
 use std::alloc::AllocError;
 
 /// Writes at the end of `out` where each port of the first circuit goes: a line for each input in order, then one for
 /// each output, as `input 0 a = not input 1 b`. Names are written byte for byte.
-/// Where memory is wanting, a first part of the lines may stand behind what stood in `out`.
+/// When out of memory, a first part of the lines may stand after what stood in `out`.
 #[tactic(auto, using(crate::proofs::Extending::extends_same, crate::proofs::Extending::extends_twice))]
 pub fn put_match(
     first: &Named,

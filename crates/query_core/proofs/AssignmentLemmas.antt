@@ -15,7 +15,7 @@ use Rattle.circuits.proofs.Valuations.{ReadsBelow, ReadsBelow-tail, ReadsBelow-s
 use Rattle.cnf_core.specs.declared.literal.SatLit.{SatLit}
 use Rattle.cnf_core.specs.Clauses.{Meets, is_met, literal_bit, opposite}
 use Rattle.cnf_core.proofs.DerivationLaws.{opposite_bit}
-use Rattle.net_core.specs.declared.graphs.Graphs.{Graphs}
+use Rattle.net_core.specs.Sides.{Graphs}
 use Rattle.net_core.specs.declared.graphs.Side.{Side}
 use Rattle.net_core.specs.declared.graphs.Side.TheVariants.{First, Second}
 use Rattle.net_core.specs.Graph.{IsGraph}

@@ -72,7 +72,7 @@ NoFall-or one true = inl (λ is. refl)
 NoFall-or true false = inr (refl, refl)
 NoFall-or false false = inl (λ is. is)
 
--- no vector whose code is below so many falls, or one breaks the claim
+-- no vector whose code is below n falls, or one breaks the claim
 searched : (net : Net) (k : ℕ) (shape : Shape) (count : ℕ) → IsPlaced net.inputs shape → ((code : ℕ) → code < count → NoFall (output_bit net k (with_values shape (vector_of net.inputs code))) (output_bit net k (with_opposites shape (vector_of net.inputs code)))) ⊎ ShapeFails net k shape
 searched net k shape zero placed = inl (λ code h. absurd (omega arith))
 searched net k shape (suc count) placed =

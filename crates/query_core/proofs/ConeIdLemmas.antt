@@ -3,7 +3,7 @@ use Rattle.std.proofs.Common.{◌≡◌, ◌⊎◌, ◌↔◌, ℕ, zero, suc, �
 use Rattle.std.proofs.lemmas.List.Elements.{Contains-append_left, Contains-append_right, Contains-append_cases}
 use Rattle.std.proofs.lemmas.List.{append_assoc}
 use Rattle.circuits.specs.Netlists.{Net}
-use Rattle.net_core.specs.declared.graphs.Graphs.{Graphs}
+use Rattle.net_core.specs.Sides.{Graphs}
 use Rattle.query_core.specs.declared.query.Query.{Query}
 use Rattle.query_core.specs.Queries.{circuit_of}
 use Rattle.query_core.specs.ConeClauses.{AreAdded, AreConeIds, AreReached, IsConeId, IsOfReachedGate, gate_ids, left_gates, right_gates}

@@ -11,7 +11,7 @@ use Rattle.circuits.proofs.Valuations.{valuation_of-fits}
 use Rattle.cnf_core.specs.declared.literal.SatLit.{SatLit}
 use Rattle.cnf_core.specs.Clauses.{clause_at, is_met, literal_bit, opposite}
 use Rattle.cnf_core.proofs.DerivationLaws.{opposite_bit}
-use Rattle.net_core.specs.declared.graphs.Graphs.{Graphs}
+use Rattle.net_core.specs.Sides.{Graphs}
 use Rattle.net_core.specs.Graph.{IsGraph}
 use Rattle.net_core.specs.Cones.{Reaches, ReachesGate, output_signal}
 use Rattle.query_core.specs.declared.query.Feed.{Feed}

@@ -10,7 +10,7 @@ use Rattle.circuits.specs.Literals.{signal_of, is_negated as inverts, bit}
 use Rattle.circuits.specs.Netlists.{Net}
 use Rattle.cnf_core.specs.declared.literal.SatLit.{SatLit}
 use Rattle.cnf_core.specs.Clauses.{variable_of, literal_of, opposite, clause_at}
-use Rattle.net_core.specs.declared.graphs.Graphs.{Graphs}
+use Rattle.net_core.specs.Sides.{Graphs}
 use Rattle.query_core.specs.declared.query.Feed.{Feed}
 use Rattle.query_core.specs.declared.query.Feed.TheVariants.{Fixed, Wire}
 use Rattle.query_core.specs.declared.query.Query.{Query}

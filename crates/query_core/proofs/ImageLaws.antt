@@ -12,7 +12,7 @@ use Rattle.circuits.specs.Matches.{IsMatchOfFunctions}
 use Rattle.circuits.specs.declared.port.PortKind.TheVariants.{Input, Output}
 use Rattle.circuits.specs.declared.port.Pair.{Pair}
 use Rattle.circuits.proofs.Places.{length-moved, moved-moves, moved-only}
-use Rattle.net_core.specs.declared.graphs.Graphs.{Graphs}
+use Rattle.net_core.specs.Sides.{Graphs}
 use Rattle.net_core.specs.declared.graphs.Side.{Side}
 use Rattle.net_core.specs.declared.graphs.Side.TheVariants.{First}
 use Rattle.net_core.specs.Sides.{graph_of}
@@ -35,7 +35,7 @@ places_differ n p i j bijection here there apart same =
     strictly : (a b : ℕ) → a ≤ b → a ≢ b → a < b
     strictly a b le apart = elim (cases_lt a b) [ inl less ↦ less | inr more ↦ absurd (apart (omega (arith, le, more))) ]
 
--- an input that is set before the move is set at its place behind it
+-- an input that is set before the move is set at its place after it
 pub moved-set : (p : List (ℕ × Bool)) (x : List Bool) (i : ℕ) (a : Bool) → IsSignedBijection (length x) p → i < length p → moved p (with_input i a x) ≡ with_input (place_of p i) (differ a (sign_of p i)) (moved p x)
 moved-set p x i a bijection there =
     sym (moved-only p (set x i a) (set (moved p x) (place_of p i) (differ a (sign_of p i))) (subst (λ n. IsSignedBijection n p) (sym (length-set x i a)) bijection) moves)

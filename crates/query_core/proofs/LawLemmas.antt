@@ -16,7 +16,7 @@ use Rattle.circuits.proofs.Valuations.{valuation_of-only}
 use Rattle.cnf_core.specs.declared.literal.SatLit.{SatLit}
 use Rattle.cnf_core.specs.Clauses.{Meets, is_met, literal_bit, literal_of, opposite}
 use Rattle.cnf_core.proofs.DerivationLaws.{opposite_bit}
-use Rattle.net_core.specs.declared.graphs.Graphs.{Graphs}
+use Rattle.net_core.specs.Sides.{Graphs}
 use Rattle.net_core.specs.declared.graphs.Side.{Side}
 use Rattle.net_core.specs.declared.graphs.Side.TheVariants.{First, Second}
 use Rattle.net_core.specs.Graph.{IsGraph}

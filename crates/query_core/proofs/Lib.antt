@@ -5,6 +5,7 @@ pub mod LawLemmas
 pub mod MatchLemmas
 pub mod RefutedLemmas
 pub mod LedgerLemmas
+pub mod ChargingLemmas
 pub mod ClaimLaws
 pub mod ClaimQueryLemmas
 pub mod ConeLaws

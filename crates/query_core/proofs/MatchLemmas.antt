@@ -10,7 +10,7 @@ use Rattle.circuits.specs.Netlists.{function_of}
 use Rattle.circuits.specs.Bijections.{IsSignedBijection, Moves, moved, place_of, sign_of}
 use Rattle.circuits.specs.Matches.{HavePorts, IsMatchOfFunctions}
 use Rattle.circuits.proofs.Places.{moved-only, IsSignedBijection-onto}
-use Rattle.net_core.specs.declared.graphs.Graphs.{Graphs}
+use Rattle.net_core.specs.Sides.{Graphs}
 use Rattle.net_core.specs.declared.matching.Matching.{Matching}
 use Rattle.net_core.specs.Graph.{IsGraph}
 use Rattle.query_core.specs.declared.query.Feed.{Feed}

@@ -2,7 +2,7 @@
 use Rattle.std.proofs.Common.{ℕ, ◌<◌, Bool, length}
 use Rattle.circuits.specs.Matches.{HavePorts, IsMatchOfFunctions}
 use Rattle.cnf_core.proofs.DerivationLaws.{refuted_unmet}
-use Rattle.net_core.specs.declared.graphs.Graphs.{Graphs}
+use Rattle.net_core.specs.Sides.{Graphs}
 use Rattle.net_core.specs.declared.matching.Matching.{Matching}
 use Rattle.net_core.specs.Graph.{IsGraph}
 use Rattle.query_core.specs.declared.query.Query.{Query}

@@ -1,6 +1,6 @@
 -- What is asked of a claim: whether its output can be 1 with its shape's values where it is 0 with the opposite ones.
 use Rattle.std.specs.Prelude.{true, false, not}
-use Rattle.net_core.specs.declared.graphs.Graphs.{Graphs}
+use Rattle.net_core.specs.Sides.{Graphs}
 use Rattle.net_core.specs.Sides.{graph_of}
 use Rattle.query_core.specs.declared.claims.Shape.{Shape}
 use Rattle.query_core.specs.declared.claims.Shape.TheVariants.{Up, Down, Swap}

@@ -11,7 +11,7 @@ use Rattle.cnf_core.specs.declared.literal.SatLit.{SatLit}
 use Rattle.cnf_core.specs.declared.log.LogLine.{LogLine}
 use Rattle.cnf_core.specs.Derivations.{IsRefutation}
 use Rattle.cnf_core.specs.Clauses.{Formula, literal_of, opposite}
-use Rattle.net_core.specs.declared.graphs.Graphs.{Graphs}
+use Rattle.net_core.specs.Sides.{Graphs}
 use Rattle.net_core.specs.declared.graphs.Side.{Side}
 use Rattle.net_core.specs.declared.graphs.Side.TheVariants.{First, Second}
 use Rattle.query_core.specs.declared.query.Feed.{Feed}
@@ -89,7 +89,7 @@ abbrev pub shared_from : ℕ → ℕ → List Bool → List ℕ
 shared_from first own [] = []
 shared_from first own (reaches ∷ more) = (if reaches then own else first) ∷ shared_from (first + 1) (own + 1) more
 
--- Gate t of the right circuit has a variable of its own, behind the left circuit's gates. Where both cones are of one circuit,
+-- Gate t of the right circuit has a variable of its own, after the left circuit's gates. Where both cones are of one circuit,
 -- and it reaches no input whose feeds differ, it has the left gate's.
 abbrev pub right_variables : Graphs → Query → List ℕ
 right_variables graphs query =

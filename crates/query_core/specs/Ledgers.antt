@@ -1,8 +1,9 @@
 -- What was asked in a run, and the budget of learned lines.
-use Rattle.std.specs.Prelude.{◌≡◌, ℕ, ◌+◌, ◌-◌, ◌≤◌, ◌==◌, Bool, true, List, [], ◌∷◌, ◌++◌, length, take, All, sum_by, slice_index_or, slice_set, if◌then◌else◌}
+use Rattle.std.specs.Prelude.{◌≡◌, ℕ, ◌+◌, ◌-◌, ◌≤◌, ◌==◌, Bool, true, List, [], ◌∷◌, ◌++◌, length, take, All, nat_lt, sum_by, slice_index_or, slice_set, if◌then◌else◌}
 use Rattle.cnf_core.specs.declared.log.LogLine.{LogLine}
 use Rattle.cnf_core.specs.declared.stop.Stop.{Stop}
 use Rattle.cnf_core.specs.declared.stop.Stop.TheVariants.{Spent, Memory}
+use Rattle.cnf_core.specs.Charges.{Charging}
 use Rattle.net_core.specs.declared.graphs.Side.TheVariants.{First}
 use Rattle.query_core.specs.declared.query.Cone.{Cone}
 use Rattle.query_core.specs.declared.query.Query.{Query}
@@ -42,9 +43,13 @@ charged_in entry = length entry.lines - entry.lemmas
 abbrev pub one_if : Bool → ℕ
 one_if spent = if spent then 1 else 0
 
+-- how many lines were made for the entries, beside their lemmas
+abbrev pub lines_in : Ledgered → ℕ
+lines_in ledger = sum_by charged_in ledger.asked
+
 -- how many lines were learned, without a refused one
 abbrev pub learned_in : Ledgered → ℕ
-learned_in ledger = sum_by charged_in ledger.asked - one_if ledger.spent
+learned_in ledger = lines_in ledger - one_if ledger.spent
 
 -- the entries without a last one for which nothing was learned
 abbrev pub charged_front : List Asked → List Asked
@@ -55,14 +60,27 @@ charged_front asked =
 abbrev pub opened : Query → List LogLine → List Asked → List Asked
 opened query lemmas asked = charged_front asked ++ entry_of query lemmas ∷ []
 
+-- a ledger as what lines are charged to: the last entry is the one that is open, and no charge changes the entries but for
+-- its lines
+abbrev pub charging_of : Ledgered → Charging (List Asked)
+charging_of ledger = record {
+  budget = ledger.budget;
+  made = lines_in ledger;
+  opened = nat_lt 0 (length ledger.asked);
+  lines = (last_asked ledger.asked).lines;
+  spent = ledger.spent;
+  others = with_lines [] ledger.asked;
+}
+
 -- The budget is spent, and the line is kept as the refused one.
 pub record IsSpent (old : Ledgered) (line : LogLine) (new : Ledgered) (learned : ℕ) : Type 0 where
   pub learned_is : learned ≡ old.budget
   pub budget : learned_in old ≡ old.budget
   pub counted : learned_in new ≡ old.budget
+  pub made : lines_in new ≡ old.budget + 1
   pub refused : new ≡ record old { asked = with_line line old.asked; spent = true }
 
--- a line isn't charged: the budget is spent, or memory is wanting, and then nothing changes
+-- a line isn't charged: the budget is spent, or memory ran out, and then nothing changes
 abbrev pub IsRefused : Ledgered → LogLine → Ledgered → Stop → Type 0
 IsRefused old line new (Spent learned) = IsSpent old line new learned
 IsRefused old line new Memory = new ≡ old

@@ -21,7 +21,7 @@ use std::marker::Model;
 /// asked for, and each such vector is that of an assignment.
 #[derive(Drop)]
 pub struct QueryBase<'a> {
-    graphs: &'a Graphs,
+    graphs: &'a Graphs<'a>,
     query: Query,
     /// The literals that stand for the signals of the left circuit, and of the right one.
     left: Vec<SatLit>,
@@ -42,7 +42,7 @@ impl<'a> QueryBase<'a> {
     /// The clauses of a query that fits two circuits.
     pub fn new(
         alloc: Global,
-        graphs: &'a Graphs,
+        graphs: &'a Graphs<'a>,
         query: &Query,
     ) -> Result<QueryBase<'a>, AllocError>
         requires { IsQuery graphs.now query.now }

@@ -16,8 +16,8 @@ use std::alloc::{AllocError, Global};
 ///
 /// # Errors
 ///
-/// For want of memory alone.
-pub fn of_claim(alloc: Global, graphs: &Graphs, claim: &Claim) -> Result<Query, AllocError>
+/// Only when out of memory.
+pub fn of_claim(alloc: Global, graphs: &Graphs<'_>, claim: &Claim) -> Result<Query, AllocError>
     requires { IsClaim graphs.now claim.now }
     ensures query { IfOk result (λ query. query ≡ claim_query graphs.now claim.now) }
     ensures fits { IfOk result (IsQuery graphs.now) }

@@ -15,7 +15,7 @@ use std::alloc::{AllocError, Global};
 ///
 /// # Errors
 ///
-/// For want of memory alone.
+/// Only when out of memory.
 pub fn cone_ids(alloc: Global, base: &QueryBase<'_>) -> Result<Vec<u64>, AllocError>
     ensures ascending { IfOk result (λ ids. AllPairs (λ one other. one < other) ids.items) }
     ensures there { IfOk result
@@ -30,7 +30,7 @@ pub fn cone_ids(alloc: Global, base: &QueryBase<'_>) -> Result<Vec<u64>, AllocEr
 // The numbers for a query of two circuits.
 pub(crate) fn query_ids(
     alloc: Global,
-    graphs: &Graphs,
+    graphs: &Graphs<'_>,
     query: &Query,
 ) -> Result<Vec<u64>, AllocError>
     requires { IsQuery graphs.now query.now }

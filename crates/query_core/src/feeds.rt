@@ -31,9 +31,9 @@ pub struct Feeds {
 /// How feeds are kept.
 #[derive(Debug, Drop)]
 enum Form {
-    /// Each of so many inputs gets its own bit.
+    /// Each of n inputs gets its own bit.
     Straight(u32),
-    /// The shape's inputs get its values, and each other one of so many inputs gets its own bit.
+    /// The shape's inputs get its values, and each other one of n inputs gets its own bit.
     Valued(u32, Shape),
     Listed(Items<Feed>),
 }
@@ -50,7 +50,7 @@ impl Model for Feeds {
 }
 
 impl Feeds {
-    /// Each of so many inputs gets its own bit.
+    /// Each of n inputs gets its own bit.
     pub fn straight(inputs: u32) -> Feeds
         ensures { result ≡ straight inputs }
     {
@@ -59,7 +59,7 @@ impl Feeds {
         }
     }
 
-    /// The shape's inputs get its values, and each other one of so many inputs gets its own bit.
+    /// The shape's inputs get its values, and each other one of n inputs gets its own bit.
     pub fn valued(inputs: u32, shape: Shape) -> Feeds
         ensures { result ≡ values_feed inputs shape }
     {
@@ -123,7 +123,7 @@ fn entry_of(form: &Form, input: usize) -> Feed
     }
 }
 
-// The number of one of so many inputs.
+// The number of one of n inputs.
 fn place_of(input: usize, inputs: u32) -> u32
     requires { input < inputs }
     ensures { result ≡ input }

@@ -3,7 +3,7 @@
 ghost use Rattle.std.specs.Prelude.{ℕ, ◌≡◌, ◌↔◌, ◌<◌, Bool, List, Some, length};
 ghost use Rattle.circuits.specs.Matches.{HavePorts, IsMatchOfFunctions};
 ghost use Rattle.cnf_core.specs.Clauses.{Meets};
-ghost use Rattle.net_core.specs.declared.graphs.Graphs.{Graphs as TwoGraphs};
+ghost use Rattle.net_core.specs.Sides.{Graphs as TwoGraphs};
 ghost use Rattle.net_core.specs.declared.matching.Matching.{Matching as Table};
 ghost use Rattle.net_core.specs.Graph.{IsGraph};
 ghost use Rattle.query_core.specs.declared.query.Query.{Query as Question};

@@ -4,7 +4,7 @@ ghost use Rattle.std.specs.Prelude.{◌≡◌, ◌+◌, ◌-◌, ◌<◌, ◌≤
 ghost use Rattle.query_core.specs.Ledgers.{IsRefused, charged_front, entry_of, last_asked, learned_in, opened, with_line};
 
 use crate::query::Query;
-use cnf_core::{LogLine, Stop};
+use cnf_core::{Charge, LogLine, Stop};
 use items::Items;
 use std::alloc::{AllocError, Global};
 use std::marker::Model;
@@ -74,7 +74,7 @@ impl Ledger {
     }
 
     /// Adds a learned line to the last query, for one unit of the budget. Where the budget is spent, the line is kept as
-    /// the refused one. Want of memory changes nothing.
+    /// the refused one. Running out of memory changes nothing.
     pub fn charge(&mut self, line: &LogLine) -> Result<(), Stop>
         requires asked { 0 < length self.old.asked }
         requires not_spent { self.old.spent ≡ false }
@@ -123,6 +123,20 @@ impl Ledger {
         ensures lemmas { All (λ entry. entry.lemmas ≤ length entry.lines) self.now.asked }
     {
         self.asked.as_slice()
+    }
+}
+
+impl Charge for Ledger {
+    ghost use Rattle.std.specs.Prelude.{List};
+    ghost use Rattle.query_core.specs.declared.ledger.Asked.{Asked as AnyAsked};
+    ghost use Rattle.query_core.specs.Ledgers.{charging_of};
+
+    ghost Others = { List AnyAsked };
+
+    ghost charging = { charging_of };
+
+    fn charge(&mut self, line: &LogLine) -> Result<(), Stop> {
+        Ledger::charge(self, line)
     }
 }
 

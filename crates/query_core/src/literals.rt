@@ -15,7 +15,7 @@ use std::alloc::{AllocError, Global};
 /// The literals that stand for the signals of the left cone's circuit.
 pub(crate) fn left_literals(
     alloc: Global,
-    graphs: &Graphs,
+    graphs: &Graphs<'_>,
     query: &Query,
 ) -> Result<Vec<SatLit>, AllocError>
     requires { IsQuery graphs.now query.now }
@@ -31,7 +31,7 @@ pub(crate) fn left_literals(
 /// The literals that stand for the signals of the right cone's circuit.
 pub(crate) fn right_literals(
     alloc: Global,
-    graphs: &Graphs,
+    graphs: &Graphs<'_>,
     query: &Query,
 ) -> Result<Vec<SatLit>, AllocError>
     requires { IsQuery graphs.now query.now }
@@ -64,7 +64,7 @@ fn feed_literal(feed: Feed) -> SatLit
     }
 }
 
-// Adds the plain literals of so many variables, from the first on.
+// Adds the plain literals of n variables, from the first on.
 fn push_plain(literals: &mut Vec<SatLit>, first: u64, count: usize) -> Result<(), AllocError>
     requires { first + count < 2 ^ 63 }
     ensures { OnOk result (literals.new.items ≡ literals.old.items ++ map plain (range_with_len first count)) }
@@ -78,7 +78,7 @@ fn push_plain(literals: &mut Vec<SatLit>, first: u64, count: usize) -> Result<()
 // Adds the plain literals of the right circuit's gates.
 fn push_right(
     alloc: Global,
-    graphs: &Graphs,
+    graphs: &Graphs<'_>,
     query: &Query,
     literals: &mut Vec<SatLit>,
 ) -> Result<(), AllocError>
@@ -97,7 +97,7 @@ fn push_right(
     push_shared(behind(&reaches, first as usize), first, own, literals)
 }
 
-// What stands behind so many signals.
+// What stands after n signals.
 fn behind(reaches: &[bool], first: usize) -> &[bool]
     requires { first ≤ length reaches.now }
     ensures { result.now ≡ drop first reaches.now }

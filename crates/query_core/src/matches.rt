@@ -16,7 +16,7 @@ use std::alloc::{AllocError, Global};
 /// matching says so, has not. The matching is right where no vector meets the query of any output and either value.
 pub fn of_match(
     alloc: Global,
-    graphs: &Graphs,
+    graphs: &Graphs<'_>,
     matching: &Matching,
     output: u32,
     value: bool,
@@ -26,7 +26,7 @@ pub fn of_match(
     ensures query { IfOk result (λ query. query ≡ match_query graphs.now.first.inputs matching.now output value) }
     ensures fits { IfOk result (IsQuery graphs.now) }
 {
-    let inputs = graphs.first.inputs();
+    let inputs = graphs.first().inputs();
     let (place, sign) = matching.outputs[output as usize];
     let left = Cone {
         side: Side::First,

@@ -1,4 +1,4 @@
--- Whether the last clause is empty, behind one clause more.
+-- Whether the last clause is empty, after one clause more.
 use Rattle.std.proofs.Common.{◌≡◌, ◌==◌, suc, List, [], ◌∷◌, ◌++◌, length, ne_eqb, refl, arith}
 use Rattle.cnf_core.specs.declared.literal.SatLit.{SatLit}
 use Rattle.cnf_core.specs.Derivations.{is_empty}

@@ -9,7 +9,7 @@ use Rattle.cnf_core.specs.Derivations.{is_empty}
 use Rattle.cnf_core.specs.Stores.{Stored}
 use Rattle.refute_check.specs.Values.{Made, AreKnown}
 
--- A base, the clauses of the lines that were taken, in order, and the room for one line more: none, or so many literals at
+-- A base, the clauses of the lines that were taken, in order, and the room for one line more: none, or n literals at
 -- most.
 pub record Refuting (B : Type 0) : Type 0 where
   pub base : B

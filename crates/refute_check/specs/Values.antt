@@ -7,12 +7,12 @@ use Rattle.cnf_core.specs.declared.literal.SatLit.{SatLit}
 use Rattle.cnf_core.specs.Clauses.{variable_of, literal_of}
 use Rattle.cnf_core.specs.Derivations.{is_true, is_false}
 
--- Literals that were made true, in order, over so many variables.
+-- Literals that were made true, in order, over n variables.
 pub record Made : Type 0 where
   pub variables : ℕ
   pub made : List SatLit
 
--- each literal's variable is one of so many
+-- each literal's variable is one of n
 abbrev pub AreKnown : ℕ → List SatLit → Type 0
 AreKnown variables clause = All (λ literal. variable_of literal < variables) clause
 

@@ -34,7 +34,7 @@ pub(crate) fn derive<B: Base>(
     walk(base, taken, values, &line.hints)
 }
 
-// Whether the variable of each literal is one of so many.
+// Whether the variable of each literal is one of n.
 fn are_known(variables: u64, clause: &[SatLit]) -> bool
     ensures { result ≡ list_all (λ literal. nat_lt (variable_of literal) variables) clause.now }
 {
@@ -84,7 +84,7 @@ fn walk<B: Base>(
     Err(LineFault::NoConflict)
 }
 
-// Nothing may stand behind a conflict.
+// Nothing may stand after a conflict.
 fn end_at_conflict(behind: &[u64]) -> Result<(), LineFault>
     ensures { result ≡ answer_of (fault_behind Conflict behind.now (λ _. None)) }
 {

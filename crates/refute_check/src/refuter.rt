@@ -77,7 +77,7 @@ impl<B: Base> Refuter<B> {
         (base, values)
     }
 
-    /// Makes room for a line of at least so many literals. The lines stay, a larger room stays, and a refusal changes nothing.
+    /// Makes room for a line of at least n literals. The lines stay, a larger room stays, and a refusal changes nothing.
     pub fn reserve(&mut self, literals: usize) -> Result<(), AllocError>
         ensures base { self.new.base ≡ self.old.base }
         ensures taken { self.new.taken ≡ self.old.taken }

@@ -10,7 +10,7 @@ use cnf_core::{Effect, SatLit};
 use std::alloc::{AllocError, Global};
 use std::marker::Model;
 
-/// The literals that were made true, over so many variables. None of them has the variable of another. To make one takes
+/// The literals that were made true, over n variables. None of them has the variable of another. To make one takes
 /// no memory.
 #[derive(Debug, Drop)]
 pub struct Values {

@@ -91,7 +91,7 @@ static BAD_ACCOUNTS: [(&[u8], &[u8]); 16] = [
         b"npnp 1\nmatch i0-0 i1-1 o0-0\nl : 07 8\n",
         b"rejected line 3 number\n",
     ),
-    // cut behind each line
+    // cut after each line
     (b"npnp 1\n", b"rejected line 2 truncated\n"),
     (
         b"npnp 1\nmatch i0-0 i1-1 o0-0\n",

@@ -22,6 +22,9 @@ pub(crate) const OR: &[u8] = b"aag 3 2 0 1 1\n2\n4\n7\n6 3 5\n";
 /// One input that is the output.
 pub(crate) const WIRE: &[u8] = b"aag 1 1 0 1 0\n2\n2\n";
 
+/// One input, which the output doesn't depend on.
+pub(crate) const ZERO: &[u8] = b"aag 1 1 0 1 0\n2\n0\n";
+
 /// The AND is the OR with each port inverted.
 pub(crate) const AND_OR: &[u8] =
     b"npnp 1\nmatch i0-0 i1-1 o0-0\nl : 7 8 1 2 6\nl : 7 8 4 5 3\nend\n";

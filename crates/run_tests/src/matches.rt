@@ -1,6 +1,6 @@
 //! Matches that are sought, and the accounts that are written of them.
 
-use crate::files::{A, AND, B, C17, C17_MOVED, EMPTY, OR, THREE, TWO, XOR};
+use crate::files::{A, AND, B, C17, C17_MOVED, EMPTY, OR, THREE, TWO, WIRE, XOR, ZERO};
 use crate::runs::{CHECK, MATCH, expect, run_on};
 use std::alloc::Global;
 use std::process::Abort;
@@ -81,6 +81,13 @@ static SOUGHT: [Sought; 9] = [
         report: b"matched\n",
         checked: b"accepted match\n",
     },
+    Sought {
+        files: [ZERO, WIRE],
+        words: MATCH,
+        status: 1,
+        report: b"no matching\n",
+        checked: b"accepted refusal\n",
+    },
     // inputs alone
     Sought {
         files: [THREE, THREE],
@@ -102,14 +109,6 @@ static SOUGHT: [Sought; 9] = [
         status: 0,
         report: b"matched\ninput 0 1 = input 2 i2\ninput 1 2 = input 4 i4\ninput 2 3 = not input 1 i1\ninput 3 6 = input 3 i3\ninput 4 7 = input 0 i0\noutput 0 22 = output 1 o1\noutput 1 23 = output 0 o0\n",
         checked: b"accepted match\ninput 0 1 = input 2 i2\ninput 1 2 = input 4 i4\ninput 2 3 = not input 1 i1\ninput 3 6 = input 3 i3\ninput 4 7 = input 0 i0\noutput 0 22 = output 1 o1\noutput 1 23 = output 0 o0\n",
-    },
-    // the AND with itself: the plain order is tried first
-    Sought {
-        files: [AND, AND],
-        words: MATCH,
-        status: 0,
-        report: b"matched\ninput 0 i0 = input 0 i0\ninput 1 i1 = input 1 i1\noutput 0 o0 = output 0 o0\n",
-        checked: b"accepted match\ninput 0 i0 = input 0 i0\ninput 1 i1 = input 1 i1\noutput 0 o0 = output 0 o0\n",
     },
 ];
 
@@ -208,8 +207,8 @@ fn finds_either_of_two_matches(rt: HostRuntime) -> Result<(), Fail> {
     Ok(())
 }
 
-/// Many inputs, and nothing else.
-const INPUTS: &[u8] = b"aig 128 128 0 0 0\n";
+/// As many inputs as a netlist may have, and nothing else.
+const INPUTS: &[u8] = b"aig 1024 1024 0 0 0\n";
 
 #[test]
 fn pairs_many_inputs(rt: HostRuntime) -> Result<(), Fail> {

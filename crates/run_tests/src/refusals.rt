@@ -1,14 +1,11 @@
 //! Accounts that say that no match exists, and the nearest ones that aren't good.
 
-use crate::files::{A, AND, AND_OR, B, EMPTY, OR, TABLE, THREE, TWO, WIRE, XOR};
+use crate::files::{A, AND, AND_OR, B, EMPTY, OR, TABLE, THREE, TWO, WIRE, XOR, ZERO};
 use crate::runs::{CHECK, Row, check_rows, expect};
 use std::alloc::{AllocError, Global};
 use std::process::Abort;
 use std::test::Fail;
 use text_core::Cursor;
-
-/// One input, which the output doesn't depend on.
-const ZERO: &[u8] = b"aag 1 1 0 1 0\n2\n0\n";
 
 const NO_PORTS: &[u8] = b"npnp 1\nnone ports\nend\n";
 
@@ -52,7 +49,7 @@ fn accepts_refusals(rt: HostRuntime) -> Result<(), Fail> {
     check_rows(&rt, rt.alloc(), &REFUSALS)
 }
 
-/// How many lines of an account stay, what stands behind them, and the number of the bad line with the word for it.
+/// How many lines of an account stay, what stands after them, and the number of the bad line with the word for it.
 type Altered = (usize, &'static [u8], &'static [u8]);
 
 /// Writes the first lines of an account.
@@ -67,7 +64,7 @@ fn put_lines(text: &mut Vec<u8>, account: &[u8], lines: usize) -> Result<(), All
     Ok(())
 }
 
-/// The first lines of an account, and a text behind them.
+/// The first lines of an account, and a text after them.
 fn altered(
     alloc: Global,
     account: &[u8],
@@ -156,7 +153,7 @@ static FACTS: [Altered; 9] = [
     (1, b"fails b 0 swap 1 0 01 =01\n", b"2 rule"),
     (1, b"fails b 0 up 0 =0\n", b"2 vector"),
     (1, b"fails b 0 up 0 =011\n", b"2 vector"),
-    // the output is 0 before, or 1 behind
+    // the output is 0 before, or 1 after
     (1, b"fails b 0 up 0 =00\n", b"2 vector"),
     (1, b"fails b 0 swap 0 1 01 =01\n", b"2 vector"),
     (1, b"holds a 1 up 0\n", b"2 id"),
@@ -241,7 +238,7 @@ fn rejects_tallies(rt: HostRuntime) -> Result<(), Fail> {
     check_altered(&rt, rt.alloc(), [ZERO, WIRE, BY_SUPPORT], &SUPPORTS)
 }
 
-/// Ports of AND and exclusive or that are to be paired with one another, behind bans of either pair of outputs.
+/// Ports of AND and exclusive or that are to be paired with one another, after bans of either pair of outputs.
 static COVERS: [Altered; 13] = [
     (9, b"ban o0+0 : cover out 0 / 0 / 0 -\n", b"11 truncated"),
     (
@@ -269,7 +266,7 @@ fn rejects_covers(rt: HostRuntime) -> Result<(), Fail> {
     check_altered(&rt, rt.alloc(), [AND, XOR, AND_XOR], &COVERS)
 }
 
-/// The first line behind the header is none for these netlists.
+/// The first line after the header is none for these netlists.
 static NOT_EXCLUDED: [Altered; 3] = [
     (1, b"ban : cover out 0 / 0 / - -\n", b"2 rule"),
     (1, b"ban : cover out 0 / 0 / 0 0\n", b"2 id"),

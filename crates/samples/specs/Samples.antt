@@ -12,7 +12,7 @@ literal_numbered number = record { 0 = number }
 abbrev pub gate_numbered : ℕ × ℕ → Gate
 gate_numbered operands = record { a = literal_numbered operands.0; b = literal_numbered operands.1 }
 
--- the netlist of so many inputs, of these gates and of these outputs
+-- the netlist of n inputs, of these gates and of these outputs
 abbrev pub net_numbered : ℕ → List (ℕ × ℕ) → List ℕ → Net
 net_numbered inputs gates outputs =
     record { inputs = inputs; gates = map gate_numbered gates; outputs = map literal_numbered outputs }

@@ -1,24 +1,24 @@
-//! Graphs, their names and port tables, from arrays.
+//! Graphs and port tables, from arrays.
 
-ghost use Rattle.std.specs.Prelude.{◌≡◌, ◌≢◌, ◌<◌, ◌↔◌, ◌⊎◌, Err, IfOk, length, map};
+ghost use Rattle.std.specs.Prelude.{◌≡◌, ◌<◌, ◌⊎◌, Err, IfOk, length, map};
 ghost use Rattle.circuits.specs.Netlists.{IsOrdered};
 ghost use Rattle.net_core.specs.Graph.{IsGraph};
 ghost use Rattle.samples.specs.Samples.{gate_numbered, literal_numbered, net_numbered};
 
 use crate::fault::SampleFault;
 use items::Items;
-use net_core::{Gate, Graph, Lit, Matching, Name, Named};
+use net_core::{Gate, Graph, Lit, Matching};
 use std::alloc::{AllocError, Global};
 
 /// The most inputs, gates or outputs of a sample, so that a caller has no bound to show.
 const MOST: usize = 1_000;
 
-/// The graph of so many inputs, whose gates and outputs have literals of these numbers (the AIGER format).
+/// The graph of n inputs, whose gates and outputs have literals of these numbers (the AIGER format).
 ///
 /// # Errors
 ///
 /// [`SampleFault::TooLarge`] for more than 1,000 inputs, gates or outputs; [`SampleFault::OutOfPlace`]
-/// where a gate doesn't stand behind its operands, or an output's signal isn't there; and
+/// where a gate doesn't stand after its operands, or an output's signal isn't there; and
 /// [`SampleFault::Memory`].
 pub fn graph(
     alloc: Global,
@@ -33,7 +33,6 @@ pub fn graph(
         → ⊥ }
     ensures too_large { result ≡ Err SampleFault.TooLarge
         → (1000 < inputs) ⊎ (1000 < length gates.now) ⊎ (1000 < length outputs.now) }
-    ensures no_names { result ≢ Err SampleFault.Names }
 {
     if inputs as usize > MOST {
         return Err(SampleFault::TooLarge);
@@ -77,44 +76,5 @@ pub fn matching(
     Ok(Matching {
         inputs: Items::from_slice(alloc, inputs)?,
         outputs: Items::from_slice(alloc, outputs)?,
-    })
-}
-
-/// These names.
-pub fn names(alloc: Global, texts: &[&[u8]]) -> Result<Items<Name>, AllocError>
-    ensures { IfOk result (λ names. length names ≡ length texts.now) }
-{
-    let mut names = Items::new(alloc);
-    for text in texts.iter() {
-        names.push(Items::from_slice(alloc, text)?)?;
-    }
-    Ok(names)
-}
-
-/// The graph with these names of its ports.
-///
-/// # Errors
-///
-/// [`SampleFault::Names`] where there are more or fewer names than ports, and [`SampleFault::Memory`].
-pub fn named(
-    alloc: Global,
-    graph: Graph,
-    inputs: &[&[u8]],
-    outputs: &[&[u8]],
-) -> Result<Named, SampleFault>
-    ensures graph { IfOk result (λ named. named.graph ≡ graph) }
-    ensures names { result ≡ Err SampleFault.Names
-        → (length inputs.now ≢ graph.inputs) ⊎ (length outputs.now ≢ length graph.outputs) }
-{
-    if inputs.len() != graph.inputs() as usize {
-        return Err(SampleFault::Names);
-    }
-    if outputs.len() != graph.outputs().len() {
-        return Err(SampleFault::Names);
-    }
-    Ok(Named {
-        graph,
-        input_names: names(alloc, inputs)?,
-        output_names: names(alloc, outputs)?,
     })
 }

@@ -11,13 +11,10 @@ pub enum SampleFault {
     /// There are more than 1,000 inputs, gates or outputs.
     #[error("a sample of more than 1,000 inputs, gates or outputs")]
     TooLarge,
-    /// A gate doesn't stand behind its operands, or an output's signal isn't there.
+    /// A gate doesn't stand after its operands, or an output's signal isn't there.
     #[error("a literal that is out of place")]
     OutOfPlace,
-    /// There are more or fewer names than ports.
-    #[error("not one name for each port")]
-    Names,
-    /// Memory is wanting.
+    /// Out of memory.
     #[error("out of memory")]
     Memory,
 }

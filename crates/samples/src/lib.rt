@@ -3,6 +3,8 @@
 
 mod build;
 mod fault;
+mod pair;
 
-pub use build::{graph, matching, named, names};
+pub use build::{graph, matching};
 pub use fault::SampleFault;
+pub use pair::GraphPair;

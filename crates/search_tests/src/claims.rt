@@ -6,10 +6,11 @@ ghost use Rattle.query_core.specs.Claims.{IsClaim, IsPlaced};
 use crate::sample_circuits::{
     AND, AND_OF_THREE, Sample, WIRE, are_small, drawn_pair, output_on, pair,
 };
-use account_core::{Evidence, Fact, Oracle};
+use account_core::{Evidence, Fact};
 use cnf_core::Stop;
 use fact_tests::FactBook;
 use net_core::{Graph, Graphs, Side};
+use oracle_core::Oracle;
 use query_core::{Claim, Ledger, Shape};
 use samples::SampleFault;
 use std::alloc::{AllocError, Global};
@@ -36,7 +37,7 @@ fn is_placed(inputs: u32, shape: Shape) -> bool
     }
 }
 
-fn is_claim(graphs: &Graphs, claim: Claim) -> bool
+fn is_claim(graphs: &Graphs<'_>, claim: Claim) -> bool
     ensures { IsTrue result → IsClaim graphs.now claim }
 {
     let graph = graphs.side(claim.side);
@@ -74,7 +75,7 @@ fn told_by(fact: Option<&Fact>, learned: u64) -> Outcome {
 /// What a new book of facts says of a claim.
 fn by_book(
     alloc: Global,
-    graphs: &Graphs,
+    graphs: &Graphs<'_>,
     shape: Shape,
     budget: u64,
 ) -> Result<Outcome, AllocError> {
@@ -91,7 +92,7 @@ fn by_book(
 /// What a new oracle that tries all vectors says of a claim.
 fn by_table(
     alloc: Global,
-    graphs: &Graphs,
+    graphs: &Graphs<'_>,
     shape: Shape,
     budget: u64,
 ) -> Result<Outcome, AllocError> {
@@ -120,7 +121,8 @@ const OF_AND_GATE: &[(Shape, u64, Outcome)] = &[
 ];
 
 fn of_and_gate(alloc: Global, shape: Shape, budget: u64) -> Result<Outcome, Fail> {
-    let graphs = pair(alloc, AND_OF_THREE, WIRE)?;
+    let both = pair(alloc, AND_OF_THREE, WIRE)?;
+    let graphs = both.graphs();
     Ok(by_book(alloc, &graphs, shape, budget)?)
 }
 
@@ -152,7 +154,8 @@ fn charged(
     shape: Shape,
     budget: u64,
 ) -> Result<Outcome, Fail> {
-    let graphs = pair(alloc, first, second)?;
+    let both = pair(alloc, first, second)?;
+    let graphs = both.graphs();
     Ok(by_table(alloc, &graphs, shape, budget)?)
 }
 
@@ -240,9 +243,9 @@ fn is_right(outcome: Outcome, falls: bool) -> bool {
 }
 
 /// The first claim that a book decides otherwise than all vectors do.
-fn wrong_claim(alloc: Global, graphs: &Graphs) -> Result<Option<Shape>, Fail> {
+fn wrong_claim(alloc: Global, graphs: &Graphs<'_>) -> Result<Option<Shape>, Fail> {
     for (shape, mask, values) in SHAPES.iter() {
-        let falls = falls_somewhere(alloc, &graphs.first, *mask, *values)?;
+        let falls = falls_somewhere(alloc, graphs.first(), *mask, *values)?;
         if !is_right(by_book(alloc, graphs, *shape, 999)?, falls) {
             return Ok(Some(*shape));
         }
@@ -251,7 +254,8 @@ fn wrong_claim(alloc: Global, graphs: &Graphs) -> Result<Option<Shape>, Fail> {
 }
 
 fn wrong_claim_of_drawn(alloc: Global, number: u64) -> Result<Option<Shape>, Fail> {
-    let graphs = drawn_pair(alloc, number)?;
+    let both = drawn_pair(alloc, number)?;
+    let graphs = both.graphs();
     wrong_claim(alloc, &graphs)
 }
 

@@ -4,10 +4,10 @@ ghost use Rattle.std.specs.Prelude.{◌≡◌, IsTrue, length};
 ghost use Rattle.circuits.specs.Matches.{HavePorts};
 
 use crate::sample_circuits::{AND, OR, pair};
-use account_core::{Compared, Oracle};
 use cnf_core::Stop;
 use fact_tests::FactBook;
 use net_core::{Graphs, Matching};
+use oracle_core::{Compared, Oracle};
 use query_core::Ledger;
 use samples::matching;
 use std::alloc::{AllocError, Global};
@@ -33,21 +33,21 @@ fn told(answer: &Result<Compared, Stop>) -> Comparison {
 }
 
 /// Whether a matching is of the ports of two circuits of one output each.
-fn are_ports(graphs: &Graphs, matching: &Matching) -> bool
+fn are_ports(graphs: &Graphs<'_>, matching: &Matching) -> bool
     ensures ports { IsTrue result
         → HavePorts graphs.now.first graphs.now.second matching.now.inputs matching.now.outputs }
     ensures output { IsTrue result → length graphs.now.first.outputs ≡ 1 }
 {
-    let inputs = graphs.first.inputs();
-    let alike = inputs == graphs.second.inputs();
-    let single = (graphs.first.outputs().len() == 1) & (graphs.second.outputs().len() == 1);
+    let inputs = graphs.first().inputs();
+    let alike = inputs == graphs.second().inputs();
+    let single = (graphs.first().outputs().len() == 1) & (graphs.second().outputs().len() == 1);
     alike & single & matching.check_shape(inputs, 1)
 }
 
 /// What a new book says of output 0 and its partner.
 fn compared(
     alloc: Global,
-    graphs: &Graphs,
+    graphs: &Graphs<'_>,
     matching: &Matching,
     budget: u64,
 ) -> Result<Comparison, AllocError> {
@@ -63,7 +63,7 @@ fn compared(
 /// What a new book says where each port goes to the one of its number, or to its inverse.
 fn with_all_signs(
     alloc: Global,
-    graphs: &Graphs,
+    graphs: &Graphs<'_>,
     flip: bool,
     budget: u64,
 ) -> Result<Comparison, AllocError> {
@@ -72,7 +72,8 @@ fn with_all_signs(
 }
 
 fn and_with_or(alloc: Global, flip: bool, budget: u64) -> Result<Comparison, Fail> {
-    let graphs = pair(alloc, AND, OR)?;
+    let both = pair(alloc, AND, OR)?;
+    let graphs = both.graphs();
     Ok(with_all_signs(alloc, &graphs, flip, budget)?)
 }
 

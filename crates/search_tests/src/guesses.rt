@@ -1,10 +1,26 @@
-//! Small circuits for which a table is guessed.
+//! Circuits for which a table is guessed.
 
-use crate::sample_circuits::{AND, OR, Sample, XOR, are_small, pair};
+ghost use Rattle.std.specs.Prelude.{◌≡◌, ◌<◌};
+
+use crate::sample_circuits::{
+    AND, OR, Sample, XOR, are_small, drawn, drawn_moved, output_on, pair,
+};
+use cell_splits::Draws;
 use net_core::{Graphs, Matching};
 use std::alloc::{AllocError, Global};
 use std::test::Fail;
-use table_guess::{Trials, guess};
+use table_guess::{Guesser, Trials};
+
+/// What is guessed of two small circuits.
+fn guessed(alloc: Global, graphs: &Graphs<'_>, seed: u64) -> Result<Option<Matching>, AllocError> {
+    if !are_small(graphs) {
+        return Ok(None);
+    }
+    match Guesser::new(alloc, graphs, seed)? {
+        Some(mut guesser) => guesser.guess(alloc, graphs),
+        None => Ok(None),
+    }
+}
 
 /// Whether a table, where there is one, inverts an output.
 fn inverts(table: &Option<Matching>) -> Option<bool> {
@@ -14,19 +30,11 @@ fn inverts(table: &Option<Matching>) -> Option<bool> {
     }
 }
 
-/// Whether the table that is guessed inverts an output.
-fn guess_inverts(alloc: Global, graphs: &Graphs) -> Result<Option<bool>, AllocError> {
-    if !are_small(graphs) {
-        return Ok(None);
-    }
-    let trials = Trials::new(alloc, &graphs.first)?;
-    let table = guess(alloc, graphs, &trials)?;
+fn guess_inverts(alloc: Global, first: Sample, second: Sample) -> Result<Option<bool>, Fail> {
+    let both = pair(alloc, first, second)?;
+    let graphs = both.graphs();
+    let table = guessed(alloc, &graphs, 1)?;
     Ok(inverts(&table))
-}
-
-fn guessed(alloc: Global, first: Sample, second: Sample) -> Result<Option<bool>, Fail> {
-    let graphs = pair(alloc, first, second)?;
-    Ok(guess_inverts(alloc, &graphs)?)
 }
 
 /// A circuit beside an AND, and whether the table that is guessed inverts the output.
@@ -35,7 +43,91 @@ const GUESSED: &[(Sample, Option<bool>)] = &[(OR, Some(true)), (XOR, None)];
 #[test]
 fn guesses_an_and_as_an_or_alone(rt: HostRuntime) -> Result<(), Fail> {
     for (second, inverts) in GUESSED.iter() {
-        assert_eq!(rt; guessed(rt.alloc(), AND, *second)?, *inverts);
+        assert_eq!(rt; guess_inverts(rt.alloc(), AND, *second)?, *inverts);
     }
+    Ok(())
+}
+
+/// The number of the vector that a table makes of a vector of three inputs.
+fn moved_code(table: &Matching, code: u32) -> u32 {
+    let mut moved = 0u32;
+    for (input, entry) in table.inputs.iter().enumerate() {
+        let bit = (code >> (input % 32)) % 2;
+        moved |= (bit ^ entry.1 as u32) << (entry.0 % 32);
+    }
+    moved
+}
+
+/// Whether a table of circuits of three inputs and one output is right on all vectors.
+fn is_right(alloc: Global, graphs: &Graphs<'_>, table: &Matching) -> Result<bool, Fail> {
+    let sign = table.outputs.iter().any(|entry| entry.1);
+    for code in 0..8u32 {
+        let first = output_on(alloc, graphs.first(), code)?;
+        let second = output_on(alloc, graphs.second(), moved_code(table, code))?;
+        if (first != second) != sign {
+            return Ok(false);
+        }
+    }
+    Ok(true)
+}
+
+/// Whether a right table is guessed of a drawn circuit and of what a drawn table makes of it.
+fn finds_moved(alloc: Global, number: u64) -> Result<bool, Fail> {
+    let first = drawn(alloc, number)?;
+    let second = drawn_moved(alloc, number)?;
+    let graphs = Graphs::new(&first, &second);
+    match guessed(alloc, &graphs, number)? {
+        Some(table) => is_right(alloc, &graphs, &table),
+        None => Ok(false),
+    }
+}
+
+#[test]
+fn finds_what_a_table_moved(rt: HostRuntime) -> Result<(), Fail> {
+    for number in 0..24u64 {
+        assert_eq!(rt; (number, finds_moved(rt.alloc(), number)?), (number, true));
+    }
+    Ok(())
+}
+
+/// Whether something is guessed of drawn circuits by either of two seeds.
+fn by_two_seeds(alloc: Global, number: u64) -> Result<(bool, bool), Fail> {
+    let first = drawn(alloc, number)?;
+    let second = drawn_moved(alloc, number)?;
+    let graphs = Graphs::new(&first, &second);
+    let one = guessed(alloc, &graphs, 1)?.is_some();
+    let other = guessed(alloc, &graphs, 2)?.is_some();
+    Ok((one, other))
+}
+
+#[test]
+fn two_seeds_draw_other_words_and_find_the_same(rt: HostRuntime) -> Result<(), Fail> {
+    assert!(rt; Draws::new(1).word() != Draws::new(2).word());
+    for number in 0..8u64 {
+        assert_eq!(rt; by_two_seeds(rt.alloc(), number)?, (true, true));
+    }
+    Ok(())
+}
+
+/// An input of twelve, too many for all vectors to be tried.
+const ONE_OF_TWELVE: Sample = Sample {
+    inputs: 12,
+    gates: &[],
+    outputs: &[2],
+};
+
+/// The first word of the vectors that a search tries pairs on.
+fn first_word(alloc: Global, seed: u64) -> Result<u64, Fail> {
+    let both = pair(alloc, ONE_OF_TWELVE, ONE_OF_TWELVE)?;
+    let trials = Trials::new(alloc, &both.first, seed)?;
+    if (trials.inputs.columns() == 0) | (trials.inputs.words() == 0) {
+        return Ok(0);
+    }
+    Ok(trials.inputs.get(0, 0))
+}
+
+#[test]
+fn two_seeds_try_other_vectors(rt: HostRuntime) -> Result<(), Fail> {
+    assert!(rt; first_word(rt.alloc(), 1)? != first_word(rt.alloc(), 2)?);
     Ok(())
 }

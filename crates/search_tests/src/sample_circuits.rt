@@ -6,7 +6,7 @@ ghost use Rattle.account_core.specs.Ports.{HaveAsMany};
 use net_core::{Graph, Graphs, lit_value};
 use rand_core::utils::NextWord;
 use rand_pcg::Pcg32;
-use samples::{SampleFault, graph};
+use samples::{GraphPair, SampleFault, graph};
 use std::alloc::Global;
 use std::test::Fail;
 
@@ -55,40 +55,77 @@ fn graph_of(alloc: Global, sample: Sample) -> Result<Graph, SampleFault> {
 }
 
 /// Two circuits by side.
-pub(crate) fn pair(alloc: Global, first: Sample, second: Sample) -> Result<Graphs, SampleFault> {
+pub(crate) fn pair(alloc: Global, first: Sample, second: Sample) -> Result<GraphPair, SampleFault> {
     let first = graph_of(alloc, first)?;
-    Ok(Graphs {
+    Ok(GraphPair {
         first,
         second: graph_of(alloc, second)?,
     })
 }
 
 /// Whether two circuits have as many ports, and at most 12 inputs.
-pub(crate) fn are_small(graphs: &Graphs) -> bool
+pub(crate) fn are_small(graphs: &Graphs<'_>) -> bool
     ensures ports { IsTrue result → HaveAsMany graphs.now.first graphs.now.second }
     ensures small { IsTrue result → graphs.now.first.inputs ≤ 12 }
 {
-    let inputs = graphs.first.inputs();
-    let outputs = graphs.first.outputs().len();
-    (inputs == graphs.second.inputs()) & (outputs == graphs.second.outputs().len()) & (inputs <= 12)
+    let inputs = graphs.first().inputs();
+    let outputs = graphs.first().outputs().len();
+    (inputs == graphs.second().inputs())
+        & (outputs == graphs.second().outputs().len())
+        & (inputs <= 12)
 }
 
 /// A circuit of three inputs and six gates, drawn by a number.
 pub(crate) fn drawn(alloc: Global, number: u64) -> Result<Graph, SampleFault> {
+    drawn_by(alloc, number, [2, 4, 6])
+}
+
+/// The same with its inputs permuted and negated, by the number.
+pub(crate) fn drawn_moved(alloc: Global, number: u64) -> Result<Graph, SampleFault> {
+    let orders = [
+        [2, 4, 6],
+        [2, 6, 4],
+        [4, 2, 6],
+        [4, 6, 2],
+        [6, 2, 4],
+        [6, 4, 2],
+    ];
+    let [a, b, c] = orders[(number % 6) as usize];
+    let signs = (number / 3 % 8) as u32;
+    drawn_by(
+        alloc,
+        number,
+        [a ^ signs % 2, b ^ signs / 2 % 2, c ^ signs / 4],
+    )
+}
+
+/// A drawn circuit with other literals in place of its inputs.
+fn drawn_by(alloc: Global, number: u64, inputs: [u32; 3]) -> Result<Graph, SampleFault> {
     let mut numbers = Pcg32::new(number, 54);
     let mut gates = [(0, 0); 6];
     for t in 0..6u32 {
         let below = 2 * (4 + t);
-        gates[t as usize] = (numbers.next_word() % below, numbers.next_word() % below);
+        gates[t as usize] = (
+            renamed(inputs, numbers.next_word() % below),
+            renamed(inputs, numbers.next_word() % below),
+        );
     }
     let output = 18 + numbers.next_word() % 2;
     graph(alloc, 3, gates.as_slice(), &[output])
 }
 
+/// A literal with other ones in place of the inputs.
+fn renamed(inputs: [u32; 3], literal: u32) -> u32 {
+    match literal / 2 {
+        signal @ 1..=3 => inputs[signal as usize - 1] ^ literal % 2,
+        _ => literal,
+    }
+}
+
 /// A drawn circuit beside the next one.
-pub(crate) fn drawn_pair(alloc: Global, number: u64) -> Result<Graphs, SampleFault> {
+pub(crate) fn drawn_pair(alloc: Global, number: u64) -> Result<GraphPair, SampleFault> {
     let first = drawn(alloc, number)?;
-    Ok(Graphs {
+    Ok(GraphPair {
         first,
         second: drawn(alloc, number.wrapping_add(1))?,
     })

@@ -1,16 +1,16 @@
 //! Searches whose answers are known, over both oracles.
 
 ghost use Rattle.std.specs.Prelude.{◌≡◌, [], false};
-ghost use Rattle.account_core.specs.Oracles.{Suits};
+ghost use Rattle.oracle_core.specs.Oracles.{Suits};
 ghost use Rattle.account_core.specs.Ports.{HaveAsMany};
 ghost use Rattle.query_core.specs.Ledgers.{Ledgered};
 
 use crate::sample_circuits::{AND, OR, Sample, XOR, are_small, pair};
-use account_core::Oracle;
 use ban_book::BanBook;
 use fact_tests::FactBook;
 use match_search::{Found, search};
 use net_core::Graphs;
+use oracle_core::Oracle;
 use query_core::Ledger;
 use std::alloc::{AllocError, Global};
 use std::test::Fail;
@@ -84,7 +84,7 @@ fn is_match(found: &Found) -> bool {
 }
 
 /// What a search over a new oracle finds; None where it is stopped.
-fn found_by<O: Oracle>(alloc: Global, graphs: &Graphs, oracle: &mut O) -> Option<bool>
+fn found_by<O: Oracle>(alloc: Global, graphs: &Graphs<'_>, oracle: &mut O) -> Option<bool>
     requires graphs { graphs.now ≡ (O.known oracle.old).graphs }
     requires ports { HaveAsMany graphs.now.first graphs.now.second }
     requires suits { (ledger : Ledgered)
@@ -94,14 +94,14 @@ fn found_by<O: Oracle>(alloc: Global, graphs: &Graphs, oracle: &mut O) -> Option
 {
     let mut book = BanBook::new(alloc);
     let mut ledger = Ledger::new(alloc, 1_000_000);
-    match search(alloc, graphs, oracle, &mut book, &mut ledger) {
+    match search(alloc, graphs, oracle, &mut book, 1, &mut ledger) {
         Ok(found) => Some(is_match(&found)),
         Err(_) => None,
     }
 }
 
 /// What a search over the oracle that tries all vectors finds.
-fn by_table(alloc: Global, graphs: &Graphs) -> Result<Option<bool>, AllocError> {
+fn by_table(alloc: Global, graphs: &Graphs<'_>) -> Result<Option<bool>, AllocError> {
     if !are_small(graphs) {
         return Ok(None);
     }
@@ -110,7 +110,7 @@ fn by_table(alloc: Global, graphs: &Graphs) -> Result<Option<bool>, AllocError> 
 }
 
 /// What a search over the book of facts finds.
-fn by_book(alloc: Global, graphs: &Graphs) -> Result<Option<bool>, AllocError> {
+fn by_book(alloc: Global, graphs: &Graphs<'_>) -> Result<Option<bool>, AllocError> {
     if !are_small(graphs) {
         return Ok(None);
     }
@@ -119,7 +119,7 @@ fn by_book(alloc: Global, graphs: &Graphs) -> Result<Option<bool>, AllocError> {
 }
 
 /// What is found over both oracles.
-fn by_both(alloc: Global, graphs: &Graphs) -> Result<(Option<bool>, Option<bool>), AllocError> {
+fn by_both(alloc: Global, graphs: &Graphs<'_>) -> Result<(Option<bool>, Option<bool>), AllocError> {
     Ok((by_table(alloc, graphs)?, by_book(alloc, graphs)?))
 }
 
@@ -128,7 +128,8 @@ fn found(
     first: Sample,
     second: Sample,
 ) -> Result<(Option<bool>, Option<bool>), Fail> {
-    let graphs = pair(alloc, first, second)?;
+    let both = pair(alloc, first, second)?;
+    let graphs = both.graphs();
     Ok(by_both(alloc, &graphs)?)
 }
 

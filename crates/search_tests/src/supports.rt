@@ -1,10 +1,10 @@
 //! Supports of outputs, and how many claims are decided for them.
 
 use crate::sample_circuits::{AND_OF_THREE, Sample, WIRE, pair};
-use account_core::Oracle;
 use fact_tests::{FactBook, info};
 use net_core::Graphs;
-use port_report::{OutputInfo, Unate};
+use oracle_core::Oracle;
+use output_info::{OutputInfo, Unate};
 use query_core::Ledger;
 use std::alloc::{AllocError, Global};
 use std::test::Fail;
@@ -58,7 +58,7 @@ fn is_support(rows: &[OutputInfo], support: &[(u32, Unate)]) -> bool {
 /// How many claims were decided of a circuit where its one output has this support; None where it is told otherwise.
 fn claims_of(
     alloc: Global,
-    graphs: &Graphs,
+    graphs: &Graphs<'_>,
     budget: u64,
     support: &[(u32, Unate)],
 ) -> Result<Option<usize>, AllocError> {
@@ -77,7 +77,8 @@ fn claims_of_sample(
     budget: u64,
     support: &[(u32, Unate)],
 ) -> Result<Option<usize>, Fail> {
-    let graphs = pair(alloc, sample, WIRE)?;
+    let both = pair(alloc, sample, WIRE)?;
+    let graphs = both.graphs();
     Ok(claims_of(alloc, &graphs, budget, support)?)
 }
 

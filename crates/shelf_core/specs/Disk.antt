@@ -8,15 +8,15 @@ abbrev pub disk_mode : {F A : Type 0} → Opened F A → Mode
 disk_mode opened.No = Closed
 disk_mode (opened.Reading file left) = Reading
 disk_mode (opened.Held stream) = Reading
-disk_mode (opened.Writing file) = Writing
+disk_mode (opened.Writing file regular) = Writing
 
 abbrev pub disk_left : {F A : Type 0} → Opened F A → ℕ
 disk_left opened.No = 0
 disk_left (opened.Reading file left) = left
 disk_left (opened.Held stream) = stream
-disk_left (opened.Writing file) = 0
+disk_left (opened.Writing file regular) = 0
 
--- open for reading, with so many bytes unread
+-- open for reading, with n bytes unread
 pub record IsOpenToRead {F A : Type 0} (file : Opened F A) (left : ℕ) : Type 0 where
   pub mode : disk_mode file ≡ Reading
   pub unread : disk_left file ≡ left

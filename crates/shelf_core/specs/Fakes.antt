@@ -5,7 +5,7 @@ use Rattle.shelf_core.specs.Failing.{Failing}
 use Rattle.shelf_core.specs.declared.mem_shelf.MemShelf.{MemShelf}
 use Rattle.shelf_core.specs.declared.mem_sink.MemSink.{MemSink}
 
--- a shelf without failures, with so many of them
+-- a shelf without failures, with that many of them
 abbrev pub with_faults : ShelfState → ℕ → ShelfState
 with_faults state faults = record state { faults = faults }
 

@@ -1,26 +1,30 @@
 ghost use Rattle.std.specs.Prelude.{◌≡◌, ◌+◌, ◌≤◌, ◌<◌, length, false, IfOk, IfSome, OnErr};
-ghost use Rattle.shelf_core.specs.State.{Closed};
-ghost use Rattle.shelf_core.specs.Disk.{IsOpenToRead};
+ghost use Rattle.shelf_core.specs.State.{Closed, Writing};
+ghost use Rattle.shelf_core.specs.Disk.{IsOpenToRead, disk_mode};
 
 use crate::outside::{Shelf, ShelfStop};
 use crate::stream::{Stream, read_next};
 use std::alloc::{Alloc, Allocator};
-use std::fs::{File, OpenFile};
-use std::io;
+use std::fs::{File, Metadata, OpenFile, OpenOptions};
 use std::io::{Error, ErrorKind, Read, Write};
+use std::os::unix::fs::MetadataExt;
 use std::rt::{Files, Runtime};
+use std::{io, mem};
 
 /// The most bytes that are taken from a pipe or a device: 1 GiB.
 const STREAM_BOUND: usize = 1 << 30;
 
 /// The machine's files, by their paths. It does not tell what they hold. What is neither a file nor a directory, as a pipe
 /// or a device, is read to its end when it is opened, since its length isn't known before; past 1 GiB that is a fault.
-/// A directory opens, and fails at its first read. Each error of the machine is a fault, but that a path to be read
-/// leads to nothing.
+/// A directory opens, and fails at its first read. A file that was read isn't written, by whatever name: to create it is a
+/// fault, and leaves it as it is. A file that was written is closed once the device holds it. Each error of the machine is
+/// a fault, but that a path to be read leads to nothing.
 #[derive(Drop)]
 pub struct DiskShelf<R: Runtime> {
     rt: R,
     opened: Opened<R::File, R::A>,
+    /// The files that were read.
+    read: Vec<FileId, R::A>,
     faults: u64,
 }
 
@@ -30,7 +34,15 @@ enum Opened<F, A: Allocator> {
     No,
     Reading { file: F, left: u64 },
     Held(Stream<A>),
-    Writing(F),
+    /// A file, which is regular, or a pipe or a device, which needn't be synced.
+    Writing { file: F, regular: bool },
+}
+
+/// What a regular file is told by, whatever names lead to it: its device, and its number there.
+#[derive(Clone, Copy, Debug, PartialEq, Eq)]
+struct FileId {
+    device: u64,
+    inode: u64,
 }
 
 impl<R: Runtime> DiskShelf<R> {
@@ -39,9 +51,11 @@ impl<R: Runtime> DiskShelf<R> {
         ensures closed { (⟦<DiskShelf<R> as Shelf>⟧.state result).mode ≡ Closed }
         ensures faults { (⟦<DiskShelf<R> as Shelf>⟧.state result).faults ≡ 0 }
     {
+        let read = Vec::new(rt.alloc());
         DiskShelf {
             rt,
             opened: Opened::No,
+            read,
             faults: 0,
         }
     }
@@ -55,7 +69,7 @@ impl<R: Runtime> Shelf for DiskShelf<R> {
     ghost state = { λ shelf. disk_state shelf.opened shelf.faults };
 
     fn open(&mut self, name: &str) -> Result<Option<u64>, ShelfStop> {
-        match open_sized(&self.rt, name) {
+        match open_to_read(&self.rt, name, &mut self.read) {
             Ok(Some((opened, left))) => {
                 self.opened = opened;
                 Ok(Some(left))
@@ -85,9 +99,9 @@ impl<R: Runtime> Shelf for DiskShelf<R> {
     }
 
     fn create(&mut self, name: &str) -> Result<(), ShelfStop> {
-        match File::create(&self.rt, name) {
-            Ok(file) => {
-                self.opened = Opened::Writing(file);
+        match open_to_write(&self.rt, name, &self.read) {
+            Ok(opened) => {
+                self.opened = opened;
                 Ok(())
             }
             Err(_) => {
@@ -98,7 +112,7 @@ impl<R: Runtime> Shelf for DiskShelf<R> {
     }
 
     fn append(&mut self, piece: &[u8]) -> Result<(), ShelfStop> {
-        let Opened::Writing(file) = &mut self.opened else {
+        let Opened::Writing { file, .. } = &mut self.opened else {
             unreachable!()
         };
         match file.write_all(piece) {
@@ -111,15 +125,23 @@ impl<R: Runtime> Shelf for DiskShelf<R> {
     }
 
     fn close(&mut self) -> Result<(), ShelfStop> {
-        self.opened = Opened::No;
-        Ok(())
+        let file = mem::replace(&mut self.opened, Opened::No);
+        match sync_written(&file) {
+            Ok(()) => Ok(()),
+            Err(_) => {
+                self.faults = self.faults.saturating_add(1);
+                Err(ShelfStop::Failed)
+            }
+        }
     }
 }
 
-/// The file of a path, open for reading, with the number of its bytes; `None` where the path leads to nothing.
-fn open_sized<R: Files + Alloc>(
+/// The file of a path, open for reading, with the number of its bytes; `None` where the path leads to nothing. A regular
+/// file is noted as one that is read.
+fn open_to_read<R: Files + Alloc>(
     rt: &R,
     name: &str,
+    read: &mut Vec<FileId, R::A>,
 ) -> Result<Option<(Opened<R::File, R::A>, u64)>, ShelfStop>
     ensures { IfOk result (λ found. IfSome found (λ sized. IsOpenToRead sized.0 sized.1)) }
 {
@@ -136,9 +158,52 @@ fn open_sized<R: Files + Alloc>(
         let left = stream.left() as u64;
         return Ok(Some((Opened::Held(stream), left)));
     }
+    if metadata.is_file() {
+        read.push(file_id(&metadata))?;
+    }
     // a directory has no bytes: it is to fail at its first read, also where its length is 0
     let left = metadata.len().max(u64::from(metadata.is_dir()));
     Ok(Some((Opened::Reading { file, left }, left)))
+}
+
+/// The file of a path, empty and open for writing; it is made where the path leads to nothing. A regular file that was read
+/// is an error, and is left as it is: so it is opened with its bytes, and emptied once it is known not to be one of those.
+fn open_to_write<R: Files + Alloc>(
+    rt: &R,
+    name: &str,
+    read: &[FileId],
+) -> io::Result<Opened<R::File, R::A>>
+    ensures { IfOk result (λ opened. disk_mode opened ≡ Writing) }
+{
+    let file = OpenOptions::new().write(true).create(true).open(rt, name)?;
+    let metadata = file.metadata()?;
+    let regular = metadata.is_file();
+    if regular {
+        // a run reads two netlists, so that a scan is good enough
+        if read.contains(&file_id(&metadata)) {
+            return Err(Error::from(ErrorKind::InvalidInput));
+        }
+        file.set_len(0)?;
+    }
+    Ok(Opened::Writing { file, regular })
+}
+
+fn file_id(metadata: &Metadata) -> FileId {
+    FileId {
+        device: metadata.dev(),
+        inode: metadata.ino(),
+    }
+}
+
+/// Waits until the device holds what was written to a regular file, so that a write which fails late is an error.
+fn sync_written<F: OpenFile, A: Allocator>(opened: &Opened<F, A>) -> io::Result<()> {
+    match opened {
+        Opened::Writing {
+            file,
+            regular: true,
+        } => file.sync_all(),
+        _ => Ok(()),
+    }
 }
 
 /// Reads at most `left` bytes, and at least one if there is any and room for it. A file that ends before is an error.

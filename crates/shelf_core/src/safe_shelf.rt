@@ -8,7 +8,7 @@ use crate::outside::{Shelf, ShelfStop};
 use crate::stored_file::StoredFile;
 use std::alloc::{AllocError, Global};
 
-/// A shelf in memory, which never fails: `create` and `append` are refused only for want of memory, and the other calls
+/// A shelf in memory, which never fails: `create` and `append` are refused only when out of memory, and the other calls
 /// never are.
 #[derive(Debug, Drop)]
 pub struct SafeShelf {

@@ -5,7 +5,7 @@ use crate::outside::{ShelfStop, Sink};
 use std::alloc::Global;
 use std::marker::Model;
 
-/// A sink in memory, which never fails: a call is refused only for want of memory. It means the bytes that were written.
+/// A sink in memory, which never fails: a call is refused only when out of memory. It means the bytes that were written.
 #[derive(Debug, Drop)]
 pub struct SafeSink {
     inside: Vec<u8>,

@@ -1,5 +1,7 @@
 mod Evaluating
 mod Hunts
+mod Inverting
 mod Picking
+mod Reached
 mod Rows
 mod Wanted

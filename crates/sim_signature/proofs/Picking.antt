@@ -1,10 +1,9 @@
--- Words as 64 answers at once.
-use Rattle.std.proofs.Common.{ℕ, zero, suc, ◌<◌, ◌≡◌, ◌↔◌, ◌/◌, ◌%◌, ◌^◌, ◌-◌, Bool, true, false, cond, ◌&&◌, not, eqb, List, [], ◌∷◌, get_or, refl, sym, ap, subst, ◌∙◌, inl, inr, arith, bit_and, bit_xor}
+-- Bits as many answers at once.
+use Rattle.std.proofs.Common.{ℕ, zero, suc, ◌<◌, ◌≡◌, ◌↔◌, ◌/◌, ◌%◌, ◌^◌, Bool, true, false, ◌&&◌, not, eqb, List, [], ◌∷◌, get_or, refl, sym, ap, subst, ◌∙◌, inl, inr, arith}
 use Rattle.std.specs.Bool.{beq}
 use Rattle.std.proofs.lemmas.Bool.{cases_lt, false≢true}
 use Rattle.circuits.specs.Literals.{differ}
 use Rattle.word_sim.specs.Columns.{word_bit}
-use Rattle.word_sim.proofs.Lanes.{and-bit, inverted-bit}
 
 picks : (a b value : Bool) → (a && differ b (not value) ≡ true) ↔ ((a ≡ true) × (b ≡ value))
 picks true true true = (λ h. (refl, refl), λ h. refl)
@@ -13,20 +12,15 @@ picks true false true = (λ h. absurd (false≢true h), λ h. absurd (false≢tr
 picks true false false = (λ h. (refl, refl), λ h. refl)
 picks false b value = (λ h. absurd (false≢true h), λ h. absurd (false≢true h.0))
 
-picked-is : (v word column : ℕ) (value : Bool) → v < 64 → word_bit v (bit_and word (bit_xor column (cond (not value) (2 ^ 64 - 1) 0))) ≡ word_bit v word && differ (word_bit v column) (not value)
-picked-is v word column value h =
-    and-bit v word (bit_xor column (cond (not value) (2 ^ 64 - 1) 0)) ∙ ap (λ b. word_bit v word && b) (inverted-bit v column (not value) h)
+same-sign : (a : Bool) → differ a false ≡ a
+same-sign true = refl
+same-sign false = refl
 
-pub picked-bits : (v word column : ℕ) (value : Bool) → v < 64 → (word_bit v (bit_and word (bit_xor column (cond (not value) (2 ^ 64 - 1) 0))) ≡ true) ↔ ((word_bit v word ≡ true) × (word_bit v column ≡ value))
-picked-bits v word column value h =
-    let is = picked-is v word column value h in
-    let found = picks (word_bit v word) (word_bit v column) value in
-    (λ e. found.0 (sym is ∙ e), λ e. is ∙ found.1 e)
-
-pub picked-with : (v word column inverted : ℕ) (value : Bool) → v < 64 → inverted ≡ cond (not value) (2 ^ 64 - 1) 0 → (word_bit v (bit_and word (bit_xor column inverted)) ≡ true) ↔ ((word_bit v word ≡ true) × (word_bit v column ≡ value))
-picked-with v word column inverted value h e =
-    let P : ℕ → Type 0 = λ n. (word_bit v (bit_and word (bit_xor column n)) ≡ true) ↔ ((word_bit v word ≡ true) × (word_bit v column ≡ value)) in
-    subst P (sym e) (picked-bits v word column value h)
+pub picked : (found a b value inverse : Bool) → found ≡ differ a false && differ b inverse → inverse ≡ not value → (found ≡ true) ↔ ((a ≡ true) × (b ≡ value))
+picked found a b value inverse is opposite =
+    let said = is ∙ (ap (λ c. differ a false && differ b c) opposite ∙ ap (λ c. c && differ b (not value)) (same-sign a)) in
+    let both = picks a b value in
+    (λ h. both.0 (sym said ∙ h), λ h. said ∙ both.1 h)
 
 below : ℕ → (ℕ → Bool) → Bool
 below zero p = true

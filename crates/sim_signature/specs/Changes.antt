@@ -1,5 +1,5 @@
 -- Changes of a vector: one or two inputs inverted.
-use Rattle.std.specs.Prelude.{ℕ, ◌-◌, ◌^◌, ◌<◌, Bool, not, List, bit_xor, slice_index_or, slice_set}
+use Rattle.std.specs.Prelude.{ℕ, ◌<◌, ◌==◌, ◌||◌, Bool, false, not, List}
 use Rattle.circuits.specs.Literals.{bit}
 use Rattle.query_core.specs.declared.claims.Shape.{Shape}
 use Rattle.query_core.specs.declared.claims.Shape.TheVariants.{Up, Down, Swap}
@@ -25,12 +25,8 @@ change_of (Up i) = One i
 change_of (Down i) = One i
 change_of (Swap i j a b) = Two i j
 
--- all bits of a word inverted
-abbrev pub inverted : ℕ → ℕ
-inverted word = bit_xor word (2 ^ 64 - 1)
-
--- a word for each input, with those of the change's inputs inverted
-abbrev pub changed_row : Change → List ℕ → List ℕ
-changed_row Nothing row = row
-changed_row (One i) row = slice_set row i (inverted (slice_index_or row i 0))
-changed_row (Two i j) row = slice_set (slice_set row i (inverted (slice_index_or row i 0))) j (inverted (slice_index_or row j 0))
+-- whether a change inverts an input
+abbrev pub is_changed : Change → ℕ → Bool
+is_changed Nothing k = false
+is_changed (One i) k = k == i
+is_changed (Two i j) k = (k == i) || (k == j)

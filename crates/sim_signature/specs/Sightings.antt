@@ -5,8 +5,8 @@ use Rattle.circuits.specs.Netlists.{Net}
 use Rattle.query_core.specs.declared.claims.Shape.{Shape}
 use Rattle.query_core.specs.declared.claims.Shape.TheVariants.{Up, Down, Swap}
 use Rattle.query_core.specs.Claims.{IsPlaced, BreaksShape}
-use Rattle.word_sim.specs.Columns.{word_bit, lane}
-use Rattle.sim_signature.specs.Rounds.{Simulated}
+use Rattle.word_sim.specs.Columns.{word_of}
+use Rattle.sim_signature.specs.Rounds.{Simulated, block_bit, pattern}
 use Rattle.sim_signature.specs.declared.sighting.Sighting.{Sighting}
 
 -- the vector breaks the shape, whose inputs are there
@@ -24,20 +24,20 @@ IsSighted shape sightings = Any (λ sighting. sighting.shape ≡ shape) sighting
 abbrev pub AreLeft : List Shape → List Sighting → List Shape → Type 0
 AreLeft claims sightings left = (shape : Shape) → Contains claims shape → Contains left shape ⊎ IsSighted shape sightings
 
--- one of the word's vectors is noted, where there is one
-abbrev pub IsNoted : List ℕ → Shape → ℕ → List Sighting → List Sighting → Type 0
-IsNoted row shape lanes old new =
-    ((lanes ≡ 0) × (new ≡ old))
-    ⊎ ((v : ℕ) × (v < 64) × (word_bit v lanes ≡ true)
-    × (new ≡ old ++ record { shape = shape; vector = lane v row } ∷ []))
+-- one of the vectors that a block's bits stand for is noted, where there is one
+abbrev pub IsNoted : List (List ℕ) → Shape → List ℕ → List Sighting → List Sighting → Type 0
+IsNoted blocks shape lanes old new =
+    (((w : ℕ) → w < 8 → word_of w lanes ≡ 0) × (new ≡ old))
+    ⊎ ((w : ℕ) × (v : ℕ) × (w < 8) × (v < 64) × (block_bit w v lanes ≡ true)
+    × (new ≡ old ++ record { shape = shape; vector = pattern blocks w v } ∷ []))
 
--- Sightings are added: each shape among those hunted that one of the 64 vectors breaks is sighted.
+-- Sightings are added: each shape among those hunted that one of the 512 vectors breaks is sighted.
 pub record Hunted (s : Simulated) (Among : Shape → Type 0) (old new : List Sighting) : Type 0 where
   pub broken : AreBroken s.target.net s.target.output old → AreBroken s.target.net s.target.output new
   pub kept : (shape : Shape) → IsSighted shape old → IsSighted shape new
   pub found : (shape : Shape) → Among shape
-      → (v : ℕ) → v < 64
-      → BreaksShape s.target.net s.target.output shape (lane v s.row)
+      → (w v : ℕ) → w < 8 → v < 64
+      → BreaksShape s.target.net s.target.output shape (pattern s.blocks w v)
       → IsSighted shape new
 
 -- the shape is of one input, or of two of which it is the first
@@ -51,7 +51,7 @@ IsOfPair i j (Up other) = ⊥
 IsOfPair i j (Down other) = ⊥
 IsOfPair i j (Swap first second a b) = (first ≡ i) × (second ≡ j)
 
--- the shape swaps input i with one behind it, below `end`
+-- the shape swaps input i with one after it, below `end`
 abbrev pub IsOfPairBelow : ℕ → ℕ → Shape → Type 0
 IsOfPairBelow i end (Up other) = ⊥
 IsOfPairBelow i end (Down other) = ⊥

@@ -10,7 +10,7 @@ use std::alloc::{AllocError, Global};
 ///
 /// # Errors
 ///
-/// For want of memory alone.
+/// Only when out of memory.
 pub(crate) fn claims(alloc: Global, hunted: &[bool]) -> Result<Vec<Shape>, AllocError>
     requires { length hunted.now < 2 ^ 32 }
     ensures { IfOk result (λ shapes. Added (length hunted.now) (AreHunted hunted.now) [] shapes.items) }
@@ -24,7 +24,7 @@ pub(crate) fn claims(alloc: Global, hunted: &[bool]) -> Result<Vec<Shape>, Alloc
     Ok(shapes)
 }
 
-/// Adds the claims about an input, and about it and a marked one behind it.
+/// Adds the claims about an input, and about it and a marked one after it.
 fn add_claims(i: u32, hunted: &[bool], shapes: &mut Vec<Shape>) -> Result<(), AllocError>
     requires count { length hunted.now < 2 ^ 32 }
     requires input { i < length hunted.now }

@@ -18,13 +18,13 @@ use std::alloc::{AllocError, Global};
 const FEW: u32 = 6;
 
 /// Looks for vectors that break claims of an output: on at most six inputs among all vectors, and on more
-/// inputs among 64 vectors a round, drawn from the number `seed`, and these with one or two inputs inverted.
+/// inputs among 512 vectors a round, drawn from the number `seed`, and these with one or two inputs inverted.
 /// There only the inputs that the output reads are inverted, and a claim that is broken is not hunted again.
 /// Each simulation goes through the gates that the output reaches.
 ///
 /// # Errors
 ///
-/// For want of memory alone.
+/// Only when out of memory.
 pub fn hunt(
     alloc: Global,
     graph: &Graph,
@@ -111,8 +111,8 @@ fn hunt_rounds(
     let mut sightings = Vec::new(alloc);
     let mut left = claims(alloc, &cone.read_inputs(alloc)?)?;
     for _ in 0..rounds {
-        let row = drawn_vectors(alloc, inputs, generator)?;
-        let mut round = Round::new(alloc, cone, row)?;
+        let blocks = drawn_vectors(alloc, inputs, generator)?;
+        let mut round = Round::new(alloc, cone, blocks)?;
         left = round.sight_all(&left, &mut sightings)?;
     }
     Ok(sightings)

@@ -1,37 +1,38 @@
-//! 64 vectors at once, and the claims that they break.
+//! 512 vectors at once, and the claims that they break.
 
 ghost use Rattle.std.specs.Prelude.{◌≡◌, ◌<◌, ◌↔◌, ℕ, true, length, All, Contains, IfOk, OnOk};
 ghost use Rattle.circuits.specs.Literals.{bit};
 ghost use Rattle.query_core.specs.Claims.{HasValues, IsPlaced};
-ghost use Rattle.word_sim.specs.Columns.{lane as lane_bits, word_bit};
 ghost use Rattle.sim_signature.specs.Changes.{IsChange};
-ghost use Rattle.sim_signature.specs.Rounds.{AreFalls};
+ghost use Rattle.sim_signature.specs.Rounds.{AreFalls, block_bit, pattern};
 ghost use Rattle.sim_signature.specs.Sightings.{AreLeft, Hunted, IsNoted, IsSighted};
 
 use crate::change::{Change, change_of};
 use crate::cone::Cone;
-use crate::lanes::{first_lane, picked};
+use crate::lanes::{first_vector, picked, word_at};
 use crate::sighting::Sighting;
 use bit_list::Bits;
 use query_core::Shape;
 use std::alloc::{AllocError, Global};
 use std::marker::Model;
+use std::simd::prelude::*;
 
-/// 64 vectors of a circuit, and an output's bit on each.
+/// 512 vectors of a circuit, and an output's bit on each.
 #[derive(Drop)]
 pub(crate) struct Round<'a> {
     alloc: Global,
     cone: &'a Cone<'a>,
-    /// A word for each input: bit v is the input's on vector v.
-    row: Vec<u64>,
-    /// Room for a word of each signal, overwritten by each simulation.
-    words: Vec<u64>,
-    /// Bit v is the output's on vector v.
-    before: u64,
+    /// A block for each input: bit v of word w is the input's on vector 64 * w + v.
+    inputs: Vec<u64x8>,
+    /// The block of each signal that the output reaches.
+    before: Vec<u64x8>,
+    /// Room for a block of each signal after a change, and for marks of those that it reaches.
+    after: Vec<u64x8>,
+    marks: Vec<bool>,
     /// The change that was simulated last, and where the output falls by it: the claims of one change stand side
     /// by side, and share a simulation.
     last: Change,
-    falls: u64,
+    falls: [u64; 8],
 }
 
 impl<'a> Model for Round<'a> {
@@ -40,36 +41,39 @@ impl<'a> Model for Round<'a> {
 
     ghost Value = { Simulated };
 
-    ghost view = { λ a. record { target = a.cone.now; row = a.row.items } };
+    ghost view = { λ a. record { target = a.cone.now; blocks = a.inputs.items } };
 
-    ghost invariant = { λ a. IsRound
-        (record { target = a.cone.now; row = a.row.items }) (length a.words.items) a.before a.last a.falls };
+    ghost invariant = { λ a. IsRound (record { target = a.cone.now; blocks = a.inputs.items })
+        a.before.items (length a.after.items) (length a.marks.items) a.last a.falls };
 }
 
 impl<'a> Round<'a> {
-    /// The output on the vectors of a row, a word for each input.
+    /// The output on the vectors of a block for each input.
     ///
     /// # Errors
     ///
-    /// For want of memory alone.
+    /// Only when out of memory.
     pub(crate) fn new(
         alloc: Global,
         cone: &'a Cone<'a>,
-        row: Vec<u64>,
+        inputs: Vec<u64x8>,
     ) -> Result<Round<'a>, AllocError>
-        requires { length row.items ≡ cone.now.net.inputs }
-        ensures { IfOk result (λ round. round ≡ record { target = cone.now; row = row.items }) }
+        requires { length inputs.items ≡ cone.now.net.inputs }
+        ensures { IfOk result (λ round. round ≡ record { target = cone.now; blocks = inputs.items }) }
     {
-        let mut words = vec![in alloc; 0u64; cone.signals()]?;
-        let before = cone.output_word(&row, Change::Nothing, &mut words);
+        let mut before = vec![in alloc; u64x8::splat(0); cone.signals()]?;
+        let after = vec![in alloc; u64x8::splat(0); cone.signals()]?;
+        let marks = vec![in alloc; false; cone.signals()]?;
+        cone.evaluate(&inputs, &mut before);
         Ok(Round {
             alloc,
             cone,
-            row,
-            words,
+            inputs,
             before,
+            after,
+            marks,
             last: Change::Nothing,
-            falls: 0,
+            falls: [0; 8],
         })
     }
 
@@ -77,7 +81,7 @@ impl<'a> Round<'a> {
     ///
     /// # Errors
     ///
-    /// For want of memory alone.
+    /// Only when out of memory.
     pub(crate) fn sight_all(
         &mut self,
         claims: &[Shape],
@@ -111,69 +115,91 @@ impl<'a> Round<'a> {
         self.note(shape, lanes, sightings)
     }
 
-    /// Notes the first of the vectors that a word's bits stand for, and tells whether there is one.
+    /// Notes the first of the vectors that a block's bits stand for, and tells whether there is one.
     fn note(
         &self,
         shape: Shape,
-        lanes: u64,
+        lanes: u64x8,
         sightings: &mut Vec<Sighting>,
     ) -> Result<bool, AllocError>
         ensures noted { OnOk result
-            (IsNoted self.now.row shape lanes sightings.old.items sightings.new.items) }
+            (IsNoted self.now.blocks shape lanes sightings.old.items sightings.new.items) }
         ensures sighted { IfOk result (λ found. found ≡ true → IsSighted shape sightings.new.items) }
     {
-        let Some(lane) = first_lane(lanes) else {
+        let Some((word, lane)) = first_vector(lanes) else {
             return Ok(false);
         };
-        let vector = vector_at(self.alloc, &self.row, lane)?;
+        let vector = vector_at(self.alloc, &self.inputs, word, lane)?;
         sightings.push(Sighting { shape, vector })?;
         Ok(true)
     }
 
     /// The vectors on which the output is 1, and is 0 where the inputs of a change are inverted.
-    fn falls(&mut self, change: Change) -> u64
+    fn falls(&mut self, change: Change) -> u64x8
         requires { IsChange self.old.target.net.inputs change }
         ensures same { self.new ≡ self.old }
         ensures falls { AreFalls self.old change result }
     {
         if self.last == change {
-            return self.falls;
+            return u64x8::from_array(self.falls);
         }
-        let after = self.cone.output_word(&self.row, change, &mut self.words);
-        self.falls = picked(self.before, after, false);
+        let falls = self.cone.falls(
+            &self.inputs,
+            change,
+            &self.before,
+            &mut self.after,
+            &mut self.marks,
+        );
         self.last = change;
-        self.falls
+        self.falls = falls.to_array();
+        falls
     }
 
-    /// The bits of a word whose vectors have the shape's values.
-    fn having(&self, word: u64, shape: Shape) -> u64
+    /// The bits of a block whose vectors have the shape's values.
+    fn having(&self, block: u64x8, shape: Shape) -> u64x8
         requires { IsPlaced self.now.target.net.inputs shape }
-        ensures inputs { length self.now.row ≡ self.now.target.net.inputs }
-        ensures lanes { (v : ℕ) → v < 64 → (word_bit v result ≡ true
-            ↔ ((word_bit v word ≡ true) × HasValues shape (lane_bits v self.now.row))) }
+        ensures inputs { length self.now.blocks ≡ self.now.target.net.inputs }
+        ensures lanes { (w v : ℕ) → w < 8 → v < 64 → (block_bit w v result ≡ true
+            ↔ ((block_bit w v block ≡ true) × HasValues shape (pattern self.now.blocks w v))) }
     {
-        match shape {
-            Shape::Up(i) => picked(word, self.row[i as usize], false),
-            Shape::Down(i) => picked(word, self.row[i as usize], true),
-            Shape::Swap { i, j, a, b } => {
-                picked(
-                    picked(word, self.row[i as usize], a),
-                    self.row[j as usize],
-                    b,
-                )
-            }
+        having(&self.inputs, block, shape)
+    }
+}
+
+/// The bits of a block whose vectors have the shape's values.
+fn having(inputs: &[u64x8], block: u64x8, shape: Shape) -> u64x8
+    requires { IsPlaced (length inputs.now) shape }
+    ensures { (w v : ℕ) → w < 8 → v < 64 → (block_bit w v result ≡ true
+        ↔ ((block_bit w v block ≡ true) × HasValues shape (pattern inputs.now w v))) }
+{
+    match shape {
+        Shape::Up(i) => picked_at(inputs, i, block, false),
+        Shape::Down(i) => picked_at(inputs, i, block, true),
+        Shape::Swap { i, j, a, b } => {
+            let first = picked_at(inputs, i, block, a);
+            picked_at(inputs, j, first, b)
         }
     }
 }
 
-/// The vector of a bit of each input's word.
-fn vector_at(alloc: Global, row: &[u64], lane: u32) -> Result<Bits, AllocError>
-    requires { lane < 64 }
-    ensures { IfOk result (λ vector. vector ≡ lane_bits lane row.now) }
+/// The bits of a block whose vectors have this value of an input.
+fn picked_at(inputs: &[u64x8], input: u32, block: u64x8, value: bool) -> u64x8
+    requires { input < length inputs.now }
+    ensures { (w v : ℕ) → w < 8 → v < 64 → (block_bit w v result ≡ true
+        ↔ ((block_bit w v block ≡ true) × (bit (pattern inputs.now w v) input ≡ value))) }
 {
-    let mut vector = Bits::with_capacity(alloc, row.len())?;
-    for word in row.iter() {
-        vector.push((*word >> lane) % 2 == 1)?;
+    picked(block, inputs[input as usize], value)
+}
+
+/// The vector of a bit of each input's block.
+fn vector_at(alloc: Global, inputs: &[u64x8], word: usize, lane: u32) -> Result<Bits, AllocError>
+    requires word { word < 8 }
+    requires lane { lane < 64 }
+    ensures { IfOk result (λ vector. vector ≡ pattern inputs.now word lane) }
+{
+    let mut vector = Bits::with_capacity(alloc, inputs.len())?;
+    for block in inputs.iter() {
+        vector.push((word_at(*block, word) >> lane) % 2 == 1)?;
     }
     Ok(vector)
 }

@@ -1,12 +1,14 @@
-//! 64 vectors, a word for each input.
+//! 512 vectors, a block of eight words for each input.
 
 ghost use Rattle.std.specs.Prelude.{◌≡◌, ◌<◌, ◌≤◌, ◌/◌, ◌%◌, ◌^◌, ◌==◌, ℕ, length, IfOk};
 ghost use Rattle.circuits.specs.Literals.{vector_of};
-ghost use Rattle.word_sim.specs.Columns.{lane, word_bit};
+ghost use Rattle.word_sim.specs.Columns.{word_bit, word_of};
+ghost use Rattle.sim_signature.specs.Rounds.{pattern};
 
 use rand_core::Rng;
 use rand_pcg::Pcg32;
 use std::alloc::{AllocError, Global};
+use std::simd::prelude::*;
 
 /// Bit v of word i is digit i of v in base two.
 const ALTERNATING: [u64; 6] = [
@@ -25,17 +27,24 @@ fn alternating(input: u32) -> u64
     ALTERNATING[input as usize]
 }
 
-/// All vectors of at most six inputs: bit v stands for the vector with the number v.
-pub(crate) fn all_vectors(alloc: Global, inputs: u32) -> Result<Vec<u64>, AllocError>
+/// All vectors of at most six inputs: bit v of each word stands for the vector with the number v.
+pub(crate) fn all_vectors(alloc: Global, inputs: u32) -> Result<Vec<u64x8>, AllocError>
     requires { inputs ≤ 6 }
-    ensures vectors { IfOk result (λ row. (v : ℕ) → v < 64 → lane v row.items ≡ vector_of inputs v) }
-    ensures inputs { IfOk result (λ row. length row.items ≡ inputs) }
+    ensures vectors { IfOk result (λ blocks. (w v : ℕ) → w < 8 → v < 64 → pattern blocks.items w v ≡ vector_of inputs v) }
+    ensures inputs { IfOk result (λ blocks. length blocks.items ≡ inputs) }
 {
-    let mut row = Vec::with_capacity(alloc, inputs as usize)?;
+    let mut blocks = Vec::with_capacity(alloc, inputs as usize)?;
     for input in 0..inputs {
-        row.push(alternating(input))?;
+        blocks.push(everywhere(alternating(input)))?;
     }
-    Ok(row)
+    Ok(blocks)
+}
+
+/// The same word eight times.
+fn everywhere(word: u64) -> u64x8
+    ensures { (w : ℕ) → w < 8 → word_of w result ≡ word }
+{
+    u64x8::splat(word)
 }
 
 /// Vectors drawn by a generator.
@@ -43,12 +52,25 @@ pub(crate) fn drawn_vectors(
     alloc: Global,
     inputs: u32,
     generator: &mut Pcg32,
-) -> Result<Vec<u64>, AllocError>
-    ensures { IfOk result (λ row. length row.items ≡ inputs) }
+) -> Result<Vec<u64x8>, AllocError>
+    ensures { IfOk result (λ blocks. length blocks.items ≡ inputs) }
 {
-    let mut row = Vec::with_capacity(alloc, inputs as usize)?;
+    let mut blocks = Vec::with_capacity(alloc, inputs as usize)?;
     for _ in 0..inputs {
-        row.push(generator.next_u64())?;
+        blocks.push(drawn_block(generator))?;
     }
-    Ok(row)
+    Ok(blocks)
+}
+
+fn drawn_block(generator: &mut Pcg32) -> u64x8 {
+    u64x8::from_array([
+        generator.next_u64(),
+        generator.next_u64(),
+        generator.next_u64(),
+        generator.next_u64(),
+        generator.next_u64(),
+        generator.next_u64(),
+        generator.next_u64(),
+        generator.next_u64(),
+    ])
 }

@@ -11,7 +11,7 @@ use items::Items;
 use net_core::{Graphs, Side};
 use query_core::{Cone, Feed, Feeds, Ledger, Query, QueryBase};
 use rand_pcg::Pcg32;
-use samples::graph;
+use samples::{GraphPair, graph};
 use std::alloc::{AllocError, Global};
 use std::test::Fail;
 
@@ -35,7 +35,7 @@ fn are_wired(inputs: u32, feeds: &Feeds) -> bool
     true
 }
 
-fn is_cone(graphs: &Graphs, inputs: u32, cone: &Cone) -> bool
+fn is_cone(graphs: &Graphs<'_>, inputs: u32, cone: &Cone) -> bool
     ensures { IsTrue result → IsCone graphs.now inputs cone.now }
 {
     let graph = graphs.side(cone.side);
@@ -48,7 +48,7 @@ fn is_cone(graphs: &Graphs, inputs: u32, cone: &Cone) -> bool
     are_wired(inputs, &cone.feed)
 }
 
-fn is_query(graphs: &Graphs, query: &Query) -> bool
+fn is_query(graphs: &Graphs<'_>, query: &Query) -> bool
     ensures { IsTrue result → IsQuery graphs.now query.now }
 {
     let inputs = graphs.side(query.left.side).inputs();
@@ -114,7 +114,7 @@ fn number_of(bits: &[bool]) -> u64 {
 /// What an answer to a question comes to, once its log was taken line by line.
 fn outcome_of(
     alloc: Global,
-    graphs: &Graphs,
+    graphs: &Graphs<'_>,
     query: &Query,
     answer: &Answer,
     learned: u64,
@@ -135,7 +135,7 @@ fn outcome_of(
 
 fn outcome_in(
     alloc: Global,
-    graphs: &Graphs,
+    graphs: &Graphs<'_>,
     query: &Query,
     ledger: &mut Ledger,
 ) -> Result<Outcome, AllocError>
@@ -146,14 +146,23 @@ fn outcome_in(
     }
     match ask(alloc, graphs, query, ledger) {
         Ok(answer) => outcome_of(alloc, graphs, query, &answer, ledger.learned()),
-        Err(Stop::Spent(learned)) => Ok(Outcome::Spent(learned)),
+        Err(Stop::Spent(learned)) => Ok(spent_outcome(ledger, learned)),
         Err(Stop::Memory) => Err(AllocError),
+    }
+}
+
+/// What a spent budget comes to: the ledger says so, and has the one query that was asked.
+fn spent_outcome(ledger: &Ledger, learned: u64) -> Outcome {
+    if ledger.spent() & (learned == ledger.budget()) & (ledger.asked().len() == 1) {
+        Outcome::Spent(learned)
+    } else {
+        Outcome::Wrong
     }
 }
 
 fn asked(
     alloc: Global,
-    graphs: &Graphs,
+    graphs: &Graphs<'_>,
     query: &Query,
     budget: u64,
 ) -> Result<Outcome, AllocError> {
@@ -172,8 +181,8 @@ struct Row<'a> {
     outcome: Outcome,
 }
 
-fn graphs_of(alloc: Global, row: &Row<'_>) -> Result<Graphs, Fail> {
-    Ok(Graphs {
+fn graphs_of(alloc: Global, row: &Row<'_>) -> Result<GraphPair, Fail> {
+    Ok(GraphPair {
         first: graph(alloc, 2, row.first, &[row.first_output])?,
         second: graph(alloc, 2, row.second, &[row.second_output])?,
     })
@@ -188,9 +197,9 @@ fn query_of(alloc: Global, row: &Row<'_>) -> Result<Query, AllocError> {
 }
 
 fn outcome_of_row(alloc: Global, row: &Row<'_>) -> Result<Outcome, Fail> {
-    let graphs = graphs_of(alloc, row)?;
+    let both = graphs_of(alloc, row)?;
     let query = query_of(alloc, row)?;
-    Ok(asked(alloc, &graphs, &query, row.budget)?)
+    Ok(asked(alloc, &both.graphs(), &query, row.budget)?)
 }
 
 const AND: &[(u32, u32)] = &[(2, 4)];
@@ -266,8 +275,8 @@ fn asks_of_small_circuits(rt: HostRuntime) -> Result<(), Fail> {
     Ok(())
 }
 
-fn drawn_graphs(alloc: Global, numbers: &mut Pcg32) -> Result<Graphs, Fail> {
-    Ok(Graphs {
+fn drawn_graphs(alloc: Global, numbers: &mut Pcg32) -> Result<GraphPair, Fail> {
+    Ok(GraphPair {
         first: drawn(alloc, numbers)?,
         second: drawn(alloc, numbers)?,
     })
@@ -279,9 +288,9 @@ fn exceeds_somewhere(first: &[bool], second: &[bool]) -> bool {
 }
 
 /// Whether the answer is what all vectors say.
-fn is_right(alloc: Global, graphs: &Graphs) -> Result<bool, Fail> {
-    let first = outputs(alloc, &graphs.first)?;
-    let second = outputs(alloc, &graphs.second)?;
+fn is_right(alloc: Global, graphs: &Graphs<'_>) -> Result<bool, Fail> {
+    let first = outputs(alloc, graphs.first())?;
+    let second = outputs(alloc, graphs.second())?;
     let query = exceeds(alloc, 3)?;
     match asked(alloc, graphs, &query, 1000)? {
         Outcome::Vector(_) => Ok(exceeds_somewhere(&first, &second)),
@@ -294,8 +303,8 @@ fn is_right(alloc: Global, graphs: &Graphs) -> Result<bool, Fail> {
 fn agrees_with_all_vectors(rt: HostRuntime) -> Result<(), Fail> {
     let mut numbers = Pcg32::new(7, 54);
     for round in 0..40 {
-        let graphs = drawn_graphs(rt.alloc(), &mut numbers)?;
-        assert!(rt; is_right(rt.alloc(), &graphs)?, "in round {round}");
+        let both = drawn_graphs(rt.alloc(), &mut numbers)?;
+        assert!(rt; is_right(rt.alloc(), &both.graphs())?, "in round {round}");
     }
     Ok(())
 }

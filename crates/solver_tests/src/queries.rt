@@ -9,7 +9,7 @@ use net_core::{Graphs, Matching, Pair, PortKind, Side};
 use query_core::{
     Claim, Feed, Feeds, Query, QueryBase, Shape, cone_ids, image, of_claim, of_match,
 };
-use samples::{graph, matching};
+use samples::{GraphPair, graph, matching};
 use std::alloc::{AllocError, Global};
 use std::collections::HashMap;
 use std::test::Fail;
@@ -47,7 +47,7 @@ fn wrong_clause(base: &QueryBase<'_>, wanted: &[&[u64]]) -> Option<u64> {
 
 fn wrong_clause_of(
     alloc: Global,
-    graphs: &Graphs,
+    graphs: &Graphs<'_>,
     query: &Query,
     wanted: &[&[u64]],
 ) -> Result<Option<u64>, AllocError>
@@ -58,8 +58,8 @@ fn wrong_clause_of(
 }
 
 /// The AND of two inputs, and their OR.
-fn and_or(alloc: Global) -> Result<Graphs, Fail> {
-    Ok(Graphs {
+fn and_or(alloc: Global) -> Result<GraphPair, Fail> {
+    Ok(GraphPair {
         first: graph(alloc, 2, &[(2, 4)], &[6])?,
         second: graph(alloc, 2, &[(3, 5)], &[7])?,
     })
@@ -68,18 +68,18 @@ fn and_or(alloc: Global) -> Result<Graphs, Fail> {
 /// The first wrong clause of a match's query for its one output, or clause 0 where these aren't the circuits' ports.
 fn wrong_match_clause(
     alloc: Global,
-    graphs: &Graphs,
+    graphs: &Graphs<'_>,
     matching: &Matching,
     value: bool,
     wanted: &[&[u64]],
 ) -> Result<Option<u64>, AllocError> {
-    if graphs.first.inputs() != graphs.second.inputs() {
+    if graphs.first().inputs() != graphs.second().inputs() {
         return Ok(Some(0));
     }
-    if graphs.first.outputs().len() != 1 || graphs.second.outputs().len() != 1 {
+    if graphs.first().outputs().len() != 1 || graphs.second().outputs().len() != 1 {
         return Ok(Some(0));
     }
-    if !matching.check_shape(graphs.first.inputs(), 1) {
+    if !matching.check_shape(graphs.first().inputs(), 1) {
         return Ok(Some(0));
     }
     let query = of_match(alloc, graphs, matching, 0, value)?;
@@ -91,9 +91,9 @@ fn wrong_difference_clause(
     value: bool,
     wanted: &[&[u64]],
 ) -> Result<Option<u64>, Fail> {
-    let graphs = and_or(alloc)?;
+    let both = and_or(alloc)?;
     let inverting = matching(alloc, &[(0, true), (1, true)], &[(0, true)])?;
-    Ok(wrong_match_clause(alloc, &graphs, &inverting, value, wanted)?)
+    Ok(wrong_match_clause(alloc, &both.graphs(), &inverting, value, wanted)?)
 }
 
 /// The clauses of a match that inverts each port of an AND and an OR, where the AND is true. Variables 1 and 2 are the
@@ -137,15 +137,15 @@ fn circuits_of(
     inputs: u32,
     gates: &[(u32, u32)],
     output: u32,
-) -> Result<Graphs, Fail> {
-    Ok(Graphs {
+) -> Result<GraphPair, Fail> {
+    Ok(GraphPair {
         first: graph(alloc, inputs, gates, &[output])?,
         second: graph(alloc, 0, &[], &[0])?,
     })
 }
 
 /// The query of whether the first circuit's output falls where input 0 rises. None where it has no input or no output.
-fn rise_query(alloc: Global, graphs: &Graphs) -> Result<Option<Query>, AllocError>
+fn rise_query(alloc: Global, graphs: &Graphs<'_>) -> Result<Option<Query>, AllocError>
     ensures { IfOk result (λ query. IfSome query (IsQuery graphs.now)) }
 {
     let claim = Claim {
@@ -153,7 +153,7 @@ fn rise_query(alloc: Global, graphs: &Graphs) -> Result<Option<Query>, AllocErro
         output: 0,
         shape: Shape::Up(0),
     };
-    if graphs.first.inputs() == 0 || graphs.first.outputs().is_empty() {
+    if graphs.first().inputs() == 0 || graphs.first().outputs().is_empty() {
         return Ok(None);
     }
     let query = of_claim(alloc, graphs, &claim)?;
@@ -162,7 +162,7 @@ fn rise_query(alloc: Global, graphs: &Graphs) -> Result<Option<Query>, AllocErro
 
 fn wrong_clause_of_rise(
     alloc: Global,
-    graphs: &Graphs,
+    graphs: &Graphs<'_>,
     wanted: &[&[u64]],
 ) -> Result<Option<u64>, Fail> {
     let query = rise_query(alloc, graphs)?.ok_or("no port")?;
@@ -176,8 +176,8 @@ fn wrong_rise_clause(
     output: u32,
     wanted: &[&[u64]],
 ) -> Result<Option<u64>, Fail> {
-    let graphs = circuits_of(alloc, inputs, gates, output)?;
-    wrong_clause_of_rise(alloc, &graphs, wanted)
+    let both = circuits_of(alloc, inputs, gates, output)?;
+    wrong_clause_of_rise(alloc, &both.graphs(), wanted)
 }
 
 /// The clauses of an AND of inputs 0 and 1: it reads input 0, whose feeds differ.
@@ -222,7 +222,7 @@ fn shares_gates_that_reach_no_difference(rt: HostRuntime) -> Result<(), Fail> {
 
 fn has_cone_ids(
     alloc: Global,
-    graphs: &Graphs,
+    graphs: &Graphs<'_>,
     query: &Query,
     wanted: &[u64],
 ) -> Result<bool, AllocError>
@@ -233,7 +233,7 @@ fn has_cone_ids(
     Ok(ids.as_slice() == wanted)
 }
 
-fn has_rise_ids(alloc: Global, graphs: &Graphs, wanted: &[u64]) -> Result<bool, Fail> {
+fn has_rise_ids(alloc: Global, graphs: &Graphs<'_>, wanted: &[u64]) -> Result<bool, Fail> {
     let query = rise_query(alloc, graphs)?.ok_or("no port")?;
     Ok(has_cone_ids(alloc, graphs, &query, wanted)?)
 }
@@ -250,8 +250,11 @@ fn numbers_the_clauses_of_cones(rt: HostRuntime) -> Result<(), Fail> {
         ),
     ];
     for (gates, wanted) in rows {
-        let graphs = circuits_of(rt.alloc(), 2, gates, 9)?;
-        assert!(rt; has_rise_ids(rt.alloc(), &graphs, wanted)?, "at {gates:?}");
+        let both = circuits_of(rt.alloc(), 2, gates, 9)?;
+        assert!(rt;
+            has_rise_ids(rt.alloc(), &both.graphs(), wanted)?,
+            "at {gates:?}"
+        );
     }
     Ok(())
 }

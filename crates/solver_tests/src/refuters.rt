@@ -114,7 +114,7 @@ fn takes_and_refuses_lines(rt: HostRuntime) -> Result<(), Fail> {
     Ok(())
 }
 
-/// Literals and hints of one line behind the other, what is answered, and whether the log is closed then.
+/// Literals and hints of one line after the other, what is answered, and whether the log is closed then.
 const LINES: [(&[u64], &[u64], Result<(), LineFault>, bool); 3] = [
     (&[2], &[7, 1], Ok(()), false),
     // the line taken has number 9

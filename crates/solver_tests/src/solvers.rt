@@ -1,7 +1,7 @@
 //! Small formulas whose answers are known, or found by trying all assignments.
 
-ghost use Rattle.std.specs.Prelude.{◌≡◌, ◌%◌, ◌<◌, ◌∷◌, [], ℕ, false, All, IfOk, length, map};
-ghost use Rattle.query_core.specs.Ledgers.{last_asked};
+ghost use Rattle.std.specs.Prelude.{◌≡◌, ◌%◌, ◌<◌, ◌∷◌, [], ℕ, true, false, All, IfOk, length, map};
+ghost use Rattle.query_core.specs.Ledgers.{charging_of};
 
 use crate::refutation::is_refutation;
 use cnf_core::{Base, Clause3, SatLit, Stop};
@@ -91,8 +91,8 @@ fn no_inputs() -> Query {
 
 /// A ledger whose entry has no lines yet.
 fn opened(alloc: Global, budget: u64) -> Result<Ledger, AllocError>
-    ensures asked { IfOk result (λ ledger. 0 < length ledger.asked) }
-    ensures lines { IfOk result (λ ledger. (last_asked ledger.asked).lines ≡ []) }
+    ensures opened { IfOk result (λ ledger. (charging_of ledger).opened ≡ true) }
+    ensures lines { IfOk result (λ ledger. (charging_of ledger).lines ≡ []) }
     ensures not_spent { IfOk result (λ ledger. ledger.spent ≡ false) }
 {
     let query = no_inputs();
@@ -134,8 +134,8 @@ fn searched(
     ledger: &mut Ledger,
 ) -> Result<Outcome, AllocError>
     requires ids { All (λ id. id < length clauses.now) ids.now }
-    requires asked { 0 < length ledger.old.asked }
-    requires lines { (last_asked ledger.old.asked).lines ≡ [] }
+    requires opened { (charging_of ledger.old).opened ≡ true }
+    requires lines { (charging_of ledger.old).lines ≡ [] }
     requires not_spent { ledger.old.spent ≡ false }
 {
     let base = Triples { clauses };

@@ -1,3 +1,2 @@
 pub mod Trials
-pub mod Paths
 pub use Rattle.account_core.specs.Ports

@@ -3,12 +3,12 @@ use Rattle.std.specs.Prelude.{◌≡◌, ℕ, ◌<◌, Bool, List, length, Conta
 use Rattle.circuits.specs.declared.port.Pair.{Pair}
 use Rattle.circuits.specs.declared.port.PortKind.TheVariants.{Output}
 use Rattle.circuits.specs.Netlists.{Net, function_of}
-use Rattle.net_core.specs.declared.graphs.Graphs.{Graphs}
+use Rattle.net_core.specs.Sides.{Graphs}
 use Rattle.word_sim.specs.Columns.{Table, vector_at}
 use Rattle.table_guess.specs.declared.trials.Trials.{Trials}
 use Rattle.table_guess.specs.declared.trials.Suspect.{Suspect}
 
--- A table of at least one word has so many columns.
+-- A table of at least one word has n columns.
 pub record HasColumns (columns : ℕ) (table : Table) : Type 0 where
   pub count : length table.columns ≡ columns
   pub some : 0 < table.words

@@ -1,14 +1,16 @@
-//! Guesses tables that may be a match of two circuits, and tries pairs on vectors. What comes is a guess, without evidence.
+//! Tables that may be a match, found without evidence, and vectors that pairs are tried on.
 #![tactic(auto)]
 
-mod bonds;
-mod guessing;
-mod keys;
-mod marks;
-mod path;
+mod choice;
+mod circuit;
+mod guesser;
+mod kept;
+mod leaf;
+mod level;
+mod matching;
 mod rails;
 mod trials;
 mod vectors;
 
-pub use guessing::guess;
+pub use guesser::Guesser;
 pub use trials::{Suspect, Trials};

@@ -34,12 +34,12 @@ pub struct Suspect {
 }
 
 impl Trials {
-    /// The vectors that a search begins with.
-    pub fn new(alloc: Global, first: &Graph) -> Result<Trials, AllocError>
+    /// The vectors that a search begins with, drawn by a seed.
+    pub fn new(alloc: Global, first: &Graph, seed: u64) -> Result<Trials, AllocError>
         ensures trials { IfOk result (AreTrials first.now) }
         ensures computed { IfOk result (AreComputed first.now) }
     {
-        let inputs = first_vectors(alloc, first.inputs())?;
+        let inputs = first_vectors(alloc, first.inputs(), seed)?;
         let outputs = simulate(alloc, first, &inputs)?;
         Ok(Trials {
             inputs,
@@ -70,7 +70,7 @@ impl Trials {
     pub fn suspect(
         &self,
         alloc: Global,
-        graphs: &Graphs,
+        graphs: &Graphs<'_>,
         held: &[Pair],
     ) -> Result<Option<Suspect>, AllocError>
         requires trials { AreTrials graphs.now.first self.now }
@@ -93,7 +93,7 @@ impl Trials {
     fn suspect_in(
         &self,
         alloc: Global,
-        graphs: &Graphs,
+        graphs: &Graphs<'_>,
         held: &[Pair],
         word: usize,
     ) -> Result<Option<Suspect>, AllocError>
@@ -103,9 +103,9 @@ impl Trials {
         ensures suspect { IfOk result (λ found. IfSome found (IsSuspect graphs.now held.now)) }
         ensures vector { IfOk result (λ found. IfSome found (λ suspect. IsVectorOf self.now.inputs suspect.vector)) }
     {
-        let mut sent = vec![in alloc; Rails::unknown(); graphs.second.inputs() as usize]?;
+        let mut sent = vec![in alloc; Rails::unknown(); graphs.second().inputs() as usize]?;
         send_all(held, &self.inputs, word, &mut sent);
-        let partners = outputs_of(alloc, &graphs.second, &sent)?;
+        let partners = outputs_of(alloc, graphs.second(), &sent)?;
         for pair in held.iter() {
             if let Some(lane) = wrong_lane(*pair, &self.outputs, word, &partners) {
                 let vector = self.vector(alloc, word, lane)?;

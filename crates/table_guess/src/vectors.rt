@@ -4,43 +4,39 @@ ghost use Rattle.std.specs.Prelude.{◌≡◌, ◌<◌, IfOk, length};
 ghost use Rattle.table_guess.specs.Trials.{HasColumns};
 
 use bit_list::Bits;
+use flip_sim::word_of_all;
 use rand_core::Rng;
 use rand_pcg::Pcg32;
 use std::alloc::{AllocError, Global};
 use word_sim::Words;
 
-/// Bit v of word i is digit i of v in base two.
-const ALTERNATING: [u64; 6] = [
-    0xaaaa_aaaa_aaaa_aaaa,
-    0xcccc_cccc_cccc_cccc,
-    0xf0f0_f0f0_f0f0_f0f0,
-    0xff00_ff00_ff00_ff00,
-    0xffff_0000_ffff_0000,
-    0xffff_ffff_0000_0000,
-];
-
-/// Vectors of so many inputs, 32 words at most: all of few inputs, else some that are drawn.
-pub(crate) fn first_vectors(alloc: Global, inputs: u32) -> Result<Words, AllocError>
+/// Vectors of n inputs, 32 words at most: all of few inputs, else some that are drawn.
+pub(crate) fn first_vectors(alloc: Global, inputs: u32, seed: u64) -> Result<Words, AllocError>
     ensures { IfOk result (HasColumns inputs) }
 {
-    vectors(alloc, inputs, words_of_all(inputs).min(32))
+    vectors(alloc, inputs, words_of_all(inputs).min(32), seed)
 }
 
-/// So many words of vectors: all vectors where these are enough, else some that are drawn.
-pub(crate) fn vectors(alloc: Global, inputs: u32, words: usize) -> Result<Words, AllocError>
+/// That many words of vectors: all vectors where these are enough, else some that are drawn.
+pub(crate) fn vectors(
+    alloc: Global,
+    inputs: u32,
+    words: usize,
+    seed: u64,
+) -> Result<Words, AllocError>
     requires { 0 < words }
     ensures { IfOk result (HasColumns inputs) }
 {
     let whole = words == words_of_all(inputs);
     let mut table = Words::new(alloc, inputs, words)?;
-    let mut generator = Pcg32::new(1, 54);
+    let mut generator = Pcg32::new(seed, 54);
     for word in 0..words {
         fill(inputs, word, whole, &mut generator, &mut table);
     }
     Ok(table)
 }
 
-/// How many words all vectors of so many inputs take, the greatest number where that is more.
+/// How many words all vectors of n inputs take, the greatest number where that is more.
 pub(crate) fn words_of_all(inputs: u32) -> usize
     ensures { 0 < result }
 {
@@ -75,20 +71,9 @@ fn fill(inputs: u32, word: usize, whole: bool, generator: &mut Pcg32, table: &mu
 // A word of an input: of all vectors, or drawn.
 fn bits_for(input: u32, word: usize, whole: bool, generator: &mut Pcg32) -> u64 {
     if whole {
-        numbered(input, word)
+        word_of_all(input, word)
     } else {
         generator.next_u64()
-    }
-}
-
-// Bit v is digit `input` of the number 64 * `word` + v in base two.
-fn numbered(input: u32, word: usize) -> u64 {
-    if input < 6 {
-        ALTERNATING[input as usize]
-    } else if (word >> ((input - 6) % 64)) % 2 == 1 {
-        u64::MAX
-    } else {
-        0
     }
 }
 
@@ -113,18 +98,4 @@ fn with_bit(word: u64, lane: u32, bit: bool) -> u64
 {
     let mask = 1u64 << lane;
     if bit { word | mask } else { word & !mask }
-}
-
-/// The vectors with one input inverted.
-pub(crate) fn with_flipped(table: &Words, input: u32) -> Result<Words, AllocError>
-    requires { input < length table.now.columns }
-    ensures columns { IfOk result (λ flipped. length flipped.columns ≡ length table.now.columns) }
-    ensures words { IfOk result (λ flipped. flipped.words ≡ table.now.words) }
-{
-    let mut flipped = table.copy()?;
-    for word in 0..table.words() {
-        let value = table.get(input, word);
-        flipped.set(input, word, !value);
-    }
-    Ok(flipped)
 }

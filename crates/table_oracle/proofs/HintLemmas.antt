@@ -11,12 +11,12 @@ use Rattle.cnf_core.specs.declared.fault.LineFault.TheVariants as fault
 use Rattle.cnf_core.specs.Clauses.{clause_at, literal_of, opposite}
 use Rattle.cnf_core.specs.Derivations.{effect_of, fault_behind, hint_fault, is_false, is_same, is_true}
 use Rattle.learn_solver.specs.Analyses.{has_all}
-use Rattle.net_core.specs.declared.graphs.Graphs.{Graphs}
+use Rattle.net_core.specs.Sides.{Graphs}
 use Rattle.net_core.specs.Graph.{IsGraph}
 use Rattle.query_core.specs.declared.query.Query.{Query}
 use Rattle.query_core.specs.Queries.{IsQuery, bits_in}
 use Rattle.query_core.specs.Formulas.{query_clauses}
-use Rattle.learn_solver.proofs.EffectLemmas.{conflict_from, makes_from, makes_says, same_itself, same_literal}
+use Rattle.watch_lists.proofs.EffectLemmas.{conflict_from, makes_from, makes_says, same_itself, same_literal}
 use Rattle.learn_solver.proofs.PlaceLemmas.{opposite_twice}
 use Rattle.learn_solver.proofs.KeptLemmas.{opposite_there}
 use Rattle.learn_solver.proofs.DeriveLemmas.{step_conflict, step_makes}

@@ -5,3 +5,4 @@ pub mod ExcludingLemmas
 pub mod HintLemmas
 pub mod SplitLemmas
 pub mod TableLemmas
+pub mod LookLemmas

@@ -15,47 +15,47 @@ use Rattle.cnf_core.specs.declared.log.LogLine.{LogLine}
 use Rattle.cnf_core.specs.Clauses.{clause_at, opposite, variable_of}
 use Rattle.cnf_core.specs.Derivations.{IsRefutation, clauses_of, hint_fault, is_empty, is_same, is_true, repeats_variable}
 use Rattle.cnf_core.specs.declared.stop.Stop.{Stop}
-use Rattle.net_core.specs.declared.graphs.Graphs.{Graphs}
+use Rattle.net_core.specs.Sides.{Graphs}
 use Rattle.net_core.specs.Graph.{IsGraph}
 use Rattle.query_core.specs.declared.query.Query.{Query}
 use Rattle.query_core.specs.Queries.{IsQuery, circuit_of}
 use Rattle.query_core.specs.Formulas.{Asking, formula_of, gate_clauses, half_clauses, left_literals, query_clauses, right_literals}
-use Rattle.query_core.specs.Ledgers.{IsRefused, Ledgered, with_line}
+use Rattle.cnf_core.specs.Charges.{Charging, IsCharged, IsRefused}
 use Rattle.learn_solver.specs.Analyses.{has_all}
 use Rattle.learn_solver.specs.Searches.{last_line}
 use Rattle.learn_solver.specs.Solvers.{IsAdded, IsAsking, IsExtended, active}
 use Rattle.learn_solver.specs.Solvers.{IsStopped as IsHalted}
-use Rattle.learn_solver.proofs.EffectLemmas.{same_itself}
+use Rattle.watch_lists.proofs.EffectLemmas.{same_itself}
 use Rattle.learn_solver.proofs.AdvanceLemmas.{derived_after}
 use Rattle.learn_solver.proofs.SolverLemmas.{clauses_more, line_from}
-use Rattle.learn_solver.proofs.StepLemmas.{extended_one, stopped_one}
+use Rattle.learn_solver.proofs.StepLemmas.{asking_charged, extended_charged, last_added, stopped_one}
 use Rattle.ask_core.proofs.AskLemmas.{IsOfCones}
 use Rattle.fact_tests.proofs.ConeLemmas.{cone_id_below}
 use Rattle.table_oracle.specs.declared.splitting.Splitting.{Splitting}
 use Rattle.table_oracle.specs.Splits.{AllExcluded, IsBeginning, IsCovering, IsExcluded, IsNew, IsSplitting, clauses_in, excluding, solving_of}
 use Rattle.table_oracle.proofs.ExcludingLemmas.{excluding_known, excluding_once}
 
--- the first so many clauses all say something that this one doesn't
+-- the first n clauses all say something that this one doesn't
 abbrev pub AreNewUpTo : List (List SatLit) → List SatLit → ℕ → Type 0
 AreNewUpTo clauses clause count = (k : ℕ) (d : List SatLit) → k < count → k < length clauses → has_all clause (slice_index_or clauses k d) ≡ false
 
--- All beginnings of so many bits were excluded.
-pub record IsSplitTo (splitting : Splitting) (old now : List LogLine) (before ledger : Ledgered) (bits : ℕ) : Type 0 where
+-- All beginnings of n bits were excluded.
+pub record IsSplitTo {O : Type 0} (splitting : Splitting) (old now : List LogLine) (before ledger : Charging O) (bits : ℕ) : Type 0 where
   pub within : bits ≤ splitting.inputs
   pub extended : IsExtended (solving_of splitting.base old) (solving_of splitting.base now) before ledger
   pub asking : IsAsking ledger now
   pub excluded : AllExcluded (clauses_in splitting.base now) bits
 
--- The beginnings of so many bits were excluded whose numbers are below one, and all longer ones before.
-pub record IsSplitUpTo (splitting : Splitting) (old now : List LogLine) (before ledger : Ledgered) (bits code : ℕ) : Type 0 where
+-- The beginnings of n bits were excluded whose numbers are below one, and all longer ones before.
+pub record IsSplitUpTo {O : Type 0} (splitting : Splitting) (old now : List LogLine) (before ledger : Charging O) (bits code : ℕ) : Type 0 where
   pub extended : IsExtended (solving_of splitting.base old) (solving_of splitting.base now) before ledger
   pub asking : IsAsking ledger now
   pub closed : bits < splitting.inputs → AllExcluded (clauses_in splitting.base now) (bits + 1)
   pub excluded : (c : ℕ) → c < code → IsExcluded (clauses_in splitting.base now) (vector_of bits c)
 
 -- what is excluded stays so
-pub still_excluded : (asking : Asking) (old new : List LogLine) (before after : Ledgered) (bits : List Bool) → IsExtended (solving_of asking old) (solving_of asking new) before after → IsExcluded (clauses_in asking old) bits → IsExcluded (clauses_in asking new) bits
-still_excluded asking old new before after bits extended excluded =
+pub still_excluded : {O : Type 0} (asking : Asking) (old new : List LogLine) (before after : Charging O) (bits : List Bool) → IsExtended (solving_of asking old) (solving_of asking new) before after → IsExcluded (clauses_in asking old) bits → IsExcluded (clauses_in asking new) bits
+still_excluded {O} asking old new before after bits extended excluded =
     let p = has_all (excluding bits) in
     let front = query_clauses asking.graphs asking.query in
     let rest = drop (length old) new in
@@ -63,8 +63,8 @@ still_excluded asking old new before after bits extended excluded =
     let clauses : clauses_in asking new ≡ clauses_in asking old ++ clauses_of rest = ap (λ ls. front ++ clauses_of ls) whole ∙ (ap (λ cs. front ++ cs) (map-append (λ (l : LogLine). l.clause) old rest) ∙ sym (append_assoc front (clauses_of old) (clauses_of rest))) in
     ap (list_any p) clauses ∙ (list_any-append p (clauses_in asking old) (clauses_of rest) ∙ or_left (list_any p (clauses_in asking old)) (list_any p (clauses_of rest)) excluded)
 
-pub all_still : (asking : Asking) (old new : List LogLine) (before after : Ledgered) (count : ℕ) → IsExtended (solving_of asking old) (solving_of asking new) before after → AllExcluded (clauses_in asking old) count → AllExcluded (clauses_in asking new) count
-all_still asking old new before after count extended all bits size =
+pub all_still : {O : Type 0} (asking : Asking) (old new : List LogLine) (before after : Charging O) (count : ℕ) → IsExtended (solving_of asking old) (solving_of asking new) before after → AllExcluded (clauses_in asking old) count → AllExcluded (clauses_in asking new) count
+all_still {O} asking old new before after count extended all bits size =
     still_excluded asking old new before after bits extended (all bits size)
 
 -- each beginning has a number
@@ -77,7 +77,7 @@ all_by_codes clauses count each bits size =
 pub vector_count : (n code : ℕ) → length (vector_of n code) ≡ n
 vector_count n code = length-map-range_with_len (λ i. code / 2 ^ i % 2 == 1) 0 n
 
--- what is begun by so many bits, where all longer beginnings are excluded
+-- what is begun by n bits, where all longer beginnings are excluded
 pub begun : (splitting : Splitting) (lines : List LogLine) (bits code : ℕ) (x : List Bool) → x ≡ vector_of bits code → bits ≤ splitting.inputs → (bits < splitting.inputs → AllExcluded (clauses_in splitting.base lines) (bits + 1)) → IsBeginning splitting lines x
 begun splitting lines bits code x is within closed =
     let size : length x ≡ bits = ap length is ∙ vector_count bits code in
@@ -132,7 +132,7 @@ looked_from before (c ∷ after) =
 pub all_looked : (asking : Asking) (lines : List LogLine) → active (solving_of asking lines).formula (solving_of asking lines).ids lines ≡ clauses_in asking lines
 all_looked asking lines = ap (λ cs. cs ++ clauses_of lines) (looked_from [] (query_clauses asking.graphs asking.query))
 
--- a line that says something new stands behind none that is empty
+-- a line that says something new stands after none that is empty
 none_closed : (clauses : List (List SatLit)) (clause : List SatLit) → IsNew clauses clause → list_any is_empty clauses ≡ false
 none_closed [] clause new = refl
 none_closed ([] ∷ clauses) clause new = absurd (both_ways true (new 0 [] (omega arith)) refl)
@@ -158,15 +158,26 @@ line_added splitting lines bits line is within clause new hints =
     }
 
 -- the line is charged
-pub line_charged : (asking : Asking) (lines new : List LogLine) (line : LogLine) (first after : Ledgered) (r : Result (Unit {0}) Stop) → IsAsking first lines → new ≡ lines ++ line ∷ [] → IsAdded (solving_of asking lines).formula (solving_of asking lines).ids lines line → OnOk r (after ≡ record first { asked = with_line (last_line new) first.asked }) → OnOk r (IsExtended (solving_of asking lines) (solving_of asking new) first after)
-line_charged asking lines new line first after (Err stop) ready more added charged = tt
-line_charged asking lines new line first after (Ok done) ready more added charged =
-    extended_one (solving_of asking lines) (solving_of asking new) line first after ready (ap (solving_of asking) more) added (ap (λ (l : Ledgered). l.budget) charged) (ap (λ (l : Ledgered). l.asked) charged)
+pub line_charged : {O : Type 0} (asking : Asking) (lines new : List LogLine) (line : LogLine) (first after : Charging O) (r : Result (Unit {0}) Stop) → IsAsking first lines → new ≡ lines ++ line ∷ [] → IsAdded (solving_of asking lines).formula (solving_of asking lines).ids lines line → OnOk r (IsCharged first (last_line new) after) → OnOk r (IsExtended (solving_of asking lines) (solving_of asking new) first after)
+line_charged {O} asking lines new line first after (Err stop) ready more added charged = tt
+line_charged {O} asking lines new line first after (Ok done) ready more added charged =
+    let grown = ap (solving_of asking) more in
+    let last = last_added (solving_of asking lines) (solving_of asking new) line grown in
+    extended_charged (solving_of asking lines) (solving_of asking new) line first after ready grown added (subst (λ (l : LogLine). IsCharged first l after) last charged)
 
-pub line_stopped : (asking : Asking) (lines new : List LogLine) (line : LogLine) (first after : Ledgered) (r : Result (Unit {0}) Stop) → IsAsking first lines → new ≡ lines ++ line ∷ [] → IsAdded (solving_of asking lines).formula (solving_of asking lines).ids lines line → IfErr r (IsRefused first (last_line new) after) → IfErr r (IsHalted (solving_of asking lines) (solving_of asking new) first after)
-line_stopped asking lines new line first after (Ok done) ready more added refused = tt
-line_stopped asking lines new line first after (Err stop) ready more added refused =
-    stopped_one (solving_of asking lines) (solving_of asking new) line first after stop ready (ap (solving_of asking) more) added refused
+-- and its entry goes on
+pub line_asked : {O : Type 0} (asking : Asking) (lines new : List LogLine) (line : LogLine) (first after : Charging O) (r : Result (Unit {0}) Stop) → IsAsking first lines → new ≡ lines ++ line ∷ [] → OnOk r (IsCharged first (last_line new) after) → OnOk r (IsAsking after new)
+line_asked {O} asking lines new line first after (Err stop) ready more charged = tt
+line_asked {O} asking lines new line first after (Ok done) ready more charged =
+    let last = last_added (solving_of asking lines) (solving_of asking new) line (ap (solving_of asking) more) in
+    subst (IsAsking after) (sym more) (asking_charged lines line first after ready (subst (λ (l : LogLine). IsCharged first l after) last charged))
+
+pub line_stopped : {O : Type 0} (asking : Asking) (lines new : List LogLine) (line : LogLine) (first after : Charging O) (r : Result (Unit {0}) Stop) → IsAsking first lines → new ≡ lines ++ line ∷ [] → IsAdded (solving_of asking lines).formula (solving_of asking lines).ids lines line → IfErr r (IsRefused first (last_line new) after) → IfErr r (IsHalted (solving_of asking lines) (solving_of asking new) first after)
+line_stopped {O} asking lines new line first after (Ok done) ready more added refused = tt
+line_stopped {O} asking lines new line first after (Err stop) ready more added refused =
+    let grown = ap (solving_of asking) more in
+    let last = last_added (solving_of asking lines) (solving_of asking new) line grown in
+    stopped_one (solving_of asking lines) (solving_of asking new) line first after stop ready grown added (subst (λ (l : LogLine). IsRefused first l after stop) last refused)
 
 pub on_ok : {P : Type 0} (r : Result (Unit {0}) Stop) → P → OnOk r P
 on_ok {P} (Ok done) holds = holds
@@ -221,8 +232,8 @@ closes asking lines excluded =
     ]
 
 -- and it is a refutation
-pub refuted : (asking : Asking) (old lines : List LogLine) (before after : Ledgered) → old ≡ [] → IsExtended (solving_of asking old) (solving_of asking lines) before after → AllExcluded (clauses_in asking lines) 0 → IsRefutation (formula_of asking.graphs asking.query) lines
-refuted asking old lines before after none extended excluded = record {
+pub refuted : {O : Type 0} (asking : Asking) (old lines : List LogLine) (before after : Charging O) → old ≡ [] → IsExtended (solving_of asking old) (solving_of asking lines) before after → AllExcluded (clauses_in asking lines) 0 → IsRefutation (formula_of asking.graphs asking.query) lines
+refuted {O} asking old lines before after none extended excluded = record {
   derived = derived_after (solving_of asking old) (solving_of asking lines) before after (λ k d within. absurd (omega (arith, within, ap length none))) extended;
   closed = closes asking lines excluded;
 }

@@ -12,7 +12,7 @@ use Rattle.cnf_core.specs.declared.literal.SatLit.{SatLit}
 use Rattle.cnf_core.specs.declared.effect.Effect.TheVariants.{Neither}
 use Rattle.cnf_core.specs.Clauses.{clause_at, is_met, literal_bit, literal_of, opposite, variable_of}
 use Rattle.cnf_core.specs.Derivations.{effect_of, is_true}
-use Rattle.net_core.specs.declared.graphs.Graphs.{Graphs}
+use Rattle.net_core.specs.Sides.{Graphs}
 use Rattle.net_core.specs.Graph.{IsGraph}
 use Rattle.query_core.specs.declared.query.Query.{Query}
 use Rattle.query_core.specs.Queries.{IsQuery, IsUnmet, bits_in, circuit_of, vector_in}

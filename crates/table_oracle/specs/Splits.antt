@@ -34,11 +34,11 @@ solving_of asking lines = record {
 abbrev pub IsExcluded : List (List SatLit) → List Bool → Type 0
 IsExcluded clauses bits = list_any (has_all (excluding bits)) clauses ≡ true
 
--- all beginnings of so many bits are excluded
+-- all beginnings of n bits are excluded
 abbrev pub AllExcluded : List (List SatLit) → ℕ → Type 0
 AllExcluded clauses count = (bits : List Bool) → length bits ≡ count → IsExcluded clauses bits
 
--- both ways to go on behind these bits are excluded
+-- both ways to go on after these bits are excluded
 abbrev pub IsClosed : List (List SatLit) → List Bool → Type 0
 IsClosed clauses bits = (b : Bool) → IsExcluded clauses (bits ++ b ∷ [])
 

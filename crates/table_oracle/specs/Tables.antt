@@ -1,6 +1,6 @@
 -- Circuits of which all vectors can be tried.
 use Rattle.std.specs.Prelude.{◌≤◌}
-use Rattle.net_core.specs.declared.graphs.Graphs.{Graphs}
+use Rattle.net_core.specs.Sides.{Graphs}
 use Rattle.account_core.specs.Ports.{HaveAsMany}
 
 -- Two circuits with as many ports, of at most 12 inputs.

@@ -5,7 +5,7 @@ ghost use Rattle.net_core.specs.Sides.{graph_of};
 ghost use Rattle.query_core.specs.Claims.{IsClaim};
 ghost use Rattle.query_core.specs.ClaimQueries.{claim_query};
 ghost use Rattle.query_core.specs.Queries.{IsQuery, bits_in};
-ghost use Rattle.account_core.specs.Oracles.{IsEvidence};
+ghost use Rattle.account_core.specs.Facts.{IsEvidence};
 ghost use Rattle.account_core.specs.Ports.{HaveAsMany};
 ghost use Rattle.ask_core.specs.Answers.{IsAnswer};
 ghost use Rattle.fact_tests.specs.Asking.{IsDecided, IsHalted};
@@ -24,11 +24,11 @@ use std::marker::Model;
 /// Two circuits with as many ports, of at most 12 inputs, of which all vectors are tried. Contracts see it as the circuits.
 #[derive(Drop)]
 pub struct AllVectors<'a> {
-    graphs: &'a Graphs,
+    graphs: &'a Graphs<'a>,
 }
 
 impl<'a> Model for AllVectors<'a> {
-    ghost use Rattle.net_core.specs.declared.graphs.Graphs.{Graphs as AnyGraphs};
+    ghost use Rattle.net_core.specs.Sides.{Graphs as AnyGraphs};
     ghost use Rattle.table_oracle.specs.Tables.{AreSmall};
 
     ghost Value = { AnyGraphs };
@@ -39,7 +39,7 @@ impl<'a> Model for AllVectors<'a> {
 }
 
 impl<'a> AllVectors<'a> {
-    pub(crate) fn new(graphs: &'a Graphs) -> AllVectors<'a>
+    pub(crate) fn new(graphs: &'a Graphs<'a>) -> AllVectors<'a>
         requires ports { HaveAsMany graphs.now.first graphs.now.second }
         requires small { graphs.now.first.inputs ≤ 12 }
         ensures { result ≡ graphs.now }
@@ -51,7 +51,7 @@ impl<'a> AllVectors<'a> {
 impl<'a> Decide for AllVectors<'a> {
     ghost circuits = { λ vectors. vectors };
 
-    fn graphs(&self) -> &Graphs {
+    fn graphs(&self) -> &Graphs<'_> {
         self.graphs
     }
 
@@ -72,7 +72,7 @@ impl<'a> Decide for AllVectors<'a> {
 /// A vector that meets a query, or else a log that refutes it, each line of which is charged.
 fn answer_to(
     alloc: Global,
-    graphs: &Graphs,
+    graphs: &Graphs<'_>,
     query: &Query,
     ledger: &mut Ledger,
 ) -> Result<Answer, Stop>
@@ -96,7 +96,7 @@ fn answer_to(
 /// What the answer of a claim's query says of the claim.
 fn evidence_of(
     alloc: Global,
-    graphs: &Graphs,
+    graphs: &Graphs<'_>,
     claim: &Claim,
     ledger: &mut Ledger,
 ) -> Result<Evidence, Stop>

@@ -6,7 +6,8 @@ ghost use Rattle.cnf_core.specs.declared.literal.SatLit.{SatLit as AnyLiteral};
 ghost use Rattle.cnf_core.specs.Clauses.{opposite};
 ghost use Rattle.cnf_core.specs.Derivations.{IsRefutation, hint_fault};
 ghost use Rattle.query_core.specs.Formulas.{formula_of, query_clauses};
-ghost use Rattle.query_core.specs.Ledgers.{IsRefused, learned_in, with_line};
+ghost use Rattle.cnf_core.specs.Charges.{IsCharged, IsRefused};
+ghost use Rattle.query_core.specs.Ledgers.{charging_of};
 ghost use Rattle.query_core.specs.Queries.{IsQuery, IsUnmet, bits_in};
 ghost use Rattle.learn_solver.specs.Analyses.{has_all};
 ghost use Rattle.learn_solver.specs.Searches.{last_line};
@@ -16,7 +17,7 @@ ghost use Rattle.table_oracle.specs.Splits.{AllExcluded, IsBeginning, IsClosed, 
 
 use crate::clauses::{effect, has_all, opposites};
 use crate::vectors::vector_of;
-use cnf_core::{Base, Effect, Log, LogLine, SatLit, Stop};
+use cnf_core::{Base, Charge, Effect, Log, LogLine, SatLit, Stop};
 use items::Items;
 use net_core::Graphs;
 use query_core::{Ledger, Query, QueryBase};
@@ -27,7 +28,7 @@ use std::alloc::{AllocError, Global};
 /// one, which follows from the clauses that exclude both ways to go on, or gate by gate where it has all bits.
 pub(crate) fn refute(
     alloc: Global,
-    graphs: &Graphs,
+    graphs: &Graphs<'_>,
     query: &Query,
     ledger: &mut Ledger,
 ) -> Result<Log, Stop>
@@ -40,8 +41,8 @@ pub(crate) fn refute(
     ensures unspent { IfOk result (λ _. ledger.new.spent ≡ false) }
     ensures stop { IfErr result (IsStopped graphs.now query.now ledger.old ledger.new) }
 {
-    let _first = graphs.first.inputs();
-    let _second = graphs.second.inputs();
+    let _first = graphs.first();
+    let _second = graphs.second();
     let splitting = Splitting {
         base: QueryBase::new(alloc, graphs, query)?,
         inputs: query.left.feed.len(),
@@ -70,13 +71,13 @@ impl<'a> Splitting<'a> {
         ledger: &mut Ledger,
     ) -> Result<(), Stop>
         requires splitting { IsSplitting self.now }
-        requires asking { IsAsking ledger.old lines.old.items }
+        requires asking { IsAsking (charging_of ledger.old) lines.old.items }
         ensures extended { OnOk result (IsExtended (solving_of self.now.base lines.old.items)
-            (solving_of self.now.base lines.new.items) ledger.old ledger.new) }
-        ensures asking { OnOk result (IsAsking ledger.new lines.new.items) }
+            (solving_of self.now.base lines.new.items) (charging_of ledger.old) (charging_of ledger.new)) }
+        ensures asking { OnOk result (IsAsking (charging_of ledger.new) lines.new.items) }
         ensures excluded { OnOk result (AllExcluded (clauses_in self.now.base lines.new.items) 0) }
         ensures stop { IfErr result (IsHalted (solving_of self.now.base lines.old.items)
-            (solving_of self.now.base lines.new.items) ledger.old ledger.new) }
+            (solving_of self.now.base lines.new.items) (charging_of ledger.old) (charging_of ledger.new)) }
     {
         let mut bits = self.inputs;
         self.exclude_of(alloc, bits, lines, ledger)?;
@@ -87,7 +88,7 @@ impl<'a> Splitting<'a> {
         Ok(())
     }
 
-    /// Excludes all beginnings of so many bits.
+    /// Excludes all beginnings of n bits.
     fn exclude_of(
         &self,
         alloc: Global,
@@ -96,15 +97,15 @@ impl<'a> Splitting<'a> {
         ledger: &mut Ledger,
     ) -> Result<(), Stop>
         requires splitting { IsSplitting self.now }
-        requires asking { IsAsking ledger.old lines.old.items }
+        requires asking { IsAsking (charging_of ledger.old) lines.old.items }
         requires within { bits ≤ self.now.inputs }
         requires closed { bits < self.now.inputs → AllExcluded (clauses_in self.now.base lines.old.items) (bits + 1) }
         ensures extended { OnOk result (IsExtended (solving_of self.now.base lines.old.items)
-            (solving_of self.now.base lines.new.items) ledger.old ledger.new) }
-        ensures asking { OnOk result (IsAsking ledger.new lines.new.items) }
+            (solving_of self.now.base lines.new.items) (charging_of ledger.old) (charging_of ledger.new)) }
+        ensures asking { OnOk result (IsAsking (charging_of ledger.new) lines.new.items) }
         ensures excluded { OnOk result (AllExcluded (clauses_in self.now.base lines.new.items) bits) }
         ensures stop { IfErr result (IsHalted (solving_of self.now.base lines.old.items)
-            (solving_of self.now.base lines.new.items) ledger.old ledger.new) }
+            (solving_of self.now.base lines.new.items) (charging_of ledger.old) (charging_of ledger.new)) }
     {
         for code in 0..1u32 << bits {
             let beginning = vector_of(alloc, bits, code)?;
@@ -122,14 +123,14 @@ impl<'a> Splitting<'a> {
         ledger: &mut Ledger,
     ) -> Result<(), Stop>
         requires splitting { IsSplitting self.now }
-        requires asking { IsAsking ledger.old lines.old.items }
+        requires asking { IsAsking (charging_of ledger.old) lines.old.items }
         requires beginning { IsBeginning self.now lines.old.items bits.now }
         ensures extended { OnOk result (IsExtended (solving_of self.now.base lines.old.items)
-            (solving_of self.now.base lines.new.items) ledger.old ledger.new) }
-        ensures asking { OnOk result (IsAsking ledger.new lines.new.items) }
+            (solving_of self.now.base lines.new.items) (charging_of ledger.old) (charging_of ledger.new)) }
+        ensures asking { OnOk result (IsAsking (charging_of ledger.new) lines.new.items) }
         ensures excluded { OnOk result (IsExcluded (clauses_in self.now.base lines.new.items) bits.now) }
         ensures stop { IfErr result (IsHalted (solving_of self.now.base lines.old.items)
-            (solving_of self.now.base lines.new.items) ledger.old ledger.new) }
+            (solving_of self.now.base lines.new.items) (charging_of ledger.old) (charging_of ledger.new)) }
     {
         let clause = excluding(alloc, bits)?;
         if self.covering(lines, &clause).is_some() {
@@ -271,13 +272,15 @@ fn covering_line(lines: &[LogLine], clause: &[SatLit]) -> Option<u64>
 /// Charges the last line.
 fn charge_last(lines: &[LogLine], ledger: &mut Ledger) -> Result<(), Stop>
     requires some { 0 < length lines.now }
-    requires asked { 0 < length ledger.old.asked }
+    requires opened { (charging_of ledger.old).opened ≡ true }
     requires not_spent { ledger.old.spent ≡ false }
-    ensures charged { OnOk result (ledger.new
-        ≡ record ledger.old { asked = with_line (last_line lines.now) ledger.old.asked }) }
-    ensures refused { IfErr result (IsRefused ledger.old (last_line lines.now) ledger.new) }
+    ensures charged { OnOk result
+        (IsCharged (charging_of ledger.old) (last_line lines.now) (charging_of ledger.new)) }
+    ensures refused { IfErr result
+        (IsRefused (charging_of ledger.old) (last_line lines.now) (charging_of ledger.new)) }
 {
-    ledger.charge(&lines[lines.len() - 1])
+    let line = &lines[lines.len() - 1];
+    Charge::charge(ledger, line)
 }
 
 /// The clause that excludes the vectors that begin with these bits.

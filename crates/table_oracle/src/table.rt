@@ -2,14 +2,15 @@
 
 ghost use Rattle.std.specs.Prelude.{◌≡◌, ◌≤◌, [], false, IfOk};
 ghost use Rattle.query_core.specs.Ledgers.{Ledgered};
-ghost use Rattle.account_core.specs.Oracles.{Suits};
+ghost use Rattle.oracle_core.specs.Oracles.{Suits};
 ghost use Rattle.account_core.specs.Ports.{HaveAsMany};
 
 use crate::answering::AllVectors;
-use account_core::{Compared, Fact, Oracle};
+use account_core::Fact;
 use cnf_core::Stop;
 use fact_tests::Book;
 use net_core::{Graphs, Matching};
+use oracle_core::{Compared, Oracle};
 use query_core::{Claim, Ledger};
 use std::alloc::{AllocError, Global};
 use std::marker::Model;
@@ -23,7 +24,7 @@ pub struct TableOracle<'a> {
 }
 
 impl<'a> Model for TableOracle<'a> {
-    ghost use Rattle.account_core.specs.Oracles.{Known};
+    ghost use Rattle.oracle_core.specs.Oracles.{Known};
 
     ghost Value = { Known };
 
@@ -35,8 +36,8 @@ impl<'a> TableOracle<'a> {
     ///
     /// # Errors
     ///
-    /// For want of memory alone.
-    pub fn new(alloc: Global, graphs: &'a Graphs) -> Result<TableOracle<'a>, AllocError>
+    /// Only when out of memory.
+    pub fn new(alloc: Global, graphs: &'a Graphs<'a>) -> Result<TableOracle<'a>, AllocError>
         requires ports { HaveAsMany graphs.now.first graphs.now.second }
         requires small { graphs.now.first.inputs ≤ 12 }
         ensures empty { IfOk result (λ table. table ≡ record { graphs = graphs.now; facts = []; answered = [] }) }

@@ -14,7 +14,7 @@ use std::alloc::{AllocError, Global};
 /// The first vector, by its number, that meets a query, or `None` where none does.
 pub(crate) fn meeting_vector(
     alloc: Global,
-    graphs: &Graphs,
+    graphs: &Graphs<'_>,
     query: &Query,
 ) -> Result<Option<Items<bool>>, AllocError>
     requires fits { IsQuery graphs.now query.now }
@@ -41,7 +41,7 @@ pub(crate) fn vector_of(alloc: Global, bits: usize, code: u32) -> Result<Vec<boo
     Ok(vector)
 }
 
-/// So many bits.
+/// That many bits.
 fn no_bits(alloc: Global, count: usize) -> Result<Vec<bool>, AllocError>
     ensures { IfOk result (λ bits. length bits.items ≡ count) }
 {
@@ -49,7 +49,12 @@ fn no_bits(alloc: Global, count: usize) -> Result<Vec<bool>, AllocError>
 }
 
 /// Whether a vector meets a query.
-fn meets(alloc: Global, graphs: &Graphs, query: &Query, vector: &[bool]) -> Result<bool, AllocError>
+fn meets(
+    alloc: Global,
+    graphs: &Graphs<'_>,
+    query: &Query,
+    vector: &[bool],
+) -> Result<bool, AllocError>
     requires fits { IsQuery graphs.now query.now }
     requires bits { length vector.now ≡ bits_in graphs.now query.now }
     ensures { IfOk result (λ met. (IsTrue met ↔ MeetsQuery graphs.now query.now vector.now)) }
@@ -62,7 +67,7 @@ fn meets(alloc: Global, graphs: &Graphs, query: &Query, vector: &[bool]) -> Resu
 /// The bit of a cone's output.
 fn cone_bit(
     alloc: Global,
-    graphs: &Graphs,
+    graphs: &Graphs<'_>,
     cone: &Cone,
     vector: &[bool],
 ) -> Result<bool, AllocError>

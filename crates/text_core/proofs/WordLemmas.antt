@@ -25,7 +25,7 @@ pub words-blanks : (bs : List ℕ) → words bs ≡ words (drop (prefix_len is_b
 words-blanks [] = refl
 words-blanks (b ∷ bs) = words-blanks_by_test (is_blank b) b bs (prefix_len is_blank bs) refl (words-blanks bs)
 
--- the parts between blanks, behind the blank that comes first
+-- the parts between blanks, after the blank that comes first
 abbrev pub parts_behind : List ℕ → List (List ℕ)
 parts_behind [] = []
 parts_behind (b ∷ bs) = slice_split is_blank bs
@@ -39,7 +39,7 @@ slice_split-front (b ∷ bs) =
       | false ↦ let e : 1 + word_length bs ≡ suc (word_length bs) = omega arith in rw (slice_split-front bs, e) refl
     ]
 
--- a blank, or nothing, stands behind the first part
+-- a blank, or nothing, stands after the first part
 words-behind_by_test : (t : Bool) (b : ℕ) (bs : List ℕ) (n : ℕ) → is_blank b ≡ t → filter is_not_empty (parts_behind (drop n bs)) ≡ words (drop n bs) → filter is_not_empty (parts_behind (drop (cond (not t) (1 + n) 0) (b ∷ bs))) ≡ words (drop (cond (not t) (1 + n) 0) (b ∷ bs))
 words-behind_by_test true b bs n e h = sym (words-blank b bs e)
 words-behind_by_test false b bs n e h = rw (drop-one_more n b bs) h
@@ -58,7 +58,7 @@ words-front bs some word =
     ap (filter is_not_empty) (slice_split-front bs)
     ∙ (filter-cons (take (word_length bs) bs) (parts_behind (drop (word_length bs) bs)) (omega (arith, length-take (word_length bs) bs)) ∙ ap (λ rest. take (word_length bs) bs ∷ rest) (words-behind bs))
 
--- what stands behind the blanks at the front begins with a word, if it isn't empty
+-- what stands after the blanks at the front begins with a word, if it isn't empty
 word_length-by_test : (t : Bool) (b : ℕ) (bs : List ℕ) (n : ℕ) → is_blank b ≡ t → (0 < length (drop n bs) → 0 < word_length (drop n bs)) → 0 < length (drop (cond t (1 + n) 0) (b ∷ bs)) → 0 < word_length (drop (cond t (1 + n) 0) (b ∷ bs))
 word_length-by_test true b bs n e h some = let e = drop-one_more n b bs in rw e (h (rw e at some))
 word_length-by_test false b bs n e h some = rw e (omega arith)
@@ -68,7 +68,7 @@ word_length-behind_blanks [] h = absurd (omega arith)
 word_length-behind_blanks (b ∷ bs) h =
     word_length-by_test (is_blank b) b bs (prefix_len is_blank bs) refl (word_length-behind_blanks bs) h
 
--- the next word of a line, and the words behind it
+-- the next word of a line, and the words after it
 pub words-next : (line rest word after : Piece) (blanks count : ℕ) → blanks ≡ prefix_len is_blank line.bytes → rest ≡ past blanks line → count ≡ word_length rest.bytes → word ≡ front count rest → after ≡ past count rest → 0 < length rest.bytes → words line.bytes ≡ word.bytes ∷ words after.bytes
 words-next line rest word after blanks count b r c w a some =
     let behind : rest.bytes ≡ drop (prefix_len is_blank line.bytes) line.bytes = ap (λ p. p.bytes) r ∙ ap (λ n. drop n line.bytes) b in

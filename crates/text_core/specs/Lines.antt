@@ -5,7 +5,7 @@ use Rattle.std.specs.List.{All, onto_first, position_or_len, flat_map}
 use Rattle.text_core.specs.Bytes.{is_line_feed}
 use Rattle.text_core.specs.Piece.{Piece, front, past}
 
--- the lines of a text, without their line feeds: nothing behind the last line feed is no line
+-- the lines of a text, without their line feeds: nothing after the last line feed is no line
 abbrev pub lines : List ℕ → List (List ℕ)
 lines [] = []
 lines (byte ∷ bytes) = if is_line_feed byte then [] ∷ lines bytes else onto_first byte (lines bytes)
@@ -26,6 +26,6 @@ line_length bytes = position_or_len is_line_feed bytes
 abbrev pub first_line : Piece → Option Piece
 first_line p = if length p.bytes == 0 then None else Some (front (line_length p.bytes) p)
 
--- what is left behind the first line and its line feed
+-- what is left after the first line and its line feed
 abbrev pub after_line : Piece → Piece
 after_line p = past (line_length p.bytes + 1) p

@@ -17,7 +17,7 @@ piece_code =
 abbrev pub front : ℕ → Piece → Piece
 front count p = record { bytes = take count p.bytes; at = p.at }
 
--- what is left of a piece behind its first bytes, with the offset moved on by as many as it had
+-- what is left of a piece after its first bytes, with the offset moved on by as many as it had
 abbrev pub past : ℕ → Piece → Piece
 past count p = record { bytes = drop count p.bytes; at = p.at + min count (length p.bytes) }
 

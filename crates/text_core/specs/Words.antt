@@ -31,6 +31,6 @@ first_word p =
     let rest = without_blanks p in
     if length rest.bytes == 0 then None else Some (front (word_length rest.bytes) rest)
 
--- what is left of a line behind its first word, which is its end where it has no word
+-- what is left of a line after its first word, which is its end where it has no word
 abbrev pub after_word : Piece → Piece
 after_word p = let rest = without_blanks p in past (word_length rest.bytes) rest

@@ -9,7 +9,7 @@ ghost use Rattle.text_core.specs.Lines.{lines, text_of_lines, first_line, after_
 ghost use Rattle.text_core.specs.Words.{words, first_word, after_word, IsWord};
 ghost use Rattle.text_core.specs.Numbers.{number};
 
-/// What is taken from the front of a piece, and what is left behind that, stand in the text where the
+/// What is taken from the front of a piece, and what is left after that, stand in the text where the
 /// piece does.
 pub fn pieces_of_text()
     ensures front { (text : List ℕ) (count : ℕ) (p : Piece)
@@ -21,7 +21,7 @@ pub fn pieces_of_text()
 {}
 
 /// A text with nothing left has no lines, and the lines of any other are its first one and those of
-/// what stands behind it.
+/// what stands after it.
 pub fn lines_from_first_line()
     ensures none { (p : Piece) → first_line p ≡ None → lines p.bytes ≡ [] }
     ensures next { (p line : Piece)
@@ -44,7 +44,7 @@ pub fn lines_of_text()
 {}
 
 /// A line with no word left has no words, and the words of any other are its first one and those of
-/// what stands behind it.
+/// what stands after it.
 pub fn words_from_first_word()
     ensures none { (p : Piece) → first_word p ≡ None → words p.bytes ≡ [] }
     ensures next { (p word : Piece)
@@ -52,7 +52,7 @@ pub fn words_from_first_word()
         → words p.bytes ≡ word.bytes ∷ words (after_word p).bytes }
 {}
 
-/// Blanks part the words of a line, any number of them, and stand before and behind them too.
+/// Blanks part the words of a line, any number of them, and stand before and after them too.
 pub fn words_of_line()
     ensures each { (line : List ℕ) → All IsWord (words line) }
     ensures blank { (byte : ℕ) (line : List ℕ)

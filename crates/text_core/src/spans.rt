@@ -143,7 +143,7 @@ impl<'a> Cursor<'a> {
 }
 
 /// The next word of a line: the first run of bytes that aren't blanks, and leaves in `line` what
-/// stands behind it. Blanks are the space, the tab and the carriage return.
+/// stands after it. Blanks are the space, the tab and the carriage return.
 /// `None` exactly where only blanks are left, and then `line` is empty, at its end.
 pub fn next_word<'a>(line: &mut Span<'a>) -> Option<Span<'a>>
     ensures word { result ≡ first_word line.old }

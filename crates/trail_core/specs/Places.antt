@@ -17,7 +17,7 @@ pub record IsKept (entries : Vec Assigned Global) (places : List (Option ℕ)) (
   pub told : (v p : ℕ) → v < length places → place_at places v ≡ Some p → IsPlace entries.items v p
   pub room : length places ≤ vec_capacity entries
 
--- the places of the first so many of these were taken away, and no others
+-- the places of the first n of these were taken away, and no others
 pub record IsUnset (old now : List (Option ℕ)) (dropped : List Assigned) (count : ℕ) : Type 0 where
   pub same_length : length now ≡ length old
   pub none : (k : ℕ) → k < count → place_at now (variable_of (entry_at dropped k).literal) ≡ None

@@ -6,7 +6,7 @@ use Rattle.cnf_core.specs.Clauses.{variable_of}
 use Rattle.cnf_core.specs.Derivations.{is_true, is_false}
 use Rattle.trail_core.specs.declared.assigned.Assigned.{Assigned}
 
--- What was assigned, in order, over so many variables; the present level; and how many literals were walked.
+-- What was assigned, in order, over n variables; the present level; and how many literals were walked.
 pub record Trailing : Type 0 where
   pub variables : ℕ
   pub entries : List Assigned
@@ -54,7 +54,7 @@ pub record IsFree (trail : Trailing) (literal : SatLit) : Type 0 where
   pub known : variable_of literal < trail.variables
   pub unassigned : value_in (literals trail.entries) literal ≡ None
 
--- the first so many literals stand before the last ones, whose level is greater
+-- the first n literals stand before the last ones, whose level is greater
 pub record IsCutAt (level : ℕ) (entries : List Assigned) (kept : ℕ) : Type 0 where
   pub within : kept ≤ length entries
   pub dropped : (k : ℕ) → kept ≤ k → k < length entries → level < (entry_at entries k).level

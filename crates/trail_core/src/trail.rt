@@ -36,7 +36,7 @@ impl Model for Trail {
 }
 
 impl Trail {
-    /// The empty trail over so many variables.
+    /// The empty trail over n variables.
     pub fn with_variables(alloc: Global, count: u64) -> Result<Trail, AllocError>
         ensures { IfOk result (λ trail. trail ≡ record { variables = count; entries = []; level = 0; walked = 0 }) }
     {

@@ -1,3 +1,4 @@
+pub mod DualRail
 pub mod Fillings
 pub mod Lanes
 pub mod Rows

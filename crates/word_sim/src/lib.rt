@@ -1,12 +1,16 @@
 //! A netlist evaluated on many vectors at once, 64 in a word, and on vectors with unknown bits.
 #![tactic(auto)]
 
+mod blocks;
 pub mod laws;
+mod rails;
 mod simulation;
 mod three_values;
 mod tri;
 mod words;
 
+pub use blocks::{and_lanes, gate_block, literal_block};
+pub use rails::{Rails, rails_eval};
 pub use simulation::{gate_word, literal_word, simulate};
 pub use three_values::tri_eval;
 pub use tri::Tri;

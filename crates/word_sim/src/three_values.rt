@@ -14,7 +14,7 @@ use std::alloc::{AllocError, Global};
 ///
 /// # Errors
 ///
-/// For want of memory alone.
+/// Only when out of memory.
 pub fn tri_eval(alloc: Global, graph: &Graph, inputs: &[Tri]) -> Result<Vec<Tri>, AllocError>
     requires { length inputs.now ≡ graph.now.inputs }
     ensures { IfOk result (λ outputs. outputs.items ≡ tri_outputs graph.now inputs.now) }

@@ -1,11 +1,13 @@
 //! Tables of words, a column for each port.
 
-ghost use Rattle.std.specs.Prelude.{◌≡◌, ◌<◌, [], All, IfOk, length, replicate, slice_index_or, slice_set};
+ghost use Rattle.std.specs.Prelude.{◌≡◌, ◌<◌, ◌≤◌, ◌+◌, [], ℕ, All, IfOk, length, replicate, slice_index_or, slice_set};
+ghost use Rattle.std.specs.Simd.Lanes.{put_chunk};
 ghost use Rattle.word_sim.specs.Columns.{IsTable, lane as lane_bits, row_of, vector_at, word_of};
 
 use items::Items;
 use std::alloc::{AllocError, Global};
 use std::marker::Model;
+use std::simd::prelude::*;
 
 /// A column of words for each port of a circuit. Bit v of word w of column i is bit i of vector 64 * w + v.
 #[derive(Debug, Drop)]
@@ -25,11 +27,11 @@ impl Model for Words {
 }
 
 impl Words {
-    /// So many columns, of so many words, all 0.
+    /// Columns of as many words each, all 0.
     ///
     /// # Errors
     ///
-    /// For want of memory alone.
+    /// Only when out of memory.
     pub fn new(alloc: Global, columns: u32, words: usize) -> Result<Words, AllocError>
         ensures zeros { IfOk result (λ table. table ≡ record { words = words; columns = replicate columns (replicate words 0) }) }
         ensures table { IfOk result IsTable }
@@ -48,7 +50,7 @@ impl Words {
     ///
     /// # Errors
     ///
-    /// For want of memory alone.
+    /// Only when out of memory.
     pub fn copy(&self) -> Result<Words, AllocError>
         ensures copy { IfOk result (λ table. table ≡ self.now) }
         ensures table { IfOk result IsTable }
@@ -95,11 +97,32 @@ impl Words {
         self.columns[column as usize].set(word, value);
     }
 
+    /// Eight words of a column, from `word` on.
+    pub fn block(&self, column: u32, word: usize) -> u64x8
+        requires column { column < length self.now.columns }
+        requires word { word + 8 ≤ self.now.words }
+        ensures lanes { length result ≡ 8 }
+        ensures words { (l : ℕ) → l < 8
+            → word_of l result ≡ word_of (word + l) (slice_index_or self.now.columns column []) }
+    {
+        u64x8::from_slice(&self.columns[column as usize][word..])
+    }
+
+    /// Gives eight words of a column other values, from `word` on. All others stay.
+    pub fn set_block(&mut self, column: u32, word: usize, block: u64x8)
+        requires column { column < length self.old.columns }
+        requires word { word + 8 ≤ self.old.words }
+        ensures table { IsTable self.new }
+        ensures value { self.new ≡ record self.old { columns = slice_set self.old.columns column (put_chunk word (slice_index_or self.old.columns column []) block) } }
+    {
+        put_block(self.columns[column as usize].as_mut_slice(), word, block);
+    }
+
     /// The vector that a bit of a word holds: a bit of each column.
     ///
     /// # Errors
     ///
-    /// For want of memory alone.
+    /// Only when out of memory.
     pub fn vector(&self, alloc: Global, word: usize, lane: u32) -> Result<Items<bool>, AllocError>
         requires word { word < self.now.words }
         requires lane { lane < 64 }
@@ -107,6 +130,14 @@ impl Words {
     {
         lane_of(alloc, &self.columns, word, lane)
     }
+}
+
+/// Writes eight words of a column.
+fn put_block(column: &mut [u64], word: usize, block: u64x8)
+    requires { word + 8 ≤ length column.old }
+    ensures { column.new ≡ put_chunk word column.old block }
+{
+    block.copy_to_slice(&mut column[word..]);
 }
 
 /// A bit of a word of each column.

@@ -13,12 +13,12 @@ use query_core::{Ledger, Query, QueryBase, of_match};
 use refute_check::Refuter;
 use std::alloc::{AllocError, AllocFailed, Global};
 
-/// Asks whether an output of the first netlist can have the value where that of the second has not, with so many learned
+/// Asks whether an output of the first netlist can have the value where that of the second has not, with n learned
 /// lines at most, and prints the answer: `vector` with a bit for each input, `refuted` with the number of the log's lines
 /// where each of them was derived again, or `spent` with the number of learned lines.
 pub(crate) fn run<R: Print + AllocGlobal>(
     rt: &R,
-    graphs: &Graphs,
+    graphs: &Graphs<'_>,
     output: u32,
     value: bool,
     budget: u64,
@@ -45,11 +45,11 @@ pub(crate) fn run<R: Print + AllocGlobal>(
 }
 
 /// The question of an output and a value.
-fn question(alloc: Global, graphs: &Graphs, output: u32, value: bool) -> Result<Query>
+fn question(alloc: Global, graphs: &Graphs<'_>, output: u32, value: bool) -> Result<Query>
     ensures { IfOk result (IsQuery graphs.now) }
 {
-    let inputs = graphs.first.inputs();
-    let outputs = graphs.first.outputs().len();
+    let inputs = graphs.first().inputs();
+    let outputs = graphs.first().outputs().len();
     let matching = Matching {
         inputs: in_place(alloc, inputs)?,
         outputs: in_place(alloc, outputs as u32)?,
@@ -62,7 +62,7 @@ fn question(alloc: Global, graphs: &Graphs, output: u32, value: bool) -> Result<
     Ok(of_match(alloc, graphs, &matching, output, value)?)
 }
 
-/// Each of so many ports goes to the one of its position.
+/// Each of n ports goes to the one of its position.
 fn in_place(alloc: Global, ports: u32) -> Result<Items<(u32, bool)>, AllocFailed<(u32, bool)>> {
     let mut places = Items::new(alloc);
     for place in 0..ports {
@@ -72,19 +72,24 @@ fn in_place(alloc: Global, ports: u32) -> Result<Items<(u32, bool)>, AllocFailed
 }
 
 /// Whether two netlists have as many ports, and a matching pairs them.
-fn have_ports(graphs: &Graphs, matching: &Matching) -> bool
+fn have_ports(graphs: &Graphs<'_>, matching: &Matching) -> bool
     ensures { IsTrue result
         → HavePorts graphs.now.first graphs.now.second matching.now.inputs matching.now.outputs }
 {
-    let (inputs, outputs) = (graphs.first.inputs(), graphs.first.outputs().len());
-    if graphs.second.inputs() != inputs || graphs.second.outputs().len() != outputs {
+    let (inputs, outputs) = (graphs.first().inputs(), graphs.first().outputs().len());
+    if graphs.second().inputs() != inputs || graphs.second().outputs().len() != outputs {
         return false;
     }
     matching.check_shape(inputs, outputs as u32)
 }
 
 /// Whether each line of a log is derived, and the last one is empty.
-fn is_derived(alloc: Global, graphs: &Graphs, query: &Query, log: &Log) -> Result<bool, AllocError>
+fn is_derived(
+    alloc: Global,
+    graphs: &Graphs<'_>,
+    query: &Query,
+    log: &Log,
+) -> Result<bool, AllocError>
     requires { IsQuery graphs.now query.now }
 {
     let base = QueryBase::new(alloc, graphs, query)?;

@@ -19,7 +19,7 @@ struct Seen {
     swap: usize,
 }
 
-/// Hunts for so many rounds on each output, and prints a line for it: how many shapes of each kind were seen broken.
+/// Hunts for n rounds on each output, and prints a line for it: how many shapes of each kind were seen broken.
 pub(crate) fn run<R: Print + AllocGlobal>(rt: &R, graph: &Graph, rounds: u32) -> Result<()> {
     for output in 0..graph.outputs().len() {
         let seen = seen_of(rt.alloc(), graph, output as u32, rounds)?;

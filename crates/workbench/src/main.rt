@@ -3,11 +3,13 @@
 #![tactic(auto)]
 
 mod asking;
+mod guessing;
 mod hunting;
 mod netlist;
 mod simulating;
 
 use anyhow::{Result, bail};
+use net_core::Graphs;
 use std::process::ExitCode;
 use std::rt::{Env, Files};
 use std::{env, io};
@@ -29,9 +31,15 @@ fn words_after_name<R: Env + AllocGlobal>(rt: &R) -> io::Result<Vec<String>> {
 fn run<R: Print + Files + AllocGlobal>(rt: &R, words: &[String]) -> Result<ExitCode> {
     match words {
         [command, first, second, output, value, budget] if command.as_str() == "ask" => {
-            let graphs = netlist::read_pair(rt, first.as_str(), second.as_str())?;
+            let (first, second) = netlist::read_pair(rt, first.as_str(), second.as_str())?;
             let value = bit(value.as_str())?;
+            let graphs = Graphs::new(&first, &second);
             asking::run(rt, &graphs, output.parse()?, value, budget.parse()?)?;
+        }
+        [command, first, second, seed] if command.as_str() == "guess" => {
+            let (first, second) = netlist::read_pair(rt, first.as_str(), second.as_str())?;
+            let graphs = Graphs::new(&first, &second);
+            guessing::run(rt, &graphs, seed.parse()?)?;
         }
         [command, file, words, rounds] if command.as_str() == "simulate" => {
             let graph = netlist::read(rt, file.as_str())?;
@@ -60,6 +68,7 @@ fn bit(word: &str) -> Result<bool> {
 
 fn print_usage<R: Print>(rt: &R) -> io::Result<()> {
     println!(rt; "usage: workbench ask FIRST SECOND OUTPUT VALUE BUDGET")?;
+    println!(rt; "       workbench guess FIRST SECOND SEED")?;
     println!(rt; "       workbench simulate FILE WORDS ROUNDS")?;
     println!(rt; "       workbench hunt FILE ROUNDS")
 }

@@ -3,7 +3,8 @@
 ghost use Rattle.std.specs.Prelude.{◌≤◌, length};
 
 use anyhow::{Result, ensure};
-use net_core::{Graph, Graphs, Named, NetStop};
+use net_core::Graph;
+use net_file::{Named, NetStop};
 use std::alloc::Global;
 use std::fs;
 use std::rt::Files;
@@ -16,11 +17,9 @@ pub(crate) fn read_pair<R: Files + AllocGlobal>(
     rt: &R,
     first: &str,
     second: &str,
-) -> Result<Graphs> {
-    Ok(Graphs {
-        first: read(rt, first)?,
-        second: read(rt, second)?,
-    })
+) -> Result<(Graph, Graph)> {
+    let first = read(rt, first)?;
+    Ok((first, read(rt, second)?))
 }
 
 /// The netlist of a file.

@@ -14,7 +14,7 @@ const MULTIPLIER: u64 = 6_364_136_223_846_793_005;
 
 const INCREMENT: u64 = 1_442_695_040_888_963_407;
 
-/// Simulates the netlist so many rounds, each on so many new words of 64 vectors, and prints the exclusive or of all
+/// Simulates the netlist for some rounds, each on new words of 64 vectors, and prints the exclusive or of all
 /// words of the outputs.
 pub(crate) fn run<R: Print + AllocGlobal>(
     rt: &R,

@@ -2,7 +2,8 @@
 
 use super::read_text;
 use crate::compared::has_names;
-use net_core::{Graph, NetFault, NetKind, NetStop, lit_value};
+use net_core::{Graph, lit_value};
+use net_file::{NetFault, NetKind, NetStop};
 use std::alloc::{AllocError, Global};
 use std::test::Fail;
 use text_core::put_decimal;
@@ -96,7 +97,7 @@ static FILES: [FileRow; 16] = [
         b"00011011",
     ),
     (b".inputs a\n.outputs a\\", b"a,", b"a,", 0, b"01"),
-    // what is passed over, and words behind `.end`
+    // what is passed over, and words after `.end`
     (
         b".inputs a\n.outputs y\n.names $false\n.names a y\n1 1\n.cname n\n.area 3\n.end x\n# rest\n",
         b"a,",
@@ -288,7 +289,7 @@ fn names_the_first_fault(rt: HostRuntime) {
     }
 }
 
-// A line of `.inputs` or `.outputs` with so many names of one letter and a number.
+// A line of `.inputs` or `.outputs` with n names of one letter and a number.
 fn put_ports(word: &[u8], count: u64, out: &mut Vec<u8>) -> Result<(), AllocError> {
     out.extend_from_slice(word)?;
     for port in 0..count {
@@ -298,7 +299,7 @@ fn put_ports(word: &[u8], count: u64, out: &mut Vec<u8>) -> Result<(), AllocErro
     out.extend_from_slice(b"\n")
 }
 
-// Adds lines of so many inputs and outputs, and covers behind them.
+// Adds lines of n inputs and outputs, and covers after them.
 fn put_file(inputs: u64, outputs: u64, covers: &[u8], out: &mut Vec<u8>) -> Result<(), AllocError> {
     put_ports(b".inputs", inputs, out)?;
     put_ports(b".outputs", outputs, out)?;
@@ -332,7 +333,7 @@ fn counts_ports(rt: HostRuntime) -> Result<(), Fail> {
             b"",
             Some((NetKind::NameUndefined, last_output)),
         ),
-        // the output beyond the limit is defined behind the ports
+        // the output beyond the limit is defined after the ports
         (
             1_024,
             1_025,
@@ -378,7 +379,7 @@ fn put_operands(count: usize, out: &mut Vec<u8>) -> Result<(), AllocError> {
     out.extend_from_slice(b" y\n")
 }
 
-// Adds a file with an output of 1,000,000 gates, and a cover behind it.
+// Adds a file with an output of 1,000,000 gates, and a cover after it.
 fn put_gates(alloc: Global, cover: &[u8], out: &mut Vec<u8>) -> Result<(), AllocError> {
     out.extend_from_slice(b".inputs a\n.outputs y\n")?;
     // each row has a gate less than literals, and each row but one a gate that joins it

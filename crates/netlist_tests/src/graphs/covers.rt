@@ -84,7 +84,7 @@ fn stands_in_for_literals(rt: HostRuntime) -> Result<(), Fail> {
 
 #[test]
 fn counts_unused_names_to_the_level(rt: HostRuntime) -> Result<(), Fail> {
-    // two inputs; signal 3 names signal 4 in a column of dashes, so its gate comes behind those of 4 and 5
+    // two inputs; signal 3 names signal 4 in a column of dashes, so its gate comes after those of 4 and 5
     let unused = OnSet(&[4, 1, 2], &["-11"]);
     let net = net(rt.alloc(), 2, &[unused, And(3, 5), And(2, 2)], &[Lit(6)])?;
     let gates = [(3, 5), (2, 2), (2, 4)];

@@ -37,7 +37,7 @@ fn orders_by_level_then_position(rt: HostRuntime) -> Result<(), Fail> {
             [(2, 4), (6, 5), (8, 2)],
             11,
         ),
-        // of one level, by position: 6 = AND(11, 8) comes behind 8 and 10
+        // of one level, by position: 6 = AND(11, 8) comes after 8 and 10
         (
             [And(11, 8), And(2, 5), And(3, 4)],
             10,
@@ -82,7 +82,7 @@ fn names_the_first_without_a_level(rt: HostRuntime) -> Result<(), Fail> {
     Ok(())
 }
 
-// Definition i is signal i + 2, and names the one behind it; the last one names the input.
+// Definition i is signal i + 2, and names the one after it; the last one names the input.
 fn reversed_chain<'a>(alloc: Global) -> Result<Vec<Part<'a>>, AllocError> {
     let mut parts = Vec::new(alloc);
     for i in 0..999u32 {

@@ -22,4 +22,4 @@ pub returns-clause-refused : goal.returns-clause-refused
 returns-clause-refused c is =
     let graphs = c.args.graphs.now in
     let bytes = c.args.account.now in
-    right_refusal graphs bytes c.inputs-first.ensures.graph c.inputs-second.ensures.graph (accepted_told graphs bytes c.verdict_on.result verdict.None c.verdict_on.ensures.verdict is)
+    right_refusal graphs bytes c.first-first.ensures.sound c.second-second.ensures.sound (accepted_told graphs bytes c.verdict_on.result verdict.None c.verdict_on.ensures.verdict is)

@@ -1,22 +1,17 @@
--- Before its first record an account is under check.
-use Rattle.account_check.proofs.VerdictLemmas.{begun}
+-- A bad line of all bytes is the first; and where there is none, the verdict is that of the bytes.
+use Rattle.std.proofs.Common.{[]}
+use Rattle.account_check.proofs.CheckingLemmas.{stopped_fed}
 use Rattle.account_check.proofs.whole_account.verdict_by.Goals as goal
 
-pub verdict_behind-requires : goal.verdict_behind-requires
-verdict_behind-requires c =
-    let graphs = c.args.graphs.now in
-    let bytes = c.requires.0 in
-    let fed = c.requires.1 in
-    (graphs, bytes, begun graphs bytes c.args.reader.now c.begun-checker.result fed.read fed.finished fed.no_fault c.begun-checker.ensures)
+pub returns-in_err-feed-clause-verdict : goal.returns-in_err-feed-clause-verdict
+returns-in_err-feed-clause-verdict c graphs begun =
+    stopped_fed graphs c.args.account.now c.feed.new.self.reading c.feed.new.self.account c.in_err-feed.field-0.0 c.from_residual.result (c.in_err-feed.ensures graphs [] begun) c.from_residual.ensures.1
+
+pub finish-requires : goal.finish-requires
+finish-requires c = (c.requires.0, c.args.account.now, c.in_ok-feed.ensures c.requires.0 [] c.requires.1)
 
 pub returns-clause-verdict : goal.returns-clause-verdict
-returns-clause-verdict c bytes fed =
-    let graphs = c.args.graphs.now in
-    c.verdict_behind.ensures.verdict graphs bytes (begun graphs bytes c.args.reader.now c.begun-checker.result fed.read fed.finished fed.no_fault c.begun-checker.ensures)
+returns-clause-verdict c graphs begun = c.finish.ensures.verdict graphs c.args.account.now (c.in_ok-feed.ensures graphs [] begun)
 
 pub returns-clause-proved : goal.returns-clause-proved
-returns-clause-proved c matching is =
-    let graphs = c.args.graphs.now in
-    let bytes = c.requires.0 in
-    let fed = c.requires.1 in
-    c.verdict_behind.ensures.proved graphs bytes matching (begun graphs bytes c.args.reader.now c.begun-checker.result fed.read fed.finished fed.no_fault c.begun-checker.ensures) is
+returns-clause-proved c graphs matching begun is = c.finish.ensures.proved graphs c.args.account.now matching (c.in_ok-feed.ensures graphs [] begun) is

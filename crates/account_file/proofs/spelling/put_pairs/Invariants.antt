@@ -1,6 +1,6 @@
-use Rattle.std.proofs.Common.{◌≡◌, ◌++◌, map, drop}
-use Rattle.account_file.specs.Spelling.{pair_word, spaced}
+use Rattle.account_file.specs.Spelling.{HasPorts, pair_word}
+use Rattle.account_file.proofs.ListLemmas.{Written}
 use Rattle.account_file.proofs.spelling.put_pairs.Given as goal
 
 abbrev pub invariant-loop-pair : goal.invariant-loop-pair
-invariant-loop-pair l = l.out.items ++ spaced (map pair_word (drop l.pair-index l.pairs)) ≡ l.fn.out.items ++ spaced (map pair_word l.pairs)
+invariant-loop-pair l = Written pair_word HasPorts l.pairs l.pair-index l.fn.out.items l.out.items

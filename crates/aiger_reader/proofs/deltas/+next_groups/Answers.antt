@@ -1,4 +1,4 @@
--- A last group, and a group with a number behind it.
+-- A last group, and a group with a number after it.
 use Rattle.std.proofs.Common.{◌-◌, arith}
 use Rattle.aiger_reader.proofs.DeltaLemmas.{last_group, group_before, no_group_behind, four_groups, power_more, last_in_range}
 use Rattle.aiger_reader.proofs.deltas.+next_groups.Goals as goal

@@ -1,10 +1,10 @@
 -- One more gate, and a pair that is bad.
 use Rattle.std.proofs.Common.{◌≡◌, ℕ, ◌+◌, ◌*◌, List, [], ◌∷◌, ◌++◌, length, Err, IfOk, IfErr, refl, subst, sym, arith, rules}
 use Rattle.std.proofs.lemmas.Result.{err_from_is_err_and}
-use Rattle.net_core.specs.declared.named.NetFault.{NetFault}
-use Rattle.net_core.specs.declared.named.NetKind.TheVariants as kind
-use Rattle.net_core.specs.declared.named.NetStop.{NetStop}
-use Rattle.net_core.specs.declared.named.NetStop.TheVariants as stop
+use Rattle.net_file.specs.declared.fault.NetFault.{NetFault}
+use Rattle.net_file.specs.declared.fault.NetKind.TheVariants as kind
+use Rattle.net_file.specs.declared.fault.NetStop.{NetStop}
+use Rattle.net_file.specs.declared.fault.NetStop.TheVariants as stop
 use Rattle.aiger_reader.specs.Deltas.{BeginsFirst, BeginsSecond, BeginsGates, IsBadPair, IsPairFault}
 use Rattle.aiger_reader.proofs.PairLemmas.{gates_push, pair_fault}
 use Rattle.aiger_reader.proofs.ResultLemmas.{ok_before, err_made}

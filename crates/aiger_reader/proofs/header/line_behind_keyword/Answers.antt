@@ -1,4 +1,4 @@
--- The first line of what stands behind the keyword.
+-- The first line of what stands after the keyword.
 use Rattle.std.proofs.Common.{ap, ◌∙◌}
 use Rattle.std.proofs.lemmas.List.{take_rest}
 use Rattle.text_core.specs.Lines.{lines}

@@ -1,4 +1,4 @@
--- The numbers on the first line behind the keyword.
+-- The numbers on the first line after the keyword.
 use Rattle.std.proofs.Common.{ap, sym, ◌∙◌, arith}
 use Rattle.aiger_reader.specs.Words.{numbers_on}
 use Rattle.aiger_reader.specs.Headers.{header_numbers, line_behind}

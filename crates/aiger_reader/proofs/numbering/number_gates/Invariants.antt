@@ -1,4 +1,4 @@
--- So many gates are numbered.
+-- That many gates are numbered.
 use Rattle.std.proofs.Common.{◌≡◌, map, take}
 use Rattle.aiger_reader.specs.Numbered.{def_in}
 use Rattle.aiger_reader.proofs.numbering.number_gates.Given as goal

@@ -1,4 +1,4 @@
--- So many outputs are numbered.
+-- That many outputs are numbered.
 use Rattle.std.proofs.Common.{◌≡◌, map, take}
 use Rattle.aiger_reader.specs.Numbered.{lit_in}
 use Rattle.aiger_reader.proofs.numbering.number_outputs.Given as goal

@@ -1,4 +1,4 @@
--- So many lines are passed.
+-- That many lines are passed.
 use Rattle.aiger_reader.specs.Reading.{IsAtLine}
 use Rattle.aiger_reader.proofs.numbering.offset_of_line.Given as goal
 

@@ -2,10 +2,10 @@
 use Rattle.std.proofs.Common.{◌≡◌, ℕ, List, length, true, false, Err, IfErr, inl, inr, refl, sym, ap, ◌∙◌, subst, rules}
 use Rattle.std.proofs.lemmas.Result.{err_from_is_err_and}
 use Rattle.text_core.specs.Lines.{lines}
-use Rattle.net_core.specs.declared.named.NetFault.{NetFault}
-use Rattle.net_core.specs.declared.named.NetKind.TheVariants as kind
-use Rattle.net_core.specs.declared.named.NetStop.{NetStop}
-use Rattle.net_core.specs.declared.named.NetStop.TheVariants as stop
+use Rattle.net_file.specs.declared.fault.NetFault.{NetFault}
+use Rattle.net_file.specs.declared.fault.NetKind.TheVariants as kind
+use Rattle.net_file.specs.declared.fault.NetStop.{NetStop}
+use Rattle.net_file.specs.declared.fault.NetStop.TheVariants as stop
 use Rattle.aiger_reader.specs.declared.symbols.SymbolStop.TheVariants as why
 use Rattle.aiger_reader.specs.Symbols.{is_comment, Entry, AddsName, ArePortSlots, IsSymbolFault}
 use Rattle.aiger_reader.proofs.GiveLemmas.{adds_at}

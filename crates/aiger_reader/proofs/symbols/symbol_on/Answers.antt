@@ -1,4 +1,4 @@
--- No position behind the letter, and no name behind the position.
+-- No position after the letter, and no name after the position.
 use Rattle.std.proofs.Common.{◌-◌, length, take, drop, sym, eqb-true}
 use Rattle.std.proofs.lemmas.List.{take_rest, nil_from_length}
 use Rattle.aiger_reader.proofs.SymbolLemmas.{behind_letter, unnamed}

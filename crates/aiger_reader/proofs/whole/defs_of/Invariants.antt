@@ -1,4 +1,4 @@
--- So many gates are taken.
+-- That many gates are taken.
 use Rattle.std.proofs.Common.{◌≡◌, map, take}
 use Rattle.aiger_reader.specs.Deltas.{and_from}
 use Rattle.aiger_reader.proofs.whole.defs_of.Given as goal

@@ -1,4 +1,4 @@
--- So many numbers are taken.
+-- That many numbers are taken.
 use Rattle.std.proofs.Common.{◌≡◌, map, take}
 use Rattle.aiger_reader.specs.Bodies.{lit_from}
 use Rattle.aiger_reader.proofs.whole.lits_of.Given as goal

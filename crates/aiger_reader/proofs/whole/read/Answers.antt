@@ -2,7 +2,7 @@
 use Rattle.std.proofs.Common.{◌≡◌, [], Err, IfErr, subst, arith}
 use Rattle.std.proofs.lemmas.Result.{err_from_is_err_and}
 use Rattle.circuits.proofs.LevelOrders.{IsOrderOf-outputs}
-use Rattle.net_core.specs.declared.named.NetStop.TheVariants as stop
+use Rattle.net_file.specs.declared.fault.NetStop.TheVariants as stop
 use Rattle.aiger_reader.specs.Reading.{rows_of, IsStop}
 use Rattle.aiger_reader.specs.Numbers.{header_of}
 use Rattle.aiger_reader.proofs.PropertyLemmas.{body_any}

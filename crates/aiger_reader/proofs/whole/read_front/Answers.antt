@@ -1,8 +1,8 @@
 -- The header's fault stands at the front.
 use Rattle.std.proofs.Common.{◌≡◌, IfErr, refl, inl, subst, sym, rules}
-use Rattle.net_core.specs.declared.named.NetFault.{NetFault}
-use Rattle.net_core.specs.declared.named.NetStop.{NetStop}
-use Rattle.net_core.specs.declared.named.NetStop.TheVariants as stop
+use Rattle.net_file.specs.declared.fault.NetFault.{NetFault}
+use Rattle.net_file.specs.declared.fault.NetStop.{NetStop}
+use Rattle.net_file.specs.declared.fault.NetStop.TheVariants as stop
 use Rattle.aiger_reader.specs.Numbers.{IsHeaderFault}
 use Rattle.aiger_reader.specs.Aiger.{IsAigerFault}
 use Rattle.aiger_reader.proofs.ResultLemmas.{err_made}

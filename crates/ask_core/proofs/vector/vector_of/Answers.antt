@@ -21,5 +21,5 @@ returns c =
     let vector = c.loop-input.invariant ∙ ap (λ n. vector_in n values) all in
     record {
       bits = ap length vector ∙ vector_length (bits_in graphs query) values;
-      meets = subst (λ (bs : List Bool). MeetsQuery graphs query bs) (sym vector) (cone_vector_there graphs query values c.inputs-inputs.ensures.graph c.inputs-inputs-2.ensures.graph c.requires.fits c.requires.meets);
+      meets = subst (λ (bs : List Bool). MeetsQuery graphs query bs) (sym vector) (cone_vector_there graphs query values c.first-first.ensures.sound c.second-second.ensures.sound c.requires.fits c.requires.meets);
     }

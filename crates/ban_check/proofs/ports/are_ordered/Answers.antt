@@ -1,4 +1,4 @@
--- One pair more stands behind the others.
+-- One pair more stands after the others.
 use Rattle.ban_check.proofs.BoolLemmas.{refused, untrue}
 use Rattle.ban_check.proofs.PortLemmas.{ordered_more, ordered_stop}
 use Rattle.ban_check.proofs.ports.are_ordered.Goals as goal

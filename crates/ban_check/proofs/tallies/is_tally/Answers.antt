@@ -1,6 +1,7 @@
 -- What the tests come to.
-use Rattle.std.proofs.Common.{arith, subst, ◌↔◌}
+use Rattle.std.proofs.Common.{arith, subst, ap, ◌∙◌, ◌↔◌}
 use Rattle.std.specs.Bool.{IsTrue}
+use Rattle.circuits.specs.Netlists.{Net}
 use Rattle.ban_check.specs.Counted.{HaveTooMany}
 use Rattle.ban_check.proofs.BoolLemmas.{refused}
 use Rattle.ban_check.proofs.TallyLemmas.{tally_have, tally_tests}
@@ -18,5 +19,5 @@ pub returns : goal.returns
 returns c =
     let have = c.args.have.now in
     let lack = c.args.lack.now in
-    let many = subst (λ n. IsTrue c.have_too_many.result ↔ HaveTooMany n c.args.given.now c.args.kind have lack) c.inputs.ensures.value c.have_too_many.ensures in
+    let many = subst (λ n. IsTrue c.have_too_many.result ↔ HaveTooMany n c.args.given.now c.args.kind have lack) (c.inputs.ensures.value ∙ ap (λ (net : Net). net.inputs) c.first.ensures.value) c.have_too_many.ensures in
     tally_tests c.args.graphs.now c.args.given.now c.args.pairs.now c.args.kind have lack c.fact.result.claim c.fact-2.result.claim c.are_paired.result c.say_of.result c.say_of-2.result c.have_too_many.result (omega (arith, c.in-len1-up.len_at_least)) (omega (arith, c.in-len1-up-lack.len_at_least)) c.fact.ensures.claim c.fact-2.ensures.claim c.are_paired.ensures c.say_of.ensures c.say_of-2.ensures many

@@ -1,6 +1,7 @@
 -- The values that are sent, and where the partner is.
-use Rattle.std.proofs.Common.{length, sym, ap, ◌∙◌}
+use Rattle.std.proofs.Common.{◌<◌, length, sym, subst, ap, ◌∙◌}
 use Rattle.std.proofs.lemmas.List.FromFn.{length-map-range_with_len}
+use Rattle.circuits.specs.Netlists.{Net}
 use Rattle.account_core.specs.Vectors.{value_sent}
 use Rattle.ban_check.proofs.PortLemmas.{partner_there}
 use Rattle.ban_check.proofs.vectors.shows_difference.Goals as goal
@@ -12,4 +13,5 @@ output_value-requires-2-clause-inputs c =
 
 pub output_value-requires-2-clause-output : goal.output_value-requires-2-clause-output
 output_value-requires-2-clause-output c =
-    partner_there c.args.graphs.now c.args.pairs.now c.args.output c.in-Some.pair c.requires.known (sym c.pair_of.ensures ∙ c.in-Some.is)
+    subst (λ (net : Net). c.in-Some.pair.to < length net.outputs) (sym c.second-partners.ensures.value)
+    (partner_there c.args.graphs.now c.args.pairs.now c.args.output c.in-Some.pair c.requires.known (sym c.pair_of.ensures ∙ c.in-Some.is))

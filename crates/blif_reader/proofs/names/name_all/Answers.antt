@@ -1,6 +1,6 @@
 use Rattle.std.proofs.Common.{◌≡◌, sym, ap, subst, ◌∙◌}
-use Rattle.net_core.specs.declared.named.NetFault.{NetFault}
-use Rattle.net_core.specs.declared.named.NetKind.TheVariants as fault
+use Rattle.net_file.specs.declared.fault.NetFault.{NetFault}
+use Rattle.net_file.specs.declared.fault.NetKind.TheVariants as fault
 use Rattle.blif_reader.specs.Numbers.{names_of, IsRepeatedPort}
 use Rattle.blif_reader.proofs.SurveyLemmas.{fault_told}
 use Rattle.blif_reader.proofs.NumberLemmas.{AddsPort, named_more, repeated, at_place}

@@ -2,7 +2,7 @@ use Rattle.std.proofs.Common.{◌≡◌, ◌≤◌, length, take}
 use Rattle.blif_reader.specs.Names.{words_of_kind}
 use Rattle.blif_reader.proofs.ports.find_excess.Given as goal
 
--- so many of the ports before are of the kind
+-- n of the ports before are of the kind
 abbrev pub invariant-loop-port : goal.invariant-loop-port
 invariant-loop-port l =
     (l.count ≡ length (words_of_kind l.kind (take l.port-index l.ports))) × (l.count ≤ 1024)

@@ -1,6 +1,6 @@
 use Rattle.std.proofs.Common.{◌≡◌, Err, sym, ap, subst, ◌∙◌}
 use Rattle.std.specs.List.{filter}
-use Rattle.net_core.specs.declared.named.NetFault.{NetFault}
+use Rattle.net_file.specs.declared.fault.NetFault.{NetFault}
 use Rattle.blif_reader.specs.JoinedLines.{has_words, joined_lines}
 use Rattle.blif_reader.specs.Faults.{IsLineFault}
 use Rattle.blif_reader.specs.Surveys.{IsUnderWay}

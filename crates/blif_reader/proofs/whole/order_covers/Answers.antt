@@ -1,7 +1,7 @@
 use Rattle.std.proofs.Common.{◌<◌, length, Err, inl, inr, ap, subst, ◌∙◌}
 use Rattle.circuits.specs.Levels.{IsAcyclic, IsFirstLooped, IsOrderOf}
 use Rattle.circuits.specs.Expansion.{gates_in}
-use Rattle.net_core.specs.declared.named.NetFault.{NetFault}
+use Rattle.net_file.specs.declared.fault.NetFault.{NetFault}
 use Rattle.blif_reader.specs.Blif.{blif_lines, IsBlifFault}
 use Rattle.blif_reader.proofs.SurveyLemmas.{fault_told}
 use Rattle.blif_reader.proofs.BlifLemmas.{same_circuit, closed_made, signals_made, outputs_made, gates_made, place_there, cycle_found, gates_found}

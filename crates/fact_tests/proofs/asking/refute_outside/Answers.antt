@@ -16,7 +16,7 @@ returns-in-Ok-clause-log c =
     let claim = c.args.claim.now in
     let line_with : List Gate → LogLine = λ (gs : List Gate). record { clause = []; hints = (1 + 6 * length gs) ∷ (1 + 6 * length gs + 1) ∷ [] } in
     let line_is : c.in_ok-line.line ≡ closing_line graphs claim = c.in_ok-line.ensures ∙ ap line_with (c.gates.ensures.value ∙ ap (λ (n : Net). n.gates) c.side.ensures) in
-    let closed = outside_closed graphs claim c.inputs-first.ensures.graph c.inputs-second.ensures.graph c.requires.placed c.requires.outside in
+    let closed = outside_closed graphs claim c.first-first.ensures.sound c.second-second.ensures.sound c.requires.placed c.requires.outside in
     subst (IsRefutation (formula_of graphs (claim_query graphs claim))) (sym (c.in_ok-log-in-Ok.ensures ∙ ap (λ l. l ∷ []) line_is)) closed.refuted
 
 pub returns-in-Ok-clause-asked : goal.returns-in-Ok-clause-asked
@@ -25,7 +25,7 @@ returns-in-Ok-clause-asked c =
     let claim = c.args.claim.now in
     let line_with : List Gate → LogLine = λ (gs : List Gate). record { clause = []; hints = (1 + 6 * length gs) ∷ (1 + 6 * length gs + 1) ∷ [] } in
     let line_is : c.in_ok-line.line ≡ closing_line graphs claim = c.in_ok-line.ensures ∙ ap line_with (c.gates.ensures.value ∙ ap (λ (n : Net). n.gates) c.side.ensures) in
-    let closed = outside_closed graphs claim c.inputs-first.ensures.graph c.inputs-second.ensures.graph c.requires.placed c.requires.outside in
+    let closed = outside_closed graphs claim c.first-first.ensures.sound c.second-second.ensures.sound c.requires.placed c.requires.outside in
     closed_asked graphs claim c.in_ok-query.query c.in_ok-line.line c.args.ledger.now c.open.new.self c.charge.new.self closed c.in_ok-query.ensures.query line_is c.in_ok-open.ensures.opened (ap (λ (l : Ledgered). l.asked) c.in-Ok.ensures.charged) (ap (λ (l : Ledgered). l.budget) c.in-Ok.ensures.charged)
 
 pub returns-clause-stop : goal.returns-clause-stop
@@ -34,5 +34,5 @@ returns-clause-stop c =
     let claim = c.args.claim.now in
     let line_with : List Gate → LogLine = λ (gs : List Gate). record { clause = []; hints = (1 + 6 * length gs) ∷ (1 + 6 * length gs + 1) ∷ [] } in
     let line_is : c.in_ok-line.line ≡ closing_line graphs claim = c.in_ok-line.ensures ∙ ap line_with (c.gates.ensures.value ∙ ap (λ (n : Net). n.gates) c.side.ensures) in
-    let closed = outside_closed graphs claim c.inputs-first.ensures.graph c.inputs-second.ensures.graph c.requires.placed c.requires.outside in
+    let closed = outside_closed graphs claim c.first-first.ensures.sound c.second-second.ensures.sound c.requires.placed c.requires.outside in
     closed_halted graphs claim c.in_ok-query.query c.in_ok-line.line c.args.ledger.now c.open.new.self c.charge.new.self c.in-Err.stop closed c.in_ok-query.ensures.query line_is c.in_ok-open.ensures.opened c.in-Err.ensures.refused

@@ -1,6 +1,7 @@
 -- One input more is decided.
-use Rattle.std.proofs.Common.{arith}
+use Rattle.std.proofs.Common.{arith, ap, ◌∙◌}
 use Rattle.std.proofs.lemmas.Result.{err_from_is_err_and}
+use Rattle.circuits.specs.Netlists.{Net}
 use Rattle.fact_tests.specs.Outputs.{function_at, inputs_in}
 use Rattle.fact_tests.proofs.RowLemmas.{support_step}
 use Rattle.fact_tests.proofs.Serving.{served_one, served_then, serves_err}
@@ -16,5 +17,5 @@ loop-input-preserved g c =
     let graphs = c.args.output.now.graphs.now in (
       served_then _ _ _ _ _ _ c.loop-input.invariant.0 (served_one _ _ _ _ _ c.in_ok-unate.ensures.serves),
       support_step (inputs_in graphs) (function_at graphs c.args.output.now.number) c.loop-input.input c.loop-input.entries c.note.new.entries c.in_ok-unate.unate
-          c.loop-input.invariant.1 (omega (arith, c.loop-input-test.true, c.inputs-inputs.ensures.value)) c.in_ok-unate.ensures.unate c.in_ok-note.ensures,
+          c.loop-input.invariant.1 (omega (arith, c.loop-input-test.true, c.inputs-inputs.ensures.value ∙ ap (λ (net : Net). net.inputs) c.first.ensures.value)) c.in_ok-unate.ensures.unate c.in_ok-note.ensures,
     )

@@ -9,21 +9,29 @@ use Rattle.learn_solver.proofs.solver.solve.Goals as goal
 
 pub returns-in_err-verdict-clause-stop : goal.returns-in_err-verdict-clause-stop
 returns-in_err-verdict-clause-stop g c =
-    let l = c.loop-trail in
+    let charging = g.L.Charge.charging in
+    let l = c.loop-search in
+    let first = charging c.args.ledger.now in
+    let after = charging c.advance.new.ledger in
     let stop = c.in_err-verdict.field-0.0 in
-    passed_on c.from_residual-in_err-verdict.result stop (IsStopped c.args.solver.now c.advance.new.self c.args.ledger.now c.advance.new.ledger) c.from_residual-in_err-verdict.ensures.1 (stopped_after c.args.solver.now l.solver c.advance.new.self c.args.ledger.now l.ledger c.advance.new.ledger stop c.requires.asking l.invariant.extended c.in_err-verdict.ensures.stop)
+    passed_on c.from_residual-in_err-verdict.result stop (IsStopped c.args.solver.now c.advance.new.self first after) c.from_residual-in_err-verdict.ensures.1 (stopped_after c.args.solver.now l.solver c.advance.new.self first (charging l.ledger) after stop l.invariant.extended c.in_err-verdict.ensures.stop)
 
-pub returns-in-Some-clause-lines : goal.returns-in-Some-clause-lines
-returns-in-Some-clause-lines g c =
-    let l = c.loop-trail in
-    extended_twice c.args.solver.now l.solver c.advance.new.self c.args.ledger.now l.ledger c.advance.new.ledger c.requires.asking l.invariant.extended c.in_ok-verdict.ensures.extended
+pub returns-in-Some-2-clause-lines : goal.returns-in-Some-2-clause-lines
+returns-in-Some-2-clause-lines g c =
+    let charging = g.L.Charge.charging in
+    let l = c.loop-search in
+    extended_twice c.args.solver.now l.solver c.advance.new.self (charging c.args.ledger.now) (charging l.ledger) (charging c.advance.new.ledger) l.invariant.extended c.in_ok-verdict.ensures.extended
 
-pub loop-trail-preserved : goal.loop-trail-preserved
-loop-trail-preserved g c =
-    let l = c.loop-trail in
-    let on = subst (λ (a : Option Verdict). MatchOption a (IsAdvanced c.advance.new.self l.ledger c.advance.new.ledger l.trail c.advance.new.trail) (IsVerdict c.advance.new.self)) c.in_default.is c.in_ok-verdict.ensures.answer in
+pub loop-search-preserved : goal.loop-search-preserved
+loop-search-preserved g c =
+    let charging = g.L.Charge.charging in
+    let l = c.loop-search in
+    let now = charging l.ledger in
+    let after = charging c.advance.new.ledger in
+    let new = c.advance.new.search in
+    let on = subst (λ (a : Option Verdict). MatchOption a (IsAdvanced c.advance.new.self now after l.search.trail new.trail new.watches new.occurring.items new.marks.items) (IsVerdict c.advance.new.self)) c.in_default-2.is c.in_ok-verdict.ensures.answer in
     record {
-      searching = on.searching;
-      extended = extended_twice c.args.solver.now l.solver c.advance.new.self c.args.ledger.now l.ledger c.advance.new.ledger c.requires.asking l.invariant.extended c.in_ok-verdict.ensures.extended;
+      running = on.running;
+      extended = extended_twice c.args.solver.now l.solver c.advance.new.self (charging c.args.ledger.now) now after l.invariant.extended c.in_ok-verdict.ensures.extended;
       asking = c.in_ok-verdict.ensures.asking;
     }

@@ -2,8 +2,8 @@ use Rattle.learn_solver.specs.Searches.{remaining}
 use Rattle.learn_solver.proofs.AdvanceLemmas.{IsUnderWay}
 use Rattle.learn_solver.proofs.solver.solve.Given as goal
 
-abbrev pub invariant-loop-trail : goal.invariant-loop-trail
-invariant-loop-trail g l = IsUnderWay l.fn.solver l.solver l.fn.ledger l.ledger l.trail
+abbrev pub invariant-loop-search : goal.invariant-loop-search
+invariant-loop-search g l = IsUnderWay l.fn.solver l.solver (g.L.Charge.charging l.fn.ledger) (g.L.Charge.charging l.ledger) l.search
 
-abbrev pub decreases-loop-trail : goal.decreases-loop-trail
-decreases-loop-trail g l = remaining l.ledger l.trail
+abbrev pub decreases-loop-search : goal.decreases-loop-search
+decreases-loop-search g l = remaining (g.L.Charge.charging l.ledger) l.search.trail

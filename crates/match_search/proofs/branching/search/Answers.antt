@@ -1,13 +1,15 @@
 use Rattle.std.proofs.Common.{◌∙◌, sym, subst, refl}
 use Rattle.std.proofs.lemmas.Result.{err_from_is_err_and}
-use Rattle.net_core.specs.declared.graphs.Graphs.{Graphs}
-use Rattle.account_core.specs.Oracles.{AreFacts}
+use Rattle.net_core.specs.Sides.{Graphs}
+use Rattle.account_core.specs.Facts.{AreFacts}
 use Rattle.match_search.proofs.SearchLemmas.{searching_start}
-use Rattle.match_search.proofs.ServeLemmas.{served_one, served_then, serves_ok, serves_err}
+use Rattle.match_search.proofs.ServeLemmas.{served_one, served_same, served_then, serves_ok, serves_err}
 use Rattle.match_search.proofs.branching.search.Goals as goal
 
 pub loop-state-init : goal.loop-state-init
-loop-state-init g c = searching_start c.args.graphs.now (g.O.Oracle.known c.args.oracle.now) (g.O.Oracle.known c.compare_guesses.new.oracle) c.args.ledger.now c.compare_guesses.new.ledger c.args.book.now c.new-state.result c.compare_guesses.new.trials (served_one _ _ _ _ _ c.in_ok-table.ensures.serves) c.requires.book c.new-state.ensures c.in_ok-table.ensures.trials
+loop-state-init g c =
+    let known = g.O.Oracle.known c.args.oracle.now in
+    searching_start c.args.graphs.now known known c.args.ledger.now c.args.ledger.now c.args.book.now c.new-state.result c.in_ok-guide.guide.trials (served_same known c.args.ledger.now c.facts-facts.ensures.lawful c.requires.suits) c.requires.book c.new-state.ensures c.in_ok-guide.ensures
 
 pub turn-requires-clause-graphs : goal.turn-requires-clause-graphs
 turn-requires-clause-graphs g c = c.requires.graphs ∙ sym c.loop-state.invariant.served.grows.graphs
@@ -20,14 +22,14 @@ returns-in_err-found-clause-serves g c =
     let p = err_from_is_err_and c.from_residual-in_err-found.result c.from_residual-in_err-found.ensures.1 in
     serves_err _ _ _ _ _ _ _ c.in_err-found.field-0.0 (cc (p.1, p.2)) c.loop-state.invariant.served c.in_err-found.ensures.serves
 
-pub returns-in-Some-2-clause-serves : goal.returns-in-Some-2-clause-serves
-returns-in-Some-2-clause-serves g c =
+pub returns-in-Some-clause-serves : goal.returns-in-Some-clause-serves
+returns-in-Some-clause-serves g c =
     serves_ok _ _ _ _ _ _ refl (served_then _ _ _ _ _ _ c.loop-state.invariant.served (served_one _ _ _ _ _ c.in_ok-found.ensures.serves))
 
 pub loop-state-preserved : goal.loop-state-preserved
 loop-state-preserved g c = record {
   served = served_then _ _ _ _ _ _ c.loop-state.invariant.served (served_one _ _ _ _ _ c.in_ok-found.ensures.serves);
   valid = c.in_ok-found.ensures.valid;
-  search = rw c.in_default-2.is at c.in_ok-found.ensures.search;
+  search = rw c.in_default.is at c.in_ok-found.ensures.search;
   trials = c.in_ok-found.ensures.trials;
 }

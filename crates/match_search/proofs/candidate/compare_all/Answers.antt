@@ -1,7 +1,8 @@
 use Rattle.std.proofs.Common.{◌∙◌, ◌<◌, length, sym, subst, ap, refl, arith}
 use Rattle.std.proofs.lemmas.Result.{err_from_is_err_and}
 use Rattle.circuits.specs.Matches.{HavePorts}
-use Rattle.net_core.specs.declared.graphs.Graphs.{Graphs}
+use Rattle.circuits.specs.Netlists.{Net}
+use Rattle.net_core.specs.Sides.{Graphs}
 use Rattle.match_search.specs.Founds.{IsComparison}
 use Rattle.match_search.proofs.CompareLemmas.{comparing_start, logs_more}
 use Rattle.match_search.proofs.ServeLemmas.{served_one, served_then, serves_ok, serves_err}
@@ -17,7 +18,7 @@ compare_one-requires-clause-ports g c =
 
 pub compare_one-requires-clause-output : goal.compare_one-requires-clause-output
 compare_one-requires-clause-output g c =
-    subst (λ (gr : Graphs). c.loop-output.output < length gr.first.outputs) (c.requires.graphs ∙ sym c.loop-output.invariant.served.grows.graphs) (omega (arith, c.loop-output-test.true, ap length c.outputs.ensures.value))
+    subst (λ (gr : Graphs). c.loop-output.output < length gr.first.outputs) (c.requires.graphs ∙ sym c.loop-output.invariant.served.grows.graphs) (omega (arith, c.loop-output-test.true, ap length c.outputs.ensures.value, ap (λ (net : Net). length net.outputs) c.first.ensures.value))
 
 pub compare_one-requires-clause-suits : goal.compare_one-requires-clause-suits
 compare_one-requires-clause-suits g c = c.loop-output.invariant.served.suits

@@ -22,7 +22,7 @@ returns-in-None-clause-valid g c = valid_grows _ _ c.args.graphs.now c.args.book
 
 pub returns-in-None-clause-ahead : goal.returns-in-None-clause-ahead
 returns-in-None-clause-ahead g c =
-    shown_match c.args.graphs.now c.in_ok-matching.matching c.compare_all.new.logs c.inputs-first.ensures.graph c.inputs-second.ensures.graph c.in_ok-matching.ensures.ports (rw c.in-None.is at c.in_ok-compare_all.ensures.same)
+    shown_match c.args.graphs.now c.in_ok-matching.matching c.compare_all.new.logs c.first-first.ensures.sound c.second-second.ensures.sound c.in_ok-matching.ensures.ports (rw c.in-None.is at c.in_ok-compare_all.ensures.same)
 
 pub returns-in_ok-ban-in-Some-clause-valid : goal.returns-in_ok-ban-in-Some-clause-valid
 returns-in_ok-ban-in-Some-clause-valid g c =

@@ -5,4 +5,4 @@ use Rattle.match_search.proofs.guessed.compare_guess.Goals as goal
 pub returns-in-None-clause-guessed : goal.returns-in-None-clause-guessed
 returns-in-None-clause-guessed g c =
     let ports = rw c.in-Some.is at c.in_ok-table.ensures in
-    shown_match c.args.graphs.now c.in-Some.table c.compare_all.new.logs c.inputs-first.ensures.graph c.inputs-second.ensures.graph ports (rw c.in-None.is at c.in_ok-compare_all.ensures.same)
+    shown_match c.args.graphs.now c.in-Some.table c.compare_all.new.logs c.first-first.ensures.sound c.second-second.ensures.sound ports (rw c.in-None.is at c.in_ok-compare_all.ensures.same)

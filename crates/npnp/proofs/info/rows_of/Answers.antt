@@ -1,26 +1,21 @@
 -- The book knows nothing and the ledger is new: rows are right, or the budget was spent.
 use Rattle.std.proofs.Common.{subst, IfErr}
 use Rattle.std.proofs.lemmas.Result.{err_from_is_err_and}
-use Rattle.account_core.specs.Oracles.{IsStopped}
+use Rattle.oracle_core.specs.Oracles.{IsStopped}
 use Rattle.npnp.specs.Info.{with_itself}
 use Rattle.npnp.proofs.InfoLemmas.{memory_stops, spent_is, suits_first}
 use Rattle.npnp.proofs.info.rows_of.Goals as goal
 
-pub returns-in_err-graphs-clause-spent : goal.returns-in_err-graphs-clause-spent
-returns-in_err-graphs-clause-spent c =
+pub returns-in_err-book-clause-spent : goal.returns-in_err-book-clause-spent
+returns-in_err-book-clause-spent c =
     let p = err_from_is_err_and c.from_residual.result c.from_residual.ensures.1 in
     memory_stops _ c.from_residual.result (cc (p.1, p.2))
 
-pub returns-in_err-book-clause-spent : goal.returns-in_err-book-clause-spent
-returns-in_err-book-clause-spent c =
-    let p = err_from_is_err_and c.from_residual-in_err-book.result c.from_residual-in_err-book.ensures.1 in
-    memory_stops _ c.from_residual-in_err-book.result (cc (p.1, p.2))
-
 pub info-requires-clause-suits : goal.info-requires-clause-suits
 info-requires-clause-suits c =
-    suits_first c.in_ok-graphs.graphs c.in_ok-book.book c.args.ledger.now c.args.ledger.now.budget c.in_ok-book.ensures.empty c.requires
+    suits_first c.new-graphs.result c.in_ok-book.book c.args.ledger.now c.args.ledger.now.budget c.in_ok-book.ensures.empty c.requires
 
 pub returns-clause-spent : goal.returns-clause-spent
 returns-clause-spent c = λ learned is.
-    spent_is (with_itself c.args.named.now.graph) c.in_ok-graphs.graphs c.in_ok-book.book c.args.ledger.now c.info.new.ledger c.args.ledger.now.budget learned c.in_ok-graphs.ensures c.in_ok-book.ensures.empty c.requires
+    spent_is (with_itself c.args.named.now.graph) c.new-graphs.result c.in_ok-book.book c.args.ledger.now c.info.new.ledger c.args.ledger.now.budget learned c.new-graphs.ensures c.in_ok-book.ensures.empty c.requires
     (subst (λ result. IfErr result (IsStopped c.in_ok-book.book c.args.ledger.now c.info.new.ledger)) is c.info.ensures.serves.stopped)

@@ -1,6 +1,7 @@
 -- What the search came to is a match, or a ban without pairs.
 use Rattle.std.proofs.Common.{sym, subst}
-use Rattle.match_search.specs.Founds.{IsFound, IsShownMatch}
+use Rattle.account_core.specs.Shown.{IsShownMatch}
+use Rattle.match_search.specs.Founds.{IsFound}
 use Rattle.npnp.proofs.matching.answered.Goals as goal
 
 pub matched-requires : goal.matched-requires

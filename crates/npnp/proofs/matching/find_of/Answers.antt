@@ -6,22 +6,17 @@ use Rattle.npnp.specs.declared.outcome.Outcome.TheVariants.{Memory}
 use Rattle.npnp.proofs.FindLemmas.{not_solved, solved, table_of_answer}
 use Rattle.npnp.proofs.matching.find_of.Goals as goal
 
-pub returns-in_err-graphs : goal.returns-in_err-graphs
-returns-in_err-graphs g c =
-    let p = err_from_is_err_and c.from_residual.result c.from_residual.ensures.1 in
-    not_solved _ _ _ _ _ _ Memory _ (cc (p.1, p.2)) (inr refl)
-
 pub returns-in_err-solved : goal.returns-in_err-solved
 returns-in_err-solved g c =
-    let p = err_from_is_err_and c.from_residual-in_err-solved.result c.from_residual-in_err-solved.ensures.1 in
+    let p = err_from_is_err_and c.from_residual.result c.from_residual.ensures.1 in
     let o = c.in_err-solved.field-0.0 in
     not_solved _ c.args.first.now c.args.second.now _ c.args.asked.now.budget _ o _ (cc (p.1, p.2))
-    (subst (λ graphs. IsStopWithin graphs c.args.asked.now.budget o) c.in_ok-graphs.ensures c.in_err-solved.ensures.stopped)
+    (subst (λ graphs. IsStopWithin graphs c.args.asked.now.budget o) c.new-graphs.ensures c.in_err-solved.ensures.stopped)
 
 pub report_named-requires : goal.report_named-requires
 report_named-requires g c =
     table_of_answer (graphs_of c.args.first.now c.args.second.now) (c.in_ok-solved.solved.account.items ++ last_line) c.in_ok-solved.solved.outcome
-    (subst (λ graphs. IsAnswered graphs (c.in_ok-solved.solved.account.items ++ last_line) c.in_ok-solved.solved.outcome) c.in_ok-graphs.ensures c.in_ok-solved.ensures.answer)
+    (subst (λ graphs. IsAnswered graphs (c.in_ok-solved.solved.account.items ++ last_line) c.in_ok-solved.solved.outcome) c.new-graphs.ensures c.in_ok-solved.ensures.answer)
 
 pub returns-in_err-report : goal.returns-in_err-report
 returns-in_err-report g c =
@@ -35,5 +30,5 @@ returns g c =
     let outcome = c.in_ok-solved.solved.outcome in
     solved _ first second _ (c.deref.result.now ++ last_line) _ _ _ _ _
     (subst (λ lines. IsAnswered (graphs_of first second) (lines ++ last_line) outcome) (sym c.deref.ensures.value)
-    (subst (λ graphs. IsAnswered graphs (c.in_ok-solved.solved.account.items ++ last_line) outcome) c.in_ok-graphs.ensures c.in_ok-solved.ensures.answer))
+    (subst (λ graphs. IsAnswered graphs (c.in_ok-solved.solved.account.items ++ last_line) outcome) c.new-graphs.ensures c.in_ok-solved.ensures.answer))
     c.in_ok-report.ensures c.conclude.ensures

@@ -1,7 +1,7 @@
 -- The book knows nothing and the ledger is new: the search came to an answer, or the budget was spent.
 use Rattle.std.proofs.Common.{ap, refl, sym, subst}
 use Rattle.std.proofs.lemmas.Result.{err_from_is_err_and}
-use Rattle.account_core.specs.Oracles.{IsStopped, Known}
+use Rattle.oracle_core.specs.Oracles.{IsStopped, Known}
 use Rattle.match_search.specs.Founds.{IsFound}
 use Rattle.npnp.proofs.FindLemmas.{bans_for, facts_for}
 use Rattle.npnp.proofs.InfoLemmas.{memory_stops, spent_is, spent_says, suits_first}
@@ -12,23 +12,23 @@ returns-in_err-book-clause-spent c =
     let p = err_from_is_err_and c.from_residual.result c.from_residual.ensures.1 in
     memory_stops _ c.from_residual.result (cc (p.1, p.2))
 
-pub search-requires-clause-graphs : goal.search-requires-clause-graphs
-search-requires-clause-graphs c = sym (ap (λ (known : Known). known.graphs) c.in_ok-book.ensures.empty)
+pub decide-requires-clause-graphs : goal.decide-requires-clause-graphs
+decide-requires-clause-graphs c = sym (ap (λ (known : Known). known.graphs) c.in_ok-book.ensures.empty)
 
-pub search-requires-clause-suits : goal.search-requires-clause-suits
-search-requires-clause-suits c = suits_first c.args.graphs.now c.in_ok-book.book c.args.ledger.now c.args.ledger.now.budget c.in_ok-book.ensures.empty c.requires.new
+pub decide-requires-clause-suits : goal.decide-requires-clause-suits
+decide-requires-clause-suits c = suits_first c.args.graphs.now c.in_ok-book.book c.args.ledger.now c.args.ledger.now.budget c.in_ok-book.ensures.empty c.requires.new
 
 pub returns-in_err-found-clause-spent : goal.returns-in_err-found-clause-spent
 returns-in_err-found-clause-spent c = λ learned is.
     let p = err_from_is_err_and c.from_residual-in_err-found.result c.from_residual-in_err-found.ensures.1 in
-    spent_is c.args.graphs.now c.args.graphs.now c.in_ok-book.book c.args.ledger.now c.search.new.ledger c.args.ledger.now.budget learned refl c.in_ok-book.ensures.empty c.requires.new
-    (spent_says (IsStopped c.in_ok-book.book c.args.ledger.now c.search.new.ledger) learned c.in_err-found.ensures.serves.stopped (cc (p.1, p.2, is)))
+    spent_is c.args.graphs.now c.args.graphs.now c.in_ok-book.book c.args.ledger.now c.decide.new.ledger c.args.ledger.now.budget learned refl c.in_ok-book.ensures.empty c.requires.new
+    (spent_says (IsStopped c.in_ok-book.book c.args.ledger.now c.decide.new.ledger) learned c.in_err-found.ensures.serves.stopped (cc (p.1, p.2, is)))
 
 pub answered-requires-clause-facts : goal.answered-requires-clause-facts
-answered-requires-clause-facts c = facts_for _ c.search.new.oracle c.in_ok-book.book _ c.search.ensures.serves.grows.graphs (sym (ap (λ (known : Known). known.graphs) c.in_ok-book.ensures.empty)) c.facts.ensures.value c.facts.ensures.lawful
+answered-requires-clause-facts c = facts_for _ c.decide.new.oracle c.in_ok-book.book _ c.decide.ensures.serves.grows.graphs (sym (ap (λ (known : Known). known.graphs) c.in_ok-book.ensures.empty)) c.facts.ensures.value c.facts.ensures.lawful
 
 pub answered-requires-clause-bans : goal.answered-requires-clause-bans
-answered-requires-clause-bans c = bans_for c.args.graphs.now c.search.new.oracle.facts c.facts.result.now c.search.new.book c.bans-2.result.now c.facts.ensures.value c.bans-2.ensures c.search.ensures.bans
+answered-requires-clause-bans c = bans_for c.args.graphs.now c.decide.new.oracle.facts c.facts.result.now c.decide.new.book c.bans-2.result.now c.facts.ensures.value c.bans-2.ensures c.decide.ensures.bans
 
 pub answered-requires-clause-found : goal.answered-requires-clause-found
 answered-requires-clause-found c = subst (λ bans. IsFound c.args.graphs.now bans c.in_ok-found.found) (sym c.bans-2.ensures) c.in_ok-found.ensures.found

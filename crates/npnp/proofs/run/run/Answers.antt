@@ -1,6 +1,6 @@
 -- What is told is what was answered.
-use Rattle.std.proofs.Common.{inl, inr, refl, sym, subst, ◌∙◌}
-use Rattle.npnp.specs.Outcomes.{IsRight, IsTold, Leaves}
+use Rattle.std.proofs.Common.{inl, inr, ℕ, List, Option, refl, sym, subst, ◌∙◌}
+use Rattle.npnp.specs.Outcomes.{IsRight, IsSound, IsTold, Leaves}
 use Rattle.npnp.specs.Report.{line_of}
 use Rattle.npnp.specs.declared.outcome.Outcome.TheVariants.{AcceptedMatch, AcceptedRefusal, Rejected, Absent, TooLarge, Malformed, Memory}
 use Rattle.npnp.proofs.MatchLemmas.{kept, may_be_cut}
@@ -85,12 +85,16 @@ returns-clause-report g c = λ tells told.
       | inr report ↦ (c.answer-ending.result.report.items, report_of_same _ _ _ _ _ _ same report, c.tell.ensures.report tells told)
     ]
 
+-- where memory is refused nothing is accepted
+sound_memory : {held : List ℕ → Option (List ℕ)} {words : List (List ℕ)} → IsSound held words Memory
+sound_memory {held} {words} = record { matches = λ table e. cc; refuses = λ e. cc }
+
 pub returns-clause-part : goal.returns-clause-part
 returns-clause-part g c = λ tells told.
     elim (c.tell.ensures.part told) [
       | inl (room, part) ↦ elim c.answer-ending.ensures.report [
         | inl memory ↦ absurd (room memory)
-        | inr report ↦ (c.answer-ending.result.outcome, c.answer-ending.result.report.items, c.answer-ending.ensures.right tells, report, part)
+        | inr report ↦ (c.answer-ending.result.outcome, c.answer-ending.result.report.items, c.answer-ending.ensures.right tells, c.answer-ending.ensures.sound tells, report, part)
       ]
-      | inr part ↦ (Memory, line_of Memory, tt, inl (record { no_table = λ table e. elim e [ inl e ↦ cc | inr e ↦ cc ]; no_rows = λ e. cc }, refl), part)
+      | inr part ↦ (Memory, line_of Memory, tt, sound_memory, inl (record { no_table = λ table e. elim e [ inl e ↦ cc | inr e ↦ cc ]; no_rows = λ e. cc }, refl), part)
     ]

@@ -1,4 +1,4 @@
--- The piece stands behind what was written, or a first part of it.
+-- The piece stands after what was written, or a first part of it.
 use Rattle.std.proofs.lemmas.Result.{err_from_is_err_and}
 use Rattle.npnp.proofs.WritingLemmas.{filled_on, not_filled_on}
 use Rattle.npnp.proofs.writing.append_next.Goals as goal

@@ -1,4 +1,4 @@
--- The lines were written, and the last one behind them.
+-- The lines were written, and the last one after them.
 use Rattle.std.proofs.lemmas.Result.{err_from_is_err_and}
 use Rattle.npnp.proofs.WritingLemmas.{filled, not_filled}
 use Rattle.npnp.proofs.writing.fill.Goals as goal

@@ -1,6 +1,7 @@
 -- The query of a match fits the two circuits.
 use Rattle.std.proofs.Common.{◌≡◌, ℕ, Bool, All, length, refl, sym, ap, subst, ◌∙◌, arith}
 use Rattle.query_core.specs.Queries.{IsWired}
+use Rattle.circuits.specs.Netlists.{Net}
 use Rattle.circuits.specs.Bijections.{IsSignedBijection}
 use Rattle.query_core.specs.MatchQueries.{straight as evenly, IsMovedFeed}
 use Rattle.query_core.proofs.MatchLemmas.{moved_is, straight_count, straight_wired}
@@ -10,7 +11,7 @@ pub returns-clause-fits : goal.returns-clause-fits
 returns-clause-fits c =
     let ports = c.requires.ports in
     let first = c.args.graphs.now.first in
-    let n = c.inputs-inputs.ensures.value in
+    let n = c.inputs-inputs.ensures.value ∙ ap (λ (net : Net). net.inputs) c.first.ensures.value in
     let straight = c.straight.ensures in
     let entries : length c.deref.result.now ≡ first.inputs = ap length c.deref.ensures.value ∙ ports.inputs.entries in
     let shape = subst (λ m. IsSignedBijection m c.deref.result.now) (sym entries) (subst (IsSignedBijection first.inputs) (sym c.deref.ensures.value) ports.inputs) in

@@ -8,7 +8,7 @@ use Rattle.sim_signature.proofs.hunting.hunt_rounds.Goals as goal
 
 pub loop-preserved : goal.loop-preserved
 loop-preserved c =
-    let s : Simulated = record { target = c.args.cone.now; row = c.in_ok-row.row.items } in
+    let s : Simulated = record { target = c.args.cone.now; blocks = c.in_ok-blocks.blocks.items } in
     let same : c.in_ok-round.round ≡ s = c.in_ok-round.ensures in
     let said = c.in_ok-left-2.ensures in
     let P : Simulated → Type 0 = λ s. AreBroken s.target.net s.target.output c.loop.sightings.items → AreBroken s.target.net s.target.output c.sight_all.new.sightings.items in

@@ -1,6 +1,7 @@
 use Rattle.std.proofs.Common.{◌≡◌, drop}
 use Rattle.cnf_core.specs.Derivations.{effect_of}
-use Rattle.learn_solver.proofs.WalkLemmas.{effect_with, open_ones}
+use Rattle.watch_lists.proofs.EffectLemmas.{open_ones}
+use Rattle.table_oracle.proofs.LookLemmas.{effect_with}
 use Rattle.table_oracle.proofs.clauses.effect.Given as goal
 
 abbrev pub invariant-loop-literal : goal.invariant-loop-literal

@@ -1,7 +1,10 @@
-use Rattle.std.proofs.Common.{List, subst, sym}
+use Rattle.std.proofs.Common.{List, ap, subst, sym, ◌∙◌}
 use Rattle.cnf_core.specs.declared.log.LogLine.{LogLine}
 use Rattle.cnf_core.specs.Derivations.{IsRefutation}
 use Rattle.query_core.specs.Formulas.{Asking, formula_of}
+use Rattle.query_core.specs.Ledgers.{Ledgered, charging_of}
+use Rattle.query_core.specs.declared.ledger.Asked.{Asked}
+use Rattle.query_core.proofs.ChargingLemmas.{is_opened}
 use Rattle.learn_solver.proofs.StepLemmas.{passed_on}
 use Rattle.ask_core.specs.Answers.{IsStopped}
 use Rattle.ask_core.proofs.AskLemmas.{asked_in, stopped_in}
@@ -15,16 +18,16 @@ returns-in_err-exclude_all-clause-stop c =
     let query = c.args.query.now in
     let base = c.in_ok-new.field-0 in
     let old = c.new-lines.result.items in
-    let of = of_cones graphs query base old c.in_ok-new.ensures c.new-lines.ensures.items c.inputs-first.ensures.graph c.inputs-second.ensures.graph c.requires.fits in
+    let of = of_cones graphs query base old c.in_ok-new.ensures c.new-lines.ensures.items c.first-first.ensures.sound c.second-second.ensures.sound c.requires.fits in
     let stop = c.in_err-exclude_all.field-0.0 in
-    passed_on c.from_residual-in_err-exclude_all.result stop (IsStopped graphs query c.args.ledger.now c.exclude_all.new.ledger) c.from_residual-in_err-exclude_all.ensures.1 (stopped_in graphs query (solving_of base old) (solving_of base c.exclude_all.new.lines.items) c.args.ledger.now c.open.new.self c.exclude_all.new.ledger stop of c.in_ok-open.ensures.opened c.in_err-exclude_all.ensures.stop)
+    passed_on c.from_residual-in_err-exclude_all.result stop (IsStopped graphs query c.args.ledger.now c.exclude_all.new.ledger) c.from_residual-in_err-exclude_all.ensures.1 (stopped_in graphs query (solving_of base old) (solving_of base c.exclude_all.new.lines.items) c.args.ledger.now c.open.new.self c.exclude_all.new.ledger stop of c.in_ok-open.ensures.some c.in_ok-open.ensures.opened c.in_err-exclude_all.ensures.stop)
 
 pub returns-clause-log : goal.returns-clause-log
 returns-clause-log c =
     let base = c.in_ok-new.field-0 in
     let done = c.in_ok-exclude_all.ensures in
     let lines = c.exclude_all.new.lines.items in
-    let is = refuted base c.new-lines.result.items lines c.open.new.self c.exclude_all.new.ledger c.new-lines.ensures.items done.extended done.excluded in
+    let is = refuted base c.new-lines.result.items lines (charging_of c.open.new.self) (charging_of c.exclude_all.new.ledger) c.new-lines.ensures.items done.extended done.excluded in
     subst (λ (ls : List LogLine). IsRefutation (formula_of c.args.graphs.now c.args.query.now) ls) (sym c.from_vec.ensures) (subst (λ (a : Asking). IsRefutation (formula_of a.graphs a.query) lines) c.in_ok-new.ensures is)
 
 pub returns-clause-asked : goal.returns-clause-asked
@@ -33,5 +36,12 @@ returns-clause-asked c =
     let query = c.args.query.now in
     let base = c.in_ok-new.field-0 in
     let old = c.new-lines.result.items in
-    let of = of_cones graphs query base old c.in_ok-new.ensures c.new-lines.ensures.items c.inputs-first.ensures.graph c.inputs-second.ensures.graph c.requires.fits in
-    asked_in graphs query (solving_of base old) (solving_of base c.exclude_all.new.lines.items) c.args.ledger.now c.open.new.self c.exclude_all.new.ledger of c.in_ok-open.ensures.opened c.in_ok-exclude_all.ensures.extended
+    let of = of_cones graphs query base old c.in_ok-new.ensures c.new-lines.ensures.items c.first-first.ensures.sound c.second-second.ensures.sound c.requires.fits in
+    asked_in graphs query (solving_of base old) (solving_of base c.exclude_all.new.lines.items) c.args.ledger.now c.open.new.self c.exclude_all.new.ledger of c.in_ok-open.ensures.some c.in_ok-open.ensures.opened c.in_ok-exclude_all.ensures.extended
+
+pub exclude_all-requires-clause-asking : goal.exclude_all-requires-clause-asking
+exclude_all-requires-clause-asking c = record {
+  opened = is_opened c.open.new.self c.in_ok-open.ensures.some;
+  lines_are = ap (λ (a : Asked). a.lines) c.in_ok-open.ensures.last ∙ sym c.new-lines.ensures.items;
+  not_spent = ap (λ (l : Ledgered). l.spent) c.in_ok-open.ensures.opened ∙ c.requires.unspent;
+}

@@ -1,4 +1,4 @@
--- What stands before and behind a part of a piece.
+-- What stands before and after a part of a piece.
 use Rattle.text_core.proofs.PieceLemmas.{StandsIn-front, StandsIn-past}
 use Rattle.text_core.proofs.laws.pieces_of_text.Goals as goal
 

@@ -1,4 +1,4 @@
--- The first word is cut at the first blank behind it.
+-- The first word is cut at the first blank after it.
 use Rattle.text_core.proofs.WordLemmas.{words-first, words-no_first}
 use Rattle.text_core.proofs.laws.words_from_first_word.Goals as goal
 

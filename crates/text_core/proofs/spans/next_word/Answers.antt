@@ -1,4 +1,4 @@
--- The first word and what stands behind it.
+-- The first word and what stands after it.
 use Rattle.std.proofs.Common.{◌≡◌, length, arith}
 use Rattle.text_core.proofs.WordLemmas.{words-next, words-none}
 use Rattle.text_core.proofs.spans.next_word.Goals as goal

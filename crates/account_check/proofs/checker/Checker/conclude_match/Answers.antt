@@ -1,5 +1,5 @@
 -- A match leads to its logs.
-use Rattle.std.proofs.Common.{◌≡◌, IsSome, sym, subst, ap, ◌∙◌}
+use Rattle.std.proofs.Common.{◌≡◌, IsSome, sym, subst, ap, ◌∙◌, rules}
 use Rattle.account_core.specs.declared.conclusion.Conclusion.TheVariants as conclusion
 use Rattle.account_file.specs.declared.record.Record.TheVariants as entry
 use Rattle.account_file.specs.Order.{place_behind}
@@ -7,8 +7,8 @@ use Rattle.account_check.specs.Accounts.{Account, after}
 use Rattle.account_check.proofs.AfterLemmas.{kept, match_after}
 use Rattle.account_check.proofs.checker.Checker.conclude_match.Goals as goal
 
-pub returns-clause-after : goal.returns-clause-after
-returns-clause-after c =
+pub returns : goal.returns
+returns c =
     let inside = c.self.inside in
     let graphs = inside.graphs.now in
     let pairs = c.args.pairs.now in
@@ -16,4 +16,9 @@ returns-clause-after c =
     let logs = c.in_ok-logs.logs in
     let may = subst (λ (v : Account). IsSome (place_behind v.place x)) (sym c.self.view_is) c.requires in
     let leads = match_after graphs inside.given inside.stage logs c.in_ok-matching.matching pairs may c.in_ok-logs.ensures c.in_ok-matching.ensures.matching c.in_ok-matching.ensures.order in
-    subst (λ (v : Account). kept graphs inside.given c.go_to.new.stage ≡ after v x) c.self.view_is (ap (kept graphs inside.given) c.go_to.ensures ∙ leads)
+    record {
+      refused = λ reject is. cc;
+      taken = search rules;
+      leads = subst (λ (v : Account). kept graphs inside.given c.go_to.new.stage ≡ after v x) c.self.view_is (ap (kept graphs inside.given) c.go_to.ensures ∙ leads);
+      unchanged = search rules;
+    }

@@ -4,8 +4,10 @@ use Rattle.account_check.proofs.checker.Checker.record.Goals as goal
 
 pub returns-clause-refused : goal.returns-clause-refused
 returns-clause-refused c reject memory =
-    (c.take.ensures.refused reject, refused_exactly c.args.self.now c.args.entry.now c.take.result reject c.take.ensures.refused c.take.ensures.taken memory)
+    let takes = c.take.ensures in
+    (takes.refused reject, refused_exactly c.args.self.now c.args.entry.now c.take.result reject takes.refused takes.taken memory)
 
 pub returns-clause-taken : goal.returns-clause-taken
 returns-clause-taken c memory =
-    (taken_told c.args.self.now c.args.entry.now c.take.result c.take.ensures.taken, taken_exactly c.args.self.now c.args.entry.now c.take.result c.take.ensures.refused memory)
+    let takes = c.take.ensures in
+    (taken_told c.args.self.now c.args.entry.now c.take.result takes.taken, taken_exactly c.args.self.now c.args.entry.now c.take.result takes.refused memory)

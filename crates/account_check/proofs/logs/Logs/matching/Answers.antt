@@ -15,4 +15,4 @@ returns-clause-proved c closed_all =
     let closed : inside.closed ≡ c.args.self.now.proof.closed = ap (λ (v : MatchLogs). v.proof.closed) c.self.view_is in
     let all : c.args.self.now.proof.closed ≡ log_count inside.matching = closed_all ∙ ap (λ (v : MatchLogs). log_count v.proof.matching) (sym c.self.view_is) in
     let refuted = subst (AreRefuted graphs inside.matching) (closed ∙ all) kept.refuted in
-    subst (λ g. IsMatchOfFunctions g.first g.second inside.matching.inputs inside.matching.outputs) same (proved graphs inside.matching c.inputs-first.ensures.graph c.inputs-second.ensures.graph kept.ports refuted)
+    subst (λ g. IsMatchOfFunctions g.first g.second inside.matching.inputs inside.matching.outputs) same (proved graphs inside.matching c.first-first.ensures.sound c.second-second.ensures.sound kept.ports refuted)

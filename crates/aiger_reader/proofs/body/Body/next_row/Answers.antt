@@ -1,8 +1,8 @@
 -- The next line, or its fault.
 use Rattle.std.proofs.Common.{◌≡◌, ℕ, ◌+◌, ◌*◌, ◌<◌, [], length, sym, subst, ◌∙◌, rules}
 use Rattle.text_core.specs.Lines.{after_line}
-use Rattle.net_core.specs.declared.named.NetFault.{NetFault}
-use Rattle.net_core.specs.declared.named.NetStop.TheVariants as stop
+use Rattle.net_file.specs.declared.fault.NetFault.{NetFault}
+use Rattle.net_file.specs.declared.fault.NetStop.TheVariants as stop
 use Rattle.aiger_reader.specs.Numbers.{header_of}
 use Rattle.aiger_reader.specs.Bodies.{line_offset}
 use Rattle.aiger_reader.specs.Reading.{rows_of, next_line_of, IsNextFault, IsRowOn, IsRowRead, IsStop}

@@ -1,4 +1,4 @@
--- So many lines of the role are read.
+-- That many lines of the role are read.
 use Rattle.std.proofs.Common.{[]}
 use Rattle.aiger_reader.specs.Numbers.{header_of}
 use Rattle.aiger_reader.specs.Reading.{rows_of, input_lines_of, IsReading, HasCounts}

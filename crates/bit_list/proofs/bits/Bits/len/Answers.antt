@@ -1,4 +1,4 @@
--- So many bits were taken.
+-- That many bits were taken.
 use Rattle.std.proofs.Common.{length, sym, ap, ◌∙◌}
 use Rattle.bit_list.proofs.Words.{length-bits_of}
 use Rattle.bit_list.proofs.bits.Bits.len.Goals as goal

@@ -1,4 +1,4 @@
--- The bit stands behind the others.
+-- The bit stands after the others.
 use Rattle.std.proofs.Common.{ℕ, ◌+◌, ◌<◌, ◌≡◌, ◌≢◌, ◌/◌, ◌%◌, ◌∷◌, [], ◌++◌, get_or, ap, ◌∙◌, arith}
 use Rattle.std.proofs.lemmas.List.{get_or_read}
 use Rattle.bit_list.specs.Packing.{word_bit, packed_bit, bits_of}

@@ -1,6 +1,7 @@
 use Rattle.std.proofs.Common.{Err, Ok, sym, subst, All}
-use Rattle.net_core.specs.declared.graphs.Graphs.{Graphs}
-use Rattle.account_core.specs.Oracles.{AreFacts, Claims}
+use Rattle.net_core.specs.Sides.{Graphs}
+use Rattle.account_core.specs.Facts.{AreFacts}
+use Rattle.oracle_core.specs.Oracles.{Claims}
 use Rattle.fact_tests.specs.Books.{IsKept, known_by}
 use Rattle.fact_tests.proofs.BookLemmas.{claim_lawful, claims_ok, claims_refused, claims_stopped}
 use Rattle.fact_tests.proofs.book.Book.add_fact.Goals as goal

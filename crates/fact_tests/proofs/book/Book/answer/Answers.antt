@@ -1,7 +1,7 @@
 use Rattle.std.proofs.Common.{sym, subst, ap, ◌∙◌}
-use Rattle.net_core.specs.declared.graphs.Graphs.{Graphs}
-use Rattle.account_core.specs.Oracles.{Known, IsAnswered}
-use Rattle.account_core.specs.Work.{IsOfMatch}
+use Rattle.net_core.specs.Sides.{Graphs}
+use Rattle.oracle_core.specs.Oracles.{Known, IsAnswered}
+use Rattle.oracle_core.specs.Work.{IsOfMatch}
 use Rattle.query_core.specs.declared.query.Query.{Query}
 use Rattle.query_core.specs.MatchQueries.{match_query}
 use Rattle.fact_tests.proofs.BookLemmas.{unanswered_match}

@@ -1,9 +1,9 @@
 use Rattle.std.proofs.Common.{sym, subst, ◌∙◌, false}
 use Rattle.ask_core.specs.declared.question.Answer.{Answer}
 use Rattle.ask_core.specs.Answers.{IsAnswer}
-use Rattle.account_core.specs.declared.oracle.Compared.{Compared}
-use Rattle.account_core.specs.declared.oracle.Compared.TheVariants.{Differs}
-use Rattle.account_core.specs.Oracles.{IsDifference}
+use Rattle.oracle_core.specs.declared.oracle.Compared.{Compared}
+use Rattle.oracle_core.specs.declared.oracle.Compared.TheVariants.{Differs}
+use Rattle.oracle_core.specs.Oracles.{IsDifference}
 use Rattle.query_core.specs.MatchQueries.{match_query}
 use Rattle.fact_tests.proofs.BookLemmas.{serves_ok}
 use Rattle.fact_tests.proofs.MatchBits.{met_difference}

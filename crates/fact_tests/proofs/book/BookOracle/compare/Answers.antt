@@ -1,11 +1,11 @@
 use Rattle.std.proofs.Common.{sym, subst, ◌∙◌, true}
 use Rattle.std.specs.Result.{IfOk}
-use Rattle.net_core.specs.declared.graphs.Graphs.{Graphs}
+use Rattle.net_core.specs.Sides.{Graphs}
 use Rattle.ask_core.specs.declared.question.Answer.{Answer}
 use Rattle.ask_core.specs.Answers.{IsAnswer}
-use Rattle.account_core.specs.declared.oracle.Compared.{Compared}
-use Rattle.account_core.specs.declared.oracle.Compared.TheVariants.{Differs}
-use Rattle.account_core.specs.Oracles.{IsDifference, IsCompared}
+use Rattle.oracle_core.specs.declared.oracle.Compared.{Compared}
+use Rattle.oracle_core.specs.declared.oracle.Compared.TheVariants.{Differs}
+use Rattle.oracle_core.specs.Oracles.{IsDifference, IsCompared}
 use Rattle.query_core.specs.MatchQueries.{match_query}
 use Rattle.fact_tests.proofs.BookLemmas.{serves_ok, serves_then}
 use Rattle.fact_tests.proofs.MatchBits.{met_difference}

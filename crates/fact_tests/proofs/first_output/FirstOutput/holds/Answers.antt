@@ -4,7 +4,7 @@ use Rattle.std.specs.Bool.{Decides}
 use Rattle.net_core.specs.declared.graphs.Side.TheVariants.{First}
 use Rattle.query_core.specs.declared.claims.Claim.{Claim}
 use Rattle.query_core.specs.Claims.{Holds}
-use Rattle.account_core.specs.Oracles.{AreFacts}
+use Rattle.account_core.specs.Facts.{AreFacts}
 use Rattle.fact_tests.proofs.ClaimFacts.{told}
 use Rattle.fact_tests.proofs.first_output.FirstOutput.holds.Goals as goal
 

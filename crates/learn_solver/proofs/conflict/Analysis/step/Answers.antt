@@ -5,7 +5,7 @@ use Rattle.cnf_core.specs.declared.literal.SatLit.{SatLit}
 use Rattle.cnf_core.specs.Clauses.{clause_at, variable_of}
 use Rattle.trail_core.specs.Trails.{Trailing, entry_at}
 use Rattle.learn_solver.specs.declared.conflict.Analysis.{Analysis}
-use Rattle.learn_solver.specs.Propagations.{IsJustified, before}
+use Rattle.watch_lists.specs.Propagations.{IsJustified, before}
 use Rattle.learn_solver.specs.Analyses.{AreBefore, AreMarked, AreOnTrail, IsAnalysed, IsAnalysis, here_in, is_marked}
 use Rattle.learn_solver.proofs.AnalysisLemmas.{analysed_reason, analysed_unmarked, decision_alone, here_within, places_further, reason_places, top_level}
 use Rattle.learn_solver.proofs.conflict.Analysis.step.Goals as goal

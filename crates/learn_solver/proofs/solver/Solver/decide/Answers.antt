@@ -1,23 +1,19 @@
 -- A model, or one decision more.
-use Rattle.std.proofs.Common.{ℕ, List, All, subst, sym}
-use Rattle.trail_core.specs.Trails.{literals}
-use Rattle.learn_solver.specs.Propagations.{IsQuiet}
-use Rattle.learn_solver.specs.Searches.{IsAssigned, IsSearching}
-use Rattle.learn_solver.specs.Solvers.{IsModel, Solving, active}
-use Rattle.learn_solver.proofs.AdvanceLemmas.{decided}
+use Rattle.std.proofs.Common.{ℕ, List, All, subst}
+use Rattle.learn_solver.specs.Searches.{IsAssigned}
 use Rattle.learn_solver.proofs.ModelLemmas.{model_from}
+use Rattle.learn_solver.proofs.RunLemmas.{decided_on}
 use Rattle.learn_solver.proofs.solver.Solver.decide.Goals as goal
 
 pub returns-in_default : goal.returns-in_default
 returns-in_default g c =
-    let old = c.self.inside in
-    let s : Solving = record { formula = g.B.Base.formula old.base.now; ids = old.ids.items; lines = old.lines.items } in
-    let t = c.args.trail.now in
-    let values = c.in_ok-values.values in
-    let searching = subst (λ (x : Solving). IsSearching x t) (sym c.self.view_is) c.requires.searching in
-    let quiet = subst (λ (x : Solving). IsQuiet (active x.formula x.ids x.lines) (literals t.entries)) (sym c.self.view_is) c.requires.quiet in
-    let assigned = subst (λ (vs : List ℕ). All (IsAssigned t) vs) c.deref.ensures.value c.in_default.ensures.none in
-    subst (λ (x : Solving). IsModel x values) c.self.view_is (model_from s old.clauses.clauses old.occurring.items old.marks.items t values c.self.invariant searching quiet assigned c.in_ok-values.ensures)
+    let s = c.args.self.now in
+    let search = c.args.search.now in
+    let running = c.requires.running in
+    let assigned = subst (λ (vs : List ℕ). All (IsAssigned search.trail) vs) c.deref.ensures.value c.in_default.ensures.none in
+    model_from s search.watches.clauses search.occurring.items search.trail c.in_ok-values.values running.solver running.tools.variables running.searching c.requires.quiet assigned c.in_ok-values.ensures
 
 pub returns : goal.returns
-returns g c = decided c.args.self.now c.args.trail.now c.decide.new.self c.in-Some.literal c.requires.searching c.requires.quiet c.decide.ensures.decided c.decide.ensures.most
+returns g c =
+    let search = c.args.search.now in
+    decided_on c.args.self.now search.trail c.decide.new.self search.watches search.occurring.items search.marks.items c.in-Some.literal c.requires.running c.requires.quiet c.requires.walked c.decide.ensures.decided c.decide.ensures.most

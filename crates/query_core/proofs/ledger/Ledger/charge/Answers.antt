@@ -24,7 +24,7 @@ returns-then-self-clause-refused c =
     let now = written old.asked.items (c.len-last.result - 1) line c.in_ok-copy.copy c.index_mut.result.now c.push_line.new.entry (omega (arith, c.len-last.ensures, old.asked.ok.0)) there c.index_mut.ensures.value c.in_ok-push_line.ensures.pushed c.in_ok-copy.ensures in
     let after : Ledgered = record { budget = old.budget; asked = with_line line old.asked.items; spent = true } in
     let fresh = ap (λ (l : Ledgered). l.spent) c.self.view_is ∙ c.requires.not_spent in
-    let spent : IsSpent before line after old.learned = record { learned_is = c.if-self.true; budget = learned_is before old.learned c.self.invariant ∙ c.if-self.true; counted = learned_is after old.learned (kept_spent before old.learned line c.self.invariant fresh there) ∙ c.if-self.true; refused = refl } in
+    let spent : IsSpent before line after old.learned = record { learned_is = c.if-self.true; budget = learned_is before old.learned c.self.invariant ∙ c.if-self.true; counted = learned_is after old.learned (kept_spent before old.learned line c.self.invariant fresh there) ∙ c.if-self.true; made = omega (arith, (kept_spent before old.learned line c.self.invariant fresh there).counted, c.if-self.true); refused = refl } in
     subst (λ (xs : List Asked). IsSpent c.args.self.now line (record { budget = old.budget; asked = xs; spent = true }) old.learned) (sym now) (subst (λ (l : Ledgered). IsSpent l line after old.learned) c.self.view_is spent)
 
 pub invariant_of-self-2 : goal.invariant_of-self-2

@@ -3,10 +3,11 @@ use Rattle.cnf_core.specs.declared.literal.SatLit.{SatLit}
 use Rattle.cnf_core.specs.declared.log.LogLine.{LogLine}
 use Rattle.cnf_core.specs.Clauses.{opposite}
 use Rattle.cnf_core.specs.Derivations.{hint_fault}
-use Rattle.query_core.specs.Ledgers.{IsRefused, with_line}
+use Rattle.cnf_core.specs.Charges.{IsCharged, IsRefused}
+use Rattle.query_core.specs.Ledgers.{charging_of}
 use Rattle.learn_solver.specs.Searches.{last_line}
 use Rattle.table_oracle.specs.Splits.{IsCovering, IsExcluded, IsNew, clauses_in, excluding}
-use Rattle.table_oracle.proofs.SplitLemmas.{covered_some, excluded_by, line_added, line_charged, line_stopped, not_covered, on_ok}
+use Rattle.table_oracle.proofs.SplitLemmas.{covered_some, excluded_by, line_added, line_asked, line_charged, line_stopped, not_covered, on_ok}
 use Rattle.table_oracle.proofs.splitting.Splitting.exclude.Goals as goal
 
 pub returns-then-is_some-clause-excluded : goal.returns-then-is_some-clause-excluded
@@ -26,8 +27,8 @@ returns-clause-extended c =
     let fresh = subst (IsNew (clauses_in base lines)) c.deref-2.ensures.value (not_covered (clauses_in base lines) c.deref-2.result.now c.covering.result (sym c.is_some.ensures ∙ c.if-is_some.false) none) in
     let hints = ap (λ (cl : List SatLit). hint_fault (clauses_in base lines) (map opposite cl) c.in_ok-hints.hints) c.in_ok-clause.ensures ∙ (ap (λ (ls : List LogLine). hint_fault (clauses_in base ls) (map opposite (excluding c.args.bits.now)) c.in_ok-hints.hints) (sym c.deref-3.ensures.value) ∙ c.in_ok-hints.ensures) in
     let added = line_added c.args.self.now lines c.args.bits.now line c.requires.splitting c.requires.beginning.within c.in_ok-clause.ensures fresh hints in
-    let charged = subst (λ (ls : List LogLine). OnOk c.charge_last.result (c.charge_last.new.ledger ≡ record c.args.ledger.now { asked = with_line (last_line ls) c.args.ledger.now.asked })) c.deref-4.ensures.value c.charge_last.ensures.charged in
-    line_charged base lines new line c.args.ledger.now c.charge_last.new.ledger c.charge_last.result c.requires.asking c.in_ok-push.ensures.items added charged
+    let charged = subst (λ (ls : List LogLine). OnOk c.charge_last.result (IsCharged (charging_of c.args.ledger.now) (last_line ls) (charging_of c.charge_last.new.ledger))) c.deref-4.ensures.value c.charge_last.ensures.charged in
+    line_charged base lines new line (charging_of c.args.ledger.now) (charging_of c.charge_last.new.ledger) c.charge_last.result c.requires.asking c.in_ok-push.ensures.items added charged
 
 pub returns-clause-excluded : goal.returns-clause-excluded
 returns-clause-excluded c =
@@ -47,5 +48,10 @@ returns-clause-stop c =
     let fresh = subst (IsNew (clauses_in base lines)) c.deref-2.ensures.value (not_covered (clauses_in base lines) c.deref-2.result.now c.covering.result (sym c.is_some.ensures ∙ c.if-is_some.false) none) in
     let hints = ap (λ (cl : List SatLit). hint_fault (clauses_in base lines) (map opposite cl) c.in_ok-hints.hints) c.in_ok-clause.ensures ∙ (ap (λ (ls : List LogLine). hint_fault (clauses_in base ls) (map opposite (excluding c.args.bits.now)) c.in_ok-hints.hints) (sym c.deref-3.ensures.value) ∙ c.in_ok-hints.ensures) in
     let added = line_added c.args.self.now lines c.args.bits.now line c.requires.splitting c.requires.beginning.within c.in_ok-clause.ensures fresh hints in
-    let refused = subst (λ (ls : List LogLine). IfErr c.charge_last.result (IsRefused c.args.ledger.now (last_line ls) c.charge_last.new.ledger)) c.deref-4.ensures.value c.charge_last.ensures.refused in
-    line_stopped base lines new line c.args.ledger.now c.charge_last.new.ledger c.charge_last.result c.requires.asking c.in_ok-push.ensures.items added refused
+    let refused = subst (λ (ls : List LogLine). IfErr c.charge_last.result (IsRefused (charging_of c.args.ledger.now) (last_line ls) (charging_of c.charge_last.new.ledger))) c.deref-4.ensures.value c.charge_last.ensures.refused in
+    line_stopped base lines new line (charging_of c.args.ledger.now) (charging_of c.charge_last.new.ledger) c.charge_last.result c.requires.asking c.in_ok-push.ensures.items added refused
+
+pub returns-clause-asking : goal.returns-clause-asking
+returns-clause-asking c =
+    let charged = subst (λ (ls : List LogLine). OnOk c.charge_last.result (IsCharged (charging_of c.args.ledger.now) (last_line ls) (charging_of c.charge_last.new.ledger))) c.deref-4.ensures.value c.charge_last.ensures.charged in
+    line_asked c.args.self.now.base c.args.lines.now.items c.push.new.self.items _ (charging_of c.args.ledger.now) (charging_of c.charge_last.new.ledger) c.charge_last.result c.requires.asking c.in_ok-push.ensures.items charged

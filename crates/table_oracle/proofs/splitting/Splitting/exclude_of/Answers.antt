@@ -1,6 +1,7 @@
 use Rattle.std.proofs.Common.{◌+◌, below_more, subst, ◌∙◌, arith}
 use Rattle.circuits.specs.Literals.{vector_of}
 use Rattle.circuits.proofs.MatchLaws.{count-few}
+use Rattle.query_core.specs.Ledgers.{charging_of}
 use Rattle.learn_solver.specs.Solvers.{IsStopped}
 use Rattle.learn_solver.proofs.AdvanceLemmas.{extended_twice, stopped_after}
 use Rattle.learn_solver.proofs.StepLemmas.{passed_on}
@@ -15,7 +16,7 @@ returns-in_err-exclude-clause-stop c =
     let one = solving_of base c.args.lines.now.items in
     let three = solving_of base c.exclude.new.lines.items in
     let stop = c.in_err-exclude.field-0.0 in
-    passed_on c.from_residual-in_err-exclude.result stop (IsStopped one three c.args.ledger.now c.exclude.new.ledger) c.from_residual-in_err-exclude.ensures.1 (stopped_after one (solving_of base l.lines.items) three c.args.ledger.now l.ledger c.exclude.new.ledger stop c.requires.asking l.invariant.extended c.in_err-exclude.ensures.stop)
+    passed_on c.from_residual-in_err-exclude.result stop (IsStopped one three (charging_of c.args.ledger.now) (charging_of c.exclude.new.ledger)) c.from_residual-in_err-exclude.ensures.1 (stopped_after one (solving_of base l.lines.items) three (charging_of c.args.ledger.now) (charging_of l.ledger) (charging_of c.exclude.new.ledger) stop l.invariant.extended c.in_err-exclude.ensures.stop)
 
 pub loop-code-preserved : goal.loop-code-preserved
 loop-code-preserved c =
@@ -26,10 +27,10 @@ loop-code-preserved c =
     let new = c.exclude.new.lines.items in
     let now = c.in_ok-exclude.ensures in
     record {
-      extended = extended_twice (solving_of base c.args.lines.now.items) (solving_of base mid) (solving_of base new) c.args.ledger.now l.ledger c.exclude.new.ledger c.requires.asking l.invariant.extended now.extended;
+      extended = extended_twice (solving_of base c.args.lines.now.items) (solving_of base mid) (solving_of base new) (charging_of c.args.ledger.now) (charging_of l.ledger) (charging_of c.exclude.new.ledger) l.invariant.extended now.extended;
       asking = now.asking;
-      closed = λ less. all_still base mid new l.ledger c.exclude.new.ledger (bits + 1) now.extended (l.invariant.closed less);
-      excluded = below_more (λ code. IsExcluded (clauses_in base new) (vector_of bits code)) l.code (λ code below. still_excluded base mid new l.ledger c.exclude.new.ledger (vector_of bits code) now.extended (l.invariant.excluded code below)) (subst (IsExcluded (clauses_in base new)) (c.deref.ensures.value ∙ c.in_ok-beginning.ensures) now.excluded);
+      closed = λ less. all_still base mid new (charging_of l.ledger) (charging_of c.exclude.new.ledger) (bits + 1) now.extended (l.invariant.closed less);
+      excluded = below_more (λ code. IsExcluded (clauses_in base new) (vector_of bits code)) l.code (λ code below. still_excluded base mid new (charging_of l.ledger) (charging_of c.exclude.new.ledger) (vector_of bits code) now.extended (l.invariant.excluded code below)) (subst (IsExcluded (clauses_in base new)) (c.deref.ensures.value ∙ c.in_ok-beginning.ensures) now.excluded);
     }
 
 pub returns-clause-excluded : goal.returns-clause-excluded

@@ -1,4 +1,4 @@
--- The first line and what stands behind it.
+-- The first line and what stands after it.
 use Rattle.std.proofs.Common.{arith}
 use Rattle.text_core.proofs.LineLemmas.{lines-front}
 use Rattle.text_core.proofs.spans.Cursor.next_line.Goals as goal

@@ -1,4 +1,4 @@
--- So many columns of zeros stand there.
+-- That many columns of zeros stand there.
 use Rattle.std.proofs.Common.{◌≡◌, replicate}
 use Rattle.word_sim.proofs.words.Words.new.Given as goal
 

@@ -1,0 +1,246 @@
+-- Each step of the check tells the verdict of the bytes, or goes on.
+use Rattle.std.proofs.Common.{◌≡◌, ℕ, ◌+◌, ◌≤◌, Bool, true, false, cond, List, [], ◌∷◌, ◌++◌, length, take, Option, None, Some, IsSome, Result, Ok, Err, refl, sym, ap, subst, ◌∙◌, arith, length-append, length-take}
+use Rattle.std.specs.Prelude.{is_some}
+use Rattle.std.specs.Result.{IsErrAnd}
+use Rattle.std.proofs.lemmas.List.{append-nil, take-append-le}
+use Rattle.circuits.specs.Matches.{IsMatchOfFunctions}
+use Rattle.net_core.specs.Sides.{Graphs}
+use Rattle.net_core.specs.declared.matching.Matching.{Matching}
+use Rattle.account_file.specs.declared.record.Record.{Record}
+use Rattle.account_file.specs.declared.fault.RecordFault.{RecordFault}
+use Rattle.account_file.specs.declared.fault.FileStop.{FileStop}
+use Rattle.account_file.specs.declared.fault.FileStop.TheVariants as file
+use Rattle.account_file.specs.declared.place.Place.TheVariants as place
+use Rattle.account_file.specs.Lines.{whole_lines}
+use Rattle.account_file.specs.Order.{place_behind}
+use Rattle.account_file.specs.Accounts.{AreRecords, IsNextRecord, SaysNext}
+use Rattle.account_file.specs.Reading.{Reading, HasRead, given_by}
+use Rattle.account_file.specs.Texts.{Says}
+use Rattle.account_file.proofs.LawLemmas.{as_many}
+use Rattle.account_file.proofs.LineLemmas.{lines_stay}
+use Rattle.account_file.proofs.OrderLemmas.{place_behind_last}
+use Rattle.account_file.proofs.ReadingLemmas.{fault_stays}
+use Rattle.account_check.specs.declared.reject.Reject.{Reject}
+use Rattle.account_check.specs.declared.reject.RecordStop.{RecordStop}
+use Rattle.account_check.specs.declared.reject.RecordStop.TheVariants as stop
+use Rattle.account_check.specs.declared.verdict.Verdict.{Verdict}
+use Rattle.account_check.specs.declared.verdict.Verdict.TheVariants as verdict
+use Rattle.account_check.specs.declared.verdict.Why.TheVariants as why
+use Rattle.account_check.specs.declared.verdict.CheckStop.{CheckStop}
+use Rattle.account_check.specs.declared.verdict.CheckStop.TheVariants.{Rejected, Memory}
+use Rattle.account_check.specs.Accounts.{Account, account_after, after, empty_account, verdict_of, HasFault}
+use Rattle.account_check.specs.Verdicts.{IsVerdict}
+use Rattle.account_check.specs.Checking.{refused, unread, AreTaken, Goes, IsBadLine, IsChecking, IsDone, IsThrough, TakesAll}
+use Rattle.account_check.proofs.AccountLemmas.{account_after-push, account_graphs, account_place}
+use Rattle.account_check.proofs.VerdictLemmas.{valid_more}
+
+-- the line after the records that were read
+next_line : (records : List Record) (new : Reading) (bytes : List ℕ) (count : ℕ) → HasRead new bytes records → (if_fault : Option RecordFault) → new.fault ≡ if_fault → count ≡ length records + cond (is_some if_fault) 1 0 → new.line ≡ count
+next_line records new bytes count read fault is count_is =
+    read.line ∙ (ap (λ f. length records + cond (is_some f) 1 0) is ∙ sym count_is)
+
+-- a record that may stand next
+pub may_stand : (finished : Bool) (graphs : Graphs) (bytes : List ℕ) (reading : Reading) (account : Account) (entry : Record) → (so_far : IsChecking finished graphs bytes reading account) → IsNextRecord bytes so_far.records entry → IsSome (place_behind account.place entry)
+may_stand finished graphs bytes reading account entry so_far next =
+    let place = reading.place in
+    let there : account.place ≡ place = ap (λ (a : Account). a.place) so_far.account_is ∙ account_place graphs so_far.records place so_far.read.place in
+    subst IsSome (place_behind_last so_far.records entry place so_far.read.place ∙ ap (λ p. place_behind p entry) (sym there)) next.order
+
+-- a record more was taken
+pub goes_on : (finished : Bool) (graphs : Graphs) (bytes : List ℕ) (old new : Reading) (account then : Account) (entry : Record) → (so_far : IsChecking finished graphs bytes old account) → HasRead new bytes (so_far.records ++ entry ∷ []) → new.finished ≡ old.finished → new.fault ≡ None → HasFault account entry None → then ≡ after account entry → IsChecking finished graphs bytes new then
+goes_on finished graphs bytes old new account then entry so_far read stays no_fault fine is = record {
+  records = so_far.records ++ entry ∷ [];
+  read = read;
+  finished_is = stays ∙ so_far.finished_is;
+  no_fault = no_fault;
+  valid = valid_more graphs so_far.records entry so_far.valid (subst (λ a. HasFault a entry None) so_far.account_is fine);
+  account_is = is ∙ (ap (λ a. after a entry) so_far.account_is ∙ sym (account_after-push graphs so_far.records entry));
+}
+
+-- all records were taken
+pub through : (finished : Bool) (graphs : Graphs) (bytes : List ℕ) (old new : Reading) (account : Account) → (so_far : IsChecking finished graphs bytes old account) → SaysNext bytes old.finished so_far.records (Ok None) → HasRead new bytes (so_far.records ++ []) → new.finished ≡ old.finished → new.fault ≡ None → IsThrough finished graphs bytes new account
+through true graphs bytes old new account so_far says read stays no_fault = record {
+  records = so_far.records;
+  are = subst (λ b. SaysNext bytes b so_far.records (Ok None)) so_far.finished_is says;
+  valid = so_far.valid;
+  account_is = so_far.account_is;
+}
+through false graphs bytes old new account so_far says read stays no_fault = record {
+  so_far = record {
+    records = so_far.records;
+    read = subst (HasRead new bytes) (append-nil so_far.records) read;
+    finished_is = stays ∙ so_far.finished_is;
+    no_fault = no_fault;
+    valid = so_far.valid;
+    account_is = so_far.account_is;
+  };
+  lines = subst (λ b. SaysNext bytes b so_far.records (Ok None)) so_far.finished_is says;
+}
+
+-- the next record of a text stays where the text goes on
+next_stays : (bytes more : List ℕ) (before : List Record) (entry : Record) → IsNextRecord bytes before entry → IsNextRecord (bytes ++ more) before entry
+next_stays bytes more before entry next =
+    let n = length before + 1 in
+    let lines = whole_lines bytes in
+    let longer = lines_stay bytes more in
+    let count = as_many (take n lines) (before ++ entry ∷ []) next.form in
+    let within : n ≤ length lines = omega (arith, count, length-take n lines, length-append before (entry ∷ [])) in
+    let same : take n (whole_lines (bytes ++ more)) ≡ take n lines = ap (take n) longer.1 ∙ take-append-le n lines longer.0 within in
+    subst (λ l. AreRecords l (before ++ entry ∷ [])) (sym same) next
+
+-- a line isn't read
+pub unread_goes : (finished : Bool) (graphs : Graphs) (bytes : List ℕ) (old new : Reading) (account then : Account) (file_stop : FileStop) → (so_far : IsChecking finished graphs bytes old account) → Says {X = Option Record} (Err file_stop) (SaysNext bytes old.finished so_far.records) → HasRead new bytes (so_far.records ++ []) → ((fault : RecordFault) → file_stop ≡ file.Fault fault → new.fault ≡ Some fault) → Goes finished graphs bytes new then (Err (unread new.line file_stop))
+unread_goes finished graphs bytes old new account then file.Memory so_far says read told = tt
+unread_goes finished graphs bytes old new account then (file.Fault fault) so_far says read told =
+    let line = next_line so_far.records new bytes (length so_far.records + 1) (subst (HasRead new bytes) (append-nil so_far.records) read) (Some fault) (told fault refl) refl in
+    by finished line (subst (λ b. SaysNext bytes b so_far.records (Err fault)) so_far.finished_is says)
+  where
+    by : (f : Bool) → new.line ≡ length so_far.records + 1 → SaysNext bytes f so_far.records (Err fault) → IsBadLine f graphs bytes new.line (why.Form fault)
+    by true line bad = record { before = so_far.records; valid = so_far.valid; line_is = line; bad = bad }
+    by false line bad = λ more. record {
+      before = so_far.records;
+      valid = so_far.valid;
+      line_is = line;
+      bad = (fault_stays bytes more so_far.records fault bad).0;
+    }
+
+-- a record isn't taken
+pub refused_goes : (finished : Bool) (graphs : Graphs) (bytes : List ℕ) (old new : Reading) (account then : Account) (entry : Record) (record_stop : RecordStop) → (so_far : IsChecking finished graphs bytes old account) → IsNextRecord bytes so_far.records entry → HasRead new bytes (so_far.records ++ entry ∷ []) → new.fault ≡ None → ((reject : Reject) → record_stop ≡ stop.Reject reject → HasFault account entry (Some reject)) → Goes finished graphs bytes new then (Err (refused new.line record_stop))
+refused_goes finished graphs bytes old new account then entry stop.Memory so_far next read no_fault has = tt
+refused_goes finished graphs bytes old new account then entry (stop.Reject reject) so_far next read no_fault has =
+    let line = next_line (so_far.records ++ entry ∷ []) new bytes (length so_far.records + 1) read None no_fault (omega (arith, length-append so_far.records (entry ∷ []))) in
+    by finished line (subst (λ a. HasFault a entry (Some reject)) so_far.account_is (has reject refl))
+  where
+    by : (f : Bool) → new.line ≡ length so_far.records + 1 → HasFault (account_after graphs so_far.records) entry (Some reject) → IsBadLine f graphs bytes new.line (why.Record reject)
+    by true line fault = record { before = so_far.records; valid = so_far.valid; line_is = line; bad = (entry, next, fault) }
+    by false line fault = λ more. record {
+      before = so_far.records;
+      valid = so_far.valid;
+      line_is = line;
+      bad = (entry, next_stays bytes more so_far.records entry next, fault);
+    }
+
+-- where all records were taken, the account has ended
+pub ended_place : (graphs : Graphs) (bytes : List ℕ) (account : Account) → IsDone graphs bytes account → account.place ≡ place.Ended
+ended_place graphs bytes account is =
+    ap (λ (a : Account). a.place) is.account_is ∙ account_place graphs is.records place.Ended is.are.ended
+
+-- and its verdict is that of the bytes
+pub verdict_there : (graphs : Graphs) (bytes : List ℕ) (account : Account) (told : Verdict) → IsDone graphs bytes account → Some told ≡ verdict_of account → IsVerdict graphs bytes (Ok told)
+verdict_there graphs bytes account told_ is told = record {
+  records = is.records;
+  account = is.are;
+  valid = is.valid;
+  verdict_is = ap (λ (a : Account). verdict_of a) (sym is.account_is) ∙ sym told;
+}
+
+done_graphs : (graphs : Graphs) (bytes : List ℕ) (account : Account) → IsDone graphs bytes account → account.graphs ≡ graphs
+done_graphs graphs bytes account is =
+    ap (λ (a : Account). a.graphs) is.account_is ∙ account_graphs graphs is.records
+
+-- a match that the account's end proves
+pub match_there : (graphs : Graphs) (bytes : List ℕ) (account : Account) (told : Verdict) (matching : Matching) → IsDone graphs bytes account → Some told ≡ verdict_of account → ◌≡◌ {A = Result Verdict CheckStop} (Ok told) (Ok (verdict.Match matching)) → ((m : Matching) → verdict_of account ≡ Some (verdict.Match m) → IsMatchOfFunctions account.graphs.first account.graphs.second m.inputs m.outputs) → IsMatchOfFunctions graphs.first graphs.second matching.inputs matching.outputs
+match_there graphs bytes account told matching is so e proved =
+    let same : told ≡ verdict.Match matching = cc in
+    subst (λ g. IsMatchOfFunctions g.first g.second matching.inputs matching.outputs) (done_graphs graphs bytes account is) (proved matching (sym so ∙ ap (λ (v : Verdict). Some v) same))
+
+-- the record that was read is the next
+pub next_read : (bytes : List ℕ) (finished : Bool) (records : List Record) (entry : Record) (given : Option Record) → given ≡ Some entry → Says {X = Option Record} (Ok given) (SaysNext bytes finished records) → IsNextRecord bytes records entry
+next_read bytes finished records entry given is says =
+    subst (λ o. SaysNext bytes finished records (Ok o)) is says
+
+pub read_on : (new : Reading) (bytes : List ℕ) (records : List Record) (entry : Record) (given : Option Record) → given ≡ Some entry → HasRead new bytes (records ++ given_by {E = FileStop} (Ok given)) → HasRead new bytes (records ++ entry ∷ [])
+read_on new bytes records entry given is read =
+    subst (λ o. HasRead new bytes (records ++ given_by {E = FileStop} (Ok o))) is read
+
+-- no record was read
+pub none_read : (bytes : List ℕ) (finished : Bool) (records : List Record) (given : Option Record) → given ≡ None → Says {X = Option Record} (Ok given) (SaysNext bytes finished records) → SaysNext bytes finished records (Ok None)
+none_read bytes finished records given is says = subst (λ o. SaysNext bytes finished records (Ok o)) is says
+
+pub read_no_more : (new : Reading) (bytes : List ℕ) (records : List Record) (given : Option Record) → given ≡ None → HasRead new bytes (records ++ given_by {E = FileStop} (Ok given)) → HasRead new bytes (records ++ [])
+read_no_more new bytes records given is read =
+    subst (λ o. HasRead new bytes (records ++ given_by {E = FileStop} (Ok o))) is read
+
+-- Whatever the text and the circuits are, an account that was under check still is.
+pub record StaysUnderCheck (reading : Reading) (account : Account) (now : Reading) (account_now : Account) : Type 0 where
+  pub stays : (finished : Bool) (graphs : Graphs) (bytes : List ℕ) → IsChecking finished graphs bytes reading account → IsChecking finished graphs bytes now account_now
+
+-- a check before its first record
+pub begun : (graphs : Graphs) (reading : Reading) (account : Account) → HasRead reading [] [] → reading.finished ≡ false → reading.fault ≡ None → account ≡ empty_account graphs → AreTaken graphs [] reading account
+begun graphs reading account read finished no_fault is = record {
+  so_far = record {
+    records = [];
+    read = read;
+    finished_is = finished;
+    no_fault = no_fault;
+    valid = λ k d below. absurd (omega (arith, below));
+    account_is = is;
+  };
+  lines = record { form = tt; order = refl };
+}
+
+-- more bytes came
+pub fed : (graphs : Graphs) (bytes piece : List ℕ) (old new : Reading) (account : Account) → (so_far : IsChecking false graphs bytes old account) → HasRead new (bytes ++ piece) so_far.records → new.finished ≡ old.finished → new.fault ≡ old.fault → IsChecking false graphs (bytes ++ piece) new account
+fed graphs bytes piece old new account so_far read finished no_fault = record {
+  records = so_far.records;
+  read = read;
+  finished_is = finished ∙ so_far.finished_is;
+  no_fault = no_fault ∙ so_far.no_fault;
+  valid = so_far.valid;
+  account_is = so_far.account_is;
+}
+
+-- no more come
+pub whole : (graphs : Graphs) (bytes : List ℕ) (old new : Reading) (account : Account) → (so_far : IsChecking false graphs bytes old account) → HasRead new bytes so_far.records → new ≡ record old { finished = true } → IsChecking true graphs bytes new account
+whole graphs bytes old new account so_far read is = record {
+  records = so_far.records;
+  read = read;
+  finished_is = ap (λ (r : Reading). r.finished) is;
+  no_fault = ap (λ (r : Reading). r.fault) is ∙ so_far.no_fault;
+  valid = so_far.valid;
+  account_is = so_far.account_is;
+}
+
+-- where memory runs out, nothing is told
+pub out_of_memory : (finished : Bool) (graphs : Graphs) (bytes : List ℕ) (reading : Reading) (account : Account) (result : Result (Unit {0}) CheckStop) → IsErrAnd result (λ handed. handed ≡ Memory) → TakesAll finished graphs bytes reading account result
+out_of_memory finished graphs bytes reading account (Ok done) is = absurd is
+out_of_memory finished graphs bytes reading account (Err handed) is = subst (λ (s : CheckStop). TakesAll finished graphs bytes reading account (Err s)) (sym is) tt
+
+-- the reason that `?` hands on
+pub stopped : (finished : Bool) (graphs : Graphs) (bytes : List ℕ) (reading : Reading) (account : Account) (check_stop : CheckStop) (result : Result (Unit {0}) CheckStop) → Goes finished graphs bytes reading account (Err check_stop) → IsErrAnd result (λ handed. handed ≡ check_stop) → TakesAll finished graphs bytes reading account result
+stopped finished graphs bytes reading account check_stop result goes same =
+    by result same
+  where
+    told : (s : CheckStop) → Goes finished graphs bytes reading account (Err s) → TakesAll finished graphs bytes reading account (Err s)
+    told (Rejected line reason) rejected = rejected
+    told Memory none = tt
+
+    by : (result : Result (Unit {0}) CheckStop) → IsErrAnd result (λ handed. handed ≡ check_stop) → TakesAll finished graphs bytes reading account result
+    by (Ok done) none = absurd none
+    by (Err handed) is = subst (λ (s : CheckStop). TakesAll finished graphs bytes reading account (Err s)) (sym is) (told check_stop goes)
+
+-- and its verdict
+pub stopped_whole : (graphs : Graphs) (bytes : List ℕ) (reading : Reading) (account : Account) (check_stop : CheckStop) (result : Result Verdict CheckStop) → TakesAll true graphs bytes reading account (Err check_stop) → IsErrAnd result (λ handed. handed ≡ check_stop) → IsVerdict graphs bytes result
+stopped_whole graphs bytes reading account check_stop result goes same =
+    by result same
+  where
+    told : (s : CheckStop) → TakesAll true graphs bytes reading account (Err s) → IsVerdict graphs bytes (Err s)
+    told (Rejected line reason) rejected = rejected
+    told Memory none = tt
+
+    by : (result : Result Verdict CheckStop) → IsErrAnd result (λ handed. handed ≡ check_stop) → IsVerdict graphs bytes result
+    by (Ok verdict) none = absurd none
+    by (Err handed) is = subst (λ (s : CheckStop). IsVerdict graphs bytes (Err s)) (sym is) (told check_stop goes)
+
+-- a bad line of a whole text
+pub stopped_fed : (graphs : Graphs) (bytes : List ℕ) (reading : Reading) (account : Account) (check_stop : CheckStop) (result : Result Verdict CheckStop) → TakesAll false graphs bytes reading account (Err check_stop) → IsErrAnd result (λ handed. handed ≡ check_stop) → IsVerdict graphs bytes result
+stopped_fed graphs bytes reading account check_stop result goes same =
+    by result same
+  where
+    told : (s : CheckStop) → TakesAll false graphs bytes reading account (Err s) → IsVerdict graphs bytes (Err s)
+    told (Rejected line reason) rejected = subst (λ b. IsVerdict graphs b (Err (Rejected line reason))) (append-nil bytes) (rejected [])
+    told Memory none = tt
+
+    by : (result : Result Verdict CheckStop) → IsErrAnd result (λ handed. handed ≡ check_stop) → IsVerdict graphs bytes result
+    by (Ok verdict) none = absurd none
+    by (Err handed) is = subst (λ (s : CheckStop). IsVerdict graphs bytes (Err s)) (sym is) (told check_stop goes)

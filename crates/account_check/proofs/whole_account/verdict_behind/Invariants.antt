@@ -1,9 +1,0 @@
-use Rattle.std.proofs.Common.{length}
-use Rattle.account_check.proofs.VerdictLemmas.{StaysUnderCheck}
-use Rattle.account_check.proofs.whole_account.verdict_behind.Given as goal
-
-abbrev pub invariant-loop : goal.invariant-loop
-invariant-loop l = StaysUnderCheck l.fn.reader l.fn.checker l.reader l.checker
-
-abbrev pub decreases-loop : goal.decreases-loop
-decreases-loop l = length l.reader.left

@@ -1,0 +1,327 @@
+//! Vectors of both circuits that may correspond: where all open signs are taken as if a vector of the first circuit went to
+//! one of the second, one guess decides them all.
+
+use crate::climbing::climbed;
+use crate::draws::Draws;
+use crate::lane_counts::LaneCounts;
+use crate::state::State;
+use flip_sim::{FlipSim, Lanes, bit_of};
+use items::Items;
+use net_core::Side;
+use port_cells::{literal_of, mix, port_at};
+use std::alloc::{AllocError, Global};
+
+/// The most blocks of 256 vectors that are drawn in each circuit.
+const MOST_BLOCKS: usize = 32;
+
+/// How many counts may be made, one for each input, output and block: fewer blocks are drawn of circuits with many ports.
+const MOST_COUNTS: usize = 1 << 15;
+
+/// How many pairs of vectors are taken.
+const MOST_ANCHORS: usize = 24;
+
+/// How many of them have one profile. A profile that many vectors have tells little.
+const MOST_ALIKE: usize = 8;
+
+/// What the inputs of a circuit have on drawn vectors, and a hash of each vector's profile: of how many outputs change with
+/// each input, and how many inputs change each output, by the ports' cells. Corresponding vectors have one profile.
+#[derive(Drop)]
+struct Profiles {
+    blocks: Items<Items<Lanes>>,
+    /// By the profiles, ascending.
+    places: Vec<Place>,
+}
+
+/// A vector's profile, and its place in the blocks.
+#[derive(Clone, Copy, Debug, Drop, PartialEq, Eq, PartialOrd, Ord)]
+struct Place {
+    profile: u64,
+    block: usize,
+    lane: usize,
+}
+
+impl Profiles {
+    fn draw(
+        alloc: Global,
+        state: &State,
+        side: Side,
+        simulator: &mut FlipSim<'_>,
+        draws: &mut Draws,
+    ) -> Result<Profiles, AllocError> {
+        let mut profiles = Profiles {
+            blocks: Items::new(alloc),
+            places: Vec::new(alloc),
+        };
+        let best = climbed(alloc, simulator, draws)?;
+        profiles.add(alloc, state, side, best, simulator)?;
+        for _ in 0..blocks_of(simulator) {
+            let drawn = draw_block(alloc, simulator, draws)?;
+            profiles.add(alloc, state, side, drawn, simulator)?;
+        }
+        profiles.places.sort_unstable();
+        Ok(profiles)
+    }
+
+    // Adds a block of vectors.
+    fn add(
+        &mut self,
+        alloc: Global,
+        state: &State,
+        side: Side,
+        inputs: Items<Lanes>,
+        simulator: &mut FlipSim<'_>,
+    ) -> Result<(), AllocError> {
+        for (input, lanes) in inputs.iter().enumerate() {
+            simulator.set_input(port_at(input), *lanes);
+        }
+        simulator.run();
+        let hashes = hashes_of(alloc, state, side, simulator)?;
+        add_places(&hashes, self.blocks.len(), &mut self.places)?;
+        self.blocks.push(inputs)?;
+        Ok(())
+    }
+
+    // Whether an input is 1 on a vector.
+    fn bit(&self, place: Place, input: usize) -> bool {
+        let Some(inputs) = self.blocks.get(place.block) else {
+            return false;
+        };
+        let Some(lanes) = inputs.get(input) else {
+            return false;
+        };
+        bit_of(*lanes, place.lane)
+    }
+}
+
+fn blocks_of(simulator: &FlipSim<'_>) -> usize {
+    let graph = simulator.graph();
+    let counts = (graph.inputs() as usize).saturating_mul(graph.outputs().len());
+    (MOST_COUNTS / counts.max(1)).clamp(2, MOST_BLOCKS)
+}
+
+fn draw_block(
+    alloc: Global,
+    simulator: &FlipSim<'_>,
+    draws: &mut Draws,
+) -> Result<Items<Lanes>, AllocError> {
+    let mut inputs = Items::new(alloc);
+    for _ in 0..simulator.graph().inputs() {
+        inputs.push(draws.lanes())?;
+    }
+    Ok(inputs)
+}
+
+fn add_places(hashes: &[u64], block: usize, places: &mut Vec<Place>) -> Result<(), AllocError> {
+    for (lane, profile) in hashes.iter().enumerate() {
+        places.push(Place {
+            profile: *profile,
+            block,
+            lane,
+        })?;
+    }
+    Ok(())
+}
+
+// The hashes of the profiles of a block's vectors.
+fn hashes_of(
+    alloc: Global,
+    state: &State,
+    side: Side,
+    simulator: &mut FlipSim<'_>,
+) -> Result<Vec<u64>, AllocError> {
+    let mut hashes = vec![in alloc; 0u64; 256]?;
+    let mut of_outputs = no_counts(alloc, simulator.graph().outputs().len())?;
+    for input in 0..simulator.graph().inputs() {
+        let mut changes = LaneCounts::new(alloc)?;
+        simulator.flip(input);
+        add_changes(simulator, input, &mut changes, &mut of_outputs);
+        simulator.unflip(input);
+        add_hashes(
+            class_of(state.inputs.of(side), input),
+            &changes.counts(alloc)?,
+            &mut hashes,
+        );
+    }
+    for (output, changes) in of_outputs.iter().enumerate() {
+        let class = class_of(state.outputs.of(side), port_at(output));
+        // an input's class isn't an output's
+        add_hashes(class | 1 << 63, &changes.counts(alloc)?, &mut hashes);
+    }
+    Ok(hashes)
+}
+
+fn no_counts(alloc: Global, outputs: usize) -> Result<Vec<LaneCounts>, AllocError> {
+    let mut counts = Vec::with_capacity(alloc, outputs)?;
+    for _ in 0..outputs {
+        counts.push(LaneCounts::new(alloc)?)?;
+    }
+    Ok(counts)
+}
+
+// Adds the outputs that an inverted input changes, on each vector.
+fn add_changes(
+    simulator: &FlipSim<'_>,
+    input: u32,
+    changes: &mut LaneCounts,
+    of_outputs: &mut [LaneCounts],
+) {
+    for output in simulator.reached(input).iter() {
+        let changed = simulator.output(*output) ^ simulator.flipped_output(*output);
+        changes.add(changed);
+        if (*output as usize) < of_outputs.len() {
+            of_outputs[*output as usize].add(changed);
+        }
+    }
+}
+
+fn add_hashes(class: u64, changes: &[u64], hashes: &mut [u64]) {
+    for (hash, count) in hashes.iter_mut().zip(changes.iter()) {
+        *hash = hash.wrapping_add(mix(*count, class));
+    }
+}
+
+// A number for the cells of a port and its complement.
+fn class_of(cells: &[usize], port: u32) -> u64 {
+    let plain = cells.get(literal_of(port, false));
+    let inverted = cells.get(literal_of(port, true));
+    match (plain, inverted) {
+        (Some(plain), Some(inverted)) => (*plain).min(*inverted) as u64,
+        _ => 0,
+    }
+}
+
+/// A vector of each circuit with one profile.
+#[derive(Clone, Copy, Debug, Drop)]
+struct Anchor {
+    first: Place,
+    second: Place,
+}
+
+/// States in which the open signs are decided by vectors with one profile, those with the rarest profiles last.
+///
+/// # Errors
+///
+/// Only when out of memory.
+pub fn anchored(
+    alloc: Global,
+    state: &State,
+    first: &mut FlipSim<'_>,
+    second: &mut FlipSim<'_>,
+    draws: &mut Draws,
+) -> Result<Vec<State>, AllocError> {
+    let left = Profiles::draw(alloc, state, Side::First, first, draws)?;
+    let right = Profiles::draw(alloc, state, Side::Second, second, draws)?;
+    let mut states = Vec::new(alloc);
+    for anchor in anchors(alloc, &left, &right)?.iter().rev() {
+        let mine = anchor_keys(alloc, state.inputs.of(Side::First), &left, anchor.first)?;
+        let its = anchor_keys(alloc, state.inputs.of(Side::Second), &right, anchor.second)?;
+        let inputs = state.inputs.refine(alloc, &mine, &its)?;
+        if let Some(state) = state.copy()?.with_inputs(inputs) {
+            states.push(state)?;
+        }
+    }
+    Ok(states)
+}
+
+// Keys by which a literal that is open goes to one that has its bit.
+fn anchor_keys(
+    alloc: Global,
+    cells: &[usize],
+    profiles: &Profiles,
+    place: Place,
+) -> Result<Vec<u64>, AllocError> {
+    let mut keys = Vec::with_capacity(alloc, cells.len())?;
+    for (literal, cell) in cells.iter().enumerate() {
+        let is_open = cells.get(literal ^ 1) == Some(cell);
+        let bit = profiles.bit(place, literal / 2) != (literal % 2 == 1);
+        keys.push((is_open & bit) as u64)?;
+    }
+    Ok(keys)
+}
+
+// Pairs of vectors with one profile, those with the rarest profiles first.
+fn anchors(alloc: Global, left: &Profiles, right: &Profiles) -> Result<Vec<Anchor>, AllocError> {
+    let mut classes = classes(alloc, left, right)?;
+    classes.sort_unstable();
+    let mut anchors = Vec::new(alloc);
+    for class in classes.iter() {
+        add_anchors(*class, left, right, &mut anchors)?;
+    }
+    Ok(anchors)
+}
+
+/// The vectors of one profile.
+#[derive(Clone, Copy, Debug, Drop, PartialEq, Eq, PartialOrd, Ord)]
+struct Class {
+    /// Whether the first of them was drawn: those that were climbed to tell more.
+    is_drawn: bool,
+    /// How many vectors of both circuits have it.
+    size: usize,
+    /// Where they begin in the first circuit's places.
+    first: usize,
+    /// In the second's.
+    second: usize,
+}
+
+// The profiles that vectors of both circuits have.
+fn classes(alloc: Global, left: &Profiles, right: &Profiles) -> Result<Vec<Class>, AllocError> {
+    let mut classes = Vec::new(alloc);
+    let mut first = 0usize;
+    let mut second = 0usize;
+    for _ in 0..left.places.len().saturating_add(right.places.len()) {
+        let (Some(one), Some(other)) = (left.places.get(first), right.places.get(second)) else {
+            return Ok(classes);
+        };
+        let (mine, its) = (
+            alike(&left.places, first, one.profile.min(other.profile)),
+            alike(&right.places, second, one.profile.min(other.profile)),
+        );
+        if (mine > 0) & (its > 0) {
+            classes.push(Class {
+                is_drawn: one.block > 0,
+                size: mine.saturating_add(its),
+                first,
+                second,
+            })?;
+        }
+        first = first.saturating_add(mine);
+        second = second.saturating_add(its);
+    }
+    Ok(classes)
+}
+
+// How many places from one on have a profile.
+fn alike(places: &[Place], from: usize, profile: u64) -> usize {
+    let mut count = 0usize;
+    for place in from..places.len() {
+        if places[place].profile != profile {
+            return count;
+        }
+        count = count.saturating_add(1);
+    }
+    count
+}
+
+// Adds the first vector of a profile with each of the other circuit's.
+fn add_anchors(
+    class: Class,
+    left: &Profiles,
+    right: &Profiles,
+    anchors: &mut Vec<Anchor>,
+) -> Result<(), AllocError> {
+    let Some(first) = left.places.get(class.first) else {
+        return Ok(());
+    };
+    for place in class.second..class.second.saturating_add(MOST_ALIKE) {
+        if let Some(second) = right.places.get(place)
+            && second.profile == first.profile
+            && anchors.len() < MOST_ANCHORS
+        {
+            anchors.push(Anchor {
+                first: *first,
+                second: *second,
+            })?;
+        }
+    }
+    Ok(())
+}

@@ -1,0 +1,44 @@
+//! What is drawn.
+
+use flip_sim::Lanes;
+use rand_core::Rng;
+use rand_pcg::Pcg32;
+
+/// Numbers drawn one after another, by a seed.
+#[derive(Debug, Drop)]
+pub struct Draws {
+    generator: Pcg32,
+}
+
+impl Draws {
+    pub fn new(seed: u64) -> Draws {
+        Draws {
+            generator: Pcg32::new(seed, 54),
+        }
+    }
+
+    /// A word of which each bit is 1 half of the time.
+    pub fn word(&mut self) -> u64 {
+        self.generator.next_u64()
+    }
+
+    /// A number below another one, or 0 where that is 0.
+    pub fn below(&mut self, count: usize) -> usize {
+        (self.word() % (count as u64).max(1)) as usize
+    }
+
+    /// 256 bits.
+    pub fn lanes(&mut self) -> Lanes {
+        Lanes::from_array([self.word(), self.word(), self.word(), self.word()])
+    }
+
+    /// Puts numbers in another order.
+    pub fn shuffle(&mut self, numbers: &mut [usize]) {
+        for place in 0..numbers.len() {
+            let other = self.below(numbers.len());
+            if other < numbers.len() {
+                numbers.swap(place, other);
+            }
+        }
+    }
+}

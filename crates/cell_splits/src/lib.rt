@@ -1,0 +1,21 @@
+//! Ways to split the cells of literals that may correspond.
+#![tactic(auto)]
+
+mod anchors;
+mod assignments;
+mod climbing;
+mod draws;
+mod exact;
+mod lane_counts;
+mod link;
+mod patterns;
+mod state;
+
+pub use anchors::anchored;
+pub use assignments::Assignment;
+pub use climbing::climbed;
+pub use draws::Draws;
+pub use exact::{Keys, add_hashes};
+pub use link::Link;
+pub use patterns::Patterns;
+pub use state::State;

@@ -1,0 +1,214 @@
+//! A circuit on 256 vectors at once.
+
+ghost use Rattle.std.specs.Prelude.{◌≡◌, ◌+◌, ◌<◌, All, length, vec_len};
+ghost use Rattle.circuits.specs.Literals.{signal_of};
+ghost use Rattle.circuits.specs.Netlists.{signals_of};
+ghost use Rattle.flip_sim.specs.Fanouts.{IsFanout, IsStep};
+ghost use Rattle.net_core.specs.Graph.{AreInOrder, IsGraph};
+
+use crate::fanout::{Fanout, Step, fanouts};
+use crate::lanes::{Lanes, replicated};
+use items::Items;
+use net_core::{Gate, Graph, Lit};
+use std::alloc::{AllocError, Global};
+use std::marker::Model;
+
+/// A circuit on 256 vectors, and on these vectors with one input inverted.
+#[derive(Drop)]
+pub struct FlipSim<'a> {
+    graph: &'a Graph,
+    fanouts: Items<Fanout>,
+    /// What each signal has on the vectors.
+    values: Vec<Lanes>,
+    /// What it has with the input inverted, and else the same.
+    flipped: Vec<Lanes>,
+    /// How many words of 64 vectors were computed.
+    words: u64,
+}
+
+impl<'a> Model for FlipSim<'a> {
+    ghost use Rattle.std.specs.Prelude.{◌≡◌, All, vec_len};
+    ghost use Rattle.circuits.specs.Netlists.{Net, signals_of};
+    ghost use Rattle.flip_sim.specs.Fanouts.{IsFanout};
+
+    ghost Value = { Net };
+
+    ghost view = { λ a. a.graph.now };
+
+    ghost invariant = { λ a. All (IsFanout (signals_of a.graph.now)) a.fanouts
+        × (vec_len a.values ≡ signals_of a.graph.now)
+        × (vec_len a.flipped ≡ signals_of a.graph.now) };
+}
+
+impl<'a> FlipSim<'a> {
+    /// The circuit on vectors that are all 0 where its inputs are; `run` computes what the gates have.
+    ///
+    /// # Errors
+    ///
+    /// Only when out of memory.
+    pub fn new(alloc: Global, graph: &'a Graph) -> Result<FlipSim<'a>, AllocError> {
+        let signals = graph.signals();
+        let fanouts = fanouts(alloc, graph)?;
+        let values = vec![in alloc; replicated(false); signals]?;
+        let flipped = vec![in alloc; replicated(false); signals]?;
+        Ok(FlipSim {
+            graph,
+            fanouts,
+            values,
+            flipped,
+            words: 0,
+        })
+    }
+
+    /// The circuit.
+    pub fn graph(&self) -> &Graph {
+        self.graph
+    }
+
+    /// How many words of 64 vectors were computed: of gates, and of outputs for those who look at what an inverted input
+    /// changes.
+    pub fn words(&self) -> u64 {
+        self.words
+    }
+
+    /// How many words of 64 vectors are computed where the circuit is run and each input is inverted once.
+    pub fn words_of_flips(&self) -> u64 {
+        let mut words = 4 * self.graph.gates().len() as u64;
+        for fanout in self.fanouts.iter() {
+            words = words.saturating_add(fanout.words());
+        }
+        words
+    }
+
+    /// The outputs that an input reaches, ascending.
+    pub fn reached(&self, input: u32) -> &[u32] {
+        match self.fanouts.get(input as usize) {
+            Some(fanout) => fanout.outputs.as_slice(),
+            None => &[],
+        }
+    }
+
+    /// Gives an input its bits.
+    pub fn set_input(&mut self, input: u32, lanes: Lanes) {
+        if input < self.graph.inputs() {
+            self.values[input as usize + 1] = lanes;
+        }
+    }
+
+    /// What an input has.
+    pub fn input(&self, input: u32) -> Lanes {
+        if input < self.graph.inputs() {
+            self.values[input as usize + 1]
+        } else {
+            replicated(false)
+        }
+    }
+
+    /// Computes what the gates have.
+    pub fn run(&mut self) {
+        let gates = self.graph.gates();
+        run_gates(
+            gates,
+            self.graph.inputs() as usize + 1,
+            self.values.as_mut_slice(),
+        );
+        self.flipped
+            .as_mut_slice()
+            .copy_from_slice(self.values.as_slice());
+        self.words = self.words.saturating_add(4 * gates.len() as u64);
+    }
+
+    /// Inverts an input, and computes what the gates have that it reaches.
+    pub fn flip(&mut self, input: u32) {
+        if input >= self.graph.inputs() {
+            return;
+        }
+        let Some(fanout) = self.fanouts.get(input as usize) else {
+            return;
+        };
+        self.flipped[input as usize + 1] = !self.values[input as usize + 1];
+        flip_gates(&fanout.steps, self.flipped.as_mut_slice());
+        self.words = self.words.saturating_add(fanout.words());
+    }
+
+    /// Takes the inversion of an input back.
+    pub fn unflip(&mut self, input: u32) {
+        if input >= self.graph.inputs() {
+            return;
+        }
+        let Some(fanout) = self.fanouts.get(input as usize) else {
+            return;
+        };
+        self.flipped[input as usize + 1] = self.values[input as usize + 1];
+        restore(
+            &fanout.steps,
+            self.values.as_slice(),
+            self.flipped.as_mut_slice(),
+        );
+    }
+
+    /// What an output has on the vectors.
+    pub fn output(&self, output: u32) -> Lanes {
+        match self.graph.outputs().get(output as usize) {
+            Some(literal) => literal_lanes(&self.values, *literal),
+            None => replicated(false),
+        }
+    }
+
+    /// What an output has with the input inverted.
+    pub fn flipped_output(&self, output: u32) -> Lanes {
+        match self.graph.outputs().get(output as usize) {
+            Some(literal) => literal_lanes(&self.flipped, *literal),
+            None => replicated(false),
+        }
+    }
+}
+
+// Gives each gate its bits, in order, from the signal `first` on.
+fn run_gates(gates: &[Gate], first: usize, values: &mut [Lanes])
+    requires order { AreInOrder first gates.now }
+    requires room { first + length gates.now ≡ length values.old }
+    ensures { length values.new ≡ length values.old }
+{
+    for t in 0..gates.len() {
+        let lanes = gate_lanes(values, gates[t]);
+        values[first + t] = lanes;
+    }
+}
+
+// Gives each of some gates its bits, in order.
+fn flip_gates(steps: &[Step], values: &mut [Lanes])
+    requires { All (IsStep (length values.old)) steps.now }
+    ensures { length values.new ≡ length values.old }
+{
+    for step in steps.iter() {
+        let lanes = gate_lanes(values, step.gate);
+        values[step.signal as usize] = lanes;
+    }
+}
+
+// Gives each of some gates the bits that it has in other values.
+fn restore(steps: &[Step], from: &[Lanes], values: &mut [Lanes])
+    requires steps { All (IsStep (length values.old)) steps.now }
+    requires from { length from.now ≡ length values.old }
+    ensures { length values.new ≡ length values.old }
+{
+    for step in steps.iter() {
+        values[step.signal as usize] = from[step.signal as usize];
+    }
+}
+
+// The AND of a gate's two literals.
+fn gate_lanes(values: &[Lanes], gate: Gate) -> Lanes
+    requires first_operand { signal_of gate.a < length values.now }
+    requires second_operand { signal_of gate.b < length values.now }
+{
+    literal_lanes(values, gate.a) & literal_lanes(values, gate.b)
+}
+
+// A literal's bits.
+fn literal_lanes(values: &[Lanes], literal: Lit) -> Lanes
+    requires { signal_of literal < length values.now }
+{
+    values[literal.signal() as usize] ^ replicated(literal.is_negated())
+}

@@ -1,0 +1,189 @@
+-- A search goes back with a learned line.
+use Rattle.std.proofs.Common.{◌≡◌, ℕ, zero, suc, ◌*◌, ◌<◌, ◌≤◌, cond, Bool, true, List, [], ◌∷◌, ◌++◌, length, filter, nat_le, slice_index_or, inl, inr, refl, sym, ◌∙◌, ap, subst, arith}
+use Rattle.std.specs.List.{list_all}
+use Rattle.std.proofs.lemmas.Bool.{and_parts, cases_Bool, cases_eq, cases_lt, false≢true, le-leb, leb-true, or_cases}
+use Rattle.std.proofs.lemmas.List.{get_or_append_left, get_or_at, get_or-take, length-append, length-take}
+use Rattle.std.proofs.lemmas.List.Elements.{filter_passes}
+use Rattle.cnf_core.specs.declared.literal.SatLit.{SatLit}
+use Rattle.cnf_core.specs.Clauses.{clause_at, opposite, variable_of}
+use Rattle.cnf_core.specs.declared.effect.Effect.TheVariants.{Conflict}
+use Rattle.cnf_core.specs.Derivations.{effect_of, is_false, is_same, is_true}
+use Rattle.trail_core.specs.declared.assigned.Assigned.{Assigned}
+use Rattle.trail_core.specs.Trails.{IsTrail, Trailing, entry_at, literals, nothing}
+use Rattle.trail_core.proofs.TrailLemmas.{place_of_true}
+use Rattle.watch_lists.specs.Feet.{IsReached}
+use Rattle.watch_lists.specs.Propagations.{IsGrown, IsSound}
+use Rattle.watch_lists.specs.Threads.{IsAttached}
+use Rattle.watch_lists.specs.Watched.{Fits, IsCovered, IsPresent, IsRewatched, IsRooted, Watching, loose_watch, with_clause}
+use Rattle.watch_lists.proofs.AttachLemmas.{attached_added, attached_longer}
+use Rattle.watch_lists.proofs.EffectLemmas.{conflict_says, same_literal}
+use Rattle.learn_solver.specs.Analyses.{IsAsserting}
+use Rattle.learn_solver.specs.Starts.{IsBack, IsFitting}
+
+-- what passes a test is kept by a filter
+filter_keeps : {X : Type 0} (p : X → Bool) (xs : List X) (i : ℕ) (d : X) → i < length xs → p (slice_index_or xs i d) ≡ true → (k : ℕ) × (k < length (filter p xs)) × (slice_index_or (filter p xs) k d ≡ slice_index_or xs i d)
+filter_keeps {X} p [] i d within passes = absurd (omega (arith, within))
+filter_keeps {X} p (x ∷ xs) zero d within passes =
+    (0, subst (λ ys. 0 < length ys) (sym (ap (λ b. cond b (x ∷ filter p xs) (filter p xs)) passes)) (omega arith), ap (λ b. slice_index_or (cond b (x ∷ filter p xs) (filter p xs)) 0 d) passes)
+filter_keeps {X} p (x ∷ xs) (suc i) d within passes =
+    let rest = filter_keeps p xs i d (omega (arith, within)) passes in
+    elim (cases_Bool (p x)) [
+      | inl yes_x ↦ (suc rest.0, subst (λ ys. suc rest.0 < length ys) (sym (ap (λ b. cond b (x ∷ filter p xs) (filter p xs)) yes_x)) (omega (arith, rest.1)), ap (λ b. slice_index_or (cond b (x ∷ filter p xs) (filter p xs)) (suc rest.0) d) yes_x ∙ rest.2)
+      | inr no_x ↦ (rest.0, subst (λ ys. rest.0 < length ys) (sym (ap (λ b. cond b (x ∷ filter p xs) (filter p xs)) no_x)) rest.1, ap (λ b. slice_index_or (cond b (x ∷ filter p xs) (filter p xs)) rest.0 d) no_x ∙ rest.2)
+    ]
+
+-- what stands after going back stood there before, at a level that isn't greater
+pub front_at : (old back : Trailing) (level : ℕ) → IsBack old back level → (k : ℕ) → k < length back.entries → entry_at back.entries k ≡ entry_at old.entries k
+front_at old back level is k within =
+    ap (λ es. entry_at es k) is.front ∙ get_or-take (length back.entries) old.entries k nothing within
+
+pub front_within : (old back : Trailing) (level : ℕ) → IsBack old back level → (k : ℕ) → k < length back.entries → k < length old.entries
+front_within old back level is k within =
+    omega (arith, within, ap length is.front, length-take (length back.entries) old.entries)
+
+pub low_at : (old back : Trailing) (level : ℕ) → IsBack old back level → (k : ℕ) → k < length back.entries → (entry_at back.entries k).level ≤ level
+low_at old back level is k within =
+    let passes = filter_passes (λ (e : Assigned). nat_le e.level level) old.entries k nothing (subst (λ (es : List Assigned). k < length es) is.entries within) in
+    leb-true (entry_at back.entries k).level level (ap (λ (es : List Assigned). nat_le (entry_at es k).level level) is.entries ∙ passes)
+
+-- and what is of such a level still stands
+pub kept_at : (old back : Trailing) (level : ℕ) → IsBack old back level → (i : ℕ) → i < length old.entries → (entry_at old.entries i).level ≤ level → (k : ℕ) × (k < length back.entries) × (entry_at back.entries k ≡ entry_at old.entries i)
+kept_at old back level is i within low =
+    let found = filter_keeps (λ (e : Assigned). nat_le e.level level) old.entries i nothing within (le-leb (entry_at old.entries i).level level low) in
+    (found.0, subst (λ (es : List Assigned). found.0 < length es) (sym is.entries) found.1, ap (λ es. entry_at es found.0) is.entries ∙ found.2)
+
+-- all is walked, since what isn't is of the level that is left
+pub back_walked : (old back : Trailing) (level : ℕ) → IsBack old back level → IsPresent old → level < old.level → back.walked ≡ length back.entries
+back_walked old back level is present lower = elim (cases_lt old.walked (length back.entries)) [
+  | inr all ↦ omega (arith, all, is.walked)
+  | inl some ↦
+      let there = front_within old back level is old.walked some in
+      absurd (omega (arith, low_at old back level is old.walked some, ap (λ (e : Assigned). e.level) (front_at old back level is old.walked some), present.present old.walked (omega arith) there, lower))
+]
+
+pub back_present : (old back : Trailing) (level : ℕ) → IsBack old back level → IsPresent old → level < old.level → IsPresent back
+back_present old back level is present lower = record {
+  present = λ k late within. absurd (omega (arith, late, within, back_walked old back level is present lower));
+}
+
+-- what fits a trail fits it after going back
+pub back_fits : (watching : Watching) (old back : Trailing) (level : ℕ) → IsBack old back level → Fits watching old → Fits watching back
+back_fits watching old back level is fits = record {
+  variables = is.variables ∙ fits.variables;
+  watched = λ s within attached j early inside at.
+      let same = front_at old back level is j inside in
+      let held = fits.watched s within attached j (omega (arith, early, is.walked)) (front_within old back level is j inside) (sym (ap (λ (e : Assigned). e.literal.0) same) ∙ at) in
+      let low = low_at old back level is j inside in
+      let still = kept_at old back level is held.at held.within (omega (arith, held.low, low, ap (λ (e : Assigned). e.level) same)) in
+      record {
+        at = still.0;
+        within = still.1;
+        is = ap (λ (e : Assigned). e.literal.0) still.2 ∙ held.is;
+        low = omega (arith, held.low, ap (λ (e : Assigned). e.level) still.2, ap (λ (e : Assigned). e.level) same);
+      };
+}
+
+-- a literal that is true at level 0 stays so
+pub back_rooted : (old back : Trailing) (level : ℕ) (clause : List SatLit) → IsBack old back level → IsRooted old.entries clause → IsRooted back.entries clause
+back_rooted old back level clause is rooted =
+    let still = kept_at old back level is rooted.at rooted.within (omega (arith, rooted.lowest)) in
+    record {
+      at = still.0;
+      within = still.1;
+      there = ap (λ (e : Assigned). is_true clause e.literal) still.2 ∙ rooted.there;
+      lowest = ap (λ (e : Assigned). e.level) still.2 ∙ rooted.lowest;
+    }
+
+-- what became false at the level to go back to is still there
+pub back_reached : (old back : Trailing) (level : ℕ) (clause : List SatLit) → IsBack old back level → IsAsserting old clause level → IsReached back clause
+back_reached old back level clause is asserting above =
+    let before = asserting.reached (omega (arith, above, is.level_is)) in
+    let still = kept_at old back level is before.place before.within (omega (arith, before.level_there)) in
+    record {
+      place = still.0;
+      within = still.1;
+      level = ap (λ (e : Assigned). e.level) still.2 ∙ (before.level_there ∙ sym is.level_is);
+      there = ap (λ (e : Assigned). is_true clause (opposite e.literal)) still.2 ∙ before.there;
+    }
+
+-- ---- what is covered stays so
+
+pub rooted_grown : (old new : Trailing) (clause : List SatLit) → IsGrown old new → IsRooted old.entries clause → IsRooted new.entries clause
+rooted_grown old new clause grown rooted =
+    let same : entry_at new.entries rooted.at ≡ entry_at old.entries rooted.at = sym (get_or-take (length old.entries) new.entries rooted.at nothing rooted.within) ∙ ap (λ es. entry_at es rooted.at) grown.kept in
+    record {
+      at = rooted.at;
+      within = omega (arith, rooted.within, grown.longer);
+      there = ap (λ (e : Assigned). is_true clause e.literal) same ∙ rooted.there;
+      lowest = ap (λ (e : Assigned). e.level) same ∙ rooted.lowest;
+    }
+
+pub covered_grown : (before after : Watching) (old new : Trailing) (id : ℕ) → id < length before.clauses → IsRewatched before after → IsGrown old new → IsCovered before old.entries id → IsCovered after new.entries id
+covered_grown before after old new id there rewatched grown (inl attached) = inl (rewatched.attached id there attached)
+covered_grown before after old new id there rewatched grown (inr rooted) =
+    inr (subst (λ (cs : List (List SatLit)). IsRooted new.entries (clause_at cs id)) (sym rewatched.clauses) (rooted_grown old new (clause_at before.clauses id) grown rooted))
+
+-- ---- a learned clause is attached after going back
+
+-- all literals of a conflict are false
+conflict_at : (made clause : List SatLit) (l : SatLit) → list_all (is_false made) clause ≡ true → is_true clause l ≡ true → is_false made l ≡ true
+conflict_at made [] l all e = absurd (false≢true e)
+conflict_at made (m ∷ clause) l all e =
+    let parts = and_parts (is_false made m) (list_all (is_false made) clause) all in
+    elim (or_cases (is_same l m) (is_true clause l) e) [
+      | inl here ↦ ap (is_false made) (same_literal l m here) ∙ parts.0
+      | inr behind ↦ conflict_at made clause l parts.1 behind
+    ]
+
+-- the literal that became false last isn't false any more
+pub freed : (old back : Trailing) (level : ℕ) (clause : List SatLit) → IsTrail old → IsBack old back level → IsAsserting old clause level → 0 < old.level → effect_of (literals back.entries) clause ≡ Conflict → ⊥
+freed old back level clause trail is asserting above conflict =
+    let u = asserting.last above in
+    let e = entry_at old.entries u.place in
+    let l = opposite e.literal in
+    let falsity = conflict_at (literals back.entries) clause l (conflict_says (literals back.entries) clause conflict) u.there in
+    let j = place_of_true back.entries (opposite l) falsity in
+    let same = front_at old back level is j.0 j.1 in
+    let inside = front_within old back level is j.0 j.1 in
+    let variable : variable_of (entry_at old.entries j.0).literal ≡ variable_of e.literal = omega (arith, ap (λ (x : Assigned). x.literal.0) same, j.2) in
+    let low = low_at old back level is j.0 j.1 in
+    let lower = asserting.lower above in
+    elim (cases_eq j.0 u.place) [
+      | inl here ↦ omega (arith, low, ap (λ (x : Assigned). x.level) same, ap (λ k. (entry_at old.entries k).level) here, u.level_there, lower)
+      | inr other ↦ elim (cases_lt j.0 u.place) [
+        | inl before ↦ trail.distinct j.0 u.place before u.within variable
+        | inr after ↦ trail.distinct u.place j.0 (omega (arith, after, other)) inside (sym variable)
+      ]
+    ]
+
+-- the clause that was added
+pub added_at : (w : Watching) (clause : List SatLit) → clause_at (w.clauses ++ clause ∷ []) (length w.clauses) ≡ clause
+added_at w clause = get_or_at w.clauses clause [] [] (length w.clauses) refl
+
+pub added_loose : (w : Watching) (clause : List SatLit) → length w.watches ≡ 2 * length w.clauses → IsAttached (with_clause clause w).watches (2 * length w.clauses) → ⊥
+added_loose w clause size attached =
+    let old = attached_added w.watches (loose_watch clause) (omega (arith, size)) (2 * length w.clauses) (omega (arith, size)) attached in
+    omega (arith, old.0, size)
+
+-- what was covered before is covered after going back with one clause more
+pub back_covered : (w : Watching) (clause : List SatLit) (old back : Trailing) (level id : ℕ) → length w.watches ≡ 2 * length w.clauses → IsBack old back level → id < length w.clauses → IsCovered w old.entries id → IsCovered (with_clause clause w) back.entries id
+back_covered w clause old back level id size is there (inl attached) =
+    inl (attached_longer w.watches (loose_watch clause) (omega (arith, size)) (2 * id) (omega (arith, there, size)) attached)
+back_covered w clause old back level id size is there (inr rooted) =
+    inr (subst (IsRooted back.entries) (sym (get_or_append_left w.clauses (clause ∷ []) [] id there)) (back_rooted old back level (clause_at w.clauses id) is rooted))
+
+-- a search that went back
+pub gone : (w after : Watching) (clause : List SatLit) (old back new : Trailing) (level : ℕ) → IsFitting w old → length w.watches ≡ 2 * length w.clauses → IsBack old back level → IsRewatched (with_clause clause w) after → Fits after new → IsPresent new → IsSound after.clauses new → IsGrown back new → IsCovered after new.entries (length w.clauses) → IsFitting after new
+gone w after clause old back new level fitting size is rewatched fits present sound grown last = record {
+  fits = fits;
+  present = present;
+  sound = sound;
+  covered = λ id within.
+      let count = length-append w.clauses (clause ∷ []) in
+      elim (cases_eq id (length w.clauses)) [
+        | inl here ↦ subst (IsCovered after new.entries) (sym here) last
+        | inr other ↦
+            let low : id < length w.clauses = omega (arith, within, ap length rewatched.clauses, count, other) in
+            covered_grown (with_clause clause w) after back new id (omega (arith, low, count)) rewatched grown (back_covered w clause old back level id size is low (fitting.covered id low))
+      ];
+}

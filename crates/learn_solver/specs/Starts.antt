@@ -1,0 +1,80 @@
+-- A search that begins: its clauses are attached one after the other.
+use Rattle.std.specs.Prelude.{◌≡◌, ℕ, ◌*◌, ◌<◌, ◌≤◌, ◌++◌, ◌∷◌, Bool, false, List, [], filter, length, min, nat_le, replicate, take}
+use Rattle.cnf_core.specs.declared.literal.SatLit.{SatLit}
+use Rattle.trail_core.specs.Trails.{Trailing, literals}
+use Rattle.watch_lists.specs.Propagations.{IsConflict, IsGrown, IsSound}
+use Rattle.watch_lists.specs.Threads.{IsAttached}
+use Rattle.watch_lists.specs.Watched.{Fits, IsCovered, IsPresent, Watching}
+use Rattle.learn_solver.specs.Solvers.{HaveVariables, IsSolver, Solving, wanted}
+
+-- no clause from this number on is attached
+abbrev pub AreLoose : Watching → ℕ → Type 0
+AreLoose watching from = (id : ℕ) → from ≤ id → IsAttached watching.watches (2 * id) → ⊥
+
+-- The first clauses were attached, at level 0.
+pub record IsStarting (old now : Watching) (trail : Trailing) (count : ℕ) : Type 0 where
+  pub variables : now.variables ≡ old.variables
+  pub clauses : now.clauses ≡ old.clauses
+  pub fits : Fits now trail
+  pub present : IsPresent trail
+  pub sound : IsSound now.clauses trail
+  pub lowest : trail.level ≡ 0
+  pub covered : (id : ℕ) → id < count → IsCovered now trail.entries id
+  pub loose : AreLoose now count
+
+-- Nothing is attached, and nothing assigned.
+pub record AreIdle (watching : Watching) (trail : Trailing) : Type 0 where
+  pub empty : trail ≡ record { variables = watching.variables; entries = []; level = 0; walked = 0 }
+  pub loose : AreLoose watching 0
+
+-- The variables that are decided, and a mark for each variable, none of which is set.
+pub record AreTools (solving : Solving) (occurring : List ℕ) (marks : List Bool) : Type 0 where
+  pub variables : HaveVariables solving.formula.variables (wanted solving.formula solving.ids) occurring
+  pub unmarked : marks ≡ replicate solving.formula.variables false
+
+-- A search that hasn't begun.
+pub record IsBegun (solving : Solving) (trail : Trailing) (watching : Watching) (occurring : List ℕ) (marks : List Bool)
+    : Type 0 where
+  pub solver : IsSolver solving.formula solving.ids solving.lines watching.clauses
+  pub variables : watching.variables ≡ solving.formula.variables
+  pub idle : AreIdle watching trail
+  pub tools : AreTools solving occurring marks
+
+-- no clause is attached
+abbrev pub AreAllLoose : Watching → Type 0
+AreAllLoose watching = AreLoose watching 0
+
+-- All literals of a clause are false at level 0.
+pub record IsStuck (old now : Watching) (trail : Trailing) (id : ℕ) : Type 0 where
+  pub clauses : now.clauses ≡ old.clauses
+  pub variables : trail.variables ≡ old.variables
+  pub sound : IsSound now.clauses trail
+  pub lowest : trail.level ≡ 0
+  pub conflict : IsConflict now.clauses (literals trail.entries) id
+
+-- The watches fit a sound trail, and each clause is attached or has a literal that is true at level 0.
+pub record IsFitting (watching : Watching) (trail : Trailing) : Type 0 where
+  pub fits : Fits watching trail
+  pub present : IsPresent trail
+  pub sound : IsSound watching.clauses trail
+  pub covered : (id : ℕ) → id < length watching.clauses → IsCovered watching trail.entries id
+
+-- It was propagated.
+pub record IsPropagated (before after : Watching) (old new : Trailing) : Type 0 where
+  pub fitting : IsFitting after new
+  pub clauses : after.clauses ≡ before.clauses
+  pub grown : IsGrown old new
+
+-- A trail after going back.
+pub record IsBack (old back : Trailing) (level : ℕ) : Type 0 where
+  pub variables : back.variables ≡ old.variables
+  pub entries : back.entries ≡ filter (λ e. nat_le e.level level) old.entries
+  pub front : back.entries ≡ take (length back.entries) old.entries
+  pub level_is : back.level ≡ level
+  pub walked : back.walked ≡ min old.walked (length back.entries)
+
+-- with one clause more, the trail is sound at a level to go back to
+abbrev pub IsSoundBack : Watching → List SatLit → Trailing → ℕ → Type 0
+IsSoundBack watching clause trail level = (back : Trailing)
+    → IsBack trail back level
+    → IsSound (watching.clauses ++ clause ∷ []) back

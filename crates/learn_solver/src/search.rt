@@ -1,0 +1,155 @@
+//! A search for a model: the trail, the watched clauses, and what is decided.
+
+ghost use Rattle.std.specs.Prelude.{◌≡◌, ◌<◌, ◌++◌, ◌∷◌, [], false, IfOk, IfNone, IfSome, OnOk, All, length};
+ghost use Rattle.std.specs.List.{list_any};
+ghost use Rattle.cnf_core.specs.Derivations.{AreDerived, clauses_of, is_empty};
+ghost use Rattle.trail_core.specs.Trails.{literals};
+ghost use Rattle.watch_lists.specs.Propagations.{AreKnown, IsConflict, IsQuiet};
+ghost use Rattle.learn_solver.specs.Starts.{AreAllLoose, AreIdle, IsBegun, IsFitting, IsPropagated, IsSoundBack, IsStarting, IsStuck};
+ghost use Rattle.learn_solver.specs.Analyses.{IsAsserting};
+ghost use Rattle.learn_solver.specs.Solvers.{ArePut};
+
+use crate::conflict::no_marks;
+use crate::decision::variables_of;
+use cnf_core::{Base, LogLine, SatLit};
+use std::alloc::{AllocError, Global};
+use trail_core::Trail;
+use watch_lists::Watches;
+
+/// A search for a model of the clauses that are looked at.
+#[derive(Drop)]
+pub(crate) struct Search {
+    pub(crate) trail: Trail,
+    /// The clauses that are looked at: those of the numbers, then those of the lines.
+    pub(crate) watches: Watches,
+    /// The variables of the clauses of the numbers. No others are decided.
+    pub(crate) occurring: Vec<u64>,
+    /// A mark for each variable, for the analysis of a conflict. Between two of them none is set.
+    pub(crate) marks: Vec<bool>,
+}
+
+/// A search over the clauses of these numbers, then those of the lines, none of which is attached.
+pub(crate) fn begun<B: Base>(
+    alloc: Global,
+    base: &B,
+    ids: &[u64],
+    lines: &[LogLine],
+) -> Result<Search, AllocError>
+    requires ids { All (λ id. id < length (B.formula base.now).clauses) ids.now }
+    requires derived { AreDerived (B.formula base.now) lines.now }
+    requires filled { list_any is_empty (clauses_of lines.now) ≡ false }
+    ensures { IfOk result (λ search. IsBegun (record { formula = B.formula base.now; ids = ids.now; lines = lines.now })
+        search.trail search.watches search.occurring.items search.marks.items) }
+{
+    let trail = Trail::with_variables(alloc, base.variables())?;
+    let _len = trail.len();
+    let mut watches = Watches::new(alloc, base.variables())?;
+    put_wanted(base, ids, &mut watches)?;
+    let occurring = variables_of(alloc, watches.store(), base.variables())?;
+    put_lines(lines, &mut watches)?;
+    let marks = no_marks(alloc, base.variables() as usize)?;
+    Ok(Search {
+        trail,
+        watches,
+        occurring,
+        marks,
+    })
+}
+
+impl Search {
+    /// Attaches all clauses, on an empty trail. Some: a clause all of whose literals are false at level 0.
+    pub(crate) fn start(&mut self) -> Option<u64>
+        requires idle { AreIdle self.old.watches self.old.trail }
+        ensures none { IfNone result
+            (IsStarting self.old.watches self.new.watches self.new.trail (length self.old.watches.clauses)) }
+        ensures some { IfSome result (IsStuck self.old.watches self.new.watches self.new.trail) }
+        ensures occurring { self.new.occurring ≡ self.old.occurring }
+        ensures marks { self.new.marks ≡ self.old.marks }
+    {
+        attach_all(&mut self.watches, &mut self.trail)
+    }
+
+    /// Propagates. None: every clause has a true literal or two unassigned ones. Some: a clause all of whose literals are
+    /// false.
+    pub(crate) fn propagate(&mut self) -> Option<u64>
+        requires { IsFitting self.old.watches self.old.trail }
+        ensures propagated { IsPropagated self.old.watches self.new.watches self.old.trail self.new.trail }
+        ensures none { IfNone result (IsQuiet self.new.watches.clauses (literals self.new.trail.entries)) }
+        ensures walked { IfNone result (self.new.trail.walked ≡ length self.new.trail.entries) }
+        ensures some { IfSome result (IsConflict self.new.watches.clauses (literals self.new.trail.entries)) }
+        ensures occurring { self.new.occurring ≡ self.old.occurring }
+        ensures marks { self.new.marks ≡ self.old.marks }
+    {
+        let conflict = self.watches.propagate(&mut self.trail);
+        let _walked = self.trail.walked();
+        conflict
+    }
+
+    /// Goes back to a level with a learned clause, of which one literal alone isn't false there.
+    pub(crate) fn go_back(&mut self, clause: &[SatLit], level: u64) -> Result<(), AllocError>
+        requires fitting { IsFitting self.old.watches self.old.trail }
+        requires known { AreKnown self.old.watches.variables clause.now }
+        requires filled { is_empty clause.now ≡ false }
+        requires above { 0 < self.old.trail.level }
+        requires asserting { IsAsserting self.old.trail clause.now level }
+        requires sound { IsSoundBack self.old.watches clause.now self.old.trail level }
+        ensures fitting { OnOk result (IsFitting self.new.watches self.new.trail) }
+        ensures clauses { OnOk result (self.new.watches.clauses ≡ self.old.watches.clauses ++ clause.now ∷ []) }
+        ensures variables { OnOk result (self.new.trail.variables ≡ self.old.trail.variables) }
+        ensures occurring { self.new.occurring ≡ self.old.occurring }
+        ensures marks { self.new.marks ≡ self.old.marks }
+    {
+        let id = self.watches.add(clause)?;
+        let _walked = self.trail.walked();
+        self.trail.back_to(level);
+        let None = self.watches.attach(id, &mut self.trail) else {
+            unreachable!()
+        };
+        Ok(())
+    }
+}
+
+// Attaches all clauses, on an empty trail.
+fn attach_all(watches: &mut Watches, trail: &mut Trail) -> Option<u64>
+    requires idle { AreIdle watches.old trail.old }
+    ensures none { IfNone result (IsStarting watches.old watches.new trail.new (length watches.old.clauses)) }
+    ensures some { IfSome result (IsStuck watches.old watches.new trail.new) }
+{
+    for id in 0..watches.count() {
+        let conflict = watches.attach(id, trail);
+        if conflict.is_some() {
+            return conflict;
+        }
+    }
+    None
+}
+
+// Adds the clauses of these numbers, where there are none.
+fn put_wanted<B: Base>(base: &B, ids: &[u64], watches: &mut Watches) -> Result<(), AllocError>
+    requires ids { All (λ id. id < length (B.formula base.now).clauses) ids.now }
+    requires empty { watches.old ≡ record { variables = (B.formula base.now).variables; clauses = []; watches = [] } }
+    ensures put { OnOk result (ArePut (B.formula base.now) ids.now watches.new.clauses) }
+    ensures loose { OnOk result (AreAllLoose watches.new) }
+    ensures variables { OnOk result (watches.new.variables ≡ watches.old.variables) }
+{
+    for id in ids.iter() {
+        let clause = base.clause(*id);
+        let _ = watches.add(clause.literals())?;
+    }
+    Ok(())
+}
+
+// Adds the clauses of lines.
+fn put_lines(lines: &[LogLine], watches: &mut Watches) -> Result<(), AllocError>
+    requires known { All (AreKnown watches.old.variables) (clauses_of lines.now) }
+    requires filled { All (λ clause. is_empty clause ≡ false) (clauses_of lines.now) }
+    requires loose { AreAllLoose watches.old }
+    ensures put { OnOk result (watches.new.clauses ≡ watches.old.clauses ++ clauses_of lines.now) }
+    ensures loose { OnOk result (AreAllLoose watches.new) }
+    ensures variables { OnOk result (watches.new.variables ≡ watches.old.variables) }
+{
+    for line in lines.iter() {
+        let _ = watches.add(&line.clause)?;
+    }
+    Ok(())
+}

@@ -1,0 +1,10 @@
+-- Guesses are compared, and then the search decides.
+use Rattle.std.proofs.Common.{◌∙◌, sym}
+use Rattle.match_search.proofs.ServeLemmas.{served_one, serves_after}
+use Rattle.match_search.proofs.deciding.decide.Goals as goal
+
+pub search-requires-clause-graphs : goal.search-requires-clause-graphs
+search-requires-clause-graphs g c = c.requires.graphs ∙ sym c.in_ok-table.ensures.serves.grows.graphs
+
+pub returns-clause-serves : goal.returns-clause-serves
+returns-clause-serves g c = serves_after _ _ _ _ _ _ _ (served_one _ _ _ _ _ c.in_ok-table.ensures.serves) c.search.ensures.serves

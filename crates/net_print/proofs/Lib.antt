@@ -1,0 +1,4 @@
+pub mod Ranges
+pub mod Parts
+pub mod Steps
+pub mod Groups

@@ -1,0 +1,4 @@
+pub mod Rows
+pub mod Deltas
+pub mod Files
+pub mod BlifLines

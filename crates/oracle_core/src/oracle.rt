@@ -1,0 +1,68 @@
+//! What decides claims and compares outputs.
+
+ghost use Rattle.std.specs.Prelude.{◌≡◌, ◌<◌, length};
+ghost use Rattle.circuits.specs.Matches.{HavePorts};
+ghost use Rattle.query_core.specs.Claims.{IsClaim};
+ghost use Rattle.account_core.specs.Facts.{AreFacts};
+ghost use Rattle.oracle_core.specs.Oracles.{Claims, Compares, Known, Suits};
+
+use account_core::Fact;
+use bit_list::Bits;
+use cnf_core::{Log, Stop};
+use net_core::Matching;
+use query_core::{Claim, Ledger};
+use std::alloc::Global;
+
+/// How an output of the first circuit compares with the output that a matching sends it to.
+#[derive(Debug, Drop)]
+pub enum Compared {
+    /// They agree on every vector: the logs refute that they differ where the output is true, and where it is false.
+    Same(Log, Log),
+    /// They differ on this vector of the first circuit's inputs.
+    Differs(Bits),
+}
+
+/// Decides claims about two circuits, and compares their outputs. What is decided is kept as a fact, with evidence that
+/// others can check. What has to be refuted is asked in a ledger, and each line that is learned costs a unit of its
+/// budget.
+///
+/// The facts stay, each under its number, and no two are of one claim. A query that was answered is not asked again.
+pub trait Oracle {
+    /// The two circuits, the facts, and the queries that were answered.
+    ghost known: { Self → Known };
+
+    /// Decides a claim, and answers the number of its fact. For a claim that was decided before, nothing changes.
+    ///
+    /// # Errors
+    ///
+    /// `Spent` where a line had to be learned and the budget was spent; the ledger keeps it as the refused line.
+    /// `Memory`
+    /// when out of memory; nothing is said of the ledger then.
+    fn claim(&mut self, alloc: Global, claim: Claim, ledger: &mut Ledger) -> Result<u64, Stop>
+        requires placed { IsClaim (known self.old).graphs claim }
+        requires suits { Suits (known self.old) ledger.old }
+        ensures { Claims claim (known self.old) (known self.new) ledger.old ledger.new result };
+
+    /// Compares an output of the first circuit with the output that the matching sends it to.
+    ///
+    /// # Errors
+    ///
+    /// As for `claim`.
+    fn compare(
+        &mut self,
+        alloc: Global,
+        matching: &Matching,
+        output: u32,
+        ledger: &mut Ledger,
+    ) -> Result<Compared, Stop>
+        requires ports { HavePorts (known self.old).graphs.first (known self.old).graphs.second
+            matching.now.inputs matching.now.outputs }
+        requires output { output < length (known self.old).graphs.first.outputs }
+        requires suits { Suits (known self.old) ledger.old }
+        ensures { Compares matching.now output (known self.old) (known self.new) ledger.old ledger.new result };
+
+    /// The facts, in the order of their numbers.
+    fn facts(&self) -> &[Fact]
+        ensures value { result.now ≡ (known self.now).facts }
+        ensures lawful { AreFacts (known self.now).graphs (known self.now).facts };
+}

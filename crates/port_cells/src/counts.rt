@@ -1,0 +1,211 @@
+//! How outputs hang on inputs, counted on vectors.
+
+use crate::cells::port_at;
+use flip_sim::{FlipSim, Lanes, ones_in};
+use items::Items;
+use std::alloc::{AllocError, Global};
+
+/// How an output hangs on an input: on how many vectors it changes where the input is inverted, and has the input's bit
+/// before, or the other one.
+#[derive(Clone, Copy, Debug, Drop)]
+pub struct Influence {
+    /// The output of an input, or the input of an output.
+    pub port: u32,
+    pub agrees: u32,
+    pub differs: u32,
+}
+
+impl Influence {
+    /// On how many vectors the output changes.
+    pub fn changes(self) -> u32 {
+        self.agrees.saturating_add(self.differs)
+    }
+
+    /// The counts with one of the two ports in place of its complement, or with the complement of one of them.
+    pub fn counts(self, negated: bool) -> (u32, u32) {
+        if negated {
+            (self.differs, self.agrees)
+        } else {
+            (self.agrees, self.differs)
+        }
+    }
+
+    // With 256 more vectors: the output's bits before and after, and the input's.
+    fn add(&mut self, before: Lanes, after: Lanes, input: Lanes) {
+        let changes = before ^ after;
+        let differs = changes & (before ^ input);
+        self.agrees = self.agrees.saturating_add(ones_in(changes ^ differs));
+        self.differs = self.differs.saturating_add(ones_in(differs));
+    }
+}
+
+/// What is counted of a circuit on vectors.
+#[derive(Debug, Drop)]
+pub struct Counts {
+    /// How many vectors there are.
+    pub vectors: u32,
+    /// On how many of them each output is 1.
+    pub ones: Items<u32>,
+    /// The outputs that each input changes.
+    pub of_inputs: Items<Items<Influence>>,
+    /// The inputs that change each output.
+    pub of_outputs: Items<Items<Influence>>,
+}
+
+/// What is counted of a circuit so far.
+#[derive(Drop)]
+pub struct Tally {
+    vectors: u32,
+    ones: Vec<u32>,
+    of_inputs: Vec<Vec<Influence>>,
+}
+
+impl Tally {
+    /// Nothing is counted yet of a circuit.
+    ///
+    /// # Errors
+    ///
+    /// Only when out of memory.
+    pub fn new(alloc: Global, simulator: &FlipSim<'_>) -> Result<Tally, AllocError> {
+        let graph = simulator.graph();
+        let ones = vec![in alloc; 0u32; graph.outputs().len()]?;
+        let mut of_inputs = Vec::new(alloc);
+        for input in 0..graph.inputs() {
+            of_inputs.push(unchanged(alloc, simulator.reached(input))?)?;
+        }
+        Ok(Tally {
+            vectors: 0,
+            ones,
+            of_inputs,
+        })
+    }
+
+    /// Leaves an input out: it isn't inverted.
+    pub fn leave_out(&mut self, input: u32) {
+        if (input as usize) < self.of_inputs.len() {
+            self.of_inputs[input as usize].clear();
+        }
+    }
+
+    /// Counts the vectors that a simulator was run on.
+    pub fn add(&mut self, simulator: &mut FlipSim<'_>) {
+        self.vectors = self.vectors.saturating_add(256);
+        add_ones(simulator, self.ones.as_mut_slice());
+        add_influences(simulator, self.of_inputs.as_mut_slice());
+    }
+
+    /// What was counted, without the outputs that no vector changes.
+    ///
+    /// # Errors
+    ///
+    /// Only when out of memory.
+    pub fn counts(self, alloc: Global) -> Result<Counts, AllocError> {
+        let Tally {
+            vectors,
+            ones,
+            of_inputs,
+        } = self;
+        let kept = changing(alloc, &of_inputs)?;
+        let of_outputs = turned(alloc, &kept, ones.len())?;
+        Ok(Counts {
+            vectors,
+            ones: Items::from_vec(ones),
+            of_inputs: kept,
+            of_outputs,
+        })
+    }
+}
+
+// No change of each output that is reached.
+fn unchanged(alloc: Global, reached: &[u32]) -> Result<Vec<Influence>, AllocError> {
+    let mut influences = Vec::with_capacity(alloc, reached.len())?;
+    for output in reached.iter() {
+        influences.push(Influence {
+            port: *output,
+            agrees: 0,
+            differs: 0,
+        })?;
+    }
+    Ok(influences)
+}
+
+fn add_ones(simulator: &FlipSim<'_>, ones: &mut [u32]) {
+    for (output, count) in ones.iter_mut().enumerate() {
+        *count = count.saturating_add(ones_in(simulator.output(port_at(output))));
+    }
+}
+
+fn add_influences(simulator: &mut FlipSim<'_>, of_inputs: &mut [Vec<Influence>]) {
+    for (input, influences) in of_inputs.iter_mut().enumerate() {
+        if !influences.is_empty() {
+            add_changes(simulator, port_at(input), influences.as_mut_slice());
+        }
+    }
+}
+
+fn add_changes(simulator: &mut FlipSim<'_>, input: u32, influences: &mut [Influence]) {
+    let lanes = simulator.input(input);
+    simulator.flip(input);
+    for influence in influences.iter_mut() {
+        let before = simulator.output(influence.port);
+        let after = simulator.flipped_output(influence.port);
+        influence.add(before, after, lanes);
+    }
+    simulator.unflip(input);
+}
+
+// The influences that are some.
+fn changing(
+    alloc: Global,
+    of_inputs: &[Vec<Influence>],
+) -> Result<Items<Items<Influence>>, AllocError> {
+    let mut kept = Items::new(alloc);
+    for influences in of_inputs.iter() {
+        kept.push(some_of(alloc, influences)?)?;
+    }
+    Ok(kept)
+}
+
+fn some_of(alloc: Global, influences: &[Influence]) -> Result<Items<Influence>, AllocError> {
+    let mut kept = Items::new(alloc);
+    for influence in influences.iter() {
+        if influence.changes() > 0 {
+            kept.push(*influence)?;
+        }
+    }
+    Ok(kept)
+}
+
+// The influences on each output, from those of each input.
+fn turned(
+    alloc: Global,
+    of_inputs: &[Items<Influence>],
+    outputs: usize,
+) -> Result<Items<Items<Influence>>, AllocError> {
+    let mut of_outputs = Vec::with_capacity(alloc, outputs)?;
+    for _ in 0..outputs {
+        of_outputs.push(Items::new(alloc))?;
+    }
+    for (input, influences) in of_inputs.iter().enumerate() {
+        turn(port_at(input), influences, of_outputs.as_mut_slice())?;
+    }
+    Ok(Items::from_vec(of_outputs))
+}
+
+// Adds the influences of an input to those on outputs.
+fn turn(
+    input: u32,
+    influences: &[Influence],
+    of_outputs: &mut [Items<Influence>],
+) -> Result<(), AllocError> {
+    for influence in influences.iter() {
+        if (influence.port as usize) < of_outputs.len() {
+            of_outputs[influence.port as usize].push(Influence {
+                port: input,
+                agrees: influence.agrees,
+                differs: influence.differs,
+            })?;
+        }
+    }
+    Ok(())
+}

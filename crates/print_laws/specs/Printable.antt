@@ -1,0 +1,26 @@
+-- Which netlists and names an AIGER file can hold, within the limits of the reader.
+use Rattle.std.specs.Prelude.{◌≡◌, ◌≢◌, ℕ, ◌≤◌, List, [], ◌∷◌, ◌++◌, length, All}
+use Rattle.text_core.specs.Lines.{IsLine}
+use Rattle.circuits.specs.Netlists.{Net, IsOrdered}
+use Rattle.net_file.specs.declared.named.Named.{Named}
+
+-- A name that a symbol's line can hold: it isn't empty, has no line feed, and no carriage return at its end.
+pub record IsSymbolName (name : List ℕ) : Type 0 where
+  pub filled : name ≢ []
+  pub on_line : IsLine name
+  pub no_return : (front : List ℕ) → name ≢ front ++ 13 ∷ []
+
+-- A netlist in order, of no more ports and gates than the readers take.
+pub record IsWithinLimits (net : Net) : Type 0 where
+  pub ordered : IsOrdered net
+  pub inputs : net.inputs ≤ 1024
+  pub outputs : length net.outputs ≤ 1024
+  pub gates : length net.gates ≤ 1000000
+
+-- And each port has a name that a symbol can give it.
+pub record IsPrintable (named : Named) : Type 0 where
+  pub within : IsWithinLimits named.graph
+  pub inputs_named : length named.input_names ≡ named.graph.inputs
+  pub outputs_named : length named.output_names ≡ length named.graph.outputs
+  pub input_names : All IsSymbolName named.input_names
+  pub output_names : All IsSymbolName named.output_names

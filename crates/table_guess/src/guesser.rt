@@ -1,0 +1,517 @@
+//! Tables that may be a match.
+
+ghost use Rattle.std.specs.Prelude.{◌≡◌, IfOk, IfSome, length};
+ghost use Rattle.account_core.specs.Ports.{HaveAsMany};
+ghost use Rattle.circuits.specs.Matches.{HavePorts};
+
+use crate::choice::{Next, next_level};
+use crate::circuit::{Circuit, Sample};
+use crate::kept::Kept;
+use crate::leaf::with_paired_outputs;
+use crate::level::{Level, next_state};
+use crate::matching::matching_of;
+use bit_list::Bits;
+use cell_splits::{Assignment, Draws, Keys, Link, Patterns, State, anchored, climbed};
+use flip_sim::{FlipSim, Lanes};
+use items::Items;
+use net_core::{Graph, Graphs, Matching, Side};
+use port_cells::{Cells, Slack};
+use std::alloc::{AllocError, Global};
+
+/// The most gates that the inputs may reach, a gate counted for each input: a simulator keeps these, in 12 bytes each.
+const MOST_REACHED: u64 = 1 << 23;
+
+/// How many words of gates may be computed, about a second.
+const MOST_WORDS: u64 = 1 << 28;
+
+/// How often a search begins anew, with other choices. Most tables that are found are found in the first two rounds.
+const ROUNDS: u32 = 8;
+
+/// How many guesses may fail in the first round. In each further round half as many more may.
+const FIRST_FAILURES: u32 = 8;
+
+/// How many may fail where all signs are taken as plain: only circuits without negated ports are matched by that.
+const PLAIN_FAILURES: u32 = 4;
+
+/// How many may fail where vectors decide all signs: these are right or wrong as a whole.
+const ANCHOR_FAILURES: u32 = 3;
+
+/// The most states that one search goes through, and the most rounds of one refinement: bounds that aren't met, since each
+/// round splits a cell and each search has few failures.
+const MOST_STATES: u32 = 100_000;
+
+/// Under how many assignments cells are split where signs are open. Each tells other inputs apart.
+const MANY_ASSIGNMENTS: u32 = 8;
+
+/// Under how many more where these told nothing, and on how many blocks of 256 vectors each. More vectors show smaller
+/// influences.
+const FEW_ASSIGNMENTS: u32 = 4;
+
+const MANY_BLOCKS: u64 = 16;
+
+/// What a state comes to.
+#[derive(Drop)]
+enum Visit {
+    /// The inputs are paired, and the outputs by vectors.
+    Paired(State),
+    /// An input is guessed.
+    Guess(Level),
+    /// There is no match in it, or none that vectors allow.
+    Fails,
+}
+
+/// What a search comes to.
+#[derive(Drop)]
+enum Attempt {
+    Paired(State),
+    /// All that the cells allow was tried.
+    Exhausted,
+    /// Too many guesses failed.
+    Stopped,
+}
+
+/// What finds tables that may be a match, by counts of how outputs change with inputs and by vectors. It leaves no
+/// evidence, and where it finds nothing that says nothing of whether there is a match.
+#[derive(Drop)]
+pub struct Guesser<'a> {
+    first: Circuit<'a>,
+    second: Circuit<'a>,
+    sample: Sample,
+    draws: Draws,
+    kept: Kept,
+    /// Vectors of the first circuit on which many inputs matter, once they are needed: a column for each input.
+    climbed: Items<Lanes>,
+    round: u32,
+    /// Whether all that was counted was counted on all vectors. Then a search that is exhausted has missed no table.
+    is_exact: bool,
+}
+
+impl<'a> Guesser<'a> {
+    /// Counts of both circuits, on vectors drawn by a seed where all are too many. None where counting is too expensive.
+    ///
+    /// # Errors
+    ///
+    /// Only when out of memory.
+    pub fn new(
+        alloc: Global,
+        graphs: &Graphs<'a>,
+        seed: u64,
+    ) -> Result<Option<Guesser<'a>>, AllocError> {
+        if is_expensive(graphs.first()) || is_expensive(graphs.second()) {
+            return Ok(None);
+        }
+        let first = FlipSim::new(alloc, graphs.first())?;
+        let second = FlipSim::new(alloc, graphs.second())?;
+        let words = first.words_of_flips().max(second.words_of_flips());
+        let sample = Sample::new(graphs.first().inputs(), words);
+        if sample.blocks.saturating_mul(words) > MOST_WORDS {
+            return Ok(None);
+        }
+        let mut draws = Draws::new(seed);
+        let first = Circuit::new(alloc, first, sample, &mut draws)?;
+        let second = Circuit::new(alloc, second, sample, &mut draws)?;
+        let kept = Kept::new(alloc, graphs.first().inputs())?;
+        Ok(Some(Guesser {
+            first,
+            second,
+            sample,
+            draws,
+            kept,
+            climbed: Items::new(alloc),
+            round: 0,
+            is_exact: sample.is_all,
+        }))
+    }
+
+    /// Keeps a vector of the first circuit's inputs on which a table failed, so that further tables agree on it.
+    pub fn keep(&mut self, vector: &Bits) {
+        self.kept.keep(vector);
+    }
+
+    /// A table whose outputs agree on all vectors that were tried. None where none is found within a bounded effort.
+    ///
+    /// # Errors
+    ///
+    /// Only when out of memory.
+    pub fn guess(
+        &mut self,
+        alloc: Global,
+        graphs: &Graphs<'_>,
+    ) -> Result<Option<Matching>, AllocError>
+        requires ports { HaveAsMany graphs.now.first graphs.now.second }
+        ensures { IfOk result (λ found. IfSome found
+            (λ table. HavePorts graphs.now.first graphs.now.second table.inputs table.outputs)) }
+    {
+        let root = State::new(alloc, self.first.graph())?;
+        match self.find(alloc, root)? {
+            Some(state) => matching_of(alloc, graphs, &state),
+            None => Ok(None),
+        }
+    }
+
+    // Searches in rounds, from cells that counts have split.
+    fn find(&mut self, alloc: Global, root: State) -> Result<Option<State>, AllocError> {
+        let mut failures = FIRST_FAILURES;
+        for round in 0..ROUNDS {
+            self.round = round;
+            match self.search_round(alloc, root.copy()?, failures)? {
+                Attempt::Paired(state) => return Ok(Some(state)),
+                Attempt::Exhausted if self.is_exact => return Ok(None),
+                _ => {}
+            }
+            failures = failures.saturating_add(failures / 2);
+        }
+        Ok(None)
+    }
+
+    // Searches with all open signs plain in the first round, and then with them open.
+    fn search_round(
+        &mut self,
+        alloc: Global,
+        root: State,
+        failures: u32,
+    ) -> Result<Attempt, AllocError> {
+        let root = with_paired_idle(alloc, root, &self.first, &self.second, self.sample)?;
+        let Some(root) = self.linked(alloc, root)? else {
+            return Ok(Attempt::Exhausted);
+        };
+        if self.round == 0
+            && let Some(plain) = with_plain_signs(alloc, &root)?
+            && let Attempt::Paired(state) = self.search(alloc, plain, PLAIN_FAILURES)?
+        {
+            return Ok(Attempt::Paired(state));
+        }
+        if self.round % 2 == 0
+            && let Some(state) = self.find_anchored(alloc, root.copy()?)?
+        {
+            return Ok(Attempt::Paired(state));
+        }
+        self.search(alloc, root, failures)
+    }
+
+    // Searches with open signs that vectors decide which may correspond.
+    fn find_anchored(&mut self, alloc: Global, root: State) -> Result<Option<State>, AllocError> {
+        let Some(root) = self.refined(alloc, root)? else {
+            return Ok(None);
+        };
+        if !root.inputs.has_open() {
+            return Ok(None);
+        }
+        let mut states = anchored(
+            alloc,
+            &root,
+            &mut self.first.simulator,
+            &mut self.second.simulator,
+            &mut self.draws,
+        )?;
+        while let Some(state) = states.pop() {
+            if let Attempt::Paired(state) = self.search(alloc, state, ANCHOR_FAILURES)? {
+                return Ok(Some(state));
+            }
+        }
+        Ok(None)
+    }
+
+    // Searches depth first until so many guesses have failed.
+    fn search(&mut self, alloc: Global, root: State, failures: u32) -> Result<Attempt, AllocError> {
+        let mut levels = Vec::new(alloc);
+        let mut left = failures;
+        let mut visit = self.visit(alloc, root)?;
+        for _ in 0..MOST_STATES {
+            match visit {
+                Visit::Paired(state) => return Ok(Attempt::Paired(state)),
+                Visit::Guess(level) => levels.push(level)?,
+                Visit::Fails => left = left.saturating_sub(1),
+            }
+            if left == 0 || self.is_spent() {
+                return Ok(Attempt::Stopped);
+            }
+            let Some(state) = next_state(alloc, &mut levels)? else {
+                return Ok(Attempt::Exhausted);
+            };
+            visit = self.visit(alloc, state)?;
+        }
+        Ok(Attempt::Stopped)
+    }
+
+    fn is_spent(&self) -> bool {
+        let words = self.first.simulator.words();
+        words.saturating_add(self.second.simulator.words()) > MOST_WORDS
+    }
+
+    // Refines a state, and chooses what is guessed next.
+    fn visit(&mut self, alloc: Global, state: State) -> Result<Visit, AllocError> {
+        let Some(state) = self.refined(alloc, state)? else {
+            return Ok(Visit::Fails);
+        };
+        match next_level(
+            alloc,
+            state,
+            &self.first.counts,
+            self.round,
+            &mut self.draws,
+        )? {
+            Next::Guess(level) => Ok(Visit::Guess(level)),
+            Next::Paired(state) => self.paired(alloc, state),
+        }
+    }
+
+    fn paired(&mut self, alloc: Global, state: State) -> Result<Visit, AllocError> {
+        match with_paired_outputs(
+            alloc,
+            state,
+            &mut self.first,
+            &mut self.second,
+            &self.kept,
+            &mut self.draws,
+        )? {
+            Some(state) => Ok(Visit::Paired(state)),
+            None => Ok(Visit::Fails),
+        }
+    }
+
+    // Splits cells until nothing splits any more, or None where a cell has other numbers of literals on both sides.
+    fn refined(&mut self, alloc: Global, state: State) -> Result<Option<State>, AllocError> {
+        let Some(state) = self.linked(alloc, state)? else {
+            return Ok(None);
+        };
+        let mut state = state;
+        for _ in 0..MOST_STATES {
+            if state.inputs.is_discrete() || !has_known_sign(&state.inputs) {
+                return Ok(Some(state));
+            }
+            let before = state.count();
+            let Some(finer) = self.refined_once(alloc, state)? else {
+                return Ok(None);
+            };
+            state = finer;
+            if state.count() == before {
+                return Ok(Some(state));
+            }
+        }
+        Ok(Some(state))
+    }
+
+    // Splits cells by vectors, or by counts under assignments where signs are open, and then by the first counts.
+    fn refined_once(&mut self, alloc: Global, state: State) -> Result<Option<State>, AllocError> {
+        let split = if state.inputs.has_open() {
+            self.split_by_assignments(alloc, state)?
+        } else {
+            self.split_by_vectors(alloc, state)?
+        };
+        match split {
+            Some(state) => self.linked(alloc, state),
+            None => Ok(None),
+        }
+    }
+
+    // Splits cells by counts under assignments, of more vectors where few tell nothing.
+    fn split_by_assignments(
+        &mut self,
+        alloc: Global,
+        state: State,
+    ) -> Result<Option<State>, AllocError> {
+        let before = state.count();
+        let Some(state) = self.split_under(alloc, state, MANY_ASSIGNMENTS, 1)? else {
+            return Ok(None);
+        };
+        // a guess among inputs whose signs are known splits more for less
+        if state.count() > before || state.has_shared(alloc)? {
+            return Ok(Some(state));
+        }
+        self.split_under(alloc, state, FEW_ASSIGNMENTS, MANY_BLOCKS)
+    }
+
+    // Splits cells by counts under so many assignments, on so many blocks of vectors each.
+    fn split_under(
+        &mut self,
+        alloc: Global,
+        state: State,
+        assignments: u32,
+        blocks: u64,
+    ) -> Result<Option<State>, AllocError> {
+        let mut state = state;
+        for _ in 0..assignments {
+            let Some(finer) = self.split_under_one(alloc, state, blocks)? else {
+                return Ok(None);
+            };
+            state = finer;
+        }
+        Ok(Some(state))
+    }
+
+    fn split_under_one(
+        &mut self,
+        alloc: Global,
+        state: State,
+        blocks: u64,
+    ) -> Result<Option<State>, AllocError> {
+        let assignment = self.assignment(alloc, &state, blocks)?;
+        let first = assignment.count(
+            alloc,
+            &state,
+            Side::First,
+            &mut self.first.simulator,
+            &mut self.draws,
+        )?;
+        let second = assignment.count(
+            alloc,
+            &state,
+            Side::Second,
+            &mut self.second.simulator,
+            &mut self.draws,
+        )?;
+        self.is_exact &= assignment.is_all();
+        let link = Link {
+            first: &first,
+            second: &second,
+            slack: self.slack(first.vectors, assignment.is_all()),
+        };
+        link.split(alloc, state)
+    }
+
+    // A drawn assignment, or in half of the cases one by a vector on which many inputs matter.
+    fn assignment(
+        &mut self,
+        alloc: Global,
+        state: &State,
+        blocks: u64,
+    ) -> Result<Assignment, AllocError> {
+        let lane = self.draws.below(2 * 256);
+        if lane >= 256 {
+            return Assignment::draw(alloc, &state.inputs, blocks, &mut self.draws);
+        }
+        if self.climbed.is_empty() {
+            self.climbed = climbed(alloc, &mut self.first.simulator, &mut self.draws)?;
+        }
+        Assignment::by_majority(alloc, &state.inputs, &self.climbed, lane, blocks)
+    }
+
+    // Splits cells whose signs are known by drawn vectors.
+    fn split_by_vectors(
+        &mut self,
+        alloc: Global,
+        state: State,
+    ) -> Result<Option<State>, AllocError> {
+        let patterns = Patterns::draw(alloc, &state.inputs, &mut self.draws)?;
+        let first = Keys::new(
+            alloc,
+            &state,
+            Side::First,
+            &patterns,
+            &mut self.first.simulator,
+        )?;
+        let second = Keys::new(
+            alloc,
+            &state,
+            Side::Second,
+            &patterns,
+            &mut self.second.simulator,
+        )?;
+        let inputs = state.inputs.refine(alloc, &first.inputs, &second.inputs)?;
+        let outputs = state
+            .outputs
+            .refine(alloc, &first.outputs, &second.outputs)?;
+        match state.with_inputs(inputs) {
+            Some(state) => Ok(state.with_outputs(outputs)),
+            None => Ok(None),
+        }
+    }
+
+    // Splits cells by what was counted at first.
+    fn linked(&self, alloc: Global, state: State) -> Result<Option<State>, AllocError> {
+        let vectors = self.first.counts.vectors;
+        let link = Link {
+            first: &self.first.counts,
+            second: &self.second.counts,
+            slack: self.slack(vectors, self.sample.is_all),
+        };
+        link.split(alloc, state)
+    }
+
+    // 5.5, 6.25 and 7 standard deviations in turn: a match is missed where one of many counts is farther off.
+    fn slack(&self, vectors: u32, is_all: bool) -> Option<Slack> {
+        if is_all {
+            return None;
+        }
+        Some(Slack {
+            vectors,
+            deviations: match self.round % 3 {
+                0 => 30,
+                1 => 39,
+                _ => 49,
+            },
+        })
+    }
+}
+
+// Whether a circuit's inputs may reach too many gates to be kept.
+fn is_expensive(graph: &Graph) -> bool {
+    let gates = graph.gates().len() as u64;
+    gates.saturating_mul(u64::from(graph.inputs())) > MOST_REACHED
+}
+
+// Whether the sign of some input is known.
+fn has_known_sign(inputs: &Cells) -> bool {
+    for literal in 0..inputs.of(Side::First).len() {
+        if !inputs.is_open(literal) {
+            return true;
+        }
+    }
+    false
+}
+
+// The state where ports whose signs are open go to plain ones, if there are some.
+fn with_plain_signs(alloc: Global, state: &State) -> Result<Option<State>, AllocError> {
+    if !state.inputs.has_open() {
+        return Ok(None);
+    }
+    let first = sign_keys(alloc, state.inputs.of(Side::First))?;
+    let second = sign_keys(alloc, state.inputs.of(Side::Second))?;
+    let inputs = state.inputs.refine(alloc, &first, &second)?;
+    Ok(state.copy()?.with_inputs(inputs))
+}
+
+// Keys by which plain literals whose signs are open go to plain ones.
+fn sign_keys(alloc: Global, cells: &[usize]) -> Result<Vec<u64>, AllocError> {
+    let mut keys = Vec::with_capacity(alloc, cells.len())?;
+    for (literal, cell) in cells.iter().enumerate() {
+        let is_open = cells.get(literal ^ 1) == Some(cell);
+        keys.push(if is_open { (literal % 2) as u64 } else { 0 })?;
+    }
+    Ok(keys)
+}
+
+// The state where inputs that change no output go to such inputs in order, where both circuits have as many.
+fn with_paired_idle(
+    alloc: Global,
+    state: State,
+    first: &Circuit<'_>,
+    second: &Circuit<'_>,
+    sample: Sample,
+) -> Result<State, AllocError> {
+    let left = idle_keys(alloc, first, sample)?;
+    let right = idle_keys(alloc, second, sample)?;
+    match state.inputs.refine(alloc, &left, &right)? {
+        Some(inputs) => Ok(State {
+            inputs,
+            outputs: state.outputs,
+        }),
+        None => Ok(state),
+    }
+}
+
+// Keys of their own for the literals of each input that changes no output.
+fn idle_keys(alloc: Global, circuit: &Circuit<'_>, sample: Sample) -> Result<Vec<u64>, AllocError> {
+    let mut keys = Vec::with_capacity(alloc, circuit.counts.of_inputs.len())?;
+    let mut idle = 0u64;
+    for input in 0..circuit.graph().inputs() {
+        let is_idle = circuit.is_idle(input, sample);
+        if is_idle {
+            idle = idle.saturating_add(2);
+        }
+        keys.push(if is_idle { idle } else { 0 })?;
+        keys.push(if is_idle { idle | 1 } else { 0 })?;
+    }
+    Ok(keys)
+}

@@ -1,0 +1,131 @@
+//! Whole tables of inputs, tried on vectors.
+
+use crate::circuit::Circuit;
+use crate::kept::Kept;
+use cell_splits::{Draws, Patterns, State, add_hashes};
+use flip_sim::{Lanes, all_lanes, blocks_of_all};
+use net_core::Side;
+use std::alloc::{AllocError, Global};
+
+/// How many blocks of 256 drawn vectors a table is tried on at first: most wrong ones fail on them.
+const FIRST_BLOCKS: u64 = 8;
+
+/// How many further ones a table of many inputs is tried on, some 200,000 vectors: a wrong table costs the oracle more.
+const MORE_BLOCKS: u64 = 768;
+
+/// Pairs the outputs of circuits whose inputs are paired by what they have on vectors, where that can be: on those on which
+/// tables failed before, on drawn ones, and on all where the inputs are few.
+pub(crate) fn with_paired_outputs(
+    alloc: Global,
+    state: State,
+    first: &mut Circuit<'_>,
+    second: &mut Circuit<'_>,
+    kept: &Kept,
+    draws: &mut Draws,
+) -> Result<Option<State>, AllocError> {
+    let Some(state) = on_kept(alloc, state, first, second, kept)? else {
+        return Ok(None);
+    };
+    let Some(state) = on_drawn(alloc, state, first, second, FIRST_BLOCKS, draws)? else {
+        return Ok(None);
+    };
+    let all = blocks_of_all(first.graph().inputs());
+    if all <= MORE_BLOCKS {
+        on_all(alloc, state, first, second, all)
+    } else {
+        on_drawn(alloc, state, first, second, MORE_BLOCKS, draws)
+    }
+}
+
+// Pairs outputs by the vectors on which tables failed.
+fn on_kept(
+    alloc: Global,
+    state: State,
+    first: &mut Circuit<'_>,
+    second: &mut Circuit<'_>,
+    kept: &Kept,
+) -> Result<Option<State>, AllocError> {
+    let patterns = Patterns::of_inputs(alloc, &state.inputs, kept.inputs())?;
+    let mut hashes = Hashes::new(alloc, &state)?;
+    hashes.add(&state, &patterns, first, second);
+    hashes.split(alloc, state)
+}
+
+// Pairs outputs by drawn vectors.
+fn on_drawn(
+    alloc: Global,
+    state: State,
+    first: &mut Circuit<'_>,
+    second: &mut Circuit<'_>,
+    blocks: u64,
+    draws: &mut Draws,
+) -> Result<Option<State>, AllocError> {
+    let mut hashes = Hashes::new(alloc, &state)?;
+    for _ in 0..blocks {
+        let patterns = Patterns::draw(alloc, &state.inputs, draws)?;
+        hashes.add(&state, &patterns, first, second);
+    }
+    hashes.split(alloc, state)
+}
+
+// Pairs outputs by all vectors.
+fn on_all(
+    alloc: Global,
+    state: State,
+    first: &mut Circuit<'_>,
+    second: &mut Circuit<'_>,
+    blocks: u64,
+) -> Result<Option<State>, AllocError> {
+    let mut hashes = Hashes::new(alloc, &state)?;
+    for block in 0..blocks {
+        let lanes = lanes_of_block(alloc, first.graph().inputs(), block)?;
+        let patterns = Patterns::of_inputs(alloc, &state.inputs, &lanes)?;
+        hashes.add(&state, &patterns, first, second);
+    }
+    hashes.split(alloc, state)
+}
+
+fn lanes_of_block(alloc: Global, inputs: u32, block: u64) -> Result<Vec<Lanes>, AllocError> {
+    let mut lanes = Vec::with_capacity(alloc, inputs as usize)?;
+    for input in 0..inputs {
+        lanes.push(all_lanes(input, block))?;
+    }
+    Ok(lanes)
+}
+
+// Hashes of the bits of the outputs' literals.
+#[derive(Drop)]
+struct Hashes {
+    first: Vec<u64>,
+    second: Vec<u64>,
+}
+
+impl Hashes {
+    fn new(alloc: Global, state: &State) -> Result<Hashes, AllocError> {
+        let literals = state.outputs.of(Side::First).len();
+        Ok(Hashes {
+            first: vec![in alloc; 0u64; literals]?,
+            second: vec![in alloc; 0u64; literals]?,
+        })
+    }
+
+    // Adds what the outputs have on more vectors.
+    fn add(
+        &mut self,
+        state: &State,
+        patterns: &Patterns,
+        first: &mut Circuit<'_>,
+        second: &mut Circuit<'_>,
+    ) {
+        patterns.run(&state.inputs, Side::First, &mut first.simulator);
+        patterns.run(&state.inputs, Side::Second, &mut second.simulator);
+        add_hashes(&first.simulator, &mut self.first);
+        add_hashes(&second.simulator, &mut self.second);
+    }
+
+    // The state with the outputs' cells split by the hashes.
+    fn split(&self, alloc: Global, state: State) -> Result<Option<State>, AllocError> {
+        let outputs = state.outputs.refine(alloc, &self.first, &self.second)?;
+        Ok(state.with_outputs(outputs))
+    }
+}

@@ -1,0 +1,56 @@
+//! Tables from cells.
+
+ghost use Rattle.std.specs.Prelude.{◌≡◌, IfOk, IfSome, length};
+ghost use Rattle.account_core.specs.Ports.{HaveAsMany};
+ghost use Rattle.circuits.specs.Matches.{HavePorts};
+
+use cell_splits::State;
+use items::Items;
+use net_core::{Graphs, Matching, Side};
+use port_cells::{Cells, port_at};
+use std::alloc::{AllocError, Global};
+
+/// The table of cells, if they make one: within a cell the first literal goes to the first, and so on.
+pub(crate) fn matching_of(
+    alloc: Global,
+    graphs: &Graphs<'_>,
+    state: &State,
+) -> Result<Option<Matching>, AllocError>
+    requires ports { HaveAsMany graphs.now.first graphs.now.second }
+    ensures { IfOk result (λ found. IfSome found
+        (λ table. HavePorts graphs.now.first graphs.now.second table.inputs table.outputs)) }
+{
+    let inputs = graphs.first().inputs();
+    let outputs = graphs.first().outputs().len() as u32;
+    let table = Matching {
+        inputs: entries(alloc, &state.inputs)?,
+        outputs: entries(alloc, &state.outputs)?,
+    };
+    if table.check_shape(inputs, outputs) {
+        return Ok(Some(table));
+    }
+    Ok(None)
+}
+
+// Where each port of the first circuit goes.
+fn entries(alloc: Global, cells: &Cells) -> Result<Items<(u32, bool)>, AllocError> {
+    let left = cells.members(alloc, Side::First)?;
+    let right = cells.members(alloc, Side::Second)?;
+    let mut entries = vec![in alloc; (0u32, false); cells.of(Side::First).len() / 2]?;
+    for (mine, its) in left.iter().zip(right.iter()) {
+        put_entries(mine, its, &mut entries);
+    }
+    Ok(Items::from_vec(entries))
+}
+
+fn put_entries(mine: &[usize], its: &[usize], entries: &mut [(u32, bool)]) {
+    for (from, to) in mine.iter().zip(its.iter()) {
+        put_entry(*from, *to, entries);
+    }
+}
+
+fn put_entry(from: usize, to: usize, entries: &mut [(u32, bool)]) {
+    if (from % 2 == 0) & (from / 2 < entries.len()) {
+        entries[from / 2] = (port_at(to / 2), to % 2 == 1);
+    }
+}

@@ -1,0 +1,261 @@
+-- Clauses that are added and attached.
+use Rattle.std.proofs.Common.{◌≡◌, ◌≢◌, ℕ, zero, suc, ◌+◌, ◌*◌, ◌/◌, ◌%◌, ◌^◌, ◌<◌, ◌≤◌, false, List, [], ◌∷◌, ◌++◌, length, take, Some, replicate, inl, inr, refl, sym, ◌∙◌, ap, subst, arith}
+use Rattle.std.proofs.lemmas.Bool.{cases_eq, cases_lt, false≢true}
+use Rattle.std.proofs.lemmas.List.{get_or_append_left, get_or_at, get_or_past, get_or-append-add, get_or-replicate, length-append, length-replicate, take_at}
+use Rattle.std.proofs.lemmas.List.Elements.{All-push}
+use Rattle.cnf_core.specs.declared.literal.SatLit.{SatLit}
+use Rattle.cnf_core.specs.Clauses.{clause_at, opposite, variable_of}
+use Rattle.cnf_core.specs.Derivations.{is_empty, is_true}
+use Rattle.trail_core.specs.declared.assigned.Assigned.{Assigned}
+use Rattle.trail_core.specs.Trails.{Trailing, entry_at, nothing}
+use Rattle.watch_lists.specs.declared.threads.Watch.{Watch}
+use Rattle.watch_lists.specs.declared.threads.Head.{Head}
+use Rattle.watch_lists.specs.Feet.{ArePair, IsSettled}
+use Rattle.watch_lists.specs.Propagations.{AreKnown, IsGrown, IsSound}
+use Rattle.watch_lists.specs.Threads.{ArePut, AreThreaded, IsAttached, IsIn, IsOnce, head_at, links, list_of, literal_at, no_head, no_watch, partner, watch_at}
+use Rattle.watch_lists.specs.Watched.{AreKept, Fits, IsHeld, IsPresent, Watching, loose_watch, with_clause}
+use Rattle.watch_lists.proofs.GrowLemmas.{sound_more}
+use Rattle.watch_lists.proofs.PassLemmas.{grown_none}
+use Rattle.watch_lists.proofs.ThreadLemmas.{partner_within}
+
+-- ---- no clause
+
+emptied : (n c : ℕ) → list_of [] (replicate n no_head) c ≡ []
+emptied n c = elim (cases_lt c n) [
+  | inl low ↦ ap (λ (h : Head). links [] h.count h.first) (get_or-replicate n c no_head no_head low)
+  | inr high ↦ ap (λ (h : Head). links [] h.count h.first) (get_or_past (replicate n no_head) c no_head (omega (arith, high, length-replicate n no_head)))
+]
+
+pub kept_new : (variables : ℕ) (heads : List Head) → heads ≡ replicate (2 * variables) no_head → AreKept variables [] [] heads
+kept_new variables heads is = subst (AreKept variables [] []) (sym is) (record {
+  heads_are = length-replicate (2 * variables) no_head;
+  known = λ k d within. absurd (omega (arith, within));
+  of_clauses = record { size = refl; of = λ s within. absurd (omega (arith, within)) };
+  threaded = record {
+    even = refl;
+    few = omega arith;
+    known = λ s within. absurd (omega (arith, within));
+    own = λ c s low here. absurd (subst (IsIn s) (emptied (2 * variables) c) here);
+    once = λ c low. subst IsOnce (sym (emptied (2 * variables) c)) tt;
+    out_once = tt;
+    out_nowhere = λ s none. absurd none;
+    all = λ s within. absurd (omega (arith, within));
+  };
+})
+
+-- ---- one clause more
+
+links_longer : (ws more : List Watch) (count at : ℕ) → ((s : ℕ) → IsIn s (links ws count at) → s < length ws) → links (ws ++ more) count at ≡ links ws count at
+links_longer ws more zero at within = refl
+links_longer ws more (suc count) at within =
+    let next = (watch_at ws at).next in
+    let same : (watch_at (ws ++ more) at).next ≡ next = ap (λ (w : Watch). w.next) (get_or_append_left ws more no_watch at (within at (inl refl))) in
+    ap (λ n. at ∷ links (ws ++ more) count n) same ∙ ap (λ xs. at ∷ xs) (links_longer ws more count next (λ s here. within s (inr here)))
+
+-- the two new watches, of which each is the other's partner
+added_at : (ws : List Watch) (w : Watch) → (t : ℕ) → length ws ≤ t → t < length ws + 2 → watch_at (ws ++ w ∷ w ∷ []) t ≡ w
+added_at ws w t late within = elim (cases_eq t (length ws)) [
+  | inl here ↦ get_or_at ws w (w ∷ []) no_watch t (sym here)
+  | inr other ↦
+      let is : length ws + 1 ≡ t = omega (arith, late, within, other) in
+      ap (watch_at (ws ++ w ∷ w ∷ [])) (sym is) ∙ get_or-append-add ws (w ∷ w ∷ []) 1 no_watch
+]
+
+old_at : (ws more : List Watch) (t : ℕ) → t < length ws → watch_at (ws ++ more) t ≡ watch_at ws t
+old_at ws more t within = get_or_append_left ws more no_watch t within
+
+pub attached_added : (ws : List Watch) (w : Watch) → length ws % 2 ≡ 0 → (t : ℕ) → t < length ws + 2 → IsAttached (ws ++ w ∷ w ∷ []) t → (t < length ws) × IsAttached ws t
+attached_added ws w even t within attached = elim (cases_lt t (length ws)) [
+  | inl old ↦ (old, λ e. attached (ap (λ (x : Watch). x.literal.0) (old_at ws (w ∷ w ∷ []) t old) ∙ (e ∙ sym (ap (λ (x : Watch). x.literal.0) (old_at ws (w ∷ w ∷ []) (partner t) (partner_within ws t even old))))))
+  | inr late ↦
+      let own = added_at ws w t late within in
+      let other = added_at ws w (partner t) (omega (arith, late, even)) (omega (arith, within, even)) in
+      absurd (attached (ap (λ (x : Watch). x.literal.0) own ∙ sym (ap (λ (x : Watch). x.literal.0) other)))
+]
+
+pub attached_longer : (ws : List Watch) (w : Watch) → length ws % 2 ≡ 0 → (t : ℕ) → t < length ws → IsAttached ws t → IsAttached (ws ++ w ∷ w ∷ []) t
+attached_longer ws w even t old attached e =
+    attached (sym (ap (λ (x : Watch). x.literal.0) (old_at ws (w ∷ w ∷ []) t old)) ∙ (e ∙ ap (λ (x : Watch). x.literal.0) (old_at ws (w ∷ w ∷ []) (partner t) (partner_within ws t even old))))
+
+first_known : (n : ℕ) (clause : List SatLit) → AreKnown n clause → is_empty clause ≡ false → variable_of (loose_watch clause).literal < n
+first_known n [] known e = absurd (false≢true (sym e))
+first_known n (l ∷ clause) known e = known 0 l (omega arith)
+
+pub kept_added : (variables : ℕ) (clauses put : List (List SatLit)) (ws new : List Watch) (heads : List Head) (clause : List SatLit) → AreKept variables clauses ws heads → AreKnown variables clause → is_empty clause ≡ false → put ≡ clauses ++ clause ∷ [] → new ≡ ws ++ loose_watch clause ∷ loose_watch clause ∷ [] → length new < 2 ^ 64 → AreKept variables put new heads
+kept_added variables clauses put ws new heads clause is known filled put_is new_is few =
+    subst (λ cs. AreKept variables cs new heads) (sym put_is) (subst (λ xs. AreKept variables (clauses ++ clause ∷ []) xs heads) (sym new_is) (record {
+      heads_are = is.heads_are;
+      known = All-push (AreKnown variables) clauses clause is.known known;
+      of_clauses = record {
+        size = omega (arith, size, is.of_clauses.size, length-append clauses (clause ∷ []));
+        of = λ s within attached.
+            let old = attached_added ws w even s (omega (arith, within, size)) attached in
+            let there : s / 2 < length clauses = omega (arith, old.0, is.of_clauses.size) in
+            ap (λ c. is_true c (literal_at (ws ++ w ∷ w ∷ []) s)) (get_or_append_left clauses (clause ∷ []) [] (s / 2) there) ∙ (ap (λ (x : Watch). is_true (clause_at clauses (s / 2)) x.literal) (old_at ws (w ∷ w ∷ []) s old.0) ∙ is.of_clauses.of s old.0 old.1);
+      };
+      threaded = record {
+        even = omega (arith, even, size);
+        few = omega (arith, few, ap length new_is);
+        known = λ s within. elim (cases_lt s (length ws)) [
+          | inl old ↦ omega (arith, ap (λ (x : Watch). x.literal.0) (old_at ws (w ∷ w ∷ []) s old), is.threaded.known s old)
+          | inr late ↦ omega (arith, ap (λ (x : Watch). x.literal.0) (added_at ws w s late (omega (arith, within, size))), first_known variables clause known filled, is.heads_are)
+        ];
+        own = λ c s low here.
+            let old = is.threaded.own c s low (subst (IsIn s) (same c low) here) in
+            record {
+              within = omega (arith, old.within, size);
+              is = ap (λ (x : Watch). x.literal.0) (old_at ws (w ∷ w ∷ []) s old.within) ∙ old.is;
+              attached = attached_longer ws w even s old.within old.attached;
+            };
+        once = λ c low. subst IsOnce (sym (same c low)) (is.threaded.once c low);
+        out_once = tt;
+        out_nowhere = λ s none. absurd none;
+        all = λ s within attached.
+            let old = attached_added ws w even s (omega (arith, within, size)) attached in
+            let at : (literal_at (ws ++ w ∷ w ∷ []) s).0 ≡ (literal_at ws s).0 = ap (λ (x : Watch). x.literal.0) (old_at ws (w ∷ w ∷ []) s old.0) in
+            elim (is.threaded.all s old.0 old.1) [
+              | inl none ↦ inl none
+              | inr here ↦ inr (subst (λ c. IsIn s (list_of (ws ++ w ∷ w ∷ []) heads c)) (sym at) (subst (IsIn s) (sym (same (literal_at ws s).0 (is.threaded.known s old.0))) here))
+            ];
+      };
+    }))
+  where
+    w : Watch
+    w = loose_watch clause
+
+    even : length ws % 2 ≡ 0
+    even = is.threaded.even
+
+    size : length (ws ++ w ∷ w ∷ []) ≡ length ws + 2
+    size = length-append ws (w ∷ w ∷ [])
+
+    same : (c : ℕ) → c < length heads → list_of (ws ++ loose_watch clause ∷ loose_watch clause ∷ []) heads c ≡ list_of ws heads c
+    same c low = links_longer ws (w ∷ w ∷ []) (head_at heads c).count (head_at heads c).first (λ s here. (is.threaded.own c s low here).within)
+
+-- ---- a clause is attached
+
+put_other : (old new : List Watch) (s : ℕ) (a b : SatLit) → s % 2 ≡ 0 → ArePut old new s a b → (t : ℕ) → t ≢ s → t ≢ s + 1 → (literal_at new t ≡ literal_at old t) × (literal_at new (partner t) ≡ literal_at old (partner t))
+put_other old new s a b even put t not_s not_next = (put.others t not_s not_next, put.others (partner t) (λ e. omega (arith, e, not_next, even)) (λ e. omega (arith, e, not_s, even)))
+
+pub put_attached : (old new : List Watch) (s : ℕ) (a b : SatLit) → s % 2 ≡ 0 → ArePut old new s a b → a.0 ≢ b.0 → IsAttached new s
+put_attached old new s a b even put differ e =
+    let next : partner s ≡ s + 1 = omega (arith, even) in
+    differ (sym (ap (λ (l : SatLit). l.0) put.first_is) ∙ (e ∙ (ap (λ k. (literal_at new k).0) next ∙ ap (λ (l : SatLit). l.0) put.second_is)))
+
+pub put_before : (old new : List Watch) (s : ℕ) (a b : SatLit) → s % 2 ≡ 0 → ArePut old new s a b → (t : ℕ) → t ≢ s → t ≢ s + 1 → IsAttached new t → IsAttached old t
+put_before old new s a b even put t not_s not_next attached e =
+    let p = put_other old new s a b even put t not_s not_next in
+    attached (ap (λ (l : SatLit). l.0) p.0 ∙ (e ∙ ap (λ (l : SatLit). l.0) (sym p.1)))
+
+pub put_after : (old new : List Watch) (s : ℕ) (a b : SatLit) → s % 2 ≡ 0 → ArePut old new s a b → (t : ℕ) → t ≢ s → t ≢ s + 1 → IsAttached old t → IsAttached new t
+put_after old new s a b even put t not_s not_next attached e =
+    let p = put_other old new s a b even put t not_s not_next in
+    attached (sym (ap (λ (l : SatLit). l.0) p.0) ∙ (e ∙ ap (λ (l : SatLit). l.0) p.1))
+
+-- the watches that a clause got are its own
+pub kept_attached : (variables : ℕ) (clauses : List (List SatLit)) (ws new : List Watch) (hs heads : List Head) (id s : ℕ) (a b : SatLit) (entries : List Assigned) → AreKept variables clauses ws hs → AreThreaded new heads [] → length heads ≡ length hs → s ≡ 2 * id → ArePut ws new s a b → ArePair entries (clause_at clauses id) a b → AreKept variables clauses new heads
+kept_attached variables clauses ws new hs heads id s a b entries is threaded same_heads s_is put pair = record {
+  heads_are = same_heads ∙ is.heads_are;
+  known = is.known;
+  of_clauses = record {
+    size = put.size ∙ is.of_clauses.size;
+    of = λ t within attached. elim (cases_eq t s) [
+      | inl mine ↦ ap (λ k. is_true (clause_at clauses (t / 2)) (literal_at new k)) mine ∙ (ap (is_true (clause_at clauses (t / 2))) put.first_is ∙ (ap (λ k. is_true (clause_at clauses k) a) (omega (arith, mine, s_is)) ∙ pair.first_there))
+      | inr not_s ↦ elim (cases_eq t (s + 1)) [
+        | inl mine ↦ ap (λ k. is_true (clause_at clauses (t / 2)) (literal_at new k)) mine ∙ (ap (is_true (clause_at clauses (t / 2))) put.second_is ∙ (ap (λ k. is_true (clause_at clauses k) b) (omega (arith, mine, s_is)) ∙ pair.second_there))
+        | inr not_next ↦ ap (is_true (clause_at clauses (t / 2))) (put.others t not_s not_next) ∙ is.of_clauses.of t (omega (arith, within, put.size)) (put_before ws new s a b (omega (arith, s_is)) put t not_s not_next attached)
+      ]
+    ];
+  };
+  threaded = threaded;
+}
+
+-- and fit the trail
+pub fits_attached : (old new : Watching) (t : Trailing) (id s : ℕ) (a b : SatLit) → Fits old t → new.variables ≡ old.variables → s ≡ 2 * id → ArePut old.watches new.watches s a b → ArePair t.entries (clause_at old.clauses id) a b → Fits new t
+fits_attached old new t id s a b fits variables s_is put pair = record {
+  variables = fits.variables ∙ sym variables;
+  watched = λ k within attached. elim (cases_eq k s) [
+    | inl mine ↦ λ j early inside at.
+        let next : partner k ≡ s + 1 = omega (arith, mine, s_is) in
+        subst (λ l. IsHeld t.entries l (entry_at t.entries j).level) (sym (ap (literal_at new.watches) next ∙ put.second_is)) (pair.first_guarded j inside (at ∙ ap (λ (l : SatLit). (opposite l).0) (ap (literal_at new.watches) mine ∙ put.first_is)))
+    | inr not_s ↦ elim (cases_eq k (s + 1)) [
+      | inl mine ↦ λ j early inside at.
+          let next : partner k ≡ s = omega (arith, mine, s_is) in
+          subst (λ l. IsHeld t.entries l (entry_at t.entries j).level) (sym (ap (literal_at new.watches) next ∙ put.first_is)) (pair.second_guarded j inside (at ∙ ap (λ (l : SatLit). (opposite l).0) (ap (literal_at new.watches) mine ∙ put.second_is)))
+      | inr not_next ↦ λ j early inside at.
+          let p = put_other old.watches new.watches s a b (omega (arith, s_is)) put k not_s not_next in
+          subst (λ l. IsHeld t.entries l (entry_at t.entries j).level) (sym p.1) (fits.watched k (omega (arith, within, put.size)) (put_before old.watches new.watches s a b (omega (arith, s_is)) put k not_s not_next attached) j early inside (at ∙ ap (λ (l : SatLit). (opposite l).0) p.0))
+    ]
+  ];
+}
+
+-- ---- a trail that may have got what a clause leaves
+
+pub settled_grown : (old new : Trailing) (clause : List SatLit) (id : ℕ) → IsSettled old new clause id → IsGrown old new
+settled_grown old new clause id (inl same) = subst (IsGrown old) (sym same) (grown_none old)
+settled_grown old new clause id (inr (l, makes, is)) =
+    let e : Assigned = record { literal = l; level = old.level; reason = Some id } in
+    let entries : new.entries ≡ old.entries ++ e ∷ [] = ap (λ (t : Trailing). t.entries) is in
+    record {
+      variables = ap (λ (t : Trailing). t.variables) is;
+      level = ap (λ (t : Trailing). t.level) is;
+      longer = omega (arith, ap length entries, length-append old.entries (e ∷ []));
+      kept = ap (take (length old.entries)) entries ∙ take_at old.entries (e ∷ []) (length old.entries) refl;
+    }
+
+pub settled_sound : (clauses : List (List SatLit)) (old new : Trailing) (id : ℕ) → id < length clauses → IsSound clauses old → IsSettled old new (clause_at clauses id) id → IsSound clauses new
+settled_sound clauses old new id there sound (inl same) = subst (IsSound clauses) (sym same) sound
+settled_sound clauses old new id there sound (inr (l, makes, is)) =
+    sound_more clauses old new (record { literal = l; level = old.level; reason = Some id }) sound (record { there = there; makes = makes }) (ap (λ (t : Trailing). t.entries) is)
+
+pub settled_present : (old new : Trailing) (clause : List SatLit) (id : ℕ) → IsPresent old → IsSettled old new clause id → IsPresent new
+settled_present old new clause id present (inl same) = subst IsPresent (sym same) present
+settled_present old new clause id present (inr (l, makes, is)) =
+    let e : Assigned = record { literal = l; level = old.level; reason = Some id } in
+    let entries : new.entries ≡ old.entries ++ e ∷ [] = ap (λ (t : Trailing). t.entries) is in
+    let size : length new.entries ≡ length old.entries + 1 = ap length entries ∙ length-append old.entries (e ∷ []) in
+    let level : new.level ≡ old.level = ap (λ (t : Trailing). t.level) is in
+    record {
+      present = λ k late within. elim (cases_eq k (length old.entries)) [
+        | inl here ↦ ap (λ i. (entry_at new.entries i).level) here ∙ (ap (λ (es : List Assigned). (entry_at es (length old.entries)).level) entries ∙ (ap (λ (x : Assigned). x.level) (get_or_at old.entries e [] nothing (length old.entries) refl) ∙ sym level))
+        | inr other ↦
+            let inside : k < length old.entries = omega (arith, within, size, other) in
+            let same = ap (λ es. entry_at es k) entries ∙ get_or_append_left old.entries (e ∷ []) nothing k inside in
+            ap (λ (x : Assigned). x.level) same ∙ (present.present k (omega (arith, late, ap (λ (t : Trailing). t.walked) is)) inside ∙ sym level)
+      ];
+    }
+
+-- watches that fit a trail fit it with one literal more
+pub fits_grown : (watching : Watching) (old new : Trailing) (e : Assigned) → Fits watching old → old.walked ≤ length old.entries → new ≡ record old { entries = old.entries ++ e ∷ [] } → Fits watching new
+fits_grown watching old new e fits few is = subst (Fits watching) (sym is) (record {
+  variables = fits.variables;
+  watched = λ s within attached j early inside at.
+      let before : j < length old.entries = omega (arith, early, few) in
+      let same = get_or_append_left old.entries (e ∷ []) nothing j before in
+      let held = fits.watched s within attached j early before (sym (ap (λ (x : Assigned). x.literal.0) same) ∙ at) in
+      let there = get_or_append_left old.entries (e ∷ []) nothing held.at held.within in
+      record {
+        at = held.at;
+        within = omega (arith, held.within, length-append old.entries (e ∷ []));
+        is = ap (λ (x : Assigned). x.literal.0) there ∙ held.is;
+        low = omega (arith, held.low, ap (λ (x : Assigned). x.level) there, ap (λ (x : Assigned). x.level) same);
+      };
+})
+
+pub fits_settled : (watching : Watching) (old new : Trailing) (clause : List SatLit) (id : ℕ) → Fits watching old → old.walked ≤ length old.entries → IsSettled old new clause id → Fits watching new
+fits_settled watching old new clause id fits few (inl same) = subst (Fits watching) (sym same) fits
+fits_settled watching old new clause id fits few (inr (l, makes, is)) =
+    fits_grown watching old new (record { literal = l; level = old.level; reason = Some id }) fits few is
+
+-- watches fit a trail with one clause more, which isn't attached
+pub fits_added : (watching : Watching) (clause : List SatLit) (t : Trailing) → length watching.watches % 2 ≡ 0 → Fits watching t → Fits (with_clause clause watching) t
+fits_added watching clause t even fits = record {
+  variables = fits.variables;
+  watched = λ s within attached j early inside at.
+      let ws = watching.watches in
+      let w = loose_watch clause in
+      let old = attached_added ws w even s (omega (arith, within, length-append ws (w ∷ w ∷ []))) attached in
+      let own = ap (λ (x : Watch). x.literal) (old_at ws (w ∷ w ∷ []) s old.0) in
+      let other = ap (λ (x : Watch). x.literal) (old_at ws (w ∷ w ∷ []) (partner s) (partner_within ws s even old.0)) in
+      subst (λ l. IsHeld t.entries l (entry_at t.entries j).level) (sym other) (fits.watched s old.0 old.1 j early inside (at ∙ ap (λ (l : SatLit). (opposite l).0) own));
+}

@@ -1,0 +1,59 @@
+-- What a clause does on a trail, by one of its literals.
+use Rattle.std.specs.Prelude.{◌≡◌, ◌≢◌, ℕ, ◌++◌, ◌∷◌, [], true, false, List, Some, ◌⊎◌}
+use Rattle.cnf_core.specs.declared.literal.SatLit.{SatLit}
+use Rattle.cnf_core.specs.declared.effect.Effect.TheVariants.{Makes}
+use Rattle.cnf_core.specs.declared.effect.Effect.TheVariants.{Conflict as AllFalse}
+use Rattle.cnf_core.specs.Derivations.{effect_of, is_false, is_true}
+use Rattle.trail_core.specs.Trails.{IsFree, Trailing, literals}
+use Rattle.watch_lists.specs.declared.looking.Look.{Look}
+use Rattle.watch_lists.specs.declared.looking.Look.TheVariants.{Holds, Open, Unit, Conflict}
+
+-- A literal of a clause that isn't false and isn't this other one.
+pub record IsBeside (made clause : List SatLit) (other literal : SatLit) : Type 0 where
+  pub there : is_true clause literal ≡ true
+  pub not_false : is_false made literal ≡ false
+  pub differs : literal.0 ≢ other.0
+
+-- a literal is false, or is this other one
+abbrev pub IsOut : List SatLit → SatLit → SatLit → Type 0
+IsOut made other literal = (is_false made literal ≡ true) ⊎ (other.0 ≡ literal.0)
+
+-- it is neither
+abbrev pub IsIn : List SatLit → SatLit → SatLit → Type 0
+IsIn made other literal = (is_false made literal ≡ false) × (literal.0 ≢ other.0)
+
+-- All literals but one are false, and that one is unassigned.
+pub record IsLeft (trail : Trailing) (clause : List SatLit) (literal : SatLit) : Type 0 where
+  pub makes : effect_of (literals trail.entries) clause ≡ Makes literal
+  pub free : IsFree trail literal
+
+abbrev pub IsLook : Trailing → List SatLit → SatLit → Look → Type 0
+IsLook trail clause other Holds = is_true (literals trail.entries) other ≡ true
+IsLook trail clause other (Open literal) = IsBeside (literals trail.entries) clause other literal
+IsLook trail clause other Unit = IsLeft trail clause other
+IsLook trail clause other Conflict = effect_of (literals trail.entries) clause ≡ AllFalse
+
+-- The watch stays, since the other one is true.
+pub record IsHeldBy (old new : Trailing) (other falsified literal : SatLit) : Type 0 where
+  pub same : new ≡ old
+  pub stays : literal ≡ falsified
+  pub other_true : is_true (literals old.entries) other ≡ true
+
+-- The watch stays, and the other one was made true.
+pub record IsMadeBy (old new : Trailing) (clause : List SatLit) (id : ℕ) (other falsified literal : SatLit) : Type 0 where
+  pub assigned : new ≡ record old {
+    entries = old.entries ++ record { literal = other; level = old.level; reason = Some id } ∷ [];
+  }
+  pub stays : literal ≡ falsified
+  pub left : IsLeft old clause other
+
+-- The watch moves to a literal that isn't false.
+pub record IsMovedTo (old new : Trailing) (clause : List SatLit) (other literal : SatLit) : Type 0 where
+  pub same : new ≡ old
+  pub beside : IsBeside (literals old.entries) clause other literal
+
+-- what is watched in place of a literal that became false
+abbrev pub IsTarget : Trailing → Trailing → List SatLit → ℕ → SatLit → SatLit → SatLit → Type 0
+IsTarget old new clause id other falsified literal =
+    IsHeldBy old new other falsified literal
+    ⊎ (IsMadeBy old new clause id other falsified literal ⊎ IsMovedTo old new clause other literal)

@@ -1,0 +1,133 @@
+-- Two watched literals of each clause, and how they fit a trail (Moskewicz and others, Chaff, 2001).
+use Rattle.std.specs.Prelude.{◌≡◌, ℕ, ◌*◌, ◌/◌, ◌<◌, ◌≤◌, true, List, [], ◌∷◌, ◌++◌, length, All, slice_index_or, ◌⊎◌}
+use Rattle.cnf_core.specs.declared.literal.SatLit.{SatLit}
+use Rattle.cnf_core.specs.declared.effect.Effect.TheVariants.{Neither}
+use Rattle.cnf_core.specs.Clauses.{clause_at, opposite}
+use Rattle.cnf_core.specs.Derivations.{effect_of, is_true}
+use Rattle.trail_core.specs.declared.assigned.Assigned.{Assigned}
+use Rattle.trail_core.specs.Trails.{IsTrail, Trailing, entry_at}
+use Rattle.watch_lists.specs.declared.threads.Watch.{Watch}
+use Rattle.watch_lists.specs.declared.threads.Head.{Head}
+use Rattle.watch_lists.specs.Propagations.{AreKnown, IsSound}
+use Rattle.watch_lists.specs.Threads.{AreThreaded, IsAttached, IsIn, literal_at, partner}
+
+-- The clauses over so many variables, and the two watches of each.
+pub record Watching : Type 0 where
+  pub variables : ℕ
+  pub clauses : List (List SatLit)
+  pub watches : List Watch
+
+-- a watch of a clause that isn't attached
+abbrev pub loose_watch : List SatLit → Watch
+loose_watch clause = record { literal = slice_index_or clause 0 (record { 0 = 0 }); next = 0 }
+
+-- one clause more, which isn't attached
+abbrev pub with_clause : List SatLit → Watching → Watching
+with_clause clause watching = record watching {
+  clauses = watching.clauses ++ clause ∷ [];
+  watches = watching.watches ++ loose_watch clause ∷ loose_watch clause ∷ [];
+}
+
+-- A literal is true, at a level that isn't greater.
+pub record IsHeld (entries : List Assigned) (literal : SatLit) (level : ℕ) : Type 0 where
+  pub at : ℕ
+  pub within : at < length entries
+  pub is : (entry_at entries at).literal.0 ≡ literal.0
+  pub low : (entry_at entries at).level ≤ level
+
+-- where a watched literal is false at a walked place, the other one of its clause is true at a level that isn't greater
+abbrev pub IsWatched : List Watch → List Assigned → ℕ → ℕ → Type 0
+IsWatched watches entries walked s = (j : ℕ)
+    → j < walked
+    → j < length entries
+    → (entry_at entries j).literal.0 ≡ (opposite (literal_at watches s)).0
+    → IsHeld entries (literal_at watches (partner s)) (entry_at entries j).level
+
+-- the watches fit a trail
+pub record Fits (watching : Watching) (trail : Trailing) : Type 0 where
+  pub variables : trail.variables ≡ watching.variables
+  pub watched : (s : ℕ)
+      → s < length watching.watches
+      → IsAttached watching.watches s
+      → IsWatched watching.watches trail.entries trail.walked s
+
+-- what isn't walked is of the present level
+pub record IsPresent (trail : Trailing) : Type 0 where
+  pub present : (k : ℕ) → trail.walked ≤ k → k < length trail.entries → (entry_at trail.entries k).level ≡ trail.level
+
+-- A clause has a literal that is true at level 0.
+pub record IsRooted (entries : List Assigned) (clause : List SatLit) : Type 0 where
+  pub at : ℕ
+  pub within : at < length entries
+  pub there : is_true clause (entry_at entries at).literal ≡ true
+  pub lowest : (entry_at entries at).level ≡ 0
+
+-- a clause is attached, or has a literal that is true at level 0
+abbrev pub IsCovered : Watching → List Assigned → ℕ → Type 0
+IsCovered watching entries id = IsAttached watching.watches (2 * id) ⊎ IsRooted entries (clause_at watching.clauses id)
+
+-- no attached clause is a conflict or leaves a single literal
+pub record AreQuiet (watching : Watching) (made : List SatLit) : Type 0 where
+  pub quiet : (id : ℕ)
+      → id < length watching.clauses
+      → IsAttached watching.watches (2 * id)
+      → effect_of made (clause_at watching.clauses id) ≡ Neither
+
+-- The clauses stay, and what is attached stays so.
+pub record IsRewatched (old new : Watching) : Type 0 where
+  pub variables : new.variables ≡ old.variables
+  pub clauses : new.clauses ≡ old.clauses
+  pub attached : (id : ℕ) → id < length old.clauses → IsAttached old.watches (2 * id) → IsAttached new.watches (2 * id)
+
+-- the watches of attached clauses are among their literals
+pub record AreOfClauses (clauses : List (List SatLit)) (watches : List Watch) : Type 0 where
+  pub size : length watches ≡ 2 * length clauses
+  pub of : (s : ℕ)
+      → s < length watches
+      → IsAttached watches s
+      → is_true (clause_at clauses (s / 2)) (literal_at watches s) ≡ true
+
+-- What all watches keep.
+pub record AreKept (variables : ℕ) (clauses : List (List SatLit)) (watches : List Watch) (heads : List Head) : Type 0 where
+  pub heads_are : length heads ≡ 2 * variables
+  pub known : All (AreKnown variables) clauses
+  pub of_clauses : AreOfClauses clauses watches
+  pub threaded : AreThreaded watches heads []
+
+-- The watches fit a sound trail.
+pub record IsReady (clauses : List (List SatLit)) (watches : List Watch) (heads : List Head) (trail : Trailing) : Type 0 where
+  pub kept : AreKept trail.variables clauses watches heads
+  pub is_trail : IsTrail trail
+  pub sound : IsSound clauses trail
+  pub present : IsPresent trail
+  pub watched : (s : ℕ)
+      → s < length watches
+      → IsAttached watches s
+      → IsWatched watches trail.entries trail.walked s
+
+-- The list of a false literal is walked, which is the opposite of that at the next place; some watches are left.
+pub record IsWalking (clauses : List (List SatLit)) (watches : List Watch) (heads : List Head) (trail : Trailing)
+    (literal : SatLit) (left : List ℕ) : Type 0 where
+  pub heads_are : length heads ≡ 2 * trail.variables
+  pub known : All (AreKnown trail.variables) clauses
+  pub of_clauses : AreOfClauses clauses watches
+  pub threaded : AreThreaded watches heads left
+  pub is_trail : IsTrail trail
+  pub sound : IsSound clauses trail
+  pub present : IsPresent trail
+  pub there : trail.walked < length trail.entries
+  pub falsity : (entry_at trail.entries trail.walked).literal.0 ≡ (opposite literal).0
+  pub left_watch : (s : ℕ) → IsIn s left → literal_at watches s ≡ literal
+  pub watched : (s : ℕ)
+      → s < length watches
+      → IsAttached watches s
+      → IsWatched watches trail.entries trail.walked s
+  pub seen : (s : ℕ)
+      → s < length watches
+      → IsAttached watches s
+      → literal_at watches s ≡ literal
+      → IsIn s left ⊎ IsHeld trail.entries (literal_at watches (partner s)) trail.level
+
+-- what is attached stays so
+abbrev pub StayAttached : List Watch → List Watch → Type 0
+StayAttached old new = (s : ℕ) → s < length old → IsAttached old s → IsAttached new s

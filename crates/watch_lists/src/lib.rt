@@ -1,0 +1,8 @@
+//! Propagation by two watched literals of each clause (Moskewicz and others, Chaff, 2001; Eén and Sörensson, MiniSat, 2003).
+#![tactic(auto)]
+
+mod looking;
+mod threads;
+mod watches;
+
+pub use watches::Watches;

@@ -1,0 +1,241 @@
+//! The watches of clauses.
+
+ghost use Rattle.std.specs.Prelude.{ℕ, ◌≡◌, ◌≢◌, ◌+◌, ◌-◌, ◌*◌, ◌^◌, ◌<◌, ◌≤◌, ◌++◌, ◌∷◌, [], false, All, IfOk, IfSome, IfNone, OnOk, OnErr, length, replicate};
+ghost use Rattle.cnf_core.specs.Clauses.{clause_at, opposite};
+ghost use Rattle.cnf_core.specs.Derivations.{is_empty};
+ghost use Rattle.trail_core.specs.Trails.{entry_at, literals};
+ghost use Rattle.watch_lists.specs.Propagations.{AreKnown, IsConflict, IsGrown, IsSound};
+ghost use Rattle.watch_lists.specs.Feet.{IsReached};
+ghost use Rattle.watch_lists.specs.Threads.{IsAttached, links, no_head};
+ghost use Rattle.watch_lists.specs.Watched.{AreQuiet, Fits, IsCovered, IsPresent, IsReady, IsRewatched, IsWalking, StayAttached, with_clause};
+
+use crate::looking::{Foot, find_foot, target};
+use crate::threads::{Head, Rest, Threads, partner};
+use cnf_core::{ClauseStore, SatLit};
+use std::alloc::{AllocError, Global};
+use std::marker::Model;
+use trail_core::Trail;
+
+/// Clauses, of which each that is attached is in the lists of two of its literals, the watched ones. While one of these isn't
+/// false, or the other one is true, the clause leaves nothing to be assigned, so it is looked at only when a watched
+/// literal becomes false. Only `new` and `add` take memory.
+#[derive(Drop)]
+pub struct Watches {
+    variables: u64,
+    clauses: ClauseStore,
+    threads: Threads,
+}
+
+impl Model for Watches {
+    ghost use Rattle.watch_lists.specs.Watched.{AreKept, Watching};
+
+    ghost Value = { Watching };
+
+    ghost view = { λ a. record { variables = a.variables; clauses = a.clauses.clauses; watches = a.threads.watches.items } };
+
+    ghost invariant = { λ a. AreKept a.variables a.clauses.clauses a.threads.watches.items a.threads.heads.items };
+}
+
+impl Watches {
+    /// No clause, over n variables.
+    pub fn new(alloc: Global, variables: u64) -> Result<Watches, AllocError>
+        requires { variables < 2 ^ 62 }
+        ensures { IfOk result (λ watches. watches ≡ record { variables = variables; clauses = []; watches = [] }) }
+    {
+        let heads = no_heads(alloc, 2 * variables as usize)?;
+        let threads = Threads {
+            watches: Vec::new(alloc),
+            heads,
+        };
+        Ok(Watches {
+            variables,
+            clauses: ClauseStore::new(alloc),
+            threads,
+        })
+    }
+
+    /// Adds a clause, which isn't attached yet, and answers its number. A refusal changes nothing.
+    pub fn add(&mut self, clause: &[SatLit]) -> Result<u64, AllocError>
+        requires known { AreKnown self.old.variables clause.now }
+        requires filled { is_empty clause.now ≡ false }
+        ensures number { IfOk result (λ id. id ≡ length self.old.clauses) }
+        ensures added { OnOk result (self.new ≡ with_clause clause.now self.old) }
+        ensures size { length self.old.watches ≡ 2 * length self.old.clauses }
+        ensures refused { OnErr result (self.new ≡ self.old) }
+    {
+        self.threads.watches.reserve(2)?;
+        let id = self.clauses.put(clause)?;
+        self.threads.loosen(clause[0]);
+        Ok(id)
+    }
+
+    /// The clauses, in the order in which they were added.
+    pub fn store(&self) -> &ClauseStore
+        ensures clauses { result.now.clauses ≡ self.now.clauses }
+        ensures known { All (AreKnown self.now.variables) self.now.clauses }
+    {
+        &self.clauses
+    }
+
+    /// The literals of a clause, in the order in which it has them.
+    pub fn clause(&self, id: u64) -> &[SatLit]
+        requires { id < length self.now.clauses }
+        ensures { result.now ≡ clause_at self.now.clauses id }
+    {
+        self.clauses.get(id)
+    }
+
+    /// How many clauses there are.
+    pub fn count(&self) -> u64
+        ensures { result ≡ length self.now.clauses }
+    {
+        self.clauses.count()
+    }
+
+    /// Attaches a clause. It is watched by two literals that aren't false; or, where only one isn't, by that one, which is
+    /// made true, and one that became false at the present level; or it has one literal alone, which is made true. Some:
+    /// all its literals are false, and it isn't attached. It takes no memory.
+    pub fn attach(&mut self, id: u64, trail: &mut Trail) -> Option<u64>
+        requires there { id < length self.old.clauses }
+        requires loose { IsAttached self.old.watches (2 * id) → ⊥ }
+        requires fits { Fits self.old trail.old }
+        requires present { IsPresent trail.old }
+        requires sound { IsSound self.old.clauses trail.old }
+        requires reached { IsReached trail.old (clause_at self.old.clauses id) }
+        ensures attached { IsRewatched self.old self.new }
+        ensures others { (t : ℕ) → t ≢ id → IsAttached self.new.watches (2 * t) → IsAttached self.old.watches (2 * t) }
+        ensures fits { Fits self.new trail.new }
+        ensures present { IsPresent trail.new }
+        ensures sound { IsSound self.new.clauses trail.new }
+        ensures grown { IsGrown trail.old trail.new }
+        ensures covered { IfNone result (IsCovered self.new trail.new.entries id) }
+        ensures conflict { IfSome result (IsConflict self.new.clauses (literals trail.new.entries)) }
+        ensures named { IfSome result (λ found. found ≡ id) }
+        ensures same { IfSome result (λ _. trail.new ≡ trail.old) }
+    {
+        let _walked = trail.walked();
+        match find_foot(trail, self.clauses.get(id), id) {
+            Foot::Two(first, second) => {
+                self.threads.attach(2 * id as usize, first, second);
+                None
+            }
+            Foot::Rooted => None,
+            Foot::Conflict => Some(id),
+        }
+    }
+
+    /// Walks all literals of a trail that aren't walked, and assigns what is the only literal left of an attached clause.
+    /// None: all are walked, and each attached clause has a true literal or two unassigned ones. Some: a clause all of
+    /// whose literals are false. It takes no memory.
+    pub fn propagate(&mut self, trail: &mut Trail) -> Option<u64>
+        requires fits { Fits self.old trail.old }
+        requires present { IsPresent trail.old }
+        requires sound { IsSound self.old.clauses trail.old }
+        ensures rewatched { IsRewatched self.old self.new }
+        ensures fits { Fits self.new trail.new }
+        ensures present { IsPresent trail.new }
+        ensures sound { IsSound self.new.clauses trail.new }
+        ensures grown { IsGrown trail.old trail.new }
+        ensures quiet { IfNone result (AreQuiet self.new (literals trail.new.entries)) }
+        ensures walked { IfNone result (trail.new.walked ≡ length trail.new.entries) }
+        ensures conflict { IfSome result (IsConflict self.new.clauses (literals trail.new.entries)) }
+    {
+        let _walked = trail.walked();
+        let conflict = walk_all(&self.clauses, &mut self.threads, trail);
+        let _walked = trail.walked();
+        conflict
+    }
+}
+
+// The lists of n literals, without watches.
+fn no_heads(alloc: Global, count: usize) -> Result<Vec<Head>, AllocError>
+    ensures { IfOk result (λ heads. heads.items ≡ replicate count no_head) }
+{
+    let none = Head { first: 0, count: 0 };
+    vec![in alloc; none; count]
+}
+
+// Looks at the next clause of a list of watches whose literal became false. Some: a clause all of whose literals are
+// false, and nothing changes.
+fn visit(
+    clauses: &ClauseStore,
+    threads: &mut Threads,
+    trail: &mut Trail,
+    literal: SatLit,
+    rest: &mut Rest,
+) -> Option<u64>
+    requires walking { IsWalking clauses.now.clauses threads.old.watches.items threads.old.heads.items trail.old literal
+        (links threads.old.watches.items rest.old.left rest.old.at) }
+    requires left { 0 < rest.old.left }
+    ensures walking { IfNone result (IsWalking clauses.now.clauses threads.new.watches.items threads.new.heads.items
+        trail.new literal (links threads.new.watches.items rest.new.left rest.new.at)) }
+    ensures fewer { IfNone result (rest.new.left + 1 ≡ rest.old.left) }
+    ensures grown { IfNone result (IsGrown trail.old trail.new) }
+    ensures walked { IfNone result (trail.new.walked ≡ trail.old.walked) }
+    ensures attached { IfNone result (StayAttached threads.old.watches.items threads.new.watches.items) }
+    ensures conflict { IfSome result (IsConflict clauses.now.clauses (literals trail.old.entries)) }
+    ensures same_trail { IfSome result (λ _. trail.new ≡ trail.old) }
+    ensures same_watches { IfSome result (λ _. threads.new ≡ threads.old) }
+    ensures same_rest { IfSome result (λ _. rest.new ≡ rest.old) }
+{
+    let watch = rest.at;
+    let id = (watch / 2) as u64;
+    let other = threads.watches[partner(watch)].literal;
+    let Some(moved) = target(trail, clauses.get(id), id, other, literal) else {
+        return Some(id);
+    };
+    let _walked = trail.walked();
+    threads.step(rest, moved);
+    None
+}
+
+// Goes over the clauses that watch a literal, whose opposite is the next one to be walked. Some: a clause all of whose
+// literals are false.
+fn walk(
+    clauses: &ClauseStore,
+    threads: &mut Threads,
+    trail: &mut Trail,
+    literal: SatLit,
+) -> Option<u64>
+    requires ready { IsReady clauses.now.clauses threads.old.watches.items threads.old.heads.items trail.old }
+    requires there { trail.old.walked < length trail.old.entries }
+    requires falsity { (entry_at trail.old.entries trail.old.walked).literal.0 ≡ (opposite literal).0 }
+    requires known { literal.0 < length threads.old.heads.items }
+    ensures none { IfNone result (IsReady clauses.now.clauses threads.new.watches.items threads.new.heads.items
+        (record trail.new { walked = trail.new.walked + 1 })) }
+    ensures some { IfSome result (λ _. IsReady clauses.now.clauses threads.new.watches.items threads.new.heads.items
+        trail.new) }
+    ensures conflict { IfSome result (IsConflict clauses.now.clauses (literals trail.new.entries)) }
+    ensures grown { IsGrown trail.old trail.new }
+    ensures walked { trail.new.walked ≡ trail.old.walked }
+    ensures attached { StayAttached threads.old.watches.items threads.new.watches.items }
+{
+    let mut rest = threads.take(literal);
+    while rest.left > 0 {
+        if let Some(conflict) = visit(clauses, threads, trail, literal, &mut rest) {
+            threads.give_back(rest, literal);
+            return Some(conflict);
+        }
+    }
+    None
+}
+
+// Walks all literals of a trail that aren't walked. Some: a clause all of whose literals are false.
+fn walk_all(clauses: &ClauseStore, threads: &mut Threads, trail: &mut Trail) -> Option<u64>
+    requires ready { IsReady clauses.now.clauses threads.old.watches.items threads.old.heads.items trail.old }
+    ensures ready { IsReady clauses.now.clauses threads.new.watches.items threads.new.heads.items trail.new }
+    ensures walked { IfNone result (trail.new.walked ≡ length trail.new.entries) }
+    ensures conflict { IfSome result (IsConflict clauses.now.clauses (literals trail.new.entries)) }
+    ensures grown { IsGrown trail.old trail.new }
+    ensures attached { StayAttached threads.old.watches.items threads.new.watches.items }
+{
+    while trail.walked() < trail.len() {
+        let literal = trail.lit_at(trail.walked()).opposite();
+        let conflict = walk(clauses, threads, trail, literal);
+        if conflict.is_some() {
+            return conflict;
+        }
+        trail.step();
+    }
+    None
+}

@@ -1,0 +1,48 @@
+-- Three values as two bits, one where the value is 1 and one where it is 0 (dual-rail encoding, as in textbooks of digital
+-- testing), on many vectors at once.
+use Rattle.std.specs.Prelude.{ℕ, Bool, true, false, List, ◌&&◌, ◌||◌, map, slice_index_or, if◌then◌else◌}
+use Rattle.circuits.specs.declared.netlist.Lit.{Lit}
+use Rattle.circuits.specs.declared.netlist.Gate.{Gate}
+use Rattle.circuits.specs.Literals.{signal_of, is_negated}
+use Rattle.word_sim.specs.declared.rails.Rails.{Rails}
+use Rattle.word_sim.specs.declared.tri.Tri.{Tri}
+use Rattle.word_sim.specs.declared.tri.Tri.TheVariants.{Zero, One, X}
+use Rattle.word_sim.specs.Columns.{word_bit, word_of}
+
+-- whether a value is 1, and whether it is 0
+pub record Rail : Type 0 where
+  pub one : Bool
+  pub zero : Bool
+
+abbrev pub rail_of : Tri → Rail
+rail_of Zero = record { one = false; zero = true }
+rail_of One = record { one = true; zero = false }
+rail_of X = record { one = false; zero = false }
+
+-- the value that is a bit
+abbrev pub value_of : Bool → Tri
+value_of true = One
+value_of false = Zero
+
+-- a signal's two bits on the vector at bit v of word w, and those of each signal
+abbrev pub rail_at : ℕ → ℕ → Rails → Rail
+rail_at w v rails = record { one = word_bit v (word_of w rails.ones); zero = word_bit v (word_of w rails.zeros) }
+
+abbrev pub rails_at : ℕ → ℕ → List Rails → List Rail
+rails_at w v signals = map (rail_at w v) signals
+
+-- NOT exchanges the two; AND is 1 where both are, and 0 where one is
+abbrev pub rail_not : Rail → Rail
+rail_not rail = record { one = rail.zero; zero = rail.one }
+
+abbrev pub rail_and : Rail → Rail → Rail
+rail_and rail other = record { one = rail.one && other.one; zero = rail.zero || other.zero }
+
+abbrev pub signed_rail : Rail → Bool → Rail
+signed_rail rail negated = if negated then rail_not rail else rail
+
+abbrev pub rail_literal : List Rail → Lit → Rail
+rail_literal rails literal = signed_rail (slice_index_or rails (signal_of literal) (rail_of X)) (is_negated literal)
+
+abbrev pub rail_gate : List Rail → Gate → Rail
+rail_gate rails gate = rail_and (rail_literal rails gate.a) (rail_literal rails gate.b)
