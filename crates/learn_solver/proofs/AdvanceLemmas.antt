@@ -15,10 +15,11 @@ use Rattle.cnf_core.specs.Derivations.{AreDerived, clauses_of, effect_of, is_emp
 use Rattle.trail_core.specs.declared.assigned.Assigned.{Assigned}
 use Rattle.trail_core.specs.Trails.{Trailing, entry_at, literals, nothing}
 use Rattle.cnf_core.specs.Charges.{Charging, IsCharged}
-use Rattle.watch_lists.specs.Propagations.{IsJustified, IsQuiet, before}
+use Rattle.watch_lists.specs.Propagations.{IsJustified, IsQuiet, IsSound, before}
 use Rattle.learn_solver.specs.declared.search.Search.{Search}
 use Rattle.learn_solver.specs.Searches.{IsLearnt, IsLesson, IsRunning, IsSearching, remaining}
-use Rattle.learn_solver.specs.Solvers.{IsAdded, IsAsking, IsExtended, IsStopped, Solving, active}
+use Rattle.learn_solver.specs.Solvers.{IsAdded, IsAsking, IsExtended, IsSolver, IsStopped, Solving, active}
+use Rattle.learn_solver.specs.Starts.{AreTools, IsBegun, IsStarting}
 use Rattle.watch_lists.proofs.GrowLemmas.{sound_more}
 use Rattle.learn_solver.proofs.SolverLemmas.{active_more, clauses_more}
 use Rattle.learn_solver.proofs.StepLemmas.{asking_charged, extended_charged}
@@ -144,9 +145,28 @@ asking_learnt {O} old new first after t back asking learnt =
 
 -- A search that has come from the first lines to these.
 pub record IsUnderWay {O : Type 0} (old now : Solving) (first charging : Charging O) (search : Search) : Type 0 where
-  pub running : IsRunning now search.trail search.watches search.occurring.items search.marks.items
+  pub running : IsRunning now search.trail search.watches search.tools
   pub extended : IsExtended old now first charging
   pub asking : IsAsking charging now.lines
+
+-- a search begins
+pub under_way : {O : Type 0} (s : Solving) (first : Charging O) (idle now : Search) → IsBegun s idle.trail idle.watches idle.tools → IsStarting idle.watches now.watches now.trail (length idle.watches.clauses) → now.tools ≡ idle.tools → list_any is_empty (clauses_of s.lines) ≡ false → IsAsking first s.lines → IsUnderWay s s first first now
+under_way {O} s first idle now begun is tools_are unrefuted asking = record {
+  running = record {
+    searching = record {
+      variables = is.fits.variables ∙ (is.variables ∙ begun.variables);
+      unrefuted = unrefuted;
+      sound = subst (λ cs. IsSound cs now.trail) (is.clauses ∙ begun.solver.stored) is.sound;
+    };
+    solver = subst (IsSolver s.formula s.ids s.lines) (sym is.clauses) begun.solver;
+    fits = is.fits;
+    present = is.present;
+    covered = λ id within. is.covered id (omega (arith, within, ap length is.clauses));
+    tools_are = subst (AreTools s.formula s.ids) (sym tools_are) begun.tools_are;
+  };
+  extended = extended_none s first asking;
+  asking = asking;
+}
 
 -- lines that were added to derived ones are derived
 pub derived_after : {O : Type 0} (old new : Solving) (first after : Charging O) → AreDerived old.formula old.lines → IsExtended old new first after → AreDerived new.formula new.lines

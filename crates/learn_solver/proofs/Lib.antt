@@ -14,3 +14,4 @@ pub mod DecisionLemmas
 pub mod GoneLemmas
 pub mod StartLemmas
 pub mod RunLemmas
+pub mod OrderLemmas

@@ -1,5 +1,5 @@
 -- A search that is under way.
-use Rattle.std.proofs.Common.{◌≡◌, ℕ, ◌+◌, ◌<◌, Bool, false, List, [], ◌∷◌, ◌++◌, length, Option, None, Some, IfNone, inl, inr, refl, sym, ◌∙◌, ap, subst, arith}
+use Rattle.std.proofs.Common.{◌≡◌, ℕ, ◌+◌, ◌<◌, false, List, [], ◌∷◌, ◌++◌, length, Option, None, Some, IfNone, inl, inr, refl, sym, ◌∙◌, ap, subst, arith}
 use Rattle.std.proofs.lemmas.List.{get_or_append_left, get_or_at, get_or_default, length-append}
 use Rattle.cnf_core.specs.declared.literal.SatLit.{SatLit}
 use Rattle.cnf_core.specs.declared.log.LogLine.{LogLine}
@@ -13,9 +13,11 @@ use Rattle.watch_lists.specs.Propagations.{IsGrown, IsQuiet, IsSound}
 use Rattle.watch_lists.specs.Watched.{AreQuiet, Fits, IsCovered, IsPresent, IsRewatched, Watching}
 use Rattle.watch_lists.proofs.EffectLemmas.{neither_true}
 use Rattle.watch_lists.proofs.FitLemmas.{true_not_false}
+use Rattle.learn_solver.specs.declared.search.Tools.{Tools}
+use Rattle.learn_solver.specs.Orders.{IsOrder}
 use Rattle.learn_solver.specs.Searches.{IsDecided, IsLearning, IsLesson, IsRunning, IsSearching}
-use Rattle.learn_solver.specs.Solvers.{IsSolver, Solving, active}
-use Rattle.learn_solver.specs.Starts.{IsFitting, IsPropagated, IsSoundBack}
+use Rattle.learn_solver.specs.Solvers.{HaveVariables, IsSolver, Solving, active, wanted}
+use Rattle.learn_solver.specs.Starts.{IsFitting, IsPropagated, IsSoundBack, StayTools}
 use Rattle.learn_solver.proofs.AdvanceLemmas.{decided, gone_back, unrefuted_more}
 use Rattle.learn_solver.proofs.GoneLemmas.{covered_grown}
 use Rattle.learn_solver.proofs.SolverLemmas.{active_more, solver_more}
@@ -49,36 +51,35 @@ propagated before after old new is rewatched fits present sound grown = record {
 }
 
 -- what is under way fits
-pub fitting_of : (s : Solving) (t : Trailing) (w : Watching) (occurring : List ℕ) (marks : List Bool) → IsRunning s t w occurring marks → IsFitting w t
-fitting_of s t w occurring marks is = record {
+pub fitting_of : (s : Solving) (t : Trailing) (w : Watching) (tools : Tools) → IsRunning s t w tools → IsFitting w t
+fitting_of s t w tools is = record {
   fits = is.fits;
   present = is.present;
   sound = subst (λ cs. IsSound cs t) (sym is.solver.stored) is.searching.sound;
   covered = is.covered;
 }
 
-pub learning_of : (s : Solving) (t : Trailing) (w : Watching) (occurring : List ℕ) (marks : List Bool) → IsRunning s t w occurring marks → IsLearning s t w occurring marks
-learning_of s t w occurring marks is = record { searching = is.searching; solver = is.solver; tools = is.tools }
+pub learning_of : (s : Solving) (t : Trailing) (w : Watching) (tools : Tools) → IsRunning s t w tools → IsLearning s t w tools
+learning_of s t w tools is = record { searching = is.searching; solver = is.solver; tools_are = is.tools_are }
 
 -- and goes on after propagation
-pub running_on : (s : Solving) (old new : Trailing) (before after : Watching) (occurring occurring_new : List ℕ) (marks marks_new : List Bool) → IsRunning s old before occurring marks → IsPropagated before after old new → occurring_new ≡ occurring → marks_new ≡ marks → IsRunning s new after occurring_new marks_new
-running_on s old new before after occurring occurring_new marks marks_new is on occurring_is marks_is =
-    subst (λ o. IsRunning s new after o marks_new) (sym occurring_is) (subst (λ m. IsRunning s new after occurring m) (sym marks_is) (record {
-      searching = record {
-        variables = on.grown.variables ∙ is.searching.variables;
-        unrefuted = is.searching.unrefuted;
-        sound = subst (λ cs. IsSound cs new) (on.clauses ∙ is.solver.stored) on.fitting.sound;
-      };
-      solver = subst (IsSolver s.formula s.ids s.lines) (sym on.clauses) is.solver;
-      fits = on.fitting.fits;
-      present = on.fitting.present;
-      covered = on.fitting.covered;
-      tools = is.tools;
-    }))
+pub running_on : (s : Solving) (old new : Trailing) (before after : Watching) (tools tools_new : Tools) → IsRunning s old before tools → IsPropagated before after old new → tools_new ≡ tools → IsRunning s new after tools_new
+running_on s old new before after tools tools_new is on tools_are = subst (IsRunning s new after) (sym tools_are) (record {
+  searching = record {
+    variables = on.grown.variables ∙ is.searching.variables;
+    unrefuted = is.searching.unrefuted;
+    sound = subst (λ cs. IsSound cs new) (on.clauses ∙ is.solver.stored) on.fitting.sound;
+  };
+  solver = subst (IsSolver s.formula s.ids s.lines) (sym on.clauses) is.solver;
+  fits = on.fitting.fits;
+  present = on.fitting.present;
+  covered = on.fitting.covered;
+  tools_are = is.tools_are;
+})
 
 -- after a decision
-pub decided_on : (s : Solving) (old new : Trailing) (w : Watching) (occurring : List ℕ) (marks : List Bool) (l : SatLit) → IsRunning s old w occurring marks → IsQuiet (active s.formula s.ids s.lines) (literals old.entries) → old.walked ≡ length old.entries → new ≡ record old { entries = old.entries ++ record { literal = l; level = old.level + 1; reason = None } ∷ []; level = old.level + 1 } → length old.entries < old.variables → IsDecided s old new w occurring marks
-decided_on s old new w occurring marks l is quiet walked new_is room = record {
+pub decided_on : (s : Solving) (old new : Trailing) (w : Watching) (tools tools_new : Tools) (l : SatLit) → IsRunning s old w tools → StayTools tools tools_new → IsQuiet (active s.formula s.ids s.lines) (literals old.entries) → old.walked ≡ length old.entries → new ≡ record old { entries = old.entries ++ record { literal = l; level = old.level + 1; reason = None } ∷ []; level = old.level + 1 } → length old.entries < old.variables → IsDecided s old new w tools_new
+decided_on s old new w tools tools_new l is stay quiet walked new_is room = record {
   running = record {
     searching = decided s old new l is.searching quiet new_is;
     solver = is.solver;
@@ -112,7 +113,7 @@ decided_on s old new w occurring marks l is quiet walked new_is room = record {
             lowest = ap (λ (x : Assigned). x.level) same ∙ rooted.lowest;
           })
     ];
-    tools = is.tools;
+    tools_are = stay s.formula s.ids is.tools_are;
   };
   longer = omega (arith, size);
   most = omega (arith, size, ap (λ (t : Trailing). t.variables) new_is, room);
@@ -130,6 +131,14 @@ decided_on s old new w occurring marks l is quiet walked new_is room = record {
     front : (k : ℕ) → k < length old.entries → entry_at new.entries k ≡ entry_at old.entries k
     front k within = ap (λ es. entry_at es k) entries ∙ get_or_append_left old.entries (record { literal = l; level = old.level + 1; reason = None } ∷ []) nothing k within
 
+-- what is kept of the variables, with another order
+pub stay_from : (n : ℕ) (old new : Tools) → new.occurring.items ≡ old.occurring.items → new.marks.items ≡ old.marks.items → IsOrder n old.order → IsOrder n new.order → StayTools old new
+stay_from n old new occurring marks before after formula ids are = record {
+  variables = subst (HaveVariables formula.variables (wanted formula ids)) (sym occurring) are.variables;
+  unmarked = marks ∙ are.unmarked;
+  order = subst (λ k. IsOrder k new.order) (sym before.end_is ∙ are.order.end_is) after;
+}
+
 -- ---- going back with a learned line
 
 pub sound_back : (s : Solving) (line : LogLine) (t : Trailing) (w : Watching) (level : ℕ) → IsSearching s t → IsSolver s.formula s.ids s.lines w.clauses → IsLesson s t line level → is_empty line.clause ≡ false → IsSoundBack w line.clause t level
@@ -138,11 +147,11 @@ sound_back s line t w level searching solver lesson filled = λ back is.
     let gone = gone_back s new line t back level searching lesson filled refl is.variables is.entries is.front in
     subst (λ (cs : List (List SatLit)). IsSound cs back) (active_more s.formula s.ids s.lines line ∙ ap (λ (cs : List (List SatLit)). cs ++ line.clause ∷ []) (sym solver.stored)) gone.sound
 
-pub running_back : (old new : Solving) (line : LogLine) (t back : Trailing) (w after : Watching) (occurring occurring_new : List ℕ) (marks marks_new : List Bool) → IsRunning old t w occurring marks → new ≡ record old { lines = old.lines ++ line ∷ [] } → line_fault old.formula (clauses_of old.lines) line ≡ None → is_empty line.clause ≡ false → IsFitting after back → after.clauses ≡ w.clauses ++ line.clause ∷ [] → back.variables ≡ t.variables → occurring_new ≡ occurring → marks_new ≡ marks → IsRunning new back after occurring_new marks_new
-running_back old new line t back w after occurring occurring_new marks marks_new is new_is good filled fitting clauses variables occurring_is marks_is =
+pub running_back : (old new : Solving) (line : LogLine) (t back : Trailing) (w after : Watching) (tools tools_new : Tools) → IsRunning old t w tools → new ≡ record old { lines = old.lines ++ line ∷ [] } → line_fault old.formula (clauses_of old.lines) line ≡ None → is_empty line.clause ≡ false → IsFitting after back → after.clauses ≡ w.clauses ++ line.clause ∷ [] → back.variables ≡ t.variables → StayTools tools tools_new → IsRunning new back after tools_new
+running_back old new line t back w after tools tools_new is new_is good filled fitting clauses variables stay =
     let more : Solving = record old { lines = old.lines ++ line ∷ [] } in
     let solver = solver_more old.formula old.ids old.lines more.lines w.clauses after.clauses line is.solver good refl clauses in
-    subst (λ s. IsRunning s back after occurring_new marks_new) (sym new_is) (subst (λ o. IsRunning more back after o marks_new) (sym occurring_is) (subst (λ m. IsRunning more back after occurring m) (sym marks_is) (record {
+    subst (λ s. IsRunning s back after tools_new) (sym new_is) (record {
       searching = record {
         variables = variables ∙ is.searching.variables;
         unrefuted = unrefuted_more old.lines line is.searching.unrefuted filled;
@@ -152,5 +161,5 @@ running_back old new line t back w after occurring occurring_new marks marks_new
       fits = fitting.fits;
       present = fitting.present;
       covered = fitting.covered;
-      tools = record { variables = is.tools.variables; unmarked = is.tools.unmarked };
-    })))
+      tools_are = stay old.formula old.ids is.tools_are;
+    })

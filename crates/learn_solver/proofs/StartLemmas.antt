@@ -1,5 +1,5 @@
 -- A search begins: its clauses are added, and attached one after the other.
-use Rattle.std.proofs.Common.{◌≡◌, ◌≢◌, ℕ, ◌+◌, ◌*◌, ◌%◌, ◌<◌, Bool, false, List, [], ◌∷◌, ◌++◌, length, take, All, replicate, slice_index_or, inl, inr, refl, sym, ◌∙◌, ap, subst, arith}
+use Rattle.std.proofs.Common.{◌≡◌, ◌≢◌, ℕ, ◌+◌, ◌*◌, ◌%◌, ◌<◌, false, List, [], ◌∷◌, ◌++◌, length, take, All, replicate, slice_index_or, inl, inr, refl, sym, ◌∙◌, ap, subst, arith}
 use Rattle.std.proofs.lemmas.Bool.{cases_eq, cases_lt}
 use Rattle.std.proofs.lemmas.List.{append_assoc, get_or-map, get_or_past, length-append, length-map, map-append, take_more}
 use Rattle.std.proofs.lemmas.List.Elements.{All-map, All-push}
@@ -14,6 +14,8 @@ use Rattle.watch_lists.specs.Threads.{IsAttached, no_watch, partner}
 use Rattle.watch_lists.specs.Watched.{Fits, IsCovered, IsPresent, IsRewatched, Watching, loose_watch, with_clause}
 use Rattle.watch_lists.proofs.AttachLemmas.{attached_added}
 use Rattle.learn_solver.specs.Solvers.{ArePut, HaveVariables, Solving, wanted}
+use Rattle.learn_solver.specs.declared.search.Tools.{Tools}
+use Rattle.learn_solver.specs.Orders.{IsOrder}
 use Rattle.learn_solver.specs.Starts.{AreIdle, AreLoose, IsBegun, IsStarting, IsStuck}
 use Rattle.learn_solver.proofs.SolverLemmas.{line_known, solver_new}
 use Rattle.learn_solver.proofs.GoneLemmas.{covered_grown}
@@ -105,12 +107,12 @@ lines_more old mid new lines k line clause is within line_is clause_is size new_
 })
 
 -- what a search begins with
-pub begun_is : (s : Solving) (trail : Trailing) (wanted_in all : Watching) (occurring : List ℕ) (marks : List Bool) → All (λ id. id < length s.formula.clauses) s.ids → AreDerived s.formula s.lines → IsPutting s.formula s.ids wanted_in → all.clauses ≡ wanted_in.clauses ++ clauses_of s.lines → AreLoose all 0 → all.variables ≡ wanted_in.variables → trail ≡ record { variables = s.formula.variables; entries = []; level = 0; walked = 0 } → HaveVariables s.formula.variables wanted_in.clauses occurring → marks ≡ replicate s.formula.variables false → IsBegun s trail all occurring marks
-begun_is s trail wanted_in all occurring marks there derived put clauses loose variables trail_is have marks_are = record {
+pub begun_is : (s : Solving) (trail : Trailing) (wanted_in all : Watching) (tools : Tools) → All (λ id. id < length s.formula.clauses) s.ids → AreDerived s.formula s.lines → IsPutting s.formula s.ids wanted_in → all.clauses ≡ wanted_in.clauses ++ clauses_of s.lines → AreLoose all 0 → all.variables ≡ wanted_in.variables → trail ≡ record { variables = s.formula.variables; entries = []; level = 0; walked = 0 } → HaveVariables s.formula.variables wanted_in.clauses tools.occurring.items → tools.marks.items ≡ replicate s.formula.variables false → IsOrder s.formula.variables tools.order → IsBegun s trail all tools
+begun_is s trail wanted_in all tools there derived put clauses loose variables trail_is have marks_are order = record {
   solver = solver_new s.formula s.ids s.ids s.lines s.lines wanted_in.clauses all.clauses there derived put.put clauses refl refl;
   variables = variables ∙ put.variables;
   idle = record { empty = trail_is ∙ ap (λ n. record { variables = n; entries = []; level = 0; walked = 0 }) (sym (variables ∙ put.variables)); loose = loose };
-  tools = record { variables = subst (λ (cs : List (List SatLit)). HaveVariables s.formula.variables cs occurring) put.put.put have; unmarked = marks_are };
+  tools_are = record { variables = subst (λ (cs : List (List SatLit)). HaveVariables s.formula.variables cs tools.occurring.items) put.put.put have; unmarked = marks_are; order = order };
 }
 
 -- the lines are known and filled

@@ -1,5 +1,6 @@
 pub mod Analyses
 pub mod Solvers
+pub mod Orders
 pub mod Searches
 pub mod Starts
 pub use Rattle.cnf_core.specs.Clauses

@@ -11,7 +11,8 @@ use Rattle.watch_lists.specs.Propagations.{IsSound, before}
 use Rattle.learn_solver.specs.Analyses.{IsAsserting, has_all}
 use Rattle.learn_solver.specs.Solvers.{IsAdded, IsSolver, Solving, active}
 use Rattle.learn_solver.specs.declared.search.Search.{Search}
-use Rattle.learn_solver.specs.Starts.{AreTools}
+use Rattle.learn_solver.specs.declared.search.Tools.{Tools}
+use Rattle.learn_solver.specs.Starts.{AreTools, StayTools}
 use Rattle.watch_lists.specs.Watched.{Fits, IsCovered, IsPresent, Watching}
 
 -- a variable is assigned
@@ -39,28 +40,27 @@ abbrev pub last_line : List LogLine → LogLine
 last_line lines = slice_index_or lines (length lines - 1) no_line
 
 -- A search is under way: the watches fit the trail, and each clause is attached or has a literal that is true at level 0.
-pub record IsRunning (solving : Solving) (trail : Trailing) (watching : Watching) (occurring : List ℕ) (marks : List Bool)
+pub record IsRunning (solving : Solving) (trail : Trailing) (watching : Watching) (tools : Tools)
     : Type 0 where
   pub searching : IsSearching solving trail
   pub solver : IsSolver solving.formula solving.ids solving.lines watching.clauses
   pub fits : Fits watching trail
   pub present : IsPresent trail
   pub covered : (id : ℕ) → id < length watching.clauses → IsCovered watching trail.entries id
-  pub tools : AreTools solving occurring marks
+  pub tools_are : AreTools solving.formula solving.ids tools
 
 -- What a line can be learned from.
-pub record IsLearning (solving : Solving) (trail : Trailing) (watching : Watching) (occurring : List ℕ) (marks : List Bool)
+pub record IsLearning (solving : Solving) (trail : Trailing) (watching : Watching) (tools : Tools)
     : Type 0 where
   pub searching : IsSearching solving trail
   pub solver : IsSolver solving.formula solving.ids solving.lines watching.clauses
-  pub tools : AreTools solving occurring marks
+  pub tools_are : AreTools solving.formula solving.ids tools
 
--- A search stays as it is.
+-- A search stays as it is, but for the order of its variables.
 pub record IsSame (old new : Search) : Type 0 where
   pub trail : new.trail ≡ old.trail
   pub watches : new.watches ≡ old.watches
-  pub occurring : new.occurring.items ≡ old.occurring.items
-  pub marks : new.marks.items ≡ old.marks.items
+  pub tools : StayTools old.tools new.tools
 
 -- A derived line that has all the literals of no clause that is looked at, and the level to go back to with it.
 pub record IsLesson (solving : Solving) (trail : Trailing) (line : LogLine) (level : ℕ) : Type 0 where
@@ -89,9 +89,9 @@ pub record IsLearnt {Others : Type 0} (old new : Solving) (first after : Chargin
   pub way : IsWayBack old trail line back
 
 -- A trail has one literal more at least, and the search goes on.
-pub record IsDecided (solving : Solving) (old new : Trailing) (watching : Watching) (occurring : List ℕ) (marks : List Bool)
+pub record IsDecided (solving : Solving) (old new : Trailing) (watching : Watching) (tools : Tools)
     : Type 0 where
-  pub running : IsRunning solving new watching occurring marks
+  pub running : IsRunning solving new watching tools
   pub longer : length old.entries < length new.entries
   pub most : length new.entries ≤ new.variables
 
@@ -102,6 +102,6 @@ remaining {Others} charging trail =
 
 -- The search goes on, with less to do.
 pub record IsAdvanced {Others : Type 0} (solving : Solving) (first after : Charging Others) (old new : Trailing)
-    (watching : Watching) (occurring : List ℕ) (marks : List Bool) : Type 0 where
-  pub running : IsRunning solving new watching occurring marks
+    (watching : Watching) (tools : Tools) : Type 0 where
+  pub running : IsRunning solving new watching tools
   pub less : remaining after new < remaining first old

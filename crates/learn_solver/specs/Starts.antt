@@ -1,10 +1,13 @@
 -- A search that begins: its clauses are attached one after the other.
-use Rattle.std.specs.Prelude.{◌≡◌, ℕ, ◌*◌, ◌<◌, ◌≤◌, ◌++◌, ◌∷◌, Bool, false, List, [], filter, length, min, nat_le, replicate, take}
+use Rattle.std.specs.Prelude.{◌≡◌, ℕ, ◌*◌, ◌<◌, ◌≤◌, ◌++◌, ◌∷◌, false, List, [], filter, length, min, nat_le, replicate, take}
 use Rattle.cnf_core.specs.declared.literal.SatLit.{SatLit}
 use Rattle.trail_core.specs.Trails.{Trailing, literals}
 use Rattle.watch_lists.specs.Propagations.{IsConflict, IsGrown, IsSound}
 use Rattle.watch_lists.specs.Threads.{IsAttached}
 use Rattle.watch_lists.specs.Watched.{Fits, IsCovered, IsPresent, Watching}
+use Rattle.cnf_core.specs.Clauses.{Formula}
+use Rattle.learn_solver.specs.declared.search.Tools.{Tools}
+use Rattle.learn_solver.specs.Orders.{IsOrder}
 use Rattle.learn_solver.specs.Solvers.{HaveVariables, IsSolver, Solving, wanted}
 
 -- no clause from this number on is attached
@@ -27,18 +30,23 @@ pub record AreIdle (watching : Watching) (trail : Trailing) : Type 0 where
   pub empty : trail ≡ record { variables = watching.variables; entries = []; level = 0; walked = 0 }
   pub loose : AreLoose watching 0
 
--- The variables that are decided, and a mark for each variable, none of which is set.
-pub record AreTools (solving : Solving) (occurring : List ℕ) (marks : List Bool) : Type 0 where
-  pub variables : HaveVariables solving.formula.variables (wanted solving.formula solving.ids) occurring
-  pub unmarked : marks ≡ replicate solving.formula.variables false
+-- The variables that are decided; a mark for each variable, none of which is set; and an order of the variables.
+pub record AreTools (formula : Formula) (ids : List ℕ) (tools : Tools) : Type 0 where
+  pub variables : HaveVariables formula.variables (wanted formula ids) tools.occurring.items
+  pub unmarked : tools.marks.items ≡ replicate formula.variables false
+  pub order : IsOrder formula.variables tools.order
+
+-- what was kept of the variables still is
+abbrev pub StayTools : Tools → Tools → Type 0
+StayTools old new = (formula : Formula) (ids : List ℕ) → AreTools formula ids old → AreTools formula ids new
 
 -- A search that hasn't begun.
-pub record IsBegun (solving : Solving) (trail : Trailing) (watching : Watching) (occurring : List ℕ) (marks : List Bool)
+pub record IsBegun (solving : Solving) (trail : Trailing) (watching : Watching) (tools : Tools)
     : Type 0 where
   pub solver : IsSolver solving.formula solving.ids solving.lines watching.clauses
   pub variables : watching.variables ≡ solving.formula.variables
   pub idle : AreIdle watching trail
-  pub tools : AreTools solving occurring marks
+  pub tools_are : AreTools solving.formula solving.ids tools
 
 -- no clause is attached
 abbrev pub AreAllLoose : Watching → Type 0

@@ -5,6 +5,7 @@
 
 mod conflict;
 mod decision;
+mod order;
 mod search;
 mod solver;
 mod verdict;

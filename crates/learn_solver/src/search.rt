@@ -3,14 +3,17 @@
 ghost use Rattle.std.specs.Prelude.{◌≡◌, ◌<◌, ◌++◌, ◌∷◌, [], false, IfOk, IfNone, IfSome, OnOk, All, length};
 ghost use Rattle.std.specs.List.{list_any};
 ghost use Rattle.cnf_core.specs.Derivations.{AreDerived, clauses_of, is_empty};
-ghost use Rattle.trail_core.specs.Trails.{literals};
+ghost use Rattle.trail_core.specs.Trails.{IsFree, literals};
+ghost use Rattle.learn_solver.specs.Searches.{IsAssigned};
 ghost use Rattle.watch_lists.specs.Propagations.{AreKnown, IsConflict, IsQuiet};
-ghost use Rattle.learn_solver.specs.Starts.{AreAllLoose, AreIdle, IsBegun, IsFitting, IsPropagated, IsSoundBack, IsStarting, IsStuck};
+ghost use Rattle.learn_solver.specs.Starts.{AreAllLoose, AreIdle, IsBegun, IsFitting, IsPropagated, IsSoundBack, IsStarting, IsStuck, StayTools};
+ghost use Rattle.learn_solver.specs.Orders.{IsOrder};
 ghost use Rattle.learn_solver.specs.Analyses.{IsAsserting};
 ghost use Rattle.learn_solver.specs.Solvers.{ArePut};
 
 use crate::conflict::no_marks;
-use crate::decision::variables_of;
+use crate::decision::{next_decision, variables_of};
+use crate::order::Order;
 use cnf_core::{Base, LogLine, SatLit};
 use std::alloc::{AllocError, Global};
 use trail_core::Trail;
@@ -22,10 +25,34 @@ pub(crate) struct Search {
     pub(crate) trail: Trail,
     /// The clauses that are looked at: those of the numbers, then those of the lines.
     pub(crate) watches: Watches,
-    /// The variables of the clauses of the numbers. No others are decided.
+    pub(crate) tools: Tools,
+}
+
+/// What is kept of the variables.
+#[derive(Drop)]
+pub(crate) struct Tools {
+    /// The variables of the clauses of the numbers. Once they are assigned, all clauses are met.
     pub(crate) occurring: Vec<u64>,
     /// A mark for each variable, for the analysis of a conflict. Between two of them none is set.
     pub(crate) marks: Vec<bool>,
+    pub(crate) order: Order,
+}
+
+impl Tools {
+    /// The next literal to decide. None: all variables of the clauses are assigned.
+    pub(crate) fn decision(&mut self, trail: &Trail) -> Option<SatLit>
+        requires order { IsOrder trail.now.variables self.old.order }
+        requires known { All (λ v. v < trail.now.variables) self.old.occurring.items }
+        ensures free { IfSome result (IsFree trail.now) }
+        ensures none { IfNone result (All (IsAssigned trail.now) self.old.occurring.items) }
+        ensures stay { StayTools self.old self.new }
+    {
+        let literal = self.order.pick(trail);
+        if literal.is_some() {
+            return literal;
+        }
+        next_decision(trail, &self.occurring)
+    }
 }
 
 /// A search over the clauses of these numbers, then those of the lines, none of which is attached.
@@ -39,7 +66,7 @@ pub(crate) fn begun<B: Base>(
     requires derived { AreDerived (B.formula base.now) lines.now }
     requires filled { list_any is_empty (clauses_of lines.now) ≡ false }
     ensures { IfOk result (λ search. IsBegun (record { formula = B.formula base.now; ids = ids.now; lines = lines.now })
-        search.trail search.watches search.occurring.items search.marks.items) }
+        search.trail search.watches search.tools) }
 {
     let trail = Trail::with_variables(alloc, base.variables())?;
     let _len = trail.len();
@@ -48,11 +75,15 @@ pub(crate) fn begun<B: Base>(
     let occurring = variables_of(alloc, watches.store(), base.variables())?;
     put_lines(lines, &mut watches)?;
     let marks = no_marks(alloc, base.variables() as usize)?;
+    let order = Order::new(alloc, base.variables() as usize, &occurring)?;
     Ok(Search {
         trail,
         watches,
-        occurring,
-        marks,
+        tools: Tools {
+            occurring,
+            marks,
+            order,
+        },
     })
 }
 
@@ -63,8 +94,7 @@ impl Search {
         ensures none { IfNone result
             (IsStarting self.old.watches self.new.watches self.new.trail (length self.old.watches.clauses)) }
         ensures some { IfSome result (IsStuck self.old.watches self.new.watches self.new.trail) }
-        ensures occurring { self.new.occurring ≡ self.old.occurring }
-        ensures marks { self.new.marks ≡ self.old.marks }
+        ensures tools { self.new.tools ≡ self.old.tools }
     {
         attach_all(&mut self.watches, &mut self.trail)
     }
@@ -77,8 +107,7 @@ impl Search {
         ensures none { IfNone result (IsQuiet self.new.watches.clauses (literals self.new.trail.entries)) }
         ensures walked { IfNone result (self.new.trail.walked ≡ length self.new.trail.entries) }
         ensures some { IfSome result (IsConflict self.new.watches.clauses (literals self.new.trail.entries)) }
-        ensures occurring { self.new.occurring ≡ self.old.occurring }
-        ensures marks { self.new.marks ≡ self.old.marks }
+        ensures tools { self.new.tools ≡ self.old.tools }
     {
         let conflict = self.watches.propagate(&mut self.trail);
         let _walked = self.trail.walked();
@@ -88,6 +117,7 @@ impl Search {
     /// Goes back to a level with a learned clause, of which one literal alone isn't false there.
     pub(crate) fn go_back(&mut self, clause: &[SatLit], level: u64) -> Result<(), AllocError>
         requires fitting { IsFitting self.old.watches self.old.trail }
+        requires order { IsOrder self.old.trail.variables self.old.tools.order }
         requires known { AreKnown self.old.watches.variables clause.now }
         requires filled { is_empty clause.now ≡ false }
         requires above { 0 < self.old.trail.level }
@@ -96,11 +126,11 @@ impl Search {
         ensures fitting { OnOk result (IsFitting self.new.watches self.new.trail) }
         ensures clauses { OnOk result (self.new.watches.clauses ≡ self.old.watches.clauses ++ clause.now ∷ []) }
         ensures variables { OnOk result (self.new.trail.variables ≡ self.old.trail.variables) }
-        ensures occurring { self.new.occurring ≡ self.old.occurring }
-        ensures marks { self.new.marks ≡ self.old.marks }
+        ensures tools { StayTools self.old.tools self.new.tools }
     {
         let id = self.watches.add(clause)?;
         let _walked = self.trail.walked();
+        release_above(&self.trail, level, &mut self.tools.order);
         self.trail.back_to(level);
         let None = self.watches.attach(id, &mut self.trail) else {
             unreachable!()
@@ -152,4 +182,19 @@ fn put_lines(lines: &[LogLine], watches: &mut Watches) -> Result<(), AllocError>
         let _ = watches.add(&line.clause)?;
     }
     Ok(())
+}
+
+// Notes that the literals of greater levels are no longer assigned.
+fn release_above(trail: &Trail, level: u64, order: &mut Order)
+    requires { IsOrder trail.now.variables order.old }
+    ensures { IsOrder trail.now.variables order.new }
+{
+    let mut place = trail.len();
+    while place > 0 {
+        place -= 1;
+        if trail.level_at(place) <= level {
+            return;
+        }
+        order.release(trail.lit_at(place));
+    }
 }

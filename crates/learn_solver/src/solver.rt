@@ -12,7 +12,8 @@ ghost use Rattle.learn_solver.specs.Searches.{IsAdvanced, IsDecided, IsLearning,
 ghost use Rattle.learn_solver.specs.Solvers.{IsAsking, IsExtended, IsModel, IsRefuted, IsStopped, IsVerdict, ArePut, active, id_at, wanted};
 
 use crate::conflict::{Learned, analyse};
-use crate::decision::{next_decision, values};
+use crate::decision::values;
+use crate::order::bump_all;
 use crate::search::{Search, begun};
 use crate::verdict::Verdict;
 use cnf_core::{Base, Charge, Log, LogLine, Stop};
@@ -89,8 +90,7 @@ impl<'a, B: Base> Solver<'a, B> {
         search: &mut Search,
         conflict: u64,
     ) -> Result<Lesson, AllocError>
-        requires learning { IsLearning self.now search.old.trail search.old.watches search.old.occurring.items
-            search.old.marks.items }
+        requires learning { IsLearning self.now search.old.trail search.old.watches search.old.tools }
         requires conflict { IsConflict (active self.now.formula self.now.ids self.now.lines)
             (literals search.old.trail.entries) conflict }
         ensures lesson { IfOk result (λ lesson. IsLesson self.now search.old.trail lesson.line lesson.level) }
@@ -104,9 +104,10 @@ impl<'a, B: Base> Solver<'a, B> {
             alloc,
             search.watches.store(),
             &search.trail,
-            &mut search.marks,
+            &mut search.tools.marks,
             conflict,
         )?;
+        bump_all(&mut search.tools.order, search.watches.store(), &steps);
         let hints = self.hints(alloc, &steps)?;
         let line = LogLine { clause, hints };
         Ok(Lesson { line, level })
@@ -120,8 +121,7 @@ impl<'a, B: Base> Solver<'a, B> {
         conflict: u64,
         ledger: &mut L,
     ) -> Result<Option<u64>, Stop>
-        requires learning { IsLearning self.old search.old.trail search.old.watches search.old.occurring.items
-            search.old.marks.items }
+        requires learning { IsLearning self.old search.old.trail search.old.watches search.old.tools }
         requires asking { IsAsking (L.charging ledger.old) self.old.lines }
         requires conflict { IsConflict (active self.old.formula self.old.ids self.old.lines)
             (literals search.old.trail.entries) conflict }
@@ -143,16 +143,14 @@ impl<'a, B: Base> Solver<'a, B> {
 
     // Decides the next variable that occurs, or answers a model where all of them are assigned.
     fn decide(&self, alloc: Global, search: &mut Search) -> Result<Option<Verdict>, AllocError>
-        requires running { IsRunning self.now search.old.trail search.old.watches search.old.occurring.items
-            search.old.marks.items }
+        requires running { IsRunning self.now search.old.trail search.old.watches search.old.tools }
         requires quiet { IsQuiet (active self.now.formula self.now.ids self.now.lines)
             (literals search.old.trail.entries) }
         requires walked { search.old.trail.walked ≡ length search.old.trail.entries }
         ensures { IfOk result (λ answer. MatchOption answer
-            (IsDecided self.now search.old.trail search.new.trail search.new.watches search.new.occurring.items
-            search.new.marks.items) (IsVerdict self.now)) }
+            (IsDecided self.now search.old.trail search.new.trail search.new.watches search.new.tools) (IsVerdict self.now)) }
     {
-        let Some(literal) = next_decision(&search.trail, &search.occurring) else {
+        let Some(literal) = search.tools.decision(&search.trail) else {
             let variables = self.base.variables();
             let values = values(alloc, &search.trail, variables)?;
             return Ok(Some(Verdict::Model(values)));
@@ -178,15 +176,14 @@ impl<'a, B: Base> Solver<'a, B> {
         search: &mut Search,
         ledger: &mut L,
     ) -> Result<Option<Verdict>, Stop>
-        requires running { IsRunning self.old search.old.trail search.old.watches search.old.occurring.items
-            search.old.marks.items }
+        requires running { IsRunning self.old search.old.trail search.old.watches search.old.tools }
         requires asking { IsAsking (L.charging ledger.old) self.old.lines }
         ensures extended { IfOk result
             (λ _. IsExtended self.old self.new (L.charging ledger.old) (L.charging ledger.new)) }
         ensures asking { IfOk result (λ _. IsAsking (L.charging ledger.new) self.new.lines) }
         ensures answer { IfOk result (λ answer. MatchOption answer
             (IsAdvanced self.new (L.charging ledger.old) (L.charging ledger.new) search.old.trail search.new.trail
-            search.new.watches search.new.occurring.items search.new.marks.items) (IsVerdict self.new)) }
+            search.new.watches search.new.tools) (IsVerdict self.new)) }
         ensures stop { IfErr result
             (IsStopped self.old self.new (L.charging ledger.old) (L.charging ledger.new)) }
     {
@@ -210,8 +207,7 @@ impl<'a, B: Base> Solver<'a, B> {
         conflict: u64,
         ledger: &mut L,
     ) -> Result<Verdict, Stop>
-        requires learning { IsLearning self.old search.old.trail search.old.watches search.old.occurring.items
-            search.old.marks.items }
+        requires learning { IsLearning self.old search.old.trail search.old.watches search.old.tools }
         requires lowest { search.old.trail.level ≡ 0 }
         requires asking { IsAsking (L.charging ledger.old) self.old.lines }
         requires conflict { IsConflict (active self.old.formula self.old.ids self.old.lines)
