@@ -3,7 +3,7 @@ use Rattle.std.proofs.Common.{◌≡◌, ℕ, suc, ◌+◌, ◌-◌, ◌*◌, �
 use Rattle.std.specs.List.{list_any}
 use Rattle.std.proofs.Math.Nat.{mul-suc}
 use Rattle.std.proofs.lemmas.Bool.{cases_lt, leb-true, or_from}
-use Rattle.std.proofs.lemmas.List.{get_or_append_left, get_or-take, length-append, length-take, take-map, take-take, take_all}
+use Rattle.std.proofs.lemmas.List.{get_or_append_left, get_or-take, length-append, length-take, take-take, take_all}
 use Rattle.std.proofs.lemmas.List.Elements.{All-push, filter_passes}
 use Rattle.std.proofs.lemmas.List.Folds.{list_any-append}
 use Rattle.cnf_core.specs.declared.literal.SatLit.{SatLit}
@@ -21,6 +21,7 @@ use Rattle.learn_solver.specs.Searches.{IsLearnt, IsLesson, IsRunning, IsSearchi
 use Rattle.learn_solver.specs.Solvers.{IsAdded, IsAsking, IsExtended, IsSolver, IsStopped, Solving, active}
 use Rattle.learn_solver.specs.Starts.{AreTools, IsBegun, IsStarting}
 use Rattle.watch_lists.proofs.GrowLemmas.{sound_more}
+use Rattle.learn_solver.proofs.GoneLemmas.{before_front}
 use Rattle.learn_solver.proofs.SolverLemmas.{active_more, clauses_more}
 use Rattle.learn_solver.proofs.StepLemmas.{asking_charged, extended_charged}
 
@@ -34,10 +35,6 @@ decided s old new l searching quiet new_is =
       unrefuted = searching.unrefuted;
       sound = sound_more (active s.formula s.ids s.lines) old new e searching.sound quiet entries;
     }
-
--- what stands before a place of the front
-before_front : (es : List Assigned) (n k : ℕ) → k ≤ n → before (take n es) k ≡ before es k
-before_front es n k low = ap (take k) (sym (take-map (λ (e : Assigned). e.literal) n es)) ∙ take-take k n (literals es) low
 
 -- what is justified stays so with one clause more
 justified_more : (clauses : List (List SatLit)) (clause : List SatLit) (made : List SatLit) (l : SatLit) (r : Option ℕ) → IsJustified clauses made l r → (r ≡ None → effect_of made clause ≡ Neither) → IsJustified (clauses ++ clause ∷ []) made l r

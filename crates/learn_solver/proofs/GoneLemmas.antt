@@ -1,8 +1,8 @@
 -- A search goes back with a learned line.
-use Rattle.std.proofs.Common.{◌≡◌, ℕ, zero, suc, ◌*◌, ◌<◌, ◌≤◌, cond, Bool, true, List, [], ◌∷◌, ◌++◌, length, filter, nat_le, slice_index_or, inl, inr, refl, sym, ◌∙◌, ap, subst, arith}
+use Rattle.std.proofs.Common.{◌≡◌, ℕ, zero, suc, ◌*◌, ◌<◌, ◌≤◌, cond, Bool, true, List, [], ◌∷◌, ◌++◌, length, filter, take, nat_le, slice_index_or, inl, inr, refl, sym, ◌∙◌, ap, subst, arith}
 use Rattle.std.specs.List.{list_all}
 use Rattle.std.proofs.lemmas.Bool.{and_parts, cases_Bool, cases_eq, cases_lt, false≢true, le-leb, leb-true, or_cases}
-use Rattle.std.proofs.lemmas.List.{get_or_append_left, get_or_at, get_or-take, length-append, length-take}
+use Rattle.std.proofs.lemmas.List.{get_or_append_left, get_or_at, get_or-take, length-append, length-take, take-map, take-take}
 use Rattle.std.proofs.lemmas.List.Elements.{filter_passes}
 use Rattle.cnf_core.specs.declared.literal.SatLit.{SatLit}
 use Rattle.cnf_core.specs.Clauses.{clause_at, opposite, variable_of}
@@ -12,13 +12,17 @@ use Rattle.trail_core.specs.declared.assigned.Assigned.{Assigned}
 use Rattle.trail_core.specs.Trails.{IsTrail, Trailing, entry_at, literals, nothing}
 use Rattle.trail_core.proofs.TrailLemmas.{place_of_true}
 use Rattle.watch_lists.specs.Feet.{IsReached}
-use Rattle.watch_lists.specs.Propagations.{IsGrown, IsSound}
+use Rattle.watch_lists.specs.Propagations.{IsGrown, IsJustified, IsSound, before}
 use Rattle.watch_lists.specs.Threads.{IsAttached}
 use Rattle.watch_lists.specs.Watched.{Fits, IsCovered, IsPresent, IsRewatched, IsRooted, Watching, loose_watch, with_clause}
 use Rattle.watch_lists.proofs.AttachLemmas.{attached_added, attached_longer}
 use Rattle.watch_lists.proofs.EffectLemmas.{conflict_says, same_literal}
 use Rattle.learn_solver.specs.Analyses.{IsAsserting}
 use Rattle.learn_solver.specs.Starts.{IsBack, IsFitting}
+
+-- what stands before a place of the front
+pub before_front : (es : List Assigned) (n k : ℕ) → k ≤ n → before (take n es) k ≡ before es k
+before_front es n k low = ap (take k) (sym (take-map (λ (e : Assigned). e.literal) n es)) ∙ take-take k n (literals es) low
 
 -- what passes a test is kept by a filter
 filter_keeps : {X : Type 0} (p : X → Bool) (xs : List X) (i : ℕ) (d : X) → i < length xs → p (slice_index_or xs i d) ≡ true → (k : ℕ) × (k < length (filter p xs)) × (slice_index_or (filter p xs) k d ≡ slice_index_or xs i d)
@@ -186,4 +190,27 @@ gone w after clause old back new level fitting size is rewatched fits present so
             let low : id < length w.clauses = omega (arith, within, ap length rewatched.clauses, count, other) in
             covered_grown (with_clause clause w) after back new id (omega (arith, low, count)) rewatched grown (back_covered w clause old back level id size is low (fitting.covered id low))
       ];
+}
+
+-- ---- a search begins anew
+
+-- what is justified stays so after going back
+back_sound : (clauses : List (List SatLit)) (old back : Trailing) (level : ℕ) → IsBack old back level → IsSound clauses old → IsSound clauses back
+back_sound clauses old back level is sound = record {
+  justified = λ k within.
+      let inside = front_within old back level is k within in
+      let made : before back.entries k ≡ before old.entries k = ap (λ es. before es k) is.front ∙ before_front old.entries (length back.entries) k (omega (arith, within)) in
+      let e = entry_at old.entries k in
+      subst (λ (x : Assigned). IsJustified clauses (before back.entries k) x.literal x.reason) (sym (front_at old back level is k within)) (subst (λ m. IsJustified clauses m e.literal e.reason) (sym made) (sound.justified k inside));
+}
+
+pub fitting_back : (w : Watching) (old back : Trailing) (level : ℕ) → IsFitting w old → IsBack old back level → level < old.level → IsFitting w back
+fitting_back w old back level fitting is lower = record {
+  fits = back_fits w old back level is fitting.fits;
+  present = back_present old back level is fitting.present lower;
+  sound = back_sound w.clauses old back level is fitting.sound;
+  covered = λ id there. elim (fitting.covered id there) [
+    | inl attached ↦ inl attached
+    | inr rooted ↦ inr (back_rooted old back level (clause_at w.clauses id) is rooted)
+  ];
 }

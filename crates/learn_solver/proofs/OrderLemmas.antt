@@ -5,7 +5,7 @@ use Rattle.std.proofs.lemmas.List.Elements.{All-push, All-set}
 use Rattle.trail_core.specs.Trails.{Trailing}
 use Rattle.learn_solver.specs.declared.order.Order.{Order}
 use Rattle.learn_solver.specs.declared.order.Place.{Place}
-use Rattle.learn_solver.specs.Orders.{ArePlaces, IsOrder, IsPlaceIn}
+use Rattle.learn_solver.specs.Orders.{AreNamed, ArePlaces, IsOrder, IsPlaceIn}
 
 -- the first so many places, each of which is a ring of its own
 pub record AreAlone (count made : ℕ) (places : List Place) : Type 0 where
@@ -38,3 +38,8 @@ neighbours count at d places are low = are.within at d (omega (arith, low, are.s
 pub record IsReleasing (trail : Trailing) (order : Order) (place : ℕ) : Type 0 where
   pub order_is : IsOrder trail.variables order
   pub within : place ≤ length trail.entries
+
+-- variables are named
+pub record IsNaming (variables : ℕ) (order : Order) (named : List (ℕ × ℕ)) : Type 0 where
+  pub order_is : IsOrder variables order
+  pub named_are : AreNamed variables named

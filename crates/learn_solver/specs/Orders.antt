@@ -20,3 +20,8 @@ pub record IsOrder (variables : ℕ) (order : Order) : Type 0 where
   pub moved : length order.moved.items ≡ variables + 1
   pub phases : length order.phases.items ≡ variables + 1
   pub next : order.next < variables + 1
+  pub named : length order.named.items ≡ variables + 1
+
+-- these are numbers of variables, each after when it was moved
+abbrev pub AreNamed : ℕ → List (ℕ × ℕ) → Type 0
+AreNamed variables named = All (λ (it : ℕ × ℕ). it.1 < variables) named

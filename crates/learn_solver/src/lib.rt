@@ -6,6 +6,7 @@
 mod conflict;
 mod decision;
 mod order;
+mod restarts;
 mod search;
 mod solver;
 mod verdict;

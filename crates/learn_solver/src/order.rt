@@ -1,10 +1,10 @@
 //! The order in which variables are decided.
 
-ghost use Rattle.std.specs.Prelude.{◌≡◌, ◌+◌, ◌^◌, ◌<◌, ◌≤◌, All, IfOk, IfSome, length, replicate};
+ghost use Rattle.std.specs.Prelude.{◌≡◌, ◌+◌, ◌^◌, ◌<◌, ◌≤◌, All, IfOk, IfSome, OnOk, length, replicate};
 ghost use Rattle.cnf_core.specs.Clauses.{variable_of};
 ghost use Rattle.trail_core.specs.Trails.{IsFree};
 ghost use Rattle.watch_lists.specs.Propagations.{AreKnown};
-ghost use Rattle.learn_solver.specs.Orders.{ArePlaces, IsOrder};
+ghost use Rattle.learn_solver.specs.Orders.{AreNamed, ArePlaces, IsOrder};
 
 use cnf_core::{ClauseStore, SatLit};
 use std::alloc::{AllocError, Global};
@@ -33,6 +33,9 @@ pub(crate) struct Order {
     /// Where the search for an unassigned variable goes on: those that come before are assigned.
     pub(crate) next: usize,
     pub(crate) moves: u64,
+    /// The last conflict that named each variable.
+    pub(crate) named: Vec<u64>,
+    pub(crate) conflicts: u64,
 }
 
 impl Order {
@@ -53,6 +56,8 @@ impl Order {
             end: variables,
             next: variables,
             moves: 0,
+            named: zeros(alloc, variables + 1)?,
+            conflicts: 0,
         };
         order.put_all(occurring);
         Ok(order)
@@ -83,6 +88,47 @@ impl Order {
         link(&mut self.places, variable, self.end);
         self.moves = self.moves.saturating_add(1);
         self.moved[variable] = self.moves;
+    }
+
+    // Moves these variables to the front, the last one last.
+    fn bump_named(&mut self, named: &[(u64, u64)])
+        requires order { IsOrder self.old.end self.old }
+        requires named { AreNamed self.old.end named.now }
+        ensures { IsOrder self.old.end self.new }
+    {
+        for (_, variable) in named.iter() {
+            self.bump(*variable);
+        }
+    }
+
+    // Adds the variables of a clause that the present conflict hasn't named yet.
+    fn name_all(&mut self, clause: &[SatLit], named: &mut Vec<(u64, u64)>) -> Result<(), AllocError>
+        requires order { IsOrder self.old.end self.old }
+        requires known { AreKnown self.old.end clause.now }
+        requires named { AreNamed self.old.end named.old.items }
+        ensures order { IsOrder self.old.end self.new }
+        ensures named { OnOk result (AreNamed self.old.end named.new.items) }
+    {
+        for literal in clause.iter() {
+            self.name(literal.variable(), named)?;
+        }
+        Ok(())
+    }
+
+    // Adds a variable that the present conflict hasn't named yet.
+    fn name(&mut self, variable: u64, named: &mut Vec<(u64, u64)>) -> Result<(), AllocError>
+        requires order { IsOrder self.old.end self.old }
+        requires known { variable < self.old.end }
+        requires named { AreNamed self.old.end named.old.items }
+        ensures order { IsOrder self.old.end self.new }
+        ensures named { OnOk result (AreNamed self.old.end named.new.items) }
+    {
+        if self.named[variable as usize] == self.conflicts {
+            return Ok(());
+        }
+        self.named[variable as usize] = self.conflicts;
+        named.push((self.moved[variable as usize], variable))?;
+        Ok(())
     }
 
     /// Notes that a literal, which was true, is no longer assigned.
@@ -119,27 +165,45 @@ impl Order {
     }
 }
 
-/// Moves the variables of these clauses to the front: those that led to a conflict are decided soon.
-pub(crate) fn bump_all(order: &mut Order, clauses: &ClauseStore, steps: &[u64])
+/// Moves the variables of the clauses that led to a conflict to the front, each once: they are decided soon. They keep the
+/// order in which they stood (Biere and Fröhlich, SAT 2015), by which multipliers take half as many lines as in the order of
+/// the clauses.
+pub(crate) fn bump_all(
+    alloc: Global,
+    order: &mut Order,
+    clauses: &ClauseStore,
+    steps: &[u64],
+) -> Result<(), AllocError>
     requires order { IsOrder order.old.end order.old }
     requires there { All (λ k. k < length clauses.now.clauses) steps.now }
     requires known { All (AreKnown order.old.end) clauses.now.clauses }
     ensures { IsOrder order.old.end order.new }
 {
-    for step in steps.iter() {
-        bump_clause(order, clauses.get(*step));
-    }
+    let mut named = named_in(alloc, order, clauses, steps)?;
+    named.sort_unstable();
+    order.bump_named(&named);
+    Ok(())
 }
 
-// Moves the variables of a clause to the front.
-fn bump_clause(order: &mut Order, clause: &[SatLit])
+// The variables of clauses, each once, with when it was moved to the front.
+fn named_in(
+    alloc: Global,
+    order: &mut Order,
+    clauses: &ClauseStore,
+    steps: &[u64],
+) -> Result<Vec<(u64, u64)>, AllocError>
     requires order { IsOrder order.old.end order.old }
-    requires known { AreKnown order.old.end clause.now }
-    ensures { IsOrder order.old.end order.new }
+    requires there { All (λ k. k < length clauses.now.clauses) steps.now }
+    requires known { All (AreKnown order.old.end) clauses.now.clauses }
+    ensures order { IsOrder order.old.end order.new }
+    ensures named { IfOk result (λ named. AreNamed order.old.end named.items) }
 {
-    for literal in clause.iter() {
-        order.bump(literal.variable());
+    order.conflicts = order.conflicts.saturating_add(1);
+    let mut named = Vec::new(alloc);
+    for step in steps.iter() {
+        order.name_all(clauses.get(*step), &mut named)?;
     }
+    Ok(named)
 }
 
 // Takes a variable out of the ring.

@@ -14,6 +14,7 @@ ghost use Rattle.learn_solver.specs.Solvers.{ArePut};
 use crate::conflict::no_marks;
 use crate::decision::{next_decision, variables_of};
 use crate::order::Order;
+use crate::restarts::Restarts;
 use cnf_core::{Base, LogLine, SatLit};
 use std::alloc::{AllocError, Global};
 use trail_core::Trail;
@@ -36,6 +37,7 @@ pub(crate) struct Tools {
     /// A mark for each variable, for the analysis of a conflict. Between two of them none is set.
     pub(crate) marks: Vec<bool>,
     pub(crate) order: Order,
+    pub(crate) restarts: Restarts,
 }
 
 impl Tools {
@@ -83,6 +85,7 @@ pub(crate) fn begun<B: Base>(
             occurring,
             marks,
             order,
+            restarts: Restarts::new(),
         },
     })
 }
@@ -114,7 +117,9 @@ impl Search {
         conflict
     }
 
-    /// Goes back to a level with a learned clause, of which one literal alone isn't false there.
+    /// Goes back to a level with a learned clause, of which one literal alone isn't false there, and to
+    /// level 0 where it is time to begin anew. A restart comes after a learned line alone, each of which costs a unit, so
+    /// there are no more of them than units.
     pub(crate) fn go_back(&mut self, clause: &[SatLit], level: u64) -> Result<(), AllocError>
         requires fitting { IsFitting self.old.watches self.old.trail }
         requires order { IsOrder self.old.trail.variables self.old.tools.order }
@@ -126,6 +131,45 @@ impl Search {
         ensures fitting { OnOk result (IsFitting self.new.watches self.new.trail) }
         ensures clauses { OnOk result (self.new.watches.clauses ≡ self.old.watches.clauses ++ clause.now ∷ []) }
         ensures variables { OnOk result (self.new.trail.variables ≡ self.old.trail.variables) }
+        ensures tools { StayTools self.old.tools self.new.tools }
+    {
+        self.assert(clause, level)?;
+        self.restart();
+        Ok(())
+    }
+
+    // Goes back to level 0 where it is time to.
+    fn restart(&mut self)
+        requires fitting { IsFitting self.old.watches self.old.trail }
+        requires order { IsOrder self.old.trail.variables self.old.tools.order }
+        ensures fitting { IsFitting self.new.watches self.new.trail }
+        ensures clauses { self.new.watches.clauses ≡ self.old.watches.clauses }
+        ensures variables { self.new.trail.variables ≡ self.old.trail.variables }
+        ensures tools { StayTools self.old.tools self.new.tools }
+    {
+        if !self.tools.restarts.count() {
+            return;
+        }
+        if self.trail.level() == 0 {
+            return;
+        }
+        release_above(&self.trail, 0, &mut self.tools.order);
+        self.trail.back_to(0);
+    }
+
+    // Goes back to a level with a learned clause, of which one literal alone isn't false there.
+    fn assert(&mut self, clause: &[SatLit], level: u64) -> Result<(), AllocError>
+        requires fitting { IsFitting self.old.watches self.old.trail }
+        requires order { IsOrder self.old.trail.variables self.old.tools.order }
+        requires known { AreKnown self.old.watches.variables clause.now }
+        requires filled { is_empty clause.now ≡ false }
+        requires above { 0 < self.old.trail.level }
+        requires asserting { IsAsserting self.old.trail clause.now level }
+        requires sound { IsSoundBack self.old.watches clause.now self.old.trail level }
+        ensures fitting { OnOk result (IsFitting self.new.watches self.new.trail) }
+        ensures clauses { OnOk result (self.new.watches.clauses ≡ self.old.watches.clauses ++ clause.now ∷ []) }
+        ensures variables { OnOk result (self.new.trail.variables ≡ self.old.trail.variables) }
+        ensures order { IsOrder self.old.trail.variables self.new.tools.order }
         ensures tools { StayTools self.old.tools self.new.tools }
     {
         let id = self.watches.add(clause)?;

@@ -107,7 +107,12 @@ impl<'a, B: Base> Solver<'a, B> {
             &mut search.tools.marks,
             conflict,
         )?;
-        bump_all(&mut search.tools.order, search.watches.store(), &steps);
+        bump_all(
+            alloc,
+            &mut search.tools.order,
+            search.watches.store(),
+            &steps,
+        )?;
         let hints = self.hints(alloc, &steps)?;
         let line = LogLine { clause, hints };
         Ok(Lesson { line, level })

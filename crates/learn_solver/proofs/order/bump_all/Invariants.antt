@@ -1,5 +1,0 @@
-use Rattle.learn_solver.specs.Orders.{IsOrder}
-use Rattle.learn_solver.proofs.order.bump_all.Given as goal
-
-abbrev pub invariant-loop-step : goal.invariant-loop-step
-invariant-loop-step l = IsOrder l.fn.order.end l.order
