@@ -31,9 +31,9 @@ use Rattle.account_core.specs.Steps.{IsValidBan}
 use Rattle.account_core.proofs.Matched.{pair_of-held}
 use Rattle.account_core.proofs.OrderedPairs.{agree}
 use Rattle.account_core.proofs.SentOnly.{sent_only}
-use Rattle.match_search.specs.Held.{IsOf, IsWhole}
+use Rattle.port_covers.specs.Held.{IsOf, IsWhole}
 use Rattle.match_search.specs.Differences.{of_bit, pair_from, pairs_from, IsShown}
-use Rattle.match_search.proofs.ListLemmas.{cons_cases, contained_of_any}
+use Rattle.port_covers.proofs.ListLemmas.{cons_cases, contained_of_any}
 use Rattle.match_search.proofs.DefiniteLemmas.{of_differ, of_bit_definite, of_bit_same, of_output}
 
 -- two pairs of a port that a matching has are one

@@ -9,7 +9,7 @@ use Rattle.net_core.specs.Sides.{Graphs}
 use Rattle.net_core.specs.Graph.{IsGraph}
 use Rattle.account_core.specs.Ports.{ports_in, IsKnown}
 use Rattle.word_sim.specs.declared.tri.Tri.{Tri}
-use Rattle.match_search.specs.Held.{AreHeld, IsPart}
+use Rattle.port_covers.specs.Held.{AreHeld, IsPart}
 use Rattle.match_search.specs.Differences.{of_bit, IsShown, IsWrong}
 use Rattle.match_search.proofs.DefiniteLemmas.{of_bit_definite, of_output}
 

@@ -1,9 +1,3 @@
-pub mod ListLemmas
-pub mod OrderLemmas
-pub mod ClosedLemmas
-pub mod GatherLemmas
-pub mod CloseLemmas
-pub mod BookLemmas
 pub mod TableLemmas
 pub mod SentLemmas
 pub mod StateLemmas
@@ -16,4 +10,3 @@ pub mod WeightLemmas
 pub mod ServeLemmas
 pub mod CompareLemmas
 pub mod SearchLemmas
-pub mod MarkLemmas

@@ -13,7 +13,7 @@ use Rattle.account_core.specs.declared.step.Ban.{Ban}
 use Rattle.account_core.specs.Given.{Decided, decided_by, given_of, pairs_of}
 use Rattle.account_core.specs.Steps.{AreValidBans, IsValidBan}
 use Rattle.account_core.proofs.Growing.{ban_stays_valid}
-use Rattle.match_search.specs.Levels.{HoldsMore}
+use Rattle.port_covers.specs.Levels.{HoldsMore}
 use Rattle.match_search.specs.States.{AreValid, HasServed}
 
 pub grows_same : (known : Known) → AreFacts known.graphs known.facts → Grows known known

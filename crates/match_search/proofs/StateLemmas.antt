@@ -17,17 +17,17 @@ use Rattle.account_core.specs.declared.step.Step.TheVariants as step
 use Rattle.account_core.specs.Given.{ban_at, given_of, pairs_of}
 use Rattle.account_core.specs.Ports.{ports_in, Clash, HaveAsMany, IsKnown}
 use Rattle.ban_book.specs.Covering.{Covers}
-use Rattle.match_search.specs.declared.level.Level.{Level}
+use Rattle.port_covers.specs.declared.level.Level.{Level}
 use Rattle.match_search.specs.declared.state.State.{State}
-use Rattle.match_search.specs.Held.{AreApart, IsOf, IsTaken}
-use Rattle.match_search.specs.Levels.{nth_way, ways_of, chosen, ClosesImpossible, HoldsMore, IsClosed, IsOpen, IsSearch, IsTried}
+use Rattle.port_covers.specs.Held.{AreApart, IsOf, IsTaken}
+use Rattle.port_covers.specs.Levels.{nth_way, ways_of, chosen, ClosesImpossible, HoldsMore, IsClosed, IsOpen, IsSearch, IsTried}
 use Rattle.account_core.specs.Shown.{IsEmptyBan}
 use Rattle.match_search.specs.Progress.{left_at, left_in, most_ways}
 use Rattle.match_search.specs.States.{GoesOn, IsSearchState}
-use Rattle.match_search.proofs.ListLemmas.{any_of_contained, contains_cons}
-use Rattle.match_search.proofs.BookLemmas.{as_many}
-use Rattle.match_search.proofs.ClosedLemmas.{closed_by_ban, closed_more}
-use Rattle.match_search.proofs.MarkLemmas.{of_way}
+use Rattle.port_covers.proofs.ListLemmas.{any_of_contained, contains_cons}
+use Rattle.port_covers.proofs.BookLemmas.{as_many}
+use Rattle.port_covers.proofs.ClosedLemmas.{closed_by_ban, closed_more}
+use Rattle.port_covers.proofs.MarkLemmas.{of_way}
 
 module _ (graphs : Graphs) (before after : List Ban) (more : HoldsMore graphs before after) where
   pairs_later : (ban : ℕ) → ban < length before → ban_at (given_of [] after) ban ≡ ban_at (given_of [] before) ban

@@ -4,13 +4,13 @@ use Rattle.std.proofs.lemmas.List.{length_push, length-map, take_all, take_more,
 use Rattle.net_core.specs.Sides.{Graphs}
 use Rattle.account_core.specs.declared.step.Ban.{Ban}
 use Rattle.ban_book.specs.Covering.{Covers}
-use Rattle.match_search.specs.declared.level.Level.{Level}
+use Rattle.port_covers.specs.declared.level.Level.{Level}
 use Rattle.match_search.specs.declared.state.State.{State}
-use Rattle.match_search.specs.Levels.{chosen, HoldsMore}
-use Rattle.match_search.specs.Levels.{ways_of}
+use Rattle.port_covers.specs.Levels.{chosen, HoldsMore}
+use Rattle.port_covers.specs.Levels.{ways_of}
 use Rattle.match_search.specs.Progress.{left_at, left_in, TurnsBack}
 use Rattle.match_search.specs.States.{GoesOn, IsSearchState, IsStuck}
-use Rattle.match_search.proofs.BookLemmas.{holds_none, holds_twice}
+use Rattle.port_covers.proofs.BookLemmas.{holds_none, holds_twice}
 use Rattle.match_search.proofs.StateLemmas.{search_later}
 
 -- Levels were taken back, and the pairs that are left run into a ban.

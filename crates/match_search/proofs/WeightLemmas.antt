@@ -14,8 +14,8 @@ use Rattle.net_core.specs.Sides.{Graphs}
 use Rattle.account_core.specs.Ports.{ports_in, IsKnown}
 use Rattle.account_core.specs.declared.step.Ban.{Ban}
 use Rattle.match_search.specs.declared.state.State.{State}
-use Rattle.match_search.specs.Held.{AreHeld}
-use Rattle.match_search.specs.Levels.{chosen}
+use Rattle.port_covers.specs.Held.{AreHeld}
+use Rattle.port_covers.specs.Levels.{chosen}
 use Rattle.match_search.specs.Progress.{depth_of, left, left_at, left_in, most_ways, radix_of, weight, whole, TurnsBack}
 use Rattle.match_search.specs.States.{GoesOn, IsSearchState}
 

@@ -1,9 +1,9 @@
-pub mod Held
-pub mod Levels
 pub mod Progress
 pub mod States
 pub mod Founds
 pub mod Differences
+pub use Rattle.port_covers.specs.Held
+pub use Rattle.port_covers.specs.Levels
 pub use Rattle.table_guess.specs.Trials
 pub use Rattle.account_core.specs.Facts
 pub use Rattle.account_core.specs.Shown

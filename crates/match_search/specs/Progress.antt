@@ -3,8 +3,8 @@ use Rattle.std.specs.Prelude.{◌≡◌, ℕ, suc, zero, ◌+◌, ◌-◌, ◌*�
 use Rattle.net_core.specs.Sides.{Graphs}
 use Rattle.account_core.specs.Ports.{ports_in}
 use Rattle.circuits.specs.declared.port.PortKind.TheVariants.{Input, Output}
-use Rattle.match_search.specs.declared.level.Level.{Level}
-use Rattle.match_search.specs.Levels.{ways_of}
+use Rattle.port_covers.specs.declared.level.Level.{Level}
+use Rattle.port_covers.specs.Levels.{ways_of}
 
 -- how many ways aren't closed at a level
 abbrev pub left_at : Graphs → Level → ℕ

@@ -8,7 +8,7 @@ use Rattle.oracle_core.specs.Oracles.{Known, Grows, Suits, Keeps}
 use Rattle.account_core.specs.Steps.{AreValidBans}
 use Rattle.ban_book.specs.Covering.{Covers}
 use Rattle.match_search.specs.declared.state.State.{State}
-use Rattle.match_search.specs.Levels.{IsSearch}
+use Rattle.port_covers.specs.Levels.{IsSearch}
 use Rattle.match_search.specs.declared.ahead.Ahead.{Ahead}
 use Rattle.match_search.specs.declared.ahead.Ahead.TheVariants as ahead
 use Rattle.account_core.specs.Shown.{IsEmptyBan, IsShownMatch}

@@ -7,7 +7,7 @@ ghost use Rattle.account_core.specs.Ports.{HaveAsMany};
 ghost use Rattle.circuits.specs.Matches.{HavePorts};
 ghost use Rattle.account_core.specs.Shown.{AreLogs};
 ghost use Rattle.match_search.specs.Founds.{IsComparison};
-ghost use Rattle.match_search.specs.Held.{IsWhole};
+ghost use Rattle.port_covers.specs.Held.{IsWhole};
 ghost use Rattle.match_search.specs.States.{AreValid, IsAhead, IsSearchState};
 ghost use Rattle.table_guess.specs.Trials.{AreTrials};
 

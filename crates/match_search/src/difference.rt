@@ -12,8 +12,8 @@ ghost use Rattle.account_core.specs.Vectors.{first_value, signed, value_at, valu
 ghost use Rattle.ban_book.specs.Covering.{Covers};
 ghost use Rattle.word_sim.specs.ThreeValues.{tri_outputs};
 ghost use Rattle.match_search.specs.Differences.{of_bit, pair_from, pairs_from, IsLeftOut, IsShown, IsWrong};
-ghost use Rattle.match_search.specs.Held.{IsWhole};
-ghost use Rattle.match_search.specs.Levels.{HoldsMore};
+ghost use Rattle.port_covers.specs.Held.{IsWhole};
+ghost use Rattle.port_covers.specs.Levels.{HoldsMore};
 
 use account_core::{Ban, Step};
 use ban_book::BanBook;
@@ -24,7 +24,7 @@ use net_core::{Graph, Graphs, Matching};
 use std::alloc::{AllocError, Global};
 use word_sim::{Tri, tri_eval};
 
-#[tactic(auto, using(crate::proofs::BookLemmas::holds_none))]
+#[tactic(auto, using(port_covers::proofs::BookLemmas::holds_none))]
 /// Holds the ban that a vector of the first circuit's inputs is for, on which an output differs from the one that a
 /// matching sends it to, and answers its number. The pairs of inputs that the difference doesn't need are left out.
 pub(crate) fn exclude(

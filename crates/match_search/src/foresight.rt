@@ -5,22 +5,22 @@ ghost use Rattle.circuits.specs.declared.port.PortKind.TheVariants.{Output};
 ghost use Rattle.account_core.specs.declared.step.Step.TheVariants as AnyStep;
 ghost use Rattle.ban_book.specs.Covering.{Covers};
 ghost use Rattle.word_sim.specs.declared.tri.Tri.{Tri as AnyTri};
-ghost use Rattle.match_search.specs.Held.{AreApart, AreHeld, IsPart};
-ghost use Rattle.match_search.specs.Levels.{HoldsMore};
+ghost use Rattle.port_covers.specs.Held.{AreApart, AreHeld, IsPart};
+ghost use Rattle.port_covers.specs.Levels.{HoldsMore};
 ghost use Rattle.table_guess.specs.Trials.{AreTrials, IsSuspect};
 
-use crate::cover::add_one;
 use crate::difference::{definite, is_wrong, leave_out, output_value};
 use account_core::{Ban, Step};
 use ban_book::BanBook;
 use circuits::{Pair, PortKind};
 use items::{Few, Items};
 use net_core::Graphs;
+use port_covers::cover::add_one;
 use std::alloc::{AllocError, Global};
 use table_guess::{Suspect, Trials};
 use word_sim::Tri;
 
-#[tactic(auto, using(crate::proofs::BookLemmas::holds_none))]
+#[tactic(auto, using(port_covers::proofs::BookLemmas::holds_none))]
 /// Where a held output's partner is wrong on one of the vectors that pairs are tried on, whatever the inputs have that
 /// aren't paired: holds a ban that says so, and answers its number.
 pub(crate) fn foresee(
@@ -41,7 +41,7 @@ pub(crate) fn foresee(
     }
 }
 
-#[tactic(auto, using(crate::proofs::BookLemmas::holds_none))]
+#[tactic(auto, using(port_covers::proofs::BookLemmas::holds_none))]
 // Holds the ban that a vector is for on which a held output's partner is wrong, where it is. The pairs of inputs that
 // this doesn't need are left out.
 fn exclude_suspect(

@@ -3,13 +3,13 @@
 ghost use Rattle.std.specs.Prelude.{ℕ, ◌↔◌, ◌<◌, IfNone, IfSome, IsTrue};
 ghost use Rattle.net_core.specs.declared.graphs.Side.TheVariants as AnySide;
 ghost use Rattle.account_core.specs.Ports.{HaveAsMany, ports_in};
-ghost use Rattle.match_search.specs.Held.{IsOf, IsTaken, IsWhole};
+ghost use Rattle.port_covers.specs.Held.{IsOf, IsTaken, IsWhole};
 
-use crate::cover::ports_in;
-use crate::side::port_on;
 use circuits::{Pair, PortKind};
 use items::Items;
 use net_core::{Graphs, Side};
+use port_covers::cover::ports_in;
+use port_covers::side::port_on;
 
 /// The next port that is in no pair, and whose it is: an input of the second circuit that the partner of a paired output
 /// reads, since the partner is known once these have pairs; else an output of the first circuit, in order, and at last an

@@ -1,11 +1,11 @@
 //! The pairs that are held, and the levels that they belong to.
 
 ghost use Rattle.std.specs.Prelude.{◌≡◌, ◌^◌, ◌<◌, [], ◌∷◌, ◌++◌, IfNone, IfSome, OnOk, length};
-ghost use Rattle.match_search.specs.Levels.{chosen};
+ghost use Rattle.port_covers.specs.Levels.{chosen};
 
-use crate::level::Level;
 use circuits::Pair;
 use items::Items;
+use port_covers::level::Level;
 use std::alloc::{AllocError, Global};
 
 /// The pairs that are held, in the order in which their ports were chosen, each with its level.

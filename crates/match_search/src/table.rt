@@ -5,12 +5,12 @@ ghost use Rattle.account_core.specs.Ports.{HaveAsMany};
 ghost use Rattle.circuits.specs.declared.port.Pair.{Pair as AnyPair};
 ghost use Rattle.circuits.specs.Matches.{HavePorts};
 ghost use Rattle.query_core.specs.Images.{Extends};
-ghost use Rattle.match_search.specs.Held.{AreApart, AreHeld, IsEntryOf, IsWhole};
+ghost use Rattle.port_covers.specs.Held.{AreApart, AreHeld, IsEntryOf, IsWhole};
 
-use crate::cover::ports_in;
 use circuits::{Pair, PortKind};
 use items::Items;
 use net_core::{Graphs, Matching};
+use port_covers::cover::ports_in;
 use std::alloc::{AllocError, Global};
 
 /// The matching that has each of the pairs, where each port is in one.

@@ -4,18 +4,18 @@ ghost use Rattle.std.specs.Prelude.{◌≡◌, ◌-◌, ◌<◌, ◌↔◌, [], 
 ghost use Rattle.account_core.specs.declared.step.Ban.{Ban as AnyBan};
 ghost use Rattle.account_core.specs.Ports.{HaveAsMany};
 ghost use Rattle.ban_book.specs.Covering.{Covers};
-ghost use Rattle.match_search.specs.Levels.{chosen, ways_of, HoldsMore, IsOpen, IsTried};
+ghost use Rattle.port_covers.specs.Levels.{chosen, ways_of, HoldsMore, IsOpen, IsTried};
 ghost use Rattle.match_search.specs.Progress.{left_at};
 ghost use Rattle.match_search.specs.States.{GoesBack, IsSearchState, Tries};
 
-use crate::cover::{cover, ports_in};
-use crate::level::Level;
-use crate::marks::marks;
-use crate::side::opposite;
 use crate::state::State;
 use ban_book::BanBook;
 use circuits::Pair;
 use net_core::Graphs;
+use port_covers::cover::{cover, ports_in};
+use port_covers::level::Level;
+use port_covers::marks::marks;
+use port_covers::side::other_side;
 use std::alloc::{AllocError, Global};
 
 /// Tries the ways of a port that aren't closed: holds the first that doesn't clash with a held pair, and answers
@@ -35,7 +35,13 @@ pub(crate) fn advance(
 {
     let mut level = level;
     let count = ports_in(graphs.second(), level.kind);
-    let marks = marks(alloc, &state.held, opposite(level.side), level.kind, count)?;
+    let marks = marks(
+        alloc,
+        &state.held,
+        other_side(level.side),
+        level.kind,
+        count,
+    )?;
     if level.close_clashing(&state.held, &marks)? {
         state.hold(level)?;
         return Ok(None);

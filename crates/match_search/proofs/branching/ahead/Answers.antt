@@ -1,7 +1,7 @@
 use Rattle.std.proofs.Common.{List, refl, subst}
 use Rattle.circuits.specs.declared.port.Pair.{Pair}
 use Rattle.ban_book.specs.Covering.{Covers}
-use Rattle.match_search.specs.Held.{IsWhole}
+use Rattle.port_covers.specs.Held.{IsWhole}
 use Rattle.match_search.proofs.ServeLemmas.{valid_holds}
 use Rattle.match_search.proofs.StateLemmas.{search_later}
 use Rattle.match_search.proofs.branching.ahead.Goals as goal

@@ -1,7 +1,7 @@
 use Rattle.std.proofs.Common.{List, sym, subst, refl}
 use Rattle.circuits.specs.declared.port.Pair.{Pair}
 use Rattle.query_core.specs.Images.{Extends}
-use Rattle.match_search.specs.Held.{IsWhole}
+use Rattle.port_covers.specs.Held.{IsWhole}
 use Rattle.match_search.proofs.CompareLemmas.{shown_match}
 use Rattle.match_search.proofs.ServeLemmas.{valid_grows, valid_holds}
 use Rattle.match_search.proofs.StateLemmas.{search_later}

@@ -1,6 +1,6 @@
 use Rattle.std.proofs.Common.{◌++◌, ◌∷◌, [], ◌+◌, ◌∙◌, ap, map, drop, false, arith}
 use Rattle.match_search.specs.Differences.{of_bit}
-use Rattle.match_search.proofs.ListLemmas.{made_more}
+use Rattle.port_covers.proofs.ListLemmas.{made_more}
 use Rattle.match_search.proofs.difference.definite.Goals as goal
 
 pub loop-place-preserved : goal.loop-place-preserved

@@ -6,8 +6,8 @@ use Rattle.account_core.specs.declared.step.Step.TheVariants as step
 use Rattle.account_core.specs.Given.{given_of}
 use Rattle.account_core.specs.Ports.{IsKnown}
 use Rattle.match_search.specs.Differences.{of_bit, pair_from, pairs_from}
-use Rattle.match_search.proofs.ListLemmas.{among_more}
-use Rattle.match_search.proofs.BookLemmas.{holds_one, covers_last}
+use Rattle.port_covers.proofs.ListLemmas.{among_more}
+use Rattle.port_covers.proofs.BookLemmas.{holds_one, covers_last}
 use Rattle.match_search.proofs.DifferLemmas.{pair_known, shown_whole, shown_as, among_held, vector_valid_of}
 use Rattle.match_search.proofs.difference.exclude.Goals as goal
 

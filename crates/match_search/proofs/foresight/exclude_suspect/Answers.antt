@@ -8,8 +8,8 @@ use Rattle.account_core.specs.Ports.{IsKnown}
 use Rattle.account_core.specs.Steps.{IsValidBan}
 use Rattle.word_sim.specs.declared.tri.Tri.{Tri}
 use Rattle.match_search.specs.Differences.{IsWrong}
-use Rattle.match_search.proofs.ListLemmas.{among_more}
-use Rattle.match_search.proofs.BookLemmas.{holds_one, covers_last}
+use Rattle.port_covers.proofs.ListLemmas.{among_more}
+use Rattle.port_covers.proofs.BookLemmas.{holds_one, covers_last}
 use Rattle.match_search.proofs.DifferLemmas.{vector_valid_of}
 use Rattle.match_search.proofs.ForesightLemmas.{output_there, part_known, shown_held}
 use Rattle.match_search.proofs.foresight.exclude_suspect.Goals as goal

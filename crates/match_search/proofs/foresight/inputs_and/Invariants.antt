@@ -1,4 +1,4 @@
-use Rattle.match_search.specs.Held.{IsPart}
+use Rattle.port_covers.specs.Held.{IsPart}
 use Rattle.match_search.proofs.foresight.inputs_and.Given as goal
 
 abbrev pub invariant-loop-other : goal.invariant-loop-other

@@ -1,6 +1,6 @@
 use Rattle.std.proofs.Common.{ℕ, ◌<◌}
 use Rattle.net_core.specs.declared.graphs.Side.TheVariants.{First}
-use Rattle.match_search.specs.Held.{IsTaken}
+use Rattle.port_covers.specs.Held.{IsTaken}
 use Rattle.match_search.proofs.next_port.first_free.Given as goal
 
 abbrev pub invariant-loop-port : goal.invariant-loop-port

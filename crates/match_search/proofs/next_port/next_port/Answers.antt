@@ -4,7 +4,7 @@ use Rattle.circuits.specs.declared.port.PortKind.TheVariants.{Input, Output}
 use Rattle.circuits.specs.Netlists.{Net}
 use Rattle.net_core.specs.declared.graphs.Side.TheVariants.{First}
 use Rattle.account_core.specs.Ports.{ports_in}
-use Rattle.match_search.specs.Held.{IsTaken}
+use Rattle.port_covers.specs.Held.{IsTaken}
 use Rattle.match_search.proofs.next_port.next_port.Goals as goal
 
 pub returns-in-None-clause-none : goal.returns-in-None-clause-none

@@ -1,5 +1,5 @@
-use Rattle.match_search.specs.Held.{IsEntryOf}
-use Rattle.match_search.proofs.OrderLemmas.{held_more}
+use Rattle.port_covers.specs.Held.{IsEntryOf}
+use Rattle.port_covers.proofs.OrderLemmas.{held_more}
 use Rattle.match_search.proofs.table.put_entries.Goals as goal
 
 pub loop-pair-preserved : goal.loop-pair-preserved

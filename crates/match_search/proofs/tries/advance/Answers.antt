@@ -2,7 +2,7 @@ use Rattle.std.proofs.Common.{◌∙◌, ◌*◌, Bool, List, length, sym, subst
 use Rattle.circuits.specs.declared.port.Pair.{Pair}
 use Rattle.circuits.specs.Netlists.{Net}
 use Rattle.account_core.specs.Ports.{ports_in}
-use Rattle.match_search.specs.Levels.{ClosesImpossible, IsTried}
+use Rattle.port_covers.specs.Levels.{ClosesImpossible, IsTried}
 use Rattle.match_search.proofs.StateLemmas.{goes_on, tried_closed}
 use Rattle.match_search.proofs.tries.advance.Goals as goal
 

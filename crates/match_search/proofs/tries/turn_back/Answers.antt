@@ -3,7 +3,7 @@ use Rattle.circuits.specs.declared.port.Pair.{Pair}
 use Rattle.ban_book.specs.Covering.{Covers}
 use Rattle.match_search.specs.Progress.{left_at}
 use Rattle.match_search.specs.States.{GoesOn, IsStuck, Tries}
-use Rattle.match_search.proofs.BookLemmas.{holds_twice}
+use Rattle.port_covers.proofs.BookLemmas.{holds_twice}
 use Rattle.match_search.proofs.TurnLemmas.{turning_start, as_many_levels, turns_back, turning_more}
 use Rattle.match_search.proofs.StateLemmas.{last_of, empty_ban}
 use Rattle.match_search.proofs.tries.turn_back.Goals as goal

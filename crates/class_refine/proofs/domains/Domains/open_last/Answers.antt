@@ -1,0 +1,75 @@
+-- What is kept without the last entry.
+use Rattle.std.proofs.Common.{◌≡◌, ℕ, ◌-◌, ◌<◌, List, length, Option, None, slice_index_or, take, slice_set, sym, ap, subst, ◌∙◌, arith}
+use Rattle.net_core.specs.declared.graphs.Side.TheVariants.{First, Second}
+use Rattle.circuits.specs.declared.port.Pair.{Pair}
+use Rattle.class_refine.specs.declared.entry.Entry.{Entry}
+use Rattle.class_refine.specs.Kept.{IsKept}
+use Rattle.class_refine.specs.Numbers.{at_ports, port_number}
+use Rattle.class_refine.specs.Trails.{AreEntries, is_held}
+use Rattle.class_refine.proofs.TableLemmas.{both, both_size, counted_size}
+use Rattle.class_refine.proofs.KeptLemmas.{given_back, kept_undeleted, kept_unheld, last_known, some_gone}
+use Rattle.class_refine.proofs.domains.Domains.open_last.Goals as goal
+
+pub invariant_of-self : goal.invariant_of-self
+invariant_of-self c =
+    let old = c.self.inside in
+    let n = old.inputs in
+    let m = old.outputs in
+    let es = c.pop.new.self.items in
+    let e = c.in-Some.entry in
+    let was = subst (λ (l : List Entry). IsKept n m l old.pairs.items old.places.items old.holders.items old.gone.items) c.in-Some.ensures.items c.self.invariant in
+    let nothing : Option Pair = None in
+    let pairs = c.put_at_ports.new.held in
+    let written : pairs ≡ both n m e.pair nothing old.holders.items = c.put_at_ports.ensures ∙ ap (both n m e.pair nothing) c.deref_mut.ensures.value in
+    let size = ap length c.put_at_ports.ensures ∙ both_size n m e.pair nothing c.deref_mut.result.now in
+    let back = given_back old.holders.len old.holders.items c.deref_mut.result.now pairs c.deref_mut.ensures.value size (omega (arith, old.holders.ok.0)) in
+    let rest = c.pop-in-Held.ensures.rest ∙ ap (λ k. take (k - 1) old.pairs.items) (let e' : old.pairs.len ≡ length old.pairs.items = omega (arith, old.pairs.ok.0) in e') in
+    let kept = kept_unheld n m es e old.pairs.items c.pop-in-Held.new.self.items old.places.items old.holders.items old.gone.items was (ap is_held c.in-Held.is) rest in
+    subst (λ (hs : List (Option Pair)). IsKept n m es c.pop-in-Held.new.self.items (slice_set old.places.items c.pair_number.result None) hs old.gone.items) (sym (back ∙ written))
+    (subst (λ k. IsKept n m es c.pop-in-Held.new.self.items (slice_set old.places.items k None) (both n m e.pair nothing old.holders.items) old.gone.items) (sym c.pair_number.ensures.value) kept)
+
+pub uncount_at_ports-requires-clause-known : goal.uncount_at_ports-requires-clause-known
+uncount_at_ports-requires-clause-known c =
+    let old = c.self.inside in
+    let was = subst (λ (l : List Entry). AreEntries old.inputs old.outputs l) c.in-Some.ensures.items c.self.invariant.entries_are in
+    last_known old.inputs old.outputs c.pop.new.self.items c.in-Some.entry was
+
+pub uncount_at_ports-requires-clause-first : goal.uncount_at_ports-requires-clause-first
+uncount_at_ports-requires-clause-first c =
+    let old = c.self.inside in
+    let n = old.inputs in
+    let m = old.outputs in
+    let e = c.in-Some.entry in
+    let was = subst (λ (l : List Entry). IsKept n m l old.pairs.items old.places.items old.holders.items old.gone.items) c.in-Some.ensures.items c.self.invariant in
+    let known = last_known n m c.pop.new.self.items e was.entries_are in
+    let some = some_gone n m c.pop.new.self.items e old.gone.items First known (ap is_held c.in-Deleted.is) known.from was.gone_are in
+    subst (λ (gs : List ℕ). 0 < slice_index_or gs (port_number n m First e.pair.kind e.pair.from) 0) (sym c.deref_mut-in-Deleted.ensures.value) some
+
+pub uncount_at_ports-requires-clause-second : goal.uncount_at_ports-requires-clause-second
+uncount_at_ports-requires-clause-second c =
+    let old = c.self.inside in
+    let n = old.inputs in
+    let m = old.outputs in
+    let e = c.in-Some.entry in
+    let was = subst (λ (l : List Entry). IsKept n m l old.pairs.items old.places.items old.holders.items old.gone.items) c.in-Some.ensures.items c.self.invariant in
+    let known = last_known n m c.pop.new.self.items e was.entries_are in
+    let some = some_gone n m c.pop.new.self.items e old.gone.items Second known (ap is_held c.in-Deleted.is) known.to was.gone_are in
+    subst (λ (gs : List ℕ). 0 < slice_index_or gs (port_number n m Second e.pair.kind e.pair.to) 0) (sym c.deref_mut-in-Deleted.ensures.value) some
+
+pub invariant_of-self-in-Deleted : goal.invariant_of-self-in-Deleted
+invariant_of-self-in-Deleted c =
+    let old = c.self.inside in
+    let n = old.inputs in
+    let m = old.outputs in
+    let es = c.pop.new.self.items in
+    let e = c.in-Some.entry in
+    let was = subst (λ (l : List Entry). IsKept n m l old.pairs.items old.places.items old.holders.items old.gone.items) c.in-Some.ensures.items c.self.invariant in
+    let less : ℕ → ℕ = λ count. count - 1 in
+    let lent = c.deref_mut-in-Deleted.result.now in
+    let counts = c.uncount_at_ports.new.gone in
+    let written : counts ≡ at_ports less n m e.pair old.gone.items = c.uncount_at_ports.ensures ∙ ap (at_ports less n m e.pair) c.deref_mut-in-Deleted.ensures.value in
+    let size = ap length c.uncount_at_ports.ensures ∙ counted_size less n m e.pair lent in
+    let back = given_back old.gone.len old.gone.items lent counts c.deref_mut-in-Deleted.ensures.value size (omega (arith, old.gone.ok.0)) in
+    let kept = kept_undeleted n m es e old.pairs.items old.places.items old.holders.items old.gone.items was (ap is_held c.in-Deleted.is) in
+    subst (λ (gs : List ℕ). IsKept n m es old.pairs.items (slice_set old.places.items c.pair_number.result None) old.holders.items gs) (sym (back ∙ written))
+    (subst (λ k. IsKept n m es old.pairs.items (slice_set old.places.items k None) old.holders.items (at_ports less n m e.pair old.gone.items)) (sym c.pair_number.ensures.value) kept)

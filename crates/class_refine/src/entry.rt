@@ -1,0 +1,36 @@
+//! What became of a signed pair.
+
+use circuits::Pair;
+use net_core::Side;
+
+/// Why a pair is held.
+#[derive(Clone, Copy, Debug, PartialEq, Eq)]
+pub enum Cause {
+    /// It was chosen.
+    Choice,
+    /// Its port of this circuit had no other way left.
+    LastWay(Side),
+}
+
+/// Why a pair is deleted. It names the held pairs with which the pair can't be.
+#[derive(Clone, Copy, Debug, PartialEq, Eq)]
+pub enum Reason {
+    /// The held pair shares a port with it.
+    Clash(Pair),
+    /// The ban of this number has no other pairs than this one and held ones.
+    Ban(u64),
+}
+
+/// What became of a pair.
+#[derive(Clone, Copy, Debug, PartialEq, Eq)]
+pub enum Fate {
+    Held(Cause),
+    Deleted(Reason),
+}
+
+/// A pair, and what became of it.
+#[derive(Clone, Copy, Debug, PartialEq, Eq)]
+pub struct Entry {
+    pub pair: Pair,
+    pub fate: Fate,
+}

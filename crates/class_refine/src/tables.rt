@@ -1,0 +1,80 @@
+//! Tables of what is known of each port.
+
+ghost use Rattle.std.specs.Prelude.{◌≡◌, ◌+◌, ◌-◌, ◌*◌, ◌^◌, ◌<◌, length, slice_set, slice_index_or};
+ghost use Rattle.net_core.specs.declared.graphs.Side.TheVariants.{First, Second};
+ghost use Rattle.class_refine.specs.Numbers.{at_ports, port_number};
+ghost use Rattle.class_refine.specs.Trails.{IsPairOf};
+
+use crate::numbers::port_number;
+use circuits::Pair;
+use net_core::Side;
+
+/// Writes a value for both ports of a pair.
+pub(crate) fn put_at_ports(
+    held: &mut [Option<Pair>],
+    inputs: u32,
+    outputs: u32,
+    pair: Pair,
+    value: Option<Pair>,
+)
+    requires known { IsPairOf inputs outputs pair }
+    requires size { length held.old ≡ 2 * inputs + 2 * outputs }
+    ensures { held.new ≡ slice_set (slice_set held.old
+        (port_number inputs outputs First pair.kind pair.from) value)
+        (port_number inputs outputs Second pair.kind pair.to) value }
+{
+    held[port_number(inputs, outputs, Side::First, pair.kind, pair.from)] = value;
+    held[port_number(inputs, outputs, Side::Second, pair.kind, pair.to)] = value;
+}
+
+/// Counts one more for both ports of a pair.
+pub(crate) fn count_at_ports(gone: &mut [usize], inputs: u32, outputs: u32, pair: Pair)
+    requires known { IsPairOf inputs outputs pair }
+    requires size { length gone.old ≡ 2 * inputs + 2 * outputs }
+    requires first { slice_index_or gone.old (port_number inputs outputs First pair.kind pair.from) 0 < 2 ^ 63 }
+    requires second { slice_index_or gone.old (port_number inputs outputs Second pair.kind pair.to) 0 < 2 ^ 63 }
+    ensures { gone.new ≡ at_ports (λ count. count + 1) inputs outputs pair gone.old }
+{
+    count_one(
+        gone,
+        port_number(inputs, outputs, Side::First, pair.kind, pair.from),
+    );
+    count_one(
+        gone,
+        port_number(inputs, outputs, Side::Second, pair.kind, pair.to),
+    );
+}
+
+fn count_one(gone: &mut [usize], port: usize)
+    requires there { port < length gone.old }
+    requires few { slice_index_or gone.old port 0 < 2 ^ 63 }
+    ensures { gone.new ≡ slice_set gone.old port (slice_index_or gone.old port 0 + 1) }
+{
+    gone[port] += 1;
+}
+
+/// Counts one less for both ports of a pair.
+pub(crate) fn uncount_at_ports(gone: &mut [usize], inputs: u32, outputs: u32, pair: Pair)
+    requires known { IsPairOf inputs outputs pair }
+    requires size { length gone.old ≡ 2 * inputs + 2 * outputs }
+    requires first { 0 < slice_index_or gone.old (port_number inputs outputs First pair.kind pair.from) 0 }
+    requires second { 0 < slice_index_or gone.old (port_number inputs outputs Second pair.kind pair.to) 0 }
+    ensures { gone.new ≡ at_ports (λ count. count - 1) inputs outputs pair gone.old }
+{
+    uncount_one(
+        gone,
+        port_number(inputs, outputs, Side::First, pair.kind, pair.from),
+    );
+    uncount_one(
+        gone,
+        port_number(inputs, outputs, Side::Second, pair.kind, pair.to),
+    );
+}
+
+fn uncount_one(gone: &mut [usize], port: usize)
+    requires there { port < length gone.old }
+    requires some { 0 < slice_index_or gone.old port 0 }
+    ensures { gone.new ≡ slice_set gone.old port (slice_index_or gone.old port 0 - 1) }
+{
+    gone[port] -= 1;
+}

@@ -1,7 +1,0 @@
-use Rattle.std.proofs.Common.{◌++◌, ◌∷◌, [], ◌∙◌, sym, ap}
-use Rattle.match_search.proofs.ListLemmas.{range_more}
-use Rattle.match_search.proofs.cover.ports_up_to.Goals as goal
-
-pub loop-port-preserved : goal.loop-port-preserved
-loop-port-preserved c =
-    c.in_ok-push.ensures.ok ∙ (ap (λ l. l ++ c.loop-port.port ∷ []) c.loop-port.invariant ∙ sym (range_more c.loop-port.port))

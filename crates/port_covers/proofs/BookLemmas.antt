@@ -1,0 +1,135 @@
+-- What a book of bans holds.
+use Rattle.std.proofs.Common.{◌≡◌, ℕ, ◌+◌, ◌<◌, List, [], ◌∷◌, ◌++◌, length, take, get_or, All, Option, None, Some, sym, ap, subst, ◌∙◌, inl, inr, arith}
+use Rattle.std.specs.List.{range_with_len}
+use Rattle.std.proofs.lemmas.Bool.{cases_lt}
+use Rattle.std.proofs.lemmas.List.{append-nil, append_assoc, take_all, take-append-le, get_or_append_left, get_or_push, length_push, length-append, length-map}
+use Rattle.std.proofs.lemmas.List.Elements.{All-contains, All-cons, All-nil}
+use Rattle.std.proofs.lemmas.List.FromFn.{length-range_with_len, get_or-range_with_len}
+use Rattle.circuits.specs.declared.port.Pair.{Pair}
+use Rattle.circuits.specs.declared.port.PortKind.{PortKind}
+use Rattle.circuits.specs.declared.port.PortKind.TheVariants.{Input, Output}
+use Rattle.net_core.specs.Sides.{Graphs}
+use Rattle.net_core.specs.declared.graphs.Side.{Side}
+use Rattle.net_core.specs.declared.graphs.Side.TheVariants.{First, Second}
+use Rattle.account_core.specs.declared.step.Ban.{Ban}
+use Rattle.account_core.specs.declared.step.Step.TheVariants as step
+use Rattle.account_core.specs.Ports.{ports_in, AreOrdered, HaveAsMany, IsKnown}
+use Rattle.account_core.specs.Given.{Decided, given_of}
+use Rattle.account_core.specs.Covers.{IsReference}
+use Rattle.account_core.specs.Steps.{AreValidBans, IsValidBan}
+use Rattle.ban_book.specs.Covering.{Covers, IsWithin}
+use Rattle.port_covers.specs.declared.level.Level.{Level}
+use Rattle.account_core.specs.Tallies.{Ascend, other_side}
+use Rattle.port_covers.specs.Held.{AreHeld, IsPart}
+use Rattle.port_covers.specs.Levels.{nth_way, ports_tried, ways_of, AreClosed, HoldsMore}
+use Rattle.port_covers.proofs.ClosedLemmas.{all_ways}
+
+pub holds_none : (graphs : Graphs) (bans : List Ban) → HoldsMore graphs bans bans
+holds_none graphs bans = record { added = []; more = sym (append-nil bans); valid = λ facts valid. valid }
+
+pub valid_push : (graphs : Graphs) (facts : List Decided) (bans : List Ban) (ban : Ban) → AreValidBans graphs facts bans → IsValidBan graphs (given_of facts bans) ban → AreValidBans graphs facts (bans ++ ban ∷ [])
+valid_push graphs facts bans ban valid here k d below =
+    elim (cases_lt k (length bans)) [
+      | inl less ↦
+          subst (λ (b : Ban). IsValidBan graphs (given_of facts (take k (bans ++ ban ∷ []))) b) (sym (get_or_append_left bans (ban ∷ []) d k less)) (subst (λ (l : List Ban). IsValidBan graphs (given_of facts l) (get_or bans k d)) (sym (take-append-le k bans (ban ∷ []) (omega arith))) (valid k d less))
+      | inr past ↦
+          let e : length bans ≡ k = omega (arith, below, past, length_push bans ban) in
+          let front : take k (bans ++ ban ∷ []) ≡ bans = take-append-le k bans (ban ∷ []) (omega (arith, e)) ∙ take_all k bans (omega (arith, e)) in
+          subst (λ (b : Ban). IsValidBan graphs (given_of facts (take k (bans ++ ban ∷ []))) b) (sym (get_or_push bans ban d k e)) (subst (λ (l : List Ban). IsValidBan graphs (given_of facts l) ban) (sym front) here)
+    ]
+
+-- one more valid ban is held
+pub holds_one : (graphs : Graphs) (bans after : List Ban) (ban : Ban) → after ≡ bans ++ ban ∷ [] → ((facts : List Decided) → IsValidBan graphs (given_of facts bans) ban) → HoldsMore graphs bans after
+holds_one graphs bans after ban is valid = record {
+  added = ban ∷ [];
+  more = is;
+  valid = λ facts before. subst (AreValidBans graphs facts) (sym is) (valid_push graphs facts bans ban before (valid facts));
+}
+
+pub covers_last : (bans after : List Ban) (ban : Ban) (pairs : List Pair) (number : ℕ) → after ≡ bans ++ ban ∷ [] → number ≡ length bans → IsWithin pairs ban → Covers after pairs number
+covers_last bans after ban pairs number is last within = record {
+  held = omega (arith, ap length is, length_push bans ban, last);
+  within = λ d. subst (IsWithin pairs) (sym (ap (λ l. get_or l number d) is ∙ get_or_push bans ban d number (sym last))) within;
+}
+
+pub holds_twice : (graphs : Graphs) (first second third : List Ban) → HoldsMore graphs first second → HoldsMore graphs second third → HoldsMore graphs first third
+holds_twice graphs first second third one other = record {
+  added = one.added ++ other.added;
+  more = other.more ∙ (ap (λ l. l ++ other.added) one.more ∙ append_assoc first one.added other.added);
+  valid = λ facts valid. other.valid facts (one.valid facts valid);
+}
+
+pub covers_more : (graphs : Graphs) (before after : List Ban) (pairs : List Pair) (number : ℕ) → HoldsMore graphs before after → Covers before pairs number → Covers after pairs number
+covers_more graphs before after pairs number more is = record {
+  held = omega (arith, is.held, ap length more.more, length-append before more.added);
+  within = λ d. subst (IsWithin pairs) (sym (ap (λ l. get_or l number d) more.more ∙ get_or_append_left before more.added d number is.held)) (is.within d);
+}
+
+reference_facts : (facts : List Decided) (bans : List Ban) (pairs : List Pair) (pair : Pair) (ref : Option ℕ) → IsReference (given_of [] bans) pairs pair ref → IsReference (given_of facts bans) pairs pair ref
+reference_facts facts bans pairs pair None is = is
+reference_facts facts bans pairs pair (Some ban) is = is
+
+range_ascends : (n : ℕ) → Ascend (range_with_len 0 n)
+range_ascends n i j d less below =
+    let there : j < n = omega (arith, below, length-range_with_len 0 n) in
+    omega (arith, get_or-range_with_len 0 n i d (omega (arith, less, there)), get_or-range_with_len 0 n j d there, less)
+
+range_below : (n : ℕ) → All (λ port. port < n) (range_with_len 0 n)
+range_below n k d below =
+    let there : k < n = omega (arith, below, length-range_with_len 0 n) in
+    omega (arith, get_or-range_with_len 0 n k d there, there)
+
+pub as_many : (graphs : Graphs) (kind : PortKind) → HaveAsMany graphs.first graphs.second → ports_in graphs.first kind ≡ ports_in graphs.second kind
+as_many graphs Input many = many.inputs
+as_many graphs Output many = many.outputs
+
+-- the ports that the ways of a port have on one side
+tried_ascends : (side : Side) (port count : ℕ) → Ascend (ports_tried side port count)
+tried_ascends First port count i j d less below = absurd (omega (arith, less, below))
+tried_ascends Second port count i j d less below = range_ascends count i j d less below
+
+tried_below : (side : Side) (port count : ℕ) → port < count → All (λ p. p < count) (ports_tried side port count)
+tried_below First port count there = All-cons (λ p. p < count) port [] there (All-nil (λ p. p < count))
+tried_below Second port count there = range_below count
+
+tried_many : (side : Side) (port count : ℕ) → length (ports_tried side port count) + length (ports_tried (other_side side) port count) ≡ count + 1
+tried_many First port count = omega (arith, length-range_with_len 0 count)
+tried_many Second port count = omega (arith, length-range_with_len 0 count)
+
+abbrev pub cover_of : Graphs → List Pair → Level → Ban
+cover_of graphs pairs level = record { pairs = pairs; step = step.Cover level.kind (ports_tried level.side level.port (ports_in graphs.second level.kind)) (ports_tried (other_side level.side) level.port (ports_in graphs.second level.kind)) level.refs }
+
+pub cover_valid : (graphs : Graphs) (bans : List Ban) (pairs : List Pair) (level : Level) (facts : List Decided) → HaveAsMany graphs.first graphs.second → All (IsKnown graphs) pairs → AreOrdered pairs → level.port < ports_in graphs.first level.kind → length level.refs ≡ ways_of graphs level → AreClosed bans pairs level → IsValidBan graphs (given_of facts bans) (cover_of graphs pairs level)
+cover_valid graphs bans pairs level facts many known ordered there all closed = record {
+  known = known;
+  ordered = ordered;
+  names = record {
+    first_ports = subst (λ n. All (λ port. port < n) (ports_tried level.side level.port count)) (sym many_ports) (tried_below level.side level.port count here);
+    second_ports = tried_below (other_side level.side) level.port count here;
+    given_bans = λ ban held_ref. omega (arith, (closed held_ref.0 (Some ban) held_ref.1).held ban held_ref.2, length-map bans (λ (b : Ban). b.pairs));
+  };
+  rule = record {
+    from_ascends = tried_ascends level.side level.port count;
+    to_ascends = tried_ascends (other_side level.side) level.port count;
+    too_many = omega (arith, many_ports, tried_many level.side level.port count);
+    referred = all_ways level.side level.kind level.port (ports_in graphs.second level.kind) (IsReference (given_of facts bans) pairs) level.refs all (λ number ref below. reference_facts facts bans pairs (nth_way level.side level.kind level.port number) (get_or level.refs number ref) ((closed number ref below).refers));
+  };
+  shown = tt;
+}
+  where
+    count : ℕ
+    count = ports_in graphs.second level.kind
+
+    many_ports : ports_in graphs.first level.kind ≡ count
+    many_ports = as_many graphs level.kind many
+
+    here : level.port < count
+    here = omega (arith, there, many_ports)
+
+pub cover_valid_of : (graphs : Graphs) (bans : List Ban) (pairs : List Pair) (level : Level) → HaveAsMany graphs.first graphs.second → All (IsKnown graphs) pairs → AreOrdered pairs → level.port < ports_in graphs.first level.kind → length level.refs ≡ ways_of graphs level → AreClosed bans pairs level → (ps : List Pair) (from to : List ℕ) → ps ≡ pairs → from ≡ ports_tried level.side level.port (ports_in graphs.second level.kind) → to ≡ ports_tried (other_side level.side) level.port (ports_in graphs.second level.kind) → (facts : List Decided) → IsValidBan graphs (given_of facts bans) (record { pairs = ps; step = step.Cover level.kind from to level.refs })
+cover_valid_of graphs bans pairs level many known ordered there all closed ps from to ps_is from_is to_is facts =
+    subst (λ l. IsValidBan graphs (given_of facts bans) (record { pairs = l; step = step.Cover level.kind from to level.refs })) (sym ps_is) (subst (λ l. IsValidBan graphs (given_of facts bans) (record { pairs = pairs; step = step.Cover level.kind l to level.refs })) (sym from_is) (subst (λ l. IsValidBan graphs (given_of facts bans) (record { pairs = pairs; step = step.Cover level.kind (ports_tried level.side level.port (ports_in graphs.second level.kind)) l level.refs })) (sym to_is) (cover_valid graphs bans pairs level facts many known ordered there all closed)))
+
+-- those of the held pairs that are known
+pub part_known : (graphs : Graphs) (held pairs : List Pair) → AreHeld graphs held → IsPart held pairs → All (IsKnown graphs) pairs
+part_known graphs held pairs are part k d below = All-contains (IsKnown graphs) held (get_or pairs k d) are.known (part.among k d below)

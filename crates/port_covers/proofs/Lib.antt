@@ -1,0 +1,7 @@
+pub mod ListLemmas
+pub mod OrderLemmas
+pub mod GatherLemmas
+pub mod ClosedLemmas
+pub mod BookLemmas
+pub mod CloseLemmas
+pub mod MarkLemmas

@@ -1,0 +1,7 @@
+use Rattle.std.proofs.Common.{◌++◌, ◌∷◌, [], ◌∙◌, sym, ap}
+use Rattle.port_covers.proofs.ListLemmas.{range_more}
+use Rattle.port_covers.proofs.cover.ports_up_to.Goals as goal
+
+pub loop-port-preserved : goal.loop-port-preserved
+loop-port-preserved c =
+    c.in_ok-push.ensures.ok ∙ (ap (λ l. l ++ c.loop-port.port ∷ []) c.loop-port.invariant ∙ sym (range_more c.loop-port.port))

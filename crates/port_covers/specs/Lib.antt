@@ -1,0 +1,4 @@
+pub mod Held
+pub mod Levels
+pub use Rattle.account_core.specs.Steps
+pub use Rattle.ban_book.specs.Covering
