@@ -1,0 +1,7 @@
+pub mod Moved
+pub mod Growing
+pub mod Names
+pub mod Drawing
+pub mod Shuffles
+pub mod Mixing
+pub mod Pairs

@@ -1,0 +1,12 @@
+//! Pairs of netlists that a number gives, each with the table that matches them.
+
+#![tactic(auto)]
+
+mod drawing;
+mod hidden;
+mod moving;
+mod naming;
+mod pair;
+mod windows;
+
+pub use pair::{GenPair, make};

@@ -1,0 +1,91 @@
+//! The pair that a number gives.
+
+ghost use Rattle.std.specs.Prelude.{◌≡◌, IfOk, length};
+ghost use Rattle.circuits.specs.Bijections.{IsSignedBijection};
+ghost use Rattle.circuits.specs.Matches.{IsMatchOfFunctions};
+ghost use Rattle.net_core.specs.Graph.{IsGraph};
+ghost use Rattle.gen_pair.specs.Drawing.{generator_of};
+ghost use Rattle.gen_pair.specs.Mixing.{making, made};
+ghost use Rattle.gen_pair.specs.Names.{HasNames};
+ghost use Rattle.gen_pair.specs.Pairs.{HasSizes, ArePairOf};
+ghost use Rattle.gen_pair.specs.Shuffles.{hidden_table};
+
+use crate::hidden::hidden_ports;
+use crate::moving::moved_graph;
+use crate::naming::{Letters, with_names};
+use crate::windows::{INPUTS, OUTPUTS, make_parts};
+use net_core::{Graph, Matching};
+use net_file::Named;
+use rand_pcg::Lcg64Xsh32;
+use std::alloc::{AllocError, Global};
+
+/// Two netlists with names of their ports, and a table that matches them.
+#[derive(Debug, Drop)]
+pub struct GenPair {
+    pub first: Named,
+    pub second: Named,
+    pub hidden: Matching,
+}
+
+// The stream of the generator, the same for each number.
+const STREAM: u64 = 54;
+
+const FIRST_LETTERS: Letters = Letters {
+    input: b'a',
+    output: b'f',
+};
+
+const SECOND_LETTERS: Letters = Letters {
+    input: b'p',
+    output: b'q',
+};
+
+/// The pair that a number gives, the same each time: netlists of 64 inputs, 32 outputs and 2,000 gates. The second is
+/// the first under other places and signs of its ports, with the operands of each gate exchanged, and `hidden` says
+/// where each port went: it is a match.
+pub fn make(alloc: Global, number: u64) -> Result<GenPair, AllocError>
+    ensures matches { IfOk result
+        (λ pair. IsMatchOfFunctions pair.first.graph pair.second.graph pair.hidden.inputs pair.hidden.outputs) }
+    ensures drawn { IfOk result
+        (λ pair. ArePairOf number pair.first.graph pair.second.graph pair.hidden.inputs pair.hidden.outputs) }
+    ensures first_size { IfOk result (λ pair. HasSizes pair.first.graph) }
+    ensures second_size { IfOk result (λ pair. HasSizes pair.second.graph) }
+    ensures first_names { IfOk result (λ pair. HasNames 97 102 pair.first) }
+    ensures second_names { IfOk result (λ pair. HasNames 112 113 pair.second) }
+{
+    let mut random = Lcg64Xsh32::new(number, STREAM);
+    let first = first_graph(alloc, &mut random)?;
+    let hidden = hidden_table(alloc, &mut random)?;
+    let second = moved_graph(alloc, &first, &hidden)?;
+    let first = with_names(alloc, first, FIRST_LETTERS)?;
+    let second = with_names(alloc, second, SECOND_LETTERS)?;
+    Ok(GenPair {
+        first,
+        second,
+        hidden,
+    })
+}
+
+// The first netlist, from the generator's next words.
+fn first_graph(alloc: Global, random: &mut Lcg64Xsh32) -> Result<Graph, AllocError>
+    ensures sizes { IfOk result HasSizes }
+    ensures sound { IfOk result IsGraph }
+    ensures made { IfOk result (λ net. making net.gates net.outputs random.new ≡ made 32 random.old) }
+{
+    let parts = make_parts(alloc, random)?;
+    match Graph::new(INPUTS, parts.gates, parts.outputs) {
+        Some(graph) => Ok(graph),
+        None => unreachable!(),
+    }
+}
+
+// Where the ports go, from the generator's next words: the inputs first, then the outputs.
+fn hidden_table(alloc: Global, random: &mut Lcg64Xsh32) -> Result<Matching, AllocError>
+    ensures inputs { IfOk result (λ table. IsSignedBijection 64 table.inputs) }
+    ensures outputs { IfOk result (λ table. IsSignedBijection 32 table.outputs) }
+    ensures drawn { IfOk result (λ table. ((table.inputs, table.outputs), random.new) ≡ hidden_table random.old) }
+{
+    let inputs = hidden_ports(alloc, random, INPUTS)?;
+    let outputs = hidden_ports(alloc, random, OUTPUTS)?;
+    Ok(Matching { inputs, outputs })
+}
