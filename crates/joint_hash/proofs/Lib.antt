@@ -1,0 +1,3 @@
+pub mod HintLemmas
+pub mod LineLemmas
+pub mod TableLemmas

@@ -1,0 +1,101 @@
+//! Hints that derive a clause.
+
+ghost use Rattle.std.specs.Prelude.{◌≡◌, ◌++◌, None, Some, IfOk, IfSome, length, map, nat_lt, if◌then◌else◌};
+ghost use Rattle.cnf_core.specs.Clauses.{clause_at, opposite};
+ghost use Rattle.cnf_core.specs.Derivations.{clauses_of, effect_of, hint_fault, is_false, is_true};
+
+use cnf_core::{Base, Effect, LogLine, SatLit};
+use items::Items;
+use std::alloc::{AllocError, Global};
+
+/// Hints that derive a clause from a formula and from lines: those of the clauses of these numbers, gone over in their
+/// order, that make a literal true, up to the first conflict. None where there is no conflict.
+pub(crate) fn hints_among<B: Base>(
+    alloc: Global,
+    base: &B,
+    lines: &[LogLine],
+    clause: &[SatLit],
+    ids: &[u64],
+) -> Result<Option<Items<u64>>, AllocError>
+    ensures { IfOk result (λ found. IfSome found (λ hints.
+        hint_fault ((B.formula base.now).clauses ++ clauses_of lines.now) (map opposite clause.now) hints ≡ None)) }
+{
+    let mut made = opposites(alloc, clause)?;
+    let mut hints = Items::new(alloc);
+    for id in ids.iter() {
+        match effect_at(base, lines, &made, *id) {
+            Some(Effect::Conflict) => {
+                hints.push(*id)?;
+                return Ok(Some(hints));
+            }
+            Some(Effect::Makes(literal)) => {
+                made.push(literal)?;
+                hints.push(*id)?;
+            }
+            Some(Effect::Neither) | None => {}
+        }
+    }
+    Ok(None)
+}
+
+// What the clause of a number does where these literals are true, or None where there is no such clause.
+fn effect_at<B: Base>(base: &B, lines: &[LogLine], made: &[SatLit], id: u64) -> Option<Effect>
+    ensures { let clauses = (B.formula base.now).clauses ++ clauses_of lines.now
+        in result ≡ (if nat_lt id (length clauses) then Some (effect_of made.now (clause_at clauses id)) else None) }
+{
+    let count = base.count();
+    if id < count {
+        let clause = base.clause(id);
+        return Some(effect(made, clause.literals()));
+    }
+    let place = (id - count) as usize;
+    if place < lines.len() {
+        return Some(effect(made, &lines[place].clause));
+    }
+    None
+}
+
+// What a clause does where these literals are true.
+fn effect(made: &[SatLit], clause: &[SatLit]) -> Effect
+    ensures { result ≡ effect_of made.now clause.now }
+{
+    let mut left = None;
+    for literal in clause.iter() {
+        if !is_false(made, *literal) {
+            match left {
+                None => left = Some(*literal),
+                Some(other) if other == *literal => {}
+                Some(_) => return Effect::Neither,
+            }
+        }
+    }
+    match left {
+        None => Effect::Conflict,
+        Some(literal) if is_true(made, literal) => Effect::Neither,
+        Some(literal) => Effect::Makes(literal),
+    }
+}
+
+// Whether a literal is one of these.
+fn is_true(made: &[SatLit], literal: SatLit) -> bool
+    ensures { result ≡ is_true made.now literal }
+{
+    made.iter().any(|other| literal == *other)
+}
+
+// Whether its opposite is.
+fn is_false(made: &[SatLit], literal: SatLit) -> bool
+    ensures { result ≡ is_false made.now literal }
+{
+    is_true(made, literal.opposite())
+}
+
+// The opposites of a clause's literals.
+fn opposites(alloc: Global, clause: &[SatLit]) -> Result<Vec<SatLit>, AllocError>
+    ensures { IfOk result (λ literals. literals.items ≡ map opposite clause.now) }
+{
+    clause
+        .iter()
+        .map(|literal| literal.opposite())
+        .collect(alloc)
+}

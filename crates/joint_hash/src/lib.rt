@@ -1,0 +1,8 @@
+//! Structural hashing of the two cones of a query: gates that unfold to the same tree are one, by lemmas.
+#![tactic(auto)]
+
+mod gates;
+mod hinting;
+mod merging;
+
+pub use merging::{merge, merge_cones};
