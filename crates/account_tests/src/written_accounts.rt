@@ -3,7 +3,7 @@
 ghost use Rattle.std.specs.Prelude.{◌≡◌, IfOk, length};
 
 use account_core::{Ban, Evidence, Fact, Step};
-use account_write::{put_end, put_match, put_none_ports, put_refusal};
+use account_write::{last_line, put_match, put_none_ports, put_refusal};
 use bit_list::Bits;
 use circuits::{Pair, PortKind};
 use cnf_core::{Log, LogLine};
@@ -55,7 +55,7 @@ fn put_short_match(alloc: Global, out: &mut Vec<u8>) -> Result<(), AllocError> {
 fn writes_a_match(rt: HostRuntime) -> Result<(), Fail> {
     let mut out = Vec::new(rt.alloc());
     put_short_match(rt.alloc(), &mut out)?;
-    put_end(&mut out)?;
+    out.extend_from_slice(last_line())?;
     assert_eq!(rt;
         out.as_slice(),
         b"npnp 1\nmatch i0+1 i1-0 o0-0\nl : 4 0\nend\n".as_slice()

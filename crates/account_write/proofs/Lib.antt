@@ -3,5 +3,4 @@ pub mod LogLemmas
 pub mod PairLemmas
 pub mod MatchLemmas
 pub mod RefusalLemmas
-pub mod LineLemmas
-pub mod RangeLemmas
+pub mod WroteLemmas

@@ -1,6 +1,6 @@
 -- The records of the account of what a search came to (this project's format): after the header, for a match its pairs and the
 -- logs that show it; for none the facts and bans, up to a ban without pairs; or that the circuits have other numbers of ports.
-use Rattle.std.specs.Prelude.{ℕ, ◌+◌, Bool, List, [], ◌∷◌, ◌++◌, map}
+use Rattle.std.specs.Prelude.{◌≡◌, ℕ, ◌+◌, Bool, List, [], ◌∷◌, ◌++◌, map, All}
 use Rattle.std.specs.List.{flat_map}
 use Rattle.circuits.specs.declared.port.Pair.{Pair}
 use Rattle.circuits.specs.declared.port.PortKind.{PortKind}
@@ -17,7 +17,7 @@ use Rattle.account_core.specs.declared.step.Ban.{Ban}
 use Rattle.account_core.specs.Covers.{way}
 use Rattle.account_file.specs.declared.record.Record.{Record}
 use Rattle.account_file.specs.declared.record.Record.TheVariants as entry
-use Rattle.account_file.specs.Spelling.{record_line}
+use Rattle.account_file.specs.Spelling.{record_line, IsWritable}
 
 -- where each port of a kind goes, from port `first` on, as pairs
 abbrev pub pairs_from : PortKind → ℕ → List (ℕ × Bool) → List Pair
@@ -64,23 +64,7 @@ none_ports_records = entry.Header ∷ entry.Conclusion conclusion.NonePorts ∷ 
 abbrev pub account_of : List Record → List ℕ
 account_of records = lines_of records ++ record_line entry.End
 
--- the lines of a log, of a fact and of a ban
-abbrev pub log_lines : Log → List ℕ
-log_lines log = lines_of (log_records log)
-
-abbrev pub fact_lines : Fact → List ℕ
-fact_lines fact = lines_of (fact_records fact)
-
-abbrev pub ban_line : Ban → List ℕ
-ban_line ban = record_line (entry.Ban ban)
-
--- the same accounts, line by line
-abbrev pub match_lines : Matching → List Log → List ℕ
-match_lines matching logs =
-    record_line entry.Header
-    ++ (record_line (entry.Conclusion (conclusion.Match (pairs_of_matching matching))) ++ flat_map log_lines logs)
-
-abbrev pub refusal_lines : List Fact → List Ban → ℕ → List ℕ
-refusal_lines facts bans number =
-    record_line entry.Header
-    ++ (flat_map fact_lines facts ++ (flat_map ban_line bans ++ record_line (entry.Conclusion (conclusion.NoneBan number))))
+-- Records were written after a text: their lines, which can be read back.
+pub record Wrote (before after : List ℕ) (records : List Record) : Type 0 where
+  pub lines : after ≡ before ++ lines_of records
+  pub writable : All IsWritable records

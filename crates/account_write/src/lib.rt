@@ -2,8 +2,7 @@
 #![tactic(auto)]
 
 mod laws;
-mod ranges;
 mod writing;
 
 pub use laws::{match_is_accepted, none_ports_is_accepted, refusal_is_accepted};
-pub use writing::{put_end, put_match, put_none_ports, put_refusal};
+pub use writing::{last_line, put_match, put_none_ports, put_refusal};

@@ -1,19 +1,17 @@
 //! The account of what a search came to, as text.
 
-ghost use Rattle.std.specs.Prelude.{◌≡◌, ◌++◌, ◌<◌, ◌^◌, All, IfOk, OnErr, OnOk, length};
+ghost use Rattle.std.specs.Prelude.{◌≡◌, ◌++◌, ◌∷◌, [], ◌<◌, ◌^◌, IfOk, OnOk, length, map};
 ghost use Rattle.std.specs.List.{flat_map};
 ghost use Rattle.account_file.specs.declared.record.Record.TheVariants as AnyRecord;
 ghost use Rattle.account_file.specs.declared.record.Record.TheVariants.{End};
-ghost use Rattle.account_file.specs.Spelling.{record_line, HasPorts, IsWritable};
-ghost use Rattle.account_write.specs.Records.{lines_of, match_records, none_ports_records, refusal_records};
-ghost use Rattle.account_write.specs.Records.{ban_line, fact_lines, log_lines, match_lines, refusal_lines};
-ghost use Rattle.account_write.specs.Records.{pairs_from, pairs_of_matching};
+ghost use Rattle.account_file.specs.Spelling.{record_line};
+ghost use Rattle.account_write.specs.Records.{fact_records, log_records, match_records, none_ports_records, refusal_records};
+ghost use Rattle.account_write.specs.Records.{pairs_from, pairs_of_matching, Wrote};
 
-use crate::ranges::{bans_fit, facts_fit, logs_fit, pairs_fit};
-use account_core::{Ban, Conclusion, Evidence, Fact, FactHead, Step};
-use account_file::{Record, put_record};
+use account_core::{Ban, Conclusion, Evidence, Fact};
+use account_file::{Record, put_ban, put_fails, put_holds, put_log_line, put_record};
 use circuits::{Pair, PortKind};
-use cnf_core::{Log, LogLine};
+use cnf_core::Log;
 use items::Items;
 use net_core::Matching;
 use std::alloc::{AllocError, Global};
@@ -29,23 +27,7 @@ pub fn put_match(
 ) -> Result<(), AllocError>
     requires inputs { length matching.now.inputs < 2 ^ 32 }
     requires outputs { length matching.now.outputs < 2 ^ 32 }
-    ensures lines { OnOk result (out.new.items ≡ out.old.items ++ lines_of (match_records matching.now logs.now)) }
-    ensures writable { OnOk result (All IsWritable (match_records matching.now logs.now)) }
-{
-    logs_fit(logs);
-    put_match_lines(alloc, matching, logs, out)
-}
-
-fn put_match_lines(
-    alloc: Global,
-    matching: &Matching,
-    logs: &[Log],
-    out: &mut Vec<u8>,
-) -> Result<(), AllocError>
-    requires inputs { length matching.now.inputs < 2 ^ 32 }
-    requires outputs { length matching.now.outputs < 2 ^ 32 }
-    ensures lines { OnOk result (out.new.items ≡ out.old.items ++ match_lines matching.now logs.now) }
-    ensures ports { OnOk result (All HasPorts (pairs_of_matching matching.now)) }
+    ensures { OnOk result (Wrote out.old.items out.new.items (match_records matching.now logs.now)) }
 {
     put_entry(Record::Header, out)?;
     let pairs = pairs_of(alloc, matching)?;
@@ -61,21 +43,7 @@ pub fn put_refusal(
     number: u64,
     out: &mut Vec<u8>,
 ) -> Result<(), AllocError>
-    ensures lines { OnOk result (out.new.items ≡ out.old.items ++ lines_of (refusal_records facts.now bans.now number)) }
-    ensures writable { All IsWritable (refusal_records facts.now bans.now number) }
-{
-    facts_fit(facts);
-    bans_fit(bans);
-    put_refusal_lines(facts, bans, number, out)
-}
-
-fn put_refusal_lines(
-    facts: &[Fact],
-    bans: &[Ban],
-    number: u64,
-    out: &mut Vec<u8>,
-) -> Result<(), AllocError>
-    ensures { OnOk result (out.new.items ≡ out.old.items ++ refusal_lines facts.now bans.now number) }
+    ensures { OnOk result (Wrote out.old.items out.new.items (refusal_records facts.now bans.now number)) }
 {
     put_entry(Record::Header, out)?;
     put_facts(facts, out)?;
@@ -86,24 +54,22 @@ fn put_refusal_lines(
 /// Writes the account that there is no match, since the circuits have other numbers of ports, at the end of `out`, up
 /// to the line `end`.
 pub fn put_none_ports(out: &mut Vec<u8>) -> Result<(), AllocError>
-    ensures { OnOk result (out.new.items ≡ out.old.items ++ lines_of none_ports_records) }
+    ensures { OnOk result (Wrote out.old.items out.new.items none_ports_records) }
 {
     put_entry(Record::Header, out)?;
     put_entry(Record::Conclusion(Conclusion::NonePorts), out)
 }
 
-/// Writes the last line of an account at the end of `out`. Running out of memory leaves `out` as it was.
-pub fn put_end(out: &mut Vec<u8>) -> Result<(), AllocError>
-    ensures line { OnOk result (out.new.items ≡ out.old.items ++ record_line End) }
-    ensures refused { OnErr result (out.new.items ≡ out.old.items) }
+/// The last line of each account.
+pub fn last_line() -> &'static [u8]
+    ensures { result.now ≡ record_line End }
 {
-    put_entry(Record::End, out)
+    b"end\n"
 }
 
-// Writes a record.
+// Writes a record, and lets it go.
 fn put_entry(entry: Record, out: &mut Vec<u8>) -> Result<(), AllocError>
-    ensures line { OnOk result (out.new.items ≡ out.old.items ++ record_line entry) }
-    ensures refused { OnErr result (out.new.items ≡ out.old.items) }
+    ensures { OnOk result (Wrote out.old.items out.new.items (entry ∷ [])) }
 {
     put_record(&entry, out)
 }
@@ -112,13 +78,11 @@ fn put_entry(entry: Record, out: &mut Vec<u8>) -> Result<(), AllocError>
 fn pairs_of(alloc: Global, matching: &Matching) -> Result<Items<Pair>, AllocError>
     requires inputs { length matching.now.inputs < 2 ^ 32 }
     requires outputs { length matching.now.outputs < 2 ^ 32 }
-    ensures pairs { IfOk result (λ pairs. pairs ≡ pairs_of_matching matching.now) }
-    ensures ports { IfOk result (All HasPorts) }
+    ensures { IfOk result (λ pairs. pairs ≡ pairs_of_matching matching.now) }
 {
     let mut pairs = Items::new(alloc);
     add_pairs(PortKind::Input, &matching.inputs, &mut pairs)?;
     add_pairs(PortKind::Output, &matching.outputs, &mut pairs)?;
-    pairs_fit(&pairs);
     Ok(pairs)
 }
 
@@ -143,7 +107,7 @@ fn add_pairs(
 }
 
 fn put_logs(logs: &[Log], out: &mut Vec<u8>) -> Result<(), AllocError>
-    ensures { OnOk result (out.new.items ≡ out.old.items ++ flat_map log_lines logs.now) }
+    ensures { OnOk result (Wrote out.old.items out.new.items (flat_map log_records logs.now)) }
 {
     for log in logs.iter() {
         put_log(log, out)?;
@@ -153,22 +117,16 @@ fn put_logs(logs: &[Log], out: &mut Vec<u8>) -> Result<(), AllocError>
 
 // Writes the lines of a log.
 fn put_log(log: &Log, out: &mut Vec<u8>) -> Result<(), AllocError>
-    ensures { OnOk result (out.new.items ≡ out.old.items ++ log_lines log.now) }
+    ensures { OnOk result (Wrote out.old.items out.new.items (log_records log.now)) }
 {
     for line in log.lines.iter() {
-        put_line(line, out)?;
+        put_log_line(line, out)?;
     }
     Ok(())
 }
 
-fn put_line(line: &LogLine, out: &mut Vec<u8>) -> Result<(), AllocError>
-    ensures { OnOk result (out.new.items ≡ out.old.items ++ record_line (AnyRecord.Line line.now)) }
-{
-    put_entry(Record::Line(line.clone()?), out)
-}
-
 fn put_facts(facts: &[Fact], out: &mut Vec<u8>) -> Result<(), AllocError>
-    ensures { OnOk result (out.new.items ≡ out.old.items ++ flat_map fact_lines facts.now) }
+    ensures { OnOk result (Wrote out.old.items out.new.items (flat_map fact_records facts.now)) }
 {
     for fact in facts.iter() {
         put_fact(fact, out)?;
@@ -178,66 +136,22 @@ fn put_facts(facts: &[Fact], out: &mut Vec<u8>) -> Result<(), AllocError>
 
 // Writes a fact, and after one that holds the lines of its log.
 fn put_fact(fact: &Fact, out: &mut Vec<u8>) -> Result<(), AllocError>
-    ensures { OnOk result (out.new.items ≡ out.old.items ++ fact_lines fact.now) }
+    ensures { OnOk result (Wrote out.old.items out.new.items (fact_records fact.now)) }
 {
-    let claim = fact.claim;
     match &fact.evidence {
-        Evidence::Fails(bits) => {
-            let bits = bits.clone()?;
-            put_entry(Record::Fact(FactHead::Fails { claim, bits }), out)
-        }
+        Evidence::Fails(bits) => put_fails(fact.claim, bits, out),
         Evidence::Holds(log) => {
-            put_entry(Record::Fact(FactHead::Holds { claim }), out)?;
+            put_holds(fact.claim, out)?;
             put_log(log, out)
         }
     }
 }
 
 fn put_bans(bans: &[Ban], out: &mut Vec<u8>) -> Result<(), AllocError>
-    ensures { OnOk result (out.new.items ≡ out.old.items ++ flat_map ban_line bans.now) }
+    ensures { OnOk result (Wrote out.old.items out.new.items (map (λ ban. AnyRecord.Ban ban) bans.now)) }
 {
     for ban in bans.iter() {
         put_ban(ban, out)?;
     }
     Ok(())
-}
-
-fn put_ban(ban: &Ban, out: &mut Vec<u8>) -> Result<(), AllocError>
-    ensures { OnOk result (out.new.items ≡ out.old.items ++ ban_line ban.now) }
-{
-    let pairs = ban.pairs.clone()?;
-    let step = copied(&ban.step)?;
-    put_entry(Record::Ban(Ban { pairs, step }), out)
-}
-
-// An equal step.
-fn copied(step: &Step) -> Result<Step, AllocError>
-    ensures { IfOk result (λ copy. copy ≡ step.now) }
-{
-    match step {
-        Step::Vector { output, bits } => Ok(Step::Vector {
-            output: *output,
-            bits: bits.clone()?,
-        }),
-        Step::Mismatch { fails, holds } => Ok(Step::Mismatch {
-            fails: *fails,
-            holds: *holds,
-        }),
-        Step::Tally { kind, have, lack } => Ok(Step::Tally {
-            kind: *kind,
-            have: have.clone()?,
-            lack: lack.clone()?,
-        }),
-        Step::Cover {
-            kind,
-            from,
-            to,
-            refs,
-        } => Ok(Step::Cover {
-            kind: *kind,
-            from: from.clone()?,
-            to: to.clone()?,
-            refs: refs.clone()?,
-        }),
-    }
 }

@@ -1,5 +1,5 @@
 -- The words and the files determine what is answered.
-use Rattle.std.proofs.Common.{◌≡◌, ◌≢◌, ℕ, ◌-◌, ◌^◌, ◌<◌, ◌≤◌, ◌↔◌, ◌⊎◌, ◌==◌, inl, inr, Bool, false, IsTrue, List, [], ◌∷◌, length, Option, None, Some, Result, Ok, Err, IfOk, IfErr, get_or, refl, sym, ◌∙◌, ap, subst, arith}
+use Rattle.std.proofs.Common.{◌≡◌, ◌≢◌, ℕ, ◌-◌, ◌<◌, ◌≤◌, ◌↔◌, ◌⊎◌, ◌==◌, inl, inr, Bool, false, IsTrue, List, [], ◌∷◌, length, Option, None, Some, Result, Ok, Err, IfOk, IfErr, get_or, refl, sym, ◌∙◌, ap, subst, arith}
 use Rattle.std.proofs.lemmas.Bool.{false≢true, cases_lt}
 use Rattle.shelf_core.specs.Fault.{Rose}
 use Rattle.circuits.specs.Levels.{IsOrderOf}
@@ -66,10 +66,6 @@ pub at_too_long : (limit : ℕ) (held : Option (List ℕ)) (file : File) → fil
 at_too_long limit held NoFile e fact = cc
 at_too_long limit held TooLong e fact = fact
 at_too_long limit held (Bytes bytes) e fact = cc
-
--- no length is past the largest number of 64 bits
-pub never_too_long : (file : File) → file ≡ TooLong → (file ≡ TooLong → 2 ^ 64 - 1 < 2 ^ 64 - 1) → ⊥
-never_too_long file is long = omega (arith, long is)
 
 -- one name holds one netlist, or one thing that ends the check
 

@@ -3,6 +3,7 @@ pub mod CheckLemmas
 pub mod CircuitLemmas
 pub mod FindLemmas
 pub mod InfoLemmas
+pub mod JudgingLemmas
 pub mod MatchLemmas
 pub mod Reading
 pub mod Soundness

@@ -1,19 +1,19 @@
 -- A table that is a match of the graphs that were read is a match of the files' netlists, and where the graphs have none, the
 -- netlists have none.
 use Rattle.std.proofs.Common.{◌≡◌, inl, inr, ℕ, Bool, List, Option, Result, Ok, subst}
-use Rattle.circuits.specs.Matches.{IsMatchOfFunctions, HaveNpnpEqualFunctions}
+use Rattle.circuits.specs.Matches.{IsMatchOfFunctions}
 use Rattle.circuits.specs.Netlists.{Net}
 use Rattle.circuits.proofs.MatchLaws.{match_from_functions, functions_from_equal}
 use Rattle.net_core.specs.declared.matching.Matching.{Matching}
 use Rattle.net_file.specs.declared.named.Named.{Named}
 use Rattle.account_check.specs.declared.verdict.CheckStop.{CheckStop}
 use Rattle.account_check.specs.declared.verdict.Verdict.{Verdict}
-use Rattle.account_check.specs.declared.verdict.Verdict.TheVariants.{Match, None as NoMatch}
+use Rattle.account_check.specs.declared.verdict.Verdict.TheVariants.{Match}
 use Rattle.npnp.specs.Check.{IsAsked}
 use Rattle.npnp.specs.Outcomes.{IsSound}
 use Rattle.npnp.specs.Steps.{IsReadFrom, IsMatchIfTable, IsUnequalIfRefused, netlist_of}
 use Rattle.npnp.specs.declared.outcome.Outcome.{Outcome}
-use Rattle.npnp.specs.declared.outcome.Outcome.TheVariants.{AcceptedMatch, AcceptedRefusal}
+use Rattle.npnp.specs.declared.outcome.Outcome.TheVariants.{AcceptedMatch}
 
 -- what an account proves is a match of the graphs
 pub proved_match : (f g : Net) (result : Result Verdict CheckStop) (table : Matching) → result ≡ Ok (Match table) → ((matching : Matching) → result ≡ Ok (Match matching) → IsMatchOfFunctions f g matching.inputs matching.outputs) → IsMatchIfTable f g (AcceptedMatch table)
@@ -24,10 +24,6 @@ proved_match f g result table is proved = λ other has.
           subst (λ t. IsMatchOfFunctions f g t.inputs t.outputs) e (proved table is)
       | inr same ↦ cc
     ]
-
--- what an account refuses has no match
-pub proved_refusal : (f g : Net) (result : Result Verdict CheckStop) → result ≡ Ok NoMatch → (result ≡ Ok NoMatch → HaveNpnpEqualFunctions f g → ⊥) → IsUnequalIfRefused f g AcceptedRefusal
-proved_refusal f g result is refused = λ same. refused is
 
 pub sound : (tells : Bool) (held : List ℕ → Option (List ℕ)) (words : List (List ℕ)) (here there : Option (List ℕ)) (first second : Named) (account_name : List ℕ) (o : Outcome) → (a : IsReadFrom tells here first) → (b : IsReadFrom tells there second) → IsAsked held words (netlist_of a.circuit first) (netlist_of b.circuit second) account_name → IsMatchIfTable first.graph second.graph o → IsUnequalIfRefused first.graph second.graph o → IsSound held words o
 sound tells held words here there first second account_name o a b asked matches refuses = record {

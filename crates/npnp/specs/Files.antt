@@ -1,5 +1,5 @@
 -- What reading a file whole does, and writing one.
-use Rattle.std.specs.Prelude.{◌≡◌, ◌≢◌, ◌⊎◌, ℕ, ◌+◌, ◌-◌, ◌^◌, ◌<◌, ◌≤◌, Bool, IsTrue, List, ◌++◌, length, take, Option, None, Some, Result, Err, IfOk, OnOk, OnErr}
+use Rattle.std.specs.Prelude.{◌≡◌, ◌≢◌, ◌⊎◌, ℕ, ◌+◌, ◌-◌, ◌<◌, ◌≤◌, Bool, IsTrue, List, ◌++◌, length, take, Option, None, Some, Result, Err, IfOk, OnOk, OnErr}
 use Rattle.shelf_core.specs.Fault.{Rose}
 use Rattle.shelf_core.specs.State.{ShelfState, Closed, Reading, Writing}
 use Rattle.shelf_core.specs.declared.outside.ShelfStop.{ShelfStop}
@@ -27,8 +27,6 @@ pub record ReadsFile (tells : Bool) (limit : ℕ) (held : Option (List ℕ)) (ol
   pub closed : OnOk result (new.mode ≡ Closed)
   pub found : IsTrue tells → IfOk result (Tells limit held)
   pub short : IfOk result (IsWithin limit)
-  -- a length is a number of 64 bits
-  pub long : IfOk result (λ file. file ≡ TooLong → limit < 2 ^ 64 - 1)
   pub faults : old.faults ≤ new.faults
   pub failed : result ≡ Err ReadFault → Rose old.faults new.faults
 

@@ -3,6 +3,7 @@ pub mod Circuits
 pub mod Files
 pub mod Held
 pub mod Info
+pub mod Judging
 pub mod Match
 pub mod Outcomes
 pub mod Report
@@ -11,6 +12,7 @@ pub mod Steps
 pub mod Stops
 pub mod Words
 pub use Rattle.account_check.specs.Verdicts
+pub use Rattle.account_check.specs.Checking
 pub use Rattle.port_report.specs.Reports
 pub use Rattle.port_report.specs.Infos
 pub use Rattle.text_core.specs.Numbers

@@ -134,12 +134,12 @@ pub record IsJudged (outcome : Outcome) : Type 0 where
   pub no_match : outcome ≢ NoMatching
   pub no_table : (table : Matching) → outcome ≢ Matched table
 
--- Judging two netlists by the account under a name.
-pub record Judges (tells : Bool) (first second : Named) (name : List ℕ) (old new : ShelfState) (result : Result Outcome Stop) : Type 0 where
+-- Judging two graphs by what the account's name holds.
+pub record Judges (tells : Bool) (graphs : Graphs) (content : Option (List ℕ)) (old new : ShelfState) (result : Result Outcome Stop) : Type 0 where
   pub files : (n : List ℕ) → new.held n ≡ old.held n
-  pub right : IsTrue tells → IfOk result (IsVerdict (graphs_of first second) (old.held name))
-  pub matches : IfOk result (IsMatchIfTable first.graph second.graph)
-  pub refuses : IfOk result (IsUnequalIfRefused first.graph second.graph)
+  pub right : IsTrue tells → IfOk result (IsVerdict graphs content)
+  pub matches : IfOk result (IsMatchIfTable graphs.first graphs.second)
+  pub refuses : IfOk result (IsUnequalIfRefused graphs.first graphs.second)
   pub judged : IfOk result IsJudged
   pub faults : old.faults ≤ new.faults
   pub failed : result ≡ Err stop.ReadFault → Rose old.faults new.faults

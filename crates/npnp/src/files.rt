@@ -9,7 +9,7 @@ use shelf_core::{Shelf, ShelfStop};
 use std::alloc::{AllocError, Global};
 
 /// The bytes that one read asks for.
-const PIECE: usize = 65_536;
+pub(crate) const PIECE: usize = 65_536;
 
 /// Why a file was not read.
 #[derive(Clone, Copy, Debug, PartialEq, Eq)]
@@ -130,7 +130,8 @@ fn read_piece<S: Shelf>(shelf: &mut S, piece: &mut [u8], bytes: &mut Vec<u8>) ->
     Ok(count as u64)
 }
 
-fn zeros(alloc: Global, count: usize) -> Result<Vec<u8>, AllocError>
+/// `count` zeros.
+pub(crate) fn zeros(alloc: Global, count: usize) -> Result<Vec<u8>, AllocError>
     ensures { IfOk result (λ bytes. bytes.items ≡ replicate count 0) }
 {
     vec![in alloc; 0; count]

@@ -5,6 +5,7 @@
 
 mod files;
 mod info;
+mod judging;
 mod matching;
 mod netlists;
 pub mod outcome;

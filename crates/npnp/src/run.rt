@@ -14,18 +14,16 @@ ghost use Rattle.npnp.specs.Check.{IsAccepted, IsRejected, IsMatchOfFiles, Lacks
 ghost use Rattle.npnp.specs.Match.{HasNoMatch, IsAskedToMatch, IsMatchFound, IsProved, IsSpentOnTwo, NamesAccount};
 ghost use Rattle.npnp.specs.Outcomes.{EndsEarly, IsAbsent, IsAskedOf, IsDecided, IsOfMatch, IsRight, IsSettled, IsSound, IsSpentOn, IsTold, Leaves, LeavesFiles, MayBeCut};
 ghost use Rattle.npnp.specs.Report.{IsReport, line_of};
-ghost use Rattle.npnp.specs.Steps.{IsVerdict, IsMatchIfTable, IsUnequalIfRefused, IsJudged, Judges, Decides, asked_check, TellsLine, PutsText, WritesPart};
+ghost use Rattle.npnp.specs.Steps.{Decides, asked_check, TellsLine, PutsText, WritesPart};
 
-use crate::files::{File, Stop, read_file};
 use crate::info::inform;
+use crate::judging::judge;
 use crate::matching::find;
 use crate::netlists::read_netlist;
 use crate::outcome::{Outcome, Which};
 use crate::report::{report_line, report_named};
 use crate::words::{Check, Command, command_asked};
-use account_check::{CheckStop, Verdict, check};
-use net_core::Graphs;
-use net_file::Named;
+use account_check::Verdict;
 use shelf_core::{Shelf, ShelfStop, Sink};
 use std::alloc::Global;
 
@@ -231,43 +229,6 @@ fn decide<S: Shelf>(alloc: Global, check: &Check<'_>, shelf: &mut S) -> Result<E
     let outcome = judge(alloc, &first, &second, shelf, check.account)?;
     let report = report_named(alloc, &first, &second, &outcome)?;
     Ok(Ending { outcome, report })
-}
-
-/// What the account under a name says of two netlists.
-fn judge<S: Shelf>(
-    alloc: Global,
-    first: &Named,
-    second: &Named,
-    shelf: &mut S,
-    name: &str,
-) -> Result<Outcome, Stop>
-    requires { (S.state shelf.old).mode ≡ Closed }
-    ensures { Judges S.tells first.now second.now name.now
-        (S.state shelf.old) (S.state shelf.new) result }
-{
-    let graphs = Graphs::new(&first.graph, &second.graph);
-    match read_file(alloc, shelf, name, u64::MAX)? {
-        File::Absent => Ok(Outcome::Absent(Which::Account)),
-        // no length is above this limit
-        File::TooLong => unreachable!(),
-        File::Bytes(account) => settle(alloc, &graphs, &account),
-    }
-}
-
-/// What the bytes of an account say of two circuits.
-fn settle(alloc: Global, graphs: &Graphs<'_>, account: &[u8]) -> Result<Outcome, Stop>
-    ensures verdict { IfOk result (IsVerdict graphs.now (Some account.now)) }
-    ensures matches { IfOk result (IsMatchIfTable graphs.now.first graphs.now.second) }
-    ensures refuses { IfOk result (IsUnequalIfRefused graphs.now.first graphs.now.second) }
-    ensures judged { IfOk result IsJudged }
-    ensures no_fault { result ≢ Err Stop.ReadFault }
-{
-    match check(alloc, graphs, account) {
-        Ok(Verdict::Match(table)) => Ok(Outcome::AcceptedMatch(table)),
-        Ok(Verdict::None) => Ok(Outcome::AcceptedRefusal),
-        Err(CheckStop::Rejected { line, why }) => Ok(Outcome::Rejected { line, why }),
-        Err(CheckStop::Memory) => Err(Stop::Memory),
-    }
 }
 
 /// Puts the report of an ending, and answers how the run ends with that. After a failed write of a file nothing is put.

@@ -5,13 +5,11 @@ ghost use Rattle.shelf_core.specs.State.{Closed, Writing};
 ghost use Rattle.npnp.specs.Files.{FillsFile, FillsOn, WritesFile};
 ghost use Rattle.npnp.specs.Steps.{last_line};
 
+use account_write::last_line;
 use shelf_core::{Shelf, ShelfStop};
 
 /// The bytes that one append writes, but for the last ones.
 const PIECE: usize = 65_536;
-
-/// The last line of an account.
-const LAST_LINE: &[u8] = b"end\n";
 
 /// Writes an account under a name, in place of what the name holds: its lines up to the last one in pieces, and the
 /// last one by itself, so that a file that was cut off doesn't end as an account does. After a refusal no further call
@@ -32,7 +30,7 @@ fn fill<S: Shelf>(shelf: &mut S, lines: &[u8]) -> Result<(), ShelfStop>
     ensures { FillsFile S.tells (lines.now ++ last_line) (S.state shelf.old) (S.state shelf.new) result }
 {
     append_pieces(shelf, lines)?;
-    shelf.append(LAST_LINE)
+    shelf.append(last_line())
 }
 
 /// Writes a text to the open file, piece by piece.

@@ -1,13 +1,18 @@
--- The same lines, record by record.
-use Rattle.std.proofs.Common.{◌≡◌, ◌++◌, All, OnOk, subst}
-use Rattle.account_file.specs.Spelling.{HasPorts, IsWritable}
-use Rattle.account_write.specs.Records.{match_records, pairs_of_matching}
-use Rattle.account_write.proofs.LineLemmas.{match_by_lines, match_writable, ok_then}
+-- The header, the pairs, the logs.
+use Rattle.std.proofs.Common.{◌∷◌, [], subst}
+use Rattle.std.specs.List.{flat_map}
+use Rattle.account_core.specs.declared.conclusion.Conclusion.TheVariants as conclusion
+use Rattle.account_file.specs.declared.record.Record.TheVariants as entry
+use Rattle.account_write.specs.Records.{log_records, pairs_of_matching, Wrote}
+use Rattle.account_write.proofs.WroteLemmas.{wrote_last, wrote_on}
 use Rattle.account_write.proofs.writing.put_match.Goals as goal
 
-pub returns-clause-lines : goal.returns-clause-lines
-returns-clause-lines c = let h = c.put_match_lines.ensures.lines in subst (λ l. OnOk c.put_match_lines.result (c.put_match_lines.new.out.items ≡ c.args.out.now.items ++ l)) (match_by_lines c.args.matching.now c.args.logs.now) h
-
-pub returns-clause-writable : goal.returns-clause-writable
-returns-clause-writable c =
-    ok_then c.put_match_lines.result (All HasPorts (pairs_of_matching c.args.matching.now)) (All IsWritable (match_records c.args.matching.now c.args.logs.now)) (match_writable c.args.matching.now c.args.logs.now c.logs_fit.ensures) c.put_match_lines.ensures.ports
+pub returns : goal.returns
+returns c =
+    let old = c.args.out.now.items in
+    let one = c.put_entry.new.out.items in
+    let two = c.put_entry-2.new.out.items in
+    let concluded = entry.Conclusion (conclusion.Match (pairs_of_matching c.args.matching.now)) in
+    let pairs = subst (λ p. Wrote one two (entry.Conclusion (conclusion.Match p) ∷ [])) c.in_ok-pairs.ensures c.in_ok-put_entry-2.ensures in
+    let first = wrote_on old one two (entry.Header ∷ []) (concluded ∷ []) c.in_ok-put_entry.ensures pairs in
+    wrote_last c.put_logs.result old two c.put_logs.new.out.items (entry.Header ∷ concluded ∷ []) (flat_map log_records c.args.logs.now) first c.put_logs.ensures
