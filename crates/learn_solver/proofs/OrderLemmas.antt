@@ -18,11 +18,6 @@ alone_more count made places are low = record {
   within = All-push (IsPlaceIn count) places (record { before = made; after = made }) are.within (record { before = low; after = low });
 }
 
--- some variables are left to be moved to the front
-pub record IsPuttingAll (variables : ℕ) (occurring : List ℕ) (order : Order) (left : ℕ) : Type 0 where
-  pub order_is : IsOrder variables order
-  pub few : left ≤ length occurring
-
 -- one place is written
 pub placed : (count at : ℕ) (place : Place) (places : List Place) → ArePlaces count places → IsPlaceIn count place → ArePlaces count (slice_set places at place)
 placed count at place places are is = record {

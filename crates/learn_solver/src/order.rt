@@ -39,7 +39,8 @@ pub(crate) struct Order {
 }
 
 impl Order {
-    /// The order of these variables, the first of which is decided first. Each gets the value 0 at first.
+    /// The order of these variables, the last of which is decided first: where they are those of gates in order, the gates next
+    /// to the outputs, by which adders take a tenth to a fifth fewer lines than by the inputs. Each gets the value 0 at first.
     pub(crate) fn new(
         alloc: Global,
         variables: usize,
@@ -63,16 +64,14 @@ impl Order {
         Ok(order)
     }
 
-    // Moves variables to the front, so that the first of them comes first.
+    // Moves variables to the front, the last one last.
     fn put_all(&mut self, occurring: &[u64])
         requires order { IsOrder self.old.end self.old }
         requires known { All (λ v. v < self.old.end) occurring.now }
         ensures { IsOrder self.old.end self.new }
     {
-        let mut left = occurring.len();
-        while left > 0 {
-            left -= 1;
-            self.bump(occurring[left]);
+        for variable in occurring.iter() {
+            self.bump(*variable);
         }
         self.next = self.places[self.end].after;
     }

@@ -1,8 +1,5 @@
-use Rattle.learn_solver.proofs.OrderLemmas.{IsPuttingAll}
+use Rattle.learn_solver.specs.Orders.{IsOrder}
 use Rattle.learn_solver.proofs.order.Order.put_all.Given as goal
 
-abbrev pub invariant-loop-left : goal.invariant-loop-left
-invariant-loop-left l = IsPuttingAll l.fn.self.end l.occurring l.self l.left
-
-abbrev pub decreases-loop-left : goal.decreases-loop-left
-decreases-loop-left l = l.left
+abbrev pub invariant-loop-variable : goal.invariant-loop-variable
+invariant-loop-variable l = IsOrder l.fn.self.end l.self
