@@ -1,5 +1,5 @@
 -- Vectors that pairs are tried on, 64 in a word (parallel-pattern simulation, as in textbooks of digital testing).
-use Rattle.std.specs.Prelude.{◌≡◌, ℕ, ◌<◌, Bool, List, length, Contains}
+use Rattle.std.specs.Prelude.{◌≡◌, ℕ, ◌<◌, ◌≤◌, Bool, List, length, Contains}
 use Rattle.circuits.specs.declared.port.Pair.{Pair}
 use Rattle.circuits.specs.declared.port.PortKind.TheVariants.{Output}
 use Rattle.circuits.specs.Netlists.{Net, function_of}
@@ -8,10 +8,10 @@ use Rattle.word_sim.specs.Columns.{Table, vector_at}
 use Rattle.table_guess.specs.declared.trials.Trials.{Trials}
 use Rattle.table_guess.specs.declared.trials.Suspect.{Suspect}
 
--- A table of at least one word has n columns.
+-- A table of at least a block of eight words has n columns.
 pub record HasColumns (columns : ℕ) (table : Table) : Type 0 where
   pub count : length table.columns ≡ columns
-  pub some : 0 < table.words
+  pub some : 8 ≤ table.words
 
 -- There is a column for each input of a circuit and for each output, with as many words.
 pub record AreTrials (net : Net) (trials : Trials) : Type 0 where

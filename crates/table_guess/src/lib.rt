@@ -8,7 +8,6 @@ mod kept;
 mod leaf;
 mod level;
 mod matching;
-mod rails;
 mod trials;
 mod vectors;
 

@@ -1,18 +1,21 @@
 //! Vectors that pairs are tried on, before anything is asked.
 
-ghost use Rattle.std.specs.Prelude.{◌≡◌, ◌+◌, ◌<◌, ◌%◌, All, Contains, IfOk, IfSome, OnOk, length};
+ghost use Rattle.std.specs.Prelude.{◌≡◌, ◌+◌, ◌<◌, ◌≤◌, ◌%◌, All, Contains, IfOk, IfSome, OnOk, length};
 ghost use Rattle.circuits.specs.declared.port.PortKind.TheVariants.{Input, Output};
 ghost use Rattle.account_core.specs.Ports.{IsKnown};
 ghost use Rattle.table_guess.specs.Trials.{AreComputed, AreTrials, IsSuspect, IsVectorOf};
 ghost use Rattle.word_sim.specs.Columns.{vector_at};
 
-use crate::rails::{Rails, outputs_of};
 use crate::vectors::{first_vectors, put_vector};
 use bit_list::Bits;
 use circuits::{Pair, PortKind};
 use net_core::{Graph, Graphs};
 use std::alloc::{AllocError, Global};
-use word_sim::{Words, simulate};
+use std::simd::prelude::*;
+use word_sim::{Rails, Words, and_lanes, rails_eval, simulate};
+
+/// How many words are evaluated at once.
+const BLOCK: usize = 8;
 
 /// Vectors of the first circuit's inputs, 64 in a word, and what its outputs have on them: all vectors of at most eleven
 /// inputs, else 2,048 that are drawn, which make room for those on which whole tables failed.
@@ -81,15 +84,15 @@ impl Trials {
         if !have_output(held) {
             return Ok(None);
         }
-        for word in 0..self.inputs.words() {
-            if let Some(found) = self.suspect_in(alloc, graphs, held, word)? {
+        for block in 0..self.inputs.words() / BLOCK {
+            if let Some(found) = self.suspect_in(alloc, graphs, held, BLOCK * block)? {
                 return Ok(Some(found));
             }
         }
         Ok(None)
     }
 
-    // One on the vectors of a word.
+    // One on the 512 vectors of eight words.
     fn suspect_in(
         &self,
         alloc: Global,
@@ -99,16 +102,18 @@ impl Trials {
     ) -> Result<Option<Suspect>, AllocError>
         requires trials { AreTrials graphs.now.first self.now }
         requires known { All (IsKnown graphs.now) held.now }
-        requires word { word < self.now.inputs.words }
+        requires word { word + 8 ≤ self.now.inputs.words }
         ensures suspect { IfOk result (λ found. IfSome found (IsSuspect graphs.now held.now)) }
         ensures vector { IfOk result (λ found. IfSome found (λ suspect. IsVectorOf self.now.inputs suspect.vector)) }
     {
+        // the words are counted by a number of the machine's
+        let _words = self.inputs.words();
         let mut sent = vec![in alloc; Rails::unknown(); graphs.second().inputs() as usize]?;
         send_all(held, &self.inputs, word, &mut sent);
-        let partners = outputs_of(alloc, graphs.second(), &sent)?;
+        let partners = rails_eval(alloc, graphs.second(), &sent)?;
         for pair in held.iter() {
-            if let Some(lane) = wrong_lane(*pair, &self.outputs, word, &partners) {
-                let vector = self.vector(alloc, word, lane)?;
+            if let Some((at, lane)) = wrong_vector(*pair, &self.outputs, word, &partners) {
+                let vector = self.vector(alloc, word + at, lane)?;
                 return Ok(Some(Suspect {
                     pair: *pair,
                     vector,
@@ -138,19 +143,43 @@ fn is_of_output(pair: Pair) -> bool {
     pair.kind == PortKind::Output
 }
 
-// The first vector of a word on which the partner of an output is known and wrong.
-fn wrong_lane(pair: Pair, outputs: &Words, word: usize, partners: &[Rails]) -> Option<u32>
+// The first vector of eight words on which the partner of an output is known and wrong: its word and its bit.
+fn wrong_vector(
+    pair: Pair,
+    outputs: &Words,
+    word: usize,
+    partners: &[Rails],
+) -> Option<(usize, u32)>
     requires from { pair.kind ≡ Output → pair.from < length outputs.now.columns }
     requires to { pair.kind ≡ Output → pair.to < length partners.now }
-    requires word { word < outputs.now.words }
-    ensures kind { IfSome result (λ lane. pair.kind ≡ Output) }
-    ensures lane { IfSome result (λ lane. lane < 64) }
+    requires word { word + 8 ≤ outputs.now.words }
+    ensures kind { IfSome result (λ place. pair.kind ≡ Output) }
+    ensures word { IfSome result (λ place. place.0 < 8) }
+    ensures lane { IfSome result (λ place. place.1 < 64) }
 {
     if pair.kind != PortKind::Output {
         return None;
     }
     let partner = partners[pair.to as usize].signed(pair.flip);
-    first_lane(partner.unlike(outputs.get(pair.from, word)))
+    first_bit(unlike(partner, outputs.block(pair.from, word)))
+}
+
+// The vectors on which a signal is known and hasn't these bits.
+fn unlike(signal: Rails, bits: u64x8) -> u64x8 {
+    and_lanes(signal.zeros, false, bits, false) | and_lanes(signal.ones, false, bits, true)
+}
+
+// The first word with a bit that is 1, and its lowest one.
+fn first_bit(block: u64x8) -> Option<(usize, u32)>
+    ensures word { IfSome result (λ place. place.0 < 8) }
+    ensures lane { IfSome result (λ place. place.1 < 64) }
+{
+    for word in 0..BLOCK {
+        if let Some(lane) = first_lane(block[word]) {
+            return Some((word, lane));
+        }
+    }
+    None
 }
 
 // The lowest bit that is 1.
@@ -163,11 +192,11 @@ fn first_lane(word: u64) -> Option<u32>
     Some(word.trailing_zeros())
 }
 
-// Gives the inputs that are paired what their partners have on the vectors of a word.
+// Gives the inputs that are paired what their partners have on the vectors of eight words.
 fn send_all(held: &[Pair], inputs: &Words, word: usize, sent: &mut [Rails])
     requires from { All (λ pair. pair.kind ≡ Input → pair.from < length inputs.now.columns) held.now }
     requires to { All (λ pair. pair.kind ≡ Input → pair.to < length sent.old) held.now }
-    requires word { word < inputs.now.words }
+    requires word { word + 8 ≤ inputs.now.words }
     ensures { length sent.new ≡ length sent.old }
 {
     for pair in held.iter() {
@@ -178,10 +207,10 @@ fn send_all(held: &[Pair], inputs: &Words, word: usize, sent: &mut [Rails])
 fn send(pair: Pair, inputs: &Words, word: usize, sent: &mut [Rails])
     requires from { pair.kind ≡ Input → pair.from < length inputs.now.columns }
     requires to { pair.kind ≡ Input → pair.to < length sent.old }
-    requires word { word < inputs.now.words }
+    requires word { word + 8 ≤ inputs.now.words }
     ensures { length sent.new ≡ length sent.old }
 {
     if pair.kind == PortKind::Input {
-        sent[pair.to as usize] = Rails::of(inputs.get(pair.from, word)).signed(pair.flip);
+        sent[pair.to as usize] = Rails::known(inputs.block(pair.from, word)).signed(pair.flip);
     }
 }

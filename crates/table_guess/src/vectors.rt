@@ -1,6 +1,6 @@
 //! The vectors that circuits are tried on, 64 in a word.
 
-ghost use Rattle.std.specs.Prelude.{◌≡◌, ◌<◌, IfOk, length};
+ghost use Rattle.std.specs.Prelude.{◌≡◌, ◌<◌, ◌≤◌, IfOk, length};
 ghost use Rattle.table_guess.specs.Trials.{HasColumns};
 
 use bit_list::Bits;
@@ -10,24 +10,30 @@ use rand_pcg::Pcg32;
 use std::alloc::{AllocError, Global};
 use word_sim::Words;
 
-/// Vectors of n inputs, 32 words at most: all of few inputs, else some that are drawn.
+/// How many words are tried at least: those of a block, which are evaluated at once.
+const FEWEST_WORDS: usize = 8;
+
+/// How many words are tried at most: 2,048 vectors show nearly every wrong pair, and a search tries them at each step.
+const MOST_WORDS: usize = 32;
+
+/// Vectors of n inputs, 8 to 32 words: all of few inputs, which come again where they don't fill a block, else some that are drawn.
 pub(crate) fn first_vectors(alloc: Global, inputs: u32, seed: u64) -> Result<Words, AllocError>
     ensures { IfOk result (HasColumns inputs) }
 {
-    vectors(alloc, inputs, words_of_all(inputs).min(32), seed)
+    vectors(
+        alloc,
+        inputs,
+        words_of_all(inputs).max(FEWEST_WORDS).min(MOST_WORDS),
+        seed,
+    )
 }
 
 /// That many words of vectors: all vectors where these are enough, else some that are drawn.
-pub(crate) fn vectors(
-    alloc: Global,
-    inputs: u32,
-    words: usize,
-    seed: u64,
-) -> Result<Words, AllocError>
-    requires { 0 < words }
+fn vectors(alloc: Global, inputs: u32, words: usize, seed: u64) -> Result<Words, AllocError>
+    requires { 8 ≤ words }
     ensures { IfOk result (HasColumns inputs) }
 {
-    let whole = words == words_of_all(inputs);
+    let whole = words >= words_of_all(inputs);
     let mut table = Words::new(alloc, inputs, words)?;
     let mut generator = Pcg32::new(seed, 54);
     for word in 0..words {
