@@ -1,5 +1,5 @@
 -- The words and the files determine what is answered.
-use Rattle.std.proofs.Common.{◌≡◌, ◌≢◌, ℕ, ◌-◌, ◌<◌, ◌≤◌, ◌↔◌, ◌⊎◌, ◌==◌, inl, inr, Bool, false, IsTrue, List, [], ◌∷◌, length, Option, None, Some, Result, Ok, Err, IfOk, IfErr, get_or, refl, sym, ◌∙◌, ap, subst, arith}
+use Rattle.std.proofs.Common.{◌≡◌, ◌≢◌, ℕ, ◌<◌, ◌≤◌, ◌↔◌, ◌⊎◌, ◌==◌, inl, inr, Bool, false, IsTrue, List, [], ◌∷◌, length, Option, None, Some, Result, Ok, Err, IfOk, IfErr, get_or, refl, sym, ◌∙◌, ap, subst, arith}
 use Rattle.std.proofs.lemmas.Bool.{false≢true, cases_lt}
 use Rattle.shelf_core.specs.Fault.{Rose}
 use Rattle.circuits.specs.Levels.{IsOrderOf}

@@ -1,10 +1,7 @@
 -- How far the check of an account has come, piece by piece.
 use Rattle.std.proofs.Common.{◌≡◌, ◌≢◌, ℕ, ◌+◌, ◌-◌, ◌<◌, ◌≤◌, Bool, IsTrue, List, [], ◌∷◌, ◌++◌, length, take, Option, Some, Result, Ok, Err, IfOk, refl, sym, ap, subst, ◌∙◌, inl, inr, arith, append_assoc, append-nil, length-append, length-take-le}
-use Rattle.circuits.specs.Matches.{IsMatchOfFunctions, HaveNpnpEqualFunctions}
 use Rattle.net_core.specs.Graph.{IsGraph}
 use Rattle.net_core.specs.Sides.{Graphs}
-use Rattle.net_core.specs.declared.matching.Matching.{Matching}
-use Rattle.shelf_core.specs.Fault.{Rose}
 use Rattle.shelf_core.specs.Calls.{Reads}
 use Rattle.shelf_core.specs.State.{ShelfState, Reading}
 use Rattle.shelf_core.specs.declared.outside.ShelfStop.{ShelfStop}
@@ -23,7 +20,7 @@ use Rattle.npnp.specs.declared.files.Stop.TheVariants as stop
 use Rattle.npnp.specs.declared.judging.Halt.{Halt}
 use Rattle.npnp.specs.declared.judging.Halt.TheVariants as halt
 use Rattle.npnp.specs.declared.outcome.Outcome.{Outcome}
-use Rattle.npnp.specs.declared.outcome.Outcome.TheVariants.{AcceptedRefusal, Rejected}
+use Rattle.npnp.specs.declared.outcome.Outcome.TheVariants.{Rejected}
 use Rattle.npnp.proofs.CheckLemmas.{rose_later}
 
 -- Of the `size` unread bytes of an account, all but `left` were read, and their whole lines are valid, for any two circuits that the

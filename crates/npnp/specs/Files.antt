@@ -1,5 +1,5 @@
 -- What reading a file whole does, and writing one.
-use Rattle.std.specs.Prelude.{◌≡◌, ◌≢◌, ◌⊎◌, ℕ, ◌+◌, ◌-◌, ◌<◌, ◌≤◌, Bool, IsTrue, List, ◌++◌, length, take, Option, None, Some, Result, Err, IfOk, OnOk, OnErr}
+use Rattle.std.specs.Prelude.{◌≡◌, ◌≢◌, ◌⊎◌, ℕ, ◌+◌, ◌<◌, ◌≤◌, Bool, IsTrue, List, ◌++◌, length, take, Option, None, Some, Result, Err, IfOk, OnOk, OnErr}
 use Rattle.shelf_core.specs.Fault.{Rose}
 use Rattle.shelf_core.specs.State.{ShelfState, Closed, Reading, Writing}
 use Rattle.shelf_core.specs.declared.outside.ShelfStop.{ShelfStop}

@@ -1,6 +1,6 @@
 //! Calls of the outside that fail in turn.
 
-use crate::files::{A, B, EMPTY};
+use crate::files::{A, AND, B, EMPTY, XOR};
 use crate::runs::{CHECK, Ended, Failing, MATCH, NEVER, run_failing};
 use std::alloc::{AllocError, Global};
 use std::test::Fail;
@@ -154,6 +154,34 @@ fn calls_nothing_after_a_fault(rt: HostRuntime) -> Result<(), Fail> {
         assert_eq!(rt;
             (ended.status, ended.report.as_slice(), ended.calls),
             (6, b"read fault\n".as_slice(), call + 1)
+        );
+    }
+    Ok(())
+}
+
+/// A refusal of the AND and the exclusive or, of which line 2 has a vector that breaks nothing.
+const BAD_LINE: &[u8] =
+    b"npnp 1\nfails b 0 up 0 =11\nfails b 0 down 0 =10\nfails b 0 up 1 =10\nfails b 0 down 1 =01\nholds a 0 up 0\nl : 0 7 1\nban o0+0 : tally binate 0 1 2 3 / 4\nban o0-0 : tally binate 0 1 2 3 / 4\nban : cover out 0 / 0 / 0 1\nnone ban 2\nend\n";
+
+/// A call that fails, and how the check ends then. Of 16 bytes a read, calls 0 to 3 and 4 to 8 are those of the netlists; 9
+/// opens the account, 10 and 11 read its first two lines, and 12 closes it.
+static AROUND_THE_CLOSE: [(u64, u8, &[u8]); 2] = [
+    (12, 6, b"read fault\n"),
+    (13, 2, b"rejected line 2 vector\n"),
+];
+
+#[test]
+fn reads_no_more_than_the_first_bad_line(rt: HostRuntime) -> Result<(), Fail> {
+    for (call, status, report) in AROUND_THE_CLOSE.iter() {
+        let failing = Failing {
+            call: *call,
+            put: NEVER,
+            cut: 16,
+        };
+        let ended = run_failing(rt.alloc(), CHECK, [AND, XOR], Some(BAD_LINE), failing)?;
+        assert_eq!(rt;
+            (ended.status, ended.report.as_slice(), ended.calls),
+            (*status, *report, 13)
         );
     }
     Ok(())
