@@ -1,0 +1,7 @@
+pub mod NamedLemmas
+pub mod ConflictLemmas
+pub mod JustifiedLemmas
+pub mod ResolveLemmas
+pub mod ReferLemmas
+pub mod PivotLemmas
+pub mod WithoutLemmas

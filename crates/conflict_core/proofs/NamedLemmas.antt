@@ -1,0 +1,79 @@
+-- What reasons name, and what is gathered of it.
+use Rattle.std.proofs.Common.{◌≡◌, ◌≢◌, ◌⊎◌, ℕ, ◌+◌, ◌*◌, ◌<◌, ◌≤◌, List, ◌∷◌, All, AllPairs, Contains, Option, refl, ap, subst, ◌∙◌, inl, inr, arith}
+use Rattle.std.proofs.lemmas.Bool.{cases_lt}
+use Rattle.std.proofs.lemmas.List.Elements.{All-contains, All-contains_itself, All-weaker}
+use Rattle.circuits.specs.declared.port.Pair.{Pair}
+use Rattle.circuits.specs.declared.port.PortKind.{PortKind}
+use Rattle.net_core.specs.declared.graphs.Side.{Side}
+use Rattle.net_core.specs.declared.graphs.Side.TheVariants.{First, Second}
+use Rattle.account_core.specs.declared.step.Ban.{Ban}
+use Rattle.account_core.specs.Ports.{Clash}
+use Rattle.ban_book.specs.Covering.{IsWithin}
+use Rattle.port_covers.specs.Held.{IsPart}
+use Rattle.port_covers.specs.Levels.{nth_way}
+use Rattle.port_covers.proofs.ListLemmas.{any_more, cons_more, among_more}
+use Rattle.class_refine.specs.declared.entry.Entry.{Entry}
+use Rattle.class_refine.specs.declared.entry.Fate.{Fate}
+use Rattle.class_refine.specs.declared.entry.Fate.TheVariants.{Held, Deleted}
+use Rattle.class_refine.specs.declared.entry.Reason.{Reason}
+use Rattle.class_refine.specs.declared.entry.Reason.TheVariants as reason
+use Rattle.class_refine.specs.Trails.{IsPairOf, ports_of}
+use Rattle.class_refine.proofs.EntryLemmas.{one_entry}
+use Rattle.conflict_core.specs.declared.port.Port.{Port}
+use Rattle.conflict_core.specs.Named.{AreNamed, IsGathered, IsLeftOutOr, IsNamedIn, deleted}
+
+within_more : (few more : List Pair) (way : Pair) (ban : Ban) → All (Contains more) few → IsWithin (way ∷ few) ban → IsWithin (way ∷ more) ban
+within_more few more way ban stays is = record { among = All-weaker (Contains (way ∷ few)) (Contains (way ∷ more)) (λ x. cons_more way few more x stays) ban.pairs is.among }
+
+-- what is named among some pairs is named among more of them
+pub named_more : (bans : List Ban) (few more : List Pair) (way : Pair) (why : Reason) → All (Contains more) few → AreNamed bans few way why → AreNamed bans more way why
+named_more bans few more way (reason.Clash with) stays is = (All-contains (Contains more) few with stays is.0, is.1)
+named_more bans few more way (reason.Ban number) stays is = record { held = is.held; within = λ d. within_more few more way _ stays (is.within d) }
+
+pub gathered_more : (bans : List Ban) (entries : List Entry) (few more : List Pair) (way : Pair) → All (Contains more) few → IsGathered bans entries few way → IsGathered bans entries more way
+gathered_more bans entries few more way stays (inl impossible) = inl (any_more (λ (x : Pair). Clash x way) few more stays impossible)
+gathered_more bans entries few more way stays (inr is) = inr (is.0, is.1, named_more bans few more way is.0 stays is.2)
+
+left_out_more : (bans : List Ban) (entries : List Entry) (few more : List Pair) (skipped : Option Pair) (way : Pair) → All (Contains more) few → IsLeftOutOr skipped way (IsGathered bans entries few way) → IsLeftOutOr skipped way (IsGathered bans entries more way)
+left_out_more bans entries few more skipped way stays (inl same) = inl same
+left_out_more bans entries few more skipped way stays (inr is) = inr (gathered_more bans entries few more way stays is)
+
+-- a deleted way has one reason
+abbrev named_by : List Ban → List Pair → Pair → Fate → Type 0
+named_by bans pairs way (Held cause) = ⊥
+named_by bans pairs way (Deleted why) = AreNamed bans pairs way why
+
+pub one_reason : (bans : List Ban) (entries : List Entry) (pairs : List Pair) (way : Pair) (why : Reason) → AllPairs (λ (x y : Entry). x.pair ≢ y.pair) entries → Contains entries (deleted way why) → IsNamedIn bans entries pairs way → AreNamed bans pairs way why
+one_reason bans entries pairs way why distinct here is =
+    subst (λ (e : Entry). named_by bans pairs way e.fate) (one_entry entries (deleted way is.0) (deleted way why) distinct is.1 here refl) is.2
+
+-- the ways of a port are pairs of ports that exist
+pub way_known : (n m : ℕ) (side : Side) (kind : PortKind) (port number : ℕ) → port < ports_of n m kind → number < 2 * ports_of n m kind → IsPairOf n m (nth_way side kind port number)
+way_known n m First kind port number there below = record { from = there; to = omega (arith, below) }
+way_known n m Second kind port number there below = record { from = omega (arith, below); to = there }
+
+-- what is gathered of the first ways
+pub record AreGathered (bans : List Ban) (entries : List Entry) (held before now : List Pair) (port : Port) (skipped : Option Pair) (count : ℕ) : Type 0 where
+  pub part : IsPart held now
+  pub stays : All (Contains now) before
+  pub each : (number : ℕ) → number < count → IsLeftOutOr skipped (nth_way port.side port.kind port.number number) (IsGathered bans entries now (nth_way port.side port.kind port.number number))
+
+pub gathered_none : (bans : List Ban) (entries : List Entry) (held before : List Pair) (port : Port) (skipped : Option Pair) → IsPart held before → AreGathered bans entries held before before port skipped 0
+gathered_none bans entries held before port skipped part = record {
+  part = part;
+  stays = All-contains_itself before;
+  each = λ number below. absurd (omega (arith, below));
+}
+
+pub gathered_one : (bans : List Ban) (entries : List Entry) (held before few more : List Pair) (port : Port) (skipped : Option Pair) (count : ℕ) (way : Pair) → way ≡ nth_way port.side port.kind port.number count → AreGathered bans entries held before few port skipped count → IsPart held more → All (Contains more) few → IsLeftOutOr skipped way (IsGathered bans entries more way) → AreGathered bans entries held before more port skipped (count + 1)
+gathered_one bans entries held before few more port skipped count way is are part stays here = record {
+  part = part;
+  stays = among_more before few more are.stays stays;
+  each = λ number below. by_place number below (cases_lt number count);
+}
+  where
+    by_place : (number : ℕ) → number < count + 1 → (number < count) ⊎ (count ≤ number) → IsLeftOutOr skipped (nth_way port.side port.kind port.number number) (IsGathered bans entries more (nth_way port.side port.kind port.number number))
+    by_place number below (inl less) = left_out_more bans entries few more skipped (nth_way port.side port.kind port.number number) stays (are.each number less)
+    by_place number below (inr past) =
+        let e : count ≡ number = omega (arith, below, past) in
+        subst (λ (p : Pair). IsLeftOutOr skipped p (IsGathered bans entries more p)) (is ∙ ap (nth_way port.side port.kind port.number) e) here

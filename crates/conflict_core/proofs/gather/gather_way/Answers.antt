@@ -1,0 +1,19 @@
+use Rattle.std.proofs.Common.{sym, ◌∙◌}
+use Rattle.std.proofs.lemmas.Bool.{false≢true}
+use Rattle.std.proofs.lemmas.List.Elements.{All-contains_itself}
+use Rattle.conflict_core.specs.Named.{IsNamedIn}
+use Rattle.conflict_core.proofs.ConflictLemmas.{not_left_out}
+use Rattle.conflict_core.proofs.NamedLemmas.{one_reason}
+use Rattle.conflict_core.proofs.gather.gather_way.Goals as goal
+
+pub returns-then-is_left_out-clause-stays : goal.returns-then-is_left_out-clause-stays
+returns-then-is_left_out-clause-stays c = All-contains_itself c.args.conflict.now.items
+
+pub returns-then-is_impossible-clause-stays : goal.returns-then-is_impossible-clause-stays
+returns-then-is_impossible-clause-stays c = All-contains_itself c.args.conflict.now.items
+
+pub add_named-requires-clause-named : goal.add_named-requires-clause-named
+add_named-requires-clause-named c =
+    let es = c.args.domains.now.entries in
+    let named = not_left_out c.args.skipped c.args.way (IsNamedIn c.args.bans.now es c.args.held.now c.args.way) (λ same. false≢true (sym c.if-is_left_out.false ∙ c.is_left_out.ensures.1 same)) c.requires.named in
+    one_reason c.args.bans.now es c.args.held.now c.args.way c.in-Some.reason c.entries-lawful.ensures.lawful.distinct c.in-Some.ensures.found named

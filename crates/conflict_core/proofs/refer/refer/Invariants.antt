@@ -1,0 +1,5 @@
+use Rattle.conflict_core.proofs.ReferLemmas.{IsReferring}
+use Rattle.conflict_core.proofs.refer.refer.Given as goal
+
+abbrev pub invariant-loop-number : goal.invariant-loop-number
+invariant-loop-number l = IsReferring l.port l.conflict l.bans l.level l.number

@@ -1,0 +1,27 @@
+use Rattle.std.proofs.Common.{sym, ◌∙◌}
+use Rattle.std.proofs.lemmas.Bool.{false≢true}
+use Rattle.conflict_core.specs.Named.{IsGathered}
+use Rattle.conflict_core.specs.Resolutions.{left_out}
+use Rattle.port_covers.proofs.ClosedLemmas.{closed_by_clash}
+use Rattle.conflict_core.proofs.ConflictLemmas.{not_left_out, not_resolved}
+use Rattle.conflict_core.proofs.ReferLemmas.{closed_by_covers, named_of_gathered}
+use Rattle.conflict_core.proofs.refer.reference.Goals as goal
+
+pub returns-then-is_impossible : goal.returns-then-is_impossible
+returns-then-is_impossible c = closed_by_clash c.args.bans.now c.args.conflict.now c.args.way (c.is_impossible.ensures.0 c.if-is_impossible.true)
+
+pub returns-in-Some : goal.returns-in-Some
+returns-in-Some c =
+    closed_by_covers c.args.bans.now c.args.conflict.now c.args.way c.in-Some.ban (λ imp. false≢true (sym c.if-is_impossible.false ∙ c.is_impossible.ensures.1 imp)) (rw c.in-Some.ensures.found at c.requires.resolved)
+
+pub ban_of_deleted-requires-clause-possible : goal.ban_of_deleted-requires-clause-possible
+ban_of_deleted-requires-clause-possible c = λ imp. false≢true (sym c.if-is_impossible.false ∙ c.is_impossible.ensures.1 imp)
+
+pub ban_of_deleted-requires-clause-named : goal.ban_of_deleted-requires-clause-named
+ban_of_deleted-requires-clause-named c =
+    let es = c.args.domains.now.entries in
+    named_of_gathered c.args.bans.now es c.args.conflict.now c.args.way (λ imp. false≢true (sym c.if-is_impossible.false ∙ c.is_impossible.ensures.1 imp)) (not_left_out (left_out c.args.resolved) c.args.way (IsGathered c.args.bans.now es c.args.conflict.now c.args.way) (not_resolved c.args.resolved c.args.way c.in_default.ensures.none) c.requires.gathered)
+
+pub returns : goal.returns
+returns c =
+    closed_by_covers c.args.bans.now c.args.conflict.now c.args.way c.ban_of_deleted.result (λ imp. false≢true (sym c.if-is_impossible.false ∙ c.is_impossible.ensures.1 imp)) c.ban_of_deleted.ensures

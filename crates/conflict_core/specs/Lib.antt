@@ -1,0 +1,9 @@
+pub mod Named
+pub mod Resolutions
+pub mod Conflicts
+pub mod Justified
+pub mod Pivots
+pub use Rattle.class_refine.specs.Trails
+pub use Rattle.port_covers.specs.Held
+pub use Rattle.port_covers.specs.Levels
+pub use Rattle.class_refine.specs.Kept

@@ -1,0 +1,37 @@
+-- The held pairs that the reasons of deletions name (nodes of the implication graph of Marques-Silva and Sakallah, GRASP, 1999).
+use Rattle.std.specs.Prelude.{◌≡◌, ◌⊎◌, ℕ, ◌*◌, ◌<◌, List, ◌∷◌, Contains, Option, Some}
+use Rattle.circuits.specs.declared.port.Pair.{Pair}
+use Rattle.account_core.specs.declared.step.Ban.{Ban}
+use Rattle.account_core.specs.Covers.{IsImpossible}
+use Rattle.account_core.specs.Ports.{Clash}
+use Rattle.ban_book.specs.Covering.{Covers}
+use Rattle.port_covers.specs.Levels.{nth_way}
+use Rattle.class_refine.specs.declared.entry.Entry.{Entry}
+use Rattle.class_refine.specs.declared.entry.Fate.TheVariants.{Deleted}
+use Rattle.class_refine.specs.declared.entry.Reason.{Reason}
+use Rattle.class_refine.specs.declared.entry.Reason.TheVariants as reason
+use Rattle.conflict_core.specs.declared.port.Port.{Port}
+
+-- a deleted pair's reason is so, and the pairs that it names are among these
+abbrev pub AreNamed : List Ban → List Pair → Pair → Reason → Type 0
+AreNamed bans pairs pair (reason.Clash with) = Contains pairs with × Clash with pair
+AreNamed bans pairs pair (reason.Ban number) = Covers bans (pair ∷ pairs) number
+
+abbrev pub deleted : Pair → Reason → Entry
+deleted pair why = record { pair = pair; fate = Deleted why }
+
+-- a pair is deleted, and what its reason names is among these
+abbrev pub IsNamedIn : List Ban → List Entry → List Pair → Pair → Type 0
+IsNamedIn bans entries pairs pair = (why : Reason) × Contains entries (deleted pair why) × AreNamed bans pairs pair why
+
+-- of the ways of a port, of which there are so many ports, each has a property
+abbrev pub EachWay : Port → ℕ → (Pair → Type 0) → Type 0
+EachWay port count P = (number : ℕ) → number < 2 * count → P (nth_way port.side port.kind port.number number)
+
+-- a way is impossible beside pairs, or it is deleted, and what its reason names is among them
+abbrev pub IsGathered : List Ban → List Entry → List Pair → Pair → Type 0
+IsGathered bans entries pairs way = IsImpossible pairs way ⊎ IsNamedIn bans entries pairs way
+
+-- a way is the one that is left out, or has a property
+abbrev pub IsLeftOutOr : Option Pair → Pair → Type 0 → Type 0
+IsLeftOutOr skipped way P = (skipped ≡ Some way) ⊎ P

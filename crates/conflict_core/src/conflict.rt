@@ -1,0 +1,105 @@
+//! Held pairs that no match has all of, and covers that say so.
+
+ghost use Rattle.std.specs.Prelude.{◌≡◌, ◌<◌, ◌∷◌, All, AllPairs, Contains, IfOk, IfSome, OnOk};
+ghost use Rattle.ban_book.specs.Covering.{Covers};
+ghost use Rattle.port_covers.specs.Held.{AreApart, AreHeld, IsPart};
+ghost use Rattle.port_covers.specs.Levels.{HoldsMore};
+ghost use Rattle.class_refine.specs.Trails.{ports_of};
+ghost use Rattle.conflict_core.specs.Conflicts.{FitPorts, IsConflict};
+ghost use Rattle.conflict_core.specs.Named.{EachWay, IsLeftOutOr, IsNamedIn};
+ghost use Rattle.conflict_core.specs.Resolutions.{left_out};
+
+use crate::gather::gather;
+use crate::port::{Port, Resolved};
+use crate::refer::refer;
+use account_core::Ban;
+use ban_book::BanBook;
+use circuits::Pair;
+use class_refine::Domains;
+use net_core::Graphs;
+use port_covers::cover::{add_one, hold_cover};
+use std::alloc::{AllocError, Global};
+
+/// Held pairs, in the order that bans have, and the number of a ban that has no other pairs.
+#[derive(Debug, Drop)]
+pub struct Conflict {
+    pub pairs: Vec<Pair>,
+    pub ban: u64,
+}
+
+/// Adds to pairs those that a port's ways need to be excluded, holds the ban that says so, and answers both. Each way of
+/// the port was deleted for a reason that names held pairs alone; or it is the one that is resolved on, which leads into
+/// a ban beside the given pairs.
+pub fn cover_port(
+    alloc: Global,
+    graphs: &Graphs<'_>,
+    domains: &Domains,
+    held: &[Pair],
+    port: Port,
+    resolved: Option<Resolved>,
+    pairs: Vec<Pair>,
+    book: &mut BanBook,
+) -> Result<Conflict, AllocError>
+    requires fit { FitPorts graphs.now domains.now.inputs domains.now.outputs }
+    requires there { port.number < ports_of domains.now.inputs domains.now.outputs port.kind }
+    requires held { AreHeld graphs.now held.now }
+    requires named { EachWay port (ports_of domains.now.inputs domains.now.outputs port.kind)
+        (λ way. IsLeftOutOr (left_out resolved) way (IsNamedIn book.old domains.now.entries held.now way)) }
+    requires part { IsPart held.now pairs.items }
+    requires resolved { IfSome resolved (λ it. Covers book.old (it.way ∷ pairs.items) it.ban) }
+    ensures more { HoldsMore graphs.now book.old book.new }
+    ensures conflict { IfOk result (IsConflict book.new held.now) }
+{
+    let mut pairs = pairs;
+    gather(
+        domains,
+        held,
+        book.bans(),
+        port,
+        way_of(resolved),
+        &mut pairs,
+    )?;
+    let level = refer(alloc, domains, book.bans(), port, &pairs, resolved)?;
+    let ban = hold_cover(alloc, graphs, &pairs, level, book)?;
+    Ok(Conflict { pairs, ban })
+}
+
+/// The conflict of a ban all of whose pairs are held.
+pub fn conflict_of_ban(
+    alloc: Global,
+    held: &[Pair],
+    bans: &[Ban],
+    number: u64,
+) -> Result<Conflict, AllocError>
+    requires apart { AllPairs AreApart held.now }
+    requires covers { Covers bans.now held.now number }
+    ensures { IfOk result (IsConflict bans.now held.now) }
+{
+    let mut pairs = Vec::new(alloc);
+    add_all(&mut pairs, held, &bans[number as usize].pairs)?;
+    Ok(Conflict { pairs, ban: number })
+}
+
+// Adds held pairs to some of them.
+fn add_all(needed: &mut Vec<Pair>, held: &[Pair], pairs: &[Pair]) -> Result<(), AllocError>
+    requires part { IsPart held.now needed.old.items }
+    requires apart { AllPairs AreApart held.now }
+    requires among { All (Contains held.now) pairs.now }
+    ensures part { OnOk result (IsPart held.now needed.new.items) }
+    ensures among { OnOk result (All (Contains needed.new.items) pairs.now) }
+{
+    for pair in pairs.iter() {
+        add_one(needed, held, *pair)?;
+    }
+    Ok(())
+}
+
+// The way that is resolved on.
+fn way_of(resolved: Option<Resolved>) -> Option<Pair>
+    ensures { result ≡ left_out resolved }
+{
+    match resolved {
+        Some(resolved) => Some(resolved.way),
+        None => None,
+    }
+}

@@ -1,0 +1,14 @@
+//! Conflicts of held pairs, and the bans that they are resolved to.
+#![tactic(auto)]
+
+mod conflict;
+mod gather;
+mod learned;
+mod port;
+mod refer;
+mod resolution;
+
+pub use conflict::{Conflict, conflict_of_ban, cover_port};
+pub use learned::{Back, Learned};
+pub use port::{Port, Resolved};
+pub use resolution::resolve;
