@@ -173,7 +173,7 @@ keyword_on_line =
     let P : ℕ → Type 0 = λ byte. is_line_feed byte ≡ false in
     All-cons P 97 (97 ∷ 103 ∷ 32 ∷ []) refl (All-cons P 97 (103 ∷ 32 ∷ []) refl (All-cons P 103 (32 ∷ []) refl (All-cons P 32 [] refl (All-nil P))))
 
-lines_of : (parts : List (List ℕ)) → All IsLine parts → lines (text_of_lines parts) ≡ parts
+pub lines_of : (parts : List (List ℕ)) → All IsLine parts → lines (text_of_lines parts) ≡ parts
 lines_of parts all =
     ap lines (sym (append-nil (text_of_lines parts))) ∙ lines-text_of_lines parts [] all ∙ append-nil parts
 

@@ -6,3 +6,8 @@ pub mod Aag
 pub mod Deltas
 pub mod OperandOrder
 pub mod Aig
+pub mod PrintedMeaning
+pub mod BlifWords
+pub mod BlifNames
+pub mod BlifLines
+pub mod BlifReads

@@ -1,2 +1,3 @@
 pub mod Printable
 pub mod Ordered
+pub mod PrintedCircuits

@@ -1,9 +1,13 @@
 ghost use Rattle.circuits.specs.Functions.{Computes, as_circuit};
+ghost use Rattle.circuits.specs.Netlists.{Net};
 ghost use Rattle.net_file.specs.declared.named.Named.{Named};
+ghost use Rattle.net_print.specs.BlifLines.{blif_text};
 ghost use Rattle.net_print.specs.Files.{aag_text, aig_text};
 ghost use Rattle.aiger_reader.specs.Aiger.{IsAiger};
+ghost use Rattle.blif_reader.specs.Blif.{IsBlif};
 ghost use Rattle.print_laws.specs.Ordered.{with_greater_first};
-ghost use Rattle.print_laws.specs.Printable.{IsPrintable};
+ghost use Rattle.print_laws.specs.Printable.{IsPrintable, IsWithinLimits};
+ghost use Rattle.print_laws.specs.PrintedCircuits.{printed_circuit, printed_inputs, printed_outputs};
 
 /// What is printed in the ASCII form of AIGER is a file of the same netlist, gate by gate, with the same names.
 pub fn aag_reads_back()
@@ -21,4 +25,15 @@ pub fn aig_reads_back()
     ensures computes { (named : Named)
         → IsPrintable named
         → Computes named.graph (as_circuit (with_greater_first named.graph)) }
+{}
+
+/// What is printed as BLIF is a file with a cover for the constant, for each gate and for each output, whose ports are
+/// called by their positions; and the netlist computes what the file means.
+pub fn blif_reads_back()
+    ensures file { (net : Net)
+        → IsWithinLimits net
+        → IsBlif (blif_text net) (printed_circuit net) (printed_inputs net) (printed_outputs net) }
+    ensures computes { (net : Net)
+        → IsWithinLimits net
+        → Computes net (printed_circuit net) }
 {}
