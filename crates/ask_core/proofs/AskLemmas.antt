@@ -7,7 +7,10 @@ use Rattle.cnf_core.specs.declared.literal.SatLit.{SatLit}
 use Rattle.cnf_core.specs.declared.stop.Stop.{Stop}
 use Rattle.cnf_core.specs.declared.stop.Stop.TheVariants.{Spent, Memory}
 use Rattle.cnf_core.specs.Clauses.{Formula, Meets, clause_at, is_met}
-use Rattle.cnf_core.specs.Derivations.{clauses_of, line_fault}
+use Rattle.cnf_core.specs.Derivations.{AreDerived, clauses_of, line_fault}
+use Rattle.cnf_core.specs.declared.log.LogLine.{LogLine}
+use Rattle.joint_hash.specs.Merging.{AreLemmas}
+use Rattle.learn_solver.proofs.AdvanceLemmas.{derived_after}
 use Rattle.net_core.specs.Sides.{Graphs}
 use Rattle.query_core.specs.declared.query.Query.{Query}
 use Rattle.query_core.specs.Queries.{vector_in}
@@ -42,41 +45,46 @@ behind-all : (P : List SatLit → Type 0) (xs ys : List (List SatLit)) → All P
 behind-all P xs ys all k d within =
     subst P (get_or-append-add xs ys k d) (all (length xs + k) d (omega (arith, within, length-append xs ys)))
 
--- A solver for the clauses of a query's cones, without lemmas.
-pub record IsOfCones (graphs : Graphs) (query : Query) (s : Solving) : Type 0 where
+-- A solver for the clauses of a query's cones, with lemmas.
+pub record IsOfCones (graphs : Graphs) (query : Query) (lemmas : List LogLine) (s : Solving) : Type 0 where
   pub formula : s.formula ≡ formula_of graphs query
   pub ids : (id : ℕ) → IsConeId graphs query id → Contains s.ids id
-  pub lines : s.lines ≡ []
+  pub lines : s.lines ≡ lemmas
+  pub are : AreLemmas (formula_of graphs query) lemmas
 
 -- what holds of all that are to be met holds of all clauses of the cones
-all-cones : (P : List SatLit → Type 0) (graphs : Graphs) (query : Query) (s : Solving) → IsOfCones graphs query s → All P (wanted s.formula s.ids) → AllOfCones graphs query P
-all-cones P graphs query s of all id cone =
+all-cones : (P : List SatLit → Type 0) (graphs : Graphs) (query : Query) (lemmas : List LogLine) (s : Solving) → IsOfCones graphs query lemmas s → All P (wanted s.formula s.ids) → AllOfCones graphs query P
+all-cones P graphs query lemmas s of all id cone =
     subst (λ (f : Formula). P (clause_at f.clauses id)) of.formula (wanted-each P s.formula s.ids id all (of.ids id cone))
 
-pub meets_cones : {O : Type 0} (graphs : Graphs) (query : Query) (s new : Solving) (first after : Charging O) (values : List Bool) → IsOfCones graphs query s → IsExtended s new first after → Meets values (wanted new.formula new.ids) → MeetsCones graphs query values
-meets_cones {O} graphs query s new first after values of extended meets =
+pub meets_cones : {O : Type 0} (graphs : Graphs) (query : Query) (lemmas : List LogLine) (s new : Solving) (first after : Charging O) (values : List Bool) → IsOfCones graphs query lemmas s → IsExtended s new first after → Meets values (wanted new.formula new.ids) → MeetsCones graphs query values
+meets_cones {O} graphs query lemmas s new first after values of extended meets =
     let same = ap (λ f. wanted f new.ids) extended.formula ∙ ap (wanted s.formula) extended.ids in
-    all-cones (λ clause. is_met values clause ≡ true) graphs query s of (subst (λ (cs : List (List SatLit)). Meets values cs) same meets)
+    all-cones (λ clause. is_met values clause ≡ true) graphs query lemmas s of (subst (λ (cs : List (List SatLit)). Meets values cs) same meets)
 
-pub asked_in : (graphs : Graphs) (query : Query) (s new : Solving) (old first after : Ledgered) → IsOfCones graphs query s → 0 < length first.asked → first ≡ record old { asked = opened query [] old.asked } → IsExtended s new (charging_of first) (charging_of after) → IsAskedIn graphs query old after
-asked_in graphs query s new old first after of there opened_is extended = record {
+pub asked_in : (graphs : Graphs) (query : Query) (lemmas : List LogLine) (s new : Solving) (old first after : Ledgered) → IsOfCones graphs query lemmas s → 0 < length first.asked → first ≡ record old { asked = opened query lemmas old.asked } → IsExtended s new (charging_of first) (charging_of after) → IsAskedIn graphs query old after
+asked_in graphs query lemmas s new old first after of there opened_is extended = record {
+  lemmas = lemmas;
   lines = new.lines;
-  learned = λ k d within.
-      let added = extended.added k d (omega (arith, ap length of.lines)) within in
+  are = of.are;
+  begin = ap (λ (ls : List LogLine). take (length ls) new.lines) (sym of.lines) ∙ (extended.kept ∙ of.lines);
+  derived = subst (λ f. AreDerived f new.lines) (extended.formula ∙ of.formula) (derived_after s new (charging_of first) (charging_of after) (subst (λ f. AreDerived f s.lines) (sym of.formula) (subst (λ (ls : List LogLine). AreDerived (formula_of graphs query) ls) (sym of.lines) of.are.derived)) extended);
+  learned = λ k d after_lemmas within.
+      let added = extended.added k d (omega (arith, ap length of.lines, after_lemmas)) within in
       let P : List SatLit → Type 0 = λ c. has_all (slice_index_or new.lines k d).clause c ≡ false in
       record {
         derived = ap (λ f. line_fault f (clauses_of (take k new.lines)) (slice_index_or new.lines k d)) (sym of.formula) ∙ added.derived;
-        fresh = all-cones P graphs query s of (front-all P (wanted s.formula s.ids) (clauses_of (take k new.lines)) added.fresh);
+        fresh = all-cones P graphs query lemmas s of (front-all P (wanted s.formula s.ids) (clauses_of (take k new.lines)) added.fresh);
         unlike_earlier = behind-all P (wanted s.formula s.ids) (clauses_of (take k new.lines)) added.fresh;
       };
   budget = extended.budget ∙ ap (λ (l : Ledgered). l.budget) opened_is;
   asked = asked_after first after new.lines (is_opened first there) (extended.opened ∙ is_opened first there) extended.lines_are extended.others ∙ ap (λ (l : Ledgered). with_lines new.lines l.asked) opened_is;
 }
 
-pub stopped_in : (graphs : Graphs) (query : Query) (s new : Solving) (old first after : Ledgered) (stop : Stop) → IsOfCones graphs query s → 0 < length first.asked → first ≡ record old { asked = opened query [] old.asked } → IsSolverStopped s new (charging_of first) (charging_of after) stop → IsStopped graphs query old after stop
-stopped_in graphs query s new old first after Memory of there opened_is stopped = tt
-stopped_in graphs query s new old first after (Spent learned) of there opened_is stopped = record {
-  asked_in = asked_in graphs query s new old first after of there opened_is stopped.extended;
+pub stopped_in : (graphs : Graphs) (query : Query) (lemmas : List LogLine) (s new : Solving) (old first after : Ledgered) (stop : Stop) → IsOfCones graphs query lemmas s → 0 < length first.asked → first ≡ record old { asked = opened query lemmas old.asked } → IsSolverStopped s new (charging_of first) (charging_of after) stop → IsStopped graphs query old after stop
+stopped_in graphs query lemmas s new old first after Memory of there opened_is stopped = tt
+stopped_in graphs query lemmas s new old first after (Spent learned) of there opened_is stopped = record {
+  asked_in = asked_in graphs query lemmas s new old first after of there opened_is stopped.extended;
   learned_is = stopped.learned_is ∙ ap (λ (l : Ledgered). l.budget) opened_is;
   used = omega (arith, stopped.used, ap one_if stopped.spent, ap (λ (l : Ledgered). l.budget) opened_is);
   made = omega (arith, stopped.used, ap (λ (l : Ledgered). l.budget) opened_is);
@@ -84,11 +92,12 @@ stopped_in graphs query s new old first after (Spent learned) of there opened_is
 }
 
 -- the solver that is made for the numbers of the cones' clauses
-pub made_of_cones : (graphs : Graphs) (query : Query) (base : Asking) (listed ids : List ℕ) (s : Solving) → base ≡ record { graphs = graphs; query = query } → ids ≡ listed → ((id : ℕ) → (Contains listed id ↔ IsConeId base.graphs base.query id)) → s ≡ record { formula = formula_of base.graphs base.query; ids = ids; lines = [] } → IsOfCones graphs query s
-made_of_cones graphs query base listed ids s asking same cones is = record {
+pub made_of_cones : (graphs : Graphs) (query : Query) (lemmas : List LogLine) (base : Asking) (ids : List ℕ) (s : Solving) → base ≡ record { graphs = graphs; query = query } → ((id : ℕ) → (Contains ids id ↔ IsConeId base.graphs base.query id)) → AreLemmas (formula_of base.graphs base.query) lemmas → s ≡ record { formula = formula_of base.graphs base.query; ids = ids; lines = lemmas } → IsOfCones graphs query lemmas s
+made_of_cones graphs query lemmas base ids s asking cones are is = record {
   formula = ap (λ (x : Solving). x.formula) is ∙ ap (λ (a : Asking). formula_of a.graphs a.query) asking;
   ids = λ id cone.
       let own = (cones id).1 (subst (λ (a : Asking). IsConeId a.graphs a.query id) (sym asking) cone) in
-      subst (λ (xs : List ℕ). Contains xs id) (sym (ap (λ (x : Solving). x.ids) is ∙ same)) own;
+      subst (λ (xs : List ℕ). Contains xs id) (sym (ap (λ (x : Solving). x.ids) is)) own;
   lines = ap (λ (x : Solving). x.lines) is;
+  are = subst (λ (a : Asking). AreLemmas (formula_of a.graphs a.query) lemmas) asking are;
 }

@@ -1,9 +1,10 @@
 -- What an answer to a query says, and what the ledger says of it.
-use Rattle.std.specs.Prelude.{◌≡◌, ℕ, ◌+◌, ◌<◌, Bool, true, false, List, [], length, take, All, None, slice_index_or}
+use Rattle.std.specs.Prelude.{◌≡◌, ℕ, ◌+◌, ◌<◌, ◌≤◌, Bool, true, false, List, length, take, All, None, slice_index_or}
 use Rattle.cnf_core.specs.declared.log.LogLine.{LogLine}
 use Rattle.cnf_core.specs.declared.stop.Stop.{Stop}
 use Rattle.cnf_core.specs.declared.stop.Stop.TheVariants.{Spent, Memory}
-use Rattle.cnf_core.specs.Derivations.{IsRefutation, clauses_of, line_fault}
+use Rattle.cnf_core.specs.Derivations.{AreDerived, IsRefutation, clauses_of, line_fault}
+use Rattle.joint_hash.specs.Merging.{AreLemmas}
 use Rattle.learn_solver.specs.Analyses.{has_all}
 use Rattle.net_core.specs.Sides.{Graphs}
 use Rattle.query_core.specs.declared.query.Query.{Query}
@@ -24,7 +25,7 @@ abbrev pub IsAnswer : Graphs → Query → Answer → Type 0
 IsAnswer graphs query (Vector vector) = IsVector graphs query vector
 IsAnswer graphs query (Refuted log) = IsRefutation (formula_of graphs query) log.lines
 
--- the lines of a log are those that were learned for the ledger's last query, so that each was paid for
+-- the lines of a log are those of the ledger's last query: its lemmas, and those that were learned for it and paid for
 abbrev pub IsPaidFor : Ledgered → Answer → Type 0
 IsPaidFor ledger (Vector vector) = Unit {0}
 IsPaidFor ledger (Refuted log) = log.lines ≡ (last_asked ledger.asked).lines
@@ -35,15 +36,20 @@ pub record IsLearnedLine (graphs : Graphs) (query : Query) (earlier : List LogLi
   pub fresh : AllOfCones graphs query (λ clause. has_all line.clause clause ≡ false)
   pub unlike_earlier : All (λ clause. has_all line.clause clause ≡ false) (clauses_of earlier)
 
--- A query was asked: it stands last in the ledger, without lemmas and with lines that were learned for it. The entries
+-- A query was asked: it stands last in the ledger, with lemmas and then with lines that were learned for it. The entries
 -- before stay.
 pub record IsAskedIn (graphs : Graphs) (query : Query) (old new : Ledgered) : Type 0 where
+  pub lemmas : List LogLine
   pub lines : List LogLine
+  pub are : AreLemmas (formula_of graphs query) lemmas
+  pub begin : take (length lemmas) lines ≡ lemmas
+  pub derived : AreDerived (formula_of graphs query) lines
   pub learned : (k : ℕ) (d : LogLine)
+      → length lemmas ≤ k
       → k < length lines
       → IsLearnedLine graphs query (take k lines) (slice_index_or lines k d)
   pub budget : new.budget ≡ old.budget
-  pub asked : new.asked ≡ with_lines lines (opened query [] old.asked)
+  pub asked : new.asked ≡ with_lines lines (opened query lemmas old.asked)
 
 -- The budget is spent, and the query's last line is the refused one.
 pub record IsSpentOn (graphs : Graphs) (query : Query) (old new : Ledgered) (learned : ℕ) : Type 0 where

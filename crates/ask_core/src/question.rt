@@ -1,14 +1,16 @@
 //! One question, asked.
 
 ghost use Rattle.std.specs.Prelude.{◌≡◌, ◌<◌, ◌↔◌, ℕ, false, All, Contains, IfOk, IfErr, length};
-ghost use Rattle.query_core.specs.Formulas.{query_clauses};
+ghost use Rattle.query_core.specs.Formulas.{formula_of, query_clauses};
 ghost use Rattle.query_core.specs.ConeClauses.{IsConeId};
 ghost use Rattle.query_core.specs.Queries.{IsQuery};
+ghost use Rattle.joint_hash.specs.Merging.{AreLemmas};
 ghost use Rattle.ask_core.specs.Answers.{IsAnswer, IsAskedIn, IsPaidFor, IsStopped};
 
 use crate::vector::vector_of;
-use cnf_core::{Log, Stop};
+use cnf_core::{Log, LogLine, Stop};
 use items::Items;
+use joint_hash::merge_cones;
 use learn_solver::{Solver, Verdict, solve};
 use net_core::Graphs;
 use query_core::{Ledger, Query, QueryBase, cone_ids};
@@ -23,9 +25,10 @@ pub enum Answer {
     Refuted(Log),
 }
 
-/// Answers a query that fits two circuits by the clauses of its two cones. The ledger gets an entry for it, in place
-/// of a last one for which nothing was learned, with one line for each conflict; a log that refutes has these lines. Spent comes at a conflict that is met
-/// with the budget spent; its line is kept as the refused one. When out of memory, nothing is said of the last
+/// Answers a query that fits two circuits by the clauses of its two cones, and by lemmas that make gates of one
+/// structure one. The ledger gets an entry for it, in place of a last one for which nothing was learned: the lemmas, which
+/// cost nothing, then one line for each conflict. A log that refutes has these lines. Spent comes at a conflict that is
+/// met with the budget spent; its line is kept as the refused one. When out of memory, nothing is said of the last
 /// entry.
 pub fn ask(
     alloc: Global,
@@ -43,22 +46,25 @@ pub fn ask(
 {
     let base = QueryBase::new(alloc, graphs, query)?;
     let ids = cone_ids(alloc, &base)?;
-    ask_cones(alloc, graphs, query, &base, &ids, ledger)
+    let lemmas = merge_cones(alloc, &base, &ids)?;
+    ask_cones(alloc, graphs, query, &base, &ids, &lemmas, ledger)
 }
 
-// Answers a query by the clauses of these numbers, which are those of its cones.
+// Answers a query by the clauses of these numbers, which are those of its cones, and by lemmas.
 fn ask_cones(
     alloc: Global,
     graphs: &Graphs<'_>,
     query: &Query,
     base: &QueryBase<'_>,
     ids: &[u64],
+    lemmas: &[LogLine],
     ledger: &mut Ledger,
 ) -> Result<Answer, Stop>
     requires fits { IsQuery graphs.now query.now }
     requires of_query { base.now ≡ record { graphs = graphs.now; query = query.now } }
     requires there { All (λ id. id < length (query_clauses base.now.graphs base.now.query)) ids.now }
     requires cones { (id : ℕ) → (Contains ids.now id ↔ IsConeId base.now.graphs base.now.query id) }
+    requires lemmas { AreLemmas (formula_of base.now.graphs base.now.query) lemmas.now }
     requires not_spent { ledger.old.spent ≡ false }
     ensures answer { IfOk result (IsAnswer graphs.now query.now) }
     ensures asked { IfOk result (λ _. IsAskedIn graphs.now query.now ledger.old ledger.new) }
@@ -66,8 +72,8 @@ fn ask_cones(
     ensures not_spent { IfOk result (λ _. ledger.new.spent ≡ false) }
     ensures stop { IfErr result (IsStopped graphs.now query.now ledger.old ledger.new) }
 {
-    ledger.open(alloc, query, &[])?;
-    let mut solver = Solver::new(alloc, base, ids, &[])?;
+    ledger.open(alloc, query, lemmas)?;
+    let mut solver = Solver::new(alloc, base, ids, lemmas)?;
     match solve(alloc, &mut solver, ledger)? {
         Verdict::Model(values) => {
             let vector = vector_of(alloc, graphs, query, &values)?;

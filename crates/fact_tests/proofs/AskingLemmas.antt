@@ -1,5 +1,6 @@
 -- What an answered query, and one refuted by its outputs, make of a ledger.
-use Rattle.std.proofs.Common.{◌≡◌, ℕ, zero, suc, ◌<◌, [], ◌∷◌, take, slice_index_or, ap, ◌∙◌, arith, ◌+◌}
+use Rattle.std.proofs.lemmas.List.{length-take}
+use Rattle.std.proofs.Common.{◌≡◌, ℕ, zero, suc, ◌<◌, ◌≤◌, length, [], ◌∷◌, take, slice_index_or, ap, ◌∙◌, arith, ◌+◌}
 use Rattle.circuits.specs.Netlists.{signals_of}
 use Rattle.cnf_core.specs.declared.log.LogLine.{LogLine}
 use Rattle.cnf_core.specs.declared.stop.Stop.{Stop}
@@ -27,15 +28,16 @@ use Rattle.fact_tests.proofs.WorkLemmas.{asked_last, line_last}
 
 pub asked_of : (graphs : Graphs) (query : Query) (before after : Ledgered) → IsQuery graphs query → IsAskedIn graphs query before after → IsAsked graphs query before after
 asked_of graphs query before after fits is = record {
+  lemmas = length is.lemmas;
   lines = is.lines;
   work = record {
     fits = fits;
-    lemmas = omega arith;
-    derived = λ k d below. (is.learned k d below).derived;
+    lemmas = within;
+    derived = is.derived;
     learned = λ k d below behind.
         let line = slice_index_or is.lines k d in
         let earlier = clauses_of (take k is.lines) in
-        let learned = is.learned k d below in
+        let learned = is.learned k d behind below in
         record {
           derived = learned.derived;
           beside_cones = learned.fresh;
@@ -43,8 +45,11 @@ asked_of graphs query before after fits is = record {
         };
   };
   budget = is.budget;
-  asked = is.asked ∙ asked_last query is.lines before.asked;
+  asked = is.asked ∙ asked_last query is.lemmas is.lines before.asked;
 }
+  where
+    within : length is.lemmas ≤ length is.lines
+    within = omega (arith, ap length is.begin, length-take (length is.lemmas) is.lines)
 
 pub halted_of : (graphs : Graphs) (query : Query) (before after : Ledgered) (stop : Stop) → IsQuery graphs query → IsStopped graphs query before after stop → IsHalted graphs query before after stop
 halted_of graphs query before after Memory fits stopped = tt
@@ -64,7 +69,7 @@ output_there graphs claim first second placed =
 -- The log of a claim whose inputs the output doesn't reach, and its entry.
 pub record IsClosed (graphs : Graphs) (claim : Claim) : Type 0 where
   pub refuted : IsRefutation (formula_of graphs (claim_query graphs claim)) (closing_line graphs claim ∷ [])
-  pub work : IsWorkOn graphs (entry_with (claim_query graphs claim) (closing_line graphs claim ∷ []))
+  pub work : IsWorkOn graphs (entry_with (claim_query graphs claim) 0 (closing_line graphs claim ∷ []))
 
 pub outside_closed : (graphs : Graphs) (claim : Claim) → IsGraph graphs.first → IsGraph graphs.second → IsClaim graphs claim → IsOutside (graph_of graphs claim.side) claim.output claim.shape → IsClosed graphs claim
 outside_closed graphs claim first second placed outside =
@@ -93,6 +98,7 @@ outside_closed graphs claim first second placed outside =
 
 pub closed_asked : (graphs : Graphs) (claim : Claim) (query : Query) (line : LogLine) (before mid after : Ledgered) → IsClosed graphs claim → query ≡ claim_query graphs claim → line ≡ closing_line graphs claim → mid ≡ record before { asked = opened query [] before.asked } → after.asked ≡ with_line line mid.asked → after.budget ≡ mid.budget → IsAsked graphs (claim_query graphs claim) before after
 closed_asked graphs claim query line before mid after closed query_is line_is open_is asked_is budget_is = record {
+  lemmas = 0;
   lines = closing_line graphs claim ∷ [];
   work = closed.work;
   budget = budget_is ∙ ap (λ (l : Ledgered). l.budget) open_is;

@@ -273,6 +273,7 @@ keeps_same known ledger = record {
 
 asked_new : (known : Known) (query : Query) (before after : Ledgered) → (IsAnswered known query → ⊥) → IsOfClaim known.graphs query ⊎ IsOfMatch known.graphs query → IsAsked known.graphs query before after → IsAskedNew known query before after
 asked_new known query before after unanswered kind asked = record {
+  lemmas = asked.lemmas;
   lines = asked.lines;
   unanswered = unanswered;
   of_known = kind;

@@ -27,16 +27,16 @@ last_is asked e =
     ap (λ k. slice_index_or (asked ++ e ∷ []) k nothing_asked) n ∙ get_or-append-add asked (e ∷ []) 0 nothing_asked
 
 -- a query is asked: its entry stands after those for which lines were learned
-pub asked_last : (query : Query) (lines : List LogLine) (asked : List Asked) → with_lines lines (opened query [] asked) ≡ charged_front asked ++ entry_with query lines ∷ []
-asked_last query lines asked =
+pub asked_last : (query : Query) (lemmas lines : List LogLine) (asked : List Asked) → with_lines lines (opened query lemmas asked) ≡ charged_front asked ++ entry_with query (length lemmas) lines ∷ []
+asked_last query lemmas lines asked =
     let front = charged_front asked in
-    let e = entry_of query [] in
+    let e = entry_of query lemmas in
     last_set front e (record (last_asked (front ++ e ∷ [])) { lines = lines }) ∙ ap (λ (x : Asked). front ++ record x { lines = lines } ∷ []) (last_is front e)
 
 -- one line was learned for a query that was opened
-pub line_last : (query : Query) (line : LogLine) (asked : List Asked) → with_line line (opened query [] asked) ≡ charged_front asked ++ entry_with query (line ∷ []) ∷ []
+pub line_last : (query : Query) (line : LogLine) (asked : List Asked) → with_line line (opened query [] asked) ≡ charged_front asked ++ entry_with query 0 (line ∷ []) ∷ []
 line_last query line asked =
-    ap (λ (e : Asked). with_lines (e.lines ++ line ∷ []) (opened query [] asked)) (last_is (charged_front asked) (entry_of query [])) ∙ asked_last query (line ∷ []) asked
+    ap (λ (e : Asked). with_lines (e.lines ++ line ∷ []) (opened query [] asked)) (last_is (charged_front asked) (entry_of query [])) ∙ asked_last query [] (line ∷ []) asked
 
 -- The first entries of a ledger, among them each one for which lines were learned.
 pub record IsFront (asked front : List Asked) : Type 0 where
@@ -73,21 +73,22 @@ front_is asked =
 -- A query was asked that wasn't answered before: the ledger is that before with one entry more, after those for which lines
 -- were learned.
 pub record IsAskedNew (known : Known) (query : Query) (before after : Ledgered) : Type 0 where
+  pub lemmas : ℕ
   pub lines : List LogLine
   pub unanswered : IsAnswered known query → ⊥
   pub of_known : IsOfClaim known.graphs query ⊎ IsOfMatch known.graphs query
-  pub work : IsWorkOn known.graphs (entry_with query lines)
+  pub work : IsWorkOn known.graphs (entry_with query lemmas lines)
   pub budget : after.budget ≡ before.budget
-  pub asked : after.asked ≡ charged_front before.asked ++ entry_with query lines ∷ []
+  pub asked : after.asked ≡ charged_front before.asked ++ entry_with query lemmas lines ∷ []
 
 module _ (known : Known) (query : Query) (before after : Ledgered) (new : IsAskedNew known query before after) where
   front_same : (front : IsFront before.asked (charged_front before.asked)) (k : ℕ) → k < front.count → IsAsBefore before.asked after.asked k
   front_same front k below =
       let size : length (take front.count before.asked) ≡ front.count = omega (arith, length-take front.count before.asked, front.within) in
-      let whole = new.asked ∙ ap (λ (xs : List Asked). xs ++ entry_with query new.lines ∷ []) front.is in
+      let whole = new.asked ∙ ap (λ (xs : List Asked). xs ++ entry_with query new.lemmas new.lines ∷ []) front.is in
       let here : k < length before.asked = omega (arith, below, front.within) in
-      let there : k < length after.asked = omega (arith, ap length whole, length-append (take front.count before.asked) (entry_with query new.lines ∷ []), size, below) in
-      (here, there, ap (λ (xs : List Asked). entry_at xs k) whole ∙ (get_or_append_left (take front.count before.asked) (entry_with query new.lines ∷ []) nothing_asked k (omega (arith, size, below)) ∙ get_or-take front.count before.asked k nothing_asked below))
+      let there : k < length after.asked = omega (arith, ap length whole, length-append (take front.count before.asked) (entry_with query new.lemmas new.lines ∷ []), size, below) in
+      (here, there, ap (λ (xs : List Asked). entry_at xs k) whole ∙ (get_or_append_left (take front.count before.asked) (entry_with query new.lemmas new.lines ∷ []) nothing_asked k (omega (arith, size, below)) ∙ get_or-take front.count before.asked k nothing_asked below))
 
   pub asked_keeps : Keeps known before after
   asked_keeps =
@@ -102,16 +103,16 @@ module _ (known : Known) (query : Query) (before after : Ledgered) (new : IsAske
       by_place front k below (inl less) = inl (front_same front k less)
       by_place front k below (inr past) =
           let size : length (take front.count before.asked) ≡ front.count = omega (arith, length-take front.count before.asked, front.within) in
-          let whole = new.asked ∙ ap (λ (xs : List Asked). xs ++ entry_with query new.lines ∷ []) front.is in
-          let n : k ≡ length (take front.count before.asked) + 0 = omega (arith, ap length whole, length-append (take front.count before.asked) (entry_with query new.lines ∷ []), size, below, past) in
-          let e : entry_at after.asked k ≡ entry_with query new.lines = ap (λ (xs : List Asked). entry_at xs k) whole ∙ (ap (entry_at (take front.count before.asked ++ entry_with query new.lines ∷ [])) n ∙ get_or-append-add (take front.count before.asked) (entry_with query new.lines ∷ []) 0 nothing_asked) in
+          let whole = new.asked ∙ ap (λ (xs : List Asked). xs ++ entry_with query new.lemmas new.lines ∷ []) front.is in
+          let n : k ≡ length (take front.count before.asked) + 0 = omega (arith, ap length whole, length-append (take front.count before.asked) (entry_with query new.lemmas new.lines ∷ []), size, below, past) in
+          let e : entry_at after.asked k ≡ entry_with query new.lemmas new.lines = ap (λ (xs : List Asked). entry_at xs k) whole ∙ (ap (entry_at (take front.count before.asked ++ entry_with query new.lemmas new.lines ∷ [])) n ∙ get_or-append-add (take front.count before.asked) (entry_with query new.lemmas new.lines ∷ []) 0 nothing_asked) in
           inr (λ answered. new.unanswered (subst (IsAnswered known) (ap (λ (x : Asked). x.query) e) answered))
 
   -- what holds of the entries before and of the new one holds of all
-  all_of : (P : Asked → Type 0) → All P before.asked → P (entry_with query new.lines) → All P after.asked
+  all_of : (P : Asked → Type 0) → All P before.asked → P (entry_with query new.lemmas new.lines) → All P after.asked
   all_of P each last =
       let front = front_is before.asked in
-      subst (All P) (sym new.asked) (All-push P (charged_front before.asked) (entry_with query new.lines) (subst (All P) (sym front.is) (All-take P front.count before.asked each)) last)
+      subst (All P) (sym new.asked) (All-push P (charged_front before.asked) (entry_with query new.lemmas new.lines) (subst (All P) (sym front.is) (All-take P front.count before.asked each)) last)
 
   pub asked_work : Suits known before → IsWorkOfClaimsAndMatches known.graphs after
   asked_work suits = record {
@@ -119,7 +120,7 @@ module _ (known : Known) (query : Query) (before after : Ledgered) (new : IsAske
       entries = all_of (IsWorkOn known.graphs) suits.work.work.entries new.work;
       once =
           let front = front_is before.asked in
-          let e = entry_with query new.lines in
+          let e = entry_with query new.lemmas new.lines in
           let answered = subst (All (λ (x : Asked). IsCharged x → IsAnswered known x.query)) (sym front.is) (All-take (λ (x : Asked). IsCharged x → IsAnswered known x.query) front.count before.asked suits.answered) in
           subst (AllPairs AreApart) (sym new.asked) (all_pairs_push AreApart (charged_front before.asked) e (subst (AllPairs AreApart) (sym front.is) (pairs_take front.count before.asked front.within suits.work.work.once)) (λ k d below one other same. new.unanswered (subst (IsAnswered known) same (answered k d below one))));
     };

@@ -9,16 +9,17 @@ use Rattle.query_core.specs.declared.ledger.Asked.{Asked}
 use Rattle.query_core.specs.Ledgers.{Ledgered, charged_front, learned_in, lines_in}
 use Rattle.oracle_core.specs.Work.{IsWorkOn}
 
--- the entry of a query with lines that were learned for it
-abbrev pub entry_with : Query → List LogLine → Asked
-entry_with query lines = record { query = query; lemmas = 0; lines = lines }
+-- the entry of a query with lines, of which the first n are lemmas and the others were learned for it
+abbrev pub entry_with : Query → ℕ → List LogLine → Asked
+entry_with query lemmas lines = record { query = query; lemmas = lemmas; lines = lines }
 
 -- A query was asked: its entry, which is work, stands after those for which lines were learned.
 pub record IsAsked (graphs : Graphs) (query : Query) (before after : Ledgered) : Type 0 where
+  pub lemmas : ℕ
   pub lines : List LogLine
-  pub work : IsWorkOn graphs (entry_with query lines)
+  pub work : IsWorkOn graphs (entry_with query lemmas lines)
   pub budget : after.budget ≡ before.budget
-  pub asked : after.asked ≡ charged_front before.asked ++ entry_with query lines ∷ []
+  pub asked : after.asked ≡ charged_front before.asked ++ entry_with query lemmas lines ∷ []
 
 -- The budget is spent, and the query's last line is the refused one.
 pub record IsSpent (graphs : Graphs) (query : Query) (before after : Ledgered) (learned : ℕ) : Type 0 where

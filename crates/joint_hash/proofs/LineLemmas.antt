@@ -11,9 +11,6 @@ use Rattle.cnf_core.specs.Clauses.{Formula, opposite, variable_of}
 use Rattle.cnf_core.specs.Derivations.{AreDerived, clauses_of, hint_fault, is_empty, line_fault, repeats_variable}
 use Rattle.joint_hash.specs.Merging.{AreLemmas}
 
-variable_of-opposite : (l : SatLit) → variable_of (opposite l) ≡ variable_of l
-variable_of-opposite l = omega arith
-
 -- one line more that is derived
 derived_more : (formula : Formula) (lines : List LogLine) (line : LogLine) → AreDerived formula lines → line_fault formula (clauses_of lines) line ≡ None → AreDerived formula (lines ++ line ∷ [])
 derived_more formula lines line derived good k d within =
@@ -29,26 +26,25 @@ derived_more formula lines line derived good k d within =
           ap (λ l. line_fault formula (clauses_of (take k (lines ++ line ∷ []))) l) at ∙ (ap (λ ls. line_fault formula (clauses_of ls) (slice_index_or lines k d)) front ∙ derived k d early)
     ]
 
--- the clause that one variable's literal implies another's has no variable twice, and only known ones
-known_pair : (n : ℕ) (a b : SatLit) → variable_of a < n → variable_of b < n → list_all (λ l. nat_lt (variable_of l) n) (opposite a ∷ b ∷ []) ≡ true
+-- a clause of two variables has none twice
+known_pair : (n : ℕ) (a b : SatLit) → variable_of a < n → variable_of b < n → list_all (λ l. nat_lt (variable_of l) n) (a ∷ b ∷ []) ≡ true
 known_pair n a b below there =
-    ap (λ t. t && (nat_lt (variable_of b) n && true)) (lt-ltb (variable_of (opposite a)) n (omega (arith, below, variable_of-opposite a)))
-    ∙ ap (λ t. t && true) (lt-ltb (variable_of b) n there)
+    ap (λ t. t && (nat_lt (variable_of b) n && true)) (lt-ltb (variable_of a) n below) ∙ ap (λ t. t && true) (lt-ltb (variable_of b) n there)
 
-once_pair : (a b : SatLit) → variable_of a ≢ variable_of b → repeats_variable (opposite a ∷ b ∷ []) ≡ false
-once_pair a b apart = ap (λ t. (t || false) || (false || false)) (ne_eqb (variable_of b) (variable_of (opposite a)) (λ e. apart (sym (e ∙ variable_of-opposite a))))
+once_pair : (a b : SatLit) → variable_of a ≢ variable_of b → repeats_variable (a ∷ b ∷ []) ≡ false
+once_pair a b apart = ap (λ t. (t || false) || (false || false)) (ne_eqb (variable_of b) (variable_of a) (λ e. apart (sym e)))
 
-line_good : (formula : Formula) (taken : List (List SatLit)) (a b : SatLit) (hints : List ℕ) → list_any is_empty taken ≡ false → variable_of a < formula.variables → variable_of b < formula.variables → variable_of a ≢ variable_of b → hint_fault (formula.clauses ++ taken) (map opposite (opposite a ∷ b ∷ [])) hints ≡ None → line_fault formula taken (record { clause = opposite a ∷ b ∷ []; hints = hints }) ≡ None
+line_good : (formula : Formula) (taken : List (List SatLit)) (a b : SatLit) (hints : List ℕ) → list_any is_empty taken ≡ false → variable_of a < formula.variables → variable_of b < formula.variables → variable_of a ≢ variable_of b → hint_fault (formula.clauses ++ taken) (map opposite (a ∷ b ∷ [])) hints ≡ None → line_fault formula taken (record { clause = a ∷ b ∷ []; hints = hints }) ≡ None
 line_good formula taken a b hints unclosed below there apart good =
-    let clause = opposite a ∷ b ∷ [] in
+    let clause = a ∷ b ∷ [] in
     cond-false (list_any is_empty taken) (Some fault.Closed) (cond (not (list_all (λ l. nat_lt (variable_of l) formula.variables) clause)) (Some fault.UnknownVariable) (cond (repeats_variable clause) (Some fault.TwiceVariable) (hint_fault (formula.clauses ++ taken) (map opposite clause) hints))) unclosed
     ∙ (ap (λ t. cond (not t) (Some fault.UnknownVariable) (cond (repeats_variable clause) (Some fault.TwiceVariable) (hint_fault (formula.clauses ++ taken) (map opposite clause) hints))) (known_pair formula.variables a b below there)
     ∙ (ap (λ t. cond t (Some fault.TwiceVariable) (hint_fault (formula.clauses ++ taken) (map opposite clause) hints)) (once_pair a b apart) ∙ good))
 
-pub lemma_more : (formula : Formula) (lines : List LogLine) (clause : List SatLit) (hints : List ℕ) (a b : SatLit) → AreLemmas formula lines → clause ≡ opposite a ∷ b ∷ [] → variable_of a < formula.variables → variable_of b < formula.variables → variable_of a ≢ variable_of b → hint_fault (formula.clauses ++ clauses_of lines) (map opposite clause) hints ≡ None → AreLemmas formula (lines ++ record { clause = clause; hints = hints } ∷ [])
+pub lemma_more : (formula : Formula) (lines : List LogLine) (clause : List SatLit) (hints : List ℕ) (a b : SatLit) → AreLemmas formula lines → clause ≡ a ∷ b ∷ [] → variable_of a < formula.variables → variable_of b < formula.variables → variable_of a ≢ variable_of b → hint_fault (formula.clauses ++ clauses_of lines) (map opposite clause) hints ≡ None → AreLemmas formula (lines ++ record { clause = clause; hints = hints } ∷ [])
 lemma_more formula lines clause hints a b are is below there apart good =
     let line : LogLine = record { clause = clause; hints = hints } in
-    let pair = opposite a ∷ b ∷ [] in
+    let pair = a ∷ b ∷ [] in
     let fine : line_fault formula (clauses_of lines) (record { clause = pair; hints = hints }) ≡ None = line_good formula (clauses_of lines) a b hints are.filled below there apart (ap (λ c. hint_fault (formula.clauses ++ clauses_of lines) (map opposite c) hints) (sym is) ∙ good) in
     record {
       derived = derived_more formula lines line are.derived (ap (λ c. line_fault formula (clauses_of lines) (record { clause = c; hints = hints })) is ∙ fine);

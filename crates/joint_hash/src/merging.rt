@@ -1,7 +1,7 @@
 //! Gates of one structure, merged by lemmas.
 
 ghost use Rattle.std.specs.Prelude.{◌≡◌, ◌≢◌, ◌<◌, ◌∷◌, [], ℕ, All, IfOk, IfSome, OnOk, length};
-ghost use Rattle.cnf_core.specs.Clauses.{opposite, variable_of};
+ghost use Rattle.cnf_core.specs.Clauses.{variable_of};
 ghost use Rattle.query_core.specs.Formulas.{formula_of, query_clauses};
 ghost use Rattle.joint_hash.specs.Merging.{AreLemmas, IsUnderWay};
 
@@ -55,7 +55,7 @@ struct Merged {
 struct Twin {
     /// The variable of the first gate of the class, plain.
     first: SatLit,
-    /// The number of the lemma that the variable implies it; the next one is that it implies the variable.
+    /// The number of the lemma that it implies the variable; the next one is that the variable implies it.
     lemma: u64,
 }
 
@@ -128,7 +128,7 @@ fn keep(
     Ok(())
 }
 
-// Adds the lemmas that a gate implies the first one of its class, and that this one implies it. A gate that both cones
+// Adds the lemmas that the first gate of a class implies a later one, and that this one implies it. A gate that both cones
 // have comes twice, and needs none the second time.
 fn join(
     alloc: Global,
@@ -151,44 +151,52 @@ fn join(
         return Ok(());
     }
     let lemma = base.count() + lines.len() as u64;
-    add_implication(alloc, base, gate, first, lines, twins)?;
-    add_implication(alloc, base, first, gate, lines, twins)?;
+    let there = used_by(alloc, twins, first, gate)?;
+    add_lemma(alloc, base, opposite(first.output), gate.output, &there, lines)?;
+    let back = used_by(alloc, twins, gate, first)?;
+    add_lemma(alloc, base, first.output, opposite(gate.output), &back, lines)?;
     let first = first.output;
     twins.insert(variable, Twin { first, lemma })?;
     Ok(())
 }
 
-// Adds the lemma that one gate implies another of its class.
-fn add_implication(
+// The literal of the same variable with the other sign.
+fn opposite(literal: SatLit) -> SatLit
+    ensures { variable_of result ≡ variable_of literal }
+{
+    literal.opposite()
+}
+
+// Adds the lemma that one of two literals is true, by the clauses of these numbers.
+fn add_lemma(
     alloc: Global,
     base: &QueryBase<'_>,
-    from: &Gate,
-    to: &Gate,
+    one: SatLit,
+    other: SatLit,
+    ids: &[u64],
     lines: &mut Vec<LogLine>,
-    twins: &IndexMap<u64, Twin>,
 ) -> Result<(), AllocError>
-    requires from { variable_of from.now.output < (formula_of base.now.graphs base.now.query).variables }
-    requires to { variable_of to.now.output < (formula_of base.now.graphs base.now.query).variables }
-    requires two { variable_of from.now.output ≢ variable_of to.now.output }
+    requires one { variable_of one < (formula_of base.now.graphs base.now.query).variables }
+    requires other { variable_of other < (formula_of base.now.graphs base.now.query).variables }
+    requires two { variable_of one ≢ variable_of other }
     requires lemmas { AreLemmas (formula_of base.now.graphs base.now.query) lines.old.items }
     ensures { OnOk result (AreLemmas (formula_of base.now.graphs base.now.query) lines.new.items) }
 {
-    let clause = implication(alloc, from.output, to.output)?;
-    let ids = used_by(alloc, twins, from, to)?;
-    let Some(hints) = hints_among(alloc, base, lines, &clause, &ids)? else {
+    let clause = pair(alloc, one, other)?;
+    let Some(hints) = hints_among(alloc, base, lines, &clause, ids)? else {
         return Ok(());
     };
     lines.push(LogLine { clause, hints })?;
     Ok(())
 }
 
-// The clause that one literal implies another.
-fn implication(alloc: Global, from: SatLit, to: SatLit) -> Result<Items<SatLit>, AllocError>
-    ensures { IfOk result (λ clause. clause ≡ opposite from ∷ to ∷ []) }
+// The clause of two literals.
+fn pair(alloc: Global, one: SatLit, other: SatLit) -> Result<Items<SatLit>, AllocError>
+    ensures { IfOk result (λ clause. clause ≡ one ∷ other ∷ []) }
 {
     let mut clause = Items::new(alloc);
-    clause.push(from.opposite())?;
-    clause.push(to)?;
+    clause.push(one)?;
+    clause.push(other)?;
     Ok(clause)
 }
 
@@ -222,9 +230,9 @@ fn push_lemma(
         return Ok(());
     };
     let lemma = if literal.is_negated() == onto {
-        twin.lemma.saturating_add(1)
-    } else {
         twin.lemma
+    } else {
+        twin.lemma.saturating_add(1)
     };
     ids.push(lemma)?;
     Ok(())

@@ -30,6 +30,7 @@ use Rattle.learn_solver.proofs.AdvanceLemmas.{derived_after}
 use Rattle.learn_solver.proofs.SolverLemmas.{clauses_more, line_from}
 use Rattle.learn_solver.proofs.StepLemmas.{asking_charged, extended_charged, last_added, stopped_one}
 use Rattle.ask_core.proofs.AskLemmas.{IsOfCones}
+use Rattle.joint_hash.proofs.LineLemmas.{no_lemmas}
 use Rattle.fact_tests.proofs.ConeLemmas.{cone_id_below}
 use Rattle.table_oracle.specs.declared.splitting.Splitting.{Splitting}
 use Rattle.table_oracle.specs.Splits.{AllExcluded, IsBeginning, IsCovering, IsExcluded, IsNew, IsSplitting, clauses_in, excluding, solving_of}
@@ -186,7 +187,7 @@ on_ok {P} (Err stop) holds = tt
 -- ---- the end
 
 -- a query whose clauses are all looked at, without lines
-pub of_cones : (graphs : Graphs) (query : Query) (asking : Asking) (lines : List LogLine) → asking ≡ record { graphs = graphs; query = query } → lines ≡ [] → IsGraph graphs.first → IsGraph graphs.second → IsQuery graphs query → IsOfCones graphs query (solving_of asking lines)
+pub of_cones : (graphs : Graphs) (query : Query) (asking : Asking) (lines : List LogLine) → asking ≡ record { graphs = graphs; query = query } → lines ≡ [] → IsGraph graphs.first → IsGraph graphs.second → IsQuery graphs query → IsOfCones graphs query [] (solving_of asking lines)
 of_cones graphs query asking lines is none first second fits = record {
   formula = ap (λ (a : Asking). formula_of a.graphs a.query) is;
   ids = λ id cone.
@@ -194,6 +195,7 @@ of_cones graphs query asking lines is none first second fits = record {
       let below = cone_id_below graphs query id first second fits cone in
       subst (λ (a : Asking). Contains (range_with_len 0 (length (query_clauses a.graphs a.query))) id) (sym is) (id, omega (arith, below, length-range_with_len 0 count), get_or-range_with_len 0 count id id below ∙ own id);
   lines = none;
+  are = no_lemmas (formula_of graphs query) [] refl;
 }
   where
     own : (n : ℕ) → 0 + n ≡ n

@@ -1,4 +1,4 @@
-use Rattle.std.proofs.Common.{List, ap, subst, sym, ◌∙◌}
+use Rattle.std.proofs.Common.{List, [], ap, subst, sym, ◌∙◌}
 use Rattle.cnf_core.specs.declared.log.LogLine.{LogLine}
 use Rattle.cnf_core.specs.Derivations.{IsRefutation}
 use Rattle.query_core.specs.Formulas.{Asking, formula_of}
@@ -20,7 +20,7 @@ returns-in_err-exclude_all-clause-stop c =
     let old = c.new-lines.result.items in
     let of = of_cones graphs query base old c.in_ok-new.ensures c.new-lines.ensures.items c.first-first.ensures.sound c.second-second.ensures.sound c.requires.fits in
     let stop = c.in_err-exclude_all.field-0.0 in
-    passed_on c.from_residual-in_err-exclude_all.result stop (IsStopped graphs query c.args.ledger.now c.exclude_all.new.ledger) c.from_residual-in_err-exclude_all.ensures.1 (stopped_in graphs query (solving_of base old) (solving_of base c.exclude_all.new.lines.items) c.args.ledger.now c.open.new.self c.exclude_all.new.ledger stop of c.in_ok-open.ensures.some c.in_ok-open.ensures.opened c.in_err-exclude_all.ensures.stop)
+    passed_on c.from_residual-in_err-exclude_all.result stop (IsStopped graphs query c.args.ledger.now c.exclude_all.new.ledger) c.from_residual-in_err-exclude_all.ensures.1 (stopped_in graphs query [] (solving_of base old) (solving_of base c.exclude_all.new.lines.items) c.args.ledger.now c.open.new.self c.exclude_all.new.ledger stop of c.in_ok-open.ensures.some c.in_ok-open.ensures.opened c.in_err-exclude_all.ensures.stop)
 
 pub returns-clause-log : goal.returns-clause-log
 returns-clause-log c =
@@ -37,7 +37,7 @@ returns-clause-asked c =
     let base = c.in_ok-new.field-0 in
     let old = c.new-lines.result.items in
     let of = of_cones graphs query base old c.in_ok-new.ensures c.new-lines.ensures.items c.first-first.ensures.sound c.second-second.ensures.sound c.requires.fits in
-    asked_in graphs query (solving_of base old) (solving_of base c.exclude_all.new.lines.items) c.args.ledger.now c.open.new.self c.exclude_all.new.ledger of c.in_ok-open.ensures.some c.in_ok-open.ensures.opened c.in_ok-exclude_all.ensures.extended
+    asked_in graphs query [] (solving_of base old) (solving_of base c.exclude_all.new.lines.items) c.args.ledger.now c.open.new.self c.exclude_all.new.ledger of c.in_ok-open.ensures.some c.in_ok-open.ensures.opened c.in_ok-exclude_all.ensures.extended
 
 pub exclude_all-requires-clause-asking : goal.exclude_all-requires-clause-asking
 exclude_all-requires-clause-asking c = record {
