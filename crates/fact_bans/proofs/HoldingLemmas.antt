@@ -1,0 +1,133 @@
+-- Calls that have claims decided and hold bans, one after the other.
+use Rattle.std.proofs.Common.{◌≡◌, List, [], ◌∷◌, ◌++◌, map, Result, Ok, Err, sym, ap, subst, ◌∙◌, append_assoc, append-nil}
+use Rattle.cnf_core.specs.declared.stop.Stop.{Stop}
+use Rattle.cnf_core.specs.declared.stop.Stop.TheVariants.{Memory}
+use Rattle.net_core.specs.Sides.{Graphs}
+use Rattle.query_core.specs.Ledgers.{Ledgered}
+use Rattle.account_core.specs.declared.step.Ban.{Ban}
+use Rattle.account_core.specs.Facts.{AreFacts}
+use Rattle.account_core.specs.Given.{decided_by, given_of}
+use Rattle.account_core.specs.Steps.{AreValidBans, IsValidBan}
+use Rattle.oracle_core.specs.Oracles.{Known, Serves}
+use Rattle.fact_bans.proofs.HoldLemmas.{valid_push}
+use Rattle.fact_bans.specs.Serving.{AreValid, HasServed, HoldsBans, MayHold, OnlyAdds}
+use Rattle.fact_bans.proofs.ServeLemmas.{served_one, served_same, served_then, serves_err, serves_ok, serves_last, serves_memory, valid_grows}
+
+-- What calls did that were all answered.
+pub record HasHeld (graphs : Graphs) (old new : Known) (before after : Ledgered) (bans more : List Ban) : Type 0 where
+  pub served : HasServed old new before after
+  pub valid : AreValid graphs new more
+  pub adds : OnlyAdds bans more
+
+pub adds_none : (bans : List Ban) → OnlyAdds bans bans
+adds_none bans = record { added = []; more = sym (append-nil bans) }
+
+pub adds_one : (bans after : List Ban) (ban : Ban) → after ≡ bans ++ ban ∷ [] → OnlyAdds bans after
+adds_one bans after ban is = record { added = ban ∷ []; more = is }
+
+pub adds_then : (first second third : List Ban) → OnlyAdds first second → OnlyAdds second third → OnlyAdds first third
+adds_then first second third one other = record {
+  added = one.added ++ other.added;
+  more = other.more ∙ (ap (λ l. l ++ other.added) one.more ∙ append_assoc first one.added other.added);
+}
+
+pub lawful_of : (graphs : Graphs) (known : Known) (ledger : Ledgered) (bans : List Ban) → MayHold graphs known ledger bans → AreFacts known.graphs known.facts
+lawful_of graphs known ledger bans may = subst (λ (g : Graphs). AreFacts g known.facts) may.graphs_are may.lawful
+
+pub held_same : (graphs : Graphs) (known : Known) (ledger : Ledgered) (bans : List Ban) → MayHold graphs known ledger bans → HasHeld graphs known known ledger ledger bans bans
+held_same graphs known ledger bans may = record {
+  served = served_same known ledger (lawful_of graphs known ledger bans may) may.suits;
+  valid = may.valid;
+  adds = adds_none bans;
+}
+
+pub held_one : {X : Type 0} (graphs : Graphs) (old new : Known) (a b : Ledgered) (bans more : List Ban) (x : X) → HoldsBans graphs old new a b bans more (Ok x) → HasHeld graphs old new a b bans more
+held_one graphs old new a b bans more x holds = record {
+  served = served_one old new a b x holds.serves;
+  valid = holds.valid;
+  adds = holds.adds;
+}
+
+pub held_then : (graphs : Graphs) (old mid new : Known) (a b c : Ledgered) (first second third : List Ban) → HasHeld graphs old mid a b first second → HasHeld graphs mid new b c second third → HasHeld graphs old new a c first third
+held_then graphs old mid new a b c first second third one other = record {
+  served = served_then old mid new a b c one.served other.served;
+  valid = other.valid;
+  adds = adds_then first second third one.adds other.adds;
+}
+
+-- after calls that were answered more may be called
+pub may_later : (graphs : Graphs) (old new : Known) (a b : Ledgered) (bans more : List Ban) → MayHold graphs old a bans → HasHeld graphs old new a b bans more → MayHold graphs new b more
+may_later graphs old new a b bans more may held = record {
+  graphs_are = may.graphs_are ∙ sym held.served.grows.graphs;
+  lawful = subst (λ (g : Graphs). AreFacts g new.facts) (sym (may.graphs_are ∙ sym held.served.grows.graphs)) held.served.grows.lawful;
+  suits = held.served.suits;
+  valid = held.valid;
+}
+
+pub holds_ok : {X : Type 0} (graphs : Graphs) (old new : Known) (a b : Ledgered) (bans more : List Ban) (result : Result X Stop) (x : X) → result ≡ Ok x → HasHeld graphs old new a b bans more → HoldsBans graphs old new a b bans more result
+holds_ok graphs old new a b bans more result x is held = record {
+  serves = serves_ok old new a b result x is held.served;
+  valid = held.valid;
+  adds = held.adds;
+}
+
+-- a call that ends the others without an answer
+pub holds_err : {X Y : Type 0} (graphs : Graphs) (old mid new : Known) (a b c : Ledgered) (first second third : List Ban) (result : Result Y Stop) (stop : Stop) → result ≡ Err stop → HasHeld graphs old mid a b first second → HoldsBans {X = X} graphs mid new b c second third (Err stop) → HoldsBans graphs old new a c first third result
+holds_err graphs old mid new a b c first second third result stop is held holds = record {
+  serves = serves_err old mid new a b c result stop is held.served holds.serves;
+  valid = holds.valid;
+  adds = adds_then first second third held.adds holds.adds;
+}
+
+-- a call that is the last one
+pub holds_last : {X : Type 0} (graphs : Graphs) (old mid new : Known) (a b c : Ledgered) (first second third : List Ban) (result : Result X Stop) → HasHeld graphs old mid a b first second → HoldsBans graphs mid new b c second third result → HoldsBans graphs old new a c first third result
+holds_last graphs old mid new a b c first second third result held holds = record {
+  serves = serves_last old mid new a b c result held.served holds.serves;
+  valid = holds.valid;
+  adds = adds_then first second third held.adds holds.adds;
+}
+
+-- calls that hold no ban
+pub holds_no_more : {X : Type 0} (graphs : Graphs) (old new : Known) (a b : Ledgered) (bans : List Ban) (result : Result X Stop) → AreValid graphs old bans → Serves old new a b result → HoldsBans graphs old new a b bans bans result
+holds_no_more graphs old new a b bans result valid serves = record {
+  serves = serves;
+  valid = valid_grows old new graphs bans serves.grows valid;
+  adds = adds_none bans;
+}
+
+-- one ban is held
+pub valid_one : (graphs : Graphs) (old new : Known) (a b : Ledgered) (bans more : List Ban) (ban : Ban) → AreValid graphs old bans → HasServed old new a b → more ≡ bans ++ ban ∷ [] → IsValidBan graphs (given_of (map decided_by new.facts) bans) ban → AreValid graphs new more
+valid_one graphs old new a b bans more ban valid served is here = record {
+  each = subst (AreValidBans graphs (map decided_by new.facts)) (sym is) (valid_push graphs (map decided_by new.facts) bans ban (valid_grows old new graphs bans served.grows valid).each here);
+}
+
+pub held_ban : (graphs : Graphs) (old new : Known) (a b : Ledgered) (bans more : List Ban) (ban : Ban) → AreValid graphs old bans → HasServed old new a b → more ≡ bans ++ ban ∷ [] → IsValidBan graphs (given_of (map decided_by new.facts) bans) ban → HasHeld graphs old new a b bans more
+held_ban graphs old new a b bans more ban valid served is here = record {
+  served = served;
+  valid = valid_one graphs old new a b bans more ban valid served is here;
+  adds = adds_one bans more ban is;
+}
+
+-- calls that were answered, and held no ban
+pub held_kept : (graphs : Graphs) (old new : Known) (a b : Ledgered) (bans more : List Ban) → AreValid graphs old bans → HasServed old new a b → more ≡ bans → HasHeld graphs old new a b bans more
+held_kept graphs old new a b bans more valid served same = record {
+  served = served;
+  valid = subst (AreValid graphs new) (sym same) (valid_grows old new graphs bans served.grows valid);
+  adds = subst (OnlyAdds bans) (sym same) (adds_none bans);
+}
+
+-- memory ran out after calls that were answered
+pub holds_stop : {Y : Type 0} (graphs : Graphs) (old new : Known) (a b : Ledgered) (bans more : List Ban) (result : Result Y Stop) → result ≡ Err Memory → HasHeld graphs old new a b bans more → HoldsBans graphs old new a b bans more result
+holds_stop graphs old new a b bans more result is held = record {
+  serves = serves_memory old new a b result is held.served;
+  valid = held.valid;
+  adds = held.adds;
+}
+
+-- the first call wasn't answered, and holds no ban
+pub holds_fail : {X Y : Type 0} (graphs : Graphs) (old new : Known) (a b : Ledgered) (bans : List Ban) (result : Result Y Stop) (stop : Stop) → result ≡ Err stop → MayHold graphs old a bans → Serves {X = X} old new a b (Err stop) → HoldsBans graphs old new a b bans bans result
+holds_fail graphs old new a b bans result stop is may serves = record {
+  serves = serves_err old old new a a b result stop is (served_same old a (lawful_of graphs old a bans may) may.suits) serves;
+  valid = valid_grows old new graphs bans serves.grows may.valid;
+  adds = adds_none bans;
+}

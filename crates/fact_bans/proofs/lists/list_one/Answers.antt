@@ -1,0 +1,43 @@
+use Rattle.std.proofs.Common.{◌<◌, length, refl, sym, subst, arith}
+use Rattle.std.proofs.lemmas.Result.{err_from_is_err_and}
+use Rattle.net_core.specs.Sides.{Graphs, graph_of}
+use Rattle.account_core.specs.Tallies.{AreOfEach}
+use Rattle.fact_bans.proofs.FactLemmas.{listing_start}
+use Rattle.fact_bans.proofs.ServeLemmas.{served_one, served_then, serves_err, serves_ok}
+use Rattle.fact_bans.proofs.lists.list_one.Goals as goal
+
+pub loop-input-init : goal.loop-input-init
+loop-input-init g c =
+    listing_start AreOfEach (g.O.Oracle.known c.args.oracle.now) c.args.ledger.now c.args.wanted.holds c.args.wanted.side c.args.wanted.output c.new-numbers.result tt c.requires.lawful c.requires.suits c.new-numbers.ensures
+
+pub add_one-requires-clause-lawful : goal.add_one-requires-clause-lawful
+add_one-requires-clause-lawful g c = c.loop-input.invariant.served.grows.lawful
+
+pub add_one-requires-clause-output : goal.add_one-requires-clause-output
+add_one-requires-clause-output g c =
+    subst (λ (gr : Graphs). c.args.wanted.output < length (graph_of gr c.args.wanted.side).outputs) (sym c.loop-input.invariant.served.grows.graphs) c.requires.output
+
+pub add_one-requires-clause-input : goal.add_one-requires-clause-input
+add_one-requires-clause-input g c =
+    subst (λ (gr : Graphs). c.loop-input.input < (graph_of gr c.args.wanted.side).inputs) (sym c.loop-input.invariant.served.grows.graphs) (omega (arith, c.loop-input-test.true, c.requires.inputs))
+
+pub add_one-requires-clause-suits : goal.add_one-requires-clause-suits
+add_one-requires-clause-suits g c = c.loop-input.invariant.served.suits
+
+pub add_one-requires-clause-lists : goal.add_one-requires-clause-lists
+add_one-requires-clause-lists g c = c.loop-input.invariant.lists
+
+pub loop-input-preserved : goal.loop-input-preserved
+loop-input-preserved g c = record {
+  served = served_then _ _ _ _ _ _ c.loop-input.invariant.served (served_one _ _ _ _ _ c.in_ok-add_one.ensures.serves);
+  lists = c.in_ok-add_one.ensures.lists c.if-not-branch.false;
+}
+
+pub returns-in_err-add_one-clause-serves : goal.returns-in_err-add_one-clause-serves
+returns-in_err-add_one-clause-serves g c =
+    let p = err_from_is_err_and c.from_residual.result c.from_residual.ensures.1 in
+    serves_err _ _ _ _ _ _ _ c.in_err-add_one.field-0.0 (cc (p.1, p.2)) c.loop-input.invariant.served c.in_err-add_one.ensures.serves
+
+pub returns-then-not-branch-clause-serves : goal.returns-then-not-branch-clause-serves
+returns-then-not-branch-clause-serves g c =
+    serves_ok _ _ _ _ _ _ refl (served_then _ _ _ _ _ _ c.loop-input.invariant.served (served_one _ _ _ _ _ c.in_ok-add_one.ensures.serves))

@@ -1,0 +1,39 @@
+use Rattle.std.proofs.Common.{map, refl, subst}
+use Rattle.std.proofs.lemmas.Result.{err_from_is_err_and}
+use Rattle.net_core.specs.declared.graphs.Side.{Side}
+use Rattle.std.specs.Prelude.{not}
+use Rattle.account_core.specs.Given.{decided_by}
+use Rattle.account_core.specs.Tallies.{port_on, AreOfEach}
+use Rattle.fact_bans.specs.declared.lists.Wanted.{Wanted}
+use Rattle.fact_bans.specs.Listed.{ListsBoth, ListsOne}
+use Rattle.fact_bans.proofs.FactLemmas.{lists_grow}
+use Rattle.fact_bans.proofs.ServeLemmas.{served_one, served_then, serves_err, serves_ok}
+use Rattle.fact_bans.proofs.tallies.ask.Goals as goal
+
+pub returns-in_err-both-clause-serves : goal.returns-in_err-both-clause-serves
+returns-in_err-both-clause-serves g c =
+    let p = err_from_is_err_and c.from_residual-in_err-both.result c.from_residual-in_err-both.ensures.1 in
+    serves_err _ _ _ _ _ _ _ c.in_err-both.field-0.0 (cc (p.1, p.2)) (served_one _ _ _ _ _ c.in_ok-one.ensures.serves) c.in_err-both.ensures.serves
+
+pub returns-in_default-2-clause-serves : goal.returns-in_default-2-clause-serves
+returns-in_default-2-clause-serves g c =
+    serves_ok _ _ _ _ _ _ refl (served_then _ _ _ _ _ _ (served_one _ _ _ _ _ c.in_ok-one.ensures.serves) (served_one _ _ _ _ _ c.in_ok-both.ensures.serves))
+
+pub returns-clause-serves : goal.returns-clause-serves
+returns-clause-serves g c =
+    serves_ok _ _ _ _ _ _ refl (served_then _ _ _ _ _ _ (served_one _ _ _ _ _ c.in_ok-one.ensures.serves) (served_one _ _ _ _ _ c.in_ok-both.ensures.serves))
+
+pub returns-clause-lists : goal.returns-clause-lists
+returns-clause-lists g c =
+    let mid = g.O.Oracle.known c.list_one.new.oracle in
+    let new = g.O.Oracle.known c.list_both.new.oracle in
+    let side = c.args.plan.now.side in
+    let holds = c.args.plan.now.holds in
+    let one = subst (λ (w : Wanted). ListsOne (map decided_by mid.facts) w.holds w.side w.output c.inputs-inputs.result c.in-Some.one) c.wanted_on-first.ensures (rw c.in-Some.is at c.in_ok-one.ensures.lists) in
+    let both = subst (λ (w : Wanted). ListsBoth (map decided_by new.facts) w.holds w.side w.output c.inputs-inputs-2.result c.in-Some-2.both) c.wanted_on-second.ensures (rw c.in-Some-2.is at c.in_ok-both.ensures.lists) in
+    record {
+      bound = c.inputs-inputs.result;
+      bound_both = c.inputs-inputs-2.result;
+      one = lists_grow mid new AreOfEach holds side (port_on side c.args.pair) c.inputs-inputs.result c.in-Some.one c.in_ok-both.ensures.serves.grows one;
+      both = subst (λ (s : Side). ListsBoth (map decided_by new.facts) (not holds) s (port_on s c.args.pair) c.inputs-inputs-2.result c.in-Some-2.both) c.other_side.ensures both;
+    }

@@ -1,0 +1,51 @@
+use Rattle.std.proofs.Common.{◌+◌, ◌/◌, ◌<◌, ◌∷◌, [], List, ℕ, length, map, refl, sym, ap, subst, arith}
+use Rattle.std.proofs.lemmas.Result.{err_from_is_err_and}
+use Rattle.circuits.specs.Netlists.{Net}
+use Rattle.account_core.specs.declared.step.Ban.{Ban}
+use Rattle.account_core.specs.Given.{decided_by, given_of}
+use Rattle.account_core.specs.Steps.{IsValidBan}
+use Rattle.fact_bans.proofs.ServeLemmas.{served_one}
+use Rattle.fact_bans.proofs.HoldLemmas.{covers_own}
+use Rattle.fact_bans.proofs.HoldingLemmas.{held_ban, held_kept, holds_fail, holds_ok, holds_stop}
+use Rattle.fact_bans.proofs.TallyLemmas.{tally_valid}
+use Rattle.fact_bans.proofs.tallies.tally_by.Goals as goal
+
+pub returns-in_err-lists-clause-holds : goal.returns-in_err-lists-clause-holds
+returns-in_err-lists-clause-holds g c =
+    let p = err_from_is_err_and c.from_residual.result c.from_residual.ensures.1 in
+    holds_fail _ _ _ _ _ _ _ c.in_err-lists.field-0.0 (cc (p.1, p.2)) c.requires.may c.in_err-lists.ensures.serves
+
+pub returns-in_default-clause-holds : goal.returns-in_default-clause-holds
+returns-in_default-clause-holds g c =
+    holds_ok _ _ _ _ _ _ _ _ _ refl (held_kept _ _ _ _ _ _ _ c.requires.may.valid (served_one _ _ _ _ _ c.in_ok-lists.ensures.serves) refl)
+
+pub returns-then-not-are_many-clause-holds : goal.returns-then-not-are_many-clause-holds
+returns-then-not-are_many-clause-holds g c =
+    holds_ok _ _ _ _ _ _ _ _ _ refl (held_kept _ _ _ _ _ _ _ c.requires.may.valid (served_one _ _ _ _ _ c.in_ok-lists.ensures.serves) refl)
+
+pub returns-in_err-ban-clause-holds : goal.returns-in_err-ban-clause-holds
+returns-in_err-ban-clause-holds g c =
+    let p = err_from_is_err_and c.from_residual-in_err-ban.result c.from_residual-in_err-ban.ensures.1 in
+    holds_stop _ _ _ _ _ _ _ _ (cc (p.1, p.2)) (held_kept _ _ _ _ _ _ _ c.requires.may.valid (served_one _ _ _ _ _ c.in_ok-lists.ensures.serves) refl)
+
+pub returns-in_err-number-clause-holds : goal.returns-in_err-number-clause-holds
+returns-in_err-number-clause-holds g c =
+    let p = err_from_is_err_and c.from_residual-in_err-number.result c.from_residual-in_err-number.ensures.1 in
+    holds_stop _ _ _ _ _ _ _ _ (cc (p.1, p.2)) (held_kept _ _ _ _ _ _ _ c.requires.may.valid (served_one _ _ _ _ _ c.in_ok-lists.ensures.serves) c.in_err-number.ensures.refused)
+
+pub returns-clause-holds : goal.returns-clause-holds
+returns-clause-holds g c =
+    let graphs = c.args.graphs.now in
+    let new = g.O.Oracle.known c.ask.new.oracle in
+    let lists = c.in-Some.lists in
+    let are = rw c.in-Some.is at c.in_ok-lists.ensures.lists in
+    let one = subst (λ (l : List ℕ). 0 < length l) c.deref.ensures.value (c.are_many.ensures.some_one c.if-not-are_many.false) in
+    let both = subst (λ (l : List ℕ). 1 < length l) c.deref-2.ensures.value (c.are_many.ensures.some_both c.if-not-are_many.false) in
+    let many : graphs.first.inputs < length lists.one + length lists.both / 2 = omega (arith, c.are_many.ensures.many c.if-not-are_many.false, ap length c.deref.ensures.value, ap length c.deref-2.ensures.value, c.inputs.ensures.value, ap (λ (net : Net). net.inputs) c.first.ensures.value) in
+    let valid = tally_valid graphs (map decided_by new.facts) c.args.book.now c.args.pair c.args.plan.now.side c.args.plan.now.holds lists c.requires.output c.requires.known are one both many in
+    let here = subst (λ (b : Ban). IsValidBan graphs (given_of (map decided_by new.facts) c.args.book.now) b) (sym c.in_ok-ban.ensures) valid in
+    holds_ok _ _ _ _ _ _ _ _ _ refl (held_ban _ _ _ _ _ _ _ c.in_ok-ban.ban c.requires.may.valid (served_one _ _ _ _ _ c.in_ok-lists.ensures.serves) c.in_ok-number.ensures.held here)
+
+pub returns-clause-covers : goal.returns-clause-covers
+returns-clause-covers g c =
+    covers_own c.args.book.now c.hold.new.self c.in_ok-ban.ban (c.args.pair ∷ []) c.in_ok-number.number (ap (λ (b : Ban). b.pairs) c.in_ok-ban.ensures) c.in_ok-number.ensures.held c.in_ok-number.ensures.number

@@ -1,0 +1,38 @@
+-- What stays as an oracle decides claims and bans are held by its facts.
+use Rattle.std.specs.Prelude.{◌≡◌, List, ◌++◌, map, Result}
+use Rattle.cnf_core.specs.declared.stop.Stop.{Stop}
+use Rattle.net_core.specs.Sides.{Graphs}
+use Rattle.query_core.specs.Ledgers.{Ledgered}
+use Rattle.account_core.specs.declared.step.Ban.{Ban}
+use Rattle.account_core.specs.Given.{decided_by}
+use Rattle.account_core.specs.Steps.{AreValidBans}
+use Rattle.account_core.specs.Facts.{AreFacts}
+use Rattle.oracle_core.specs.Oracles.{Known, Grows, Suits, Keeps, Serves}
+
+-- What an oracle and a ledger are after calls that were all answered.
+pub record HasServed (old new : Known) (before after : Ledgered) : Type 0 where
+  pub grows : Grows old new
+  pub suits : Suits new after
+  pub keeps : Keeps old before after
+
+-- Each ban is valid in view of the facts that are known, and of the bans before it.
+pub record AreValid (graphs : Graphs) (known : Known) (bans : List Ban) : Type 0 where
+  pub each : AreValidBans graphs (map decided_by known.facts) bans
+
+-- The bans that were held stay, and others came after them.
+pub record OnlyAdds (before after : List Ban) : Type 0 where
+  pub added : List Ban
+  pub more : after ≡ before ++ added
+
+-- Claims may be asked, and bans held: the oracle is of these circuits, the ledger suits it, and the bans are valid.
+pub record MayHold (graphs : Graphs) (known : Known) (ledger : Ledgered) (bans : List Ban) : Type 0 where
+  pub graphs_are : graphs ≡ known.graphs
+  pub lawful : AreFacts graphs known.facts
+  pub suits : Suits known ledger
+  pub valid : AreValid graphs known bans
+
+-- What a call does that has claims decided and holds bans by their facts, whatever it answers.
+pub record HoldsBans {X : Type 0} (graphs : Graphs) (old new : Known) (before after : Ledgered) (bans more : List Ban) (result : Result X Stop) : Type 0 where
+  pub serves : Serves old new before after result
+  pub valid : AreValid graphs new more
+  pub adds : OnlyAdds bans more

@@ -1,0 +1,164 @@
+//! Claims of one input that vectors break.
+
+use account_core::Tallied;
+use cell_splits::Draws;
+use flip_sim::{FlipSim, all_lanes, blocks_of_all};
+use net_core::Graph;
+use port_cells::{Counts, Influence, Tally};
+use std::alloc::{AllocError, Global};
+
+/// How many words of gates may be computed of a circuit: about a tenth of a second.
+const MOST_WORDS: u64 = 1 << 25;
+
+/// The most blocks of 256 vectors. On 16,384 vectors an input that matters on one of a thousand is nearly always seen.
+const MOST_BLOCKS: u64 = 64;
+
+/// The fewest: an input of a wide gate isn't seen on fewer.
+const LEAST_BLOCKS: u64 = 4;
+
+/// What is known of an input of an output: whether it reaches the output through gates, and whether a vector breaks the
+/// claim that the output never falls where the input goes up, or down.
+#[derive(Clone, Copy, Debug, Drop)]
+pub(crate) struct Flips {
+    reaches: bool,
+    breaks_up: bool,
+    breaks_down: bool,
+}
+
+impl Flips {
+    /// Whether the input reaches the output through gates.
+    pub(crate) fn reaches(self) -> bool {
+        self.reaches
+    }
+
+    /// Whether a vector breaks the claim of the input with a value.
+    pub(crate) fn is_broken(self, value: bool) -> bool {
+        if value {
+            self.breaks_down
+        } else {
+            self.breaks_up
+        }
+    }
+
+    /// Whether the output is known to depend on the input, or to be binate in it.
+    pub(crate) fn is_of(self, kind: Tallied) -> bool {
+        match kind {
+            Tallied::Support => self.breaks_up | self.breaks_down,
+            Tallied::Binate => self.breaks_up & self.breaks_down,
+        }
+    }
+
+    /// Notes that the claim of the input with a value fails.
+    pub(crate) fn break_claim(&mut self, value: bool) {
+        if value {
+            self.breaks_down = true;
+        } else {
+            self.breaks_up = true;
+        }
+    }
+}
+
+/// For each output of a circuit, what vectors show of each input.
+pub(crate) fn sampled(
+    alloc: Global,
+    graph: &Graph,
+    seed: u64,
+) -> Result<Vec<Vec<Flips>>, AllocError> {
+    let mut simulator = FlipSim::new(alloc, graph)?;
+    let mut rows = unseen(alloc, graph)?;
+    mark_reached(&simulator, &mut rows);
+    let counts = counted(alloc, &mut simulator, seed)?;
+    for (output, influences) in counts.of_outputs.iter().enumerate() {
+        if output < rows.len() {
+            mark_broken(&mut rows[output], influences);
+        }
+    }
+    Ok(rows)
+}
+
+// Nothing is known yet of any input of an output.
+fn unseen(alloc: Global, graph: &Graph) -> Result<Vec<Vec<Flips>>, AllocError> {
+    let mut rows = Vec::new(alloc);
+    for _ in 0..graph.outputs().len() {
+        rows.push(unseen_row(alloc, graph.inputs())?)?;
+    }
+    Ok(rows)
+}
+
+fn unseen_row(alloc: Global, inputs: u32) -> Result<Vec<Flips>, AllocError> {
+    let none = Flips {
+        reaches: false,
+        breaks_up: false,
+        breaks_down: false,
+    };
+    let row = vec![in alloc; none; inputs as usize]?;
+    Ok(row)
+}
+
+fn mark_reached(simulator: &FlipSim<'_>, rows: &mut [Vec<Flips>]) {
+    for input in 0..simulator.graph().inputs() {
+        for output in simulator.reached(input).iter() {
+            mark_reach(rows, *output, input);
+        }
+    }
+}
+
+fn mark_reach(rows: &mut [Vec<Flips>], output: u32, input: u32) {
+    if (output as usize) < rows.len() {
+        mark_input(&mut rows[output as usize], input);
+    }
+}
+
+fn mark_input(row: &mut [Flips], input: u32) {
+    if (input as usize) < row.len() {
+        row[input as usize].reaches = true;
+    }
+}
+
+// Counts on all vectors where these are few, else on drawn ones.
+fn counted(alloc: Global, simulator: &mut FlipSim<'_>, seed: u64) -> Result<Counts, AllocError> {
+    let mut tally = Tally::new(alloc, simulator)?;
+    let mut draws = Draws::new(seed);
+    let all = blocks_of_all(simulator.graph().inputs());
+    let most = (MOST_WORDS / simulator.words_of_flips().max(1)).clamp(LEAST_BLOCKS, MOST_BLOCKS);
+    let blocks = all.min(most);
+    for block in 0..blocks {
+        put_block(simulator, block, blocks == all, &mut draws);
+        simulator.run();
+        tally.add(simulator);
+    }
+    tally.counts(alloc)
+}
+
+// Gives the inputs a block of all vectors, or a drawn one.
+fn put_block(simulator: &mut FlipSim<'_>, block: u64, is_all: bool, draws: &mut Draws) {
+    for input in 0..simulator.graph().inputs() {
+        let lanes = if is_all {
+            all_lanes(input, block)
+        } else {
+            draws.lanes()
+        };
+        simulator.set_input(input, lanes);
+    }
+}
+
+// Marks the claims that vectors break: where the output differs from an input and follows it, it falls as the input goes up;
+// where it agrees, as the input goes down.
+fn mark_broken(row: &mut [Flips], influences: &[Influence]) {
+    for influence in influences.iter() {
+        mark_claims(row, *influence);
+    }
+}
+
+fn mark_claims(row: &mut [Flips], influence: Influence) {
+    let input = influence.port as usize;
+    if input >= row.len() {
+        return;
+    }
+    if influence.differs > 0 {
+        row[input].break_claim(false);
+    }
+    if influence.agrees > 0 {
+        row[input].break_claim(true);
+    }
+}

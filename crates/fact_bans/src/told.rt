@@ -1,0 +1,76 @@
+//! What an oracle says of a claim.
+
+ghost use Rattle.std.specs.Prelude.{◌≡◌, ◌++◌, ◌∷◌, [], IfOk, IsTrue, map};
+ghost use Rattle.query_core.specs.Claims.{IsClaim};
+ghost use Rattle.account_core.specs.Given.{decided_by};
+ghost use Rattle.oracle_core.specs.Oracles.{Serves, Suits};
+ghost use Rattle.fact_bans.specs.Listed.{holds_by, AddsFact, IsToldAs};
+
+use crate::seen::Seen;
+use account_core::Evidence;
+use cnf_core::Stop;
+use items::Items;
+use oracle_core::Oracle;
+use query_core::{Claim, Ledger};
+use std::alloc::Global;
+
+/// The number of a claim's fact, and whether the claim holds.
+#[derive(Clone, Copy, Debug, Drop)]
+pub(crate) struct Told {
+    pub(crate) number: u64,
+    pub(crate) holds: bool,
+}
+
+/// Has a claim decided. Where it fails, that is noted as seen.
+pub(crate) fn decide<O: Oracle>(
+    alloc: Global,
+    oracle: &mut O,
+    claim: Claim,
+    seen: &mut Seen,
+    ledger: &mut Ledger,
+) -> Result<Told, Stop>
+    requires placed { IsClaim (O.known oracle.old).graphs claim }
+    requires suits { Suits (O.known oracle.old) ledger.old }
+    ensures serves { Serves (O.known oracle.old) (O.known oracle.new) ledger.old ledger.new result }
+    ensures told { IfOk result (λ told. IsToldAs (map decided_by (O.known oracle.new).facts) claim told.holds told.number) }
+{
+    let number = oracle.claim(alloc, claim, ledger)?;
+    let fact = &oracle.facts()[number as usize];
+    let holds = holds_by(&fact.evidence);
+    seen.note(claim, holds);
+    Ok(Told { number, holds })
+}
+
+// Whether evidence is for its claim.
+fn holds_by(evidence: &Evidence) -> bool
+    ensures { result ≡ holds_by evidence.now }
+{
+    match evidence {
+        Evidence::Fails(_) => false,
+        Evidence::Holds(_) => true,
+    }
+}
+
+/// Has a claim decided, and adds the number of its fact where that says what is wanted. Answers whether it does.
+pub(crate) fn add_fact<O: Oracle>(
+    alloc: Global,
+    oracle: &mut O,
+    claim: Claim,
+    holds: bool,
+    numbers: &mut Items<u64>,
+    seen: &mut Seen,
+    ledger: &mut Ledger,
+) -> Result<bool, Stop>
+    requires placed { IsClaim (O.known oracle.old).graphs claim }
+    requires suits { Suits (O.known oracle.old) ledger.old }
+    ensures serves { Serves (O.known oracle.old) (O.known oracle.new) ledger.old ledger.new result }
+    ensures adds { IfOk result (λ added. IsTrue added
+        → AddsFact (map decided_by (O.known oracle.new).facts) claim holds numbers.old numbers.new) }
+{
+    let told = decide(alloc, oracle, claim, seen, ledger)?;
+    if told.holds != holds {
+        return Ok(false);
+    }
+    numbers.push(told.number)?;
+    Ok(true)
+}
