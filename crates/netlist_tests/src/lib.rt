@@ -8,9 +8,13 @@ mod blif_files;
 #[cfg(test)]
 mod compared;
 #[cfg(test)]
+mod generated;
+#[cfg(test)]
 mod graphs;
 #[cfg(test)]
 mod named_circuits;
+#[cfg(test)]
+mod printed;
 #[cfg(test)]
 mod reports;
 #[cfg(test)]

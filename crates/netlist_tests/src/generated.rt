@@ -1,0 +1,77 @@
+//! The pair of the number 7, against a model that was written in another language from the generator's description
+//! alone: its texts, by their lengths and a digest of their bytes, and the ends of its table.
+
+use gen_pair::{GenPair, make};
+use net_print::{put_aig, put_blif};
+use rand_core::utils::NextWord;
+use rand_pcg::Lcg64Xsh32;
+use std::alloc::{AllocError, Global};
+use std::test::Fail;
+
+// A digest of bytes in their order: a polynomial at 31, modulo 2^32.
+fn digest(bytes: &[u8]) -> u32 {
+    let mut digest: u32 = 0;
+    for byte in bytes.iter() {
+        digest = digest.wrapping_mul(31).wrapping_add(u32::from(*byte));
+    }
+    digest
+}
+
+fn binary_of_first(alloc: Global, pair: &GenPair) -> Result<(usize, u32), AllocError> {
+    let mut out = Vec::new(alloc);
+    put_aig(&pair.first, &mut out)?;
+    Ok((out.len(), digest(&out)))
+}
+
+fn blif_of_second(alloc: Global, pair: &GenPair) -> Result<(usize, u32), AllocError> {
+    let mut out = Vec::new(alloc);
+    put_blif(&pair.second, &mut out)?;
+    Ok((out.len(), digest(&out)))
+}
+
+fn sizes(pair: &GenPair) -> (u32, usize, usize) {
+    let graph = &pair.second.graph;
+    (graph.inputs(), graph.outputs().len(), graph.gates().len())
+}
+
+#[test]
+fn a_number_gives_its_pair(rt: HostRuntime) -> Result<(), Fail> {
+    let pair = make(rt.alloc(), 7)?;
+    assert_eq!(rt; binary_of_first(rt.alloc(), &pair)?, (5671, 507290980));
+    assert_eq!(rt; blif_of_second(rt.alloc(), &pair)?, (55965, 1118943907));
+    assert_eq!(rt; sizes(&pair), (64, 32, 2000));
+    Ok(())
+}
+
+#[test]
+fn a_number_gives_its_table(rt: HostRuntime) -> Result<(), Fail> {
+    let hidden = make(rt.alloc(), 7)?.hidden;
+    assert!(rt;
+        hidden
+            .inputs
+            .as_slice()
+            .starts_with(&[(56, true), (18, false), (21, true), (16, true)])
+    );
+    assert!(rt;
+        hidden
+            .inputs
+            .as_slice()
+            .ends_with(&[(36, true), (0, false), (62, true)])
+    );
+    assert!(rt;
+        hidden
+            .outputs
+            .as_slice()
+            .starts_with(&[(28, false), (26, true), (30, false), (16, false)])
+    );
+    Ok(())
+}
+
+// The first words of the generator's reference program for the state 42 and the stream 54.
+#[test]
+fn the_generator_has_its_words(rt: HostRuntime) -> Result<(), Fail> {
+    let mut random = Lcg64Xsh32::new(42, 54);
+    let words: [u32; 3] = [random.next_word(), random.next_word(), random.next_word()];
+    assert_eq!(rt; words, [0xa15c_02b7, 0x7b47_f409, 0xba1d_3330]);
+    Ok(())
+}

@@ -1,0 +1,55 @@
+//! Netlists that are printed: the texts, as worked out by hand, and that they are read again.
+
+use aiger_reader::read;
+use net_file::Named;
+use net_print::{put_aag, put_aig, put_blif};
+use std::alloc::{AllocError, Global};
+use std::test::Fail;
+
+// Whether the three texts of a netlist are these, each after a byte that stands there before.
+fn are_texts(
+    alloc: Global,
+    named: &Named,
+    ascii: &[u8],
+    binary: &[u8],
+    blif: &[u8],
+) -> Result<bool, AllocError> {
+    Ok(
+        is_ascii(alloc, named, ascii)?
+            & is_binary(alloc, named, binary)?
+            & is_blif(alloc, named, blif)?,
+    )
+}
+
+fn is_ascii(alloc: Global, named: &Named, text: &[u8]) -> Result<bool, AllocError> {
+    let mut out = b">".to_vec(alloc)?;
+    put_aag(named, &mut out)?;
+    Ok(out.as_slice() == text)
+}
+
+fn is_binary(alloc: Global, named: &Named, text: &[u8]) -> Result<bool, AllocError> {
+    let mut out = b">".to_vec(alloc)?;
+    put_aig(named, &mut out)?;
+    Ok(out.as_slice() == text)
+}
+
+fn is_blif(alloc: Global, named: &Named, text: &[u8]) -> Result<bool, AllocError> {
+    let mut out = b">".to_vec(alloc)?;
+    put_blif(named, &mut out)?;
+    Ok(out.as_slice() == text)
+}
+
+#[test]
+fn prints_an_and_gate_and_a_wire(rt: HostRuntime) -> Result<(), Fail> {
+    let named = read(rt.alloc(), b"aag 3 2 0 2 1\n2\n4\n6\n2\n6 2 4\ni1 b c\n")?;
+    assert!(rt;
+        are_texts(
+            rt.alloc(),
+            &named,
+            b">aag 3 2 0 2 1\n2\n4\n6\n2\n6 2 4\ni0 i0\ni1 b c\no0 o0\no1 o1\n",
+            b">aig 3 2 0 2 1\n6\n2\n\x02\x02i0 i0\ni1 b c\no0 o0\no1 o1\n",
+            b">.model npnp\n.inputs i0 i1\n.outputs o0 o1\n.names z\n.names i0 i1 g0\n11 1\n.names g0 o0\n1 1\n.names i0 o1\n1 1\n.end\n",
+        )?
+    );
+    Ok(())
+}
