@@ -14,6 +14,7 @@ pub mod DifferLemmas
 pub mod ForesightLemmas
 pub mod WeightLemmas
 pub mod ServeLemmas
+pub mod NewestLemmas
 pub mod CompareLemmas
 pub mod SearchLemmas
 pub mod MarkLemmas

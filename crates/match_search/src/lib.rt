@@ -15,6 +15,7 @@ mod guide;
 mod level;
 mod marks;
 mod needed;
+mod newest;
 mod next_port;
 mod reads;
 mod side;
