@@ -8,5 +8,6 @@ pub mod DifferLemmas
 pub mod ForesightLemmas
 pub mod WeightLemmas
 pub mod ServeLemmas
+pub mod NewestLemmas
 pub mod CompareLemmas
 pub mod SearchLemmas

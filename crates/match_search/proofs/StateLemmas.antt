@@ -22,6 +22,7 @@ use Rattle.match_search.specs.declared.state.State.{State}
 use Rattle.port_covers.specs.Held.{AreApart, IsOf, IsTaken}
 use Rattle.port_covers.specs.Levels.{nth_way, ways_of, chosen, ClosesImpossible, HoldsMore, IsClosed, IsOpen, IsSearch, IsTried}
 use Rattle.account_core.specs.Shown.{IsEmptyBan}
+use Rattle.fact_bans.specs.Serving.{OnlyAdds}
 use Rattle.match_search.specs.Progress.{left_at, left_in, most_ways}
 use Rattle.match_search.specs.States.{GoesOn, IsSearchState}
 use Rattle.port_covers.proofs.ListLemmas.{any_of_contained, contains_cons}
@@ -29,7 +30,7 @@ use Rattle.port_covers.proofs.BookLemmas.{as_many}
 use Rattle.port_covers.proofs.ClosedLemmas.{closed_by_ban, closed_more}
 use Rattle.port_covers.proofs.MarkLemmas.{of_way}
 
-module _ (graphs : Graphs) (before after : List Ban) (more : HoldsMore graphs before after) where
+module _ (graphs : Graphs) (before after : List Ban) (more : OnlyAdds before after) where
   pairs_later : (ban : ℕ) → ban < length before → ban_at (given_of [] after) ban ≡ ban_at (given_of [] before) ban
   pairs_later ban below =
       ap (λ (l : List Ban). ban_at (given_of [] l) ban) more.more ∙ (ap (λ (l : List (List Pair)). get_or l ban []) (map-append (λ (b : Ban). b.pairs) before more.added) ∙ get_or_append_left (pairs_of before) (pairs_of more.added) [] ban (omega (arith, below, length-map before (λ (b : Ban). b.pairs))))
@@ -50,12 +51,16 @@ module _ (graphs : Graphs) (before after : List Ban) (more : HoldsMore graphs be
     closed = λ number ref below. closed_later pairs (nth_way level.side level.kind level.port number) (get_or level.refs number ref) (tried.closed number ref below);
   }
 
-  pub search_later : (held : List Pair) (levels : List Level) → IsSearch graphs before held levels → IsSearch graphs after held levels
-  search_later held levels search = record {
+  pub search_stays : (held : List Pair) (levels : List Level) → IsSearch graphs before held levels → IsSearch graphs after held levels
+  search_stays held levels search = record {
     pairs = search.pairs;
     tried = search.tried;
     each = λ i d below. tried_later (take i held) (get_or levels i d) (search.each i d below);
   }
+
+pub search_later : (graphs : Graphs) (before after : List Ban) → HoldsMore graphs before after → (held : List Pair) (levels : List Level) → IsSearch graphs before held levels → IsSearch graphs after held levels
+search_later graphs before after more held levels search =
+    search_stays graphs before after (record { added = more.added; more = more.more }) held levels search
 
 -- a level whose impossible ways were closed
 pub tried_closed : (graphs : Graphs) (bans : List Ban) (held : List Pair) (ways : ℕ) (level later : Level) (found : Bool) → ways ≡ ways_of graphs level → IsTried graphs bans held level → ClosesImpossible held ways level later found → IsTried graphs bans held later

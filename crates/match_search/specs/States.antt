@@ -1,11 +1,7 @@
 -- What a step of a search leaves.
-use Rattle.std.specs.Prelude.{◌≡◌, ℕ, ◌≤◌, List, [], ◌∷◌, ◌++◌, map, Option, Some, None}
+use Rattle.std.specs.Prelude.{◌≡◌, ℕ, ◌≤◌, List, [], ◌∷◌, ◌++◌, Option, Some, None}
 use Rattle.net_core.specs.Sides.{Graphs}
-use Rattle.query_core.specs.Ledgers.{Ledgered}
 use Rattle.account_core.specs.declared.step.Ban.{Ban}
-use Rattle.account_core.specs.Given.{decided_by}
-use Rattle.oracle_core.specs.Oracles.{Known, Grows, Suits, Keeps}
-use Rattle.account_core.specs.Steps.{AreValidBans}
 use Rattle.ban_book.specs.Covering.{Covers}
 use Rattle.match_search.specs.declared.state.State.{State}
 use Rattle.port_covers.specs.Levels.{IsSearch}
@@ -13,6 +9,7 @@ use Rattle.match_search.specs.declared.ahead.Ahead.{Ahead}
 use Rattle.match_search.specs.declared.ahead.Ahead.TheVariants as ahead
 use Rattle.account_core.specs.Shown.{IsEmptyBan, IsShownMatch}
 use Rattle.match_search.specs.Progress.{left_in, most_ways, TurnsBack}
+pub use Rattle.fact_bans.specs.Serving.{AreValid, HasServed}
 
 abbrev pub IsSearchState : Graphs → List Ban → State → Type 0
 IsSearchState graphs bans state = IsSearch graphs bans state.held state.levels
@@ -52,13 +49,3 @@ abbrev pub GoesBack : Graphs → List Ban → State → State → Option ℕ →
 GoesBack graphs bans before after None =
     IsSearchState graphs bans after × TurnsBack (left_in graphs before.levels) (left_in graphs after.levels)
 GoesBack graphs bans before after (Some ban) = IsEmptyBan bans ban
-
--- Each ban is valid in view of the facts that are known, and of the bans before it.
-pub record AreValid (graphs : Graphs) (known : Known) (bans : List Ban) : Type 0 where
-  pub each : AreValidBans graphs (map decided_by known.facts) bans
-
--- What an oracle and a ledger are after calls that were all answered.
-pub record HasServed (old new : Known) (before after : Ledgered) : Type 0 where
-  pub grows : Grows old new
-  pub suits : Suits new after
-  pub keeps : Keeps old before after

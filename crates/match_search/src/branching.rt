@@ -17,6 +17,7 @@ use crate::candidate::compare_whole;
 use crate::foresight::foresee;
 use crate::found::Found;
 use crate::guide::Guide;
+use crate::newest::exclude_newest;
 use crate::next_port::next_port;
 use crate::state::State;
 use crate::tries::{advance, turn_back};
@@ -100,8 +101,8 @@ fn turn<O: Oracle>(
     }
 }
 
-// One step ahead: unless the pairs that are held run into a ban or fail on a vector, the next port's ways are tried, and
-// where no port is left the outputs are compared.
+// One step ahead, unless the pairs that are held run into a ban that is held or into one that decided claims show. These come
+// before vectors: their bans have one pair or two, and nearly all claims that they ask are facts by then.
 fn ahead<O: Oracle>(
     alloc: Global,
     graphs: &Graphs<'_>,
@@ -126,6 +127,36 @@ fn ahead<O: Oracle>(
     if let Some(ban) = book.covering(&state.held) {
         return Ok(Ahead::Ban(ban));
     }
+    let seen = &mut guide.seen;
+    if let Some(ban) = exclude_newest(alloc, graphs, oracle, &state.held, seen, book, ledger)? {
+        return Ok(Ahead::Ban(ban));
+    }
+    go_on(alloc, graphs, oracle, guide, state, book, ledger)
+}
+
+// Unless the pairs that are held fail on a vector, the next port's ways are tried, and where no port is left the outputs are
+// compared.
+fn go_on<O: Oracle>(
+    alloc: Global,
+    graphs: &Graphs<'_>,
+    oracle: &mut O,
+    guide: &mut Guide,
+    state: &mut State,
+    book: &mut BanBook,
+    ledger: &mut Ledger,
+) -> Result<Ahead, Stop>
+    requires graphs { graphs.now ≡ (O.known oracle.old).graphs }
+    requires lawful { AreFacts graphs.now (O.known oracle.old).facts }
+    requires ports { HaveAsMany graphs.now.first graphs.now.second }
+    requires suits { Suits (O.known oracle.old) ledger.old }
+    requires valid { AreValid graphs.now (O.known oracle.old) book.old }
+    requires search { IsSearchState graphs.now book.old state.old }
+    requires trials { AreTrials graphs.now.first guide.old.trials }
+    ensures serves { Serves (O.known oracle.old) (O.known oracle.new) ledger.old ledger.new result }
+    ensures valid { AreValid graphs.now (O.known oracle.new) book.new }
+    ensures trials { OnOk result (AreTrials graphs.now.first guide.new.trials) }
+    ensures ahead { IfOk result (IsAhead graphs.now book.new state.old state.new) }
+{
     if let Some(ban) = foresee(alloc, graphs, &state.held, &guide.trials, book)? {
         return Ok(Ahead::Ban(ban));
     }

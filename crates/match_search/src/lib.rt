@@ -10,6 +10,7 @@ mod foresight;
 mod found;
 mod guessed;
 mod guide;
+mod newest;
 mod next_port;
 mod reads;
 mod state;

@@ -1,38 +1,34 @@
-use Rattle.std.proofs.Common.{List, refl, subst}
+use Rattle.std.proofs.Common.{List, refl, subst, sym, ◌∙◌}
 use Rattle.circuits.specs.declared.port.Pair.{Pair}
+use Rattle.net_core.specs.Sides.{Graphs}
+use Rattle.account_core.specs.Facts.{AreFacts}
 use Rattle.ban_book.specs.Covering.{Covers}
-use Rattle.port_covers.specs.Held.{IsWhole}
-use Rattle.match_search.proofs.ServeLemmas.{valid_holds}
-use Rattle.match_search.proofs.StateLemmas.{search_later}
+use Rattle.match_search.proofs.ServeLemmas.{served_one, serves_last}
+use Rattle.match_search.proofs.StateLemmas.{search_stays}
 use Rattle.match_search.proofs.branching.ahead.Goals as goal
 
-pub returns-in_err-ahead-clause-valid : goal.returns-in_err-ahead-clause-valid
-returns-in_err-ahead-clause-valid g c = valid_holds _ c.args.graphs.now c.foresee.new.book c.descend.new.book c.in_err-ahead.ensures.more (valid_holds _ c.args.graphs.now c.args.book.now c.foresee.new.book c.in_ok-ban.ensures.more c.requires.valid)
+pub go_on-requires-clause-graphs : goal.go_on-requires-clause-graphs
+go_on-requires-clause-graphs g c = c.requires.graphs ∙ sym c.in_ok-ban.ensures.holds.serves.grows.graphs
 
-pub returns-clause-valid : goal.returns-clause-valid
-returns-clause-valid g c = valid_holds _ c.args.graphs.now c.foresee.new.book c.descend.new.book c.in_ok-ahead.ensures.more (valid_holds _ c.args.graphs.now c.args.book.now c.foresee.new.book c.in_ok-ban.ensures.more c.requires.valid)
+pub go_on-requires-clause-lawful : goal.go_on-requires-clause-lawful
+go_on-requires-clause-lawful g c =
+    subst (λ (gr : Graphs). AreFacts gr (g.O.Oracle.known c.exclude_newest.new.oracle).facts) (sym (c.requires.graphs ∙ sym c.in_ok-ban.ensures.holds.serves.grows.graphs)) c.in_ok-ban.ensures.holds.serves.grows.lawful
 
-pub compare_whole-requires-clause-whole : goal.compare_whole-requires-clause-whole
-compare_whole-requires-clause-whole g c = subst (IsWhole c.args.graphs.now) c.deref-4.ensures.value c.in_default-next_port.ensures.none
+pub go_on-requires-clause-suits : goal.go_on-requires-clause-suits
+go_on-requires-clause-suits g c = (served_one _ _ _ _ _ c.in_ok-ban.ensures.holds.serves).suits
 
-pub returns-in_err-ban-clause-valid : goal.returns-in_err-ban-clause-valid
-returns-in_err-ban-clause-valid g c = valid_holds _ c.args.graphs.now c.args.book.now c.foresee.new.book c.in_err-ban.ensures.more c.requires.valid
+pub go_on-requires-clause-valid : goal.go_on-requires-clause-valid
+go_on-requires-clause-valid g c = c.in_ok-ban.ensures.holds.valid
 
-pub returns-in-Some-2-clause-valid : goal.returns-in-Some-2-clause-valid
-returns-in-Some-2-clause-valid g c = valid_holds _ c.args.graphs.now c.args.book.now c.foresee.new.book c.in_ok-ban.ensures.more c.requires.valid
+pub go_on-requires-clause-search : goal.go_on-requires-clause-search
+go_on-requires-clause-search g c = search_stays c.args.graphs.now c.args.book.now c.exclude_newest.new.book c.in_ok-ban.ensures.holds.adds c.args.state.now.held c.args.state.now.levels c.requires.search
+
+pub returns-clause-serves : goal.returns-clause-serves
+returns-clause-serves g c = serves_last _ _ _ _ _ _ _ (served_one _ _ _ _ _ c.in_ok-ban.ensures.holds.serves) c.go_on.ensures.serves
 
 pub returns-in-Some-2-clause-ahead : goal.returns-in-Some-2-clause-ahead
 returns-in-Some-2-clause-ahead g c = record {
-  search = search_later c.args.graphs.now c.args.book.now c.foresee.new.book c.in_ok-ban.ensures.more c.args.state.now.held c.args.state.now.levels c.requires.search;
+  search = search_stays c.args.graphs.now c.args.book.now c.exclude_newest.new.book c.in_ok-ban.ensures.holds.adds c.args.state.now.held c.args.state.now.levels c.requires.search;
   same = refl;
-  covers = let h = rw c.in-Some-2.is at c.in_ok-ban.ensures.covers in subst (λ (l : List Pair). Covers c.foresee.new.book l c.in-Some-2.ban) c.deref-2.ensures.value h;
+  covers = let h = rw c.in-Some-2.is at c.in_ok-ban.ensures.covers in subst (λ (l : List Pair). Covers c.exclude_newest.new.book l c.in-Some-2.ban) c.deref-2.ensures.value h;
 }
-
-pub compare_whole-requires-clause-search : goal.compare_whole-requires-clause-search
-compare_whole-requires-clause-search g c = search_later c.args.graphs.now c.args.book.now c.foresee.new.book c.in_ok-ban.ensures.more c.args.state.now.held c.args.state.now.levels c.requires.search
-
-pub compare_whole-requires-clause-valid : goal.compare_whole-requires-clause-valid
-compare_whole-requires-clause-valid g c = valid_holds _ c.args.graphs.now c.args.book.now c.foresee.new.book c.in_ok-ban.ensures.more c.requires.valid
-
-pub descend-requires-clause-search : goal.descend-requires-clause-search
-descend-requires-clause-search g c = search_later c.args.graphs.now c.args.book.now c.foresee.new.book c.in_ok-ban.ensures.more c.args.state.now.held c.args.state.now.levels c.requires.search
