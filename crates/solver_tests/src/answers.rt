@@ -48,7 +48,7 @@ fn is_cone(graphs: &Graphs<'_>, inputs: u32, cone: &Cone) -> bool
     are_wired(inputs, &cone.feed)
 }
 
-fn is_query(graphs: &Graphs<'_>, query: &Query) -> bool
+pub fn is_query(graphs: &Graphs<'_>, query: &Query) -> bool
     ensures { IsTrue result → IsQuery graphs.now query.now }
 {
     let inputs = graphs.side(query.left.side).inputs();
@@ -82,7 +82,7 @@ fn falls(alloc: Global, inputs: u32) -> Result<Query, AllocError> {
 }
 
 /// Whether the first circuit's output can be true where the second one's is false.
-fn exceeds(alloc: Global, inputs: u32) -> Result<Query, AllocError> {
+pub fn exceeds(alloc: Global, inputs: u32) -> Result<Query, AllocError> {
     Ok(Query {
         left: cone_of(alloc, Side::First, inputs, &[])?,
         left_value: true,

@@ -8,6 +8,8 @@ mod clauses;
 #[cfg(test)]
 mod drawn_circuits;
 #[cfg(test)]
+mod lemmas;
+#[cfg(test)]
 mod queries;
 #[cfg(test)]
 mod refutation;

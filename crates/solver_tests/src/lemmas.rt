@@ -1,0 +1,247 @@
+//! Lemmas that merge gates of one structure.
+
+ghost use Rattle.query_core.specs.Queries.{IsQuery};
+
+use crate::answers::{exceeds, is_query};
+use crate::drawn_circuits::drawn;
+use crate::refutation::takes_all;
+use cnf_core::{Base, LogLine, SatLit};
+use joint_hash::merge;
+use net_core::Graphs;
+use query_core::{Query, QueryBase};
+use rand_pcg::Pcg32;
+use samples::{GraphPair, graph};
+use std::alloc::{AllocError, Global};
+use std::test::Fail;
+
+fn lemmas_of(alloc: Global, graphs: &Graphs<'_>, query: &Query) -> Result<Vec<LogLine>, AllocError>
+    requires { IsQuery graphs.now query.now }
+{
+    let base = QueryBase::new(alloc, graphs, query)?;
+    merge(alloc, &base)
+}
+
+fn is_clause(line: &LogLine, numbers: &[u64]) -> bool {
+    for (literal, number) in line.clause.iter().zip(numbers.iter()) {
+        if literal.0 != *number {
+            return false;
+        }
+    }
+    line.clause.len() == numbers.len()
+}
+
+fn are_clauses(lines: &[LogLine], wanted: &[[u64; 2]]) -> bool {
+    for (line, numbers) in lines.iter().zip(wanted.iter()) {
+        if !is_clause(line, numbers) {
+            return false;
+        }
+    }
+    lines.len() == wanted.len()
+}
+
+fn has_lemmas(alloc: Global, graphs: &Graphs<'_>, wanted: &[[u64; 2]]) -> Result<bool, AllocError> {
+    let query = exceeds(alloc, 2)?;
+    if !is_query(graphs, &query) {
+        return Ok(false);
+    }
+    let lines = lemmas_of(alloc, graphs, &query)?;
+    Ok(are_clauses(&lines, wanted))
+}
+
+/// Gates of two circuits of two inputs, with their outputs, and the lemmas: the literals of each clause.
+struct Row<'a> {
+    first: &'a [(u32, u32)],
+    first_output: u32,
+    second: &'a [(u32, u32)],
+    second_output: u32,
+    lemmas: &'a [[u64; 2]],
+}
+
+const BOTH_WAYS: &[[u64; 2]] = &[[7, 8], [6, 9]];
+
+/// Variables 1 and 2 are the inputs, those of the first circuit's gates and then of the second one's follow.
+const ROWS: [Row<'static>; 8] = [
+    // an AND, and one with its operands exchanged
+    Row {
+        first: &[(2, 4)],
+        first_output: 6,
+        second: &[(4, 2)],
+        second_output: 6,
+        lemmas: BOTH_WAYS,
+    },
+    Row {
+        first: &[(2, 4)],
+        first_output: 6,
+        second: &[(3, 4)],
+        second_output: 6,
+        lemmas: &[],
+    },
+    // of an operand twice, of the constant, and of a signal and its opposite
+    Row {
+        first: &[(2, 2)],
+        first_output: 6,
+        second: &[(2, 2)],
+        second_output: 6,
+        lemmas: BOTH_WAYS,
+    },
+    Row {
+        first: &[(1, 2)],
+        first_output: 6,
+        second: &[(2, 1)],
+        second_output: 7,
+        lemmas: BOTH_WAYS,
+    },
+    Row {
+        first: &[(4, 5)],
+        first_output: 6,
+        second: &[(5, 4)],
+        second_output: 7,
+        lemmas: BOTH_WAYS,
+    },
+    // gates of gates, one of them read inverted
+    Row {
+        first: &[(2, 4), (7, 3)],
+        first_output: 8,
+        second: &[(4, 2), (3, 7)],
+        second_output: 8,
+        lemmas: &[[7, 10], [6, 11], [9, 12], [8, 13]],
+    },
+    // two gates of one circuit, and a gate of both
+    Row {
+        first: &[(2, 4), (4, 2), (6, 8)],
+        first_output: 10,
+        second: &[],
+        second_output: 0,
+        lemmas: BOTH_WAYS,
+    },
+    // a gate outside of the cone
+    Row {
+        first: &[(2, 4), (2, 5)],
+        first_output: 8,
+        second: &[(4, 2)],
+        second_output: 6,
+        lemmas: &[],
+    },
+];
+
+fn row_holds(alloc: Global, row: &Row<'_>) -> Result<bool, Fail> {
+    let both = GraphPair {
+        first: graph(alloc, 2, row.first, &[row.first_output])?,
+        second: graph(alloc, 2, row.second, &[row.second_output])?,
+    };
+    Ok(has_lemmas(alloc, &both.graphs(), row.lemmas)?)
+}
+
+#[test]
+fn merges_gates_of_one_structure(rt: HostRuntime) -> Result<(), Fail> {
+    for (place, row) in ROWS.iter().enumerate() {
+        assert!(rt; row_holds(rt.alloc(), row)?, "in row {place}");
+    }
+    Ok(())
+}
+
+fn bit_of(values: &[bool], literal: SatLit) -> bool {
+    let bit = values
+        .get(literal.variable() as usize)
+        .copied()
+        .unwrap_or(false);
+    bit != literal.is_negated()
+}
+
+/// The bit of each variable on a vector: each gate's is found from the clause that its operands imply it.
+fn values_on(alloc: Global, base: &QueryBase<'_>, code: u32) -> Result<Vec<bool>, AllocError> {
+    let mut values = vec![in alloc; false; base.variables() as usize]?;
+    put(&mut values, 0, true);
+    for input in 0..3u32 {
+        put(&mut values, 1 + u64::from(input), code >> input & 1 == 1);
+    }
+    for id in 1..base.count() {
+        put_gate(&mut values, base, id);
+    }
+    Ok(values)
+}
+
+fn put(values: &mut [bool], variable: u64, bit: bool) {
+    if let Some(place) = values.get_mut(variable as usize) {
+        *place = bit;
+    }
+}
+
+fn put_gate(values: &mut [bool], base: &QueryBase<'_>, id: u64) {
+    if id >= base.count() {
+        return;
+    }
+    let clause = base.clause(id);
+    if clause.len < 3 {
+        return;
+    }
+    let [output, first, second] = clause.lits;
+    let bit = !bit_of(values, first) & !bit_of(values, second);
+    put(values, output.variable(), bit);
+}
+
+fn is_met(values: &[bool], line: &LogLine) -> bool {
+    line.clause.iter().any(|literal| bit_of(values, *literal))
+}
+
+/// Whether each lemma holds on all vectors.
+fn all_hold(alloc: Global, base: &QueryBase<'_>, lines: &[LogLine]) -> Result<bool, AllocError> {
+    for code in 0..8u32 {
+        let values = values_on(alloc, base, code)?;
+        if !lines.iter().all(|line| is_met(&values, line)) {
+            return Ok(false);
+        }
+    }
+    Ok(true)
+}
+
+/// Whether the lemmas hold on all vectors, are taken one after the other, and are at least so many.
+fn are_lemmas(
+    alloc: Global,
+    graphs: &Graphs<'_>,
+    query: &Query,
+    least: usize,
+) -> Result<bool, AllocError>
+    requires { IsQuery graphs.now query.now }
+{
+    let base = QueryBase::new(alloc, graphs, query)?;
+    let lines = merge(alloc, &base)?;
+    let hold = all_hold(alloc, &base, &lines)?;
+    let taken = takes_all(alloc, base, &lines)?;
+    Ok(hold & taken & (lines.len() >= least))
+}
+
+fn lemmas_are_right(alloc: Global, graphs: &Graphs<'_>, least: usize) -> Result<bool, AllocError> {
+    let query = exceeds(alloc, 3)?;
+    if !is_query(graphs, &query) {
+        return Ok(false);
+    }
+    are_lemmas(alloc, graphs, &query, least)
+}
+
+/// A drawn circuit beside another, or beside itself.
+fn pair_of(alloc: Global, numbers: &mut Pcg32, same: bool) -> Result<GraphPair, Fail> {
+    let first = drawn(alloc, numbers)?;
+    let second = if same {
+        first.copy(alloc)?
+    } else {
+        drawn(alloc, numbers)?
+    };
+    Ok(GraphPair { first, second })
+}
+
+#[test]
+fn drawn_lemmas_hold(rt: HostRuntime) -> Result<(), Fail> {
+    let mut numbers = Pcg32::new(11, 54);
+    for round in 0..40 {
+        let same = round % 2 == 0;
+        let both = pair_of(rt.alloc(), &mut numbers, same)?;
+        // each output is that of one of the last two gates, which has two lemmas at least beside its copy
+        let least = if same { 2 } else { 0 };
+        assert!(rt;
+            lemmas_are_right(rt.alloc(), &both.graphs(), least)?,
+            "in round {round}"
+        );
+    }
+    Ok(())
+}
