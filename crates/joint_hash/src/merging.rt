@@ -152,9 +152,23 @@ fn join(
     }
     let lemma = base.count() + lines.len() as u64;
     let there = used_by(alloc, twins, first, gate)?;
-    add_lemma(alloc, base, opposite(first.output), gate.output, &there, lines)?;
+    add_lemma(
+        alloc,
+        base,
+        opposite(first.output),
+        gate.output,
+        &there,
+        lines,
+    )?;
     let back = used_by(alloc, twins, gate, first)?;
-    add_lemma(alloc, base, first.output, opposite(gate.output), &back, lines)?;
+    add_lemma(
+        alloc,
+        base,
+        first.output,
+        opposite(gate.output),
+        &back,
+        lines,
+    )?;
     let first = first.output;
     twins.insert(variable, Twin { first, lemma })?;
     Ok(())
