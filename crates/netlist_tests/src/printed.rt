@@ -53,3 +53,29 @@ fn prints_an_and_gate_and_a_wire(rt: HostRuntime) -> Result<(), Fail> {
     );
     Ok(())
 }
+
+#[test]
+fn calls_ports_without_names_by_their_positions(rt: HostRuntime) -> Result<(), Fail> {
+    let named = read(rt.alloc(), b"aag 3 2 0 2 1\n2\n4\n6\n2\n6 2 4\n")?;
+    assert!(rt;
+        is_ascii(
+            rt.alloc(),
+            &named,
+            b">aag 3 2 0 2 1\n2\n4\n6\n2\n6 2 4\ni0 i0\ni1 i1\no0 o0\no1 o1\n",
+        )?
+    );
+    Ok(())
+}
+
+#[test]
+fn prints_a_wire_as_a_cover(rt: HostRuntime) -> Result<(), Fail> {
+    let named = read(rt.alloc(), b"aag 1 1 0 1 0\n2\n2\n")?;
+    assert!(rt;
+        is_blif(
+            rt.alloc(),
+            &named,
+            b">.model npnp\n.inputs i0\n.outputs o0\n.names z\n.names i0 o0\n1 1\n.end\n",
+        )?
+    );
+    Ok(())
+}
