@@ -5,8 +5,6 @@ Verilog, and for some a twin, which is known to have no match with it.
 """
 import random
 
-INPUT, OUTPUT = "input", "output"
-
 
 class Circuit:
     """One function: its architectures as Verilog modules `m`, by name, and a twin without a match, where one is known."""
@@ -65,9 +63,11 @@ class Wires:
         found, carry = [], None
         for bits in columns:
             bits = bits + ([carry] if carry else [])
-            made = [self.full, self.half][3 - len(bits)](*bits) if len(bits) > 1 else (bits[0] if bits else "1'b0", None)
-            found.append(made[0])
-            carry = made[1]
+            if len(bits) > 1:
+                s, carry = self.full(*bits) if len(bits) == 3 else self.half(*bits)
+            else:
+                s, carry = bits[0] if bits else "1'b0", None
+            found.append(s)
         return found + ([carry] if carry else [])
 
     def tree(self, operator, items):
@@ -277,9 +277,9 @@ def adders():
             add(f"adder{n}_select", "adder", ports, carry_select=select, brent_kung=brent)
     for n in (8, 32):
         made = Wires()
-        add(f"subtract{n}", "adder", f"input [{n - 1}:0] a, b, output [{n}:0] y", brent_kung="assign y = a - b;",
-            ripple=made.done("y", [it for it in made.ripple(bits("a", n), [f"~b[{k}]" for k in range(n)], "1'b1")][:-1])
-            + f" assign y[{n}] = ~{made.ripple and 't' + str(made.count)};")
+        found = made.ripple(bits("a", n), [f"~b[{k}]" for k in range(n)], "1'b1")
+        found[-1] = made.wire(f"~{found[-1]}")
+        add(f"subtract{n}", "adder", f"input [{n - 1}:0] a, b, output [{n}:0] y", brent_kung="assign y = a - b;", ripple=made.done("y", found))
     for n in (8, 24):
         add(f"addsub{n}", "adder", f"input [{n - 1}:0] a, b, input s, output [{n - 1}:0] y", chosen="assign y = s ? a - b : a + b;",
             shared=f"assign y = a + (b ^ {{{n}{{s}}}}) + s;")
@@ -624,7 +624,7 @@ def boxes():
     add("mix_column", "S-box", "input [31:0] a, output [31:0] y", chained=chained, treed=treed)
     add("chi64", "S-box", "input [63:0] a, output [63:0] y", gates="assign y = a ^ (~{a[0], a[63:1]} & {a[1:0], a[63:2]});",
         chosen=" ".join(f"assign y[{i}] = a[{(i + 1) % 64}] ? a[{i}] : a[{i}] ^ a[{(i + 2) % 64}];" for i in range(64)))
-    made, plain = Wires(), []
+    plain = []
     for k in range(16):
         plain.append(f"always @* begin case (a[{4 * k + 3}:{4 * k}] ^ k[{4 * k + 3}:{4 * k}]) " + " ".join(f"{i}: t[{4 * k + 3}:{4 * k}] = {v};" for i, v in enumerate(PRESENT)) + " endcase end")
     moved = "assign y = {" + ", ".join(f"t[{(4 * k) % 63 if k < 63 else 63}]" for k in range(63, -1, -1)) + "};"

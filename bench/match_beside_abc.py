@@ -203,13 +203,15 @@ def main():
     words.add_argument("--nets", help="the folder that keeps what Yosys and ABC made")
     words.add_argument("--no-bm", action="store_true", help="without ABC's matcher")
     words.add_argument("--report", action="store_true", help="measure nothing, print what the file of results has")
+    words.add_argument("--markdown", action="store_true", help="print the tables of docs/MEASURED.md")
     choices = words.parse_intermixed_args()
     choices.programs = labelled(choices.release, choices.programs)
     chosen = [it for it in CIRCUITS if not choices.names or it.name in choices.names or it.family in choices.names][choices.start :: choices.every]
     with tempfile.TemporaryDirectory() as folder:
         results = choices.results or os.path.join(folder, "results")
         rows = [json.loads(line) for line in open(results)] if os.path.exists(results) else []
-        of_run = lambda row: row["limit"] == choices.limit and row["seed"] == choices.seed
+        # what was answered within another limit stands, and what wasn't within a larger one
+        of_run = lambda row: row["seed"] == choices.seed and (row["said"] != "late" or row["limit"] >= choices.limit)
         done = {(row["program"], row["circuit"], row["kind"]) for row in rows if of_run(row)}
         bench = Bench(choices, folder)
         for circuit in [] if choices.report else chosen:
@@ -219,8 +221,11 @@ def main():
                     file.write(json.dumps(row) + "\n")
                 print(f"{row['program']:<18}{row['circuit']:<22}{row['kind']:<10}{row['said']:<10}{row['seconds']:>8.3f} {row['wrong']}", file=sys.stderr, flush=True)
         names = {it.name for it in chosen}
-        wanted = [row for row in rows if of_run(row) and row["circuit"] in names and row["kind"] in choices.kinds]
-        sys.exit(report(wanted, list(choices.programs), choices.limit))
+        wanted = {(row["program"], row["circuit"], row["kind"]): row for row in sorted(rows, key=lambda row: row["limit"])
+                  if of_run(row) and row["circuit"] in names and row["kind"] in choices.kinds}
+        order = {it.name: place for place, it in enumerate(chosen)}
+        wanted = sorted(wanted.values(), key=lambda row: (order[row["circuit"]], KINDS.index(row["kind"])))
+        sys.exit(report(wanted, list(choices.programs), choices.limit, choices.markdown))
 
 
 main()
