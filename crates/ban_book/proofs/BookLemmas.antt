@@ -1,0 +1,42 @@
+-- Bans that are held after others.
+use Rattle.std.proofs.Common.{◌≡◌, ℕ, List, [], ◌∷◌, ◌++◌, length, take, get_or, All, Contains, sym, ap, subst, ◌∙◌, inl, inr, arith}
+use Rattle.std.proofs.lemmas.Bool.{cases_lt}
+use Rattle.std.proofs.lemmas.List.Elements.{Contains-get_or}
+use Rattle.std.proofs.lemmas.List.{take_all, take-append-le, get_or_append_left, get_or_push, length_push, length-append}
+use Rattle.circuits.specs.declared.port.Pair.{Pair}
+use Rattle.net_core.specs.Sides.{Graphs}
+use Rattle.account_core.specs.declared.step.Ban.{Ban}
+use Rattle.account_core.specs.Given.{Decided, given_of}
+use Rattle.account_core.specs.Steps.{AreValidBans, IsValidBan}
+use Rattle.ban_book.specs.Covering.{Covers, IsWithin}
+
+-- a ban that is valid beside others comes after them
+pub valid_push : (graphs : Graphs) (facts : List Decided) (bans : List Ban) (ban : Ban) → AreValidBans graphs facts bans → IsValidBan graphs (given_of facts bans) ban → AreValidBans graphs facts (bans ++ ban ∷ [])
+valid_push graphs facts bans ban valid here k d below =
+    elim (cases_lt k (length bans)) [
+      | inl less ↦
+          subst (λ (b : Ban). IsValidBan graphs (given_of facts (take k (bans ++ ban ∷ []))) b) (sym (get_or_append_left bans (ban ∷ []) d k less)) (subst (λ (l : List Ban). IsValidBan graphs (given_of facts l) (get_or bans k d)) (sym (take-append-le k bans (ban ∷ []) (omega arith))) (valid k d less))
+      | inr past ↦
+          let e : length bans ≡ k = omega (arith, below, past, length_push bans ban) in
+          let front : take k (bans ++ ban ∷ []) ≡ bans = take-append-le k bans (ban ∷ []) (omega (arith, e)) ∙ take_all k bans (omega (arith, e)) in
+          subst (λ (b : Ban). IsValidBan graphs (given_of facts (take k (bans ++ ban ∷ []))) b) (sym (get_or_push bans ban d k e)) (subst (λ (l : List Ban). IsValidBan graphs (given_of facts l) ban) (sym front) here)
+    ]
+
+-- the last ban is within pairs
+pub covers_last : (bans after : List Ban) (ban : Ban) (pairs : List Pair) (number : ℕ) → after ≡ bans ++ ban ∷ [] → number ≡ length bans → IsWithin pairs ban → Covers after pairs number
+covers_last bans after ban pairs number is last within = record {
+  held = omega (arith, ap length is, length_push bans ban, last);
+  within = λ d. subst (IsWithin pairs) (sym (ap (λ l. get_or l number d) is ∙ get_or_push bans ban d number (sym last))) within;
+}
+
+-- a ban is among more bans
+pub covers_later : (before added after : List Ban) (pairs : List Pair) (number : ℕ) → after ≡ before ++ added → Covers before pairs number → Covers after pairs number
+covers_later before added after pairs number more is = record {
+  held = omega (arith, is.held, ap length more, length-append before added);
+  within = λ d. subst (IsWithin pairs) (sym (ap (λ l. get_or l number d) more ∙ get_or_append_left before added d number is.held)) (is.within d);
+}
+
+-- the last ban is of these pairs
+pub covers_own : (bans after : List Ban) (ban : Ban) (pairs : List Pair) (number : ℕ) → ban.pairs ≡ pairs → after ≡ bans ++ ban ∷ [] → number ≡ length bans → Covers after pairs number
+covers_own bans after ban pairs number same is last =
+    covers_last bans after ban pairs number is last (record { among = subst (All (Contains pairs)) (sym same) (λ k d below. Contains-get_or pairs k d below) })
