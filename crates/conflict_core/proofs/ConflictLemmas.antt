@@ -80,13 +80,6 @@ known_of graphs n m pair fit is = record {
   to = omega (arith, is.to, second_ports graphs n m pair.kind fit);
 }
 
--- a ban that is among more bans
-pub covers_later : (before added after : List Ban) (pairs : List Pair) (number : ℕ) → after ≡ before ++ added → Covers before pairs number → Covers after pairs number
-covers_later before added after pairs number more is = record {
-  held = omega (arith, is.held, ap length more, length-append before added);
-  within = λ d. subst (IsWithin pairs) (sym (ap (λ l. get_or l number d) more ∙ get_or_append_left before added d number is.held)) (is.within d);
-}
-
 -- Some of the held pairs, among them the first of others.
 pub record IsAdding (held now first : List Pair) : Type 0 where
   pub part : IsPart held now

@@ -1,11 +1,10 @@
-//! The search.
+//! The search, step by step.
 
-ghost use Rattle.std.specs.Prelude.{◌≡◌, ◌<◌, [], IfNone, IfOk, IfSome, OnOk, map};
-ghost use Rattle.account_core.specs.Given.{decided_by};
+ghost use Rattle.std.specs.Prelude.{◌≡◌, ◌<◌, IfNone, IfOk, IfSome, OnOk};
 ghost use Rattle.account_core.specs.Facts.{AreFacts};
 ghost use Rattle.oracle_core.specs.Oracles.{Serves, Suits};
 ghost use Rattle.account_core.specs.Ports.{HaveAsMany};
-ghost use Rattle.account_core.specs.Steps.{AreValidBans};
+ghost use Rattle.fact_bans.specs.Serving.{MayHold};
 ghost use Rattle.match_search.specs.Founds.{IsFound};
 ghost use Rattle.port_covers.specs.Levels.{HoldsMore, IsTried};
 ghost use Rattle.match_search.specs.Progress.{left};
@@ -29,36 +28,30 @@ use port_covers::level::Level;
 use query_core::Ledger;
 use std::alloc::{AllocError, Global};
 
-/// Looks for a match of two circuits with as many ports by branching. The ports are decided one by one, the outputs of whole
-/// tables are compared, and a ban is held for each table that is no match and for each port that has no way left. From a
-/// ban it goes back to the last port that the ban needs. Pairs are tried on vectors; another seed draws other ones.
-///
-/// The book's bans are valid in view of the oracle's facts, whatever is answered.
+/// Branches over the ways of ports until a match is found, or a ban without pairs. What the search goes by comes from the
+/// caller, and bans may be held.
 ///
 /// # Errors
 ///
 /// `Spent` where a line had to be learned and the ledger's budget was spent. `Memory` when out of memory.
-pub fn search<O: Oracle>(
+pub(crate) fn explore<O: Oracle>(
     alloc: Global,
     graphs: &Graphs<'_>,
     oracle: &mut O,
+    guide: &mut Guide,
     book: &mut BanBook,
-    seed: u64,
     ledger: &mut Ledger,
 ) -> Result<Found, Stop>
-    requires graphs { graphs.now ≡ (O.known oracle.old).graphs }
+    requires may { MayHold graphs.now (O.known oracle.old) ledger.old book.old }
     requires ports { HaveAsMany graphs.now.first graphs.now.second }
-    requires book { book.old ≡ [] }
-    requires suits { Suits (O.known oracle.old) ledger.old }
+    requires trials { AreTrials graphs.now.first guide.old.trials }
     ensures serves { Serves (O.known oracle.old) (O.known oracle.new) ledger.old ledger.new result }
-    ensures bans { AreValidBans graphs.now (map decided_by (O.known oracle.new).facts) book.new }
+    ensures valid { AreValid graphs.now (O.known oracle.new) book.new }
     ensures found { IfOk result (IsFound graphs.now book.new) }
 {
-    let _facts = oracle.facts();
-    let mut guide = Guide::new(alloc, graphs, seed)?;
     let mut state = State::new(alloc);
     loop {
-        if let Some(found) = turn(alloc, graphs, oracle, &mut guide, &mut state, book, ledger)? {
+        if let Some(found) = turn(alloc, graphs, oracle, guide, &mut state, book, ledger)? {
             return Ok(found);
         }
     }

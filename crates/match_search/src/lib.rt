@@ -13,10 +13,11 @@ mod guide;
 mod newest;
 mod next_port;
 mod reads;
+mod searching;
 mod state;
 mod table;
 mod tries;
 
-pub use branching::search;
 pub use deciding::decide;
 pub use found::Found;
+pub use searching::search;

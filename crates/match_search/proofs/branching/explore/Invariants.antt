@@ -1,6 +1,6 @@
 use Rattle.match_search.specs.Progress.{left}
 use Rattle.match_search.proofs.SearchLemmas.{IsSearching}
-use Rattle.match_search.proofs.branching.search.Given as goal
+use Rattle.match_search.proofs.branching.explore.Given as goal
 
 abbrev pub invariant-loop-state : goal.invariant-loop-state
 invariant-loop-state g l =
