@@ -154,6 +154,14 @@ class Bench:
             row["wrong"] = row["wrong"] or "the account: " + accepted.strip()[:100]
         return {**row, "check": round(check_seconds, 4), "bytes": os.path.getsize(account)}
 
+    def write(self, circuit, kinds, folder):
+        """Writes the pairs of a circuit as files, for other programs."""
+        for kind in kinds:
+            pair = self.pair(circuit, kind)
+            if pair is not None:
+                for side, net in zip("ab", pair):
+                    netlists.to_text(net, os.path.join(folder, f"{circuit.name}_{kind}_{side}.aag"))
+
     def rows(self, circuit, done):
         """Measures what is missing of a circuit, and yields a row for each answer."""
         programs = self.choices.programs
@@ -203,6 +211,7 @@ def main():
     words.add_argument("--nets", help="the folder that keeps what Yosys and ABC made")
     words.add_argument("--no-bm", action="store_true", help="without ABC's matcher")
     words.add_argument("--report", action="store_true", help="measure nothing, print what the file of results has")
+    words.add_argument("--write", metavar="FOLDER", help="measure nothing, write the pairs as files into a folder")
     words.add_argument("--markdown", action="store_true", help="print the tables of docs/MEASURED.md")
     choices = words.parse_intermixed_args()
     choices.programs = labelled(choices.release, choices.programs)
@@ -214,6 +223,11 @@ def main():
         of_run = lambda row: row["seed"] == choices.seed and (row["said"] != "late" or row["limit"] >= choices.limit)
         done = {(row["program"], row["circuit"], row["kind"]) for row in rows if of_run(row)}
         bench = Bench(choices, folder)
+        if choices.write:
+            os.makedirs(choices.write, exist_ok=True)
+            for circuit in chosen:
+                bench.write(circuit, choices.kinds, choices.write)
+            sys.exit(0)
         for circuit in [] if choices.report else chosen:
             for row in bench.rows(circuit, done):
                 rows.append(row)

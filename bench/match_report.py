@@ -148,32 +148,35 @@ def compared(rows, one, other, limit):
 
 
 def markdown(rows, program, limit):
-    """The same as tables of docs/MEASURED.md: by family, by how many inputs, by why there is no match, and some circuits."""
+    """The same as tables of docs/MEASURED.md: by family, by how many inputs, by why there is no match, and by circuit."""
     ours = [row for row in rows if row["program"] == program]
-    heads = f"matches 1 s | {limit} s | gate changed 1 s | {limit} s | output replaced 1 s | {limit} s"
+    limits = sorted({1, limit})
+    groups_of = (("matches", MATCHES), ("gate changed", ("gate",)), ("output replaced", ("output",)))
 
     def lines(title, key, part):
-        print(f"\n| {title} | circuits | {heads} |\n|" + "---|" * 8)
+        heads = [f"{word}, {seconds} s" for word, _ in groups_of for seconds in limits]
+        print(f"\n| {title} | circuits | {' | '.join(heads)} |\n|" + "---|" * (2 + len(heads)))
         for word in dict.fromkeys(key(row) for row in part):
             some = [row for row in part if key(row) == word]
-            of = lambda kinds: [row for row in some if row["kind"] in kinds]
-            cells = [share(of(kinds), seconds).replace("/", " of ") for kinds in (MATCHES, ("gate",), ("output",)) for seconds in (1, limit)]
-            print(f"| {word} | {len({row['circuit'] for row in some})} | " + " | ".join(cells) + " |")
+            cells = [share([row for row in some if row["kind"] in kinds], seconds).replace("/", " of ") for _, kinds in groups_of for seconds in limits]
+            print(f"| {word} | {len({row['circuit'] for row in some})} | {' | '.join(cells)} |")
 
     lines("family", lambda row: row["family"], ours)
     lines("inputs", size_of, sorted(ours, key=lambda row: row["inputs"]))
     lines("all", lambda row: "all", ours)
-    print(f"\n| why a near miss has no match | pairs | 1 s | {limit} s |\n|---|---|---|---|")
+    print(f"\n| why a near miss has no match | pairs | {' | '.join(f'{it} s' for it in limits)} |\n|" + "---|" * (2 + len(limits)))
     misses = [row for row in ours if row["kind"] in MISSES]
     for why, words in WHY.items():
         some = [row for row in misses if row["why"] == why]
-        print(f"| {words} | {len(some)} | {sum(is_decided(row, 1) for row in some)} | {sum(is_decided(row, limit) for row in some)} |")
+        print(f"| {words} | {len(some)} | {' | '.join(str(sum(is_decided(row, it) for row in some)) for it in limits)} |")
     at = {(row["program"], row["circuit"], row["kind"]): row for row in rows}
-    print("\n| circuit | inputs | outputs | gates | permuted | `bm` | negated | other architecture | gate changed | `bm` | output replaced |\n|" + "---|" * 11)
+    heads = ("permuted", "`bm`", "negated", "other architecture", "gate changed", "`bm`", "output replaced")
+    places = ((program, "permuted"), ("bm", "permuted"), (program, "negated"), (program, "other"), (program, "gate"), ("bm", "gate"), (program, "output"))
+    print(f"\n| circuit | inputs | outputs | gates | {' | '.join(heads)} |\n|" + "---|" * 11)
     for name in dict.fromkeys(row["circuit"] for row in ours):
         one = next(row for row in ours if row["circuit"] == name)
-        cells = [cell(at.get((of, name, kind))) for of, kind in ((program, "permuted"), ("bm", "permuted"), (program, "negated"), (program, "other"), (program, "gate"), ("bm", "gate"), (program, "output"))]
-        print(f"| {name} | {one['inputs']} | {one['outputs']} | {one['gates']} | " + " | ".join(cells) + " |")
+        cells = [cell(at.get((of, name, kind))) for of, kind in places]
+        print(f"| {name} | {one['inputs']} | {one['outputs']} | {one['gates']} | {' | '.join(cells)} |")
 
 
 def report(rows, programs, limit, in_markdown=False):

@@ -140,19 +140,24 @@ def seem_equal(first, second, rng):
 
 # ---- what matches preserve
 
-def table_of(net, output):
-    """An output's function over the inputs that it depends on, as a number, and these inputs; None where it reaches too many."""
-    part, reached = cone(net, [net[2][output]])
-    if len(reached) > ALL + 2:
-        return None
-    gates, literal = part, net[2][output]
+def tables_over(net, outputs, reached):
+    """The functions of outputs over the inputs that they reach, as numbers."""
     words, every = all_vectors(len(reached))
     value = {0: 0, **{1 + i: words[k] for k, i in enumerate(reached)}}
     read = lambda it: value[it >> 1] ^ (every if it & 1 else 0)
-    for t in gates:
+    for t in cone(net, [net[2][k] for k in outputs])[0]:
         a, b = net[1][t]
         value[1 + net[0] + t] = read(a) & read(b)
-    f, count = read(literal), len(reached)
+    return [read(net[2][k]) for k in outputs]
+
+
+def table_of(net, output):
+    """An output's function over the inputs that it depends on, as a number, and these inputs; None where it reaches too many."""
+    _, reached = cone(net, [net[2][output]])
+    if len(reached) > ALL + 2:
+        return None
+    (f,), count = tables_over(net, [output], reached), len(reached)
+    words, every = all_vectors(count)
     for i in range(count - 1, -1, -1):
         if (f ^ f >> (1 << i)) & (every & ~words[i]) == 0:
             f, count = without(f, i, count), count - 1
@@ -215,6 +220,20 @@ def joint_counts(net):
     return of_outputs, of_inputs
 
 
+def pair_counts(net, changed):
+    """How often the outputs that were changed differ from others that reach inputs of theirs, where both reach few."""
+    cones, found = [set(cone(net, [it])[1]) for it in net[2]], []
+    for k in changed:
+        for l in range(len(net[2])):
+            reached = sorted(cones[k] | cones[l])
+            if l == k or l in changed and l < k or not cones[k] & cones[l] or len(reached) > ALL - 4:
+                continue
+            least = lambda f: min(f.bit_count(), (1 << len(reached)) - f.bit_count()) << ALL - len(reached)
+            f, g = tables_over(net, (k, l), reached)
+            found.append((*sorted((least(f), least(g))), least(f ^ g)))
+    return sorted(found)
+
+
 def sampled(net, output, words, every):
     """The same counts of one output on drawn vectors, evenly drawn: its weight and on how many it changes with each input, sorted."""
     part, reached = cone(net, [net[2][output]])
@@ -252,9 +271,10 @@ def known_apart(first, second, outputs, rng):
     if None not in left and None not in right:
         one, other = ([kept_features(f, len(reached)) for f, reached in side] for side in (left, right))
         found = next((word for word in FEATURES if sorted(it[word] for it in one) != sorted(it[word] for it in other)), "")
-        if not found and first[0] <= ALL and joint_counts(first) != joint_counts(second):
-            return "joint counts"
-        return found
+        if found or first[0] <= ALL:
+            return found or ("joint counts" if joint_counts(first) != joint_counts(second) else "")
+        few = len(outputs) * len(first[2]) <= 4096
+        return "joint counts" if few and pair_counts(first, outputs) != pair_counts(second, outputs) else ""
     if len(outputs) > 8:
         return ""
     words, every = [rng.getrandbits(DRAWN) for _ in range(first[0])], (1 << DRAWN) - 1
