@@ -4,6 +4,7 @@ pub mod DeriveLemmas
 pub mod KeptLemmas
 pub mod AnalysisLemmas
 pub mod ClearLemmas
+pub mod MinimizeLemmas
 pub mod LearnLemmas
 pub mod SearchLemmas
 pub mod SolverLemmas
