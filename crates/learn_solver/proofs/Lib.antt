@@ -15,4 +15,5 @@ pub mod DecisionLemmas
 pub mod GoneLemmas
 pub mod StartLemmas
 pub mod RunLemmas
+pub mod BoundLemmas
 pub mod OrderLemmas
