@@ -166,9 +166,9 @@ derive_away clauses t trail old new q top id steps within low reason away after 
 away_here : (t : Trailing) → IsTrail t → (old new : List Bool) (q top : ℕ) (clause : List SatLit) → q < length t.entries → (entry_at t.entries q).level < t.level → IsAway t old new q clause → here_in t new top ≡ here_in t old top
 away_here t trail old new q top clause within lower away =
     same_count (is_counted t old) (is_counted t new) (take top t.entries) nothing (λ k inside.
-        let short = length-take top t.entries in
-        let there = get_or-take top t.entries k nothing (omega (arith, inside, short)) in
-        ap (is_counted t new) there ∙ (same k (omega (arith, inside, short)) ∙ sym (ap (is_counted t old) there)))
+    let short = length-take top t.entries in
+    let there = get_or-take top t.entries k nothing (omega (arith, inside, short)) in
+    ap (is_counted t new) there ∙ (same k (omega (arith, inside, short)) ∙ sym (ap (is_counted t old) there)))
   where
     same : (k : ℕ) → k < length t.entries → is_counted t new (entry_at t.entries k) ≡ is_counted t old (entry_at t.entries k)
     same k inside = elim (leb_tells (q + 1) k) [
