@@ -18,10 +18,10 @@ use oracle_core::Oracle;
 use query_core::Ledger;
 use std::alloc::Global;
 
-/// Looks for a match of two circuits with as many ports by branching, unless counts of inputs refuse one at once. The ports are
-/// decided one by one, the outputs of whole tables are compared, and a ban is held for each table that is no match and for each
-/// port that has no way left. From a ban it goes back to the last port that the ban needs. Pairs are tried on vectors; another
-/// seed draws other ones.
+/// Looks for a match of two circuits with as many ports, as conflict-driven solvers look for models, unless counts of inputs
+/// refuse one at once. Ports are decided one by one, and what follows of bans and of ports with one way left is held and deleted.
+/// From an impasse a ban is learned that leads as far back as it can, and the outputs of whole tables are compared. Pairs are
+/// tried on vectors; another seed draws other ones. `docs/SEARCH.md` tells how, and why it ends.
 ///
 /// The book's bans are valid in view of the oracle's facts, whatever is answered.
 ///

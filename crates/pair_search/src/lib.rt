@@ -11,6 +11,6 @@ mod units;
 
 pub use back::turn_back;
 pub use impasse::Impasse;
-pub use ports::branch;
+pub use ports::{branch, way_of};
 pub use propagation::propagate;
 pub use queue::Queue;

@@ -76,8 +76,8 @@ pub fn branch(
     Ok(None)
 }
 
-/// A way of a port.
-pub(crate) fn way_of(domains: &Domains, port: Port, number: u64) -> Pair
+/// A way of a port, by its number.
+pub fn way_of(domains: &Domains, port: Port, number: u64) -> Pair
     requires there { port.number < ports_of domains.now.inputs domains.now.outputs port.kind }
     requires below { number < 2 * ports_of domains.now.inputs domains.now.outputs port.kind }
     ensures value { result ≡ nth_way port.side port.kind port.number number }
