@@ -8,6 +8,5 @@ pub mod DifferLemmas
 pub mod ForesightLemmas
 pub mod WeightLemmas
 pub mod ServeLemmas
-pub mod NewestLemmas
 pub mod CompareLemmas
 pub mod SearchLemmas

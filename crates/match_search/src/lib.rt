@@ -6,6 +6,7 @@ mod branching;
 mod candidate;
 mod deciding;
 mod difference;
+mod exchanged;
 mod foresight;
 mod found;
 mod guessed;

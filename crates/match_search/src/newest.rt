@@ -7,6 +7,7 @@ ghost use Rattle.ban_book.specs.Covering.{Covers};
 ghost use Rattle.fact_bans.specs.Serving.{HoldsBans, MayHold};
 ghost use Rattle.port_covers.specs.Held.{AreHeld};
 
+use crate::exchanged::exclude_by_swaps;
 use ban_book::BanBook;
 use circuits::{Pair, PortKind};
 use cnf_core::Stop;
@@ -16,8 +17,8 @@ use oracle_core::Oracle;
 use query_core::Ledger;
 use std::alloc::Global;
 
-/// Holds a ban that decided claims show of the newest held pair, by itself or with another one, and answers its number;
-/// None where none was shown. Such bans have one pair or two, so that what refers to them needs few pairs too.
+/// Holds a ban that decided claims show of the newest held pair, by itself, with another one or with two, and answers its
+/// number; None where none was shown. Bans of fewer pairs come first, so that what refers to them needs few pairs too.
 pub(crate) fn exclude_newest<O: Oracle>(
     alloc: Global,
     graphs: &Graphs<'_>,
@@ -38,7 +39,10 @@ pub(crate) fn exclude_newest<O: Oracle>(
     if let Some(ban) = exclude_alone(alloc, graphs, oracle, newest, seen, book, ledger)? {
         return Ok(Some(ban));
     }
-    exclude_beside(alloc, graphs, oracle, held, newest, seen, book, ledger)
+    if let Some(number) = exclude_beside(alloc, graphs, oracle, held, newest, seen, book, ledger)? {
+        return Ok(Some(number));
+    }
+    exclude_by_swaps(alloc, graphs, oracle, held, newest, seen, book, ledger)
 }
 
 // The last of some pairs.

@@ -1,5 +1,5 @@
 use Rattle.std.proofs.Common.{◌∷◌, []}
-use Rattle.match_search.proofs.NewestLemmas.{all_wider, two_among}
+use Rattle.fact_bans.proofs.WiderLemmas.{all_wider, two_among}
 use Rattle.match_search.proofs.newest.exclude_both.Goals as goal
 
 pub returns-in-Input-Output-clause-covers : goal.returns-in-Input-Output-clause-covers

@@ -1,4 +1,4 @@
--- Bans that are within held pairs.
+-- Bans that are within some pairs are within more.
 use Rattle.std.proofs.Common.{ℕ, List, [], ◌∷◌, get_or, All, Contains, Result, Option, None, Some}
 use Rattle.std.specs.Prelude.{IfOk, IfSome}
 use Rattle.std.proofs.lemmas.Result.{IfOk-weaker}
@@ -20,6 +20,9 @@ one_among pair more is = All-cons (Contains more) pair [] is (All-nil (Contains 
 
 pub two_among : (one other : Pair) (more : List Pair) → Contains more one → Contains more other → All (Contains more) (one ∷ other ∷ [])
 two_among one other more is are = All-cons (Contains more) one (other ∷ []) is (one_among other more are)
+
+pub three_among : (one other third : Pair) (more : List Pair) → Contains more one → Contains more other → Contains more third → All (Contains more) (one ∷ other ∷ third ∷ [])
+three_among one other third more is are too = All-cons (Contains more) one (other ∷ third ∷ []) is (two_among other third more are too)
 
 some_wider : (bans : List Ban) (few more : List Pair) (found : Option ℕ) → All (Contains more) few → IfSome found (Covers bans few) → IfSome found (Covers bans more)
 some_wider bans few more None among is = is
