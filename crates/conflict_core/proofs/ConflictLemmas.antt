@@ -1,6 +1,6 @@
 -- Conflicts, and the covers that they are resolved to.
-use Rattle.std.proofs.Common.{◌≡◌, ◌≢◌, ℕ, ◌+◌, ◌<◌, List, ◌∷◌, ◌++◌, length, get_or, take, All, Contains, Option, None, Some, IfSome, OnOk, Result, Ok, Err, sym, ap, subst, ◌∙◌, inl, inr, arith}
-use Rattle.std.proofs.lemmas.List.{get_or_append_left, get_or_default, length-append, take_more}
+use Rattle.std.proofs.Common.{◌≡◌, ◌≢◌, ℕ, ◌+◌, ◌<◌, List, ◌∷◌, length, get_or, take, All, Contains, Option, None, Some, IfSome, OnOk, Result, Ok, Err, sym, ap, subst, ◌∙◌, inl, inr, arith}
+use Rattle.std.proofs.lemmas.List.{get_or_default, take_more}
 use Rattle.std.proofs.lemmas.Option.{same_Some}
 use Rattle.std.proofs.lemmas.List.Elements.{All-contains, All-push, All-weaker}
 use Rattle.circuits.specs.declared.port.Pair.{Pair}
@@ -9,7 +9,7 @@ use Rattle.circuits.specs.declared.port.PortKind.TheVariants.{Input, Output}
 use Rattle.net_core.specs.Sides.{Graphs}
 use Rattle.account_core.specs.declared.step.Ban.{Ban}
 use Rattle.account_core.specs.Ports.{ports_in, IsKnown}
-use Rattle.ban_book.specs.Covering.{Covers, IsWithin}
+use Rattle.ban_book.specs.Covering.{Covers}
 use Rattle.port_covers.specs.Held.{IsPart}
 use Rattle.port_covers.proofs.ListLemmas.{cons_more}
 use Rattle.class_refine.specs.Trails.{IsPairOf, ports_of}

@@ -3,6 +3,8 @@ pub mod ListLemmas
 pub mod FactLemmas
 pub mod TallyLemmas
 pub mod MismatchLemmas
+pub mod MismatchedLemmas
 pub mod HoldingLemmas
 pub mod ReferLemmas
 pub mod RefusalLemmas
+pub mod WiderLemmas

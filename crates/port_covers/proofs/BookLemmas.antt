@@ -1,8 +1,7 @@
 -- What a book of bans holds.
-use Rattle.std.proofs.Common.{◌≡◌, ℕ, ◌+◌, ◌<◌, List, [], ◌∷◌, ◌++◌, length, take, get_or, All, Option, None, Some, sym, ap, subst, ◌∙◌, inl, inr, arith}
+use Rattle.std.proofs.Common.{◌≡◌, ℕ, ◌+◌, ◌<◌, List, [], ◌∷◌, ◌++◌, length, get_or, All, Option, None, Some, sym, ap, subst, ◌∙◌, arith}
 use Rattle.std.specs.List.{range_with_len}
-use Rattle.std.proofs.lemmas.Bool.{cases_lt}
-use Rattle.std.proofs.lemmas.List.{append-nil, append_assoc, take_all, take-append-le, get_or_append_left, get_or_push, length_push, length-append, length-map}
+use Rattle.std.proofs.lemmas.List.{append-nil, append_assoc, length-map}
 use Rattle.std.proofs.lemmas.List.Elements.{All-contains, All-cons, All-nil}
 use Rattle.std.proofs.lemmas.List.FromFn.{length-range_with_len, get_or-range_with_len}
 use Rattle.circuits.specs.declared.port.Pair.{Pair}
@@ -17,7 +16,7 @@ use Rattle.account_core.specs.Ports.{ports_in, AreOrdered, HaveAsMany, IsKnown}
 use Rattle.account_core.specs.Given.{Decided, given_of}
 use Rattle.account_core.specs.Covers.{IsReference}
 use Rattle.account_core.specs.Steps.{AreValidBans, IsValidBan}
-use Rattle.ban_book.specs.Covering.{Covers, IsWithin}
+use Rattle.ban_book.specs.Covering.{Covers}
 pub use Rattle.ban_book.proofs.BookLemmas.{covers_last}
 use Rattle.ban_book.proofs.BookLemmas.{covers_later, valid_push}
 use Rattle.port_covers.specs.declared.level.Level.{Level}
