@@ -112,7 +112,7 @@ fn turn<O: Oracle>(
         Ahead::Impasse(impasse) => impasse,
     };
     let refusal = turn_back(alloc, graphs, domains, queue, impasse, book)?;
-    guide.asked = guide.asked.min(domains.pairs().len());
+    guide.forget(domains.pairs().len());
     match refusal {
         None => Ok(None),
         Some(ban) => Ok(Some(Found::None(ban))),

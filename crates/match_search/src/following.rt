@@ -8,6 +8,7 @@ ghost use Rattle.pair_search.specs.Progress.{IsTrail, left};
 ghost use Rattle.table_guess.specs.Trials.{AreTrials};
 
 use crate::asking::{ask_of, ask_output};
+use crate::exchanged::exclude_by_swaps;
 use crate::foresight::foresee;
 use crate::guide::Guide;
 use ban_book::BanBook;
@@ -42,11 +43,72 @@ pub(crate) fn follow<O: Oracle>(
     ensures impasse { IfOk result (λ found. IfSome found
         (IsImpasse domains.new.inputs domains.new.outputs book.new domains.new.entries)) }
 {
-    if let Some(impasse) = settle(alloc, graphs, oracle, guide, domains, queue, book, ledger)? {
+    if let Some(impasse) = settle_all(alloc, graphs, oracle, guide, domains, queue, book, ledger)? {
         return Ok(Some(impasse));
     }
     let found = foresee_held(alloc, graphs, &guide.trials, domains, book)?;
     Ok(found)
+}
+
+// Holds and deletes what follows of bans and of claims, those of one input first, which are fewer and whose bans are shorter.
+fn settle_all<O: Oracle>(
+    alloc: Global,
+    graphs: &Graphs<'_>,
+    oracle: &mut O,
+    guide: &mut Guide,
+    domains: &mut Domains,
+    queue: &mut Queue,
+    book: &mut BanBook,
+    ledger: &mut Ledger,
+) -> Result<Option<Impasse>, Stop>
+    requires may { MayHold graphs.now (O.known oracle.old) ledger.old book.old }
+    requires trail { IsTrail graphs.now book.old domains.old }
+    requires trials { AreTrials graphs.now.first guide.old.trials }
+    ensures holds { HoldsBans graphs.now (O.known oracle.old) (O.known oracle.new) ledger.old ledger.new book.old book.new result }
+    ensures trials { OnOk result (AreTrials graphs.now.first guide.new.trials) }
+    ensures trail { OnOk result (IsTrail graphs.now book.new domains.new) }
+    ensures less { OnOk result (left domains.new ≤ left domains.old) }
+    ensures impasse { IfOk result (λ found. IfSome found
+        (IsImpasse domains.new.inputs domains.new.outputs book.new domains.new.entries)) }
+{
+    if let Some(impasse) = settle(alloc, graphs, oracle, guide, domains, queue, book, ledger)? {
+        return Ok(Some(impasse));
+    }
+    let found = exchange_held(alloc, graphs, oracle, guide, domains, book, ledger)?;
+    Ok(found)
+}
+
+// Holds each held pair that wasn't yet against claims of two inputs, beside all others.
+fn exchange_held<O: Oracle>(
+    alloc: Global,
+    graphs: &Graphs<'_>,
+    oracle: &mut O,
+    guide: &mut Guide,
+    domains: &Domains,
+    book: &mut BanBook,
+    ledger: &mut Ledger,
+) -> Result<Option<Impasse>, Stop>
+    requires may { MayHold graphs.now (O.known oracle.old) ledger.old book.old }
+    requires trail { IsTrail graphs.now book.old domains.now }
+    ensures holds { HoldsBans graphs.now (O.known oracle.old) (O.known oracle.new) ledger.old ledger.new book.old book.new result }
+    ensures trials { guide.new.trials ≡ guide.old.trials }
+    ensures impasse { IfOk result (λ found. IfSome found
+        (IsImpasse domains.now.inputs domains.now.outputs book.new domains.now.entries)) }
+{
+    let _lawful = domains.entries();
+    let held = domains.pairs();
+    for place in guide.exchanged..held.len() {
+        let newest = held[place];
+        guide.exchanged = place;
+        let seen = &mut guide.seen;
+        if let Some(ban) = exclude_by_swaps(
+            alloc, graphs, oracle, held, newest, seen, book, ledger,
+        )? {
+            return Ok(Some(Impasse::Ban(ban)));
+        }
+    }
+    guide.exchanged = held.len();
+    Ok(None)
 }
 
 // Holds and deletes what follows of bans, and has claims decided of each output and of each held pair, whose bans come to them.

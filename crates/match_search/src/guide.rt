@@ -23,8 +23,9 @@ pub(crate) struct Guide {
     /// The outputs of the first circuit whose tallies are held at first, in that order, and how many have been.
     order: Vec<u32>,
     tallied: usize,
-    /// How many of the held pairs were held against claims.
+    /// How many of the held pairs were held against claims of one input, and how many against claims of two.
     pub(crate) asked: usize,
+    pub(crate) exchanged: usize,
 }
 
 impl Guide {
@@ -43,7 +44,16 @@ impl Guide {
             order,
             tallied: 0,
             asked: 0,
+            exchanged: 0,
         })
+    }
+
+    /// Notes that only so many pairs are held now, the earliest ones.
+    pub(crate) fn forget(&mut self, held: usize)
+        ensures { self.new.trials ≡ self.old.trials }
+    {
+        self.asked = self.asked.min(held);
+        self.exchanged = self.exchanged.min(held);
     }
 
     /// The next output of the first circuit whose tallies are to be held, one of n outputs.

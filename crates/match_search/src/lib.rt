@@ -7,6 +7,7 @@ mod branching;
 mod candidate;
 mod deciding;
 mod difference;
+mod exchanged;
 mod fewest;
 mod following;
 mod foresight;
