@@ -15,3 +15,4 @@ pub mod GoneLemmas
 pub mod StartLemmas
 pub mod RunLemmas
 pub mod OrderLemmas
+pub mod PursuitLemmas
