@@ -1,5 +1,5 @@
 -- A query's answer is that of a solver for the clauses of its cones.
-use Rattle.std.proofs.Common.{Bool, List, refl, sym, ap, subst, ◌∙◌}
+use Rattle.std.proofs.Common.{Bool, List, sym, ap, subst, ◌∙◌}
 use Rattle.cnf_core.specs.Clauses.{Formula}
 use Rattle.cnf_core.specs.Derivations.{IsRefutation}
 use Rattle.learn_solver.specs.declared.verdict.Verdict.{Verdict}
