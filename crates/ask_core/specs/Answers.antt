@@ -1,5 +1,5 @@
 -- What an answer to a query says, and what the ledger says of it.
-use Rattle.std.specs.Prelude.{◌≡◌, ℕ, ◌+◌, ◌<◌, ◌≤◌, Bool, true, false, List, length, take, All, None, slice_index_or}
+use Rattle.std.specs.Prelude.{◌≡◌, ℕ, ◌+◌, ◌^◌, ◌<◌, ◌≤◌, Bool, true, false, List, length, take, All, None, slice_index_or}
 use Rattle.cnf_core.specs.declared.log.LogLine.{LogLine}
 use Rattle.cnf_core.specs.declared.stop.Stop.{Stop}
 use Rattle.cnf_core.specs.declared.stop.Stop.TheVariants.{Spent, Memory}
@@ -11,7 +11,7 @@ use Rattle.query_core.specs.declared.query.Query.{Query}
 use Rattle.query_core.specs.Queries.{MeetsQuery, bits_in}
 use Rattle.query_core.specs.Formulas.{formula_of}
 use Rattle.query_core.specs.ConeClauses.{AllOfCones}
-use Rattle.query_core.specs.Ledgers.{Ledgered, last_asked, learned_in, lines_in, opened, with_lines}
+use Rattle.query_core.specs.Ledgers.{Ledgered, charged_in, last_asked, learned_in, lines_in, opened, with_lines}
 use Rattle.ask_core.specs.declared.question.Answer.{Answer}
 use Rattle.ask_core.specs.declared.question.Answer.TheVariants.{Vector, Refuted}
 
@@ -63,3 +63,13 @@ pub record IsSpentOn (graphs : Graphs) (query : Query) (old new : Ledgered) (lea
 abbrev pub IsStopped : Graphs → Query → Ledgered → Ledgered → Stop → Type 0
 IsStopped graphs query old new (Spent learned) = IsSpentOn graphs query old new learned
 IsStopped graphs query old new Memory = Unit {0}
+
+-- at most 3^n lines were learned for the last entry, a refused one counted, over the n variables of a query's formula: as
+-- many as there are clauses in which each of them stands plain, stands negated or doesn't stand
+abbrev pub IsBounded : Graphs → Query → Ledgered → Type 0
+IsBounded graphs query ledger = charged_in (last_asked ledger.asked) ≤ 3 ^ (formula_of graphs query).variables
+
+-- so it is where the budget is spent
+abbrev pub IsBoundedStop : Graphs → Query → Ledgered → Stop → Type 0
+IsBoundedStop graphs query ledger (Spent learned) = IsBounded graphs query ledger
+IsBoundedStop graphs query ledger Memory = Unit {0}

@@ -5,7 +5,7 @@ ghost use Rattle.query_core.specs.Formulas.{formula_of, query_clauses};
 ghost use Rattle.query_core.specs.ConeClauses.{IsConeId};
 ghost use Rattle.query_core.specs.Queries.{IsQuery};
 ghost use Rattle.joint_hash.specs.Merging.{AreLemmas};
-ghost use Rattle.ask_core.specs.Answers.{IsAnswer, IsAskedIn, IsPaidFor, IsStopped};
+ghost use Rattle.ask_core.specs.Answers.{IsAnswer, IsAskedIn, IsBounded, IsBoundedStop, IsPaidFor, IsStopped};
 
 use crate::guiding::GatePairs;
 use crate::vector::vector_of;
@@ -30,7 +30,7 @@ pub enum Answer {
 /// one, and, where it isn't answered soon, after looking at gates that seem to be equal. The ledger gets an entry for it, in place of a last one for which nothing was learned: the lemmas, which
 /// cost nothing, then one line for each conflict. A log that refutes has these lines. Spent comes at a conflict that is
 /// met with the budget spent; its line is kept as the refused one. When out of memory, nothing is said of the last
-/// entry.
+/// entry. One call learns at most 3^n lines over the n variables of the query's clauses.
 pub fn ask(
     alloc: Global,
     graphs: &Graphs<'_>,
@@ -44,6 +44,8 @@ pub fn ask(
     ensures paid_for { IfOk result (IsPaidFor ledger.new) }
     ensures not_spent { IfOk result (λ _. ledger.new.spent ≡ false) }
     ensures stop { IfErr result (IsStopped graphs.now query.now ledger.old ledger.new) }
+    ensures bounded { IfOk result (λ _. IsBounded graphs.now query.now ledger.new) }
+    ensures bounded_stop { IfErr result (IsBoundedStop graphs.now query.now ledger.new) }
 {
     let base = QueryBase::new(alloc, graphs, query)?;
     let ids = cone_ids(alloc, &base)?;

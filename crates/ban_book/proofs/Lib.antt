@@ -1,1 +1,2 @@
 pub mod ContainsLemmas
+pub mod BookLemmas

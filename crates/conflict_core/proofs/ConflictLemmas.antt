@@ -1,6 +1,6 @@
 -- Conflicts, and the covers that they are resolved to.
-use Rattle.std.proofs.Common.{◌≡◌, ◌≢◌, ℕ, ◌+◌, ◌<◌, List, ◌∷◌, ◌++◌, length, get_or, take, All, Contains, Option, None, Some, IfSome, OnOk, Result, Ok, Err, sym, ap, subst, ◌∙◌, inl, inr, arith}
-use Rattle.std.proofs.lemmas.List.{get_or_append_left, get_or_default, length-append, take_more}
+use Rattle.std.proofs.Common.{◌≡◌, ◌≢◌, ℕ, ◌+◌, ◌<◌, List, ◌∷◌, length, get_or, take, All, Contains, Option, None, Some, IfSome, OnOk, Result, Ok, Err, sym, ap, subst, ◌∙◌, inl, inr, arith}
+use Rattle.std.proofs.lemmas.List.{get_or_default, take_more}
 use Rattle.std.proofs.lemmas.Option.{same_Some}
 use Rattle.std.proofs.lemmas.List.Elements.{All-contains, All-push, All-weaker}
 use Rattle.circuits.specs.declared.port.Pair.{Pair}
@@ -9,7 +9,7 @@ use Rattle.circuits.specs.declared.port.PortKind.TheVariants.{Input, Output}
 use Rattle.net_core.specs.Sides.{Graphs}
 use Rattle.account_core.specs.declared.step.Ban.{Ban}
 use Rattle.account_core.specs.Ports.{ports_in, IsKnown}
-use Rattle.ban_book.specs.Covering.{Covers, IsWithin}
+use Rattle.ban_book.specs.Covering.{Covers}
 use Rattle.port_covers.specs.Held.{IsPart}
 use Rattle.port_covers.proofs.ListLemmas.{cons_more}
 use Rattle.class_refine.specs.Trails.{IsPairOf, ports_of}
@@ -78,13 +78,6 @@ pub known_of : (graphs : Graphs) (n m : ℕ) (pair : Pair) → FitPorts graphs n
 known_of graphs n m pair fit is = record {
   from = omega (arith, is.from, first_ports graphs n m pair.kind fit);
   to = omega (arith, is.to, second_ports graphs n m pair.kind fit);
-}
-
--- a ban that is among more bans
-pub covers_later : (before added after : List Ban) (pairs : List Pair) (number : ℕ) → after ≡ before ++ added → Covers before pairs number → Covers after pairs number
-covers_later before added after pairs number more is = record {
-  held = omega (arith, is.held, ap length more, length-append before added);
-  within = λ d. subst (IsWithin pairs) (sym (ap (λ l. get_or l number d) more ∙ get_or_append_left before added d number is.held)) (is.within d);
 }
 
 -- Some of the held pairs, among them the first of others.

@@ -17,7 +17,7 @@ use Rattle.class_refine.specs.Trails.{IsDeleted, held_in, is_held, ports_of}
 use Rattle.conflict_core.specs.Named.{AreNamed, EachWay, IsLeftOutOr, IsNamedIn, deleted}
 use Rattle.conflict_core.specs.Justified.{AreJustified, IsJustified, port_of}
 use Rattle.conflict_core.proofs.NamedLemmas.{named_more}
-use Rattle.conflict_core.proofs.ConflictLemmas.{covers_later}
+use Rattle.ban_book.proofs.BookLemmas.{covers_later}
 
 pub held_append : (xs ys : List Entry) → held_in (xs ++ ys) ≡ held_in xs ++ held_in ys
 held_append xs ys =

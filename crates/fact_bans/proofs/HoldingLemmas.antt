@@ -9,7 +9,7 @@ use Rattle.account_core.specs.Facts.{AreFacts}
 use Rattle.account_core.specs.Given.{decided_by, given_of}
 use Rattle.account_core.specs.Steps.{AreValidBans, IsValidBan}
 use Rattle.oracle_core.specs.Oracles.{Known, Serves}
-use Rattle.fact_bans.proofs.HoldLemmas.{valid_push}
+use Rattle.ban_book.proofs.BookLemmas.{valid_push}
 use Rattle.fact_bans.specs.Serving.{AreValid, HasServed, HoldsBans, MayHold, OnlyAdds}
 use Rattle.fact_bans.proofs.ServeLemmas.{served_one, served_same, served_then, serves_err, serves_ok, serves_last, serves_memory, valid_grows}
 

@@ -1,5 +1,5 @@
 -- Lists that grow at their end.
-use Rattle.std.proofs.Common.{◌≡◌, ℕ, suc, ◌+◌, ◌<◌, List, [], ◌∷◌, ◌++◌, length, All, refl, sym, ap, ◌∙◌, append_assoc, append-nil, arith}
+use Rattle.std.proofs.Common.{◌≡◌, ℕ, suc, ◌+◌, ◌<◌, List, [], ◌∷◌, ◌++◌, length, All, refl, sym, ap, ◌∙◌, subst, append_assoc, append-nil, arith}
 use Rattle.std.specs.List.{AllZip, flat_map}
 use Rattle.std.proofs.lemmas.List.Elements.{All-push}
 use Rattle.std.proofs.lemmas.List.Quantifiers.{all_pairs_push}
@@ -30,3 +30,18 @@ below_push numbers next below = All-push (λ number. number < next + 1) numbers 
 
 pub below_more : (numbers : List ℕ) (next : ℕ) → All (λ number. number < next) numbers → All (λ number. number < next + 1) numbers
 below_more numbers next below k d within = omega (arith, below k d within)
+
+pub ascend_after : (numbers after : List ℕ) (next : ℕ) → Ascend numbers → All (λ number. number < next) numbers → after ≡ numbers ++ next ∷ [] → Ascend after
+ascend_after numbers after next ascend below is = subst Ascend (sym is) (ascend_push numbers next ascend below)
+
+pub below_after : (numbers after : List ℕ) (next : ℕ) → All (λ number. number < next) numbers → after ≡ numbers ++ next ∷ [] → All (λ number. number < next + 1) after
+below_after numbers after next below is = subst (All (λ number. number < next + 1)) (sym is) (below_push numbers next below)
+
+pub marked_none : (numbers : List ℕ) → numbers ≡ [] → Ascend numbers × All (λ number. number < 0) numbers
+marked_none numbers none = subst (λ l. Ascend l × All (λ number. number < 0) l) (sym none) (λ i j d less below. absurd (omega (arith, below)), λ k d below. absurd (omega (arith, below)))
+
+pub zip_map : {A B : Type 0} (R S : A → B → Type 0) (xs : List A) (ys : List B) → ((x : A) (y : B) → R x y → S x y) → AllZip R xs ys → AllZip S xs ys
+zip_map R S [] [] then are = tt
+zip_map R S [] (y ∷ ys) then are = absurd are
+zip_map R S (x ∷ xs) [] then are = absurd are
+zip_map R S (x ∷ xs) (y ∷ ys) then are = (then x y are.0, zip_map R S xs ys then are.1)

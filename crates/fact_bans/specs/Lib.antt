@@ -1,6 +1,7 @@
 pub mod Serving
 pub mod Listed
 pub mod Mismatched
+pub mod Referred
 pub use Rattle.account_core.specs.Steps
 pub use Rattle.account_core.specs.Shown
 pub use Rattle.account_core.specs.Facts

@@ -1,5 +1,5 @@
 -- Bans that facts show, whatever bans stand before them.
-use Rattle.std.specs.Prelude.{◌≡◌, ℕ, Bool, true, false, List, [], ◌∷◌}
+use Rattle.std.specs.Prelude.{◌≡◌, ℕ, Bool, true, false, List}
 use Rattle.circuits.specs.declared.port.Pair.{Pair}
 use Rattle.net_core.specs.Sides.{Graphs}
 use Rattle.account_core.specs.declared.step.Ban.{Ban}
@@ -18,5 +18,5 @@ abbrev pub mismatch_step : Bool → ℕ → ℕ → Step
 mismatch_step true one other = step.Mismatch other one
 mismatch_step false one other = step.Mismatch one other
 
-abbrev pub mismatch_of : Pair → Pair → Bool → ℕ → ℕ → Ban
-mismatch_of input output holds one other = record { pairs = input ∷ output ∷ []; step = mismatch_step holds one other }
+abbrev pub mismatch_of : List Pair → Bool → ℕ → ℕ → Ban
+mismatch_of pairs holds one other = record { pairs = pairs; step = mismatch_step holds one other }

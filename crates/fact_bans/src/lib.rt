@@ -1,15 +1,22 @@
 //! Bans that follow from decided claims.
 #![tactic(auto)]
 
+mod classes;
+mod exchanges;
 mod lists;
+mod mismatched;
 mod mismatches;
 mod plan;
 mod ports;
+mod refusal;
 mod sampling;
 mod seen;
+mod swaps;
 mod tallies;
 mod told;
 
+pub use exchanges::swap_mismatch;
 pub use mismatches::mismatch;
+pub use refusal::refuse;
 pub use seen::Seen;
 pub use tallies::tally;

@@ -144,8 +144,8 @@ pub(crate) fn list_both<O: Oracle>(
     Ok(Some(numbers))
 }
 
-// Whether there is a mark at a place.
-fn mark_at(marks: &[bool], input: u32) -> bool {
+/// Whether there is a mark at a place.
+pub(crate) fn mark_at(marks: &[bool], input: u32) -> bool {
     match marks.get(input as usize) {
         Some(mark) => *mark,
         None => false,

@@ -3,7 +3,7 @@
 ghost use Rattle.std.specs.Prelude.{◌≡◌};
 ghost use Rattle.account_core.specs.Ports.{ports_in};
 ghost use Rattle.account_core.specs.Tallies.{other_side, port_on};
-ghost use Rattle.query_core.specs.Images.{one_input};
+ghost use Rattle.query_core.specs.Images.{moved_value, one_input, two_inputs};
 
 use circuits::Pair;
 use net_core::Side;
@@ -38,4 +38,32 @@ pub(crate) fn one_input(input: u32, value: bool) -> Shape
     } else {
         Shape::Up(input)
     }
+}
+
+/// The shape of two inputs with values, the lesser one first.
+pub(crate) fn two_inputs(one: u32, one_value: bool, other: u32, other_value: bool) -> Shape
+    ensures { result ≡ two_inputs one one_value other other_value }
+{
+    if one < other {
+        Shape::Swap {
+            i: one,
+            j: other,
+            a: one_value,
+            b: other_value,
+        }
+    } else {
+        Shape::Swap {
+            i: other,
+            j: one,
+            a: other_value,
+            b: one_value,
+        }
+    }
+}
+
+/// The value that an input has at its place, of the opposite ones where values are exchanged, as an inverted output does.
+pub(crate) fn moved_value(exchanged: bool, input: Pair, value: bool) -> bool
+    ensures { result ≡ moved_value exchanged input value }
+{
+    (value != input.flip) != exchanged
 }

@@ -2,7 +2,7 @@
 
 use account_core::Tallied;
 use cell_splits::Draws;
-use flip_sim::{FlipSim, all_lanes, blocks_of_all};
+use flip_sim::{FlipSim, Lanes, all_lanes, blocks_of_all};
 use net_core::Graph;
 use port_cells::{Counts, Influence, Tally};
 use std::alloc::{AllocError, Global};
@@ -130,16 +130,23 @@ fn counted(alloc: Global, simulator: &mut FlipSim<'_>, seed: u64) -> Result<Coun
     tally.counts(alloc)
 }
 
-// Gives the inputs a block of all vectors, or a drawn one.
-fn put_block(simulator: &mut FlipSim<'_>, block: u64, is_all: bool, draws: &mut Draws) {
+/// Gives the inputs a block of all vectors, or a drawn one.
+pub(crate) fn put_block(simulator: &mut FlipSim<'_>, block: u64, is_all: bool, draws: &mut Draws) {
     for input in 0..simulator.graph().inputs() {
         let lanes = if is_all {
             all_lanes(input, block)
         } else {
-            draws.lanes()
+            drawn(draws)
         };
         simulator.set_input(input, lanes);
     }
+}
+
+// Half of the vectors even ones, a quarter mostly 0 and a quarter mostly 1: wide gates tell their inputs only by these.
+fn drawn(draws: &mut Draws) -> Lanes {
+    let sparse = draws.word() & draws.word() & draws.word();
+    let dense = draws.word() | draws.word() | draws.word();
+    Lanes::from_array([draws.word(), draws.word(), sparse, dense])
 }
 
 // Marks the claims that vectors break: where the output differs from an input and follows it, it falls as the input goes up;

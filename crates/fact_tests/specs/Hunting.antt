@@ -1,16 +1,13 @@
--- Vectors that were seen to break claims of a circuit's outputs.
-use Rattle.std.specs.Prelude.{◌≡◌, ℕ, List, Option, None, Some, length}
-use Rattle.circuits.specs.Literals.{EachAt}
+-- What is seen of a group of a circuit's outputs.
+use Rattle.std.specs.Prelude.{◌≡◌, ℕ, Option, None, Some}
 use Rattle.circuits.specs.Netlists.{Net}
-use Rattle.sim_signature.specs.Sightings.{AreBroken}
-use Rattle.fact_tests.specs.declared.sightings.Seen.{Seen}
+use Rattle.sim_signature.specs.Signatures.{Covers, Signed}
 
--- what was seen of an output breaks its claims
-abbrev pub IsSeen : Net → ℕ → Option Seen → Type 0
-IsSeen net k None = Unit {0}
-IsSeen net k (Some seen) = AreBroken net k seen.sightings.items
+-- signatures of a circuit, of an output and others
+abbrev pub IsGroup : Net → ℕ → Signed → Type 0
+IsGroup net output group = (group.net ≡ net) × Covers group output
 
--- An entry for each output.
-pub record AreSeen (net : Net) (outputs : List (Option Seen)) : Type 0 where
-  pub count : length outputs ≡ length net.outputs
-  pub each : EachAt (IsSeen net) outputs
+-- signatures are of this circuit
+abbrev pub AreHeld : Net → Option Signed → Type 0
+AreHeld net None = Unit {0}
+AreHeld net (Some group) = group.net ≡ net

@@ -37,7 +37,7 @@ impl<'a> Source<'a> {
     {
         Ok(Source {
             supports: Supports::new(alloc, graph)?,
-            sightings: Sightings::new(alloc, graph, seed)?,
+            sightings: Sightings::new(graph, seed),
         })
     }
 }
@@ -129,7 +129,7 @@ fn decide(
     }
     match source
         .sightings
-        .vector_of(alloc, claim.output, &claim.shape)?
+        .vector_of(alloc, claim.output, claim.shape)?
     {
         Some(vector) => Ok(Evidence::Fails(vector)),
         None => by_asking(alloc, graphs, claim, ledger),

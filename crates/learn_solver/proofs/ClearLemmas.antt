@@ -25,7 +25,7 @@ pub record IsClearing (trail : Trailing) (marked : List Bool) (count : ℕ) : Ty
   pub on_trail : AreOnTrail trail.entries marked
   pub cleared : (j : ℕ) → j < count → bit marked (variable_of (entry_at trail.entries j).literal) ≡ false
 
-unset_on_trail : (es : List Assigned) (marked : List Bool) (v : ℕ) → v < length marked → AreOnTrail es marked → AreOnTrail es (slice_set marked v false)
+pub unset_on_trail : (es : List Assigned) (marked : List Bool) (v : ℕ) → v < length marked → AreOnTrail es marked → AreOnTrail es (slice_set marked v false)
 unset_on_trail es marked v known before w was = elim (cases_eq w v) [
   | inl same ↦ absurd (false≢true (sym (ap (bit (slice_set marked v false)) same ∙ get_or-set_same marked v false false known) ∙ was))
   | inr other ↦ before w (sym (get_or-set_other marked v w false false other) ∙ was)

@@ -52,7 +52,7 @@ derive_conflict clauses es marked id there conflict are_marked made between =
         false_between es marked (length es) (length es) made (slice_index_or c k nothing_there) (omega arith) between (are_marked k nothing_there within) (ap (λ m. is_false m (slice_index_or c k nothing_there)) (before_whole es) ∙ falsity)
 
 -- what is true with one literal more
-true_more : (made : List SatLit) (l m : SatLit) → is_true (made ++ l ∷ []) m ≡ (is_true made m || (is_same m l || false))
+pub true_more : (made : List SatLit) (l m : SatLit) → is_true (made ++ l ∷ []) m ≡ (is_true made m || (is_same m l || false))
 true_more made l m = list_any-append (is_same m) made (l ∷ [])
 
 -- a marked literal gives way to the other literals of its reason

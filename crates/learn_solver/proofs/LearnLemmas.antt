@@ -12,17 +12,17 @@ use Rattle.cnf_core.specs.Derivations.{effect_of, hint_fault, is_empty, is_false
 use Rattle.trail_core.specs.declared.assigned.Assigned.{Assigned}
 use Rattle.trail_core.specs.Trails.{IsTrail, Trailing, entry_at}
 use Rattle.watch_lists.specs.Propagations.{IsJustified, IsSound, before}
-use Rattle.learn_solver.specs.Analyses.{IsAnalysed, IsBackLevel, IsBetween, IsLearnedAs, has_all, here_in, is_marked, kept_here, kept_literals}
+use Rattle.learn_solver.specs.Analyses.{IsBackLevel, IsLearnedAs, IsLeft, IsReduced, has_all, here_in, is_marked, kept_here, kept_literals}
 use Rattle.watch_lists.proofs.EffectLemmas.{neither_two, not_neither, same_itself}
 use Rattle.learn_solver.proofs.KeptLemmas.{kept_at, kept_there, learned_at, no_literal, opposite_there, opposites_twice}
 use Rattle.watch_lists.proofs.GrowLemmas.{low_level}
 use Rattle.learn_solver.proofs.PlaceLemmas.{IsHere, ascend, counted_here, decision_level, decision_raises, found_here, last_decision, only_here, opposite_twice, same_place, stands, true_before, variable_of-opposite}
 
 -- all marked literals that are left, and no others, are true where the clause is negated
-kept_between : (es : List Assigned) (marked : List Bool) (p : ℕ) → IsBetween es marked p (kept_literals es marked p)
-kept_between es marked p = record {
+kept_left : (es : List Assigned) (marked : List Bool) (p : ℕ) → IsLeft es marked 0 p (kept_literals es marked p)
+kept_left es marked p = record {
   needed = λ k early within was. kept_there es marked p k early within was;
-  within = λ l e. let k = kept_at es marked p l e in ap (is_true (before es p)) (sym k.is) ∙ true_before es p k.at k.early k.within;
+  within = λ l e. inr e;
 }
 
 -- a literal of a list is found in it
@@ -76,11 +76,10 @@ pub record IsDone (clauses : List (List SatLit)) (t : Trailing) (marked : List B
   pub trail : IsTrail t
   pub sound : IsSound clauses t
   pub filled : All (λ clause. is_empty clause ≡ false) clauses
-  pub analysed : IsAnalysed clauses t marked p here steps
-  pub few : here ≤ kept_here t.level
+  pub reduced : IsReduced clauses t marked p here steps 0
 
 few_here : (clauses : List (List SatLit)) (t : Trailing) (marked : List Bool) (p here : ℕ) (steps : List ℕ) → IsDone clauses t marked p here steps → here_in t marked p ≤ 1
-few_here clauses t marked p here steps is = omega (arith, is.few, is.analysed.count, at_most (t.level == 0))
+few_here clauses t marked p here steps is = omega (arith, is.reduced.few, is.reduced.count, at_most (t.level == 0))
   where
     at_most : (b : Bool) → cond b 0 1 ≤ 1
     at_most true = omega arith
@@ -93,14 +92,14 @@ closing clauses t marked p here steps is lowest = ap (map opposite) (none_found 
     let level : (entry_at t.entries k.at).level ≡ t.level = omega (arith, low_level t is.trail k.at k.within, lowest) in
     let some = counted_here t marked p k.at k.early k.within k.marked_there level in
     let none : kept_here t.level ≡ 0 = ap (λ b. cond {A = ℕ} b 0 1) (eq-eqb t.level 0 lowest) in
-    omega (arith, some, is.few, is.analysed.count, none)))
+    omega (arith, some, is.reduced.few, is.reduced.count, none)))
 
 -- no clause has all its literals in what is learned
 fresh_above : (clauses : List (List SatLit)) (t : Trailing) (marked : List Bool) (p here : ℕ) (steps : List ℕ) → IsDone clauses t marked p here steps → 0 < t.level → (id : ℕ) (d : List SatLit) → id < length clauses → has_all (map opposite (kept_literals t.entries marked p)) (slice_index_or clauses id d) ≡ true → ⊥
 fresh_above clauses t marked p here steps is above id d there all =
     let es = t.entries in
     let s = last_decision t is.trail above in
-    let u = found_here t marked p (omega (arith, is.analysed.count, is.analysed.present above)) in
+    let u = found_here t marked p (omega (arith, is.reduced.count, is.reduced.present above)) in
     let quiet = subst (λ r. IsJustified clauses (before es s.at) (entry_at es s.at).literal r) s.decision (is.sound.justified s.at s.within) in
     let one = opposite (entry_at es u.at).literal in
     let late : s.at ≤ u.at = elim (leb_tells s.at u.at) [
@@ -143,8 +142,8 @@ not_single : (clauses : List (List SatLit)) (t : Trailing) (marked : List Bool) 
 not_single clauses t marked p here level steps is back k within decision low =
     let es = t.entries in
     let w = back.reached (omega (arith, decision_level t is.trail k within decision, low)) in
-    let inside : w.at < length es = omega (arith, w.early, is.analysed.within) in
-    let u = found_here t marked p (omega (arith, is.analysed.count, is.analysed.present (omega (arith, w.below)))) in
+    let inside : w.at < length es = omega (arith, w.early, is.reduced.within) in
+    let u = found_here t marked p (omega (arith, is.reduced.count, is.reduced.present (omega (arith, w.below)))) in
     let a = (entry_at es u.at).literal in
     let b = (entry_at es w.at).literal in
     let differ : (opposite a).0 ≢ (opposite b).0 = λ same.
@@ -170,7 +169,7 @@ learned clauses t marked p here level steps is back =
     let es = t.entries in
     let kept = kept_literals es marked p in
     record {
-      derived = ap (λ made. hint_fault clauses made (reverse steps)) (opposites_twice kept) ∙ is.analysed.derives kept (kept_between es marked p);
+      derived = ap (λ made. hint_fault clauses made (reverse steps)) (opposites_twice kept) ∙ is.reduced.derives kept (kept_left es marked p);
       once = once es is.trail.distinct marked p;
       known = λ k d within.
           let l = slice_index_or (map opposite kept) k d in
@@ -188,7 +187,7 @@ learned clauses t marked p here level steps is back =
       not_single = not_single clauses t marked p here level steps is back;
       asserting = record {
         last = λ above.
-            let u = found_here t marked p (omega (arith, is.analysed.count, is.analysed.present above)) in
+            let u = found_here t marked p (omega (arith, is.reduced.count, is.reduced.present above)) in
             record { place = u.at; within = u.within; level_there = u.level_there; there = opposite_there kept (entry_at es u.at).literal (kept_there es marked p u.at u.early u.within u.marked_there) };
         lower = λ above. elim (cases_eq level 0) [
           | inl none ↦ omega (arith, none, above)
@@ -196,7 +195,7 @@ learned clauses t marked p here level steps is back =
         ];
         reached = λ some.
             let w = back.reached some in
-            let inside : w.at < length es = omega (arith, w.early, is.analysed.within) in
+            let inside : w.at < length es = omega (arith, w.early, is.reduced.within) in
             record { place = w.at; within = inside; level_there = w.level_there; there = opposite_there kept (entry_at es w.at).literal (kept_there es marked p w.at w.early inside w.marked_there) };
       };
     }

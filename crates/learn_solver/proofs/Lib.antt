@@ -4,6 +4,7 @@ pub mod DeriveLemmas
 pub mod KeptLemmas
 pub mod AnalysisLemmas
 pub mod ClearLemmas
+pub mod MinimizeLemmas
 pub mod LearnLemmas
 pub mod SearchLemmas
 pub mod SolverLemmas
@@ -14,5 +15,6 @@ pub mod DecisionLemmas
 pub mod GoneLemmas
 pub mod StartLemmas
 pub mod RunLemmas
+pub mod BoundLemmas
 pub mod OrderLemmas
 pub mod PursuitLemmas

@@ -9,7 +9,7 @@ use Rattle.cnf_core.specs.declared.literal.SatLit.{SatLit}
 use Rattle.cnf_core.specs.Clauses.{variable_of}
 use Rattle.trail_core.specs.declared.assigned.Assigned.{Assigned}
 use Rattle.trail_core.specs.Trails.{IsPlace, IsTrail, Trailing, entry_at, nothing}
-use Rattle.learn_solver.specs.Analyses.{AreBefore, AreOnTrail, HasPlace, StayMarked, here_in}
+use Rattle.learn_solver.specs.Analyses.{AreBefore, AreOnTrail, HasPlace, StayFrom, StayMarked, here_in}
 
 -- the variables of the first n literals were marked
 pub record IsMarking (trail : Trailing) (old now : List Bool) (clause : List SatLit) (count here : ℕ) : Type 0 where
@@ -17,6 +17,7 @@ pub record IsMarking (trail : Trailing) (old now : List Bool) (clause : List Sat
   pub stay : StayMarked old now
   pub marked : (k : ℕ) (d : SatLit) → k < count → bit now (variable_of (slice_index_or clause k d)) ≡ true
   pub on_trail : AreOnTrail trail.entries old → AreOnTrail trail.entries now
+  pub later : (place : ℕ) → AreBefore trail.entries place clause → StayFrom trail.entries place old now
   pub few : here ≤ count
   pub counted : (place : ℕ) → AreBefore trail.entries place clause → here_in trail now place ≡ here_in trail old place + here
 
@@ -76,6 +77,7 @@ marking_old t old now clause k here d is within marked = record {
     | inr other ↦ is.marked j e (omega (arith, h, other))
   ];
   on_trail = is.on_trail;
+  later = is.later;
   few = omega (arith, is.few);
   counted = is.counted;
 }
@@ -135,6 +137,10 @@ marking_new t trail old now clause k here more v d is within at_k known fresh pl
       let p = places k d within in
       let there : HasPlace t.entries (length t.entries) v = record { at = p.at; early = p.early; within = p.within; there = p.there ∙ at_k } in
       mark_on_trail t.entries now v (is.on_trail before) there w was;
+  later = λ place before j late inside.
+      let p = before k d within in
+      let other : variable_of (entry_at t.entries j).literal ≢ v = λ e. apart t trail j p.at inside p.within (λ same. omega (arith, same, late, p.early)) (e ∙ sym (p.there ∙ at_k)) in
+      get_or-set_other now v (variable_of (entry_at t.entries j).literal) true false other ∙ is.later place before j late inside;
   few =
       let p = places k d within in
       omega (arith, is.few, present p.at (record { within = p.within; there = p.there ∙ at_k }), one_at_most ((entry_at t.entries p.at).level == t.level));

@@ -23,7 +23,7 @@ pub record IsLine (formula : Formula) (taken : List (List SatLit)) (line : LogLi
   pub once : repeats_variable line.clause ≡ false
   pub hints : hint_fault (formula.clauses ++ taken) (map opposite line.clause) line.hints ≡ None
 
-line_says : (formula : Formula) (taken : List (List SatLit)) (line : LogLine) → line_fault formula taken line ≡ None → IsLine formula taken line
+pub line_says : (formula : Formula) (taken : List (List SatLit)) (line : LogLine) → line_fault formula taken line ≡ None → IsLine formula taken line
 line_says formula taken line e =
     let parts = by_tests (list_any is_empty taken) (list_all (λ l. nat_lt (variable_of l) formula.variables) line.clause) (repeats_variable line.clause) (hint_fault (formula.clauses ++ taken) (map opposite line.clause) line.hints) e in
     record { unclosed = parts.0; known = parts.1; once = parts.2; hints = parts.3 }

@@ -1,5 +1,5 @@
 -- What is learned from a conflict, and how far an analysis has come (Marques-Silva and Sakallah, GRASP, 1999).
-use Rattle.std.specs.Prelude.{◌≡◌, ℕ, ◌<◌, ◌≤◌, ◌==◌, ◌&&◌, Bool, true, false, List, [], length, map, take, filter, reverse, All, Contains, None, count_by, if◌then◌else◌}
+use Rattle.std.specs.Prelude.{◌≡◌, ℕ, ◌<◌, ◌≤◌, ◌==◌, ◌&&◌, Bool, true, false, List, [], length, map, take, filter, reverse, All, Contains, None, count_by, if◌then◌else◌, ◌⊎◌}
 use Rattle.std.specs.List.{list_all}
 use Rattle.circuits.specs.Literals.{bit}
 use Rattle.cnf_core.specs.declared.literal.SatLit.{SatLit}
@@ -91,6 +91,13 @@ AreOnTrail entries marked = (variable : ℕ) → bit marked variable ≡ true �
 abbrev pub StayMarked : List Bool → List Bool → Type 0
 StayMarked old new = (variable : ℕ) → bit old variable ≡ true → bit new variable ≡ true
 
+-- from a place on, what was marked is what is marked
+abbrev pub StayFrom : List Assigned → ℕ → List Bool → List Bool → Type 0
+StayFrom entries place old new = (k : ℕ)
+    → place ≤ k
+    → k < length entries
+    → is_marked new (entry_at entries k) ≡ is_marked old (entry_at entries k)
+
 -- these are the marked ones of the first n places
 pub record AreMarkedPlaces (marked : List Bool) (count : ℕ) (places : List ℕ) : Type 0 where
   pub below : All (λ place. place < count) places
@@ -120,6 +127,40 @@ pub record IsAnalysed (clauses : List (List SatLit)) (trail : Trailing) (marked 
 abbrev pub IsAnalysis : List (List SatLit) → Trailing → List Bool → Analysis → Type 0
 IsAnalysis clauses trail marked analysis =
     IsAnalysed clauses trail marked analysis.below analysis.here analysis.steps.items
+
+-- these are true: the marked ones of the first `top` literals, and no others but such as stand before a place
+pub record IsLeft (entries : List Assigned) (marked : List Bool) (place top : ℕ) (made : List SatLit) : Type 0 where
+  pub needed : (k : ℕ)
+      → k < top
+      → k < length entries
+      → is_marked marked (entry_at entries k) ≡ true
+      → is_true made (entry_at entries k).literal ≡ true
+  pub within : (literal : SatLit)
+      → is_true made literal ≡ true
+      → (is_true (before entries place) literal ≡ true) ⊎ (is_true (kept_literals entries marked top) literal ≡ true)
+
+-- How far a clause is minimized, from its last literal down to a place: wherever its literals are false, and none beside
+-- them but such as stand before the place, the steps lead to the conflict. As few literals of the present level are left as
+-- there can be.
+pub record IsReduced (clauses : List (List SatLit)) (trail : Trailing) (marked : List Bool) (below here : ℕ) (steps : List ℕ)
+    (place : ℕ) : Type 0 where
+  pub size : length marked ≡ trail.variables
+  pub within : below ≤ length trail.entries
+  pub low : place ≤ below
+  pub count : here ≡ here_in trail marked below
+  pub present : 0 < trail.level → 0 < here
+  pub few : here ≤ kept_here trail.level
+  pub derives : (made : List SatLit)
+      → IsLeft trail.entries marked place below made
+      → hint_fault clauses made (reverse steps) ≡ None
+
+abbrev pub IsReducing : List (List SatLit) → Trailing → List Bool → Analysis → ℕ → Type 0
+IsReducing clauses trail marked analysis =
+    IsReduced clauses trail marked analysis.below analysis.here analysis.steps.items
+
+-- the clause is minimized
+abbrev pub IsMinimized : List (List SatLit) → Trailing → List Bool → Analysis → Type 0
+IsMinimized clauses trail marked analysis = IsReducing clauses trail marked analysis 0
 
 -- A marked literal of the first n has this level, which is below the present one.
 pub record IsReached (trail : Trailing) (marked : List Bool) (place level : ℕ) : Type 0 where

@@ -1,5 +1,5 @@
 -- What a solver is, and what its answers say.
-use Rattle.std.specs.Prelude.{◌≡◌, ℕ, ◌+◌, ◌-◌, ◌<◌, ◌≤◌, Bool, true, false, List, ◌++◌, length, map, take, All, Contains, None, nat_lt, slice_index_or, if◌then◌else◌}
+use Rattle.std.specs.Prelude.{◌≡◌, ℕ, ◌+◌, ◌-◌, ◌^◌, ◌<◌, ◌≤◌, Bool, true, false, List, ◌++◌, length, map, take, All, Contains, None, nat_lt, slice_index_or, if◌then◌else◌}
 use Rattle.cnf_core.specs.declared.literal.SatLit.{SatLit}
 use Rattle.cnf_core.specs.declared.log.LogLine.{LogLine}
 use Rattle.cnf_core.specs.declared.stop.Stop.{Stop}
@@ -103,6 +103,16 @@ pub record IsSpentAt {Others : Type 0} (old new : Solving) (before after : Charg
 abbrev pub IsStopped : {Others : Type 0} → Solving → Solving → Charging Others → Charging Others → Stop → Type 0
 IsStopped {Others} old new before after (Spent learned) = IsSpentAt old new before after learned
 IsStopped {Others} old new before after Memory = Unit {0}
+
+-- At most 3^n lines were made over n variables, a refused one counted: as many as there are clauses in which each variable
+-- stands plain, stands negated or doesn't stand.
+abbrev pub IsBounded : {Others : Type 0} → ℕ → Charging Others → Charging Others → Type 0
+IsBounded {Others} variables before after = after.made ≤ before.made + 3 ^ variables
+
+-- so it is where the budget is spent
+abbrev pub IsBoundedStop : {Others : Type 0} → ℕ → Charging Others → Charging Others → Stop → Type 0
+IsBoundedStop {Others} variables before after (Spent learned) = IsBounded variables before after
+IsBoundedStop {Others} variables before after Memory = Unit {0}
 
 -- These clauses are those of the numbers. Their variables are known, and none is empty.
 pub record ArePut (formula : Formula) (ids : List ℕ) (clauses : List (List SatLit)) : Type 0 where

@@ -5,7 +5,7 @@ ghost use Rattle.cnf_core.specs.Clauses.{opposite};
 ghost use Rattle.cnf_core.specs.Derivations.{is_empty};
 ghost use Rattle.trail_core.specs.Trails.{IsPlace, IsTrail, entry_at, literals};
 ghost use Rattle.watch_lists.specs.Propagations.{AreKnown, IsConflict, IsSound};
-ghost use Rattle.learn_solver.specs.Analyses.{AreBefore, AreMarked, AreOnTrail, HasPlace, IsAnalysis, IsBackLevel, IsLearned, StayMarked, here_in, kept_literals, kept_here};
+ghost use Rattle.learn_solver.specs.Analyses.{AreBefore, AreMarked, AreOnTrail, HasPlace, IsAnalysis, IsBackLevel, IsLearned, IsMinimized, IsReducing, StayFrom, StayMarked, here_in, kept_literals, kept_here};
 
 use cnf_core::{ClauseStore, SatLit};
 use items::Items;
@@ -79,6 +79,7 @@ fn resolved(
     while analysis.here > kept {
         analysis.step(clauses, trail, marked)?;
     }
+    analysis.minimize(alloc, clauses, trail, marked)?;
     analysis.finish(alloc, clauses, trail, marked)
 }
 
@@ -153,7 +154,68 @@ impl Analysis {
         Ok(())
     }
 
-    // What is learned once as few literals of the present level are left as there can be.
+    // Takes the marked literals out that the others imply, from the last one down: each gives way to the other literals of
+    // its reason, which are marked or implied themselves (Sörensson and Biere, SAT 2009). One literal of the present level
+    // is left, and stays.
+    fn minimize(
+        &mut self,
+        alloc: Global,
+        clauses: &ClauseStore,
+        trail: &Trail,
+        marked: &mut [bool],
+    ) -> Result<(), AllocError>
+        requires trail { IsTrail trail.now }
+        requires known { All (AreKnown trail.now.variables) clauses.now.clauses }
+        requires sound { IsSound clauses.now.clauses trail.now }
+        requires analysis { IsAnalysis clauses.now.clauses trail.now marked.old self.old }
+        requires done { self.old.here ≤ kept_here trail.now.level }
+        requires on_trail { AreOnTrail trail.now.entries marked.old }
+        ensures minimized { OnOk result (IsMinimized clauses.now.clauses trail.now marked.new self.new) }
+        ensures on_trail { AreOnTrail trail.now.entries marked.new }
+        ensures size { length marked.new ≡ trail.now.variables }
+    {
+        let implied = implied(alloc, clauses, trail, marked, self.below)?;
+        let mut place = self.below;
+        while place > 0 {
+            place -= 1;
+            if implied[place as usize] {
+                self.give_way(clauses, trail, marked, place)?;
+            }
+        }
+        Ok(())
+    }
+
+    // Lets a marked literal of a lower level give way to the other literals of its reason.
+    fn give_way(
+        &mut self,
+        clauses: &ClauseStore,
+        trail: &Trail,
+        marked: &mut [bool],
+        place: u64,
+    ) -> Result<(), AllocError>
+        requires trail { IsTrail trail.now }
+        requires sound { IsSound clauses.now.clauses trail.now }
+        requires reducing { IsReducing clauses.now.clauses trail.now marked.old self.old (place + 1) }
+        requires on_trail { AreOnTrail trail.now.entries marked.old }
+        ensures reducing { OnOk result (IsReducing clauses.now.clauses trail.now marked.new self.new place) }
+        ensures on_trail { AreOnTrail trail.now.entries marked.new }
+        ensures size { length marked.new ≡ length marked.old }
+        ensures below { self.new.below ≡ self.old.below }
+    {
+        let variable = trail.lit_at(place).variable() as usize;
+        let Some(id) = trail.reason_at(place) else {
+            return Ok(());
+        };
+        if !marked[variable] | (trail.level_at(place) >= trail.level()) {
+            return Ok(());
+        }
+        let _ = mark(marked, trail, clauses.get(id));
+        marked[variable] = false;
+        self.steps.push(id)?;
+        Ok(())
+    }
+
+    // What is learned once the marked literals that are left are those of the clause.
     fn finish(
         self,
         alloc: Global,
@@ -164,8 +226,7 @@ impl Analysis {
         requires trail { IsTrail trail.now }
         requires filled { All (λ clause. is_empty clause ≡ false) clauses.now.clauses }
         requires sound { IsSound clauses.now.clauses trail.now }
-        requires analysis { IsAnalysis clauses.now.clauses trail.now marked.now self }
-        requires done { self.here ≤ kept_here trail.now.level }
+        requires minimized { IsMinimized clauses.now.clauses trail.now marked.now self }
         ensures { IfOk result (IsLearned clauses.now.clauses trail.now) }
     {
         let clause = negated(alloc, trail, marked, self.below)?;
@@ -195,6 +256,8 @@ fn mark(marked: &mut [bool], trail: &Trail, clause: &[SatLit]) -> u64
     ensures stay { StayMarked marked.old marked.new }
     ensures marked { AreMarked marked.new clause.now }
     ensures on_trail { AreOnTrail trail.now.entries marked.old → AreOnTrail trail.now.entries marked.new }
+    ensures later { (place : ℕ) → AreBefore trail.now.entries place clause.now
+        → StayFrom trail.now.entries place marked.old marked.new }
     ensures here { (place : ℕ) → AreBefore trail.now.entries place clause.now
         → here_in trail.now marked.new place ≡ here_in trail.now marked.old place + result }
 {
@@ -219,6 +282,71 @@ fn present(trail: &Trail, variable: u64) -> u64
         unreachable!()
     };
     u64::from(trail.level_at(place) == trail.level())
+}
+
+// Which of the first n literals the marked ones imply, by any number of steps. A literal that isn't marked is looked at
+// only where one of its level is covered before it, since its reason has one more of that level; and not at level 0,
+// where chains of reasons take more words of a log than the literals that they save.
+fn implied(
+    alloc: Global,
+    clauses: &ClauseStore,
+    trail: &Trail,
+    marked: &[bool],
+    below: u64,
+) -> Result<Vec<bool>, AllocError>
+    requires trail { IsTrail trail.now }
+    requires size { length marked.now ≡ trail.now.variables }
+    requires known { All (AreKnown trail.now.variables) clauses.now.clauses }
+    requires sound { IsSound clauses.now.clauses trail.now }
+    requires within { below ≤ length trail.now.entries }
+    ensures { IfOk result (λ implied. length implied.items ≡ below) }
+{
+    let mut implied = Vec::with_capacity(alloc, below as usize)?;
+    let mut covered = 0;
+    for place in 0..below {
+        let level = trail.level_at(place);
+        let is_kept = marked[trail.lit_at(place).variable() as usize];
+        let is_near = is_kept | ((level == covered) & (level > 0));
+        let next = is_near && is_implied(clauses, trail, marked, &implied, place);
+        if is_kept | next {
+            covered = level;
+        }
+        implied.push(next)?;
+    }
+    Ok(implied)
+}
+
+// Whether a literal has a reason whose other literals are covered: marked, or implied.
+fn is_implied(
+    clauses: &ClauseStore,
+    trail: &Trail,
+    marked: &[bool],
+    implied: &[bool],
+    place: u64,
+) -> bool
+    requires size { length marked.now ≡ trail.now.variables }
+    requires known { All (AreKnown trail.now.variables) clauses.now.clauses }
+    requires sound { IsSound clauses.now.clauses trail.now }
+    requires there { place < length trail.now.entries }
+{
+    let Some(reason) = trail.reason_at(place) else {
+        return false;
+    };
+    for literal in clauses.get(reason).iter() {
+        let variable = literal.variable();
+        if !marked[variable as usize] & !is_among(trail, implied, place, variable) {
+            return false;
+        }
+    }
+    true
+}
+
+// Whether a variable's literal is the one at a place, or an implied one before it.
+fn is_among(trail: &Trail, implied: &[bool], place: u64, variable: u64) -> bool {
+    match trail.place(variable) {
+        Some(at) => (at == place) || (at < implied.len() as u64 && implied[at as usize]),
+        None => false,
+    }
 }
 
 // The opposites of the marked literals before a place.

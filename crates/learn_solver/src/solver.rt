@@ -9,7 +9,7 @@ ghost use Rattle.watch_lists.specs.Propagations.{IsConflict, IsQuiet};
 ghost use Rattle.learn_solver.specs.Analyses.{has_all};
 ghost use Rattle.cnf_core.specs.Charges.{IsCharged, IsRefused};
 ghost use Rattle.learn_solver.specs.Searches.{IsAdvanced, IsDecided, IsLearning, IsLearnt, IsLesson, IsRunning, IsSame, last_line};
-ghost use Rattle.learn_solver.specs.Solvers.{IsAsking, IsExtended, IsModel, IsRefuted, IsStopped, IsVerdict, ArePut, active, id_at, wanted};
+ghost use Rattle.learn_solver.specs.Solvers.{IsAsking, IsBounded, IsBoundedStop, IsExtended, IsModel, IsRefuted, IsStopped, IsVerdict, ArePut, active, id_at, wanted};
 
 use crate::candidate::{Guide, Unguided};
 use crate::conflict::{Learned, analyse};
@@ -264,7 +264,8 @@ impl<'a, B: Base> Solver<'a, B> {
 
 /// Looks for a model of the solver's clauses. The lines of the ledger's open entry are the solver's lemmas, and each learned
 /// line is charged to it, the closing empty one too. Spent comes at a conflict that is met with the budget spent: its line
-/// is the solver's last one, and the ledger's refused one. Running out of memory may leave both anyhow.
+/// is the solver's last one, and the ledger's refused one. Running out of memory may leave both anyhow. Since each line has all the
+/// literals of no clause before it, one call learns at most 3^n lines over n variables.
 pub fn solve<B: Base, L: Charge>(
     alloc: Global,
     solver: &mut Solver<'_, B>,
@@ -276,6 +277,10 @@ pub fn solve<B: Base, L: Charge>(
     ensures lines { IfOk result (λ _. IsExtended solver.old solver.new (L.charging ledger.old) (L.charging ledger.new)) }
     ensures not_spent { IfOk result (λ _. IsAsking (L.charging ledger.new) solver.new.lines) }
     ensures stop { IfErr result (IsStopped solver.old solver.new (L.charging ledger.old) (L.charging ledger.new)) }
+    ensures bounded { IfOk result
+        (λ _. IsBounded solver.old.formula.variables (L.charging ledger.old) (L.charging ledger.new)) }
+    ensures bounded_stop { IfErr result
+        (IsBoundedStop solver.old.formula.variables (L.charging ledger.old) (L.charging ledger.new)) }
 {
     solve_guided(alloc, solver, &Unguided, ledger)
 }
@@ -284,6 +289,27 @@ pub fn solve<B: Base, L: Charge>(
 /// for each candidate in order, whether its two literals can be true together. What is learned from that serves all that
 /// comes after. No answer depends on the candidates.
 pub fn solve_guided<B: Base, G: Guide, L: Charge>(
+    alloc: Global,
+    solver: &mut Solver<'_, B>,
+    guide: &G,
+    ledger: &mut L,
+) -> Result<Verdict, Stop>
+    requires unrefuted { list_any is_empty (clauses_of solver.old.lines) ≡ false }
+    requires asking { IsAsking (L.charging ledger.old) solver.old.lines }
+    ensures verdict { IfOk result (IsVerdict solver.new) }
+    ensures lines { IfOk result (λ _. IsExtended solver.old solver.new (L.charging ledger.old) (L.charging ledger.new)) }
+    ensures not_spent { IfOk result (λ _. IsAsking (L.charging ledger.new) solver.new.lines) }
+    ensures stop { IfErr result (IsStopped solver.old solver.new (L.charging ledger.old) (L.charging ledger.new)) }
+    ensures bounded { IfOk result
+        (λ _. IsBounded solver.old.formula.variables (L.charging ledger.old) (L.charging ledger.new)) }
+    ensures bounded_stop { IfErr result
+        (IsBoundedStop solver.old.formula.variables (L.charging ledger.old) (L.charging ledger.new)) }
+{
+    searched(alloc, solver, guide, ledger)
+}
+
+// Searches until there is a model or an empty line.
+fn searched<B: Base, G: Guide, L: Charge>(
     alloc: Global,
     solver: &mut Solver<'_, B>,
     guide: &G,

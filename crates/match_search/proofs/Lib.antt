@@ -1,13 +1,11 @@
 pub mod TableLemmas
 pub mod SentLemmas
-pub mod StateLemmas
-pub mod TurnLemmas
 pub mod ShownLemmas
 pub mod DefiniteLemmas
 pub mod DifferLemmas
 pub mod ForesightLemmas
-pub mod WeightLemmas
 pub mod ServeLemmas
-pub mod NewestLemmas
+pub mod AskLemmas
 pub mod CompareLemmas
 pub mod SearchLemmas
+pub mod FreeLemmas

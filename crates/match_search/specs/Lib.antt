@@ -1,9 +1,11 @@
-pub mod Progress
 pub mod States
 pub mod Founds
 pub mod Differences
 pub use Rattle.port_covers.specs.Held
 pub use Rattle.port_covers.specs.Levels
+pub use Rattle.pair_search.specs.Progress
+pub use Rattle.pair_search.specs.Impasses
+pub use Rattle.conflict_core.specs.Conflicts
 pub use Rattle.table_guess.specs.Trials
 pub use Rattle.account_core.specs.Facts
 pub use Rattle.account_core.specs.Shown

@@ -3,14 +3,24 @@
 use cnf_core::Log;
 use items::Items;
 use net_core::Matching;
+use pair_search::Impasse;
 
 /// What a step ahead comes to.
 #[derive(Debug, Drop)]
 pub(crate) enum Ahead {
-    /// One more way is held.
+    /// One more pair is held or deleted.
     Deeper,
     /// The pairs that are held, one of each port, are a match.
     Match(Matching, Items<Log>),
-    /// The pairs that are held run into this ban.
+    /// It doesn't go on.
+    Impasse(Impasse),
+}
+
+/// What comparing the outputs under a whole table comes to.
+#[derive(Debug, Drop)]
+pub(crate) enum Settled {
+    /// The table is a match.
+    Match(Matching, Items<Log>),
+    /// The table has all pairs of this ban.
     Ban(u64),
 }

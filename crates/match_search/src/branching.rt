@@ -1,202 +1,206 @@
-//! The search.
+//! The search, step by step.
 
-ghost use Rattle.std.specs.Prelude.{◌≡◌, ◌<◌, [], IfNone, IfOk, IfSome, OnOk, map};
-ghost use Rattle.account_core.specs.Given.{decided_by};
-ghost use Rattle.account_core.specs.Facts.{AreFacts};
-ghost use Rattle.oracle_core.specs.Oracles.{Serves, Suits};
+ghost use Rattle.std.specs.Prelude.{◌<◌, ◌≤◌, List, IfNone, IfOk, IfSome, OnOk};
+ghost use Rattle.account_core.specs.declared.step.Ban.{Ban as AnyBan};
+ghost use Rattle.oracle_core.specs.Oracles.{Serves};
 ghost use Rattle.account_core.specs.Ports.{HaveAsMany};
-ghost use Rattle.account_core.specs.Steps.{AreValidBans};
+ghost use Rattle.fact_bans.specs.Serving.{HoldsBans, MayHold};
 ghost use Rattle.match_search.specs.Founds.{IsFound};
-ghost use Rattle.port_covers.specs.Levels.{HoldsMore, IsTried};
-ghost use Rattle.match_search.specs.Progress.{left};
-ghost use Rattle.match_search.specs.States.{AreValid, IsAhead, IsSearchState};
+ghost use Rattle.port_covers.specs.Held.{IsWhole};
+ghost use Rattle.class_refine.specs.Trails.{held_in};
+ghost use Rattle.pair_search.specs.Progress.{IsTrail, left};
+ghost use Rattle.match_search.specs.States.{AreValid, IsAhead};
 ghost use Rattle.table_guess.specs.Trials.{AreTrials};
 
-use crate::ahead::Ahead;
+use crate::ahead::{Ahead, Settled};
 use crate::candidate::compare_whole;
-use crate::foresight::foresee;
+use crate::following::follow;
 use crate::found::Found;
 use crate::guide::Guide;
-use crate::newest::exclude_newest;
 use crate::next_port::next_port;
-use crate::state::State;
-use crate::tries::{advance, turn_back};
 use ban_book::BanBook;
+use circuits::PortKind;
+use class_refine::Domains;
 use cnf_core::Stop;
 use net_core::Graphs;
 use oracle_core::Oracle;
-use port_covers::level::Level;
+use pair_search::{Impasse, Queue, branch, turn_back};
+use port_covers::cover::ports_in;
 use query_core::Ledger;
 use std::alloc::{AllocError, Global};
 
-/// Looks for a match of two circuits with as many ports by branching. The ports are decided one by one, the outputs of whole
-/// tables are compared, and a ban is held for each table that is no match and for each port that has no way left. From a
-/// ban it goes back to the last port that the ban needs. Pairs are tried on vectors; another seed draws other ones.
-///
-/// The book's bans are valid in view of the oracle's facts, whatever is answered.
+/// Decides ports one by one, as conflict-driven solvers decide variables, until a match is found, or a ban without pairs. What
+/// follows of bans and of ports with one way left is held and deleted; from an impasse a ban is learned that leads as far back as
+/// it can, and the outputs of whole tables are compared. What the search goes by comes from the caller, and bans may be held.
 ///
 /// # Errors
 ///
 /// `Spent` where a line had to be learned and the ledger's budget was spent. `Memory` when out of memory.
-pub fn search<O: Oracle>(
+pub(crate) fn explore<O: Oracle>(
     alloc: Global,
     graphs: &Graphs<'_>,
     oracle: &mut O,
+    guide: &mut Guide,
     book: &mut BanBook,
-    seed: u64,
     ledger: &mut Ledger,
 ) -> Result<Found, Stop>
-    requires graphs { graphs.now ≡ (O.known oracle.old).graphs }
+    requires may { MayHold graphs.now (O.known oracle.old) ledger.old book.old }
     requires ports { HaveAsMany graphs.now.first graphs.now.second }
-    requires book { book.old ≡ [] }
-    requires suits { Suits (O.known oracle.old) ledger.old }
+    requires trials { AreTrials graphs.now.first guide.old.trials }
     ensures serves { Serves (O.known oracle.old) (O.known oracle.new) ledger.old ledger.new result }
-    ensures bans { AreValidBans graphs.now (map decided_by (O.known oracle.new).facts) book.new }
+    ensures valid { AreValid graphs.now (O.known oracle.new) book.new }
     ensures found { IfOk result (IsFound graphs.now book.new) }
 {
-    let _facts = oracle.facts();
-    let mut guide = Guide::new(alloc, graphs, seed)?;
-    let mut state = State::new(alloc);
+    let mut domains = open_domains(alloc, graphs)?;
+    let mut queue = Queue::new(
+        alloc,
+        domains.ports(PortKind::Input),
+        domains.ports(PortKind::Output),
+    )?;
     loop {
-        if let Some(found) = turn(alloc, graphs, oracle, &mut guide, &mut state, book, ledger)? {
+        if let Some(found) = turn(
+            alloc,
+            graphs,
+            oracle,
+            guide,
+            &mut domains,
+            &mut queue,
+            book,
+            ledger,
+        )? {
             return Ok(found);
         }
     }
 }
 
-// One step ahead, and back from a ban where it runs into one. It answers None where a way is held that wasn't tried
-// before.
+// All pairs of two circuits are open.
+fn open_domains(alloc: Global, graphs: &Graphs<'_>) -> Result<Domains, AllocError>
+    requires ports { HaveAsMany graphs.now.first graphs.now.second }
+    ensures { IfOk result (λ domains. (bans : List AnyBan) → IsTrail graphs.now bans domains) }
+{
+    let first = graphs.first();
+    Domains::new(
+        alloc,
+        ports_in(first, PortKind::Input),
+        ports_in(first, PortKind::Output),
+    )
+}
+
+// One step ahead, and back from an impasse. It answers None where less is left than before.
 fn turn<O: Oracle>(
     alloc: Global,
     graphs: &Graphs<'_>,
     oracle: &mut O,
     guide: &mut Guide,
-    state: &mut State,
+    domains: &mut Domains,
+    queue: &mut Queue,
     book: &mut BanBook,
     ledger: &mut Ledger,
 ) -> Result<Option<Found>, Stop>
-    requires graphs { graphs.now ≡ (O.known oracle.old).graphs }
-    requires lawful { AreFacts graphs.now (O.known oracle.old).facts }
-    requires ports { HaveAsMany graphs.now.first graphs.now.second }
-    requires suits { Suits (O.known oracle.old) ledger.old }
-    requires valid { AreValid graphs.now (O.known oracle.old) book.old }
-    requires search { IsSearchState graphs.now book.old state.old }
+    requires may { MayHold graphs.now (O.known oracle.old) ledger.old book.old }
+    requires trail { IsTrail graphs.now book.old domains.old }
     requires trials { AreTrials graphs.now.first guide.old.trials }
-    ensures serves { Serves (O.known oracle.old) (O.known oracle.new) ledger.old ledger.new result }
-    ensures valid { AreValid graphs.now (O.known oracle.new) book.new }
+    ensures holds { HoldsBans graphs.now (O.known oracle.old) (O.known oracle.new) ledger.old ledger.new book.old book.new result }
     ensures trials { OnOk result (AreTrials graphs.now.first guide.new.trials) }
-    ensures search { IfOk result (λ found. IfNone found (IsSearchState graphs.now book.new state.new)) }
-    ensures less { IfOk result (λ found. IfNone found
-        (left graphs.now state.new.levels < left graphs.now state.old.levels)) }
+    ensures trail { OnOk result (IsTrail graphs.now book.new domains.new) }
+    ensures less { IfOk result (λ found. IfNone found (left domains.new < left domains.old)) }
     ensures found { IfOk result (λ found. IfSome found (IsFound graphs.now book.new)) }
 {
-    let ban = match ahead(alloc, graphs, oracle, guide, state, book, ledger)? {
+    let impasse = match ahead(alloc, graphs, oracle, guide, domains, queue, book, ledger)? {
         Ahead::Deeper => return Ok(None),
         Ahead::Match(matching, logs) => return Ok(Some(Found::Match(matching, logs))),
-        Ahead::Ban(ban) => ban,
+        Ahead::Impasse(impasse) => impasse,
     };
-    match turn_back(alloc, graphs, state, ban, book)? {
+    let refusal = turn_back(alloc, graphs, domains, queue, impasse, book)?;
+    guide.forget(domains.pairs().len());
+    match refusal {
         None => Ok(None),
         Some(ban) => Ok(Some(Found::None(ban))),
     }
 }
 
-// One step ahead, unless the pairs that are held run into a ban that is held or into one that decided claims show. These come
-// before vectors: their bans have one pair or two, and nearly all claims that they ask are facts by then.
+// One step ahead: what follows is held and deleted, then the next port is decided.
 fn ahead<O: Oracle>(
     alloc: Global,
     graphs: &Graphs<'_>,
     oracle: &mut O,
     guide: &mut Guide,
-    state: &mut State,
+    domains: &mut Domains,
+    queue: &mut Queue,
     book: &mut BanBook,
     ledger: &mut Ledger,
 ) -> Result<Ahead, Stop>
-    requires graphs { graphs.now ≡ (O.known oracle.old).graphs }
-    requires lawful { AreFacts graphs.now (O.known oracle.old).facts }
-    requires ports { HaveAsMany graphs.now.first graphs.now.second }
-    requires suits { Suits (O.known oracle.old) ledger.old }
-    requires valid { AreValid graphs.now (O.known oracle.old) book.old }
-    requires search { IsSearchState graphs.now book.old state.old }
+    requires may { MayHold graphs.now (O.known oracle.old) ledger.old book.old }
+    requires trail { IsTrail graphs.now book.old domains.old }
     requires trials { AreTrials graphs.now.first guide.old.trials }
-    ensures serves { Serves (O.known oracle.old) (O.known oracle.new) ledger.old ledger.new result }
-    ensures valid { AreValid graphs.now (O.known oracle.new) book.new }
+    ensures holds { HoldsBans graphs.now (O.known oracle.old) (O.known oracle.new) ledger.old ledger.new book.old book.new result }
     ensures trials { OnOk result (AreTrials graphs.now.first guide.new.trials) }
-    ensures ahead { IfOk result (IsAhead graphs.now book.new state.old state.new) }
+    ensures trail { OnOk result (IsTrail graphs.now book.new domains.new) }
+    ensures ahead { IfOk result (IsAhead graphs.now book.new domains.old domains.new) }
 {
-    if let Some(ban) = book.covering(&state.held) {
-        return Ok(Ahead::Ban(ban));
+    if let Some(impasse) = follow(alloc, graphs, oracle, guide, domains, queue, book, ledger)? {
+        return Ok(Ahead::Impasse(impasse));
     }
-    let seen = &mut guide.seen;
-    if let Some(ban) = exclude_newest(alloc, graphs, oracle, &state.held, seen, book, ledger)? {
-        return Ok(Ahead::Ban(ban));
-    }
-    go_on(alloc, graphs, oracle, guide, state, book, ledger)
+    go_on(alloc, graphs, oracle, guide, domains, book, ledger)
 }
 
-// Unless the pairs that are held fail on a vector, the next port's ways are tried, and where no port is left the outputs are
-// compared.
+// Decides the next port, and where no port is left compares the outputs.
 fn go_on<O: Oracle>(
     alloc: Global,
     graphs: &Graphs<'_>,
     oracle: &mut O,
     guide: &mut Guide,
-    state: &mut State,
+    domains: &mut Domains,
     book: &mut BanBook,
     ledger: &mut Ledger,
 ) -> Result<Ahead, Stop>
-    requires graphs { graphs.now ≡ (O.known oracle.old).graphs }
-    requires lawful { AreFacts graphs.now (O.known oracle.old).facts }
-    requires ports { HaveAsMany graphs.now.first graphs.now.second }
-    requires suits { Suits (O.known oracle.old) ledger.old }
-    requires valid { AreValid graphs.now (O.known oracle.old) book.old }
-    requires search { IsSearchState graphs.now book.old state.old }
+    requires may { MayHold graphs.now (O.known oracle.old) ledger.old book.old }
+    requires trail { IsTrail graphs.now book.old domains.old }
     requires trials { AreTrials graphs.now.first guide.old.trials }
-    ensures serves { Serves (O.known oracle.old) (O.known oracle.new) ledger.old ledger.new result }
-    ensures valid { AreValid graphs.now (O.known oracle.new) book.new }
+    ensures holds { HoldsBans graphs.now (O.known oracle.old) (O.known oracle.new) ledger.old ledger.new book.old book.new result }
     ensures trials { OnOk result (AreTrials graphs.now.first guide.new.trials) }
-    ensures ahead { IfOk result (IsAhead graphs.now book.new state.old state.new) }
+    ensures trail { OnOk result (IsTrail graphs.now book.new domains.new) }
+    ensures ahead { IfOk result (IsAhead graphs.now book.new domains.old domains.new) }
 {
-    if let Some(ban) = foresee(alloc, graphs, &state.held, &guide.trials, book)? {
-        return Ok(Ahead::Ban(ban));
-    }
-    let Some((side, kind, port)) = next_port(graphs, &guide.reads, &state.held) else {
-        return compare_whole(
-            alloc,
-            graphs,
-            oracle,
-            &mut guide.trials,
-            state,
-            book,
-            ledger,
-        );
+    let Some(port) = next_port(alloc, graphs, &guide.reads, domains)? else {
+        return compare_held(alloc, graphs, oracle, guide, domains, book, ledger);
     };
-    let ahead = descend(
-        alloc,
-        graphs,
-        state,
-        Level::new(alloc, side, kind, port),
-        book,
-    )?;
-    Ok(ahead)
+    match branch(domains, book.bans(), port)? {
+        None => Ok(Ahead::Deeper),
+        Some(impasse) => Ok(Ahead::Impasse(impasse)),
+    }
 }
 
-// Tries the ways of a port.
-fn descend(
+// Compares the outputs under the pairs that are held, one of each port.
+fn compare_held<O: Oracle>(
     alloc: Global,
     graphs: &Graphs<'_>,
-    state: &mut State,
-    level: Level,
+    oracle: &mut O,
+    guide: &mut Guide,
+    domains: &Domains,
     book: &mut BanBook,
-) -> Result<Ahead, AllocError>
-    requires ports { HaveAsMany graphs.now.first graphs.now.second }
-    requires search { IsSearchState graphs.now book.old state.old }
-    requires tried { IsTried graphs.now book.old state.old.held level }
-    ensures more { HoldsMore graphs.now book.old book.new }
-    ensures ahead { IfOk result (IsAhead graphs.now book.new state.old state.new) }
+    ledger: &mut Ledger,
+) -> Result<Ahead, Stop>
+    requires may { MayHold graphs.now (O.known oracle.old) ledger.old book.old }
+    requires trail { IsTrail graphs.now book.old domains.now }
+    requires whole { IsWhole graphs.now (held_in domains.now.entries) }
+    requires trials { AreTrials graphs.now.first guide.old.trials }
+    ensures holds { HoldsBans graphs.now (O.known oracle.old) (O.known oracle.new) ledger.old ledger.new book.old book.new result }
+    ensures trials { OnOk result (AreTrials graphs.now.first guide.new.trials) }
+    ensures trail { OnOk result (IsTrail graphs.now book.new domains.now) }
+    ensures ahead { IfOk result (IsAhead graphs.now book.new domains.now domains.now) }
 {
-    match advance(alloc, graphs, state, level, book)? {
-        None => Ok(Ahead::Deeper),
-        Some(ban) => Ok(Ahead::Ban(ban)),
+    let _lawful = domains.entries();
+    match compare_whole(
+        alloc,
+        graphs,
+        oracle,
+        &mut guide.trials,
+        domains.pairs(),
+        book,
+        ledger,
+    )? {
+        Settled::Match(matching, logs) => Ok(Ahead::Match(matching, logs)),
+        Settled::Ban(ban) => Ok(Ahead::Impasse(Impasse::Ban(ban))),
     }
 }

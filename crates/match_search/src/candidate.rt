@@ -7,16 +7,17 @@ ghost use Rattle.account_core.specs.Ports.{HaveAsMany};
 ghost use Rattle.circuits.specs.Matches.{HavePorts};
 ghost use Rattle.account_core.specs.Shown.{AreLogs};
 ghost use Rattle.match_search.specs.Founds.{IsComparison};
-ghost use Rattle.port_covers.specs.Held.{IsWhole};
-ghost use Rattle.match_search.specs.States.{AreValid, IsAhead, IsSearchState};
+ghost use Rattle.port_covers.specs.Held.{AreHeld, IsWhole};
+ghost use Rattle.fact_bans.specs.Serving.{HoldsBans, MayHold};
+ghost use Rattle.match_search.specs.States.{IsSettled};
 ghost use Rattle.table_guess.specs.Trials.{AreTrials};
 
-use crate::ahead::Ahead;
+use crate::ahead::Settled;
 use crate::difference::exclude;
-use crate::state::State;
 use crate::table::table;
 use ban_book::BanBook;
 use bit_list::Bits;
+use circuits::Pair;
 use cnf_core::{Log, Stop};
 use items::Items;
 use net_core::{Graphs, Matching};
@@ -39,33 +40,29 @@ pub(crate) fn compare_whole<O: Oracle>(
     graphs: &Graphs<'_>,
     oracle: &mut O,
     trials: &mut Trials,
-    state: &State,
+    held: &[Pair],
     book: &mut BanBook,
     ledger: &mut Ledger,
-) -> Result<Ahead, Stop>
-    requires graphs { graphs.now ≡ (O.known oracle.old).graphs }
-    requires lawful { AreFacts graphs.now (O.known oracle.old).facts }
+) -> Result<Settled, Stop>
+    requires may { MayHold graphs.now (O.known oracle.old) ledger.old book.old }
     requires ports { HaveAsMany graphs.now.first graphs.now.second }
-    requires search { IsSearchState graphs.now book.old state.now }
-    requires whole { IsWhole graphs.now state.now.held }
-    requires suits { Suits (O.known oracle.old) ledger.old }
-    requires valid { AreValid graphs.now (O.known oracle.old) book.old }
+    requires held { AreHeld graphs.now held.now }
+    requires whole { IsWhole graphs.now held.now }
     requires trials { AreTrials graphs.now.first trials.old }
-    ensures serves { Serves (O.known oracle.old) (O.known oracle.new) ledger.old ledger.new result }
-    ensures valid { AreValid graphs.now (O.known oracle.new) book.new }
+    ensures holds { HoldsBans graphs.now (O.known oracle.old) (O.known oracle.new) ledger.old ledger.new book.old book.new result }
     ensures trials { OnOk result (AreTrials graphs.now.first trials.new) }
-    ensures ahead { IfOk result (IsAhead graphs.now book.new state.now state.now) }
+    ensures settled { IfOk result (IsSettled graphs.now book.new held.now) }
 {
     let _first = graphs.first();
     let _second = graphs.second();
-    let matching = table(alloc, graphs, &state.held)?;
+    let matching = table(alloc, graphs, held)?;
     let mut logs = Items::new(alloc);
     match compare_all(alloc, graphs, oracle, &matching, ledger, &mut logs)? {
-        None => Ok(Ahead::Match(matching, logs)),
+        None => Ok(Settled::Match(matching, logs)),
         Some(found) => {
             trials.keep(alloc, graphs.first(), &found.vector)?;
             let ban = exclude(alloc, graphs, &matching, found.output, &found.vector, book)?;
-            Ok(Ahead::Ban(ban))
+            Ok(Settled::Ban(ban))
         }
     }
 }

@@ -7,9 +7,9 @@ ghost use Rattle.account_core.specs.Ports.{HaveAsMany};
 ghost use Rattle.account_core.specs.Steps.{AreValidBans};
 ghost use Rattle.match_search.specs.Founds.{IsFound};
 
-use crate::branching::search;
 use crate::found::Found;
 use crate::guessed::compare_guesses;
+use crate::searching::search;
 use ban_book::BanBook;
 use cnf_core::Stop;
 use net_core::Graphs;

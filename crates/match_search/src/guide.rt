@@ -1,22 +1,31 @@
 //! What a search goes by.
 
-ghost use Rattle.std.specs.Prelude.{IfOk};
+ghost use Rattle.std.specs.Prelude.{◌≡◌, ◌<◌, IfOk, IfSome};
 ghost use Rattle.table_guess.specs.Trials.{AreTrials};
 
-use crate::reads::reads;
+use crate::reads::{Reads, by_count};
 use fact_bans::Seen;
-use items::Items;
 use net_core::Graphs;
 use std::alloc::{AllocError, Global};
 use table_guess::Trials;
 
-/// What a search goes by: vectors that pairs are tried on, what vectors showed of claims, and for each output of the second
-/// circuit the inputs that it reads.
+/// The most that tallies of all pairs of outputs may ask: the pairs times the inputs. Each pair's ban lists up to twice as
+/// many facts as there are inputs, so more would take much memory. Above that tallies are held of held pairs alone.
+const MOST_ASKED: u64 = 1 << 21;
+
+/// What a search goes by: vectors that pairs are tried on, what vectors showed of claims, for each output of either circuit the
+/// inputs that it reads, and what was asked.
 #[derive(Debug, Drop)]
 pub(crate) struct Guide {
     pub(crate) trials: Trials,
     pub(crate) seen: Seen,
-    pub(crate) reads: Items<Items<u32>>,
+    pub(crate) reads: Reads,
+    /// The outputs of the first circuit whose tallies are held at first, in that order, and how many have been.
+    order: Vec<u32>,
+    tallied: usize,
+    /// How many of the held pairs were held against claims of one input, and how many against claims of two.
+    pub(crate) asked: usize,
+    pub(crate) exchanged: usize,
 }
 
 impl Guide {
@@ -26,11 +35,46 @@ impl Guide {
     {
         let trials = Trials::new(alloc, graphs.first(), seed)?;
         let seen = Seen::new(alloc, graphs, seed)?;
-        let reads = reads(alloc, graphs.second())?;
+        let reads = Reads::new(alloc, graphs)?;
+        let order = order_of(alloc, &reads, graphs)?;
         Ok(Guide {
             trials,
             seen,
             reads,
+            order,
+            tallied: 0,
+            asked: 0,
+            exchanged: 0,
         })
     }
+
+    /// Notes that only so many pairs are held now, the earliest ones.
+    pub(crate) fn forget(&mut self, held: usize)
+        ensures { self.new.trials ≡ self.old.trials }
+    {
+        self.asked = self.asked.min(held);
+        self.exchanged = self.exchanged.min(held);
+    }
+
+    /// The next output of the first circuit whose tallies are to be held, one of n outputs.
+    pub(crate) fn next_output(&mut self, outputs: u32) -> Option<u32>
+        ensures trials { self.new.trials ≡ self.old.trials }
+        ensures there { IfSome result (λ output. output < outputs) }
+    {
+        let output = *self.order.get(self.tallied)?;
+        self.tallied = self.tallied.saturating_add(1);
+        if output < outputs { Some(output) } else { None }
+    }
+}
+
+// The outputs of the first circuit, those first that read the fewest inputs, whose claims are cheap; none where there are too many.
+fn order_of(alloc: Global, reads: &Reads, graphs: &Graphs<'_>) -> Result<Vec<u32>, AllocError> {
+    let first = graphs.first();
+    let inputs = first.inputs();
+    let outputs = first.outputs().len() as u32;
+    let pairs = (outputs as u64).saturating_mul(outputs as u64);
+    if pairs.saturating_mul(inputs as u64) > MOST_ASKED / 2 {
+        return Ok(Vec::new(alloc));
+    }
+    by_count(alloc, &reads.first, inputs, outputs)
 }

@@ -1,22 +1,24 @@
-//! Looks for a match of two circuits: compares tables that are guessed, and then branches and jumps back.
+//! Looks for a match of two circuits: compares tables that are guessed, and then searches by conflicts.
 #![tactic(auto)]
 
 mod ahead;
+mod asking;
 mod branching;
 mod candidate;
 mod deciding;
 mod difference;
+mod exchanged;
+mod fewest;
+mod following;
 mod foresight;
 mod found;
 mod guessed;
 mod guide;
-mod newest;
 mod next_port;
 mod reads;
-mod state;
+mod searching;
 mod table;
-mod tries;
 
-pub use branching::search;
 pub use deciding::decide;
 pub use found::Found;
+pub use searching::search;

@@ -1,114 +1,96 @@
 //! Which port is decided next.
 
-ghost use Rattle.std.specs.Prelude.{ℕ, ◌↔◌, ◌<◌, IfNone, IfSome, IsTrue};
+ghost use Rattle.std.specs.Prelude.{ℕ, ◌≡◌, ◌<◌, false, IfNone, IfOk, IfSome, IsTrue};
 ghost use Rattle.net_core.specs.declared.graphs.Side.TheVariants as AnySide;
-ghost use Rattle.account_core.specs.Ports.{HaveAsMany, ports_in};
-ghost use Rattle.port_covers.specs.Held.{IsOf, IsTaken, IsWhole};
+ghost use Rattle.port_covers.specs.Held.{IsTaken, IsWhole};
+ghost use Rattle.class_refine.specs.Trails.{IsFreePort, held_in, ports_of};
+ghost use Rattle.conflict_core.specs.Conflicts.{FitPorts};
 
-use circuits::{Pair, PortKind};
-use items::Items;
+use crate::fewest::fewest_ways;
+use crate::reads::Reads;
+use circuits::PortKind;
+use class_refine::Domains;
+use conflict_core::Port;
 use net_core::{Graphs, Side};
-use port_covers::cover::ports_in;
-use port_covers::side::port_on;
+use std::alloc::{AllocError, Global};
 
-/// The next port that is in no pair, and whose it is: an input of the second circuit that the partner of a paired output
-/// reads, since the partner is known once these have pairs; else an output of the first circuit, in order, and at last an
-/// input. It is None where each port is in a pair. `reads` are the inputs that the second circuit's outputs read.
+/// The next port that is in no pair: the one of either circuit that has the fewest ways left, of the inputs that outputs in
+/// pairs read, else of the outputs. It is None where each port is in a pair.
 pub(crate) fn next_port(
+    alloc: Global,
     graphs: &Graphs<'_>,
-    reads: &[Items<u32>],
-    held: &[Pair],
-) -> Option<(Side, PortKind, u32)>
-    requires ports { HaveAsMany graphs.now.first graphs.now.second }
-    ensures port { IfSome result (λ next. next.2 < ports_in graphs.now.first next.1) }
-    ensures free { IfSome result (λ next. IsTaken next.0 held.now next.1 next.2 → ⊥) }
-    ensures none { IfNone result (IsWhole graphs.now held.now) }
+    reads: &Reads,
+    domains: &Domains,
+) -> Result<Option<Port>, AllocError>
+    requires fit { FitPorts graphs.now domains.now.inputs domains.now.outputs }
+    ensures port { IfOk result (λ next. IfSome next
+        (λ port. port.number < ports_of domains.now.inputs domains.now.outputs port.kind)) }
+    ensures free { IfOk result (λ next. IfSome next
+        (λ port. IsFreePort domains.now.entries port.side port.kind port.number)) }
+    ensures none { IfOk result (λ next. IfNone next (IsWhole graphs.now (held_in domains.now.entries))) }
 {
-    let first = graphs.first();
-    let inputs = ports_in(first, PortKind::Input);
-    if let Some(input) = first_read(reads, held, inputs) {
-        return Some((Side::Second, PortKind::Input, input));
+    let _ = graphs;
+    if let Some(port) = fewest_ways(alloc, reads, domains)? {
+        if is_free(domains, port) {
+            return Ok(Some(port));
+        }
     }
-    let outputs = ports_in(first, PortKind::Output);
-    if let Some(output) = first_free(held, PortKind::Output, outputs) {
-        return Some((Side::First, PortKind::Output, output));
-    }
-    match first_free(held, PortKind::Input, inputs) {
-        Some(input) => Some((Side::First, PortKind::Input, input)),
-        None => None,
-    }
+    Ok(first_free(domains))
 }
 
-// One of n inputs of the second circuit that is in no pair, and that the partner of a paired output reads.
-fn first_read(reads: &[Items<u32>], held: &[Pair], inputs: u32) -> Option<u32>
-    ensures port { IfSome result (λ input. input < inputs) }
-    ensures free { IfSome result (λ input. IsTaken AnySide.Second held.now PortKind.Input input → ⊥) }
+// The first port of the first circuit that is in no pair.
+fn first_free(domains: &Domains) -> Option<Port>
+    ensures port { IfSome result (λ port. port.number < ports_of domains.now.inputs domains.now.outputs port.kind) }
+    ensures free { IfSome result (λ port. IsFreePort domains.now.entries port.side port.kind port.number) }
+    ensures inputs { IfNone result ((port : ℕ) → port < domains.now.inputs
+        → IsTaken AnySide.First (held_in domains.now.entries) PortKind.Input port) }
+    ensures outputs { IfNone result ((port : ℕ) → port < domains.now.outputs
+        → IsTaken AnySide.First (held_in domains.now.entries) PortKind.Output port) }
 {
-    for pair in held.iter() {
-        if let Some(input) = first_read_by(reads, *pair, held, inputs) {
-            return Some(input);
+    if let Some(port) = first_of(domains, PortKind::Output) {
+        return Some(port);
+    }
+    first_of(domains, PortKind::Input)
+}
+
+// The first port of a kind of the first circuit that is in no pair.
+fn first_of(domains: &Domains, kind: PortKind) -> Option<Port>
+    ensures port { IfSome result (λ port. port.number < ports_of domains.now.inputs domains.now.outputs port.kind) }
+    ensures free { IfSome result (λ port. IsFreePort domains.now.entries port.side port.kind port.number) }
+    ensures none { IfNone result ((port : ℕ) → port < ports_of domains.now.inputs domains.now.outputs kind
+        → IsTaken AnySide.First (held_in domains.now.entries) kind port) }
+{
+    for number in 0..domains.ports(kind) {
+        if is_open(domains, kind, number) {
+            return Some(Port {
+                side: Side::First,
+                kind,
+                number,
+            });
         }
     }
     None
 }
 
-// One that the second output of a pair reads.
-fn first_read_by(reads: &[Items<u32>], pair: Pair, held: &[Pair], inputs: u32) -> Option<u32>
-    ensures port { IfSome result (λ input. input < inputs) }
-    ensures free { IfSome result (λ input. IsTaken AnySide.Second held.now PortKind.Input input → ⊥) }
+// Whether a port of the first circuit is in no pair.
+fn is_open(domains: &Domains, kind: PortKind, number: u32) -> bool
+    requires { number < ports_of domains.now.inputs domains.now.outputs kind }
+    ensures free { IsTrue result → IsFreePort domains.now.entries AnySide.First kind number }
+    ensures taken { result ≡ false → IsTaken AnySide.First (held_in domains.now.entries) kind number }
 {
-    if pair.kind != PortKind::Output {
-        return None;
-    }
-    match reads.get(pair.to as usize) {
-        Some(read) => free_of(read, held, inputs),
-        None => None,
+    match domains.held(Side::First, kind, number) {
+        Some(_) => false,
+        None => true,
     }
 }
 
-// One of these inputs of the second circuit.
-fn free_of(read: &[u32], held: &[Pair], inputs: u32) -> Option<u32>
-    ensures port { IfSome result (λ input. input < inputs) }
-    ensures free { IfSome result (λ input. IsTaken AnySide.Second held.now PortKind.Input input → ⊥) }
+// Whether a port is there, and in no pair.
+fn is_free(domains: &Domains, port: Port) -> bool
+    ensures there { IsTrue result → port.number < ports_of domains.now.inputs domains.now.outputs port.kind }
+    ensures free { IsTrue result → IsFreePort domains.now.entries port.side port.kind port.number }
 {
-    for input in read.iter() {
-        if is_free(held, *input, inputs) {
-            return Some(*input);
-        }
+    if port.number >= domains.ports(port.kind) {
+        return false;
     }
-    None
-}
-
-// Whether an input of the second circuit is one of n, and in no pair.
-fn is_free(held: &[Pair], input: u32, inputs: u32) -> bool
-    ensures { IsTrue result → (input < inputs) × (IsTaken AnySide.Second held.now PortKind.Input input → ⊥) }
-{
-    (input < inputs) & !is_taken(held, Side::Second, PortKind::Input, input)
-}
-
-// The first of n ports of a kind of the first circuit that is in no pair.
-fn first_free(held: &[Pair], kind: PortKind, count: u32) -> Option<u32>
-    ensures port { IfSome result (λ port. port < count) }
-    ensures free { IfSome result (λ port. IsTaken AnySide.First held.now kind port → ⊥) }
-    ensures none { IfNone result ((port : ℕ) → port < count → IsTaken AnySide.First held.now kind port) }
-{
-    for port in 0..count {
-        if !is_taken(held, Side::First, kind, port) {
-            return Some(port);
-        }
-    }
-    None
-}
-
-// Whether a port of a circuit is in a pair.
-fn is_taken(held: &[Pair], side: Side, kind: PortKind, port: u32) -> bool
-    ensures { IsTrue result ↔ IsTaken side held.now kind port }
-{
-    held.iter().any(|pair| is_of(*pair, side, kind, port))
-}
-
-fn is_of(pair: Pair, side: Side, kind: PortKind, port: u32) -> bool
-    ensures { IsTrue result ↔ IsOf side kind port pair }
-{
-    (pair.kind == kind) & (port_on(side, pair) == port)
+    domains.held(port.side, port.kind, port.number).is_none()
 }

@@ -1,8 +1,7 @@
 -- What a book of bans holds.
-use Rattle.std.proofs.Common.{◌≡◌, ℕ, ◌+◌, ◌<◌, List, [], ◌∷◌, ◌++◌, length, take, get_or, All, Option, None, Some, sym, ap, subst, ◌∙◌, inl, inr, arith}
+use Rattle.std.proofs.Common.{◌≡◌, ℕ, ◌+◌, ◌<◌, List, [], ◌∷◌, ◌++◌, length, get_or, All, Option, None, Some, sym, ap, subst, ◌∙◌, arith}
 use Rattle.std.specs.List.{range_with_len}
-use Rattle.std.proofs.lemmas.Bool.{cases_lt}
-use Rattle.std.proofs.lemmas.List.{append-nil, append_assoc, take_all, take-append-le, get_or_append_left, get_or_push, length_push, length-append, length-map}
+use Rattle.std.proofs.lemmas.List.{append-nil, append_assoc, length-map}
 use Rattle.std.proofs.lemmas.List.Elements.{All-contains, All-cons, All-nil}
 use Rattle.std.proofs.lemmas.List.FromFn.{length-range_with_len, get_or-range_with_len}
 use Rattle.circuits.specs.declared.port.Pair.{Pair}
@@ -17,7 +16,9 @@ use Rattle.account_core.specs.Ports.{ports_in, AreOrdered, HaveAsMany, IsKnown}
 use Rattle.account_core.specs.Given.{Decided, given_of}
 use Rattle.account_core.specs.Covers.{IsReference}
 use Rattle.account_core.specs.Steps.{AreValidBans, IsValidBan}
-use Rattle.ban_book.specs.Covering.{Covers, IsWithin}
+use Rattle.ban_book.specs.Covering.{Covers}
+pub use Rattle.ban_book.proofs.BookLemmas.{covers_last}
+use Rattle.ban_book.proofs.BookLemmas.{covers_later, valid_push}
 use Rattle.port_covers.specs.declared.level.Level.{Level}
 use Rattle.account_core.specs.Tallies.{Ascend, other_side}
 use Rattle.port_covers.specs.Held.{AreHeld, IsPart}
@@ -27,29 +28,12 @@ use Rattle.port_covers.proofs.ClosedLemmas.{all_ways}
 pub holds_none : (graphs : Graphs) (bans : List Ban) → HoldsMore graphs bans bans
 holds_none graphs bans = record { added = []; more = sym (append-nil bans); valid = λ facts valid. valid }
 
-pub valid_push : (graphs : Graphs) (facts : List Decided) (bans : List Ban) (ban : Ban) → AreValidBans graphs facts bans → IsValidBan graphs (given_of facts bans) ban → AreValidBans graphs facts (bans ++ ban ∷ [])
-valid_push graphs facts bans ban valid here k d below =
-    elim (cases_lt k (length bans)) [
-      | inl less ↦
-          subst (λ (b : Ban). IsValidBan graphs (given_of facts (take k (bans ++ ban ∷ []))) b) (sym (get_or_append_left bans (ban ∷ []) d k less)) (subst (λ (l : List Ban). IsValidBan graphs (given_of facts l) (get_or bans k d)) (sym (take-append-le k bans (ban ∷ []) (omega arith))) (valid k d less))
-      | inr past ↦
-          let e : length bans ≡ k = omega (arith, below, past, length_push bans ban) in
-          let front : take k (bans ++ ban ∷ []) ≡ bans = take-append-le k bans (ban ∷ []) (omega (arith, e)) ∙ take_all k bans (omega (arith, e)) in
-          subst (λ (b : Ban). IsValidBan graphs (given_of facts (take k (bans ++ ban ∷ []))) b) (sym (get_or_push bans ban d k e)) (subst (λ (l : List Ban). IsValidBan graphs (given_of facts l) ban) (sym front) here)
-    ]
-
 -- one more valid ban is held
 pub holds_one : (graphs : Graphs) (bans after : List Ban) (ban : Ban) → after ≡ bans ++ ban ∷ [] → ((facts : List Decided) → IsValidBan graphs (given_of facts bans) ban) → HoldsMore graphs bans after
 holds_one graphs bans after ban is valid = record {
   added = ban ∷ [];
   more = is;
   valid = λ facts before. subst (AreValidBans graphs facts) (sym is) (valid_push graphs facts bans ban before (valid facts));
-}
-
-pub covers_last : (bans after : List Ban) (ban : Ban) (pairs : List Pair) (number : ℕ) → after ≡ bans ++ ban ∷ [] → number ≡ length bans → IsWithin pairs ban → Covers after pairs number
-covers_last bans after ban pairs number is last within = record {
-  held = omega (arith, ap length is, length_push bans ban, last);
-  within = λ d. subst (IsWithin pairs) (sym (ap (λ l. get_or l number d) is ∙ get_or_push bans ban d number (sym last))) within;
 }
 
 pub holds_twice : (graphs : Graphs) (first second third : List Ban) → HoldsMore graphs first second → HoldsMore graphs second third → HoldsMore graphs first third
@@ -60,10 +44,7 @@ holds_twice graphs first second third one other = record {
 }
 
 pub covers_more : (graphs : Graphs) (before after : List Ban) (pairs : List Pair) (number : ℕ) → HoldsMore graphs before after → Covers before pairs number → Covers after pairs number
-covers_more graphs before after pairs number more is = record {
-  held = omega (arith, is.held, ap length more.more, length-append before more.added);
-  within = λ d. subst (IsWithin pairs) (sym (ap (λ l. get_or l number d) more.more ∙ get_or_append_left before more.added d number is.held)) (is.within d);
-}
+covers_more graphs before after pairs number more is = covers_later before more.added after pairs number more.more is
 
 reference_facts : (facts : List Decided) (bans : List Ban) (pairs : List Pair) (pair : Pair) (ref : Option ℕ) → IsReference (given_of [] bans) pairs pair ref → IsReference (given_of facts bans) pairs pair ref
 reference_facts facts bans pairs pair None is = is

@@ -56,3 +56,16 @@ are_digits = refl
 pub alternating-digits : (i v : ℕ) → i < 6 → v < 64 → word_bit v (get_or alternating_words i 0) ≡ eqb (v / 2 ^ i % 2) 1
 alternating-digits i v h l =
     same-beq (word_bit v (get_or alternating_words i 0)) (eqb (v / 2 ^ i % 2) 1) (below-each 64 (λ v. beq (word_bit v (get_or alternating_words i 0)) (eqb (v / 2 ^ i % 2) 1)) (below-each 6 (λ i. below 64 (λ v. beq (word_bit v (get_or alternating_words i 0)) (eqb (v / 2 ^ i % 2) 1))) are_digits i h) v l)
+
+differ-twice : (a b : Bool) → differ (differ a b) b ≡ a
+differ-twice true true = refl
+differ-twice true false = refl
+differ-twice false true = refl
+differ-twice false false = refl
+
+-- a bit that was inverted has a value where it had the value inverted
+pub value-after : (b value inverse : Bool) → b ≡ differ value inverse → differ b inverse ≡ value
+value-after b value inverse is = ap (λ c. differ c inverse) is ∙ differ-twice value inverse
+
+pub value-before : (b value inverse : Bool) → differ b inverse ≡ value → b ≡ differ value inverse
+value-before b value inverse is = sym (differ-twice b inverse) ∙ ap (λ c. differ c inverse) is

@@ -4,7 +4,7 @@ use Rattle.std.proofs.lemmas.Bool.{false≢true}
 use Rattle.std.proofs.lemmas.List.{get_or-set_same, get_or-set_other}
 use Rattle.circuits.specs.declared.netlist.Gate.{Gate}
 use Rattle.circuits.specs.Literals.{bit, signal_of}
-use Rattle.sim_signature.specs.Rounds.{IsRunOrKept, bits_of_gate, block_after, block_bit}
+use Rattle.sim_signature.specs.Blocks.{IsRunOrKept, bit_of_gate, block_after, block_bit}
 
 pub kept-others : (before after : List (List ℕ)) (marks : List Bool) (place s : ℕ) → s ≢ place → block_after before after (set marks place false) s ≡ block_after before after marks s
 kept-others before after marks place s apart =
@@ -28,7 +28,7 @@ kept-place gate place before after marks reached there is not_reached =
     inr (unmarked before after (set marks place false) place (get_or-set_same marks place false false there), unmarked before after marks (signal_of gate.a) both.0, unmarked before after marks (signal_of gate.b) both.1)
 
 pub run-place : (gate : Gate) (place : ℕ) (before after : List (List ℕ)) (marks : List Bool) (block : List ℕ) → place < length marks → place < length after
-    → ((w v : ℕ) → w < 8 → v < 64 → block_bit w v block ≡ bits_of_gate (λ s. block_bit w v (block_after before after marks s)) gate)
+    → ((w v : ℕ) → w < 8 → v < 64 → block_bit w v block ≡ bit_of_gate (λ s. block_bit w v (block_after before after marks s)) gate)
     → IsRunOrKept gate place before after (set after place block) marks (set marks place true)
 run-place gate place before after marks block there room bits =
     let is = ap (λ mark. cond mark (get_or (set after place block) place []) (get_or before place [])) (get_or-set_same marks place true false there) ∙ get_or-set_same after place block [] room in

@@ -1,23 +1,12 @@
 -- The vectors that blocks hold.
-use Rattle.std.proofs.Common.{ℕ, ◌<◌, ◌≡◌, ◌/◌, ◌%◌, ◌^◌, Bool, not, eqb, List, [], ◌∷◌, ◌++◌, length, get_or, set, sym, ap, ◌∙◌, inl, inr, arith}
+use Rattle.std.proofs.Common.{ℕ, ◌<◌, ◌≡◌, ◌/◌, ◌%◌, ◌^◌, eqb, List, [], ◌∷◌, ◌++◌, length, get_or, sym, ap, ◌∙◌, inl, inr, arith}
 use Rattle.std.proofs.lemmas.Bool.{cases_lt}
 use Rattle.std.proofs.lemmas.List.{length_push, get_or_append_left, get_or_push}
-use Rattle.circuits.specs.Literals.{bit, vector_of}
+use Rattle.circuits.specs.Literals.{vector_of}
 use Rattle.circuits.proofs.Codes.{vector_of-from_bits}
-use Rattle.query_core.specs.declared.claims.Shape.{Shape}
-use Rattle.query_core.specs.declared.claims.Shape.TheVariants.{Up, Down, Swap}
-use Rattle.query_core.specs.Claims.{HasValues, with_opposites}
 use Rattle.word_sim.specs.Columns.{word_bit, word_of}
-use Rattle.sim_signature.specs.Changes.{changed, change_of}
-use Rattle.sim_signature.specs.Rounds.{block_bit, pattern}
+use Rattle.sim_signature.specs.Blocks.{block_bit, pattern}
 use Rattle.sim_signature.proofs.Evaluating.{length-pattern, pattern-bit}
-
--- where a vector has a shape's values, the change gives it the opposite ones
-pub opposites : (shape : Shape) (x : List Bool) → HasValues shape x → changed (change_of shape) x ≡ with_opposites shape x
-opposites (Up i) x has = ap (λ b. set x i (not b)) has
-opposites (Down i) x has = ap (λ b. set x i (not b)) has
-opposites (Swap i j a b) x has =
-    ap (λ c. set (set x i (not c)) j (not (bit x j))) has.0 ∙ ap (λ c. set (set x i (not a)) j (not c)) has.1
 
 abbrev pub HasDigits : List (List ℕ) → Type 0
 HasDigits blocks = (k : ℕ) → k < length blocks → (w v : ℕ) → w < 8 → v < 64 → block_bit w v (get_or blocks k []) ≡ eqb (v / 2 ^ k % 2) 1

@@ -1,3 +1,5 @@
+pub mod Blocks
 pub mod Changes
-pub mod Rounds
+pub mod Signatures
 pub mod Sightings
+pub mod Simulations

@@ -1,12 +1,11 @@
 -- Vectors that were seen to break claims of an output.
-use Rattle.std.specs.Prelude.{◌≡◌, ◌⊎◌, ℕ, ◌<◌, Bool, true, List, [], ◌∷◌, ◌++◌, All, Any, Contains}
+use Rattle.std.specs.Prelude.{◌≡◌, ◌⊎◌, ℕ, ◌<◌, Bool, true, List, All, Any, Contains}
 use Rattle.circuits.specs.Literals.{bit}
 use Rattle.circuits.specs.Netlists.{Net}
 use Rattle.query_core.specs.declared.claims.Shape.{Shape}
 use Rattle.query_core.specs.declared.claims.Shape.TheVariants.{Up, Down, Swap}
-use Rattle.query_core.specs.Claims.{IsPlaced, BreaksShape}
-use Rattle.word_sim.specs.Columns.{word_of}
-use Rattle.sim_signature.specs.Rounds.{Simulated, block_bit, pattern}
+use Rattle.query_core.specs.Claims.{IsPlaced, BreaksShape, ShapeFails}
+use Rattle.sim_signature.specs.Signatures.{HasAllVectors, Signed}
 use Rattle.sim_signature.specs.declared.sighting.Sighting.{Sighting}
 
 -- the vector breaks the shape, whose inputs are there
@@ -24,21 +23,11 @@ IsSighted shape sightings = Any (λ sighting. sighting.shape ≡ shape) sighting
 abbrev pub AreLeft : List Shape → List Sighting → List Shape → Type 0
 AreLeft claims sightings left = (shape : Shape) → Contains claims shape → Contains left shape ⊎ IsSighted shape sightings
 
--- one of the vectors that a block's bits stand for is noted, where there is one
-abbrev pub IsNoted : List (List ℕ) → Shape → List ℕ → List Sighting → List Sighting → Type 0
-IsNoted blocks shape lanes old new =
-    (((w : ℕ) → w < 8 → word_of w lanes ≡ 0) × (new ≡ old))
-    ⊎ ((w : ℕ) × (v : ℕ) × (w < 8) × (v < 64) × (block_bit w v lanes ≡ true)
-    × (new ≡ old ++ record { shape = shape; vector = pattern blocks w v } ∷ []))
-
--- Sightings are added: each shape among those hunted that one of the 512 vectors breaks is sighted.
-pub record Hunted (s : Simulated) (Among : Shape → Type 0) (old new : List Sighting) : Type 0 where
-  pub broken : AreBroken s.target.net s.target.output old → AreBroken s.target.net s.target.output new
+-- Sightings are added: where all vectors were tried, each shape among those hunted that some vector breaks is sighted.
+pub record Hunted (s : Signed) (k : ℕ) (Among : Shape → Type 0) (old new : List Sighting) : Type 0 where
+  pub broken : AreBroken s.net k old → AreBroken s.net k new
   pub kept : (shape : Shape) → IsSighted shape old → IsSighted shape new
-  pub found : (shape : Shape) → Among shape
-      → (w v : ℕ) → w < 8 → v < 64
-      → BreaksShape s.target.net s.target.output shape (pattern s.blocks w v)
-      → IsSighted shape new
+  pub found : HasAllVectors s → (shape : Shape) → Among shape → ShapeFails s.net k shape → IsSighted shape new
 
 -- the shape is of one input, or of two of which it is the first
 abbrev pub IsOfInput : ℕ → Shape → Type 0

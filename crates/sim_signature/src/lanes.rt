@@ -2,7 +2,7 @@
 
 ghost use Rattle.std.specs.Prelude.{◌≡◌, ◌<◌, ◌↔◌, ℕ, true, MatchOption};
 ghost use Rattle.word_sim.specs.Columns.{word_bit, word_of};
-ghost use Rattle.sim_signature.specs.Rounds.{block_bit};
+ghost use Rattle.sim_signature.specs.Blocks.{block_bit};
 
 use std::simd::prelude::*;
 use word_sim::and_lanes;
@@ -20,8 +20,17 @@ pub(crate) fn first_vector(block: u64x8) -> Option<(usize, u32)>
     None
 }
 
+/// A bit of a word of a block.
+pub(crate) fn bit_at(block: u64x8, word: usize, lane: u32) -> bool
+    requires word { word < 8 }
+    requires lane { lane < 64 }
+    ensures { result ≡ block_bit word lane block }
+{
+    (word_at(block, word) >> lane) % 2 == 1
+}
+
 /// A word of a block.
-pub(crate) fn word_at(block: u64x8, word: usize) -> u64
+fn word_at(block: u64x8, word: usize) -> u64
     requires { word < 8 }
     ensures { result ≡ word_of word block }
 {

@@ -3,12 +3,16 @@
 
 mod change;
 mod claims;
-mod cone;
+mod columns;
+mod gates;
 mod hunting;
 mod lanes;
-mod round;
+mod reading;
 mod sighting;
+mod signatures;
+mod simulation;
 mod vectors;
 
 pub use hunting::hunt;
 pub use sighting::Sighting;
+pub use signatures::Signatures;

@@ -3,12 +3,15 @@
 ghost use Rattle.std.specs.Prelude.{◌≡◌, ◌<◌, ◌≤◌, ◌/◌, ◌%◌, ◌^◌, ◌==◌, ℕ, length, IfOk};
 ghost use Rattle.circuits.specs.Literals.{vector_of};
 ghost use Rattle.word_sim.specs.Columns.{word_bit, word_of};
-ghost use Rattle.sim_signature.specs.Rounds.{pattern};
+ghost use Rattle.sim_signature.specs.Blocks.{pattern};
 
 use rand_core::Rng;
 use rand_pcg::Pcg32;
 use std::alloc::{AllocError, Global};
 use std::simd::prelude::*;
+
+/// How many inputs a circuit has at most whose vectors are all tried: a word holds as many.
+pub(crate) const FEW: u32 = 6;
 
 /// Bit v of word i is digit i of v in base two.
 const ALTERNATING: [u64; 6] = [
@@ -27,8 +30,28 @@ fn alternating(input: u32) -> u64
     ALTERNATING[input as usize]
 }
 
+/// 512 vectors, a block of eight words for each input: all vectors of at most six inputs, else some that a generator draws.
+///
+/// # Errors
+///
+/// Only when out of memory.
+pub(crate) fn vectors(
+    alloc: Global,
+    inputs: u32,
+    generator: &mut Pcg32,
+) -> Result<Vec<u64x8>, AllocError>
+    ensures inputs { IfOk result (λ blocks. length blocks.items ≡ inputs) }
+    ensures all { IfOk result (λ blocks. inputs ≤ 6 → (w v : ℕ) → w < 8 → v < 64
+        → pattern blocks.items w v ≡ vector_of inputs v) }
+{
+    if inputs > FEW {
+        return drawn_vectors(alloc, inputs, generator);
+    }
+    all_vectors(alloc, inputs)
+}
+
 /// All vectors of at most six inputs: bit v of each word stands for the vector with the number v.
-pub(crate) fn all_vectors(alloc: Global, inputs: u32) -> Result<Vec<u64x8>, AllocError>
+fn all_vectors(alloc: Global, inputs: u32) -> Result<Vec<u64x8>, AllocError>
     requires { inputs ≤ 6 }
     ensures vectors { IfOk result (λ blocks. (w v : ℕ) → w < 8 → v < 64 → pattern blocks.items w v ≡ vector_of inputs v) }
     ensures inputs { IfOk result (λ blocks. length blocks.items ≡ inputs) }
@@ -48,7 +71,7 @@ fn everywhere(word: u64) -> u64x8
 }
 
 /// Vectors drawn by a generator.
-pub(crate) fn drawn_vectors(
+fn drawn_vectors(
     alloc: Global,
     inputs: u32,
     generator: &mut Pcg32,

@@ -1,35 +1,25 @@
-use Rattle.std.proofs.Common.{◌∷◌, [], refl, sym, subst}
-use Rattle.std.proofs.lemmas.Result.{err_from_is_err_and}
-use Rattle.net_core.specs.Sides.{Graphs}
-use Rattle.account_core.specs.Given.{decided_by, given_of}
-use Rattle.account_core.specs.Steps.{IsValidBan}
-use Rattle.std.specs.Prelude.{map}
-use Rattle.fact_bans.proofs.ServeLemmas.{served_one}
-use Rattle.fact_bans.proofs.HoldLemmas.{covers_own}
-use Rattle.fact_bans.proofs.HoldingLemmas.{held_ban, held_kept, holds_fail, holds_ok, holds_stop}
+use Rattle.std.proofs.Common.{◌∷◌, [], refl}
+use Rattle.fact_bans.proofs.HoldingLemmas.{held_same, holds_ok}
+use Rattle.fact_bans.proofs.MismatchLemmas.{first_placed, input_before, input_from, input_image, input_to, is_image, one_placed, second_placed, two_known, two_ordered}
 use Rattle.fact_bans.proofs.mismatches.mismatch.Goals as goal
 
-pub returns-in_err-ban-clause-holds : goal.returns-in_err-ban-clause-holds
-returns-in_err-ban-clause-holds g c =
-    let p = err_from_is_err_and c.from_residual.result c.from_residual.ensures.1 in
-    holds_fail _ _ _ _ _ _ _ c.in_err-ban.field-0.0 (cc (p.1, p.2)) c.requires.may c.in_err-ban.ensures.serves
+pub returns-in_default-clause-holds : goal.returns-in_default-clause-holds
+returns-in_default-clause-holds g c = holds_ok _ _ _ _ _ _ _ _ _ refl (held_same _ _ _ _ c.requires.may)
 
-pub returns-in_default-2-clause-holds : goal.returns-in_default-2-clause-holds
-returns-in_default-2-clause-holds g c =
-    holds_ok _ _ _ _ _ _ _ _ _ refl (held_kept _ _ _ _ _ _ _ c.requires.may.valid (served_one _ _ _ _ _ c.in_ok-ban.ensures.serves) refl)
+pub hold_by-requires-clause-known : goal.hold_by-requires-clause-known
+hold_by-requires-clause-known g c = two_known c.args.graphs.now c.args.input c.args.output c.requires.input_known c.requires.output_known
 
-pub returns-in_err-number-clause-holds : goal.returns-in_err-number-clause-holds
-returns-in_err-number-clause-holds g c =
-    let p = err_from_is_err_and c.from_residual-in_err-number.result c.from_residual-in_err-number.ensures.1 in
-    holds_stop _ _ _ _ _ _ _ _ (cc (p.1, p.2)) (held_kept _ _ _ _ _ _ _ c.requires.may.valid (served_one _ _ _ _ _ c.in_ok-ban.ensures.serves) c.in_err-number.ensures.refused)
+pub hold_by-requires-clause-ordered : goal.hold_by-requires-clause-ordered
+hold_by-requires-clause-ordered g c = two_ordered c.args.input c.args.output (input_before c.args.input c.args.output c.requires.input c.requires.output)
 
-pub returns-clause-holds : goal.returns-clause-holds
-returns-clause-holds g c =
-    let by = rw c.in-Some-2.is at c.in_ok-ban.ensures.ban in
-    let here = subst (λ (gr : Graphs). IsValidBan gr (given_of (map decided_by (g.O.Oracle.known c.ban_by.new.oracle).facts) c.args.book.now) c.in-Some-2.ban) (sym c.requires.may.graphs_are) (by.valid c.args.book.now) in
-    holds_ok _ _ _ _ _ _ _ _ _ refl (held_ban _ _ _ _ _ _ _ c.in-Some-2.ban c.requires.may.valid (served_one _ _ _ _ _ c.in_ok-ban.ensures.serves) c.in_ok-number.ensures.held here)
+pub hold_by-requires-clause-image : goal.hold_by-requires-clause-image
+hold_by-requires-clause-image g c =
+    is_image (c.args.input ∷ c.args.output ∷ []) _ _ _ _ c.carried-carried.ensures.claim c.carried-carried.ensures.image refl (input_image c.args.input c.args.output c.in-Some.value c.requires.input c.requires.output)
 
-pub returns-clause-covers : goal.returns-clause-covers
-returns-clause-covers g c =
-    let by = rw c.in-Some-2.is at c.in_ok-ban.ensures.ban in
-    covers_own c.args.book.now c.hold.new.self c.in-Some-2.ban (c.args.input ∷ c.args.output ∷ []) c.in_ok-number.number by.pairs_are c.in_ok-number.ensures.held c.in_ok-number.ensures.number
+pub hold_by-requires-clause-claim_placed : goal.hold_by-requires-clause-claim_placed
+hold_by-requires-clause-claim_placed g c =
+    first_placed c.args.graphs.now c.args.output _ _ c.carried-carried.ensures.claim c.requires.output c.requires.output_known (one_placed _ _ _ (input_from c.args.graphs.now c.args.input c.requires.input c.requires.input_known))
+
+pub hold_by-requires-clause-image_placed : goal.hold_by-requires-clause-image_placed
+hold_by-requires-clause-image_placed g c =
+    second_placed c.args.graphs.now c.args.output _ _ c.carried-carried.ensures.image c.requires.output c.requires.output_known (one_placed _ _ _ (input_to c.args.graphs.now c.args.input c.requires.input c.requires.input_known))

@@ -5,7 +5,7 @@ use Rattle.account_core.specs.declared.step.Ban.{Ban}
 use Rattle.account_core.specs.Given.{decided_by, given_of}
 use Rattle.account_core.specs.Steps.{IsValidBan}
 use Rattle.fact_bans.proofs.ServeLemmas.{served_one}
-use Rattle.fact_bans.proofs.HoldLemmas.{covers_own}
+use Rattle.ban_book.proofs.BookLemmas.{covers_own}
 use Rattle.fact_bans.proofs.HoldingLemmas.{held_ban, held_kept, holds_fail, holds_ok, holds_stop}
 use Rattle.fact_bans.proofs.TallyLemmas.{tally_valid}
 use Rattle.fact_bans.proofs.tallies.tally_by.Goals as goal

@@ -1,34 +1,28 @@
-use Rattle.std.proofs.Common.{List, refl, subst, sym, ◌∙◌}
-use Rattle.circuits.specs.declared.port.Pair.{Pair}
-use Rattle.net_core.specs.Sides.{Graphs}
-use Rattle.account_core.specs.Facts.{AreFacts}
-use Rattle.ban_book.specs.Covering.{Covers}
-use Rattle.match_search.proofs.ServeLemmas.{served_one, serves_last}
-use Rattle.match_search.proofs.StateLemmas.{search_stays}
+use Rattle.std.proofs.Common.{refl}
+use Rattle.std.proofs.lemmas.Result.{err_from_is_err_and}
+use Rattle.fact_bans.proofs.HoldingLemmas.{held_one, held_same, holds_err, holds_last, holds_ok, may_later}
+use Rattle.match_search.proofs.AskLemmas.{ahead_later}
 use Rattle.match_search.proofs.branching.ahead.Goals as goal
 
-pub go_on-requires-clause-graphs : goal.go_on-requires-clause-graphs
-go_on-requires-clause-graphs g c = c.requires.graphs ∙ sym c.in_ok-ban.ensures.holds.serves.grows.graphs
+pub returns-in_err-impasse-clause-holds : goal.returns-in_err-impasse-clause-holds
+returns-in_err-impasse-clause-holds g c =
+    let p = err_from_is_err_and c.from_residual.result c.from_residual.ensures.1 in
+    holds_err _ _ _ _ _ _ _ _ _ _ _ c.in_err-impasse.field-0.0 (cc (p.1, p.2)) (held_same _ _ _ _ c.requires.may) c.in_err-impasse.ensures.holds
 
-pub go_on-requires-clause-lawful : goal.go_on-requires-clause-lawful
-go_on-requires-clause-lawful g c =
-    subst (λ (gr : Graphs). AreFacts gr (g.O.Oracle.known c.exclude_newest.new.oracle).facts) (sym (c.requires.graphs ∙ sym c.in_ok-ban.ensures.holds.serves.grows.graphs)) c.in_ok-ban.ensures.holds.serves.grows.lawful
+pub returns-in-Some-clause-holds : goal.returns-in-Some-clause-holds
+returns-in-Some-clause-holds g c = holds_ok _ _ _ _ _ _ _ _ _ refl (held_one _ _ _ _ _ _ _ _ c.in_ok-impasse.ensures.holds)
 
-pub go_on-requires-clause-suits : goal.go_on-requires-clause-suits
-go_on-requires-clause-suits g c = (served_one _ _ _ _ _ c.in_ok-ban.ensures.holds.serves).suits
-
-pub go_on-requires-clause-valid : goal.go_on-requires-clause-valid
-go_on-requires-clause-valid g c = c.in_ok-ban.ensures.holds.valid
-
-pub go_on-requires-clause-search : goal.go_on-requires-clause-search
-go_on-requires-clause-search g c = search_stays c.args.graphs.now c.args.book.now c.exclude_newest.new.book c.in_ok-ban.ensures.holds.adds c.args.state.now.held c.args.state.now.levels c.requires.search
-
-pub returns-clause-serves : goal.returns-clause-serves
-returns-clause-serves g c = serves_last _ _ _ _ _ _ _ (served_one _ _ _ _ _ c.in_ok-ban.ensures.holds.serves) c.go_on.ensures.serves
-
-pub returns-in-Some-2-clause-ahead : goal.returns-in-Some-2-clause-ahead
-returns-in-Some-2-clause-ahead g c = record {
-  search = search_stays c.args.graphs.now c.args.book.now c.exclude_newest.new.book c.in_ok-ban.ensures.holds.adds c.args.state.now.held c.args.state.now.levels c.requires.search;
-  same = refl;
-  covers = let h = rw c.in-Some-2.is at c.in_ok-ban.ensures.covers in subst (λ (l : List Pair). Covers c.exclude_newest.new.book l c.in-Some-2.ban) c.deref-2.ensures.value h;
+pub returns-in-Some-clause-ahead : goal.returns-in-Some-clause-ahead
+returns-in-Some-clause-ahead g c = record {
+  impasse_is = rw c.in-Some.is at c.in_ok-impasse.ensures.impasse;
+  less = c.in_ok-impasse.ensures.less;
 }
+
+pub go_on-requires-clause-may : goal.go_on-requires-clause-may
+go_on-requires-clause-may g c = may_later _ _ _ _ _ _ _ c.requires.may (held_one _ _ _ _ _ _ _ _ c.in_ok-impasse.ensures.holds)
+
+pub returns-clause-holds : goal.returns-clause-holds
+returns-clause-holds g c = holds_last _ _ _ _ _ _ _ _ _ _ _ (held_one _ _ _ _ _ _ _ _ c.in_ok-impasse.ensures.holds) c.go_on.ensures.holds
+
+pub returns-clause-ahead : goal.returns-clause-ahead
+returns-clause-ahead g c = ahead_later c.args.graphs.now c.go_on.new.book c.args.domains.now c.follow.new.domains c.go_on.new.domains c.go_on.result c.in_ok-impasse.ensures.less c.go_on.ensures.ahead

@@ -1,38 +1,27 @@
-use Rattle.std.proofs.Common.{List, refl, subst}
-use Rattle.circuits.specs.declared.port.Pair.{Pair}
-use Rattle.ban_book.specs.Covering.{Covers}
-use Rattle.port_covers.specs.Held.{IsWhole}
-use Rattle.match_search.proofs.ServeLemmas.{valid_holds}
-use Rattle.match_search.proofs.StateLemmas.{search_later}
+use Rattle.std.proofs.Common.{refl}
+use Rattle.std.proofs.lemmas.Result.{err_from_is_err_and}
+use Rattle.fact_bans.proofs.HoldingLemmas.{held_same, holds_ok, holds_stop}
+use Rattle.match_search.proofs.AskLemmas.{trail_beside}
 use Rattle.match_search.proofs.branching.go_on.Goals as goal
 
-pub returns-in_err-ahead-clause-valid : goal.returns-in_err-ahead-clause-valid
-returns-in_err-ahead-clause-valid g c = valid_holds _ c.args.graphs.now c.foresee.new.book c.descend.new.book c.in_err-ahead.ensures.more (valid_holds _ c.args.graphs.now c.args.book.now c.foresee.new.book c.in_ok-ban.ensures.more c.requires.valid)
+pub returns-in_err-port-clause-holds : goal.returns-in_err-port-clause-holds
+returns-in_err-port-clause-holds g c =
+    let p = err_from_is_err_and c.from_residual.result c.from_residual.ensures.1 in
+    holds_stop _ _ _ _ _ _ _ _ (cc (p.1, p.2)) (held_same _ _ _ _ c.requires.may)
 
-pub returns-clause-valid : goal.returns-clause-valid
-returns-clause-valid g c = valid_holds _ c.args.graphs.now c.foresee.new.book c.descend.new.book c.in_ok-ahead.ensures.more (valid_holds _ c.args.graphs.now c.args.book.now c.foresee.new.book c.in_ok-ban.ensures.more c.requires.valid)
+pub returns-in_err-branch-clause-holds : goal.returns-in_err-branch-clause-holds
+returns-in_err-branch-clause-holds g c =
+    let p = err_from_is_err_and c.from_residual-in_err-branch.result c.from_residual-in_err-branch.ensures.1 in
+    holds_stop _ _ _ _ _ _ _ _ (cc (p.1, p.2)) (held_same _ _ _ _ c.requires.may)
 
-pub compare_whole-requires-clause-whole : goal.compare_whole-requires-clause-whole
-compare_whole-requires-clause-whole g c = subst (IsWhole c.args.graphs.now) c.deref-3.ensures.value c.in_default-next_port.ensures.none
+pub returns-in-None-clause-holds : goal.returns-in-None-clause-holds
+returns-in-None-clause-holds g c = holds_ok _ _ _ _ _ _ _ _ _ refl (held_same _ _ _ _ c.requires.may)
 
-pub returns-in_err-ban-clause-valid : goal.returns-in_err-ban-clause-valid
-returns-in_err-ban-clause-valid g c = valid_holds _ c.args.graphs.now c.args.book.now c.foresee.new.book c.in_err-ban.ensures.more c.requires.valid
+pub returns-in-Some-2-clause-holds : goal.returns-in-Some-2-clause-holds
+returns-in-Some-2-clause-holds g c = holds_ok _ _ _ _ _ _ _ _ _ refl (held_same _ _ _ _ c.requires.may)
 
-pub returns-in-Some-clause-valid : goal.returns-in-Some-clause-valid
-returns-in-Some-clause-valid g c = valid_holds _ c.args.graphs.now c.args.book.now c.foresee.new.book c.in_ok-ban.ensures.more c.requires.valid
+pub returns-in-None-clause-trail : goal.returns-in-None-clause-trail
+returns-in-None-clause-trail g c = trail_beside _ _ _ _ _ c.bans.ensures c.requires.trail c.in_ok-branch.ensures.inputs c.in_ok-branch.ensures.outputs c.in_ok-branch.ensures.justified
 
-pub returns-in-Some-clause-ahead : goal.returns-in-Some-clause-ahead
-returns-in-Some-clause-ahead g c = record {
-  search = search_later c.args.graphs.now c.args.book.now c.foresee.new.book c.in_ok-ban.ensures.more c.args.state.now.held c.args.state.now.levels c.requires.search;
-  same = refl;
-  covers = let h = rw c.in-Some.is at c.in_ok-ban.ensures.covers in subst (λ (l : List Pair). Covers c.foresee.new.book l c.in-Some.ban) c.deref.ensures.value h;
-}
-
-pub compare_whole-requires-clause-search : goal.compare_whole-requires-clause-search
-compare_whole-requires-clause-search g c = search_later c.args.graphs.now c.args.book.now c.foresee.new.book c.in_ok-ban.ensures.more c.args.state.now.held c.args.state.now.levels c.requires.search
-
-pub compare_whole-requires-clause-valid : goal.compare_whole-requires-clause-valid
-compare_whole-requires-clause-valid g c = valid_holds _ c.args.graphs.now c.args.book.now c.foresee.new.book c.in_ok-ban.ensures.more c.requires.valid
-
-pub descend-requires-clause-search : goal.descend-requires-clause-search
-descend-requires-clause-search g c = search_later c.args.graphs.now c.args.book.now c.foresee.new.book c.in_ok-ban.ensures.more c.args.state.now.held c.args.state.now.levels c.requires.search
+pub returns-in-Some-2-clause-trail : goal.returns-in-Some-2-clause-trail
+returns-in-Some-2-clause-trail g c = trail_beside _ _ _ _ _ c.bans.ensures c.requires.trail c.in_ok-branch.ensures.inputs c.in_ok-branch.ensures.outputs c.in_ok-branch.ensures.justified

@@ -1,28 +1,39 @@
-use Rattle.std.proofs.Common.{◌<◌, subst}
-use Rattle.match_search.specs.declared.state.State.{State}
-use Rattle.match_search.specs.Progress.{left}
-use Rattle.match_search.proofs.ServeLemmas.{valid_holds}
-use Rattle.match_search.proofs.WeightLemmas.{less_on, less_back}
+use Rattle.std.proofs.Common.{refl, arith}
+use Rattle.std.proofs.lemmas.Result.{err_from_is_err_and}
+use Rattle.fact_bans.proofs.HoldingLemmas.{held_one, held_same, holds_err, holds_ok, holds_stop}
+use Rattle.match_search.proofs.AskLemmas.{held_more}
 use Rattle.match_search.proofs.branching.turn.Goals as goal
 
+pub returns-in_err-ahead-clause-holds : goal.returns-in_err-ahead-clause-holds
+returns-in_err-ahead-clause-holds g c =
+    let p = err_from_is_err_and c.from_residual.result c.from_residual.ensures.1 in
+    holds_err _ _ _ _ _ _ _ _ _ _ _ c.in_err-ahead.field-0.0 (cc (p.1, p.2)) (held_same _ _ _ _ c.requires.may) c.in_err-ahead.ensures.holds
+
+pub returns-in-Deeper-clause-holds : goal.returns-in-Deeper-clause-holds
+returns-in-Deeper-clause-holds g c = holds_ok _ _ _ _ _ _ _ _ _ refl (held_one _ _ _ _ _ _ _ _ c.in_ok-ahead.ensures.holds)
+
 pub returns-in-Deeper-clause-less : goal.returns-in-Deeper-clause-less
-returns-in-Deeper-clause-less g c =
-    less_on c.args.graphs.now c.ahead.new.book c.args.state.now c.ahead.new.state (rw c.in-Deeper.is at c.in_ok-ahead.ensures.ahead)
+returns-in-Deeper-clause-less g c = rw c.in-Deeper.is at c.in_ok-ahead.ensures.ahead
 
-pub returns-in_err-turn_back-clause-valid : goal.returns-in_err-turn_back-clause-valid
-returns-in_err-turn_back-clause-valid g c =
-    valid_holds _ c.args.graphs.now c.ahead.new.book c.turn_back.new.book c.in_err-turn_back.ensures.more c.in_ok-ahead.ensures.valid
+pub returns-in-Match-clause-holds : goal.returns-in-Match-clause-holds
+returns-in-Match-clause-holds g c = holds_ok _ _ _ _ _ _ _ _ _ refl (held_one _ _ _ _ _ _ _ _ c.in_ok-ahead.ensures.holds)
 
-pub returns-in-None-clause-valid : goal.returns-in-None-clause-valid
-returns-in-None-clause-valid g c =
-    valid_holds _ c.args.graphs.now c.ahead.new.book c.turn_back.new.book c.in_ok-turn_back.ensures.more c.in_ok-ahead.ensures.valid
+pub turn_back-requires-clause-impasse : goal.turn_back-requires-clause-impasse
+turn_back-requires-clause-impasse g c = (rw c.in-Impasse.is at c.in_ok-ahead.ensures.ahead).impasse_is
+
+pub returns-in_err-refusal-clause-holds : goal.returns-in_err-refusal-clause-holds
+returns-in_err-refusal-clause-holds g c =
+    let p = err_from_is_err_and c.from_residual-in_err-refusal.result c.from_residual-in_err-refusal.ensures.1 in
+    holds_stop _ _ _ _ _ _ _ _ (cc (p.1, p.2)) (held_more _ _ _ _ _ _ _ _ (held_one _ _ _ _ _ _ _ _ c.in_ok-ahead.ensures.holds) c.in_err-refusal.ensures.more)
+
+pub returns-in-None-clause-holds : goal.returns-in-None-clause-holds
+returns-in-None-clause-holds g c =
+    holds_ok _ _ _ _ _ _ _ _ _ refl (held_more _ _ _ _ _ _ _ _ (held_one _ _ _ _ _ _ _ _ c.in_ok-ahead.ensures.holds) c.in_ok-refusal.ensures.more)
 
 pub returns-in-None-clause-less : goal.returns-in-None-clause-less
 returns-in-None-clause-less g c =
-    let into = rw c.in-Ban.is at c.in_ok-ahead.ensures.ahead in
-    let back = rw c.in-None.is at c.in_ok-turn_back.ensures.back in
-    subst (λ (s : State). left c.args.graphs.now c.turn_back.new.state.levels < left c.args.graphs.now s.levels) into.same (less_back c.args.graphs.now c.ahead.new.book c.ahead.new.state c.turn_back.new.state into.search back.1)
+    omega (arith, (rw c.in-Impasse.is at c.in_ok-ahead.ensures.ahead).less, rw c.in-None.is at c.in_ok-refusal.ensures.less)
 
-pub returns-in-Some-clause-valid : goal.returns-in-Some-clause-valid
-returns-in-Some-clause-valid g c =
-    valid_holds _ c.args.graphs.now c.ahead.new.book c.turn_back.new.book c.in_ok-turn_back.ensures.more c.in_ok-ahead.ensures.valid
+pub returns-in-Some-clause-holds : goal.returns-in-Some-clause-holds
+returns-in-Some-clause-holds g c =
+    holds_ok _ _ _ _ _ _ _ _ _ refl (held_more _ _ _ _ _ _ _ _ (held_one _ _ _ _ _ _ _ _ c.in_ok-ahead.ensures.holds) c.in_ok-refusal.ensures.more)

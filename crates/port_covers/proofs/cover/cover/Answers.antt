@@ -2,7 +2,8 @@ use Rattle.std.proofs.Common.{subst, List}
 use Rattle.account_core.specs.declared.step.Ban.{Ban}
 use Rattle.account_core.specs.Given.{Decided, given_of}
 use Rattle.account_core.specs.Steps.{IsValidBan}
-use Rattle.port_covers.proofs.BookLemmas.{holds_one, covers_last}
+use Rattle.ban_book.proofs.BookLemmas.{covers_last}
+use Rattle.port_covers.proofs.BookLemmas.{holds_one}
 use Rattle.port_covers.proofs.cover.cover.Goals as goal
 
 pub returns-clause-more : goal.returns-clause-more

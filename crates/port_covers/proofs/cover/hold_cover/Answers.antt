@@ -1,7 +1,8 @@
 use Rattle.std.proofs.Common.{sym, subst, All}
 use Rattle.std.specs.Prelude.{Contains}
 use Rattle.std.proofs.lemmas.List.Elements.{All-contains_itself}
-use Rattle.port_covers.proofs.BookLemmas.{covers_last, holds_one}
+use Rattle.ban_book.proofs.BookLemmas.{covers_last}
+use Rattle.port_covers.proofs.BookLemmas.{holds_one}
 use Rattle.port_covers.proofs.cover.hold_cover.Goals as goal
 
 pub returns-clause-more : goal.returns-clause-more

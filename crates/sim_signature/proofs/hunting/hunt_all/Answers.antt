@@ -1,15 +1,15 @@
--- The vectors are those of this circuit's output.
-use Rattle.std.proofs.Common.{IfOk, subst}
-use Rattle.query_core.specs.declared.claims.Shape.{Shape}
-use Rattle.query_core.specs.Claims.{IsPlaced, ShapeFails}
-use Rattle.sim_signature.specs.Rounds.{Target}
-use Rattle.sim_signature.specs.Sightings.{AreBroken, IsSighted}
+-- All vectors were tried.
+use Rattle.std.proofs.Common.{◌≡◌, ◌∙◌, true, replicate, ap, subst, sym}
+use Rattle.std.specs.List.{Contains}
+use Rattle.circuits.specs.Netlists.{Net}
+use Rattle.query_core.specs.Claims.{ShapeFails}
+use Rattle.sim_signature.proofs.Wanted.{all_marked}
 use Rattle.sim_signature.proofs.hunting.hunt_all.Goals as goal
 
-pub returns-clause-broken : goal.returns-clause-broken
-returns-clause-broken c =
-    subst (λ (t : Target). IfOk c.hunt_vectors.result (λ sightings. AreBroken t.net t.output sightings.items)) c.in_ok-cone.ensures c.hunt_vectors.ensures.broken
-
 pub returns-clause-all : goal.returns-clause-all
-returns-clause-all c =
-    subst (λ (t : Target). IfOk c.hunt_vectors.result (λ sightings. (shape : Shape) → IsPlaced t.net.inputs shape → ShapeFails t.net t.output shape → IsSighted shape sightings.items)) c.in_ok-cone.ensures c.hunt_vectors.ensures.all
+returns-clause-all c shape placed fails =
+    let net : Net = c.args.graph.now in
+    let signatures = c.in_ok-signatures.ensures in
+    let marked : c.deref.result.now ≡ replicate net.inputs true = c.deref.ensures.value ∙ (c.in_ok-inputs.ensures.items_if_clones_equal (λ y e. e) ∙ ap (λ n. replicate n true) c.inputs.ensures.value) in
+    let wanted = c.in_ok-claims.ensures.found shape (all_marked net.inputs c.deref.result.now shape marked placed) in
+    c.in_ok-sight_all.ensures.hunted.found (signatures.all c.requires.few) shape (subst (λ list. Contains list shape) (sym c.deref-2.ensures.value) wanted) (subst (λ (net : Net). ShapeFails net c.args.output shape) (sym signatures.of.net_is) fails)

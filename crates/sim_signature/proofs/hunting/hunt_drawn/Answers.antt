@@ -1,9 +1,16 @@
--- The rounds look at this circuit's output.
-use Rattle.std.proofs.Common.{IfOk, subst}
-use Rattle.sim_signature.specs.Rounds.{Target}
+-- A round adds broken claims alone.
+use Rattle.std.proofs.Common.{subst}
+use Rattle.std.specs.List.{All}
+use Rattle.circuits.specs.Netlists.{Net}
+use Rattle.query_core.specs.Claims.{IsPlaced}
 use Rattle.sim_signature.specs.Sightings.{AreBroken}
 use Rattle.sim_signature.proofs.hunting.hunt_drawn.Goals as goal
 
-pub returns : goal.returns
-returns c =
-    subst (λ (t : Target). IfOk c.hunt_rounds.result (λ sightings. AreBroken t.net t.output sightings.items)) c.in_ok-cone.ensures c.hunt_rounds.ensures
+pub loop-preserved : goal.loop-preserved
+loop-preserved c =
+    let same = c.in_ok-signatures.ensures.of.net_is in
+    let said = c.in_ok-left-2.ensures in
+    let output = c.args.output in (
+      subst (λ (net : Net). AreBroken net output c.loop.sightings.items → AreBroken net output c.sight_all.new.sightings.items) same said.hunted.broken c.loop.invariant.0,
+      subst (λ (net : Net). All (IsPlaced net.inputs) c.in_ok-left-2.left.items) same said.placed,
+    )

@@ -1,6 +1,6 @@
 -- A bit is picked where the other block's bit has the value.
 use Rattle.std.proofs.Common.{not, refl}
-use Rattle.sim_signature.specs.Rounds.{block_bit}
+use Rattle.sim_signature.specs.Blocks.{block_bit}
 use Rattle.sim_signature.proofs.Picking.{picked}
 use Rattle.sim_signature.proofs.lanes.picked.Goals as goal
 

@@ -1,0 +1,52 @@
+-- How many lines can be learned for a query.
+use Rattle.std.proofs.Common.{◌≡◌, ℕ, ◌+◌, ◌-◌, ◌^◌, ◌<◌, ◌≤◌, List, [], ◌∷◌, ◌++◌, length, take, Result, Ok, Err, IfOk, IfErr, slice_index_or, slice_set, sym, ◌∙◌, ap, arith}
+use Rattle.std.proofs.lemmas.List.{get_or-set_same, get_or_at, length-append, length-set}
+use Rattle.cnf_core.specs.declared.log.LogLine.{LogLine}
+use Rattle.cnf_core.specs.declared.stop.Stop.{Stop}
+use Rattle.cnf_core.specs.declared.stop.Stop.TheVariants.{Spent, Memory}
+use Rattle.cnf_core.specs.Derivations.{clauses_of}
+use Rattle.learn_solver.specs.Searches.{no_line}
+use Rattle.learn_solver.proofs.BoundLemmas.{AreUnlike, few_lines, line_at, unlike_at}
+use Rattle.learn_solver.proofs.SolverLemmas.{line_known, line_says}
+use Rattle.net_core.specs.Sides.{Graphs}
+use Rattle.query_core.specs.declared.query.Query.{Query}
+use Rattle.query_core.specs.declared.ledger.Asked.{Asked}
+use Rattle.query_core.specs.Formulas.{formula_of}
+use Rattle.query_core.specs.Ledgers.{Ledgered, charged_front, charged_in, entry_of, last_asked, nothing_asked, opened, with_lines}
+use Rattle.ask_core.specs.declared.question.Answer.{Answer}
+use Rattle.ask_core.specs.Answers.{IsAskedIn, IsBounded, IsBoundedStop, IsStopped}
+
+-- the last entry of a query that was opened, with lines in place of its lemmas
+last_with : (query : Query) (lemmas lines : List LogLine) (asked : List Asked) → last_asked (with_lines lines (opened query lemmas asked)) ≡ record (entry_of query lemmas) { lines = lines }
+last_with query lemmas lines asked =
+    let front = charged_front asked in
+    let xs = opened query lemmas asked in
+    let size : length xs ≡ length front + 1 = length-append front (entry_of query lemmas ∷ []) in
+    let last : last_asked xs ≡ entry_of query lemmas = get_or_at front (entry_of query lemmas) [] nothing_asked (length xs - 1) (omega (arith, size)) in
+    let e : Asked = record (last_asked xs) { lines = lines } in
+    let there = get_or-set_same xs (length xs - 1) e nothing_asked (omega (arith, size)) in
+    ap (λ k. slice_index_or (slice_set xs (length xs - 1) e) (k - 1) nothing_asked) (length-set xs (length xs - 1) e) ∙ (there ∙ ap (λ (a : Asked). record a { lines = lines }) last)
+
+pub bounded_in : (graphs : Graphs) (query : Query) (old new : Ledgered) → IsAskedIn graphs query old new → IsBounded graphs query new
+bounded_in graphs query old new is =
+    let f = formula_of graphs query in
+    let first = length is.lemmas in
+    let unlike : AreUnlike f.variables first is.lines = record {
+      known = λ k late within. line_known f (clauses_of (take k is.lines)) (line_at is.lines k) (is.learned k no_line late within).derived;
+      once = λ k late within. (line_says f (clauses_of (take k is.lines)) (line_at is.lines k) (is.learned k no_line late within).derived).once;
+      unlike = λ j k early order within. unlike_at is.lines (line_at is.lines k).clause k j order within (is.learned k no_line (omega (arith, early, order)) within).unlike_earlier;
+    } in
+    omega (arith, few_lines f.variables first is.lines unlike, ap charged_in (ap last_asked is.asked ∙ last_with query is.lemmas is.lines old.asked))
+
+bounded_at : (graphs : Graphs) (query : Query) (old new : Ledgered) (stop : Stop) → IsStopped graphs query old new stop → IsBoundedStop graphs query new stop
+bounded_at graphs query old new Memory stopped = tt
+bounded_at graphs query old new (Spent learned) stopped = bounded_in graphs query old new stopped.asked_in
+
+-- so it is of each answer
+pub bounded_answer : (graphs : Graphs) (query : Query) (old new : Ledgered) (result : Result Answer Stop) → IfOk result (λ _. IsAskedIn graphs query old new) → IfOk result (λ _. IsBounded graphs query new)
+bounded_answer graphs query old new (Ok answer) asked = bounded_in graphs query old new asked
+bounded_answer graphs query old new (Err stop) asked = tt
+
+pub bounded_stops : (graphs : Graphs) (query : Query) (old new : Ledgered) (result : Result Answer Stop) → IfErr result (IsStopped graphs query old new) → IfErr result (IsBoundedStop graphs query new)
+bounded_stops graphs query old new (Ok answer) stopped = tt
+bounded_stops graphs query old new (Err stop) stopped = bounded_at graphs query old new stop stopped

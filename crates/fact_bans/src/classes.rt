@@ -1,0 +1,104 @@
+//! Outputs that don't fit together by counts of their inputs.
+
+use crate::seen::Seen;
+use account_core::Tallied;
+use net_core::Side;
+use std::alloc::{AllocError, Global};
+
+/// The most ways, plain ones, of which bans are held: a tally of wide circuits takes kilobytes, and each ban is looked up
+/// among those before it.
+const MOST_WAYS: usize = 4_096;
+
+/// How many inputs an output depends on, and in how many it is binate, as far as is seen.
+#[derive(Clone, Copy, Debug, Drop, PartialEq)]
+struct Key {
+    support: u32,
+    binate: u32,
+}
+
+/// Outputs of the first circuit and of the second, more together than a circuit has, none of which fits with one of the
+/// others, as far as is seen.
+#[derive(Debug, Drop)]
+pub(crate) struct Classes {
+    pub(crate) from: Vec<bool>,
+    pub(crate) to: Vec<bool>,
+}
+
+impl Classes {
+    /// Those outputs of two circuits with n outputs that have one key, and those that don't, where the other circuit has fewer of
+    /// the key: of all such keys the one with the fewest ways. None where each key is as frequent in both circuits.
+    pub(crate) fn new(
+        alloc: Global,
+        outputs: u32,
+        seen: &Seen,
+    ) -> Result<Option<Classes>, AllocError> {
+        let first = keys(alloc, Side::First, outputs, seen)?;
+        let second = keys(alloc, Side::Second, outputs, seen)?;
+        let Some(key) = rarest(&first, &second) else {
+            return Ok(None);
+        };
+        let is_first = frequency(&first, key) > frequency(&second, key);
+        Ok(Some(Classes {
+            from: marks(alloc, &first, key, is_first)?,
+            to: marks(alloc, &second, key, !is_first)?,
+        }))
+    }
+}
+
+fn keys(alloc: Global, side: Side, outputs: u32, seen: &Seen) -> Result<Vec<Key>, AllocError> {
+    let mut keys = Vec::new(alloc);
+    for output in 0..outputs {
+        keys.push(Key {
+            support: seen.count(side, output, Tallied::Support),
+            binate: seen.count(side, output, Tallied::Binate),
+        })?;
+    }
+    Ok(keys)
+}
+
+// The key that one circuit has more often, with the fewest ways to pair its outputs with those of other keys.
+fn rarest(first: &[Key], second: &[Key]) -> Option<Key> {
+    let mut found = None;
+    let mut fewest = MOST_WAYS + 1;
+    for key in first.iter().chain(second.iter()) {
+        let ways = ways_of(first, second, *key);
+        if ways < fewest {
+            fewest = ways;
+            found = Some(*key);
+        }
+    }
+    found
+}
+
+// How many ways there are to pair the outputs of a key of the circuit that has more of them with other ones; a great number
+// where both have as many.
+fn ways_of(first: &[Key], second: &[Key], key: Key) -> usize {
+    let one = frequency(first, key);
+    let other = frequency(second, key);
+    if one > other {
+        one.saturating_mul(second.len().saturating_sub(other))
+    } else if other > one {
+        other.saturating_mul(first.len().saturating_sub(one))
+    } else {
+        usize::MAX
+    }
+}
+
+fn frequency(keys: &[Key], key: Key) -> usize {
+    let mut count = 0usize;
+    for other in keys.iter() {
+        if *other == key {
+            count = count.saturating_add(1);
+        }
+    }
+    count
+}
+
+// Marks the outputs that have a key, or those that don't.
+fn marks(alloc: Global, keys: &[Key], key: Key, having: bool) -> Result<Vec<bool>, AllocError> {
+    let mut marks = Vec::new(alloc);
+    for other in keys.iter() {
+        marks.push((*other == key) == having)?;
+    }
+    Ok(marks)
+}

@@ -1,0 +1,104 @@
+//! Bans by a claim of the first circuit that is decided otherwise than the one that pairs carry it to.
+
+ghost use Rattle.std.specs.Prelude.{◌≡◌, All, IfOk, IfSome, map};
+ghost use Rattle.query_core.specs.Claims.{IsClaim};
+ghost use Rattle.account_core.specs.Facts.{AreFacts};
+ghost use Rattle.account_core.specs.Given.{decided_by};
+ghost use Rattle.account_core.specs.Mismatches.{IsImage};
+ghost use Rattle.account_core.specs.Ports.{AreOrdered, IsKnown};
+ghost use Rattle.ban_book.specs.Covering.{Covers};
+ghost use Rattle.oracle_core.specs.Oracles.{Serves, Suits};
+ghost use Rattle.fact_bans.specs.Mismatched.{IsBanBy, mismatch_of};
+ghost use Rattle.fact_bans.specs.Serving.{HoldsBans, MayHold};
+
+use crate::seen::Seen;
+use crate::told::{Told, decide};
+use account_core::{Ban, Step};
+use ban_book::BanBook;
+use circuits::Pair;
+use cnf_core::Stop;
+use items::Few;
+use net_core::Graphs;
+use oracle_core::Oracle;
+use query_core::{Claim, Ledger};
+use std::alloc::{AllocError, Global};
+
+/// A claim of the first circuit, and that of the second which pairs carry it to.
+#[derive(Clone, Copy, Debug, Drop)]
+pub(crate) struct Carried {
+    pub(crate) claim: Claim,
+    pub(crate) image: Claim,
+}
+
+/// Has both claims decided, and holds the ban of the pairs where one fails and the other one holds. Answers its number; None
+/// where both fail, or both hold.
+pub(crate) fn hold_by<O: Oracle>(
+    alloc: Global,
+    graphs: &Graphs<'_>,
+    oracle: &mut O,
+    pairs: &[Pair],
+    carried: Carried,
+    seen: &mut Seen,
+    book: &mut BanBook,
+    ledger: &mut Ledger,
+) -> Result<Option<u64>, Stop>
+    requires may { MayHold graphs.now (O.known oracle.old) ledger.old book.old }
+    requires known { All (IsKnown graphs.now) pairs.now }
+    requires ordered { AreOrdered pairs.now }
+    requires image { IsImage pairs.now carried.claim carried.image }
+    requires claim_placed { IsClaim graphs.now carried.claim }
+    requires image_placed { IsClaim graphs.now carried.image }
+    ensures holds { HoldsBans graphs.now (O.known oracle.old) (O.known oracle.new) ledger.old ledger.new book.old book.new result }
+    ensures covers { IfOk result (λ found. IfSome found (Covers book.new pairs.now)) }
+{
+    let Some(ban) = ban_by(alloc, oracle, pairs, carried, seen, ledger)? else {
+        return Ok(None);
+    };
+    let number = book.hold(ban)?;
+    Ok(Some(number))
+}
+
+// The ban of the pairs where one claim fails and the other one holds.
+fn ban_by<O: Oracle>(
+    alloc: Global,
+    oracle: &mut O,
+    pairs: &[Pair],
+    carried: Carried,
+    seen: &mut Seen,
+    ledger: &mut Ledger,
+) -> Result<Option<Ban>, Stop>
+    requires lawful { AreFacts (O.known oracle.old).graphs (O.known oracle.old).facts }
+    requires known { All (IsKnown (O.known oracle.old).graphs) pairs.now }
+    requires ordered { AreOrdered pairs.now }
+    requires image { IsImage pairs.now carried.claim carried.image }
+    requires claim_placed { IsClaim (O.known oracle.old).graphs carried.claim }
+    requires image_placed { IsClaim (O.known oracle.old).graphs carried.image }
+    requires suits { Suits (O.known oracle.old) ledger.old }
+    ensures serves { Serves (O.known oracle.old) (O.known oracle.new) ledger.old ledger.new result }
+    ensures ban { IfOk result (λ found. IfSome found
+        (IsBanBy (O.known oracle.old).graphs (map decided_by (O.known oracle.new).facts) pairs.now)) }
+{
+    let one = decide(alloc, oracle, carried.claim, seen, ledger)?;
+    let other = decide(alloc, oracle, carried.image, seen, ledger)?;
+    if one.holds == other.holds {
+        return Ok(None);
+    }
+    let ban = mismatch_ban(alloc, pairs, one, other)?;
+    Ok(Some(ban))
+}
+
+// The ban of the pairs by two facts, of which one holds.
+fn mismatch_ban(alloc: Global, pairs: &[Pair], one: Told, other: Told) -> Result<Ban, AllocError>
+    ensures { IfOk result (λ ban. ban ≡ mismatch_of pairs.now one.holds one.number other.number) }
+{
+    let pairs = Few::from_slice(alloc, pairs)?;
+    let (fails, holds) = if one.holds {
+        (other.number, one.number)
+    } else {
+        (one.number, other.number)
+    };
+    Ok(Ban {
+        pairs,
+        step: Step::Mismatch { fails, holds },
+    })
+}

@@ -1,6 +1,0 @@
-use Rattle.fact_bans.proofs.HoldingLemmas.{HasHeld}
-use Rattle.match_search.proofs.newest.exclude_beside.Given as goal
-
-abbrev pub invariant-loop-other : goal.invariant-loop-other
-invariant-loop-other g l =
-    HasHeld l.graphs (g.O.Oracle.known l.fn.oracle) (g.O.Oracle.known l.oracle) l.fn.ledger l.ledger l.fn.book l.book

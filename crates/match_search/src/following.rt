@@ -1,0 +1,242 @@
+//! What follows of the pairs that are held, by bans, by decided claims and by vectors.
+
+ghost use Rattle.std.specs.Prelude.{◌≡◌, ◌≤◌, IfOk, IfSome, OnOk};
+ghost use Rattle.port_covers.specs.Levels.{HoldsMore};
+ghost use Rattle.fact_bans.specs.Serving.{HoldsBans, MayHold};
+ghost use Rattle.pair_search.specs.Impasses.{IsImpasse};
+ghost use Rattle.pair_search.specs.Progress.{IsTrail, left};
+ghost use Rattle.table_guess.specs.Trials.{AreTrials};
+
+use crate::asking::{ask_of, ask_output};
+use crate::exchanged::exclude_by_swaps;
+use crate::foresight::foresee;
+use crate::guide::Guide;
+use ban_book::BanBook;
+use circuits::PortKind;
+use class_refine::Domains;
+use cnf_core::Stop;
+use net_core::Graphs;
+use oracle_core::Oracle;
+use pair_search::{Impasse, Queue, propagate};
+use query_core::Ledger;
+use std::alloc::{AllocError, Global};
+use table_guess::Trials;
+
+/// Holds and deletes what follows, and tries the pairs that are held on vectors.
+pub(crate) fn follow<O: Oracle>(
+    alloc: Global,
+    graphs: &Graphs<'_>,
+    oracle: &mut O,
+    guide: &mut Guide,
+    domains: &mut Domains,
+    queue: &mut Queue,
+    book: &mut BanBook,
+    ledger: &mut Ledger,
+) -> Result<Option<Impasse>, Stop>
+    requires may { MayHold graphs.now (O.known oracle.old) ledger.old book.old }
+    requires trail { IsTrail graphs.now book.old domains.old }
+    requires trials { AreTrials graphs.now.first guide.old.trials }
+    ensures holds { HoldsBans graphs.now (O.known oracle.old) (O.known oracle.new) ledger.old ledger.new book.old book.new result }
+    ensures trials { OnOk result (AreTrials graphs.now.first guide.new.trials) }
+    ensures trail { OnOk result (IsTrail graphs.now book.new domains.new) }
+    ensures less { OnOk result (left domains.new ≤ left domains.old) }
+    ensures impasse { IfOk result (λ found. IfSome found
+        (IsImpasse domains.new.inputs domains.new.outputs book.new domains.new.entries)) }
+{
+    if let Some(impasse) = settle_all(alloc, graphs, oracle, guide, domains, queue, book, ledger)? {
+        return Ok(Some(impasse));
+    }
+    let found = foresee_held(alloc, graphs, &guide.trials, domains, book)?;
+    Ok(found)
+}
+
+// Holds and deletes what follows of bans and of claims, those of one input first, which are fewer and whose bans are shorter.
+fn settle_all<O: Oracle>(
+    alloc: Global,
+    graphs: &Graphs<'_>,
+    oracle: &mut O,
+    guide: &mut Guide,
+    domains: &mut Domains,
+    queue: &mut Queue,
+    book: &mut BanBook,
+    ledger: &mut Ledger,
+) -> Result<Option<Impasse>, Stop>
+    requires may { MayHold graphs.now (O.known oracle.old) ledger.old book.old }
+    requires trail { IsTrail graphs.now book.old domains.old }
+    requires trials { AreTrials graphs.now.first guide.old.trials }
+    ensures holds { HoldsBans graphs.now (O.known oracle.old) (O.known oracle.new) ledger.old ledger.new book.old book.new result }
+    ensures trials { OnOk result (AreTrials graphs.now.first guide.new.trials) }
+    ensures trail { OnOk result (IsTrail graphs.now book.new domains.new) }
+    ensures less { OnOk result (left domains.new ≤ left domains.old) }
+    ensures impasse { IfOk result (λ found. IfSome found
+        (IsImpasse domains.new.inputs domains.new.outputs book.new domains.new.entries)) }
+{
+    if let Some(impasse) = settle(alloc, graphs, oracle, guide, domains, queue, book, ledger)? {
+        return Ok(Some(impasse));
+    }
+    let found = exchange_held(alloc, graphs, oracle, guide, domains, book, ledger)?;
+    Ok(found)
+}
+
+// Holds each held pair that wasn't yet against claims of two inputs, beside all others.
+fn exchange_held<O: Oracle>(
+    alloc: Global,
+    graphs: &Graphs<'_>,
+    oracle: &mut O,
+    guide: &mut Guide,
+    domains: &Domains,
+    book: &mut BanBook,
+    ledger: &mut Ledger,
+) -> Result<Option<Impasse>, Stop>
+    requires may { MayHold graphs.now (O.known oracle.old) ledger.old book.old }
+    requires trail { IsTrail graphs.now book.old domains.now }
+    ensures holds { HoldsBans graphs.now (O.known oracle.old) (O.known oracle.new) ledger.old ledger.new book.old book.new result }
+    ensures trials { guide.new.trials ≡ guide.old.trials }
+    ensures impasse { IfOk result (λ found. IfSome found
+        (IsImpasse domains.now.inputs domains.now.outputs book.new domains.now.entries)) }
+{
+    let _lawful = domains.entries();
+    let held = domains.pairs();
+    for place in guide.exchanged..held.len() {
+        let newest = held[place];
+        guide.exchanged = place;
+        let seen = &mut guide.seen;
+        if let Some(ban) = exclude_by_swaps(
+            alloc, graphs, oracle, held, newest, seen, book, ledger,
+        )? {
+            return Ok(Some(Impasse::Ban(ban)));
+        }
+    }
+    guide.exchanged = held.len();
+    Ok(None)
+}
+
+// Holds and deletes what follows of bans, and has claims decided of each output and of each held pair, whose bans come to them.
+// In each turn but the last one it is one more.
+fn settle<O: Oracle>(
+    alloc: Global,
+    graphs: &Graphs<'_>,
+    oracle: &mut O,
+    guide: &mut Guide,
+    domains: &mut Domains,
+    queue: &mut Queue,
+    book: &mut BanBook,
+    ledger: &mut Ledger,
+) -> Result<Option<Impasse>, Stop>
+    requires may { MayHold graphs.now (O.known oracle.old) ledger.old book.old }
+    requires trail { IsTrail graphs.now book.old domains.old }
+    requires trials { AreTrials graphs.now.first guide.old.trials }
+    ensures holds { HoldsBans graphs.now (O.known oracle.old) (O.known oracle.new) ledger.old ledger.new book.old book.new result }
+    ensures trials { OnOk result (AreTrials graphs.now.first guide.new.trials) }
+    ensures trail { OnOk result (IsTrail graphs.now book.new domains.new) }
+    ensures less { OnOk result (left domains.new ≤ left domains.old) }
+    ensures impasse { IfOk result (λ found. IfSome found
+        (IsImpasse domains.new.inputs domains.new.outputs book.new domains.new.entries)) }
+{
+    let inputs = domains.ports(PortKind::Input) as u64;
+    let outputs = domains.ports(PortKind::Output) as u64;
+    for _turn in 0..inputs + 2 * outputs + 1 {
+        if let Some(impasse) = propagate(domains, queue, book.bans())? {
+            return Ok(Some(impasse));
+        }
+        let more = ask_next(alloc, graphs, oracle, guide, domains, book, ledger)?;
+        if !more {
+            return Ok(None);
+        }
+    }
+    Ok(None)
+}
+
+// Holds the bans that decided claims show of the next output, or else of the next held pair. Answers whether there is one.
+fn ask_next<O: Oracle>(
+    alloc: Global,
+    graphs: &Graphs<'_>,
+    oracle: &mut O,
+    guide: &mut Guide,
+    domains: &Domains,
+    book: &mut BanBook,
+    ledger: &mut Ledger,
+) -> Result<bool, Stop>
+    requires may { MayHold graphs.now (O.known oracle.old) ledger.old book.old }
+    requires trail { IsTrail graphs.now book.old domains.now }
+    ensures holds { HoldsBans graphs.now (O.known oracle.old) (O.known oracle.new) ledger.old ledger.new book.old book.new result }
+    ensures trials { OnOk result (guide.new.trials ≡ guide.old.trials) }
+{
+    let asked = ask_next_output(alloc, graphs, oracle, guide, domains, book, ledger)?;
+    if asked {
+        return Ok(true);
+    }
+    ask_next_pair(alloc, graphs, oracle, guide, domains, book, ledger)
+}
+
+// Holds the tallies of the next output that none were held of. Answers whether there is one.
+fn ask_next_output<O: Oracle>(
+    alloc: Global,
+    graphs: &Graphs<'_>,
+    oracle: &mut O,
+    guide: &mut Guide,
+    domains: &Domains,
+    book: &mut BanBook,
+    ledger: &mut Ledger,
+) -> Result<bool, Stop>
+    requires may { MayHold graphs.now (O.known oracle.old) ledger.old book.old }
+    requires trail { IsTrail graphs.now book.old domains.now }
+    ensures holds { HoldsBans graphs.now (O.known oracle.old) (O.known oracle.new) ledger.old ledger.new book.old book.new result }
+    ensures trials { OnOk result (guide.new.trials ≡ guide.old.trials) }
+{
+    let Some(output) = guide.next_output(domains.ports(PortKind::Output)) else {
+        return Ok(false);
+    };
+    let seen = &mut guide.seen;
+    ask_output(alloc, graphs, oracle, domains, output, seen, book, ledger)?;
+    Ok(true)
+}
+
+// Holds the bans that decided claims show of the next held pair that wasn't held against any. Answers whether there is one.
+fn ask_next_pair<O: Oracle>(
+    alloc: Global,
+    graphs: &Graphs<'_>,
+    oracle: &mut O,
+    guide: &mut Guide,
+    domains: &Domains,
+    book: &mut BanBook,
+    ledger: &mut Ledger,
+) -> Result<bool, Stop>
+    requires may { MayHold graphs.now (O.known oracle.old) ledger.old book.old }
+    requires trail { IsTrail graphs.now book.old domains.now }
+    ensures holds { HoldsBans graphs.now (O.known oracle.old) (O.known oracle.new) ledger.old ledger.new book.old book.new result }
+    ensures trials { OnOk result (guide.new.trials ≡ guide.old.trials) }
+{
+    let _lawful = domains.entries();
+    let place = guide.asked;
+    if place >= domains.pairs().len() {
+        return Ok(false);
+    }
+    let pair = domains.pairs()[place];
+    guide.asked = place + 1;
+    let seen = &mut guide.seen;
+    ask_of(alloc, graphs, oracle, domains, pair, seen, book, ledger)?;
+    Ok(true)
+}
+
+// Tries the pairs that are held on vectors.
+fn foresee_held(
+    alloc: Global,
+    graphs: &Graphs<'_>,
+    trials: &Trials,
+    domains: &Domains,
+    book: &mut BanBook,
+) -> Result<Option<Impasse>, AllocError>
+    requires trail { IsTrail graphs.now book.old domains.now }
+    requires trials { AreTrials graphs.now.first trials.now }
+    ensures more { HoldsMore graphs.now book.old book.new }
+    ensures trail { IsTrail graphs.now book.new domains.now }
+    ensures impasse { IfOk result (λ found. IfSome found
+        (IsImpasse domains.now.inputs domains.now.outputs book.new domains.now.entries)) }
+{
+    let _lawful = domains.entries();
+    match foresee(alloc, graphs, domains.pairs(), trials, book)? {
+        Some(ban) => Ok(Some(Impasse::Ban(ban))),
+        None => Ok(None),
+    }
+}

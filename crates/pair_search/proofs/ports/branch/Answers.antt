@@ -1,0 +1,49 @@
+use Rattle.std.proofs.Common.{refl, subst}
+use Rattle.class_refine.specs.declared.entry.Entry.{Entry}
+use Rattle.class_refine.specs.declared.entry.Fate.TheVariants.{Held, Deleted}
+use Rattle.class_refine.specs.declared.entry.Cause.TheVariants.{Choice}
+use Rattle.class_refine.specs.declared.entry.Reason.TheVariants as reason
+use Rattle.class_refine.specs.Trails.{IsDeleted}
+use Rattle.pair_search.proofs.PortLemmas.{open_of_free}
+use Rattle.pair_search.proofs.StepLemmas.{clash_of, justified_one, less_chosen, less_one, one_more_of}
+use Rattle.pair_search.proofs.ports.branch.Goals as goal
+
+pub hold-requires-clause-open : goal.hold-requires-clause-open
+hold-requires-clause-open c =
+    let es = c.args.domains.now.entries in
+    let port = c.args.port in
+    open_of_free es port.side port.kind port.number c.way_of-way.result c.requires.free c.way_of-way.ensures.kind c.way_of-way.ensures.port (λ gone. c.in-Some.ensures.is (subst (IsDeleted es) c.way_of-way.ensures.value gone))
+
+pub delete-requires-clause-open : goal.delete-requires-clause-open
+delete-requires-clause-open c =
+    let es = c.args.domains.now.entries in
+    let port = c.args.port in
+    open_of_free es port.side port.kind port.number c.way_of-way.result c.requires.free c.way_of-way.ensures.kind c.way_of-way.ensures.port (λ gone. c.in-Some.ensures.is (subst (IsDeleted es) c.way_of-way.ensures.value gone))
+
+pub returns-in_ok-hold-in-None-clause-less : goal.returns-in_ok-hold-in-None-clause-less
+returns-in_ok-hold-in-None-clause-less c =
+    let d = c.args.domains.now in
+    let port = c.args.port in
+    let way = c.way_of-way.result in
+    let e : Entry = record { pair = way; fate = Held Choice } in
+    let is = open_of_free d.entries port.side port.kind port.number way c.requires.free c.way_of-way.ensures.kind c.way_of-way.ensures.port (λ gone. c.in-Some.ensures.is (subst (IsDeleted d.entries) c.way_of-way.ensures.value gone)) in
+    less_chosen d c.hold.new.self e (one_more_of d c.hold.new.self e c.in_ok-hold-in-None.ensures.held) c.entries-lawful.ensures.lawful c.way_of-way.ensures.known is refl
+
+pub returns-in_ok-delete-in-Some-holder-clause-justified : goal.returns-in_ok-delete-in-Some-holder-clause-justified
+returns-in_ok-delete-in-Some-holder-clause-justified c =
+    let d = c.args.domains.now in
+    let port = c.args.port in
+    let way = c.way_of-way.result in
+    let held = c.in-Some-holder.held in
+    let e : Entry = record { pair = way; fate = Deleted (reason.Clash held) } in
+    let is = open_of_free d.entries port.side port.kind port.number way c.requires.free c.way_of-way.ensures.kind c.way_of-way.ensures.port (λ gone. c.in-Some.ensures.is (subst (IsDeleted d.entries) c.way_of-way.ensures.value gone)) in
+    justified_one c.args.bans.now d c.delete.new.self e (one_more_of d c.delete.new.self e c.in_ok-delete-in-Some-holder.ensures.deleted) c.requires.justified (c.in-Some-holder.ensures.held, clash_of d.entries held way c.in-Some-holder.ensures.held is c.in-Some-holder.ensures.kind c.in-Some-holder.ensures.share)
+
+pub returns-in_ok-delete-in-Some-holder-clause-less : goal.returns-in_ok-delete-in-Some-holder-clause-less
+returns-in_ok-delete-in-Some-holder-clause-less c =
+    let d = c.args.domains.now in
+    let port = c.args.port in
+    let way = c.way_of-way.result in
+    let e : Entry = record { pair = way; fate = Deleted (reason.Clash c.in-Some-holder.held) } in
+    let is = open_of_free d.entries port.side port.kind port.number way c.requires.free c.way_of-way.ensures.kind c.way_of-way.ensures.port (λ gone. c.in-Some.ensures.is (subst (IsDeleted d.entries) c.way_of-way.ensures.value gone)) in
+    less_one d c.delete.new.self e (one_more_of d c.delete.new.self e c.in_ok-delete-in-Some-holder.ensures.deleted) c.entries-lawful.ensures.lawful c.way_of-way.ensures.known is refl

@@ -1,0 +1,5 @@
+use Rattle.pair_search.specs.Progress.{Propagates}
+use Rattle.pair_search.proofs.propagation.apply_bans.Given as goal
+
+abbrev pub invariant-loop : goal.invariant-loop
+invariant-loop l = Propagates l.bans l.fn.domains l.domains

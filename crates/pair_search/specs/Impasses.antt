@@ -1,0 +1,20 @@
+-- Where a search doesn't go on.
+use Rattle.std.specs.Prelude.{ℕ, ◌<◌, List}
+use Rattle.account_core.specs.declared.step.Ban.{Ban}
+use Rattle.ban_book.specs.Covering.{Covers}
+use Rattle.class_refine.specs.declared.entry.Entry.{Entry}
+use Rattle.class_refine.specs.Trails.{IsDeleted, held_in, ports_of}
+use Rattle.conflict_core.specs.declared.port.Port.{Port}
+use Rattle.conflict_core.specs.Named.{EachWay}
+use Rattle.pair_search.specs.declared.impasse.Impasse.{Impasse}
+use Rattle.pair_search.specs.declared.impasse.Impasse.TheVariants as impasse
+
+-- All ways of a port are deleted.
+pub record HasNoWay (inputs outputs : ℕ) (entries : List Entry) (port : Port) : Type 0 where
+  pub there : port.number < ports_of inputs outputs port.kind
+  pub each : EachWay port (ports_of inputs outputs port.kind) (IsDeleted entries)
+
+-- all pairs of a ban are held, or all ways of a port are deleted
+abbrev pub IsImpasse : ℕ → ℕ → List Ban → List Entry → Impasse → Type 0
+IsImpasse inputs outputs bans entries (impasse.Ban number) = Covers bans (held_in entries) number
+IsImpasse inputs outputs bans entries (impasse.Port port) = HasNoWay inputs outputs entries port

@@ -1,0 +1,58 @@
+-- How much of a search is left: a number in a mixed radix that has a digit for each level, how many pairs are open where it
+-- ends (levels of decisions: Marques-Silva and Sakallah, GRASP, 1999).
+use Rattle.std.specs.Prelude.{◌≡◌, ℕ, suc, zero, ◌+◌, ◌-◌, ◌*◌, ◌≤◌, Bool, true, false, cond, List, [], ◌∷◌, ◌++◌}
+use Rattle.net_core.specs.Sides.{Graphs}
+use Rattle.account_core.specs.declared.step.Ban.{Ban}
+use Rattle.class_refine.specs.declared.entry.Entry.{Entry}
+use Rattle.class_refine.specs.declared.entry.Cause.TheVariants.{Choice, LastWay}
+use Rattle.class_refine.specs.declared.entry.Fate.{Fate}
+use Rattle.class_refine.specs.declared.entry.Fate.TheVariants.{Held, Deleted}
+use Rattle.class_refine.specs.Numbers.{pairs_of_ports}
+use Rattle.class_refine.specs.Trails.{Domained}
+use Rattle.conflict_core.specs.Conflicts.{FitPorts}
+use Rattle.conflict_core.specs.Justified.{AreJustified}
+
+-- a pair was chosen, so that a level begins with it
+abbrev pub is_choice : Fate → Bool
+is_choice (Held Choice) = true
+is_choice (Held (LastWay side)) = false
+is_choice (Deleted reason) = false
+
+-- how many pairs are open at the end of each level, where so many are open at first
+abbrev pub open_at_ends : ℕ → List Entry → List ℕ
+open_at_ends count [] = count ∷ []
+open_at_ends count (entry ∷ entries) =
+    cond (is_choice entry.fate) (count ∷ open_at_ends (count - 1) entries) (open_at_ends (count - 1) entries)
+
+-- the radix to the power of the depth
+abbrev pub whole : ℕ → ℕ → ℕ
+whole radix zero = 1
+whole radix (suc depth) = radix * whole radix depth
+
+-- the number that has these digits in front, and as much as it can after them
+abbrev pub weight : ℕ → ℕ → List ℕ → ℕ
+weight radix zero [] = 1
+weight radix zero (digit ∷ digits) = 0
+weight radix (suc depth) [] = radix * whole radix depth
+weight radix (suc depth) (digit ∷ digits) = digit * whole radix depth + weight radix depth digits
+
+-- how much is left after these entries, where there are so many pairs
+abbrev pub left_of : ℕ → List Entry → ℕ
+left_of count entries = weight (count + 2) (count + 1) (open_at_ends count entries)
+
+abbrev pub left : Domained → ℕ
+left domains = left_of (pairs_of_ports domains.inputs domains.outputs) domains.entries
+
+-- Entries came at the end, each of which follows from those before it, and no more is left than before.
+pub record Propagates (bans : List Ban) (before after : Domained) : Type 0 where
+  pub inputs : after.inputs ≡ before.inputs
+  pub outputs : after.outputs ≡ before.outputs
+  pub added : List Entry
+  pub more : after.entries ≡ before.entries ++ added
+  pub justified : AreJustified after.inputs after.outputs bans after.entries
+  pub less : left after ≤ left before
+
+-- The pairs are those of two circuits, and what became of each follows from what stands before it.
+pub record IsTrail (graphs : Graphs) (bans : List Ban) (domains : Domained) : Type 0 where
+  pub fit : FitPorts graphs domains.inputs domains.outputs
+  pub justified : AreJustified domains.inputs domains.outputs bans domains.entries

@@ -1,0 +1,87 @@
+//! Going back from conflicts.
+
+ghost use Rattle.std.specs.Prelude.{◌≡◌, ◌<◌, IfNone, IfOk, IfSome, OnOk};
+ghost use Rattle.account_core.specs.Shown.{IsEmptyBan};
+ghost use Rattle.port_covers.specs.Levels.{HoldsMore};
+ghost use Rattle.conflict_core.specs.Conflicts.{IsBack, IsLearned};
+ghost use Rattle.conflict_core.specs.Justified.{AreJustified};
+ghost use Rattle.pair_search.specs.Impasses.{IsImpasse};
+ghost use Rattle.pair_search.specs.Progress.{IsTrail, left};
+
+use crate::impasse::{Impasse, conflict_of};
+use crate::queue::Queue;
+use account_core::Ban;
+use ban_book::BanBook;
+use class_refine::{Domains, Reason};
+use conflict_core::{Back, Learned, resolve};
+use net_core::Graphs;
+use std::alloc::{AllocError, Global};
+
+/// Goes back from an impasse: resolves the conflict to a ban, and deletes its latest pair at the last choice before which
+/// all others are held. It answers a ban without pairs where there is no such choice. Less is left than before.
+pub fn turn_back(
+    alloc: Global,
+    graphs: &Graphs<'_>,
+    domains: &mut Domains,
+    queue: &mut Queue,
+    impasse: Impasse,
+    book: &mut BanBook,
+) -> Result<Option<u64>, AllocError>
+    requires trail { IsTrail graphs.now book.old domains.old }
+    requires impasse { IsImpasse domains.old.inputs domains.old.outputs book.old domains.old.entries impasse }
+    ensures more { HoldsMore graphs.now book.old book.new }
+    ensures trail { OnOk result (IsTrail graphs.now book.new domains.new) }
+    ensures less { IfOk result (λ refusal. IfNone refusal (left domains.new < left domains.old)) }
+    ensures refusal { IfOk result (λ refusal. IfSome refusal (IsEmptyBan book.new)) }
+{
+    queue.add_new(book.bans())?;
+    match learn(alloc, graphs, domains, impasse, book)? {
+        Learned::Refusal(ban) => Ok(Some(ban)),
+        Learned::Back(back) => {
+            queue.add_learned(book.bans(), back.ban)?;
+            go_back(domains, queue, book.bans(), back)?;
+            Ok(None)
+        }
+    }
+}
+
+// What the conflict of an impasse is resolved to.
+fn learn(
+    alloc: Global,
+    graphs: &Graphs<'_>,
+    domains: &Domains,
+    impasse: Impasse,
+    book: &mut BanBook,
+) -> Result<Learned, AllocError>
+    requires trail { IsTrail graphs.now book.old domains.now }
+    requires impasse { IsImpasse domains.now.inputs domains.now.outputs book.old domains.now.entries impasse }
+    ensures more { HoldsMore graphs.now book.old book.new }
+    ensures trail { IsTrail graphs.now book.new domains.now }
+    ensures learned { IfOk result (IsLearned domains.now.inputs domains.now.outputs book.new domains.now.entries) }
+{
+    let conflict = conflict_of(alloc, graphs, domains, impasse, book)?;
+    let learned = resolve(alloc, graphs, domains, conflict, book)?;
+    Ok(learned)
+}
+
+// Goes back before a choice, and deletes there the pair that a ban has beside held ones.
+fn go_back(
+    domains: &mut Domains,
+    queue: &mut Queue,
+    bans: &[Ban],
+    back: Back,
+) -> Result<(), AllocError>
+    requires justified { AreJustified domains.old.inputs domains.old.outputs bans.now domains.old.entries }
+    requires back { IsBack domains.old.inputs domains.old.outputs bans.now domains.old.entries back }
+    ensures justified { OnOk result (AreJustified domains.new.inputs domains.new.outputs bans.now domains.new.entries) }
+    ensures inputs { OnOk result (domains.new.inputs ≡ domains.old.inputs) }
+    ensures outputs { OnOk result (domains.new.outputs ≡ domains.old.outputs) }
+    ensures less { OnOk result (left domains.new < left domains.old) }
+{
+    let _ = bans;
+    let _lawful = domains.entries();
+    domains.back_to(back.place);
+    queue.head = queue.head.min(back.place);
+    domains.delete(back.pair, Reason::Ban(back.ban))?;
+    Ok(())
+}

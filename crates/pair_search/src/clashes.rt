@@ -1,0 +1,82 @@
+//! Pairs that share a port with a held one.
+
+ghost use Rattle.std.specs.Prelude.{◌≡◌, Contains, OnOk};
+ghost use Rattle.account_core.specs.Tallies.{port_on};
+ghost use Rattle.class_refine.specs.Trails.{IsPairOf, held_in};
+ghost use Rattle.conflict_core.specs.Justified.{AreJustified};
+ghost use Rattle.pair_search.specs.Progress.{Propagates};
+
+use crate::ports::way_of;
+use account_core::Ban;
+use circuits::Pair;
+use class_refine::{Domains, Reason};
+use conflict_core::Port;
+use net_core::Side;
+use port_covers::side::port_on;
+use std::alloc::AllocError;
+
+/// Deletes the open ways of both ports of a held pair: each of them clashes with it.
+pub(crate) fn delete_clashing(
+    domains: &mut Domains,
+    bans: &[Ban],
+    pair: Pair,
+) -> Result<(), AllocError>
+    requires justified { AreJustified domains.old.inputs domains.old.outputs bans.now domains.old.entries }
+    requires known { IsPairOf domains.old.inputs domains.old.outputs pair }
+    requires held { Contains (held_in domains.old.entries) pair }
+    ensures { OnOk result (Propagates bans.now domains.old domains.new) }
+{
+    delete_ways(domains, bans, pair, Side::First)?;
+    delete_ways(domains, bans, pair, Side::Second)?;
+    Ok(())
+}
+
+// Deletes the open ways of the port that a held pair has of a circuit.
+fn delete_ways(
+    domains: &mut Domains,
+    bans: &[Ban],
+    pair: Pair,
+    side: Side,
+) -> Result<(), AllocError>
+    requires justified { AreJustified domains.old.inputs domains.old.outputs bans.now domains.old.entries }
+    requires known { IsPairOf domains.old.inputs domains.old.outputs pair }
+    requires held { Contains (held_in domains.old.entries) pair }
+    ensures { OnOk result (Propagates bans.now domains.old domains.new) }
+{
+    let count = domains.ports(pair.kind);
+    let port = Port {
+        side,
+        kind: pair.kind,
+        number: port_on(side, pair),
+    };
+    for number in 0..2 * count as u64 {
+        let way = way_of(domains, port, number);
+        delete_way(domains, bans, pair, side, way)?;
+    }
+    Ok(())
+}
+
+// Deletes a way that shares its port of a circuit with a held pair, if it is open.
+fn delete_way(
+    domains: &mut Domains,
+    bans: &[Ban],
+    pair: Pair,
+    side: Side,
+    way: Pair,
+) -> Result<(), AllocError>
+    requires justified { AreJustified domains.old.inputs domains.old.outputs bans.now domains.old.entries }
+    requires known { IsPairOf domains.old.inputs domains.old.outputs way }
+    requires held { Contains (held_in domains.old.entries) pair }
+    requires kind { pair.kind ≡ way.kind }
+    requires share { port_on side pair ≡ port_on side way }
+    ensures { OnOk result (Propagates bans.now domains.old domains.new) }
+{
+    let _ = bans;
+    let _ = side;
+    let _lawful = domains.entries();
+    if let Some(_) = domains.place(way) {
+        return Ok(());
+    }
+    domains.delete(way, Reason::Clash(pair))?;
+    Ok(())
+}

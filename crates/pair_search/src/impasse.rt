@@ -1,0 +1,70 @@
+//! Where it doesn't go on.
+
+ghost use Rattle.std.specs.Prelude.{◌≡◌, IfOk};
+ghost use Rattle.port_covers.specs.Levels.{HoldsMore};
+ghost use Rattle.class_refine.specs.Trails.{held_in};
+ghost use Rattle.conflict_core.specs.Conflicts.{FitPorts, IsConflict};
+ghost use Rattle.conflict_core.specs.Justified.{AreJustified};
+ghost use Rattle.pair_search.specs.Impasses.{IsImpasse};
+
+use ban_book::BanBook;
+use class_refine::Domains;
+use conflict_core::{Conflict, Port, conflict_of_ban, cover_port};
+use net_core::Graphs;
+use std::alloc::{AllocError, Global};
+
+/// Where it doesn't go on.
+#[derive(Clone, Copy, Debug, PartialEq, Eq)]
+pub enum Impasse {
+    /// All pairs of the ban of this number are held.
+    Ban(u64),
+    /// All ways of the port are deleted.
+    Port(Port),
+}
+
+/// The conflict that an impasse is.
+pub(crate) fn conflict_of(
+    alloc: Global,
+    graphs: &Graphs<'_>,
+    domains: &Domains,
+    impasse: Impasse,
+    book: &mut BanBook,
+) -> Result<Conflict, AllocError>
+    requires fit { FitPorts graphs.now domains.now.inputs domains.now.outputs }
+    requires justified { AreJustified domains.now.inputs domains.now.outputs book.old domains.now.entries }
+    requires impasse { IsImpasse domains.now.inputs domains.now.outputs book.old domains.now.entries impasse }
+    ensures more { HoldsMore graphs.now book.old book.new }
+    ensures conflict { IfOk result (IsConflict book.new (held_in domains.now.entries)) }
+{
+    match impasse {
+        Impasse::Ban(number) => conflict_of_ban(alloc, domains.pairs(), book.bans(), number),
+        Impasse::Port(port) => conflict_of_port(alloc, graphs, domains, port, book),
+    }
+}
+
+// The conflict of a port all of whose ways are deleted.
+fn conflict_of_port(
+    alloc: Global,
+    graphs: &Graphs<'_>,
+    domains: &Domains,
+    port: Port,
+    book: &mut BanBook,
+) -> Result<Conflict, AllocError>
+    requires fit { FitPorts graphs.now domains.now.inputs domains.now.outputs }
+    requires justified { AreJustified domains.now.inputs domains.now.outputs book.old domains.now.entries }
+    requires impasse { IsImpasse domains.now.inputs domains.now.outputs book.old domains.now.entries (Impasse.Port port) }
+    ensures more { HoldsMore graphs.now book.old book.new }
+    ensures conflict { IfOk result (IsConflict book.new (held_in domains.now.entries)) }
+{
+    let _lawful = domains.entries();
+    cover_port(
+        alloc,
+        graphs,
+        domains,
+        domains.pairs(),
+        port,
+        None,
+        Vec::new(alloc),
+        book,
+    )
+}

@@ -1,0 +1,16 @@
+//! A search over signed pairs: what follows of pairs that are held, which port is decided next, and going back from conflicts.
+#![tactic(auto)]
+
+mod back;
+mod clashes;
+mod impasse;
+mod ports;
+mod propagation;
+mod queue;
+mod units;
+
+pub use back::turn_back;
+pub use impasse::Impasse;
+pub use ports::{branch, way_of};
+pub use propagation::propagate;
+pub use queue::Queue;

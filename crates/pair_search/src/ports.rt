@@ -1,0 +1,155 @@
+//! The ways that a port has left.
+
+ghost use Rattle.std.specs.Prelude.{◌≡◌, ◌<◌, ◌≤◌, ◌*◌, ◌^◌, ℕ, ◌⊎◌, Contains, IfNone, IfOk, IfSome, IsTrue, OnOk, false};
+ghost use Rattle.net_core.specs.declared.graphs.Side.TheVariants.{First, Second};
+ghost use Rattle.port_covers.specs.Levels.{nth_way};
+ghost use Rattle.account_core.specs.Tallies.{port_on};
+ghost use Rattle.class_refine.specs.Trails.{IsDeleted, IsFreePort, IsOpen, IsPairOf, held_in, ports_of};
+ghost use Rattle.conflict_core.specs.Justified.{AreJustified};
+ghost use Rattle.pair_search.specs.Impasses.{HasNoWay, IsImpasse};
+ghost use Rattle.pair_search.specs.Progress.{Propagates, left};
+
+use crate::impasse::Impasse;
+use account_core::Ban;
+use circuits::Pair;
+use class_refine::{Cause, Domains, Reason};
+use conflict_core::Port;
+use net_core::Side;
+use port_covers::level::nth_way;
+use std::alloc::AllocError;
+
+/// Where a port has one way left, which is open, holds it. It answers whether it has none.
+pub(crate) fn apply_port(
+    domains: &mut Domains,
+    bans: &[Ban],
+    port: Port,
+) -> Result<bool, AllocError>
+    requires there { port.number < ports_of domains.old.inputs domains.old.outputs port.kind }
+    requires justified { AreJustified domains.old.inputs domains.old.outputs bans.now domains.old.entries }
+    ensures propagates { OnOk result (Propagates bans.now domains.old domains.new) }
+    ensures none { IfOk result (λ none. IsTrue none → HasNoWay domains.new.inputs domains.new.outputs domains.new.entries port) }
+{
+    let _ = bans;
+    let _lawful = domains.entries();
+    let _count = domains.ports(port.kind);
+    let Some(number) = remaining(domains, port, 0) else {
+        return Ok(true);
+    };
+    if let Some(_) = remaining(domains, port, number + 1) {
+        return Ok(false);
+    }
+    let way = way_of(domains, port, number);
+    if is_free(domains, way) {
+        domains.hold(way, Cause::LastWay(port.side))?;
+    }
+    Ok(false)
+}
+
+/// Decides a port of which no pair is held: holds the first of its ways that isn't deleted; or deletes it, if it shares
+/// its other port with a held pair. It answers an impasse where all are deleted.
+pub fn branch(
+    domains: &mut Domains,
+    bans: &[Ban],
+    port: Port,
+) -> Result<Option<Impasse>, AllocError>
+    requires there { port.number < ports_of domains.old.inputs domains.old.outputs port.kind }
+    requires free { IsFreePort domains.old.entries port.side port.kind port.number }
+    requires justified { AreJustified domains.old.inputs domains.old.outputs bans.now domains.old.entries }
+    ensures justified { OnOk result (AreJustified domains.new.inputs domains.new.outputs bans.now domains.new.entries) }
+    ensures inputs { OnOk result (domains.new.inputs ≡ domains.old.inputs) }
+    ensures outputs { OnOk result (domains.new.outputs ≡ domains.old.outputs) }
+    ensures less { IfOk result (λ found. IfNone found (left domains.new < left domains.old)) }
+    ensures stuck { IfOk result (λ found. IfSome found (λ impasse. domains.new ≡ domains.old)) }
+    ensures impasse { IfOk result (λ found. IfSome found
+        (IsImpasse domains.new.inputs domains.new.outputs bans.now domains.new.entries)) }
+{
+    let _ = bans;
+    let _lawful = domains.entries();
+    let Some(number) = remaining(domains, port, 0) else {
+        return Ok(Some(Impasse::Port(port)));
+    };
+    let way = way_of(domains, port, number);
+    match holder(domains, way) {
+        None => domains.hold(way, Cause::Choice)?,
+        Some(held) => domains.delete(way, Reason::Clash(held))?,
+    }
+    Ok(None)
+}
+
+/// A way of a port, by its number.
+pub fn way_of(domains: &Domains, port: Port, number: u64) -> Pair
+    requires there { port.number < ports_of domains.now.inputs domains.now.outputs port.kind }
+    requires below { number < 2 * ports_of domains.now.inputs domains.now.outputs port.kind }
+    ensures value { result ≡ nth_way port.side port.kind port.number number }
+    ensures known { IsPairOf domains.now.inputs domains.now.outputs result }
+    ensures kind { result.kind ≡ port.kind }
+    ensures port { port_on port.side result ≡ port.number }
+{
+    let _count = domains.ports(port.kind);
+    nth_way(port.side, port.kind, port.number, number)
+}
+
+// The number of the first way of a port, from one on, that isn't deleted.
+fn remaining(domains: &Domains, port: Port, from: u64) -> Option<u64>
+    requires there { port.number < ports_of domains.now.inputs domains.now.outputs port.kind }
+    ensures from { IfSome result (λ number. from ≤ number) }
+    ensures below { IfSome result (λ number. number < 2 * ports_of domains.now.inputs domains.now.outputs port.kind) }
+    ensures is { IfSome result (λ number.
+        IsDeleted domains.now.entries (nth_way port.side port.kind port.number number) → ⊥) }
+    ensures before { IfSome result (λ last. (number : ℕ) → from ≤ number → number < last
+        → IsDeleted domains.now.entries (nth_way port.side port.kind port.number number)) }
+    ensures none { IfNone result ((number : ℕ) → from ≤ number
+        → number < 2 * ports_of domains.now.inputs domains.now.outputs port.kind
+        → IsDeleted domains.now.entries (nth_way port.side port.kind port.number number)) }
+{
+    let count = domains.ports(port.kind);
+    for number in from..2 * count as u64 {
+        if is_left(domains, way_of(domains, port, number)) {
+            return Some(number);
+        }
+    }
+    None
+}
+
+// Whether a pair isn't deleted.
+fn is_left(domains: &Domains, way: Pair) -> bool
+    requires { IsPairOf domains.now.inputs domains.now.outputs way }
+    ensures left { IsTrue result → IsDeleted domains.now.entries way → ⊥ }
+    ensures gone { result ≡ false → IsDeleted domains.now.entries way }
+{
+    match domains.reason(way) {
+        Some(_) => false,
+        None => true,
+    }
+}
+
+// A held pair that shares a port with a pair.
+fn holder(domains: &Domains, pair: Pair) -> Option<Pair>
+    requires { IsPairOf domains.now.inputs domains.now.outputs pair }
+    ensures held { IfSome result (Contains (held_in domains.now.entries)) }
+    ensures kind { IfSome result (λ held. held.kind ≡ pair.kind) }
+    ensures share { IfSome result (λ held. (held.from ≡ pair.from) ⊎ (held.to ≡ pair.to)) }
+    ensures from { IfNone result (IsFreePort domains.now.entries First pair.kind pair.from) }
+    ensures to { IfNone result (IsFreePort domains.now.entries Second pair.kind pair.to) }
+{
+    if let Some(held) = domains.held(Side::First, pair.kind, pair.from) {
+        return Some(held);
+    }
+    domains.held(Side::Second, pair.kind, pair.to)
+}
+
+// Whether a pair is open, and no pair of its ports is held.
+fn is_free(domains: &Domains, pair: Pair) -> bool
+    requires { IsPairOf domains.now.inputs domains.now.outputs pair }
+    ensures is { IsTrue result → IsOpen domains.now.entries pair }
+    ensures from { IsTrue result → IsFreePort domains.now.entries First pair.kind pair.from }
+    ensures to { IsTrue result → IsFreePort domains.now.entries Second pair.kind pair.to }
+{
+    if let Some(_) = holder(domains, pair) {
+        return false;
+    }
+    match domains.place(pair) {
+        Some(_) => false,
+        None => true,
+    }
+}

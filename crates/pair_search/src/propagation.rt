@@ -1,0 +1,205 @@
+//! What follows of the pairs that are held and deleted.
+
+ghost use Rattle.std.specs.Prelude.{◌≡◌, ◌<◌, IfOk, IfSome, OnOk};
+ghost use Rattle.class_refine.specs.Trails.{ports_of};
+ghost use Rattle.conflict_core.specs.Justified.{AreJustified};
+ghost use Rattle.pair_search.specs.Impasses.{IsImpasse};
+ghost use Rattle.pair_search.specs.Progress.{Propagates};
+
+use crate::clashes::delete_clashing;
+use crate::impasse::Impasse;
+use crate::ports::apply_port;
+use crate::queue::Queue;
+use crate::units::{apply, is_held, is_known};
+use account_core::Ban;
+use circuits::Pair;
+use class_refine::{Domains, Entry, Fate};
+use conflict_core::Port;
+use net_core::Side;
+use port_covers::side::port_on;
+use std::alloc::AllocError;
+
+/// Holds and deletes pairs as it follows, until nothing follows or it doesn't go on. Pairs that share a port with a held
+/// one are deleted, and that of a ban whose other pairs are held; the last way of a port is held.
+pub fn propagate(
+    domains: &mut Domains,
+    queue: &mut Queue,
+    bans: &[Ban],
+) -> Result<Option<Impasse>, AllocError>
+    requires justified { AreJustified domains.old.inputs domains.old.outputs bans.now domains.old.entries }
+    ensures propagates { OnOk result (Propagates bans.now domains.old domains.new) }
+    ensures impasse { IfOk result (λ found. IfSome found
+        (IsImpasse domains.new.inputs domains.new.outputs bans.now domains.new.entries)) }
+{
+    if let Some(impasse) = apply_new(domains, queue, bans)? {
+        return Ok(Some(impasse));
+    }
+    while queue.head < domains.entries().len() {
+        let entry = domains.entries()[queue.head];
+        queue.head += 1;
+        if let Some(impasse) = follow(domains, queue, bans, entry)? {
+            return Ok(Some(impasse));
+        }
+    }
+    Ok(None)
+}
+
+// Applies the bans that came since, and adds them to the index.
+fn apply_new(
+    domains: &mut Domains,
+    queue: &mut Queue,
+    bans: &[Ban],
+) -> Result<Option<Impasse>, AllocError>
+    requires justified { AreJustified domains.old.inputs domains.old.outputs bans.now domains.old.entries }
+    ensures propagates { OnOk result (Propagates bans.now domains.old domains.new) }
+    ensures impasse { IfOk result (λ found. IfSome found
+        (IsImpasse domains.new.inputs domains.new.outputs bans.now domains.new.entries)) }
+{
+    for number in queue.seen..bans.len() {
+        queue.add(&bans[number], number as u64)?;
+        queue.seen = number + 1;
+        if let Some(impasse) = apply_ban(domains, bans, number as u64)? {
+            return Ok(Some(impasse));
+        }
+    }
+    Ok(None)
+}
+
+// Applies a ban.
+fn apply_ban(
+    domains: &mut Domains,
+    bans: &[Ban],
+    number: u64,
+) -> Result<Option<Impasse>, AllocError>
+    requires justified { AreJustified domains.old.inputs domains.old.outputs bans.now domains.old.entries }
+    ensures propagates { OnOk result (Propagates bans.now domains.old domains.new) }
+    ensures impasse { IfOk result (λ found. IfSome found
+        (IsImpasse domains.new.inputs domains.new.outputs bans.now domains.new.entries)) }
+{
+    if number >= bans.len() as u64 {
+        return Ok(None);
+    }
+    if apply(domains, bans, number)? {
+        return Ok(Some(Impasse::Ban(number)));
+    }
+    Ok(None)
+}
+
+// What follows of one entry.
+fn follow(
+    domains: &mut Domains,
+    queue: &Queue,
+    bans: &[Ban],
+    entry: Entry,
+) -> Result<Option<Impasse>, AllocError>
+    requires justified { AreJustified domains.old.inputs domains.old.outputs bans.now domains.old.entries }
+    ensures propagates { OnOk result (Propagates bans.now domains.old domains.new) }
+    ensures impasse { IfOk result (λ found. IfSome found
+        (IsImpasse domains.new.inputs domains.new.outputs bans.now domains.new.entries)) }
+{
+    match entry.fate {
+        Fate::Held(_) => follow_held(domains, queue, bans, entry.pair),
+        Fate::Deleted(_) => follow_deleted(domains, bans, entry.pair),
+    }
+}
+
+// What follows of a pair that is held.
+fn follow_held(
+    domains: &mut Domains,
+    queue: &Queue,
+    bans: &[Ban],
+    pair: Pair,
+) -> Result<Option<Impasse>, AllocError>
+    requires justified { AreJustified domains.old.inputs domains.old.outputs bans.now domains.old.entries }
+    ensures propagates { OnOk result (Propagates bans.now domains.old domains.new) }
+    ensures impasse { IfOk result (λ found. IfSome found
+        (IsImpasse domains.new.inputs domains.new.outputs bans.now domains.new.entries)) }
+{
+    if !is_held(domains, pair) {
+        return Ok(None);
+    }
+    delete_clashing(domains, bans, pair)?;
+    let found = apply_bans(domains, queue, bans, pair)?;
+    Ok(found)
+}
+
+// Applies the bans that a pair is in.
+fn apply_bans(
+    domains: &mut Domains,
+    queue: &Queue,
+    bans: &[Ban],
+    pair: Pair,
+) -> Result<Option<Impasse>, AllocError>
+    requires justified { AreJustified domains.old.inputs domains.old.outputs bans.now domains.old.entries }
+    ensures propagates { OnOk result (Propagates bans.now domains.old domains.new) }
+    ensures impasse { IfOk result (λ found. IfSome found
+        (IsImpasse domains.new.inputs domains.new.outputs bans.now domains.new.entries)) }
+{
+    let mut place = queue.first_link(pair);
+    for _ in 0..queue.links() {
+        let Some((number, before)) = queue.next_link(place) else {
+            return Ok(None);
+        };
+        if let Some(impasse) = apply_ban(domains, bans, number)? {
+            return Ok(Some(impasse));
+        }
+        place = before;
+    }
+    Ok(None)
+}
+
+// What follows of a pair that is deleted: its ports may have one way left, or none.
+fn follow_deleted(
+    domains: &mut Domains,
+    bans: &[Ban],
+    pair: Pair,
+) -> Result<Option<Impasse>, AllocError>
+    requires justified { AreJustified domains.old.inputs domains.old.outputs bans.now domains.old.entries }
+    ensures propagates { OnOk result (Propagates bans.now domains.old domains.new) }
+    ensures impasse { IfOk result (λ found. IfSome found
+        (IsImpasse domains.new.inputs domains.new.outputs bans.now domains.new.entries)) }
+{
+    if let Some(impasse) = follow_port(domains, bans, pair, Side::First)? {
+        return Ok(Some(impasse));
+    }
+    let found = follow_port(domains, bans, pair, Side::Second)?;
+    Ok(found)
+}
+
+// What follows at the port that a deleted pair has of a circuit.
+fn follow_port(
+    domains: &mut Domains,
+    bans: &[Ban],
+    pair: Pair,
+    side: Side,
+) -> Result<Option<Impasse>, AllocError>
+    requires justified { AreJustified domains.old.inputs domains.old.outputs bans.now domains.old.entries }
+    ensures propagates { OnOk result (Propagates bans.now domains.old domains.new) }
+    ensures impasse { IfOk result (λ found. IfSome found
+        (IsImpasse domains.new.inputs domains.new.outputs bans.now domains.new.entries)) }
+{
+    if !is_known(domains, pair) {
+        return Ok(None);
+    }
+    let port = Port {
+        side,
+        kind: pair.kind,
+        number: port_on(side, pair),
+    };
+    if has_two(domains, port) {
+        return Ok(None);
+    }
+    if apply_port(domains, bans, port)? {
+        return Ok(Some(Impasse::Port(port)));
+    }
+    Ok(None)
+}
+
+// Whether a port has two ways left at least, by the count of those that are deleted.
+fn has_two(domains: &Domains, port: Port) -> bool
+    requires { port.number < ports_of domains.now.inputs domains.now.outputs port.kind }
+{
+    let gone = domains.gone(port.side, port.kind, port.number);
+    let count = domains.ports(port.kind) as usize;
+    gone.saturating_add(1) < count.saturating_mul(2)
+}

@@ -1,0 +1,100 @@
+//! Bans all of whose pairs are held, or all but one.
+
+ghost use Rattle.std.specs.Prelude.{◌≡◌, ◌<◌, ◌∷◌, All, Contains, IfNone, IfOk, IsTrue, OnOk, length};
+ghost use Rattle.ban_book.specs.Covering.{Covers};
+ghost use Rattle.class_refine.specs.Trails.{IsOpen, IsPairOf, held_in};
+ghost use Rattle.conflict_core.specs.Justified.{AreJustified};
+ghost use Rattle.pair_search.specs.Progress.{Propagates};
+
+use account_core::Ban;
+use circuits::Pair;
+use class_refine::{Domains, Reason};
+use net_core::Side;
+use std::alloc::AllocError;
+
+/// Where all pairs of a ban but one are held, and that one is open, deletes it. It answers whether all are held.
+pub(crate) fn apply(domains: &mut Domains, bans: &[Ban], number: u64) -> Result<bool, AllocError>
+    requires there { number < length bans.now }
+    requires justified { AreJustified domains.old.inputs domains.old.outputs bans.now domains.old.entries }
+    ensures propagates { OnOk result (Propagates bans.now domains.old domains.new) }
+    ensures all { IfOk result (λ all. IsTrue all → Covers bans.now (held_in domains.new.entries) number) }
+{
+    let _lawful = domains.entries();
+    let pairs = &bans[number as usize].pairs;
+    let Some(way) = unheld(domains, pairs) else {
+        return Ok(true);
+    };
+    if is_open(domains, way) & are_others_held(domains, pairs, way) {
+        domains.delete(way, Reason::Ban(number))?;
+    }
+    Ok(false)
+}
+
+// The first of some pairs that isn't held.
+fn unheld(domains: &Domains, pairs: &[Pair]) -> Option<Pair>
+    ensures { IfNone result (All (Contains (held_in domains.now.entries)) pairs.now) }
+{
+    for pair in pairs.iter() {
+        if !is_held(domains, *pair) {
+            return Some(*pair);
+        }
+    }
+    None
+}
+
+// Whether all of some pairs but one are held.
+fn are_others_held(domains: &Domains, pairs: &[Pair], way: Pair) -> bool
+    ensures { IsTrue result → All (Contains (way ∷ held_in domains.now.entries)) pairs.now }
+{
+    for pair in pairs.iter() {
+        if !is_held_or(domains, *pair, way) {
+            return false;
+        }
+    }
+    true
+}
+
+fn is_held_or(domains: &Domains, pair: Pair, way: Pair) -> bool
+    ensures { IsTrue result → Contains (way ∷ held_in domains.now.entries) pair }
+{
+    if pair == way {
+        return true;
+    }
+    is_held(domains, pair)
+}
+
+/// Whether a pair is of ports that exist.
+pub(crate) fn is_known(domains: &Domains, pair: Pair) -> bool
+    ensures { IsTrue result → IsPairOf domains.now.inputs domains.now.outputs pair }
+{
+    let count = domains.ports(pair.kind);
+    (pair.from < count) & (pair.to < count)
+}
+
+/// Whether a pair is held.
+pub(crate) fn is_held(domains: &Domains, pair: Pair) -> bool
+    ensures known { IsTrue result → IsPairOf domains.now.inputs domains.now.outputs pair }
+    ensures held { IsTrue result → Contains (held_in domains.now.entries) pair }
+{
+    if !is_known(domains, pair) {
+        return false;
+    }
+    match domains.held(Side::First, pair.kind, pair.from) {
+        Some(held) => held == pair,
+        None => false,
+    }
+}
+
+/// Whether a pair is of ports that exist, and neither held nor deleted.
+pub(crate) fn is_open(domains: &Domains, pair: Pair) -> bool
+    ensures known { IsTrue result → IsPairOf domains.now.inputs domains.now.outputs pair }
+    ensures is { IsTrue result → IsOpen domains.now.entries pair }
+{
+    if !is_known(domains, pair) {
+        return false;
+    }
+    match domains.place(pair) {
+        Some(_) => false,
+        None => true,
+    }
+}

@@ -1,8 +1,0 @@
--- What was sighted is broken, and the claims that are left are placed.
-use Rattle.std.specs.List.{All}
-use Rattle.query_core.specs.Claims.{IsPlaced}
-use Rattle.sim_signature.specs.Sightings.{AreBroken}
-use Rattle.sim_signature.proofs.hunting.hunt_rounds.Given as goal
-
-abbrev pub invariant-loop : goal.invariant-loop
-invariant-loop l = AreBroken l.cone.net l.cone.output l.sightings.items × All (IsPlaced l.cone.net.inputs) l.left.items
