@@ -1,6 +1,6 @@
 """Asks, for each output and either value, whether the output of one netlist can have the value where that of another has not,
 and prints a row of a table: what `workbench ask` answered, how many lines it learned, and the seconds that it, minisat and
-picosat took.
+picosat took, and those of ABC's `&cec`, which decides all outputs of a pair at once, where both netlists are in the binary form.
 
     solve.py WORKBENCH NAME FIRST SECOND LIMIT
 
@@ -18,7 +18,7 @@ NAMES = ("workbench", "minisat", "picosat")
 MOST_LATE = 5
 HEAD = f"{'pair':<16}{'outputs':>8}{'gates':>7}{'vectors':>9}{'refuted':>9}{'lines':>9}{'most':>8}" + "".join(
     f"{name:>32}" for name in NAMES
-)
+) + f"{'&cec':>12}"
 
 
 def bits(net, vector):
@@ -60,6 +60,7 @@ class Row:
     def __init__(self, name, nets):
         self.name, self.nets, self.wrong = name, nets, []
         self.answers, self.lines = {"vector": 0, "refuted": 0}, []
+        self.cec = "-"
         self.seconds, self.late, self.unasked = ({it: start for it in NAMES} for start in ((), 0, 0))
 
     def run(self, solver, command, limit):
@@ -71,6 +72,14 @@ class Row:
         self.seconds[solver] += (took,)
         self.late[solver] += status is None
         return printed, status
+
+    def decide_whole(self, files, limit):
+        """Has ABC decide the pair."""
+        if all(file.endswith(".aig") for file in files):
+            first, second = files
+            printed, _, took = run(["berkeley-abc", "-q", f"&r {first}; &cec {second}"], limit)
+            decided = "equivalent" in (printed or "") or "EQUIVALENT" in (printed or "")
+            self.cec = f"{took:.2f}" if decided else f"{took:.2f} late"
 
     def check_vector(self, output, value, text):
         vector = [int(it) for it in text]
@@ -102,12 +111,13 @@ class Row:
             late = f" {self.late[solver]} late" if self.late[solver] else ""
             late += f" {self.unasked[solver]} unasked" if self.unasked[solver] else ""
             text += f"{sum(self.seconds[solver]):.2f} ({max(self.seconds[solver]):.2f}){late}".rjust(32)
-        return f"{self.name:<16}" + text
+        return f"{self.name:<16}{text}{self.cec:>12}"
 
 
 def ask(program, name, files, limit):
     nets = [in_order(file) for file in files]
     row = Row(name, nets)
+    row.decide_whole(files, limit)
     pairs = [f"i{k}+{k}" for k in range(nets[0][0])] + [f"o{k}+{k}" for k in range(len(nets[0][2]))]
     question = Question(*nets, pairs)
     with tempfile.TemporaryDirectory() as folder:

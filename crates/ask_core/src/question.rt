@@ -7,11 +7,12 @@ ghost use Rattle.query_core.specs.Queries.{IsQuery};
 ghost use Rattle.joint_hash.specs.Merging.{AreLemmas};
 ghost use Rattle.ask_core.specs.Answers.{IsAnswer, IsAskedIn, IsBounded, IsBoundedStop, IsPaidFor, IsStopped};
 
+use crate::guiding::GatePairs;
 use crate::vector::vector_of;
 use cnf_core::{Log, LogLine, Stop};
 use items::Items;
 use joint_hash::merge_cones;
-use learn_solver::{Solver, Verdict, solve};
+use learn_solver::{Solver, Verdict, solve_guided};
 use net_core::Graphs;
 use query_core::{Ledger, Query, QueryBase, cone_ids};
 use std::alloc::Global;
@@ -25,8 +26,8 @@ pub enum Answer {
     Refuted(Log),
 }
 
-/// Answers a query that fits two circuits by the clauses of its two cones, and by lemmas that make gates of one
-/// structure one. The ledger gets an entry for it, in place of a last one for which nothing was learned: the lemmas, which
+/// Answers a query that fits two circuits by the clauses of its two cones, by lemmas that make gates of one structure
+/// one, and, where it isn't answered soon, after looking at gates that seem to be equal. The ledger gets an entry for it, in place of a last one for which nothing was learned: the lemmas, which
 /// cost nothing, then one line for each conflict. A log that refutes has these lines. Spent comes at a conflict that is
 /// met with the budget spent; its line is kept as the refused one. When out of memory, nothing is said of the last
 /// entry. One call learns at most 3^n lines over the n variables of the query's clauses.
@@ -53,12 +54,12 @@ pub fn ask(
 }
 
 // Answers a query by the clauses of these numbers, which are those of its cones, and by lemmas.
-fn ask_cones(
+fn ask_cones<'a>(
     alloc: Global,
     graphs: &Graphs<'_>,
     query: &Query,
-    base: &QueryBase<'_>,
-    ids: &[u64],
+    base: &'a QueryBase<'a>,
+    ids: &'a [u64],
     lemmas: &[LogLine],
     ledger: &mut Ledger,
 ) -> Result<Answer, Stop>
@@ -76,7 +77,8 @@ fn ask_cones(
 {
     ledger.open(alloc, query, lemmas)?;
     let mut solver = Solver::new(alloc, base, ids, lemmas)?;
-    match solve(alloc, &mut solver, ledger)? {
+    let guide = GatePairs { base, ids };
+    match solve_guided(alloc, &mut solver, &guide, ledger)? {
         Verdict::Model(values) => {
             let vector = vector_of(alloc, graphs, query, &values)?;
             Ok(Answer::Vector(vector))

@@ -17,3 +17,4 @@ pub mod StartLemmas
 pub mod RunLemmas
 pub mod BoundLemmas
 pub mod OrderLemmas
+pub mod PursuitLemmas

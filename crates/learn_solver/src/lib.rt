@@ -3,13 +3,17 @@
 //! others, 2017).
 #![tactic(auto)]
 
+mod candidate;
 mod conflict;
 mod decision;
+mod focus;
 mod order;
+mod pursuit;
 mod restarts;
 mod search;
 mod solver;
 mod verdict;
 
-pub use solver::{Solver, solve};
+pub use candidate::{Agenda, Candidate, Guide, Operands, Unguided};
+pub use solver::{Solver, solve, solve_guided};
 pub use verdict::Verdict;

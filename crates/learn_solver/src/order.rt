@@ -6,6 +6,7 @@ ghost use Rattle.trail_core.specs.Trails.{IsFree};
 ghost use Rattle.watch_lists.specs.Propagations.{AreKnown};
 ghost use Rattle.learn_solver.specs.Orders.{AreNamed, ArePlaces, IsOrder};
 
+use crate::focus::Focus;
 use cnf_core::{ClauseStore, SatLit};
 use std::alloc::{AllocError, Global};
 use trail_core::Trail;
@@ -159,6 +160,27 @@ impl Order {
                 return Some(literal);
             }
             self.next = self.places[self.next].after;
+        }
+        None
+    }
+
+    /// The next literal to decide among those that a focus has. The search for an unassigned variable doesn't go on from
+    /// there, since others that come before may be unassigned.
+    pub(crate) fn pick_within(&self, trail: &Trail, focus: &Focus) -> Option<SatLit>
+        requires { IsOrder trail.now.variables self.now }
+        ensures { IfSome result (IsFree trail.now) }
+    {
+        let _len = trail.len();
+        let mut at = self.next;
+        for _turn in 0..self.end {
+            if at == self.end {
+                return None;
+            }
+            let literal = SatLit::of(at as u64, self.phases[at]);
+            if focus.has(at as u64) & trail.value(literal).is_none() {
+                return Some(literal);
+            }
+            at = self.places[at].after;
         }
         None
     }

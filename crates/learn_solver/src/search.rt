@@ -11,8 +11,10 @@ ghost use Rattle.learn_solver.specs.Orders.{IsOrder};
 ghost use Rattle.learn_solver.specs.Analyses.{IsAsserting};
 ghost use Rattle.learn_solver.specs.Solvers.{ArePut};
 
+use crate::candidate::{Candidate, Operands};
 use crate::conflict::no_marks;
 use crate::decision::{next_decision, variables_of};
+use crate::focus::Focus;
 use crate::order::Order;
 use crate::restarts::Restarts;
 use cnf_core::{Base, LogLine, SatLit};
@@ -38,6 +40,7 @@ pub(crate) struct Tools {
     pub(crate) marks: Vec<bool>,
     pub(crate) order: Order,
     pub(crate) restarts: Restarts,
+    pub(crate) focus: Focus,
 }
 
 impl Tools {
@@ -49,11 +52,30 @@ impl Tools {
         ensures none { IfNone result (All (IsAssigned trail.now) self.old.occurring.items) }
         ensures stay { StayTools self.old self.new }
     {
+        let literal = self.wanted(trail);
+        if literal.is_some() {
+            return literal;
+        }
+        self.focus.exhausted = true;
         let literal = self.order.pick(trail);
         if literal.is_some() {
             return literal;
         }
         next_decision(trail, &self.occurring)
+    }
+
+    // The next literal to decide for the candidate that the search is after, if it is after one: its own ones are to be true,
+    // and then comes what they are computed from.
+    fn wanted(&self, trail: &Trail) -> Option<SatLit>
+        requires { IsOrder trail.now.variables self.now.order }
+        ensures { IfSome result (IsFree trail.now) }
+    {
+        let candidate = self.focus.candidate?;
+        let literal = candidate.next(trail, self.order.end);
+        if literal.is_some() {
+            return literal;
+        }
+        self.order.pick_within(trail, &self.focus)
     }
 }
 
@@ -78,6 +100,7 @@ pub(crate) fn begun<B: Base>(
     put_lines(lines, &mut watches)?;
     let marks = no_marks(alloc, base.variables() as usize)?;
     let order = Order::new(alloc, base.variables() as usize, &occurring)?;
+    let focus = Focus::new(alloc, base.variables() as usize)?;
     Ok(Search {
         trail,
         watches,
@@ -86,6 +109,7 @@ pub(crate) fn begun<B: Base>(
             marks,
             order,
             restarts: Restarts::new(),
+            focus,
         },
     })
 }
@@ -150,6 +174,53 @@ impl Search {
         if !self.tools.restarts.count() {
             return;
         }
+        self.begin_anew();
+    }
+
+    /// Turns to a candidate, from level 0 on.
+    pub(crate) fn narrow(&mut self, candidate: Candidate, gates: &[Operands])
+        requires fitting { IsFitting self.old.watches self.old.trail }
+        requires order { IsOrder self.old.trail.variables self.old.tools.order }
+        ensures fitting { IsFitting self.new.watches self.new.trail }
+        ensures clauses { self.new.watches.clauses ≡ self.old.watches.clauses }
+        ensures variables { self.new.trail.variables ≡ self.old.trail.variables }
+        ensures tools { StayTools self.old.tools self.new.tools }
+    {
+        self.tools.focus.narrow(candidate, gates);
+        self.begin_anew();
+    }
+
+    /// Turns to the whole question, from level 0 on.
+    pub(crate) fn widen(&mut self)
+        requires fitting { IsFitting self.old.watches self.old.trail }
+        requires order { IsOrder self.old.trail.variables self.old.tools.order }
+        ensures fitting { IsFitting self.new.watches self.new.trail }
+        ensures clauses { self.new.watches.clauses ≡ self.old.watches.clauses }
+        ensures variables { self.new.trail.variables ≡ self.old.trail.variables }
+        ensures tools { StayTools self.old.tools self.new.tools }
+    {
+        self.tools.focus.widen();
+        self.begin_anew();
+    }
+
+    /// Whether the search for a candidate is over: one of its literals is false, so that both can't be true where it is now, or
+    /// all is assigned from which they are computed.
+    pub(crate) fn is_settled(&self) -> bool {
+        match self.tools.focus.candidate {
+            Some(candidate) => self.tools.focus.exhausted | candidate.is_closed(&self.trail),
+            None => false,
+        }
+    }
+
+    // Goes back to level 0.
+    fn begin_anew(&mut self)
+        requires fitting { IsFitting self.old.watches self.old.trail }
+        requires order { IsOrder self.old.trail.variables self.old.tools.order }
+        ensures fitting { IsFitting self.new.watches self.new.trail }
+        ensures clauses { self.new.watches.clauses ≡ self.old.watches.clauses }
+        ensures variables { self.new.trail.variables ≡ self.old.trail.variables }
+        ensures tools { StayTools self.old.tools self.new.tools }
+    {
         if self.trail.level() == 0 {
             return;
         }

@@ -11,6 +11,7 @@ ghost use Rattle.cnf_core.specs.Charges.{IsCharged, IsRefused};
 ghost use Rattle.learn_solver.specs.Searches.{IsAdvanced, IsDecided, IsLearning, IsLearnt, IsLesson, IsRunning, IsSame, last_line};
 ghost use Rattle.learn_solver.specs.Solvers.{IsAsking, IsBounded, IsBoundedStop, IsExtended, IsModel, IsRefuted, IsStopped, IsVerdict, ArePut, active, id_at, wanted};
 
+use crate::candidate::{Guide, Unguided};
 use crate::conflict::{Learned, analyse};
 use crate::decision::values;
 use crate::order::bump_all;
@@ -164,6 +165,11 @@ impl<'a, B: Base> Solver<'a, B> {
         Ok(None)
     }
 
+    /// How many lines there are.
+    pub(crate) fn count(&self) -> u64 {
+        self.lines.len() as u64
+    }
+
     // The lines as a log, once one is empty.
     fn refute(&self, alloc: Global) -> Result<Verdict, AllocError>
         requires { list_any is_empty (clauses_of self.now.lines) ≡ true }
@@ -174,8 +180,8 @@ impl<'a, B: Base> Solver<'a, B> {
         Ok(Verdict::Refuted(Log { lines }))
     }
 
-    // One step of the search: propagation, then a decision or a learned line.
-    fn advance<L: Charge>(
+    /// One step of the search: propagation, then a decision or a learned line.
+    pub(crate) fn advance<L: Charge>(
         &mut self,
         alloc: Global,
         search: &mut Search,
@@ -276,13 +282,37 @@ pub fn solve<B: Base, L: Charge>(
     ensures bounded_stop { IfErr result
         (IsBoundedStop solver.old.formula.variables (L.charging ledger.old) (L.charging ledger.new)) }
 {
-    searched(alloc, solver, ledger)
+    solve_guided(alloc, solver, &Unguided, ledger)
+}
+
+/// The same, where parts of the question are searched first (explicit learning: Lu, Wang, Cheng, Moon and Hanna, DATE 2003):
+/// for each candidate in order, whether its two literals can be true together. What is learned from that serves all that
+/// comes after. No answer depends on the candidates.
+pub fn solve_guided<B: Base, G: Guide, L: Charge>(
+    alloc: Global,
+    solver: &mut Solver<'_, B>,
+    guide: &G,
+    ledger: &mut L,
+) -> Result<Verdict, Stop>
+    requires unrefuted { list_any is_empty (clauses_of solver.old.lines) ≡ false }
+    requires asking { IsAsking (L.charging ledger.old) solver.old.lines }
+    ensures verdict { IfOk result (IsVerdict solver.new) }
+    ensures lines { IfOk result (λ _. IsExtended solver.old solver.new (L.charging ledger.old) (L.charging ledger.new)) }
+    ensures not_spent { IfOk result (λ _. IsAsking (L.charging ledger.new) solver.new.lines) }
+    ensures stop { IfErr result (IsStopped solver.old solver.new (L.charging ledger.old) (L.charging ledger.new)) }
+    ensures bounded { IfOk result
+        (λ _. IsBounded solver.old.formula.variables (L.charging ledger.old) (L.charging ledger.new)) }
+    ensures bounded_stop { IfErr result
+        (IsBoundedStop solver.old.formula.variables (L.charging ledger.old) (L.charging ledger.new)) }
+{
+    searched(alloc, solver, guide, ledger)
 }
 
 // Searches until there is a model or an empty line.
-fn searched<B: Base, L: Charge>(
+fn searched<B: Base, G: Guide, L: Charge>(
     alloc: Global,
     solver: &mut Solver<'_, B>,
+    guide: &G,
     ledger: &mut L,
 ) -> Result<Verdict, Stop>
     requires unrefuted { list_any is_empty (clauses_of solver.old.lines) ≡ false }
@@ -296,11 +326,11 @@ fn searched<B: Base, L: Charge>(
     if let Some(conflict) = search.start() {
         return solver.close(alloc, &mut search, conflict, ledger);
     }
-    loop {
-        if let Some(verdict) = solver.advance(alloc, &mut search, ledger)? {
-            return Ok(verdict);
-        }
+    if let Some(early) = solver.prepare(alloc, &mut search, guide, ledger)? {
+        return Ok(early);
     }
+    let verdict = solver.finish(alloc, &mut search, ledger)?;
+    Ok(verdict)
 }
 
 /// A line that was derived from a conflict, and the level to go back to.

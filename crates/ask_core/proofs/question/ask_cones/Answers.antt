@@ -1,5 +1,5 @@
 -- A query's answer is that of a solver for the clauses of its cones.
-use Rattle.std.proofs.Common.{Bool, List, refl, sym, ap, subst, ◌∙◌}
+use Rattle.std.proofs.Common.{Bool, List, sym, ap, subst, ◌∙◌}
 use Rattle.cnf_core.specs.Clauses.{Formula}
 use Rattle.cnf_core.specs.Derivations.{IsRefutation}
 use Rattle.learn_solver.specs.declared.verdict.Verdict.{Verdict}
@@ -23,7 +23,7 @@ returns-in_err-values-clause-stop c =
     let s = c.in_ok-solver.solver in
     let of = made_of_cones graphs query c.args.lemmas.now c.args.base.now c.args.ids.now s c.requires.of_query c.requires.cones c.requires.lemmas c.in_ok-solver.ensures in
     let stop = c.in_err-values.field-0.0 in
-    passed_on c.from_residual-in_err-values.result stop (IsStopped graphs query c.args.ledger.now c.solve.new.ledger) c.from_residual-in_err-values.ensures.1 (stopped_in graphs query c.args.lemmas.now s c.solve.new.solver c.args.ledger.now c.open.new.self c.solve.new.ledger stop of c.in_ok-open.ensures.some c.in_ok-open.ensures.opened c.in_err-values.ensures.stop)
+    passed_on c.from_residual-in_err-values.result stop (IsStopped graphs query c.args.ledger.now c.solve_guided.new.ledger) c.from_residual-in_err-values.ensures.1 (stopped_in graphs query c.args.lemmas.now s c.solve_guided.new.solver c.args.ledger.now c.open.new.self c.solve_guided.new.ledger stop of c.in_ok-open.ensures.some c.in_ok-open.ensures.opened c.in_err-values.ensures.stop)
 
 pub vector_of-requires-clause-meets : goal.vector_of-requires-clause-meets
 vector_of-requires-clause-meets c =
@@ -31,8 +31,8 @@ vector_of-requires-clause-meets c =
     let query = c.args.query.now in
     let s = c.in_ok-solver.solver in
     let of = made_of_cones graphs query c.args.lemmas.now c.args.base.now c.args.ids.now s c.requires.of_query c.requires.cones c.requires.lemmas c.in_ok-solver.ensures in
-    let model = subst (λ (v : Verdict). IsVerdict c.solve.new.solver v) c.in-Model.is c.in_ok-values.ensures.verdict in
-    subst (λ (bs : List Bool). MeetsCones graphs query bs) (sym c.deref.ensures.value) (meets_cones graphs query c.args.lemmas.now s c.solve.new.solver (charging_of c.open.new.self) (charging_of c.solve.new.ledger) c.in-Model.values of c.in_ok-values.ensures.lines model.meets)
+    let model = subst (λ (v : Verdict). IsVerdict c.solve_guided.new.solver v) c.in-Model.is c.in_ok-values.ensures.verdict in
+    subst (λ (bs : List Bool). MeetsCones graphs query bs) (sym c.deref.ensures.value) (meets_cones graphs query c.args.lemmas.now s c.solve_guided.new.solver (charging_of c.open.new.self) (charging_of c.solve_guided.new.ledger) c.in-Model.values of c.in_ok-values.ensures.lines model.meets)
 
 pub returns-in-Model-clause-asked : goal.returns-in-Model-clause-asked
 returns-in-Model-clause-asked c =
@@ -40,7 +40,7 @@ returns-in-Model-clause-asked c =
     let query = c.args.query.now in
     let s = c.in_ok-solver.solver in
     let of = made_of_cones graphs query c.args.lemmas.now c.args.base.now c.args.ids.now s c.requires.of_query c.requires.cones c.requires.lemmas c.in_ok-solver.ensures in
-    asked_in graphs query c.args.lemmas.now s c.solve.new.solver c.args.ledger.now c.open.new.self c.solve.new.ledger of c.in_ok-open.ensures.some c.in_ok-open.ensures.opened c.in_ok-values.ensures.lines
+    asked_in graphs query c.args.lemmas.now s c.solve_guided.new.solver c.args.ledger.now c.open.new.self c.solve_guided.new.ledger of c.in_ok-open.ensures.some c.in_ok-open.ensures.opened c.in_ok-values.ensures.lines
 
 pub returns-clause-asked : goal.returns-clause-asked
 returns-clause-asked c =
@@ -48,7 +48,7 @@ returns-clause-asked c =
     let query = c.args.query.now in
     let s = c.in_ok-solver.solver in
     let of = made_of_cones graphs query c.args.lemmas.now c.args.base.now c.args.ids.now s c.requires.of_query c.requires.cones c.requires.lemmas c.in_ok-solver.ensures in
-    asked_in graphs query c.args.lemmas.now s c.solve.new.solver c.args.ledger.now c.open.new.self c.solve.new.ledger of c.in_ok-open.ensures.some c.in_ok-open.ensures.opened c.in_ok-values.ensures.lines
+    asked_in graphs query c.args.lemmas.now s c.solve_guided.new.solver c.args.ledger.now c.open.new.self c.solve_guided.new.ledger of c.in_ok-open.ensures.some c.in_ok-open.ensures.opened c.in_ok-values.ensures.lines
 
 pub returns-clause-answer : goal.returns-clause-answer
 returns-clause-answer c =
@@ -56,16 +56,16 @@ returns-clause-answer c =
     let query = c.args.query.now in
     let s = c.in_ok-solver.solver in
     let of = made_of_cones graphs query c.args.lemmas.now c.args.base.now c.args.ids.now s c.requires.of_query c.requires.cones c.requires.lemmas c.in_ok-solver.ensures in
-    let refuted = subst (λ (v : Verdict). IsVerdict c.solve.new.solver v) c.in-Refuted.is c.in_ok-values.ensures.verdict in
+    let refuted = subst (λ (v : Verdict). IsVerdict c.solve_guided.new.solver v) c.in-Refuted.is c.in_ok-values.ensures.verdict in
     subst (λ (f : Formula). IsRefutation f c.in-Refuted.log.lines) (c.in_ok-values.ensures.lines.formula ∙ of.formula) refuted.refutes
 
 pub returns-clause-paid_for : goal.returns-clause-paid_for
 returns-clause-paid_for c =
-    let refuted = subst (λ (v : Verdict). IsVerdict c.solve.new.solver v) c.in-Refuted.is c.in_ok-values.ensures.verdict in
+    let refuted = subst (λ (v : Verdict). IsVerdict c.solve_guided.new.solver v) c.in-Refuted.is c.in_ok-values.ensures.verdict in
     refuted.lines_are ∙ sym c.in_ok-values.ensures.not_spent.lines_are
 
-pub solve-requires-clause-asking : goal.solve-requires-clause-asking
-solve-requires-clause-asking c = record {
+pub solve_guided-requires-clause-asking : goal.solve_guided-requires-clause-asking
+solve_guided-requires-clause-asking c = record {
   opened = is_opened c.open.new.self c.in_ok-open.ensures.some;
   lines_are = ap (λ (a : Asked). a.lines) c.in_ok-open.ensures.last ∙ sym (ap (λ (s : Solving). s.lines) c.in_ok-solver.ensures);
   not_spent = ap (λ (l : Ledgered). l.spent) c.in_ok-open.ensures.opened ∙ c.requires.not_spent;

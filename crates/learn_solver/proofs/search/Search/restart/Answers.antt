@@ -1,13 +1,6 @@
--- What fits a trail fits it at level 0.
-use Rattle.std.proofs.Common.{arith}
-use Rattle.learn_solver.specs.Starts.{IsBack}
-use Rattle.learn_solver.proofs.GoneLemmas.{fitting_back}
+-- The schedule is none of what is kept of the variables.
 use Rattle.learn_solver.proofs.search.Search.restart.Goals as goal
 
-pub returns-clause-fitting : goal.returns-clause-fitting
-returns-clause-fitting c =
-    let t = c.args.self.now.trail in
-    let back = c.back_to.new.self in
-    let e = c.back_to.ensures in
-    let is : IsBack t back 0 = record { variables = e.variables; entries = e.entries; front = e.front; level_is = e.level; walked = e.walked } in
-    fitting_back c.args.self.now.watches t back 0 c.requires.fitting is (omega (arith, c.level.ensures.value, c.if-level-eq0.false))
+pub returns-clause-tools : goal.returns-clause-tools
+returns-clause-tools c formula ids are =
+    c.begin_anew.ensures.tools formula ids (record { variables = are.variables; unmarked = are.unmarked; order = are.order })

@@ -1,0 +1,54 @@
+//! The gates of a query's cones, read from its clauses.
+
+ghost use Rattle.std.specs.Prelude.{◌*◌, ◌<◌, length};
+
+use cnf_core::{Base, SatLit};
+use query_core::QueryBase;
+use std::alloc::{AllocError, Global};
+
+/// A gate: the literal of its variable, and its operands.
+#[derive(Clone, Copy, Drop)]
+pub struct Gate {
+    pub output: SatLit,
+    pub first: SatLit,
+    pub second: SatLit,
+}
+
+/// The gates of a query's cones, each after its operands; one that both cones have comes twice. The numbers are those of the
+/// cones' clauses.
+///
+/// # Errors
+///
+/// Only when out of memory.
+pub fn gates_of(
+    alloc: Global,
+    base: &QueryBase<'_>,
+    ids: &[u64],
+) -> Result<Vec<Gate>, AllocError> {
+    let mut gates = Vec::new(alloc);
+    let end = ids.len() / 3;
+    for k in 1..end {
+        if let Some(gate) = gate_at(base, ids, k) {
+            gates.push(gate)?;
+        }
+    }
+    Ok(gates)
+}
+
+// Gate k of the cones, counted from 1, whose clauses have these numbers: after that of variable 0 three for each gate, of
+// which the last says that the operands imply it.
+fn gate_at(base: &QueryBase<'_>, ids: &[u64], k: usize) -> Option<Gate>
+    requires { 3 * k < length ids.now }
+{
+    let id = ids[3 * k];
+    if id >= base.count() {
+        return None;
+    }
+    let clause = base.clause(id);
+    let [output, first, second] = clause.lits;
+    Some(Gate {
+        output,
+        first: first.opposite(),
+        second: second.opposite(),
+    })
+}

@@ -1,0 +1,12 @@
+//! Gates of a query's two cones that seem to be equal: their values agree wherever they were looked at, or disagree
+//! everywhere (random simulation, as for SAT sweeping: Kuehlmann and Krohm, DAC 1997; Lu, Wang, Cheng, Moon and Hanna,
+//! DATE 2003). Nothing rests on it.
+#![tactic(auto)]
+
+mod blocks;
+mod gates;
+mod pairs;
+mod simulation;
+
+pub use gates::{Gate, gates_of};
+pub use pairs::{Pair, pairs_of};

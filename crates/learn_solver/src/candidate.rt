@@ -1,0 +1,94 @@
+//! Parts of a question that seem to be refuted.
+
+ghost use Rattle.std.specs.Prelude.{◌≡◌, IsTrue, IfSome};
+ghost use Rattle.trail_core.specs.Trails.{IsFree};
+
+use cnf_core::SatLit;
+use std::alloc::{AllocError, Global};
+use trail_core::Trail;
+
+/// Two literals that seem never to be true together, as those by which one gate would be true and another one not that has
+/// the same value wherever it was looked at. Whether they ever are is for the search to find out.
+#[derive(Clone, Copy, Drop)]
+pub struct Candidate {
+    pub one: SatLit,
+    pub other: SatLit,
+}
+
+/// The variable of a gate, and those of its operands.
+#[derive(Clone, Copy, Drop)]
+pub struct Operands {
+    pub gate: u64,
+    pub first: u64,
+    pub second: u64,
+}
+
+/// What is looked at before a question.
+#[derive(Drop)]
+pub struct Agenda {
+    /// The gates, each after its operands.
+    pub gates: Vec<Operands>,
+    /// In the order in which they are looked at: best those first on which others rest.
+    pub candidates: Vec<Candidate>,
+}
+
+/// Who has an agenda for a question. It is asked for once the question has taken some lines, so that an easy one costs
+/// nothing more.
+pub trait Guide {
+    /// The agenda. No answer depends on it.
+    ///
+    /// # Errors
+    ///
+    /// Only when out of memory.
+    fn agenda(&self, alloc: Global) -> Result<Agenda, AllocError>;
+}
+
+/// Nothing on the agenda.
+#[derive(Drop)]
+pub struct Unguided;
+
+impl Guide for Unguided {
+    fn agenda(&self, alloc: Global) -> Result<Agenda, AllocError> {
+        Ok(Agenda {
+            gates: Vec::new(alloc),
+            candidates: Vec::new(alloc),
+        })
+    }
+}
+
+impl Candidate {
+    /// The next of the two literals to decide, so that both become true. None where both are, or one is false. A literal
+    /// over no variable of the trail is passed over.
+    pub(crate) fn next(self, trail: &Trail, variables: usize) -> Option<SatLit>
+        requires { variables ≡ trail.now.variables }
+        ensures { IfSome result (IsFree trail.now) }
+    {
+        if self.is_closed(trail) {
+            return None;
+        }
+        if is_free(trail, variables, self.one) {
+            return Some(self.one);
+        }
+        if is_free(trail, variables, self.other) {
+            return Some(self.other);
+        }
+        None
+    }
+
+    /// Whether one of the literals is false.
+    pub(crate) fn is_closed(self, trail: &Trail) -> bool {
+        is_false(trail, self.one) | is_false(trail, self.other)
+    }
+}
+
+fn is_false(trail: &Trail, literal: SatLit) -> bool {
+    matches!(trail.value(literal), Some(false))
+}
+
+// Whether a literal is over an unassigned variable.
+fn is_free(trail: &Trail, variables: usize, literal: SatLit) -> bool
+    requires { variables ≡ trail.now.variables }
+    ensures { IsTrue result → IsFree trail.now literal }
+{
+    (literal.variable() < variables as u64) & trail.value(literal).is_none()
+}

@@ -1,0 +1,150 @@
+//! Parts of the question, one after another, and the whole of it.
+
+ghost use Rattle.std.specs.Prelude.{MatchOption, IfOk, IfErr};
+ghost use Rattle.learn_solver.specs.Searches.{IsRunning};
+ghost use Rattle.learn_solver.specs.Solvers.{IsAsking, IsExtended, IsStopped, IsVerdict};
+
+use crate::candidate::{Agenda, Candidate, Guide, Operands};
+use crate::search::Search;
+use crate::solver::Solver;
+use crate::verdict::Verdict;
+use cnf_core::{Base, Charge, Stop};
+use std::alloc::Global;
+
+/// How many lines the question itself gets before its candidates. Those of adders of 64 bits need no more, and would take half
+/// as many again with candidates.
+const FIRST: u64 = 100;
+
+/// How many lines a candidate gets. With 200 a resynthesized checksum of 32 bits takes 264,000 lines over all its questions, with
+/// 500 it takes 187,000, and with 1,000 no fewer.
+const MOST: u64 = 500;
+
+impl<'a, B: Base> Solver<'a, B> {
+    /// Searches for a while, then looks at each candidate. None: the question itself is left, from level 0 on.
+    pub(crate) fn prepare<G: Guide, L: Charge>(
+        &mut self,
+        alloc: Global,
+        search: &mut Search,
+        guide: &G,
+        ledger: &mut L,
+    ) -> Result<Option<Verdict>, Stop>
+        requires running { IsRunning self.old search.old.trail search.old.watches search.old.tools }
+        requires asking { IsAsking (L.charging ledger.old) self.old.lines }
+        ensures extended { IfOk result
+            (λ _. IsExtended self.old self.new (L.charging ledger.old) (L.charging ledger.new)) }
+        ensures asking { IfOk result (λ _. IsAsking (L.charging ledger.new) self.new.lines) }
+        ensures answer { IfOk result (λ answer. MatchOption answer
+            (IsRunning self.new search.new.trail search.new.watches search.new.tools) (IsVerdict self.new)) }
+        ensures stop { IfErr result
+            (IsStopped self.old self.new (L.charging ledger.old) (L.charging ledger.new)) }
+    {
+        if let Some(soon) = self.pursue(alloc, search, FIRST, ledger)? {
+            return Ok(Some(soon));
+        }
+        let agenda = guide.agenda(alloc)?;
+        if let Some(verdict) = self.follow(alloc, search, &agenda, ledger)? {
+            return Ok(Some(verdict));
+        }
+        search.widen();
+        Ok(None)
+    }
+
+    // Looks at each candidate.
+    fn follow<L: Charge>(
+        &mut self,
+        alloc: Global,
+        search: &mut Search,
+        agenda: &Agenda,
+        ledger: &mut L,
+    ) -> Result<Option<Verdict>, Stop>
+        requires running { IsRunning self.old search.old.trail search.old.watches search.old.tools }
+        requires asking { IsAsking (L.charging ledger.old) self.old.lines }
+        ensures extended { IfOk result
+            (λ _. IsExtended self.old self.new (L.charging ledger.old) (L.charging ledger.new)) }
+        ensures asking { IfOk result (λ _. IsAsking (L.charging ledger.new) self.new.lines) }
+        ensures answer { IfOk result (λ answer. MatchOption answer
+            (IsRunning self.new search.new.trail search.new.watches search.new.tools) (IsVerdict self.new)) }
+        ensures stop { IfErr result
+            (IsStopped self.old self.new (L.charging ledger.old) (L.charging ledger.new)) }
+    {
+        for candidate in agenda.candidates.iter() {
+            if let Some(verdict) = self.look_at(alloc, search, *candidate, &agenda.gates, ledger)? {
+                return Ok(Some(verdict));
+            }
+        }
+        Ok(None)
+    }
+
+    // Looks whether a candidate's literals can be true together.
+    fn look_at<L: Charge>(
+        &mut self,
+        alloc: Global,
+        search: &mut Search,
+        candidate: Candidate,
+        gates: &[Operands],
+        ledger: &mut L,
+    ) -> Result<Option<Verdict>, Stop>
+        requires running { IsRunning self.old search.old.trail search.old.watches search.old.tools }
+        requires asking { IsAsking (L.charging ledger.old) self.old.lines }
+        ensures extended { IfOk result
+            (λ _. IsExtended self.old self.new (L.charging ledger.old) (L.charging ledger.new)) }
+        ensures asking { IfOk result (λ _. IsAsking (L.charging ledger.new) self.new.lines) }
+        ensures answer { IfOk result (λ answer. MatchOption answer
+            (IsRunning self.new search.new.trail search.new.watches search.new.tools) (IsVerdict self.new)) }
+        ensures stop { IfErr result
+            (IsStopped self.old self.new (L.charging ledger.old) (L.charging ledger.new)) }
+    {
+        search.narrow(candidate, gates);
+        self.pursue(alloc, search, MOST, ledger)
+    }
+
+    // Searches until the goal is settled, for n lines at most.
+    fn pursue<L: Charge>(
+        &mut self,
+        alloc: Global,
+        search: &mut Search,
+        most: u64,
+        ledger: &mut L,
+    ) -> Result<Option<Verdict>, Stop>
+        requires running { IsRunning self.old search.old.trail search.old.watches search.old.tools }
+        requires asking { IsAsking (L.charging ledger.old) self.old.lines }
+        ensures extended { IfOk result
+            (λ _. IsExtended self.old self.new (L.charging ledger.old) (L.charging ledger.new)) }
+        ensures asking { IfOk result (λ _. IsAsking (L.charging ledger.new) self.new.lines) }
+        ensures answer { IfOk result (λ answer. MatchOption answer
+            (IsRunning self.new search.new.trail search.new.watches search.new.tools) (IsVerdict self.new)) }
+        ensures stop { IfErr result
+            (IsStopped self.old self.new (L.charging ledger.old) (L.charging ledger.new)) }
+    {
+        let end = self.count().saturating_add(most);
+        while !search.is_settled() & (self.count() < end) {
+            if let Some(verdict) = self.advance(alloc, search, ledger)? {
+                return Ok(Some(verdict));
+            }
+        }
+        Ok(None)
+    }
+
+    /// Searches until there is an answer.
+    pub(crate) fn finish<L: Charge>(
+        &mut self,
+        alloc: Global,
+        search: &mut Search,
+        ledger: &mut L,
+    ) -> Result<Verdict, Stop>
+        requires running { IsRunning self.old search.old.trail search.old.watches search.old.tools }
+        requires asking { IsAsking (L.charging ledger.old) self.old.lines }
+        ensures extended { IfOk result
+            (λ _. IsExtended self.old self.new (L.charging ledger.old) (L.charging ledger.new)) }
+        ensures asking { IfOk result (λ _. IsAsking (L.charging ledger.new) self.new.lines) }
+        ensures verdict { IfOk result (IsVerdict self.new) }
+        ensures stop { IfErr result
+            (IsStopped self.old self.new (L.charging ledger.old) (L.charging ledger.new)) }
+    {
+        loop {
+            if let Some(verdict) = self.advance(alloc, search, ledger)? {
+                return Ok(verdict);
+            }
+        }
+    }
+}
