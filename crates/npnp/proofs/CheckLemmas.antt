@@ -15,18 +15,18 @@ use Rattle.account_check.specs.declared.verdict.Why.{Why}
 use Rattle.account_check.proofs.VerdictLemmas.{one_rejection, one_proved, never_both}
 use Rattle.npnp.specs.Circuits.{IsCircuit, IsCircuitFault}
 use Rattle.query_core.specs.Ledgers.{Ledgered}
-use Rattle.npnp.specs.Words.{AsksCheck, AsksInfo, AsksMatch, AskNothing, NameThree, Sought}
+use Rattle.npnp.specs.Words.{AskForPair, AsksCheck, AsksInfo, AsksMatch, AsksTrial, AskNothing, NameThree, ReadFiles, Sought}
 use Rattle.npnp.specs.Match.{HasNoMatch, IsAskedToMatch, IsMatchFound, IsSought, IsSpentOnTwo}
 use Rattle.circuits.specs.Matches.{AreNpnpEqual}
 use Rattle.npnp.specs.Check.{IsAsked, HasAccount, LacksAccount}
 use Rattle.npnp.specs.Held.{Netlist, HoldsNetlist, HoldsGraph, HoldsFault, HoldsTooMuch}
-use Rattle.npnp.specs.Outcomes.{EndsAt, EndsEarly, IsAskedOf, IsSpentOn, IsOfOne, IsOfMatch, IsRight, IsDecided, IsTold, Leaves}
+use Rattle.npnp.specs.Outcomes.{EndsAt, EndsEarly, FollowsWords, IsAskedOf, IsSpentOn, IsOfOne, IsOfMatch, IsRight, IsDecided, IsTold, Leaves}
 use Rattle.net_file.specs.declared.named.Named.{Named}
 use Rattle.shelf_core.specs.State.{ShelfState, Closed}
 use Rattle.npnp.specs.Report.{IsReport}
-use Rattle.npnp.specs.Steps.{Ask, ReadAs, IsVerdict, IsEarly, IsOfReading, IsStopOf, ReadsNetlist, Decides, sought_by}
+use Rattle.npnp.specs.Steps.{Ask, ReadAs, IsVerdict, IsEarly, IsOfReading, IsReadingCommand, IsStopOf, IsTrialCommand, ReadsNetlist, Decides, sought_by, wanted_by}
 use Rattle.npnp.specs.declared.words.Command.{Command}
-use Rattle.npnp.specs.declared.words.Command.TheVariants.{Check, Match, Info}
+use Rattle.npnp.specs.declared.words.Command.TheVariants.{Check, Match, Info, Make, Trial}
 use Rattle.npnp.specs.Stops.{outcome_of}
 use Rattle.npnp.specs.declared.run.Ending.{Ending}
 use Rattle.npnp.specs.declared.files.Stop.{Stop}
@@ -38,7 +38,7 @@ use Rattle.npnp.proofs.CircuitLemmas.{one_circuit, circuit_or_fault, one_circuit
 use Rattle.npnp.specs.declared.outcome.Which.{Which}
 use Rattle.npnp.specs.declared.outcome.Which.TheVariants.{First, Second, Account}
 use Rattle.npnp.specs.declared.outcome.Outcome.{Outcome}
-use Rattle.npnp.specs.declared.outcome.Outcome.TheVariants.{AcceptedMatch, AcceptedRefusal, Rejected, Matched, NoMatching, Spent, Usage, Absent, TooLarge, Malformed, Informed, ReadFault, WriteFault, Memory}
+use Rattle.npnp.specs.declared.outcome.Outcome.TheVariants.{AcceptedMatch, AcceptedRefusal, Rejected, Matched, NoMatching, Spent, Usage, Absent, TooLarge, Malformed, Informed, Made, Tried, ReadFault, WriteFault, Memory}
 
 -- a count that rose in the last of several calls
 pub rose_later : (a b c : ℕ) → a ≤ b → b ≤ c → Rose b c → Rose a c
@@ -91,6 +91,8 @@ end_of file content (Matched table) decided fact = absurd fact
 end_of file content NoMatching decided fact = absurd fact
 end_of file content (Spent ledger) decided fact = absurd fact
 end_of file content Informed decided fact = absurd fact
+end_of file content Made decided fact = absurd fact
+end_of file content (Tried number account) decided fact = absurd fact
 end_of file content Usage decided fact = absurd fact
 end_of file content (Absent which) decided fact = inl (ap Absent fact.0, fact.1)
 end_of file content (TooLarge which) decided fact = inr (inl (ap TooLarge fact.0, fact.1))
@@ -300,6 +302,91 @@ check_or_match words f g t sought check asks =
     let is : 99 ≡ 109 = sym (ap letter check.form) ∙ ap letter asks.form in
     omega (arith, is)
 
+-- words that ask for a pair or for a trial name no file that is read: each form has another third letter
+
+abbrev third : List (List ℕ) → ℕ
+third words = get_or (get_or words 0 []) 2 0
+
+third_of_read : (words : List (List ℕ)) → ReadFiles words → (third words ≡ 101) ⊎ (third words ≡ 116) ⊎ (third words ≡ 102)
+third_of_read words reads =
+    elim reads [
+      | inl (first, second, account, inl asks) ↦ inl (ap third asks.form)
+      | inl (first, second, account, inr (budget, seed, asks)) ↦ inr (inl (ap third asks.form))
+      | inr (file, budget, asks) ↦ elim asks.form [
+        | inl (form, is) ↦ inr (inr (ap third form))
+        | inr (word, form, is) ↦ inr (inr (ap third form))
+      ]
+    ]
+
+pub read_or_make : (words : List (List ℕ)) → ReadFiles words → AskForPair words → ⊥
+read_or_make words reads (wanted, make) =
+    let is : third words ≡ 107 = ap third make.form in
+    elim (third_of_read words reads) [
+      | inl e ↦ omega (arith, e, is)
+      | inr (inl e) ↦ omega (arith, e, is)
+      | inr (inr e) ↦ omega (arith, e, is)
+    ]
+
+pub read_or_trial : (words : List (List ℕ)) (number : ℕ) → ReadFiles words → AsksTrial words number → ⊥
+read_or_trial words number reads trial =
+    let is : third words ≡ 105 = ap third trial.form in
+    elim (third_of_read words reads) [
+      | inl e ↦ omega (arith, e, is)
+      | inr (inl e) ↦ omega (arith, e, is)
+      | inr (inr e) ↦ omega (arith, e, is)
+    ]
+
+pub make_or_trial : (words : List (List ℕ)) (number : ℕ) → AskForPair words → AsksTrial words number → ⊥
+make_or_trial words number (wanted, make) trial =
+    let is : 107 ≡ 105 = sym (ap third make.form) ∙ ap third trial.form in
+    omega (arith, is)
+
+-- a command that reads names files
+pub reads_of : (words : List (List ℕ)) (command : Command) → IsReadingCommand command → Ask words command → ReadFiles words
+reads_of words (Check check) is asks = inl (check.first.now, check.second.now, check.account.now, inl asks)
+reads_of words (Match sought) is asks = inl (sought.first.now, sought.second.now, sought.account.now, inr (sought.budget, sought.seed, asks))
+reads_of words (Info info) is asks = inr (info.file.now, info.budget, asks)
+reads_of words (Make asked) is asks = absurd is
+reads_of words (Trial trial) is asks = absurd is
+
+-- what the words alone say of an outcome of files
+pub follows_files : (words : List (List ℕ)) (o : Outcome) → ReadFiles words → o ≢ Made → ((number : ℕ) (account : List ℕ) → o ≢ Tried number account) → FollowsWords words o
+follows_files words o reads no_pair no_trial = record {
+  made = λ e. absurd (no_pair e);
+  pair = λ asks told. absurd (read_or_make words reads asks);
+  tried = λ number account e. absurd (no_trial number account e);
+  trial = λ number asks told. absurd (read_or_trial words number reads asks);
+  read = λ e. reads;
+}
+
+-- and where memory ran out
+pub follows_memory : (words : List (List ℕ)) → FollowsWords words Memory
+follows_memory words = record {
+  made = λ e. cc;
+  pair = λ asks told. absurd (told.room refl);
+  tried = λ number account e. cc;
+  trial = λ number asks told. absurd (told.room refl);
+  read = λ e. cc;
+}
+
+-- and where the words ask for nothing
+pub follows_nothing : (words : List (List ℕ)) → AskNothing words → FollowsWords words Usage
+follows_nothing words nothing = record {
+  made = λ e. cc;
+  pair = λ asks told. absurd (nothing.no_make asks.0 asks.1);
+  tried = λ number account e. cc;
+  trial = λ number asks told. absurd (nothing.no_trial number asks);
+  read = λ e. cc;
+}
+
+-- the words of a trial are of no other command
+pub trial_command : (words : List (List ℕ)) (command : Command) (number : ℕ) → Ask words command → AsksTrial words number → IsTrialCommand command
+trial_command words (Check check) number asks trial = absurd (read_or_trial words number (reads_of words (Check check) tt asks) trial)
+trial_command words (Match sought) number asks trial = absurd (read_or_trial words number (reads_of words (Match sought) tt asks) trial)
+trial_command words (Info info) number asks trial = absurd (read_or_trial words number (reads_of words (Info info) tt asks) trial)
+trial_command words (Make asked) number asks trial = absurd (make_or_trial words number (wanted_by asked, asks) trial)
+trial_command words (Trial tried) number asks trial = tt
+
 check_one : (held : List ℕ → Option (List ℕ)) (words : List (List ℕ)) (a b : Outcome) → SaysCheck held words a → SaysCheck held words b → a ≡ b
 check_one held words a b (f, g, t, asks, says) (f', g', t', asks', says') =
     let e = names_one words f g t f' g' t' asks asks' in
@@ -404,25 +491,28 @@ sought_of_spent held words ledger spent = record {
   second_held = spent.second_held.holds;
 }
 
-says : (held : List ℕ → Option (List ℕ)) (words : List (List ℕ)) (o : Outcome) → IsDecided o → IsRight held words o → Says held words o
-says held words (AcceptedMatch table) decided right = says_answer held words right.graphs right.account (AcceptedMatch table) right.has (inl (verdict.Match table, refl, right.accepted))
-says held words AcceptedRefusal decided right = says_answer held words right.graphs right.account AcceptedRefusal right.has (inl (verdict.None, refl, right.accepted))
-says held words (Rejected line why) decided right = says_answer held words right.graphs right.account (Rejected line why) right.has (inr (line, why, refl, right.rejected))
-says held words (Matched table) decided right = says_match held words right.first right.second (Matched table) right.files (inl (table, refl))
-says held words NoMatching decided right = says_match held words right.first right.second NoMatching right.files (inr (inl refl))
-says held words (Spent ledger) decided right =
+says : (held : List ℕ → Option (List ℕ)) (words : List (List ℕ)) (o : Outcome) → ReadFiles words → IsDecided o → IsRight held words o → Says held words o
+says held words (AcceptedMatch table) reads decided right = says_answer held words right.graphs right.account (AcceptedMatch table) right.has (inl (verdict.Match table, refl, right.accepted))
+says held words AcceptedRefusal reads decided right = says_answer held words right.graphs right.account AcceptedRefusal right.has (inl (verdict.None, refl, right.accepted))
+says held words (Rejected line why) reads decided right = says_answer held words right.graphs right.account (Rejected line why) right.has (inr (line, why, refl, right.rejected))
+says held words (Matched table) reads decided right = says_match held words right.first right.second (Matched table) right.files (inl (table, refl))
+says held words NoMatching reads decided right = says_match held words right.first right.second NoMatching right.files (inr (inl refl))
+says held words (Spent ledger) reads decided right =
     elim right [
       | inl one ↦ says_of held words (Spent ledger) (asked_of_spent held words ledger one) (inr (ledger, refl))
-      | inr two ↦ says_match held words two.first_held.netlist two.second_held.netlist (Spent ledger) (sought_of_spent held words ledger two) (inr (inr (ledger, refl)))
+      | inr (inl two) ↦ says_match held words two.first_held.netlist two.second_held.netlist (Spent ledger) (sought_of_spent held words ledger two) (inr (inr (ledger, refl)))
+      | inr (inr pair) ↦ absurd (read_or_trial words pair.number reads pair.asks)
     ]
-says held words Informed decided right = says_of held words Informed right (inl refl)
-says held words Usage decided right = inl (refl, right)
-says held words (Absent which) decided right = elim right [ inl early ↦ says_early held words (Absent which) decided early | inr (e, lacks) ↦ says_absent held words which e lacks ]
-says held words (TooLarge which) decided right = says_early held words (TooLarge which) decided right
-says held words (Malformed which kind at) decided right = says_early held words (Malformed which kind at) decided right
-says held words ReadFault decided right = absurd (decided.read refl)
-says held words WriteFault decided right = absurd (decided.told.written refl)
-says held words Memory decided right = absurd (decided.told.room refl)
+says held words Informed reads decided right = says_of held words Informed right (inl refl)
+says held words Made reads decided right = absurd (read_or_make words reads right)
+says held words (Tried number account) reads decided right = absurd (read_or_trial words number reads right.asks)
+says held words Usage reads decided right = inl (refl, right)
+says held words (Absent which) reads decided right = elim right [ inl early ↦ says_early held words (Absent which) decided early | inr (e, lacks) ↦ says_absent held words which e lacks ]
+says held words (TooLarge which) reads decided right = says_early held words (TooLarge which) decided right
+says held words (Malformed which kind at) reads decided right = says_early held words (Malformed which kind at) decided right
+says held words ReadFault reads decided right = absurd (decided.read refl)
+says held words WriteFault reads decided right = absurd (decided.told.written refl)
+says held words Memory reads decided right = absurd (decided.told.room refl)
 
 -- what one file, or the verdict of all, makes right
 
@@ -434,6 +524,8 @@ right_at_first held words f g t asks (Matched table) ends = absurd ends
 right_at_first held words f g t asks NoMatching ends = absurd ends
 right_at_first held words f g t asks (Spent ledger) ends = absurd ends
 right_at_first held words f g t asks Informed ends = absurd ends
+right_at_first held words f g t asks Made ends = absurd ends
+right_at_first held words f g t asks (Tried number account) ends = absurd ends
 right_at_first held words f g t asks Usage ends = absurd ends
 right_at_first held words f g t asks (Absent which) ends = inl (inl (record { first_name = f; second_name = g; account_name = t; asks = asks; ends = ends }))
 right_at_first held words f g t asks (TooLarge which) ends = inl (record { first_name = f; second_name = g; account_name = t; asks = asks; ends = ends })
@@ -450,6 +542,8 @@ right_at_second held words f g t first asks there (Matched table) ends = absurd 
 right_at_second held words f g t first asks there NoMatching ends = absurd ends
 right_at_second held words f g t first asks there (Spent ledger) ends = absurd ends
 right_at_second held words f g t first asks there Informed ends = absurd ends
+right_at_second held words f g t first asks there Made ends = absurd ends
+right_at_second held words f g t first asks there (Tried number account) ends = absurd ends
 right_at_second held words f g t first asks there Usage ends = absurd ends
 right_at_second held words f g t first asks there (Absent which) ends = inl (inr (inl (record { first_name = f; second_name = g; account_name = t; asks = asks; first = first; first_held = there; ends = ends })))
 right_at_second held words f g t first asks there (TooLarge which) ends = inr (inl (record { first_name = f; second_name = g; account_name = t; asks = asks; first = first; first_held = there; ends = ends }))
@@ -466,6 +560,8 @@ right_at_only held words file budget asks (Matched table) ends = absurd ends
 right_at_only held words file budget asks NoMatching ends = absurd ends
 right_at_only held words file budget asks (Spent ledger) ends = absurd ends
 right_at_only held words file budget asks Informed ends = absurd ends
+right_at_only held words file budget asks Made ends = absurd ends
+right_at_only held words file budget asks (Tried number account) ends = absurd ends
 right_at_only held words file budget asks Usage ends = absurd ends
 right_at_only held words file budget asks (Absent which) ends = inl (inr (inr (record { file_name = file; budget = budget; asks = asks; ends = ends })))
 right_at_only held words file budget asks (TooLarge which) ends = inr (inr (record { file_name = file; budget = budget; asks = asks; ends = ends }))
@@ -482,6 +578,8 @@ right_by_verdict held words f g t graphs asks first second (Matched table) fact 
 right_by_verdict held words f g t graphs asks first second NoMatching fact = absurd fact
 right_by_verdict held words f g t graphs asks first second (Spent ledger) fact = absurd fact
 right_by_verdict held words f g t graphs asks first second Informed fact = absurd fact
+right_by_verdict held words f g t graphs asks first second Made fact = absurd fact
+right_by_verdict held words f g t graphs asks first second (Tried number account) fact = absurd fact
 right_by_verdict held words f g t graphs asks first second Usage fact = absurd fact
 right_by_verdict held words f g t graphs asks first second (Absent which) fact = inr (fact.0, record { first = first.netlist; second = second.netlist; account_name = t; asked = record { first_name = f; second_name = g; asks = asks; first_held = first.holds; second_held = second.holds }; absent = fact.1 })
 right_by_verdict held words f g t graphs asks first second (TooLarge which) fact = absurd fact
@@ -495,6 +593,8 @@ pub known_form : (words : List (List ℕ)) (command : Command) → Ask words com
 known_form words (Check check) asks nothing = nothing.no_check check.first.now check.second.now check.account.now asks
 known_form words (Match sought) asks nothing = nothing.no_match (sought_by sought) asks
 known_form words (Info info) asks nothing = nothing.no_info info.file.now info.budget asks
+known_form words (Make asked) asks nothing = nothing.no_make (wanted_by asked) asks
+known_form words (Trial trial) asks nothing = nothing.no_trial trial.number asks
 
 informed_of_match : IsOfMatch Informed → ⊥
 informed_of_match is = elim is [ inl (table, e) ↦ cc | inr (inl e) ↦ cc | inr (inr (ledger, e)) ↦ cc ]
@@ -510,28 +610,82 @@ found_or_none held words table found none =
     let g = netlist_one (held none.files.sought.second) found.second none.second (subst (λ n. HoldsNetlist (held n) found.second) e.1 found.files.second_held) none.files.second_held in
     none.unequal (subst (AreNpnpEqual none.first.circuit) g (subst (λ circuit. AreNpnpEqual circuit found.second.circuit) f (table.inputs, table.outputs, found.matches)))
 
+-- an outcome that is determined by files
+abbrev pub IsExact : Outcome → Type 0
+IsExact (AcceptedMatch table) = Unit {0}
+IsExact AcceptedRefusal = Unit {0}
+IsExact (Rejected line why) = Unit {0}
+IsExact (Absent which) = Unit {0}
+IsExact (TooLarge which) = Unit {0}
+IsExact (Malformed which kind at) = Unit {0}
+IsExact other = ⊥
+
+exact_of_one : (o : Outcome) → IsExact o → IsOfOne o → ⊥
+exact_of_one o exact one = elim one [ inl e ↦ subst IsExact e exact | inr (ledger, e) ↦ subst IsExact e exact ]
+
+exact_of_match : (o : Outcome) → IsExact o → IsOfMatch o → ⊥
+exact_of_match o exact two = elim two [ inl (table, e) ↦ subst IsExact e exact | inr (inl e) ↦ subst IsExact e exact | inr (inr (ledger, e)) ↦ subst IsExact e exact ]
+
+early_reads : (held : List ℕ → Option (List ℕ)) (words : List (List ℕ)) (o : Outcome) → EndsEarly held words o → ReadFiles words
+early_reads held words o early =
+    elim early [
+      | inl at ↦ inl (at.first_name, at.second_name, at.account_name, at.asks)
+      | inr (inl at) ↦ inl (at.first_name, at.second_name, at.account_name, at.asks)
+      | inr (inr at) ↦ inr (at.file_name, at.budget, at.asks)
+    ]
+
+account_reads : (held : List ℕ → Option (List ℕ)) (words : List (List ℕ)) (graphs : Graphs) (account : List ℕ) → HasAccount held words graphs account → ReadFiles words
+account_reads held words graphs account has = inl (has.first_name, has.second_name, has.account_name, inl has.asks)
+
+-- where such an outcome is right the words name files
+exact_reads : (held : List ℕ → Option (List ℕ)) (words : List (List ℕ)) (o : Outcome) → IsExact o → IsRight held words o → ReadFiles words
+exact_reads held words (AcceptedMatch table) exact right = account_reads held words right.graphs right.account right.has
+exact_reads held words AcceptedRefusal exact right = account_reads held words right.graphs right.account right.has
+exact_reads held words (Rejected line why) exact right = account_reads held words right.graphs right.account right.has
+exact_reads held words (Matched table) exact right = absurd exact
+exact_reads held words NoMatching exact right = absurd exact
+exact_reads held words (Spent ledger) exact right = absurd exact
+exact_reads held words Informed exact right = absurd exact
+exact_reads held words Made exact right = absurd exact
+exact_reads held words (Tried number account) exact right = absurd exact
+exact_reads held words Usage exact right = absurd exact
+exact_reads held words (Absent which) exact right = elim right [
+  | inl early ↦ early_reads held words (Absent which) early
+  | inr (e, lacks) ↦ inl (lacks.asked.first_name, lacks.asked.second_name, lacks.account_name, inl lacks.asked.asks)
+]
+exact_reads held words (TooLarge which) exact right = early_reads held words (TooLarge which) right
+exact_reads held words (Malformed which kind at) exact right = early_reads held words (Malformed which kind at) right
+exact_reads held words ReadFault exact right = absurd exact
+exact_reads held words WriteFault exact right = absurd exact
+exact_reads held words Memory exact right = absurd exact
+
+sought_reads : (held : List ℕ → Option (List ℕ)) (words : List (List ℕ)) (first second : Netlist) → IsSought held words first second → ReadFiles words
+sought_reads held words first second is = inl (is.sought.first, is.sought.second, is.sought.account, inr (is.sought.budget, is.sought.seed, is.asks))
+
 -- The outcome of a run that was asked to tell a right one is exactly what the words and the files say.
 module _ (held : List ℕ → Option (List ℕ)) (words : List (List ℕ)) (asked answer : Outcome) (right : IsRight held words asked) (same : IsTold answer → answer ≡ asked) (decided : IsDecided answer) where
   stays_right : IsRight held words answer
   stays_right = subst (IsRight held words) (sym (same decided.told)) right
 
-  stays_said : Says held words answer
-  stays_said = says held words answer decided stays_right
+  stays_said : ReadFiles words → Says held words answer
+  stays_said reads = says held words answer reads decided stays_right
 
-  pub exactly : (o : Outcome) → IsDecided o → (IsOfOne o → ⊥) → (IsOfMatch o → ⊥) → (answer ≡ o) ↔ IsRight held words o
-  exactly o known not_of_one not_of_match = (
+  pub exactly : (o : Outcome) → IsDecided o → IsExact o → (answer ≡ o) ↔ IsRight held words o
+  exactly o known exact = (
     λ is. subst (IsRight held words) is stays_right,
-    λ fact. elim (says_one held words answer o stays_said (says held words o known fact)) [
-      | inl same ↦ same
-      | inr (inl both) ↦ absurd (not_of_one both.1)
-      | inr (inr both) ↦ absurd (not_of_match both.1)
-    ],
+    λ fact.
+        let reads = exact_reads held words o exact fact in
+        elim (says_one held words answer o (stays_said reads) (says held words o reads known fact)) [
+          | inl same ↦ same
+          | inr (inl both) ↦ absurd (exact_of_one o exact both.1)
+          | inr (inr both) ↦ absurd (exact_of_match o exact both.1)
+        ],
   )
 
   pub exactly_informed : ((ledger : Ledgered) → answer ≢ Spent ledger) → (answer ≡ Informed) ↔ IsAskedOf held words
   exactly_informed unspent = (
     λ is. subst (IsRight held words) is stays_right,
-    λ asked. elim (says_one held words answer Informed stays_said (says_of held words Informed asked (inl refl))) [
+    λ asked. elim (says_one held words answer Informed (stays_said (inr (asked.file_name, asked.budget, asked.asks))) (says_of held words Informed asked (inl refl))) [
       | inl same ↦ same
       | inr (inl both) ↦ elim both.0 [ inl same ↦ same | inr (ledger, same) ↦ absurd (unspent ledger same) ]
       | inr (inr both) ↦ absurd (informed_of_match both.1)
@@ -539,7 +693,7 @@ module _ (held : List ℕ → Option (List ℕ)) (words : List (List ℕ)) (aske
   )
 
   pub of_match : IsAskedToMatch held words → IsOfMatch answer
-  of_match asked = elim (says_one held words answer NoMatching stays_said (says_match held words asked.first asked.second NoMatching asked.files (inr (inl refl)))) [
+  of_match asked = elim (says_one held words answer NoMatching (stays_said (sought_reads held words asked.first asked.second asked.files)) (says_match held words asked.first asked.second NoMatching asked.files (inr (inl refl)))) [
     | inl same ↦ inr (inl same)
     | inr (inl both) ↦ absurd (none_of_one both.1)
     | inr (inr both) ↦ both.0
@@ -572,6 +726,15 @@ decided_spent ledger = record { read = λ e. cc; told = record { written = λ e.
 pub decided_matched : (table : Matching) → IsDecided (Matched table)
 decided_matched table = record { read = λ e. cc; told = record { written = λ e. cc; room = λ e. cc } }
 
+pub told_read : IsTold ReadFault
+told_read = record { written = λ e. cc; room = λ e. cc }
+
+pub decided_made : IsDecided Made
+decided_made = record { read = λ e. cc; told = record { written = λ e. cc; room = λ e. cc } }
+
+pub decided_tried : (number : ℕ) (account : List ℕ) → IsDecided (Tried number account)
+decided_tried number account = record { read = λ e. cc; told = record { written = λ e. cc; room = λ e. cc } }
+
 pub decided_none : IsDecided NoMatching
 decided_none = record { read = λ e. cc; told = record { written = λ e. cc; room = λ e. cc } }
 
@@ -591,40 +754,43 @@ stop_right held words stop.ReadFault = tt
 stop_right held words stop.Memory = tt
 
 pub stop_reading : (s : Stop) → IsOfReading (outcome_of s)
-stop_reading stop.ReadFault = record { early = record { line = record { no_table = λ table e. elim e [ inl e ↦ cc | inr e ↦ cc ]; no_rows = λ e. cc }; no_refusal = λ e. cc; no_match = λ e. cc; asked = λ e. cc }; unwritten = λ e. cc }
-stop_reading stop.Memory = record { early = record { line = record { no_table = λ table e. elim e [ inl e ↦ cc | inr e ↦ cc ]; no_rows = λ e. cc }; no_refusal = λ e. cc; no_match = λ e. cc; asked = λ e. cc }; unwritten = λ e. cc }
+stop_reading stop.ReadFault = record { early = record { line = record { no_table = λ table e. elim e [ inl e ↦ cc | inr e ↦ cc ]; no_rows = λ e. cc }; no_refusal = λ e. cc; no_match = λ e. cc; no_pair = λ e. cc; no_trial = λ number account e. cc; asked = λ e. cc }; unwritten = λ e. cc }
+stop_reading stop.Memory = record { early = record { line = record { no_table = λ table e. elim e [ inl e ↦ cc | inr e ↦ cc ]; no_rows = λ e. cc }; no_refusal = λ e. cc; no_match = λ e. cc; no_pair = λ e. cc; no_trial = λ number account e. cc; asked = λ e. cc }; unwritten = λ e. cc }
 
 pub stop_is : (s : Stop) → outcome_of s ≡ ReadFault → s ≡ stop.ReadFault
 stop_is stop.ReadFault e = refl
 stop_is stop.Memory e = cc
 
--- where no file changes, each outcome that isn't of a match leaves what it says
-pub leaves : (before after : List ℕ → Option (List ℕ)) (words : List (List ℕ)) (o : Outcome) → ((table : Matching) → o ≢ Matched table) → o ≢ NoMatching → ((n : List ℕ) → after n ≡ before n) → Leaves before after words o
-leaves before after words (AcceptedMatch table) no_table no_match same = same
-leaves before after words AcceptedRefusal no_table no_match same = same
-leaves before after words (Rejected line why) no_table no_match same = same
-leaves before after words (Matched table) no_table no_match same = absurd (no_table table refl)
-leaves before after words NoMatching no_table no_match same = absurd (no_match refl)
-leaves before after words (Spent ledger) no_table no_match same = same
-leaves before after words Informed no_table no_match same = same
-leaves before after words Usage no_table no_match same = same
-leaves before after words (Absent which) no_table no_match same = same
-leaves before after words (TooLarge which) no_table no_match same = same
-leaves before after words (Malformed which kind at) no_table no_match same = same
-leaves before after words ReadFault no_table no_match same = same
-leaves before after words WriteFault no_table no_match same = inl same
-leaves before after words Memory no_table no_match same = inl same
+-- where no file changes, each outcome that is neither of a match nor a pair leaves what it says
+pub leaves : (before after : List ℕ → Option (List ℕ)) (words : List (List ℕ)) (o : Outcome) → ((table : Matching) → o ≢ Matched table) → o ≢ NoMatching → o ≢ Made → ((n : List ℕ) → after n ≡ before n) → Leaves before after words o
+leaves before after words (AcceptedMatch table) no_table no_match no_pair same = same
+leaves before after words AcceptedRefusal no_table no_match no_pair same = same
+leaves before after words (Rejected line why) no_table no_match no_pair same = same
+leaves before after words (Matched table) no_table no_match no_pair same = absurd (no_table table refl)
+leaves before after words NoMatching no_table no_match no_pair same = absurd (no_match refl)
+leaves before after words (Spent ledger) no_table no_match no_pair same = same
+leaves before after words Informed no_table no_match no_pair same = same
+leaves before after words Made no_table no_match no_pair same = absurd (no_pair refl)
+leaves before after words (Tried number account) no_table no_match no_pair same = same
+leaves before after words Usage no_table no_match no_pair same = same
+leaves before after words (Absent which) no_table no_match no_pair same = same
+leaves before after words (TooLarge which) no_table no_match no_pair same = same
+leaves before after words (Malformed which kind at) no_table no_match no_pair same = same
+leaves before after words ReadFault no_table no_match no_pair same = same
+leaves before after words WriteFault no_table no_match no_pair same = inl same
+leaves before after words Memory no_table no_match no_pair same = inl same
 
 pub leaves_early : (before after : List ℕ → Option (List ℕ)) (words : List (List ℕ)) (o : Outcome) → IsEarly o → ((n : List ℕ) → after n ≡ before n) → Leaves before after words o
-leaves_early before after words o early same = leaves before after words o (λ table e. early.line.no_table table (inr e)) early.no_match same
+leaves_early before after words o early same = leaves before after words o (λ table e. early.line.no_table table (inr e)) early.no_match early.no_pair same
 
 -- the files were read up to an outcome that ends the run
-pub stopped : (tells : Bool) (command : Command) (old new : ShelfState) (result : Result Ending Outcome) (o : Outcome) → result ≡ Err o → ((n : List ℕ) → new.held n ≡ old.held n) → (IsTrue tells → (words : List (List ℕ)) → Ask words command → IsRight old.held words o) → IsOfReading o → (o ≡ ReadFault → Rose old.faults new.faults) → Decides tells command old new result
-stopped tells command old new result o same files right reading failed =
+pub stopped : (tells : Bool) (command : Command) (old new : ShelfState) (result : Result Ending Outcome) (o : Outcome) → IsReadingCommand command → result ≡ Err o → ((n : List ℕ) → new.held n ≡ old.held n) → (IsTrue tells → (words : List (List ℕ)) → Ask words command → IsRight old.held words o) → IsOfReading o → (o ≡ ReadFault → Rose old.faults new.faults) → Decides tells command old new result
+stopped tells command old new result o reader same files right reading failed =
     subst (λ r. Decides tells command old new r) (sym same) (record {
       files = λ t n other. files n;
       left = λ t words asks. leaves_early old.held new.held words o reading.early files;
       right = right;
+      by_words = λ words asks. follows_files words o (reads_of words command reader asks) reading.early.no_pair reading.early.no_trial;
       sound = λ t words asks. tt;
       report = λ words asks. tt;
       ending = tt;
@@ -655,6 +821,8 @@ stop_ends file content bytes there short (Matched table) fact = absurd fact
 stop_ends file content bytes there short NoMatching fact = absurd fact
 stop_ends file content bytes there short (Spent ledger) fact = absurd fact
 stop_ends file content bytes there short Informed fact = absurd fact
+stop_ends file content bytes there short Made fact = absurd fact
+stop_ends file content bytes there short (Tried number account) fact = absurd fact
 stop_ends file content bytes there short Usage fact = absurd fact
 stop_ends file content bytes there short (Absent which) fact = absurd fact
 stop_ends file content bytes there short (TooLarge which) fact = absurd fact
@@ -671,13 +839,15 @@ stop_is_of_reading file bytes (Matched table) fact = absurd fact
 stop_is_of_reading file bytes NoMatching fact = absurd fact
 stop_is_of_reading file bytes (Spent ledger) fact = absurd fact
 stop_is_of_reading file bytes Informed fact = absurd fact
+stop_is_of_reading file bytes Made fact = absurd fact
+stop_is_of_reading file bytes (Tried number account) fact = absurd fact
 stop_is_of_reading file bytes Usage fact = absurd fact
 stop_is_of_reading file bytes (Absent which) fact = absurd fact
 stop_is_of_reading file bytes (TooLarge which) fact = absurd fact
-stop_is_of_reading file bytes (Malformed which kind at) fact = record { early = record { line = record { no_table = λ table e. elim e [ inl e ↦ cc | inr e ↦ cc ]; no_rows = λ e. cc }; no_refusal = λ e. cc; no_match = λ e. cc; asked = λ e. cc }; unwritten = λ e. cc }
+stop_is_of_reading file bytes (Malformed which kind at) fact = record { early = record { line = record { no_table = λ table e. elim e [ inl e ↦ cc | inr e ↦ cc ]; no_rows = λ e. cc }; no_refusal = λ e. cc; no_match = λ e. cc; no_pair = λ e. cc; no_trial = λ number account e. cc; asked = λ e. cc }; unwritten = λ e. cc }
 stop_is_of_reading file bytes ReadFault fact = absurd fact
 stop_is_of_reading file bytes WriteFault fact = absurd fact
-stop_is_of_reading file bytes Memory fact = record { early = record { line = record { no_table = λ table e. elim e [ inl e ↦ cc | inr e ↦ cc ]; no_rows = λ e. cc }; no_refusal = λ e. cc; no_match = λ e. cc; asked = λ e. cc }; unwritten = λ e. cc }
+stop_is_of_reading file bytes Memory fact = record { early = record { line = record { no_table = λ table e. elim e [ inl e ↦ cc | inr e ↦ cc ]; no_rows = λ e. cc }; no_refusal = λ e. cc; no_match = λ e. cc; no_pair = λ e. cc; no_trial = λ number account e. cc; asked = λ e. cc }; unwritten = λ e. cc }
 
 -- a file of few bytes was read
 reads_same : (tells : Bool) (file : Which) (name : List ℕ) (old new : ShelfState) (bytes : List ℕ) (result : Result Named Outcome) → ((n : List ℕ) → new.held n ≡ old.held n) → new.mode ≡ Closed → old.faults ≤ new.faults → (IsTrue tells → (old.held name ≡ Some bytes) × (length bytes ≤ 67108864)) → IfOk result (λ named. ReadAs bytes named.graph named.input_names named.output_names) → IfErr result (IsStopOf file bytes) → ReadsNetlist tells file name old new result

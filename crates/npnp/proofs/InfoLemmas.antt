@@ -16,14 +16,14 @@ use Rattle.output_info.specs.declared.info.OutputInfo.{OutputInfo}
 use Rattle.port_report.specs.Infos.{IsInRange, info_text}
 use Rattle.npnp.specs.Held.{HoldsGraph}
 use Rattle.npnp.specs.Outcomes.{IsRight, Leaves}
-use Rattle.npnp.proofs.CheckLemmas.{leaves, stopped}
+use Rattle.npnp.proofs.CheckLemmas.{follows_files, leaves, stopped}
 use Rattle.npnp.specs.Info.{IsSpentOf, with_itself}
 use Rattle.npnp.specs.Steps.{Decides, InformsOf, IsEnding, IsNew, IsOfReading, IsReadFrom, IsStopWithin, asked_info, netlist_of}
 use Rattle.npnp.specs.Words.{AsksInfo}
 use Rattle.npnp.specs.declared.words.Info.{Info as InfoWords}
 use Rattle.npnp.specs.declared.run.Ending.{Ending}
 use Rattle.npnp.specs.declared.outcome.Outcome.{Outcome}
-use Rattle.npnp.specs.declared.outcome.Outcome.TheVariants.{AcceptedMatch, AcceptedRefusal, Spent, Informed, ReadFault, Memory}
+use Rattle.npnp.specs.declared.outcome.Outcome.TheVariants.{AcceptedMatch, AcceptedRefusal, Spent, Informed, Made, Tried, ReadFault, Memory}
 
 -- an empty ledger suits a book that knows nothing
 pub suits_new : (graphs : Graphs) (budget : ℕ) → Suits (record { graphs = graphs; facts = []; answered = [] }) (record { budget = budget; asked = []; spent = false })
@@ -104,10 +104,10 @@ stop_right held words file budget graph asks there o stop =
     ]
 
 of_spent : (ledger : Ledgered) → IsOfReading (Spent ledger)
-of_spent ledger = record { early = record { line = record { no_table = λ table e. elim e [ inl e ↦ cc | inr e ↦ cc ]; no_rows = λ e. cc }; no_refusal = λ e. cc; no_match = λ e. cc; asked = λ e. cc }; unwritten = λ e. cc }
+of_spent ledger = record { early = record { line = record { no_table = λ table e. elim e [ inl e ↦ cc | inr e ↦ cc ]; no_rows = λ e. cc }; no_refusal = λ e. cc; no_match = λ e. cc; no_pair = λ e. cc; no_trial = λ number account e. cc; asked = λ e. cc }; unwritten = λ e. cc }
 
 of_memory : IsOfReading Memory
-of_memory = record { early = record { line = record { no_table = λ table e. elim e [ inl e ↦ cc | inr e ↦ cc ]; no_rows = λ e. cc }; no_refusal = λ e. cc; no_match = λ e. cc; asked = λ e. cc }; unwritten = λ e. cc }
+of_memory = record { early = record { line = record { no_table = λ table e. elim e [ inl e ↦ cc | inr e ↦ cc ]; no_rows = λ e. cc }; no_refusal = λ e. cc; no_match = λ e. cc; no_pair = λ e. cc; no_trial = λ number account e. cc; asked = λ e. cc }; unwritten = λ e. cc }
 
 pub stop_line : (graphs : Graphs) (budget : ℕ) (o : Outcome) → IsStopWithin graphs budget o → IsOfReading o
 stop_line graphs budget o stop =
@@ -129,8 +129,14 @@ no_table outcome table is e = cc
 no_refusal : (outcome : Outcome) → outcome ≡ Informed → outcome ≡ AcceptedRefusal → ⊥
 no_refusal outcome is e = cc
 
+no_pair : (outcome : Outcome) → outcome ≡ Informed → outcome ≡ Made → ⊥
+no_pair outcome is e = cc
+
+no_trial : (outcome : Outcome) → outcome ≡ Informed → (number : ℕ) (account : List ℕ) → outcome ≡ Tried number account → ⊥
+no_trial outcome is number account e = cc
+
 informed_leaves : (before after : List ℕ → Option (List ℕ)) (words : List (List ℕ)) (outcome : Outcome) → outcome ≡ Informed → ((n : List ℕ) → after n ≡ before n) → Leaves before after words outcome
-informed_leaves before after words outcome is same = leaves before after words outcome (λ table e. cc) (λ e. cc) same
+informed_leaves before after words outcome is same = leaves before after words outcome (λ table e. cc) (λ e. cc) (λ e. cc) same
 
 -- a run that reports what is known of the file that was read
 pub informs : (tells : Bool) (info : InfoWords) (old new : ShelfState) (named : Named) (result : Result Ending Outcome)
@@ -150,6 +156,7 @@ informs tells info old new named (Ok ending) files read is =
         netlist = netlist_of read.circuit named;
         there = read.held t;
       });
+      by_words = λ words asks. follows_files words ending.outcome (inr (info.file.now, info.budget, asks)) (no_pair ending.outcome rows.0) (no_trial ending.outcome rows.0);
       sound = λ t words asks. record {
         matches = λ table e. absurd (no_table ending.outcome table rows.0 e);
         refuses = λ e. absurd (no_refusal ending.outcome rows.0 e);
@@ -173,7 +180,7 @@ informs tells info old new named (Ok ending) files read is =
     }
 informs tells info old new named (Err o) files read is =
     let reading = stop_line (with_itself named.graph) info.budget o is.stopped in
-    stopped tells (asked_info info) old new (Err o) o refl files
+    stopped tells (asked_info info) old new (Err o) o tt refl files
     (λ t words asks. stop_right old.held words info.file.now info.budget named.graph asks (record { netlist = netlist_of read.circuit named; holds = read.held t; numbered = read.numbered }) o is.stopped)
     reading
     (λ e. absurd (not_read (with_itself named.graph) info.budget o e is.stopped))

@@ -113,7 +113,7 @@ rejected_by tells graphs old new progress fed line reason feeds is =
         | inl same ↦ cc
         | inr same ↦ cc
       ];
-      judged = record { asked = λ e. cc; no_rows = λ e. cc; read = λ e. cc; unwritten = λ e. cc; no_match = λ e. cc; no_table = λ table e. cc };
+      judged = record { asked = λ e. cc; no_rows = λ e. cc; read = λ e. cc; unwritten = λ e. cc; no_match = λ e. cc; no_pair = λ e. cc; no_trial = λ number account e. cc; no_table = λ table e. cc };
       faults = feeds.faults;
       failed = λ e. cc;
     }

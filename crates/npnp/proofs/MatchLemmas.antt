@@ -12,16 +12,17 @@ use Rattle.account_check.specs.declared.verdict.Verdict.{Verdict}
 use Rattle.account_check.specs.declared.verdict.Verdict.TheVariants as verdict
 use Rattle.npnp.specs.Held.{HoldsGraph}
 use Rattle.npnp.specs.Match.{HoldsPart, IsProved, IsSought, NamesAccount}
-use Rattle.npnp.specs.Outcomes.{IsRight, IsSound, Leaves, LeavesFiles, MayBeCut}
-use Rattle.npnp.specs.Steps.{Ask, Decides, Finds, IsAnswered, IsCutOf, IsEarly, IsEnding, IsMatchCommand, IsNotWritten, IsReadFrom, IsStopOfMatch, IsStopWithin, asked_match, graphs_of, netlist_of, sought_by}
-use Rattle.npnp.specs.Words.{AsksCheck, AsksMatch, Sought, check_words}
+use Rattle.npnp.specs.Make.{HoldsPair, HoldsPartOfPair, NamesPair, WriteFiles}
+use Rattle.npnp.specs.Outcomes.{FollowsWords, IsRight, IsSound, Leaves, LeavesFiles, MayBeCut}
+use Rattle.npnp.specs.Steps.{Ask, Decides, Finds, IsAnswered, IsCutOf, IsEarly, IsEnding, IsWritingCommand, IsNotWritten, IsReadFrom, IsStopOfMatch, IsStopWithin, asked_match, graphs_of, netlist_of, sought_by, wanted_by}
+use Rattle.npnp.specs.Words.{AsksCheck, AsksMatch, ReadFiles, Sought, check_words}
 use Rattle.npnp.specs.declared.words.Match.{Match as MatchWords}
 use Rattle.npnp.specs.declared.words.Command.{Command}
-use Rattle.npnp.specs.declared.words.Command.TheVariants.{Check, Match, Info}
+use Rattle.npnp.specs.declared.words.Command.TheVariants.{Check, Match, Info, Make, Trial}
 use Rattle.npnp.specs.declared.run.Ending.{Ending}
 use Rattle.npnp.specs.declared.outcome.Outcome.{Outcome}
-use Rattle.npnp.specs.declared.outcome.Outcome.TheVariants.{AcceptedMatch, AcceptedRefusal, Rejected, Matched, NoMatching, Spent, Usage, Absent, TooLarge, Malformed, Informed, ReadFault, WriteFault, Memory}
-use Rattle.npnp.proofs.CheckLemmas.{leaves_early, names_one}
+use Rattle.npnp.specs.declared.outcome.Outcome.TheVariants.{AcceptedMatch, AcceptedRefusal, Rejected, Matched, NoMatching, Spent, Usage, Absent, TooLarge, Malformed, Informed, Made, Tried, ReadFault, WriteFault, Memory}
+use Rattle.npnp.proofs.CheckLemmas.{follows_files, leaves_early, names_one, reads_of}
 use Rattle.npnp.proofs.InfoLemmas.{not_read, stop_line}
 
 -- the words of the check of what a match named
@@ -54,14 +55,32 @@ part_of held words proved is =
       part = ap held (sym named.2) ∙ (has.there ∙ ap Some (sym (take_all (length account) account (omega arith))));
     }
 
+-- a whole pair is its first part
+part_of_pair : (before after : List ℕ → Option (List ℕ)) (words : List (List ℕ)) → HoldsPair after words → HoldsPartOfPair before after words
+part_of_pair before after words is =
+    let text = is.second_text in
+    record {
+      wanted = is.wanted;
+      asks = is.asks;
+      first = is.first;
+      second = is.second;
+      table = is.table;
+      first_text = is.first_text;
+      second_text = text;
+      printed = is.printed;
+      part = inr (is.first_there, inr (length text, is.second_there ∙ ap Some (sym (take_all (length text) text (omega arith)))));
+    }
+
 pub may_be_cut : (before after : List ℕ → Option (List ℕ)) (words : List (List ℕ)) (o : Outcome) → Leaves before after words o → MayBeCut before after words
 may_be_cut before after words (AcceptedMatch table) left = inl left
 may_be_cut before after words AcceptedRefusal left = inl left
 may_be_cut before after words (Rejected line why) left = inl left
-may_be_cut before after words (Matched table) left = inr (part_of after words (verdict.Match table) left)
-may_be_cut before after words NoMatching left = inr (part_of after words verdict.None left)
+may_be_cut before after words (Matched table) left = inr (inl (part_of after words (verdict.Match table) left))
+may_be_cut before after words NoMatching left = inr (inl (part_of after words verdict.None left))
 may_be_cut before after words (Spent ledger) left = inl left
 may_be_cut before after words Informed left = inl left
+may_be_cut before after words (Tried number account) left = inl left
+may_be_cut before after words Made left = inr (inr (part_of_pair before after words left))
 may_be_cut before after words Usage left = inl left
 may_be_cut before after words (Absent which) left = inl left
 may_be_cut before after words (TooLarge which) left = inl left
@@ -78,6 +97,8 @@ kept before after words (Matched table) none left = absurd (none.no_table table 
 kept before after words NoMatching none left = absurd (none.no_refusal refl)
 kept before after words (Spent ledger) none left = left
 kept before after words Informed none left = left
+kept before after words (Tried number account) none left = left
+kept before after words Made none left = absurd (none.no_pair refl)
 kept before after words Usage none left = left
 kept before after words (Absent which) none left = left
 kept before after words (TooLarge which) none left = left
@@ -86,16 +107,20 @@ kept before after words ReadFault none left = left
 kept before after words WriteFault none left = absurd (none.told.written refl)
 kept before after words Memory none left = absurd (none.told.room refl)
 
--- a name that isn't the account of a match isn't written
-pub not_written : (words : List (List ℕ)) (command : Command) (name : List ℕ) → Ask words command → (NamesAccount words name → ⊥) → IsNotWritten command name
-not_written words (Check check) name asks other = tt
-not_written words (Match asked) name asks other = λ same. other (sought_by asked, asks, same)
-not_written words (Info info) name asks other = tt
+-- a name that is neither the account of a match nor a file of a pair isn't written
+pub not_written : (words : List (List ℕ)) (command : Command) (name : List ℕ) → Ask words command → (NamesAccount words name → ⊥) → (NamesPair words name → ⊥) → IsNotWritten command name
+not_written words (Check check) name asks other apart = tt
+not_written words (Match asked) name asks other apart = λ same. other (sought_by asked, asks, same)
+not_written words (Info info) name asks other apart = tt
+not_written words (Trial trial) name asks other apart = tt
+not_written words (Make asked) name asks other apart = (λ same. apart (wanted_by asked, asks, inl same), λ same. apart (wanted_by asked, asks, inr same))
 
-pub sought_of : (words : List (List ℕ)) (command : Command) → Ask words command → IsMatchCommand command → (sought : Sought) × AsksMatch words sought
-sought_of words (Check check) asks is = absurd is
-sought_of words (Match asked) asks is = (sought_by asked, asks)
-sought_of words (Info info) asks is = absurd is
+pub writes_of : (words : List (List ℕ)) (command : Command) → Ask words command → IsWritingCommand command → WriteFiles words
+writes_of words (Check check) asks is = absurd is
+writes_of words (Match asked) asks is = inl (sought_by asked, asks)
+writes_of words (Info info) asks is = absurd is
+writes_of words (Trial trial) asks is = absurd is
+writes_of words (Make asked) asks is = inr (wanted_by asked, asks)
 
 -- where one name holds what it held, and so do all others, nothing changed
 everywhere : (before after : List ℕ → Option (List ℕ)) (name : List ℕ) → ((n : List ℕ) → n ≢ name → after n ≡ before n) → after name ≡ before name → (n : List ℕ) (same : Bool) → bytes_eq n name ≡ same → after n ≡ before n
@@ -103,10 +128,10 @@ everywhere before after name others here n true is = let e = (bytes_eq-Decides n
 everywhere before after name others here n false is = others n (λ e. false≢true (sym is ∙ (bytes_eq-Decides n name).1 e))
 
 early_unwritten : IsEarly WriteFault
-early_unwritten = record { line = record { no_table = λ table e. elim e [ inl e ↦ cc | inr e ↦ cc ]; no_rows = λ e. cc }; no_refusal = λ e. cc; no_match = λ e. cc; asked = λ e. cc }
+early_unwritten = record { line = record { no_table = λ table e. elim e [ inl e ↦ cc | inr e ↦ cc ]; no_rows = λ e. cc }; no_refusal = λ e. cc; no_match = λ e. cc; no_pair = λ e. cc; no_trial = λ number account e. cc; asked = λ e. cc }
 
 early_memory : IsEarly Memory
-early_memory = record { line = record { no_table = λ table e. elim e [ inl e ↦ cc | inr e ↦ cc ]; no_rows = λ e. cc }; no_refusal = λ e. cc; no_match = λ e. cc; asked = λ e. cc }
+early_memory = record { line = record { no_table = λ table e. elim e [ inl e ↦ cc | inr e ↦ cc ]; no_rows = λ e. cc }; no_refusal = λ e. cc; no_match = λ e. cc; no_pair = λ e. cc; no_trial = λ number account e. cc; asked = λ e. cc }
 
 -- What was found for two netlists that were read, where the account was written under its name.
 module _ (tells : Bool) (asked : MatchWords) (old new : ShelfState) (first second : Named)
@@ -147,6 +172,9 @@ module _ (tells : Bool) (asked : MatchWords) (old new : ShelfState) (first secon
       accepted = proves;
     };
   }
+
+  reads : (words : List (List ℕ)) → AsksMatch words (sought_by asked) → ReadFiles words
+  reads words asks = reads_of words (asked_match asked) tt asks
 
   -- an answer is right, and its account is left
 
@@ -189,6 +217,12 @@ module _ (tells : Bool) (asked : MatchWords) (old new : ShelfState) (first secon
   answer_no_rows : (account : List ℕ) (o : Outcome) → IsAnswered (graphs_of first second) account o → o ≢ Informed
   answer_no_rows account o answer e = elim answer [ inl (table, is, proves, matches) ↦ cc | inr (is, proves, unequal) ↦ cc ]
 
+  answer_follows : (account : List ℕ) (o : Outcome) → IsAnswered (graphs_of first second) account o → (words : List (List ℕ)) → AsksMatch words (sought_by asked) → FollowsWords words o
+  answer_follows account o answer words asks =
+      follows_files words o (reads words asks)
+      (λ e. elim answer [ inl (table, is, proves, matches) ↦ cc | inr (is, proves, unequal) ↦ cc ])
+      (λ number text e. elim answer [ inl (table, is, proves, matches) ↦ cc | inr (is, proves, unequal) ↦ cc ])
+
   -- where nothing changed at the account's name, no file changed
   unchanged : IsTrue tells → new.held asked.account.now ≡ old.held asked.account.now → (n : List ℕ) → new.held n ≡ old.held n
   unchanged t same n = everywhere old.held new.held asked.account.now (others t) same n (bytes_eq n asked.account.now) refl
@@ -198,14 +232,14 @@ module _ (tells : Bool) (asked : MatchWords) (old new : ShelfState) (first secon
   stop_right : (o : Outcome) → IsStopWithin (graphs_of first second) asked.budget o → IsTrue tells → (words : List (List ℕ)) → AsksMatch words (sought_by asked) → IsRight old.held words o
   stop_right o stop t words asks =
       elim stop [
-        | inl (ledger, is, spent) ↦ subst (IsRight old.held words) (sym is) (inr (record {
+        | inl (ledger, is, spent) ↦ subst (IsRight old.held words) (sym is) (inr (inl (record {
           sought = (sought_by asked);
           asks = asks;
           graphs = (graphs_of first second);
           first_held = first_graph t;
           second_held = second_graph t;
           spent = spent;
-        }))
+        })))
         | inr is ↦ subst (IsRight old.held words) (sym is) tt
       ]
 
@@ -215,7 +249,7 @@ module _ (tells : Bool) (asked : MatchWords) (old new : ShelfState) (first secon
   cut t words asks is =
       elim is [
         | inl same ↦ inl (unchanged t same)
-        | inr (account, proved, proves, first_part) ↦ inr (record {
+        | inr (account, proved, proves, first_part) ↦ inr (inl (record {
           sought = (sought_by asked);
           asks = asks;
           graphs = (graphs_of first second);
@@ -226,7 +260,7 @@ module _ (tells : Bool) (asked : MatchWords) (old new : ShelfState) (first secon
           accepted = proves;
           count = first_part.0;
           part = first_part.1;
-        })
+        }))
       ]
 
   end_right : (o : Outcome) → IsStopOfMatch tells (graphs_of first second) asked.budget (old.held asked.account.now) (new.held asked.account.now) o → IsTrue tells → (words : List (List ℕ)) → AsksMatch words (sought_by asked) → IsRight old.held words o
@@ -269,6 +303,7 @@ module _ (tells : Bool) (asked : MatchWords) (old new : ShelfState) (first secon
         files = others;
         left = λ t words asks. answer_leaves account ending.outcome answer t (found.answer.2 t) words asks;
         right = answer_right account ending.outcome answer;
+        by_words = answer_follows account ending.outcome answer;
         sound = λ t words asks. answer_sound account ending.outcome answer words;
         report = λ words asks. inr (inl (record {
           first = netlist_of first_read.circuit first;
@@ -286,6 +321,7 @@ module _ (tells : Bool) (asked : MatchWords) (old new : ShelfState) (first secon
     files = others;
     left = end_leaves o found.stopped;
     right = end_right o found.stopped;
+    by_words = λ words asks. let early = end_early o found.stopped in follows_files words o (reads words asks) early.no_pair early.no_trial;
     sound = λ t words asks. tt;
     report = λ words asks. tt;
     ending = tt;

@@ -1,5 +1,5 @@
 -- Words that were read by their places.
-use Rattle.std.proofs.Common.{◌≡◌, ◌≢◌, inl, inr, ℕ, ◌<◌, ◌≤◌, ◌↔◌, ◌==◌, ◌||◌, not, Bool, true, false, IsTrue, List, [], ◌∷◌, length, drop, Option, None, Some, IfSome, get_or, refl, sym, ◌∙◌, ap, subst, arith}
+use Rattle.std.proofs.Common.{◌≡◌, ◌≢◌, inl, inr, ℕ, ◌<◌, ◌≤◌, ◌↔◌, ◌==◌, ◌||◌, not, Bool, true, false, IsTrue, List, [], ◌∷◌, length, drop, Option, None, Some, IfNone, IfSome, get_or, refl, sym, ◌∙◌, ap, subst, arith}
 use Rattle.std.specs.List.{between}
 use Rattle.std.specs.Prelude.{codes}
 use Rattle.std.specs.Str.{bytes_eq}
@@ -7,11 +7,12 @@ use Rattle.std.proofs.lemmas.Bool.{false≢true}
 use Rattle.std.proofs.lemmas.Bool.Decides.{eqb_tells}
 use Rattle.std.proofs.lemmas.Slice.{between_to_end}
 use Rattle.std.proofs.lemmas.Slice.Eq.{bytes_eq-Decides}
-use Rattle.npnp.specs.Steps.{sought_by}
+use Rattle.npnp.specs.Steps.{sought_by, wanted_by}
 use Rattle.npnp.specs.declared.words.Match.{Match as MatchWords}
 use Rattle.npnp.proofs.CheckLemmas.{not_empty}
-use Rattle.npnp.specs.Words.{AreBudgetAndSeed, AreNames, AsksInfo, AsksMatch, HaveInfoForm}
+use Rattle.npnp.specs.Words.{AreBudgetAndSeed, AreNames, AreTwoNames, AsksInfo, AsksMake, AsksMatch, HaveInfoForm, IsNumber, Wanted}
 use Rattle.npnp.specs.declared.words.Info.{Info as InfoWords}
+use Rattle.npnp.specs.declared.words.Make.{Make as MakeWords}
 
 pub two : {X : Type 0} (xs : List X) (a b : X) → 2 ≤ length xs → length xs < 3 → a ≡ get_or xs 0 a → b ≡ get_or xs 1 b → xs ≡ a ∷ b ∷ []
 two [] a b low high ea eb = absurd (omega arith)
@@ -90,3 +91,48 @@ only_names first second account false false false false false ea eb ec ed ee are
 pub names_tested : (first second account : List ℕ) (a b c d e : Bool) → a ≡ (length first == 0) → b ≡ (length second == 0) → c ≡ (length account == 0) → d ≡ bytes_eq account first → e ≡ bytes_eq account second
     → IsTrue (not ((((a || b) || c) || d) || e)) ↔ AreNames first second account
 names_tested first second account a b c d e ea eb ec ed ee = (names_if first second account a b c d e ea eb ec ed ee, only_names first second account a b c d e ea eb ec ed ee)
+
+-- what a number and two names make of words of the form
+pub asks_make : (words : List (List ℕ)) (word first second : List ℕ) (number : ℕ) (result : Option MakeWords)
+    → words ≡ codes "make" ∷ word ∷ first ∷ second ∷ []
+    → IsNumber word number
+    → IfSome result (λ made. (made.number ≡ number) × (made.first.now ≡ first) × (made.second.now ≡ second))
+    → IfSome result (λ made. AreTwoNames first second)
+    → IfSome result (λ made. AsksMake words (wanted_by made))
+asks_make words word first second number None form is are names = tt
+asks_make words word first second number (Some made) form is are names = record {
+  word = word;
+  form = form ∙ ap (λ name. codes "make" ∷ word ∷ name ∷ second ∷ []) (sym are.1) ∙ ap (λ name. codes "make" ∷ word ∷ made.first.now ∷ name ∷ []) (sym are.2);
+  number_is = subst (IsNumber word) (sym are.0) is;
+  names = subst (λ name. AreTwoNames name made.second.now) (sym are.1) (subst (AreTwoNames first) (sym are.2) names);
+}
+
+-- where the second word is no number, no pair is asked for
+pub not_make : (words : List (List ℕ)) (word : List ℕ) → get_or words 1 [] ≡ word → ((value : ℕ) → IsNumber word value → ⊥) → (wanted : Wanted) → AsksMake words wanted → ⊥
+not_make words word is none wanted asks =
+    let same : asks.word ≡ word = sym (ap (λ (words : List (List ℕ)). get_or words 1 []) asks.form) ∙ is in
+    none wanted.number (subst (λ w. IsNumber w wanted.number) same asks.number_is)
+
+-- what nothing says
+pub none_says : {X : Type 0} (P : Type 0) (result : Option X) → P → IfNone result P
+none_says P None holds = holds
+none_says P (Some x) holds = tt
+
+two_names_if : (first second : List ℕ) (a b c : Bool) → a ≡ (length first == 0) → b ≡ (length second == 0) → c ≡ bytes_eq second first → IsTrue (not ((a || b) || c)) → AreTwoNames first second
+two_names_if first second true b c ea eb ec t = absurd (false≢true t)
+two_names_if first second false true c ea eb ec t = absurd (false≢true t)
+two_names_if first second false false true ea eb ec t = absurd (false≢true t)
+two_names_if first second false false false ea eb ec t = record {
+  first_named = not_empty first false ea refl;
+  second_named = not_empty second false eb refl;
+  apart = λ same. false≢true (ec ∙ (bytes_eq-Decides second first).1 same);
+}
+
+only_two_names : (first second : List ℕ) (a b c : Bool) → a ≡ (length first == 0) → b ≡ (length second == 0) → c ≡ bytes_eq second first → AreTwoNames first second → IsTrue (not ((a || b) || c))
+only_two_names first second true b c ea eb ec are = absurd (are.first_named (is_nothing first ea))
+only_two_names first second false true c ea eb ec are = absurd (are.second_named (is_nothing second eb))
+only_two_names first second false false true ea eb ec are = absurd (are.apart ((bytes_eq-Decides second first).0 (sym ec)))
+only_two_names first second false false false ea eb ec are = refl
+
+pub two_names_tested : (first second : List ℕ) (a b c : Bool) → a ≡ (length first == 0) → b ≡ (length second == 0) → c ≡ bytes_eq second first → IsTrue (not ((a || b) || c)) ↔ AreTwoNames first second
+two_names_tested first second a b c ea eb ec = (two_names_if first second a b c ea eb ec, only_two_names first second a b c ea eb ec)

@@ -4,12 +4,14 @@ pub mod Files
 pub mod Held
 pub mod Info
 pub mod Judging
+pub mod Make
 pub mod Match
 pub mod Outcomes
 pub mod Report
 pub mod Status
 pub mod Steps
 pub mod Stops
+pub mod Trial
 pub mod Words
 pub use Rattle.account_check.specs.Verdicts
 pub use Rattle.account_check.specs.Checking
@@ -21,3 +23,7 @@ pub use Rattle.oracle_core.specs.Work
 pub use Rattle.fact_tests.specs.Rows
 pub use Rattle.account_write.specs.Records
 pub use Rattle.match_search.specs.Founds
+pub use Rattle.gen_pair.specs.Names
+pub use Rattle.gen_pair.specs.Pairs
+pub use Rattle.net_print.specs.BlifLines
+pub use Rattle.net_print.specs.Files as PrintedFiles

@@ -8,11 +8,13 @@ use Rattle.npnp.specs.Check.{IsAccepted, IsRejected, IsMatchOfFiles, LacksAccoun
 use Rattle.npnp.specs.Held.{Netlist, HoldsNetlist, HoldsGraph, HoldsFault, HoldsTooMuch}
 use Rattle.npnp.specs.Info.{IsSpentOf, with_itself}
 use Rattle.npnp.specs.Match.{HasNoMatch, HoldsPart, IsMatchFound, IsProved, IsSpentOnTwo}
-use Rattle.npnp.specs.Words.{AsksInfo, AskNothing, NameThree}
+use Rattle.npnp.specs.Make.{HoldsPair, HoldsPartOfPair}
+use Rattle.npnp.specs.Trial.{IsSpentOnPair, IsSpentOnPairOf, IsTried}
+use Rattle.npnp.specs.Words.{AskForPair, AsksInfo, AskNothing, AsksTrial, NameThree, ReadFiles}
 use Rattle.npnp.specs.declared.outcome.Which.{Which}
 use Rattle.npnp.specs.declared.outcome.Which.TheVariants.{First, Second, Account}
 use Rattle.npnp.specs.declared.outcome.Outcome.{Outcome}
-use Rattle.npnp.specs.declared.outcome.Outcome.TheVariants.{AcceptedMatch, AcceptedRefusal, Rejected, Matched, NoMatching, Spent, Usage, Absent, TooLarge, Malformed, Informed, ReadFault, WriteFault, Memory}
+use Rattle.npnp.specs.declared.outcome.Outcome.TheVariants.{AcceptedMatch, AcceptedRefusal, Rejected, Matched, NoMatching, Spent, Usage, Absent, TooLarge, Malformed, Informed, Made, Tried, ReadFault, WriteFault, Memory}
 
 -- What a file that is no netlist ends the run with, where a name holds it: `file` says which one it is. Faults of the
 -- outside and running out of memory say nothing of it.
@@ -80,6 +82,12 @@ IsOfMatch outcome =
     ⊎ (outcome ≡ NoMatching)
     ⊎ ((ledger : Ledgered) × (outcome ≡ Spent ledger))
 
+-- the outcome is one of the pair of a number: it was tried, or the budget was spent on it
+abbrev pub IsOfTrial : ℕ → Outcome → Type 0
+IsOfTrial number outcome =
+    ((account : List ℕ) × (outcome ≡ Tried number account))
+    ⊎ ((ledger : Ledgered) × (outcome ≡ Spent ledger) × IsSpentOnPairOf number ledger)
+
 -- there is no such file when its turn comes
 abbrev pub IsAbsent : (List ℕ → Option (List ℕ)) → List (List ℕ) → Which → Type 0
 IsAbsent held words which = EndsEarly held words (Absent which) ⊎ ((which ≡ Account) × LacksAccount held words)
@@ -92,7 +100,9 @@ IsRight held words (AcceptedMatch table) = IsAccepted held words (verdict.Match 
 IsRight held words AcceptedRefusal = IsAccepted held words verdict.None
 IsRight held words (Rejected line why) = IsRejected held words line why
 IsRight held words Informed = IsAskedOf held words
-IsRight held words (Spent ledger) = IsSpentOn held words ledger ⊎ IsSpentOnTwo held words ledger
+IsRight held words (Spent ledger) = IsSpentOn held words ledger ⊎ IsSpentOnTwo held words ledger ⊎ IsSpentOnPair words ledger
+IsRight held words Made = AskForPair words
+IsRight held words (Tried number account) = IsTried words number account
 IsRight held words Usage = AskNothing words
 IsRight held words (Absent which) = IsAbsent held words which
 IsRight held words (TooLarge which) = EndsEarly held words (TooLarge which)
@@ -124,16 +134,26 @@ pub record IsSettled (outcome : Outcome) : Type 0 where
 pub record LeavesFiles (outcome : Outcome) : Type 0 where
   pub no_table : (table : Matching) → outcome ≢ Matched table
   pub no_refusal : outcome ≢ NoMatching
+  pub no_pair : outcome ≢ Made
   pub told : IsTold outcome
 
--- a fault came or memory ran out, which leaves no file changed, or a first part of the account
+-- What the words alone say of an outcome, whatever the files hold.
+pub record FollowsWords (words : List (List ℕ)) (outcome : Outcome) : Type 0 where
+  pub made : outcome ≡ Made → AskForPair words
+  pub pair : AskForPair words → IsTold outcome → outcome ≡ Made
+  pub tried : (number : ℕ) (account : List ℕ) → outcome ≡ Tried number account → IsTried words number account
+  pub trial : (number : ℕ) → AsksTrial words number → IsTold outcome → IsOfTrial number outcome
+  pub read : outcome ≡ ReadFault → ReadFiles words
+
+-- a fault came or memory ran out, which leaves no file changed, or a first part of the account or of a pair
 abbrev pub MayBeCut : (List ℕ → Option (List ℕ)) → (List ℕ → Option (List ℕ)) → List (List ℕ) → Type 0
-MayBeCut before after words = ((name : List ℕ) → after name ≡ before name) ⊎ HoldsPart after words
+MayBeCut before after words = ((name : List ℕ) → after name ≡ before name) ⊎ HoldsPart after words ⊎ HoldsPartOfPair before after words
 
 -- what an outcome says of the files that are held before and afterwards
 abbrev pub Leaves : (List ℕ → Option (List ℕ)) → (List ℕ → Option (List ℕ)) → List (List ℕ) → Outcome → Type 0
 Leaves before after words (Matched table) = IsProved after words (verdict.Match table)
 Leaves before after words NoMatching = IsProved after words verdict.None
+Leaves before after words Made = HoldsPair after words
 Leaves before after words WriteFault = MayBeCut before after words
 Leaves before after words Memory = MayBeCut before after words
 Leaves before after words other = (name : List ℕ) → after name ≡ before name

@@ -16,13 +16,18 @@ use Rattle.npnp.specs.Words.{AsksInfo}
 use Rattle.npnp.specs.declared.outcome.Which.{Which}
 use Rattle.npnp.specs.declared.outcome.Which.TheVariants.{First, Second, Account}
 use Rattle.npnp.specs.declared.outcome.Outcome.{Outcome}
-use Rattle.npnp.specs.declared.outcome.Outcome.TheVariants.{AcceptedMatch, AcceptedRefusal, Rejected, Matched, NoMatching, Spent, Usage, Absent, TooLarge, Malformed, Informed, ReadFault, WriteFault, Memory}
+use Rattle.npnp.specs.declared.outcome.Outcome.TheVariants.{AcceptedMatch, AcceptedRefusal, Rejected, Matched, NoMatching, Spent, Usage, Absent, TooLarge, Malformed, Informed, Made, Tried, ReadFault, WriteFault, Memory}
 
 -- the word for a file
 abbrev pub file_word : Which → List ℕ
 file_word First = codes "first"
 file_word Second = codes "second"
 file_word Account = codes "account"
+
+-- the line of a pair that was tried: its number, that it is matched and the account accepted, and its numbers of inputs, outputs and
+-- gates
+abbrev pub tried_line : ℕ → List ℕ
+tried_line number = codes "trial " ++ decimal number ++ codes " matched accepted 64 32 2000" ++ 10 ∷ []
 
 -- the line that names an outcome; a failed write has none, and what is known of a netlist is more than a line
 abbrev pub line_of : Outcome → List ℕ
@@ -33,6 +38,8 @@ line_of (Matched table) = codes "matched" ++ 10 ∷ []
 line_of NoMatching = codes "no matching" ++ 10 ∷ []
 line_of (Spent ledger) = codes "spent " ++ decimal (learned_in ledger) ++ 10 ∷ []
 line_of Informed = []
+line_of Made = codes "made 64 32 2000" ++ 10 ∷ []
+line_of (Tried number account) = tried_line number
 line_of Usage = codes "usage" ++ 10 ∷ []
 line_of (Absent file) = codes "absent " ++ file_word file ++ 10 ∷ []
 line_of (TooLarge file) = codes "too large " ++ file_word file ++ 10 ∷ []

@@ -1,7 +1,7 @@
 -- The exit status of each outcome.
 use Rattle.std.specs.Prelude.{ℕ}
 use Rattle.npnp.specs.declared.outcome.Outcome.{Outcome}
-use Rattle.npnp.specs.declared.outcome.Outcome.TheVariants.{AcceptedMatch, AcceptedRefusal, Rejected, Matched, NoMatching, Spent, Usage, Absent, TooLarge, Malformed, Informed, ReadFault, WriteFault, Memory}
+use Rattle.npnp.specs.declared.outcome.Outcome.TheVariants.{AcceptedMatch, AcceptedRefusal, Rejected, Matched, NoMatching, Spent, Usage, Absent, TooLarge, Malformed, Informed, Made, Tried, ReadFault, WriteFault, Memory}
 
 abbrev pub status_of : Outcome → ℕ
 status_of (AcceptedMatch table) = 0
@@ -10,6 +10,8 @@ status_of (Rejected line why) = 2
 status_of (Matched table) = 0
 status_of NoMatching = 1
 status_of Informed = 0
+status_of Made = 0
+status_of (Tried number account) = 0
 status_of (Spent ledger) = 3
 status_of Usage = 4
 status_of (Absent which) = 5

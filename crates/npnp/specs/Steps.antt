@@ -4,7 +4,7 @@ use Rattle.circuits.specs.Circuits.{Circuit}
 use Rattle.circuits.specs.Functions.{Computes}
 use Rattle.circuits.specs.Levels.{IsAcyclic, IsOrderOf}
 use Rattle.circuits.specs.Matches.{IsMatchOfFunctions, HaveNpnpEqualFunctions}
-use Rattle.circuits.specs.Netlists.{Net}
+use Rattle.circuits.specs.Netlists.{Net, IsOrdered}
 use Rattle.shelf_core.specs.Fault.{Rose}
 use Rattle.shelf_core.specs.State.{ShelfState, SinkState, Closed}
 use Rattle.net_core.specs.Sides.{Graphs}
@@ -20,19 +20,23 @@ use Rattle.port_report.specs.Reports.{names_of}
 use Rattle.npnp.specs.Circuits.{IsCircuit, IsCircuitFault}
 use Rattle.npnp.specs.Files.{HoldsFirst}
 use Rattle.npnp.specs.Info.{IsInfoText, IsSpentOf, with_itself}
-use Rattle.npnp.specs.Words.{AsksCheck, AsksInfo, AsksMatch, Sought}
+use Rattle.npnp.specs.Words.{AsksCheck, AsksInfo, AsksMake, AsksMatch, AsksTrial, Sought, Wanted}
 use Rattle.npnp.specs.Held.{Netlist, HoldsNetlist}
-use Rattle.npnp.specs.Outcomes.{EndsAt, IsRight, IsSound, IsTold, Leaves}
+use Rattle.npnp.specs.Make.{IsCutFrom, IsPrintedPair}
+use Rattle.npnp.specs.Trial.{IsSpentOnPairOf, IsTrialOf}
+use Rattle.npnp.specs.Outcomes.{EndsAt, FollowsWords, IsRight, IsSound, IsTold, Leaves}
 use Rattle.npnp.specs.Report.{HasTable, IsOneLine, IsReport, line_of, report_on}
 use Rattle.npnp.specs.declared.outcome.Which.{Which}
 use Rattle.npnp.specs.declared.outcome.Which.TheVariants.{Account}
 use Rattle.npnp.specs.declared.outcome.Outcome.{Outcome}
-use Rattle.npnp.specs.declared.outcome.Outcome.TheVariants.{AcceptedMatch, AcceptedRefusal, Rejected, Matched, NoMatching, Spent, Usage, Absent, Malformed, Informed, ReadFault, WriteFault, Memory}
+use Rattle.npnp.specs.declared.outcome.Outcome.TheVariants.{AcceptedMatch, AcceptedRefusal, Rejected, Matched, NoMatching, Spent, Usage, Absent, Malformed, Informed, Made, Tried, ReadFault, WriteFault, Memory}
 use Rattle.npnp.specs.declared.words.Check.{Check as CheckWords}
 use Rattle.npnp.specs.declared.words.Info.{Info as InfoWords}
 use Rattle.npnp.specs.declared.words.Match.{Match as MatchWords}
+use Rattle.npnp.specs.declared.words.Make.{Make as MakeWords}
+use Rattle.npnp.specs.declared.words.Trial.{Trial as TrialWords}
 use Rattle.npnp.specs.declared.words.Command.{Command}
-use Rattle.npnp.specs.declared.words.Command.TheVariants.{Check, Match, Info}
+use Rattle.npnp.specs.declared.words.Command.TheVariants.{Check, Match, Info, Make, Trial}
 use Rattle.npnp.specs.declared.files.Stop.{Stop}
 use Rattle.npnp.specs.declared.files.Stop.TheVariants as stop
 use Rattle.npnp.specs.declared.matching.Solved.{Solved}
@@ -43,6 +47,8 @@ pub record IsEarly (outcome : Outcome) : Type 0 where
   pub line : IsOneLine outcome
   pub no_refusal : outcome ≢ AcceptedRefusal
   pub no_match : outcome ≢ NoMatching
+  pub no_pair : outcome ≢ Made
+  pub no_trial : (number : ℕ) (account : List ℕ) → outcome ≢ Tried number account
   pub asked : outcome ≢ Usage
 
 -- an outcome that comes of the words alone, or of a write, is none of a netlist that is read
@@ -132,6 +138,8 @@ pub record IsJudged (outcome : Outcome) : Type 0 where
   pub read : outcome ≢ ReadFault
   pub unwritten : outcome ≢ WriteFault
   pub no_match : outcome ≢ NoMatching
+  pub no_pair : outcome ≢ Made
+  pub no_trial : (number : ℕ) (account : List ℕ) → outcome ≢ Tried number account
   pub no_table : (table : Matching) → outcome ≢ Matched table
 
 -- Judging two graphs by what the account's name holds.
@@ -153,6 +161,12 @@ IsAnswered graphs account outcome =
     ⊎ ((outcome ≡ NoMatching)
     × Proves graphs account verdict.None
     × (HaveNpnpEqualFunctions graphs.first graphs.second → ⊥))
+
+-- an account of a match of two graphs that is accepted
+pub record IsProvedMatch (graphs : Graphs) (account : List ℕ) : Type 0 where
+  pub table : Matching
+  pub accepted : Proves graphs account (verdict.Match table)
+  pub matches : IsMatchOfFunctions graphs.first graphs.second table.inputs table.outputs
 
 -- the last line of an account
 abbrev pub last_line : List ℕ
@@ -207,6 +221,52 @@ pub record Finds (tells : Bool) (first second : Named) (account_name : List ℕ)
   pub faults : old.faults ≤ new.faults
   pub failed : result ≡ Err WriteFault → Rose old.faults new.faults
 
+-- Writing a text under a name, or ending the run where it wasn't written.
+pub record WritesText (tells : Bool) (name text : List ℕ) (old new : ShelfState) (result : Result (Unit {0}) Outcome) : Type 0 where
+  pub closed : OnOk result (new.mode ≡ Closed)
+  pub others : IsTrue tells → (n : List ℕ) → n ≢ name → new.held n ≡ old.held n
+  pub whole : IsTrue tells → OnOk result (new.held name ≡ Some text)
+  pub stopped : IfErr result IsUnwritten
+  pub part : IsTrue tells → OnErr result (IsCutFrom text (old.held name) (new.held name))
+  pub faults : old.faults ≤ new.faults
+  pub failed : result ≡ Err WriteFault → Rose old.faults new.faults
+
+-- Writing two texts under two names, one after the other.
+pub record WritesPair (tells : Bool) (first_name second_name first second : List ℕ) (old new : ShelfState) (result : Result (Unit {0}) Outcome) : Type 0 where
+  pub others : IsTrue tells → (n : List ℕ) → n ≢ first_name → n ≢ second_name → new.held n ≡ old.held n
+  pub whole : IsTrue tells
+      → second_name ≢ first_name
+      → OnOk result ((new.held first_name ≡ Some first) × (new.held second_name ≡ Some second))
+  pub stopped : IfErr result IsUnwritten
+  -- after a refusal in the first file the second is as it was; after one in the second the first is whole
+  pub part : IsTrue tells → second_name ≢ first_name → OnErr result
+      ((IsCutFrom first (old.held first_name) (new.held first_name) × (new.held second_name ≡ old.held second_name))
+      ⊎ ((new.held first_name ≡ Some first) × IsCutFrom second (old.held second_name) (new.held second_name)))
+  pub faults : old.faults ≤ new.faults
+  pub failed : result ≡ Err WriteFault → Rose old.faults new.faults
+
+-- Printing the pair of a number.
+pub record PrintsPair (number : ℕ) (first_text second_text : List ℕ) : Type 0 where
+  pub first : Named
+  pub second : Named
+  pub table : Matching
+  pub printed : IsPrintedPair number first second table first_text second_text
+  pub first_ordered : IsOrdered first.graph
+  pub second_ordered : IsOrdered second.graph
+
+-- what ends the trial of a pair: the budget is spent on it, or memory ran out
+abbrev pub IsStopOfTrial : ℕ → Outcome → Type 0
+IsStopOfTrial number outcome =
+    ((ledger : Ledgered) × (outcome ≡ Spent ledger) × IsSpentOnPairOf number ledger) ⊎ (outcome ≡ Memory)
+
+-- Trying the pair of a number: an account that is accepted for it, or nothing.
+pub record Tries (number : ℕ) (result : Result Ending Outcome) : Type 0 where
+  pub answer : IfOk result (λ ending. (account : List ℕ)
+      × (ending.outcome ≡ Tried number account)
+      × IsTrialOf number account
+      × (ending.report.items ≡ line_of ending.outcome))
+  pub stopped : IfErr result (IsStopOfTrial number)
+
 -- what the words of a match name
 abbrev pub sought_by : MatchWords → Sought
 sought_by words = record {
@@ -217,11 +277,17 @@ sought_by words = record {
   seed = words.seed;
 }
 
+-- what the words of a make name
+abbrev pub wanted_by : MakeWords → Wanted
+wanted_by words = record { number = words.number; first = words.first.now; second = words.second.now }
+
 -- the words ask for what a command says
 abbrev pub Ask : List (List ℕ) → Command → Type 0
 Ask words (Check check) = AsksCheck words check.first.now check.second.now check.account.now
 Ask words (Match match_words) = AsksMatch words (sought_by match_words)
 Ask words (Info info) = AsksInfo words info.file.now info.budget
+Ask words (Make make_words) = AsksMake words (wanted_by make_words)
+Ask words (Trial trial) = AsksTrial words trial.number
 
 abbrev pub asked_check : CheckWords → Command
 asked_check check = Check check
@@ -232,17 +298,40 @@ asked_match match_words = Match match_words
 abbrev pub asked_info : InfoWords → Command
 asked_info info = Info info
 
+abbrev pub asked_make : MakeWords → Command
+asked_make make_words = Make make_words
+
+abbrev pub asked_trial : TrialWords → Command
+asked_trial trial = Trial trial
+
 -- a command writes no file of this name
 abbrev pub IsNotWritten : Command → List ℕ → Type 0
 IsNotWritten (Check check) name = Unit {0}
 IsNotWritten (Match match_words) name = name ≢ match_words.account.now
 IsNotWritten (Info info) name = Unit {0}
+IsNotWritten (Make make_words) name = (name ≢ make_words.first.now) × (name ≢ make_words.second.now)
+IsNotWritten (Trial trial) name = Unit {0}
 
--- the words of a command ask for a match
-abbrev pub IsMatchCommand : Command → Type 0
-IsMatchCommand (Check check) = ⊥
-IsMatchCommand (Match match_words) = Unit {0}
-IsMatchCommand (Info info) = ⊥
+-- a command writes a file
+abbrev pub IsWritingCommand : Command → Type 0
+IsWritingCommand (Check check) = ⊥
+IsWritingCommand (Match match_words) = Unit {0}
+IsWritingCommand (Info info) = ⊥
+IsWritingCommand (Make make_words) = Unit {0}
+IsWritingCommand (Trial trial) = ⊥
+
+-- a command reads files
+abbrev pub IsReadingCommand : Command → Type 0
+IsReadingCommand (Check check) = Unit {0}
+IsReadingCommand (Match match_words) = Unit {0}
+IsReadingCommand (Info info) = Unit {0}
+IsReadingCommand (Make make_words) = ⊥
+IsReadingCommand (Trial trial) = ⊥
+
+-- a command makes no call of the shelf
+abbrev pub IsTrialCommand : Command → Type 0
+IsTrialCommand (Trial trial) = Unit {0}
+IsTrialCommand other = ⊥
 
 -- an ending that is of what was judged, sought, or of one netlist
 pub record IsEnding (outcome : Outcome) : Type 0 where
@@ -257,7 +346,7 @@ ended (Err outcome) = outcome
 
 -- Deciding by the files that a command names.
 pub record Decides (tells : Bool) (command : Command) (old new : ShelfState) (result : Result Ending Outcome) : Type 0 where
-  -- no file changes but the account of a match
+  -- no file changes but the account of a match, and the two of a pair
   pub files : IsTrue tells → (n : List ℕ) → IsNotWritten command n → new.held n ≡ old.held n
   pub left : IsTrue tells
       → (words : List (List ℕ))
@@ -268,6 +357,8 @@ pub record Decides (tells : Bool) (command : Command) (old new : ShelfState) (re
       → (words : List (List ℕ))
       → Ask words command
       → IsRight old.held words (ended result)
+  -- and what the words alone say
+  pub by_words : (words : List (List ℕ)) → Ask words command → FollowsWords words (ended result)
   -- an accepted table is a match of the files' netlists, and an accepted refusal is right
   pub sound : IsTrue tells
       → (words : List (List ℕ))
@@ -280,7 +371,7 @@ pub record Decides (tells : Bool) (command : Command) (old new : ShelfState) (re
   pub early : IfErr result IsEarly
   -- a fault has its cause outside
   pub failed : result ≡ Err ReadFault → Rose old.faults new.faults
-  pub unwritten : result ≡ Err WriteFault → IsMatchCommand command × Rose old.faults new.faults
+  pub unwritten : result ≡ Err WriteFault → IsWritingCommand command × Rose old.faults new.faults
 
 -- the ending tells an outcome by its line, or there was no memory for the line
 abbrev pub TellsLine : Outcome → Ending → Type 0

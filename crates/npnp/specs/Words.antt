@@ -61,6 +61,35 @@ pub record AsksInfo (words : List (List ℕ)) (file : List ℕ) (budget : ℕ) :
   pub form : HaveInfoForm words file budget
   pub named : file ≢ []
 
+-- Names of two files that are written: neither is empty, and they differ.
+pub record AreTwoNames (first second : List ℕ) : Type 0 where
+  pub first_named : first ≢ []
+  pub second_named : second ≢ []
+  pub apart : second ≢ first
+
+-- What is made: the pair of a number, in two files.
+pub record Wanted : Type 0 where
+  pub number : ℕ
+  pub first : List ℕ
+  pub second : List ℕ
+
+-- `make NUMBER FIRST SECOND`
+pub record AsksMake (words : List (List ℕ)) (wanted : Wanted) : Type 0 where
+  pub word : List ℕ
+  pub form : words ≡ codes "make" ∷ word ∷ wanted.first ∷ wanted.second ∷ []
+  pub number_is : IsNumber word wanted.number
+  pub names : AreTwoNames wanted.first wanted.second
+
+-- `trial NUMBER`
+pub record AsksTrial (words : List (List ℕ)) (number : ℕ) : Type 0 where
+  pub word : List ℕ
+  pub form : words ≡ codes "trial" ∷ word ∷ []
+  pub number_is : IsNumber word number
+
+-- the words ask for a pair
+abbrev pub AskForPair : List (List ℕ) → Type 0
+AskForPair words = (wanted : Wanted) × AsksMake words wanted
+
 -- the words name two netlists and an account, for a check or for a match
 abbrev pub NameThree : List (List ℕ) → List ℕ → List ℕ → List ℕ → Type 0
 NameThree words first second account =
@@ -68,8 +97,16 @@ NameThree words first second account =
     ⊎ ((budget seed : ℕ)
     × AsksMatch words (record { first = first; second = second; account = account; budget = budget; seed = seed }))
 
+-- the words name files that are read
+abbrev pub ReadFiles : List (List ℕ) → Type 0
+ReadFiles words =
+    ((first second account : List ℕ) × NameThree words first second account)
+    ⊎ ((file : List ℕ) × (budget : ℕ) × AsksInfo words file budget)
+
 -- words of no form that is known
 pub record AskNothing (words : List (List ℕ)) : Type 0 where
   pub no_check : (first second account : List ℕ) → AsksCheck words first second account → ⊥
   pub no_match : (sought : Sought) → AsksMatch words sought → ⊥
   pub no_info : (file : List ℕ) (budget : ℕ) → AsksInfo words file budget → ⊥
+  pub no_make : (wanted : Wanted) → AsksMake words wanted → ⊥
+  pub no_trial : (number : ℕ) → AsksTrial words number → ⊥

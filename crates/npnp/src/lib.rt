@@ -1,15 +1,17 @@
 //! One run of `npnp`: finds a match of two combinational netlists, up to the order and the negation of their inputs and
-//! outputs, or that there is none, and writes an account that proves it; checks such accounts; and reports what
-//! the outputs of a netlist depend on, and how.
+//! outputs, or that there is none, and writes an account that proves it; checks such accounts; reports what the
+//! outputs of a netlist depend on, and how; and makes pairs of netlists that match, and tries them.
 #![tactic(auto)]
 
 mod files;
 mod info;
 mod judging;
+mod making;
 mod matching;
 mod netlists;
 pub mod outcome;
 mod report;
 pub mod run;
+mod trying;
 mod words;
 mod writing;

@@ -88,7 +88,7 @@ fn conclude<S: Shelf>(
 }
 
 /// What a refusal of a write ends the run with.
-fn unwritten(stop: ShelfStop) -> Outcome
+pub(crate) fn unwritten(stop: ShelfStop) -> Outcome
     ensures { result ≡ unwritten stop }
 {
     match stop {
@@ -117,7 +117,7 @@ fn have_as_many_ports(graphs: &Graphs<'_>) -> bool
 }
 
 /// Searches two graphs with as many ports, with at most `budget` learned clauses.
-fn solve_by_search(
+pub(crate) fn solve_by_search(
     alloc: Global,
     graphs: &Graphs<'_>,
     seed: u64,

@@ -5,6 +5,7 @@ ghost use Rattle.npnp.specs.Status.{status_of};
 
 use crate::files::Stop;
 use account_check::Why;
+use items::Items;
 use net_core::Matching;
 use net_file::NetKind;
 use query_core::Ledger;
@@ -40,6 +41,13 @@ pub enum Outcome {
     NoMatching,
     /// What each output of the netlist depends on, and how, was reported.
     Informed,
+    /// The two files hold the pair of netlists that was asked for.
+    Made,
+    /// A match of the pair of netlists that the number gives was found, and the account of it was accepted.
+    Tried {
+        number: u64,
+        account: Items<u8>,
+    },
     /// The budget of learned clauses was spent before the answer: everything that was asked, and the clauses.
     Spent(Ledger),
     /// The words are of no form that the program knows.
@@ -56,7 +64,7 @@ pub enum Outcome {
     },
     /// A file couldn't be read.
     ReadFault,
-    /// The account or the report couldn't be written.
+    /// A file or the report couldn't be written.
     WriteFault,
     /// There was no memory.
     Memory,
@@ -75,6 +83,8 @@ impl Outcome {
             Outcome::Matched(_) => 0,
             Outcome::NoMatching => 1,
             Outcome::Informed => 0,
+            Outcome::Made => 0,
+            Outcome::Tried { .. } => 0,
             Outcome::Spent(_) => 3,
             Outcome::Usage => 4,
             Outcome::Absent(_) => 5,

@@ -3,7 +3,7 @@
 ghost use Rattle.std.specs.Prelude.{◌≡◌, [], ◌∷◌, ◌++◌, OnOk, IfOk, codes};
 ghost use Rattle.std.specs.Fmt.{decimal};
 ghost use Rattle.port_report.specs.Reports.{names_of};
-ghost use Rattle.npnp.specs.Report.{file_word, line_of, report_on};
+ghost use Rattle.npnp.specs.Report.{file_word, line_of, report_on, tried_line};
 ghost use Rattle.npnp.specs.Steps.{IsMatchIfTable};
 
 use crate::outcome::{Outcome, Which};
@@ -51,6 +51,8 @@ fn put_line(outcome: &Outcome, out: &mut Vec<u8>) -> Result<(), AllocError>
         Outcome::NoMatching => out.extend_from_slice(b"no matching\n"),
         Outcome::Spent(ledger) => put_spent(ledger.learned(), out),
         Outcome::Informed => Ok(()),
+        Outcome::Made => out.extend_from_slice(b"made 64 32 2000\n"),
+        Outcome::Tried { number, .. } => put_tried(*number, out),
         Outcome::Usage => out.extend_from_slice(b"usage\n"),
         Outcome::Absent(which) => put_file(b"absent ", *which, out),
         Outcome::TooLarge(which) => put_file(b"too large ", *which, out),
@@ -68,6 +70,16 @@ fn put_spent(learned: u64, out: &mut Vec<u8>) -> Result<(), AllocError>
     out.extend_from_slice(b"spent ")?;
     put_decimal(learned, out)?;
     out.extend_from_slice(b"\n")
+}
+
+// Writes the line of a pair that was tried: its number, the answer, the verdict on the account, and the numbers of inputs, outputs
+// and gates of one netlist, which are those of every pair.
+fn put_tried(number: u64, out: &mut Vec<u8>) -> Result<(), AllocError>
+    ensures { OnOk result (out.new.items ≡ out.old.items ++ tried_line number) }
+{
+    out.extend_from_slice(b"trial ")?;
+    put_decimal(number, out)?;
+    out.extend_from_slice(b" matched accepted 64 32 2000\n")
 }
 
 // Writes a line that ends in the word for a file.

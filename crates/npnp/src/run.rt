@@ -8,20 +8,24 @@ ghost use Rattle.shelf_core.specs.State.{Closed};
 ghost use Rattle.account_check.specs.declared.verdict.Why.{Why as Reason};
 ghost use Rattle.npnp.specs.declared.outcome.Outcome.{Outcome as AnyOutcome};
 ghost use Rattle.npnp.specs.declared.outcome.Which.{Which as AnyFile};
-ghost use Rattle.npnp.specs.Words.{AskNothing, AsksMatch, Sought};
+ghost use Rattle.npnp.specs.Words.{AskForPair, AskNothing, AsksTrial, ReadFiles};
 ghost use Rattle.query_core.specs.Ledgers.{Ledgered};
 ghost use Rattle.npnp.specs.Check.{IsAccepted, IsRejected, IsMatchOfFiles, LacksMatch};
+ghost use Rattle.npnp.specs.Make.{HoldsPair, NamesPair, WriteFiles};
 ghost use Rattle.npnp.specs.Match.{HasNoMatch, IsAskedToMatch, IsMatchFound, IsProved, IsSpentOnTwo, NamesAccount};
-ghost use Rattle.npnp.specs.Outcomes.{EndsEarly, IsAbsent, IsAskedOf, IsDecided, IsOfMatch, IsRight, IsSettled, IsSound, IsSpentOn, IsTold, Leaves, LeavesFiles, MayBeCut};
+ghost use Rattle.npnp.specs.Outcomes.{EndsEarly, FollowsWords, IsAbsent, IsAskedOf, IsDecided, IsOfMatch, IsOfTrial, IsRight, IsSettled, IsSound, IsSpentOn, IsTold, Leaves, LeavesFiles, MayBeCut};
 ghost use Rattle.npnp.specs.Report.{IsReport, line_of};
-ghost use Rattle.npnp.specs.Steps.{Decides, asked_check, TellsLine, PutsText, WritesPart};
+ghost use Rattle.npnp.specs.Steps.{Decides, IsTrialCommand, asked_check, TellsLine, PutsText, WritesPart};
+ghost use Rattle.npnp.specs.Trial.{IsSpentOnPair, IsTried};
 
 use crate::info::inform;
 use crate::judging::judge;
+use crate::making::make_files;
 use crate::matching::find;
 use crate::netlists::read_netlist;
 use crate::outcome::{Outcome, Which};
 use crate::report::{report_line, report_named};
+use crate::trying::try_pair;
 use crate::words::{Check, Command, command_asked};
 use account_check::Verdict;
 use shelf_core::{Shelf, ShelfStop, Sink};
@@ -49,10 +53,15 @@ pub struct Ending {
 ///   proves, by refutations, that it is a match of the two, or that proves by exclusions that no port table is one.
 /// - `info FILE [BUDGET]`: FILE is a netlist. Its supports, unateness and symmetries are decided; at most BUDGET
 ///   clauses are learned for that, by default 1,000,000,000.
+/// - `make NUMBER FIRST SECOND`: the pair of netlists that NUMBER gives is made, and written to the files FIRST, in the
+///   binary form of AIGER, and SECOND, as BLIF; the two names differ.
+/// - `trial NUMBER`: the pair of netlists that NUMBER gives is made in memory, a match of it is sought with the default
+///   budget and seed, and the account of the match is checked. No file is read or written.
 ///
 /// The files are opened in this order, each read and closed before the next. A netlist of more than 67,108,864
 /// bytes is closed unread. The account of a match is written once its answer is known: its lines in pieces of 65,536
-/// bytes, and its last line by itself. After a failure no further call of the shelf is made.
+/// bytes, and its last line by itself. The files of a pair are written one after the other in such pieces. After a
+/// failure no further call of the shelf is made.
 pub fn run<S: Shelf, K: Sink>(
     alloc: Global,
     words: &[String],
@@ -119,25 +128,46 @@ pub fn run<S: Shelf, K: Sink>(
         ↔ IsAskedOf (S.state shelf.old).held (map string_bytes words.now)) }
     ensures spent { IsTrue S.tells → (ledger : Ledgered) → result ≡ Outcome.Spent ledger
         → IsSpentOn (S.state shelf.old).held (map string_bytes words.now) ledger
-        ⊎ IsSpentOnTwo (S.state shelf.old).held (map string_bytes words.now) ledger }
+        ⊎ IsSpentOnTwo (S.state shelf.old).held (map string_bytes words.now) ledger
+        ⊎ IsSpentOnPair (map string_bytes words.now) ledger }
 
-    // Words of no known form are answered so, and make no call of the shelf.
+    // A pair is made exactly where the words ask for one, unless a write failed or memory ran out. The two files hold it
+    // then: netlists as it is printed, which are read as circuits of its functions, with a table that matches them.
+    ensures made { IsTold result
+        → ((result ≡ Outcome.Made) ↔ AskForPair (map string_bytes words.now)) }
+    ensures pair { IsTrue S.tells → result ≡ Outcome.Made
+        → HoldsPair (S.state shelf.new).held (map string_bytes words.now) }
+
+    // A pair was tried only where its number is that of the words and the account, which the outcome has, is accepted for it:
+    // it proves a table that is a match. Nothing else comes of a trial, but that the budget is spent on the pair.
+    ensures tried { (number : ℕ) (account : List ℕ) → result ≡ Outcome.Tried number account
+        → IsTried (map string_bytes words.now) number account }
+    ensures trial { IsTold result → (number : ℕ) → AsksTrial (map string_bytes words.now) number
+        → IsOfTrial number result }
+
+    // Words of no known form are answered so. They, and those of a trial, make no call of the shelf.
     ensures usage { IsTold result
         → ((result ≡ Outcome.Usage) ↔ AskNothing (map string_bytes words.now)) }
     ensures no_call { AskNothing (map string_bytes words.now) → shelf.new ≡ shelf.old }
+    ensures trial_no_call { (number : ℕ) → AsksTrial (map string_bytes words.now) number
+        → shelf.new ≡ shelf.old }
 
-    // A fault has its cause outside, in this call: the output, or for a match the shelf.
+    // A fault has its cause outside, in this call: the output; or the shelf, where the words name files that are read, or
+    // files that are written.
     ensures read_fault { result ≡ Outcome.ReadFault
-        → Rose (S.state shelf.old).faults (S.state shelf.new).faults }
+        → ReadFiles (map string_bytes words.now)
+        × Rose (S.state shelf.old).faults (S.state shelf.new).faults }
     ensures write_fault { result ≡ Outcome.WriteFault
         → Rose (K.state out.old).faults (K.state out.new).faults
-        ⊎ ((sought : Sought) × AsksMatch (map string_bytes words.now) sought
+        ⊎ (WriteFiles (map string_bytes words.now)
         × Rose (S.state shelf.old).faults (S.state shelf.new).faults) }
 
-    // No file changes but the account of a match, and that one only where there is an answer. A failed write or want of
-    // memory may leave a first part of an account that is accepted.
+    // No file changes but the account of a match, and that one only where there is an answer, and the two files of a pair. A
+    // failed write or want of memory may leave a first part of an account that is accepted, or of the pair's first netlist,
+    // and only where that is whole a part of the second.
     ensures files { IsTrue S.tells → (name : List ℕ)
         → (NamesAccount (map string_bytes words.now) name → ⊥)
+        → (NamesPair (map string_bytes words.now) name → ⊥)
         → (S.state shelf.new).held name ≡ (S.state shelf.old).held name }
     ensures kept { IsTrue S.tells → LeavesFiles result → (name : List ℕ)
         → (S.state shelf.new).held name ≡ (S.state shelf.old).held name }
@@ -172,15 +202,19 @@ fn answer<S: Shelf>(alloc: Global, words: &[String], shelf: &mut S) -> Ending
         result.outcome result.report.items }
     ensures files { IsTrue S.tells → (name : List ℕ)
         → (NamesAccount (map string_bytes words.now) name → ⊥)
+        → (NamesPair (map string_bytes words.now) name → ⊥)
         → (S.state shelf.new).held name ≡ (S.state shelf.old).held name }
     ensures left { IsTrue S.tells
         → Leaves (S.state shelf.old).held (S.state shelf.new).held (map string_bytes words.now) result.outcome }
     ensures read_fault { result.outcome ≡ Outcome.ReadFault
         → Rose (S.state shelf.old).faults (S.state shelf.new).faults }
     ensures write_fault { result.outcome ≡ Outcome.WriteFault
-        → (sought : Sought) × AsksMatch (map string_bytes words.now) sought
+        → WriteFiles (map string_bytes words.now)
         × Rose (S.state shelf.old).faults (S.state shelf.new).faults }
+    ensures by_words { FollowsWords (map string_bytes words.now) result.outcome }
     ensures usage { result.outcome ≡ Outcome.Usage → AskNothing (map string_bytes words.now) }
+    ensures trial_no_call { (number : ℕ) → AsksTrial (map string_bytes words.now) number
+        → shelf.new ≡ shelf.old }
     ensures no_form { AskNothing (map string_bytes words.now)
         → (shelf.new ≡ shelf.old) × ((result.outcome ≡ Outcome.Usage) ⊎ (result.outcome ≡ Outcome.Memory)) }
 {
@@ -196,12 +230,15 @@ fn answer<S: Shelf>(alloc: Global, words: &[String], shelf: &mut S) -> Ending
 /// How the files that a command names end the run. The error is an outcome whose report is one line.
 fn follow<S: Shelf>(alloc: Global, command: &Command<'_>, shelf: &mut S) -> Result<Ending, Outcome>
     requires { (S.state shelf.old).mode ≡ Closed }
-    ensures { Decides S.tells command.now (S.state shelf.old) (S.state shelf.new) result }
+    ensures decides { Decides S.tells command.now (S.state shelf.old) (S.state shelf.new) result }
+    ensures no_call { IsTrialCommand command.now → shelf.new ≡ shelf.old }
 {
     match command {
         Command::Check(check) => decide(alloc, check, shelf),
         Command::Match(asked) => find(alloc, asked, shelf),
         Command::Info(info) => inform(alloc, info, shelf),
+        Command::Make(asked) => make_files(alloc, asked, shelf),
+        Command::Trial(trial) => try_pair(alloc, trial),
     }
 }
 

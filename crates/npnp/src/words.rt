@@ -1,16 +1,16 @@
 //! The words of the command line.
 
 ghost use Rattle.std.specs.Prelude.{◌≡◌, ◌≢◌, ◌⊎◌, ℕ, [], ◌↔◌, IsTrue, List, map, IfSome, IfNone, string_bytes};
-ghost use Rattle.npnp.specs.Steps.{Ask, sought_by};
-ghost use Rattle.npnp.specs.Words.{AreBudgetAndSeed, AreNames, AskNothing, AsksCheck, AsksInfo, AsksMatch, IsNumber, Sought};
+ghost use Rattle.npnp.specs.Steps.{Ask, sought_by, wanted_by};
+ghost use Rattle.npnp.specs.Words.{AreBudgetAndSeed, AreNames, AreTwoNames, AskNothing, AsksCheck, AsksInfo, AsksMake, AsksMatch, AsksTrial, IsNumber, Sought, Wanted};
 
 use text_core::{Cursor, decimal};
 
-/// The budget of `match` and `info` where the words give none.
-const DEFAULT_BUDGET: u64 = 1_000_000_000;
+/// The budget of `match` and `info` where the words give none, and of `trial`.
+pub(crate) const DEFAULT_BUDGET: u64 = 1_000_000_000;
 
-/// The seed of `match` where the words give none.
-const DEFAULT_SEED: u64 = 1;
+/// The seed of `match` where the words give none, and of `trial`.
+pub(crate) const DEFAULT_SEED: u64 = 1;
 
 /// The most digits that a number on the command line has.
 const MOST_DIGITS: usize = 20;
@@ -50,6 +50,24 @@ pub struct Info<'a> {
     pub budget: u64,
 }
 
+/// The pair that is made.
+#[derive(Clone, Copy, Debug)]
+pub struct Make<'a> {
+    /// The number that gives the pair.
+    pub number: u64,
+    /// The file of the first netlist.
+    pub first: &'a str,
+    /// The file of the second netlist.
+    pub second: &'a str,
+}
+
+/// The pair that is tried.
+#[derive(Clone, Copy, Debug)]
+pub struct Trial {
+    /// The number that gives the pair.
+    pub number: u64,
+}
+
 /// What the words ask for.
 #[derive(Clone, Copy, Debug)]
 pub enum Command<'a> {
@@ -59,6 +77,10 @@ pub enum Command<'a> {
     Match(Match<'a>),
     /// What each output of a netlist depends on, and how.
     Info(Info<'a>),
+    /// The pair of netlists that a number gives, in two files.
+    Make(Make<'a>),
+    /// Whether a match is found of the pair that a number gives, and its account accepted.
+    Trial(Trial),
 }
 
 /// What the words ask for, if they are of a form that is known.
@@ -69,9 +91,15 @@ pub fn command_asked(words: &[String]) -> Option<Command<'_>>
     if let Some(check) = check_asked(words) {
         return Some(Command::Check(check));
     }
-    match match_asked(words) {
-        Some(asked) => Some(Command::Match(asked)),
-        None => Some(Command::Info(info_asked(words)?)),
+    if let Some(asked) = match_asked(words) {
+        return Some(Command::Match(asked));
+    }
+    if let Some(info) = info_asked(words) {
+        return Some(Command::Info(info));
+    }
+    match make_asked(words) {
+        Some(asked) => Some(Command::Make(asked)),
+        None => Some(Command::Trial(trial_asked(words)?)),
     }
 }
 
@@ -193,6 +221,57 @@ fn info_of(file: &str, budget: u64) -> Option<Info<'_>>
         return None;
     }
     Some(Info { file, budget })
+}
+
+/// The pair that the words ask for: `make`, a number, and two names that aren't empty and differ.
+fn make_asked(words: &[String]) -> Option<Make<'_>>
+    ensures asked { IfSome result (λ made. AsksMake (map string_bytes words.now) (wanted_by made)) }
+    ensures not_asked { IfNone result ((wanted : Wanted) → AsksMake (map string_bytes words.now) wanted → ⊥) }
+{
+    match words {
+        [command, number, first, second] if command.as_str() == "make" => {
+            make_of(number_of(number.as_str())?, first.as_str(), second.as_str())
+        }
+        _ => None,
+    }
+}
+
+/// The pair of a number, in files of two names.
+fn make_of<'a>(number: u64, first: &'a str, second: &'a str) -> Option<Make<'a>>
+    ensures some { IfSome result (λ made. (made.number ≡ number)
+        × (made.first.now ≡ first.now)
+        × (made.second.now ≡ second.now)) }
+    ensures apart { IfSome result (λ made. AreTwoNames first.now second.now) }
+    ensures none { IfNone result (AreTwoNames first.now second.now → ⊥) }
+{
+    if !are_two_names(first, second) {
+        return None;
+    }
+    Some(Make {
+        number,
+        first,
+        second,
+    })
+}
+
+/// Whether two names aren't empty, and differ.
+fn are_two_names(first: &str, second: &str) -> bool
+    ensures { IsTrue result ↔ AreTwoNames first.now second.now }
+{
+    !(first.is_empty() | second.is_empty() | (second == first))
+}
+
+/// The trial that the words ask for: `trial`, and a number.
+fn trial_asked(words: &[String]) -> Option<Trial>
+    ensures asked { IfSome result (λ trial. AsksTrial (map string_bytes words.now) trial.number) }
+    ensures not_asked { IfNone result ((number : ℕ) → AsksTrial (map string_bytes words.now) number → ⊥) }
+{
+    match words {
+        [command, number] if command.as_str() == "trial" => Some(Trial {
+            number: number_of(number.as_str())?,
+        }),
+        _ => None,
+    }
 }
 
 /// The number of 64 bits that a word of 1 to 20 digits writes.

@@ -34,7 +34,7 @@ fn fill<S: Shelf>(shelf: &mut S, lines: &[u8]) -> Result<(), ShelfStop>
 }
 
 /// Writes a text to the open file, piece by piece.
-fn append_pieces<S: Shelf>(shelf: &mut S, text: &[u8]) -> Result<(), ShelfStop>
+pub(crate) fn append_pieces<S: Shelf>(shelf: &mut S, text: &[u8]) -> Result<(), ShelfStop>
     requires writing { (S.state shelf.old).mode ≡ Writing }
     requires empty { IsTrue S.tells → (S.state shelf.old).held (S.state shelf.old).name ≡ Some [] }
     ensures { FillsFile S.tells text.now (S.state shelf.old) (S.state shelf.new) result }

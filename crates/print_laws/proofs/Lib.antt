@@ -11,3 +11,4 @@ pub mod BlifWords
 pub mod BlifNames
 pub mod BlifLines
 pub mod BlifReads
+pub mod SizeLemmas

@@ -24,3 +24,7 @@ pub record IsPrintable (named : Named) : Type 0 where
   pub outputs_named : length named.output_names ≡ length named.graph.outputs
   pub input_names : All IsSymbolName named.input_names
   pub output_names : All IsSymbolName named.output_names
+
+-- a name of at most 20,000 bytes: 2,048 of them leave room for the gates in a file of 67,108,864
+abbrev pub IsShortName : List ℕ → Type 0
+IsShortName name = length name ≤ 20000

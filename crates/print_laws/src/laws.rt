@@ -1,3 +1,4 @@
+ghost use Rattle.std.specs.Prelude.{◌≤◌, All, length};
 ghost use Rattle.circuits.specs.Functions.{Computes, as_circuit};
 ghost use Rattle.circuits.specs.Netlists.{Net};
 ghost use Rattle.net_file.specs.declared.named.Named.{Named};
@@ -6,7 +7,7 @@ ghost use Rattle.net_print.specs.Files.{aag_text, aig_text};
 ghost use Rattle.aiger_reader.specs.Aiger.{IsAiger};
 ghost use Rattle.blif_reader.specs.Blif.{IsBlif};
 ghost use Rattle.print_laws.specs.Ordered.{with_greater_first};
-ghost use Rattle.print_laws.specs.Printable.{IsPrintable, IsWithinLimits};
+ghost use Rattle.print_laws.specs.Printable.{IsPrintable, IsShortName, IsWithinLimits};
 ghost use Rattle.print_laws.specs.PrintedCircuits.{printed_circuit, printed_inputs, printed_outputs};
 
 /// What is printed in the ASCII form of AIGER is a file of the same netlist, gate by gate, with the same names.
@@ -36,4 +37,17 @@ pub fn blif_reads_back()
     ensures computes { (net : Net)
         → IsWithinLimits net
         → Computes net (printed_circuit net) }
+{}
+
+/// What is printed is no longer than what is read: a netlist within the limits as BLIF, and in the binary form of AIGER where
+/// no name has more than 20,000 bytes.
+pub fn printed_is_short()
+    ensures blif { (net : Net)
+        → IsWithinLimits net
+        → length (blif_text net) ≤ 67108864 }
+    ensures aig { (named : Named)
+        → IsPrintable named
+        → All IsShortName named.input_names
+        → All IsShortName named.output_names
+        → length (aig_text named) ≤ 67108864 }
 {}

@@ -5,4 +5,4 @@
 
 mod laws;
 
-pub use laws::{aag_reads_back, aig_reads_back, blif_reads_back};
+pub use laws::{aag_reads_back, aig_reads_back, blif_reads_back, printed_is_short};

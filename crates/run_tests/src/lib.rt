@@ -10,6 +10,8 @@ mod files;
 #[cfg(test)]
 mod matches;
 #[cfg(test)]
+mod pairs;
+#[cfg(test)]
 mod refusals;
 #[cfg(test)]
 mod runs;

@@ -8,7 +8,7 @@ pub returns-in_err-named : goal.returns-in_err-named
 returns-in_err-named g c =
     let p = err_from_is_err_and c.from_residual.result c.from_residual.ensures.1 in
     let o = c.in_err-named.field-0.0 in
-    stopped _ _ _ _ _ o (cc (p.1, p.2)) c.read_netlist.ensures.files
+    stopped _ _ _ _ _ o tt (cc (p.1, p.2)) c.read_netlist.ensures.files
     (λ tells words asks. right_at_only _ words _ _ asks o (c.in_err-named.ensures.ended tells))
     c.in_err-named.ensures.reading
     (λ e. c.read_netlist.ensures.failed (cc (e, c.in_err-named.was)))

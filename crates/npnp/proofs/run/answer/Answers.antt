@@ -1,33 +1,33 @@
 -- The words name the files that were read.
 use Rattle.std.proofs.Common.{inl, inr, Err, ap, sym, subst, ◌∙◌}
-use Rattle.npnp.specs.Outcomes.{IsRight, Leaves}
-use Rattle.npnp.proofs.MatchLemmas.{may_be_cut, not_written, sought_of}
-use Rattle.npnp.proofs.CheckLemmas.{known_form}
+use Rattle.npnp.specs.Outcomes.{FollowsWords, IsRight, Leaves}
+use Rattle.npnp.proofs.MatchLemmas.{may_be_cut, not_written, writes_of}
+use Rattle.npnp.proofs.CheckLemmas.{follows_memory, follows_nothing, known_form, trial_command}
 use Rattle.npnp.proofs.run.answer.Goals as goal
 
 pub returns-in-Ok-clause-right : goal.returns-in-Ok-clause-right
-returns-in-Ok-clause-right g c = λ tells. c.in-Ok.ensures.right tells _ c.in-Some.ensures.asked
+returns-in-Ok-clause-right g c = λ tells. c.in-Ok.ensures.decides.right tells _ c.in-Some.ensures.asked
 
 pub returns-in-Err-clause-right : goal.returns-in-Err-clause-right
 returns-in-Err-clause-right g c = λ tells.
     elim c.end_by_line-in-Err.ensures [
-      | inl (same, text) ↦ subst (IsRight _ _) (sym same) (c.in-Err.ensures.right tells _ c.in-Some.ensures.asked)
+      | inl (same, text) ↦ subst (IsRight _ _) (sym same) (c.in-Err.ensures.decides.right tells _ c.in-Some.ensures.asked)
       | inr memory ↦ subst (IsRight _ _) (sym memory) tt
     ]
 
 pub returns-in-Ok-clause-sound : goal.returns-in-Ok-clause-sound
-returns-in-Ok-clause-sound g c = λ tells. c.in-Ok.ensures.sound tells _ c.in-Some.ensures.asked
+returns-in-Ok-clause-sound g c = λ tells. c.in-Ok.ensures.decides.sound tells _ c.in-Some.ensures.asked
 
 pub returns-in-Err-clause-sound : goal.returns-in-Err-clause-sound
 returns-in-Err-clause-sound g c = λ tells. record {
   matches = λ table is.
       elim c.end_by_line-in-Err.ensures [
-        | inl (same, text) ↦ absurd (c.in-Err.ensures.early.line.no_table table (inl (sym same ∙ is)))
+        | inl (same, text) ↦ absurd (c.in-Err.ensures.decides.early.line.no_table table (inl (sym same ∙ is)))
         | inr memory ↦ cc
       ];
   refuses = λ is.
       elim c.end_by_line-in-Err.ensures [
-        | inl (same, text) ↦ absurd (c.in-Err.ensures.early.no_refusal (sym same ∙ is))
+        | inl (same, text) ↦ absurd (c.in-Err.ensures.decides.early.no_refusal (sym same ∙ is))
         | inr memory ↦ cc
       ];
 }
@@ -39,31 +39,53 @@ pub returns-in-Err-clause-no_form : goal.returns-in-Err-clause-no_form
 returns-in-Err-clause-no_form g c = λ nothing. absurd (known_form _ _ c.in-Some.ensures.asked nothing)
 
 pub returns-in-Ok-clause-files : goal.returns-in-Ok-clause-files
-returns-in-Ok-clause-files g c = λ tells name other. c.in-Ok.ensures.files tells name (not_written _ _ name c.in-Some.ensures.asked other)
+returns-in-Ok-clause-files g c = λ tells name other apart. c.in-Ok.ensures.decides.files tells name (not_written _ _ name c.in-Some.ensures.asked other apart)
 
 pub returns-in-Err-clause-files : goal.returns-in-Err-clause-files
-returns-in-Err-clause-files g c = λ tells name other. c.in-Err.ensures.files tells name (not_written _ _ name c.in-Some.ensures.asked other)
+returns-in-Err-clause-files g c = λ tells name other apart. c.in-Err.ensures.decides.files tells name (not_written _ _ name c.in-Some.ensures.asked other apart)
 
 pub returns-in-Ok-clause-left : goal.returns-in-Ok-clause-left
-returns-in-Ok-clause-left g c = λ tells. c.in-Ok.ensures.left tells _ c.in-Some.ensures.asked
+returns-in-Ok-clause-left g c = λ tells. c.in-Ok.ensures.decides.left tells _ c.in-Some.ensures.asked
 
 pub returns-in-Err-clause-left : goal.returns-in-Err-clause-left
 returns-in-Err-clause-left g c = λ tells.
-    let left = c.in-Err.ensures.left tells _ c.in-Some.ensures.asked in
+    let left = c.in-Err.ensures.decides.left tells _ c.in-Some.ensures.asked in
     elim c.end_by_line-in-Err.ensures [
       | inl (same, text) ↦ subst (Leaves _ _ _) (sym same) left
       | inr memory ↦ subst (Leaves _ _ _) (sym memory) (may_be_cut _ _ _ _ left)
     ]
 
 pub returns-in-Ok-clause-write_fault : goal.returns-in-Ok-clause-write_fault
-returns-in-Ok-clause-write_fault g c = λ is. absurd (c.in-Ok.ensures.ending.unwritten is)
+returns-in-Ok-clause-write_fault g c = λ is. absurd (c.in-Ok.ensures.decides.ending.unwritten is)
 
 pub returns-in-Err-clause-write_fault : goal.returns-in-Err-clause-write_fault
 returns-in-Err-clause-write_fault g c = λ is.
     elim c.end_by_line-in-Err.ensures [
       | inl (same, text) ↦
-          let fault = c.in-Err.ensures.unwritten (ap Err (sym same ∙ is)) in
-          let asks = sought_of _ _ c.in-Some.ensures.asked fault.0 in
-          (asks.0, asks.1, fault.1)
+          let fault = c.in-Err.ensures.decides.unwritten (ap Err (sym same ∙ is)) in
+          (writes_of _ _ c.in-Some.ensures.asked fault.0, fault.1)
       | inr memory ↦ cc
+    ]
+
+pub returns-in-Ok-clause-by_words : goal.returns-in-Ok-clause-by_words
+returns-in-Ok-clause-by_words g c = c.in-Ok.ensures.decides.by_words _ c.in-Some.ensures.asked
+
+pub returns-in-Err-clause-by_words : goal.returns-in-Err-clause-by_words
+returns-in-Err-clause-by_words g c =
+    elim c.end_by_line-in-Err.ensures [
+      | inl (same, text) ↦ subst (FollowsWords _) (sym same) (c.in-Err.ensures.decides.by_words _ c.in-Some.ensures.asked)
+      | inr memory ↦ subst (FollowsWords _) (sym memory) (follows_memory _)
+    ]
+
+pub returns-in-Ok-clause-trial_no_call : goal.returns-in-Ok-clause-trial_no_call
+returns-in-Ok-clause-trial_no_call g c = λ number asks. c.in-Ok.ensures.no_call (trial_command _ _ number c.in-Some.ensures.asked asks)
+
+pub returns-in-Err-clause-trial_no_call : goal.returns-in-Err-clause-trial_no_call
+returns-in-Err-clause-trial_no_call g c = λ number asks. c.in-Err.ensures.no_call (trial_command _ _ number c.in-Some.ensures.asked asks)
+
+pub returns-in_default-clause-by_words : goal.returns-in_default-clause-by_words
+returns-in_default-clause-by_words g c =
+    elim c.end_by_line.ensures [
+      | inl (same, text) ↦ subst (FollowsWords _) (sym same) (follows_nothing _ c.in_default.ensures.not_asked)
+      | inr memory ↦ subst (FollowsWords _) (sym memory) (follows_memory _)
     ]

@@ -1,20 +1,20 @@
 -- What is told is what was answered.
 use Rattle.std.proofs.Common.{inl, inr, ℕ, List, Option, refl, sym, subst, ◌∙◌}
-use Rattle.npnp.specs.Outcomes.{IsRight, IsSound, IsTold, Leaves}
+use Rattle.npnp.specs.Outcomes.{IsOfTrial, IsRight, IsSound, IsTold, Leaves}
 use Rattle.npnp.specs.Report.{line_of}
 use Rattle.npnp.specs.declared.outcome.Outcome.TheVariants.{AcceptedMatch, AcceptedRefusal, Rejected, Absent, TooLarge, Malformed, Memory}
 use Rattle.npnp.proofs.MatchLemmas.{kept, may_be_cut}
-use Rattle.npnp.proofs.CheckLemmas.{exactly, exactly_informed, exactly_none, of_match, decided_matched, decided_none, decided_spent, report_of_same, decided_accepted, decided_refusal, decided_rejected, decided_absent, decided_too_large, decided_malformed}
+use Rattle.npnp.proofs.CheckLemmas.{exactly, exactly_informed, exactly_none, of_match, decided_matched, decided_made, decided_none, decided_tried, told_read, decided_spent, report_of_same, decided_accepted, decided_refusal, decided_rejected, decided_absent, decided_too_large, decided_malformed}
 use Rattle.npnp.proofs.run.run.Goals as goal
 
 pub returns-clause-accepted : goal.returns-clause-accepted
-returns-clause-accepted g c = λ tells decided table. exactly _ _ _ _ (c.answer-ending.ensures.right tells) c.tell.ensures.same decided (AcceptedMatch table) (decided_accepted table) (λ one. elim one [ inl e ↦ cc | inr (ledger, e) ↦ cc ]) (λ two. elim two [ inl (table, e) ↦ cc | inr (inl e) ↦ cc | inr (inr (ledger, e)) ↦ cc ])
+returns-clause-accepted g c = λ tells decided table. exactly _ _ _ _ (c.answer-ending.ensures.right tells) c.tell.ensures.same decided (AcceptedMatch table) (decided_accepted table) tt
 
 pub returns-clause-accepted_refusal : goal.returns-clause-accepted_refusal
-returns-clause-accepted_refusal g c = λ tells decided. exactly _ _ _ _ (c.answer-ending.ensures.right tells) c.tell.ensures.same decided AcceptedRefusal decided_refusal (λ one. elim one [ inl e ↦ cc | inr (ledger, e) ↦ cc ]) (λ two. elim two [ inl (table, e) ↦ cc | inr (inl e) ↦ cc | inr (inr (ledger, e)) ↦ cc ])
+returns-clause-accepted_refusal g c = λ tells decided. exactly _ _ _ _ (c.answer-ending.ensures.right tells) c.tell.ensures.same decided AcceptedRefusal decided_refusal tt
 
 pub returns-clause-rejected : goal.returns-clause-rejected
-returns-clause-rejected g c = λ tells decided line why. exactly _ _ _ _ (c.answer-ending.ensures.right tells) c.tell.ensures.same decided (Rejected line why) (decided_rejected line why) (λ one. elim one [ inl e ↦ cc | inr (ledger, e) ↦ cc ]) (λ two. elim two [ inl (table, e) ↦ cc | inr (inl e) ↦ cc | inr (inr (ledger, e)) ↦ cc ])
+returns-clause-rejected g c = λ tells decided line why. exactly _ _ _ _ (c.answer-ending.ensures.right tells) c.tell.ensures.same decided (Rejected line why) (decided_rejected line why) tt
 
 pub returns-clause-sound : goal.returns-clause-sound
 returns-clause-sound g c = λ tells table is.
@@ -27,13 +27,13 @@ returns-clause-sound_refusal g c = λ tells is.
     (c.answer-ending.ensures.sound tells).refuses (sym (c.tell.ensures.same told) ∙ is)
 
 pub returns-clause-absent : goal.returns-clause-absent
-returns-clause-absent g c = λ tells decided which. exactly _ _ _ _ (c.answer-ending.ensures.right tells) c.tell.ensures.same decided (Absent which) (decided_absent which) (λ one. elim one [ inl e ↦ cc | inr (ledger, e) ↦ cc ]) (λ two. elim two [ inl (table, e) ↦ cc | inr (inl e) ↦ cc | inr (inr (ledger, e)) ↦ cc ])
+returns-clause-absent g c = λ tells decided which. exactly _ _ _ _ (c.answer-ending.ensures.right tells) c.tell.ensures.same decided (Absent which) (decided_absent which) tt
 
 pub returns-clause-too_large : goal.returns-clause-too_large
-returns-clause-too_large g c = λ tells decided which. exactly _ _ _ _ (c.answer-ending.ensures.right tells) c.tell.ensures.same decided (TooLarge which) (decided_too_large which) (λ one. elim one [ inl e ↦ cc | inr (ledger, e) ↦ cc ]) (λ two. elim two [ inl (table, e) ↦ cc | inr (inl e) ↦ cc | inr (inr (ledger, e)) ↦ cc ])
+returns-clause-too_large g c = λ tells decided which. exactly _ _ _ _ (c.answer-ending.ensures.right tells) c.tell.ensures.same decided (TooLarge which) (decided_too_large which) tt
 
 pub returns-clause-malformed : goal.returns-clause-malformed
-returns-clause-malformed g c = λ tells decided which kind at. exactly _ _ _ _ (c.answer-ending.ensures.right tells) c.tell.ensures.same decided (Malformed which kind at) (decided_malformed which kind at) (λ one. elim one [ inl e ↦ cc | inr (ledger, e) ↦ cc ]) (λ two. elim two [ inl (table, e) ↦ cc | inr (inl e) ↦ cc | inr (inr (ledger, e)) ↦ cc ])
+returns-clause-malformed g c = λ tells decided which kind at. exactly _ _ _ _ (c.answer-ending.ensures.right tells) c.tell.ensures.same decided (Malformed which kind at) (decided_malformed which kind at) tt
 
 pub returns-clause-informed : goal.returns-clause-informed
 returns-clause-informed g c = λ tells settled. exactly_informed _ _ _ _ (c.answer-ending.ensures.right tells) c.tell.ensures.same settled.decided settled.unspent
@@ -58,6 +58,33 @@ pub returns-clause-no_matching_account : goal.returns-clause-no_matching_account
 returns-clause-no_matching_account g c = λ tells is.
     let told : IsTold c.tell.result = subst IsTold (sym is) decided_none.told in
     subst (Leaves _ _ _) (sym (c.tell.ensures.same told) ∙ is) (c.answer-ending.ensures.left tells)
+
+pub returns-clause-made : goal.returns-clause-made
+returns-clause-made g c = λ told.
+    let same = c.tell.ensures.same told in
+    let follows = c.answer-ending.ensures.by_words in
+    (λ is. follows.made (sym same ∙ is), λ asks. same ∙ follows.pair asks (subst IsTold same told))
+
+pub returns-clause-pair : goal.returns-clause-pair
+returns-clause-pair g c = λ tells is.
+    let told : IsTold c.tell.result = subst IsTold (sym is) decided_made.told in
+    subst (Leaves _ _ _) (sym (c.tell.ensures.same told) ∙ is) (c.answer-ending.ensures.left tells)
+
+pub returns-clause-tried : goal.returns-clause-tried
+returns-clause-tried g c = λ number account is.
+    let told : IsTold c.tell.result = subst IsTold (sym is) (decided_tried number account).told in
+    c.answer-ending.ensures.by_words.tried number account (sym (c.tell.ensures.same told) ∙ is)
+
+pub returns-clause-trial : goal.returns-clause-trial
+returns-clause-trial g c = λ told number asks.
+    let same = c.tell.ensures.same told in
+    subst (IsOfTrial number) (sym same) (c.answer-ending.ensures.by_words.trial number asks (subst IsTold same told))
+
+pub returns-clause-read_fault : goal.returns-clause-read_fault
+returns-clause-read_fault g c = λ is.
+    let told : IsTold c.tell.result = subst IsTold (sym is) told_read in
+    let same = sym (c.tell.ensures.same told) ∙ is in
+    (c.answer-ending.ensures.by_words.read same, c.answer-ending.ensures.read_fault same)
 
 pub returns-clause-kept : goal.returns-clause-kept
 returns-clause-kept g c = λ tells writes_none. kept _ _ _ _ writes_none (subst (Leaves _ _ _) (sym (c.tell.ensures.same writes_none.told)) (c.answer-ending.ensures.left tells))

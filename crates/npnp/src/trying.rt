@@ -1,0 +1,76 @@
+//! The pair of netlists that a number gives: a match of it is sought, and the account of the match checked.
+
+ghost use Rattle.std.specs.Prelude.{◌≡◌, IfOk, IfErr};
+ghost use Rattle.circuits.specs.Matches.{HaveNpnpEqualFunctions};
+ghost use Rattle.account_check.specs.Verdicts.{IsAccepted as Proves};
+ghost use Rattle.account_check.specs.declared.verdict.Verdict.TheVariants as verdict;
+ghost use Rattle.account_core.specs.Ports.{HaveAsMany};
+ghost use Rattle.net_core.specs.declared.matching.Matching.{Matching as Table};
+ghost use Rattle.npnp.specs.Make.{IsPairOf};
+ghost use Rattle.npnp.specs.Steps.{IsAnswered, IsProvedMatch, IsStopWithin, Tries, last_line};
+
+use crate::matching::{Solved, solve_by_search};
+use crate::outcome::Outcome;
+use crate::report::report_line;
+use crate::run::Ending;
+use crate::words::{DEFAULT_BUDGET, DEFAULT_SEED, Trial};
+use account_check::{CheckStop, Verdict, check};
+use account_write::last_line;
+use gen_pair::{GenPair, make};
+use items::Items;
+use net_core::Graphs;
+use std::alloc::Global;
+
+/// Makes the pair of a number, looks for a match of it with the default budget and seed, writes the account of the match in
+/// memory, and checks it. The error is an outcome whose report is one line: the budget was spent, or memory ran out.
+pub fn try_pair(alloc: Global, trial: &Trial) -> Result<Ending, Outcome>
+    ensures { Tries trial.now.number result }
+{
+    let pair = make(alloc, trial.number)?;
+    try_of(alloc, trial.number, &pair)
+}
+
+/// Tries the pair of a number.
+fn try_of(alloc: Global, number: u64, pair: &GenPair) -> Result<Ending, Outcome>
+    requires { IsPairOf number pair.now.first.graph pair.now.second.graph pair.now.hidden }
+    ensures { Tries number result }
+{
+    let graphs = Graphs::new(&pair.first.graph, &pair.second.graph);
+    let account = prove_match(alloc, &graphs)?;
+    let outcome = Outcome::Tried {
+        number,
+        account: Items::from_vec(account),
+    };
+    let report = report_line(alloc, &outcome)?;
+    Ok(Ending { outcome, report })
+}
+
+/// The account of a match of two graphs that have one, checked.
+fn prove_match(alloc: Global, graphs: &Graphs<'_>) -> Result<Vec<u8>, Outcome>
+    requires ports { HaveAsMany graphs.now.first graphs.now.second }
+    requires equal { HaveNpnpEqualFunctions graphs.now.first graphs.now.second }
+    ensures account { IfOk result (λ account. IsProvedMatch graphs.now account.items) }
+    ensures stopped { IfErr result (IsStopWithin graphs.now 1000000000) }
+{
+    let solved = solve_by_search(alloc, graphs, DEFAULT_SEED, DEFAULT_BUDGET)?;
+    let Solved {
+        outcome: _outcome,
+        mut account,
+    } = solved;
+    account.extend_from_slice(last_line())?;
+    accept(alloc, graphs, &account)?;
+    Ok(account)
+}
+
+/// Checks an account of a match, which is accepted unless memory runs out.
+fn accept(alloc: Global, graphs: &Graphs<'_>, account: &[u8]) -> Result<(), Outcome>
+    requires { IsProvedMatch graphs.now account.now }
+    ensures { IfErr result (λ outcome. outcome ≡ Outcome.Memory) }
+{
+    match check(alloc, graphs, account) {
+        Ok(Verdict::Match(_)) => Ok(()),
+        Ok(Verdict::None) => unreachable!(),
+        Err(CheckStop::Rejected { .. }) => unreachable!(),
+        Err(CheckStop::Memory) => Err(Outcome::Memory),
+    }
+}
