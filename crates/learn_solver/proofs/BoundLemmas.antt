@@ -1,5 +1,5 @@
 -- How many lines can be learned over n variables: each is another clause without a repeated variable, and there are 3^n of these.
-use Rattle.std.proofs.Common.{◌≡◌, ◌≢◌, ℕ, zero, suc, ◌+◌, ◌-◌, ◌*◌, ◌/◌, ◌%◌, ◌^◌, ◌<◌, ◌≤◌, ◌==◌, ◌||◌, ◌⊎◌, eqb, cond, Bool, true, false, List, [], ◌∷◌, length, map, drop, take, All, AllPairs, Result, Ok, Err, IfOk, IfErr, slice_index_or, inl, inr, refl, sym, ◌∙◌, ap, subst, arith}
+use Rattle.std.proofs.Common.{◌≡◌, ◌≢◌, ℕ, zero, suc, ◌+◌, ◌-◌, ◌*◌, ◌/◌, ◌%◌, ◌^◌, ◌<◌, ◌≤◌, ◌==◌, ◌⊎◌, eqb, cond, Bool, true, false, List, [], ◌∷◌, length, map, drop, take, All, AllPairs, Result, Ok, Err, IfOk, IfErr, slice_index_or, inl, inr, refl, sym, ◌∙◌, ap, subst, arith}
 use native.Mathlib.Nat.{pow-suc}
 use Rattle.std.specs.List.{IsDistinct, list_any, list_all}
 use Rattle.std.proofs.lemmas.Bool.{cases_eq, cases_Bool, both_ways, eq-eqb, eqb-true, false≢true, or_cases, or_left, or_parts, or_right}
@@ -14,7 +14,7 @@ use Rattle.cnf_core.specs.declared.stop.Stop.{Stop}
 use Rattle.cnf_core.specs.declared.stop.Stop.TheVariants.{Spent, Memory}
 use Rattle.cnf_core.specs.Charges.{Charging}
 use Rattle.cnf_core.specs.Clauses.{literal_of, variable_of}
-use Rattle.cnf_core.specs.Derivations.{clauses_of, is_same, is_true, line_fault, repeats_variable}
+use Rattle.cnf_core.specs.Derivations.{clauses_of, is_same, is_true, repeats_variable}
 use Rattle.watch_lists.specs.Propagations.{AreKnown}
 use Rattle.watch_lists.proofs.EffectLemmas.{same_itself, same_literal}
 use Rattle.learn_solver.specs.declared.verdict.Verdict.{Verdict}

@@ -1,5 +1,5 @@
 -- A learned clause is minimized: from its last literal down, a marked one gives way to the other literals of its reason.
-use Rattle.std.proofs.Common.{◌≡◌, ◌≢◌, ℕ, ◌+◌, ◌<◌, ◌≤◌, ◌==◌, ◌&&◌, ◌||◌, ◌⊎◌, cond, Bool, true, false, List, [], ◌∷◌, ◌++◌, length, reverse, slice_index_or, slice_set, take, None, inl, inr, refl, sym, ◌∙◌, ap, subst, arith}
+use Rattle.std.proofs.Common.{◌≡◌, ◌≢◌, ℕ, ◌+◌, ◌<◌, ◌≤◌, ◌==◌, ◌&&◌, ◌||◌, ◌⊎◌, Bool, true, false, List, [], ◌∷◌, ◌++◌, length, reverse, slice_index_or, slice_set, take, None, inl, inr, refl, sym, ◌∙◌, ap, arith}
 use Rattle.std.specs.List.{list_all}
 use Rattle.std.proofs.lemmas.Bool.{cases_eq, cases_Bool, both_ways, false≢true, ne_eqb, or_cases, or_left, or_right}
 use Rattle.std.proofs.lemmas.Bool.Decides.{leb_tells}
@@ -10,7 +10,6 @@ use Rattle.cnf_core.specs.declared.literal.SatLit.{SatLit}
 use Rattle.cnf_core.specs.declared.effect.Effect.TheVariants.{Makes}
 use Rattle.cnf_core.specs.Clauses.{clause_at, opposite, variable_of}
 use Rattle.cnf_core.specs.Derivations.{effect_of, hint_fault, is_false, is_same, is_true}
-use Rattle.trail_core.specs.declared.assigned.Assigned.{Assigned}
 use Rattle.trail_core.specs.Trails.{IsTrail, Trailing, entry_at, nothing}
 use Rattle.learn_solver.specs.declared.conflict.Analysis.{Analysis}
 use Rattle.watch_lists.specs.Propagations.{IsReason, before}

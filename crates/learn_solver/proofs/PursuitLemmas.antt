@@ -1,5 +1,5 @@
 -- A search that goes on from one part of the question to the next.
-use Rattle.std.proofs.Common.{◌≡◌, Option, MatchOption, List, sym, subst, ◌∙◌}
+use Rattle.std.proofs.Common.{◌≡◌, List, sym, subst, ◌∙◌}
 use Rattle.cnf_core.specs.declared.literal.SatLit.{SatLit}
 use Rattle.cnf_core.specs.Charges.{Charging}
 use Rattle.trail_core.specs.Trails.{Trailing}
@@ -7,7 +7,6 @@ use Rattle.watch_lists.specs.Propagations.{IsSound}
 use Rattle.watch_lists.specs.Watched.{Watching}
 use Rattle.learn_solver.specs.declared.search.Search.{Search}
 use Rattle.learn_solver.specs.declared.search.Tools.{Tools}
-use Rattle.learn_solver.specs.declared.verdict.Verdict.{Verdict}
 use Rattle.learn_solver.specs.Orders.{IsOrder}
 use Rattle.learn_solver.specs.Searches.{IsRunning}
 use Rattle.learn_solver.specs.Solvers.{IsAsking, IsExtended, IsSolver, Solving}

@@ -1,5 +1,4 @@
 -- The lines that were charged are different clauses.
-use Rattle.std.proofs.Common.{Result, Ok, Err, IfOk, IfErr}
 use Rattle.learn_solver.proofs.BoundLemmas.{bounded_answer, bounded_stops}
 use Rattle.learn_solver.proofs.solver.solve_guided.Goals as goal
 

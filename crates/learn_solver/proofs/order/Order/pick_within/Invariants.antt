@@ -1,4 +1,4 @@
-use Rattle.std.proofs.Common.{ℕ, ◌+◌, ◌<◌}
+use Rattle.std.proofs.Common.{◌+◌, ◌<◌}
 use Rattle.learn_solver.proofs.order.Order.pick_within.Given as goal
 
 abbrev pub invariant-loop-turn : goal.invariant-loop-turn

@@ -1,6 +1,5 @@
 -- The question for a while, then the candidates, then the question from level 0 on.
 use Rattle.std.proofs.Common.{Option, MatchOption, subst}
-use Rattle.learn_solver.specs.declared.search.Search.{Search}
 use Rattle.learn_solver.specs.declared.verdict.Verdict.{Verdict}
 use Rattle.learn_solver.specs.Searches.{IsRunning}
 use Rattle.learn_solver.specs.Solvers.{IsStopped, IsVerdict}
