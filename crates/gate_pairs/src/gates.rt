@@ -20,11 +20,7 @@ pub struct Gate {
 /// # Errors
 ///
 /// Only when out of memory.
-pub fn gates_of(
-    alloc: Global,
-    base: &QueryBase<'_>,
-    ids: &[u64],
-) -> Result<Vec<Gate>, AllocError> {
+pub fn gates_of(alloc: Global, base: &QueryBase<'_>, ids: &[u64]) -> Result<Vec<Gate>, AllocError> {
     let mut gates = Vec::new(alloc);
     let end = ids.len() / 3;
     for k in 1..end {
