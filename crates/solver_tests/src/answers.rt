@@ -170,14 +170,6 @@ fn asked(
     outcome_in(alloc, graphs, query, &mut ledger)
 }
 
-/// Whether a question is refuted, by a hundred lines and more.
-pub fn is_refuted(alloc: Global, graphs: &Graphs<'_>, query: &Query) -> Result<bool, AllocError> {
-    match asked(alloc, graphs, query, 10_000)? {
-        Outcome::Refuted(lines) => Ok(lines > 100),
-        _ => Ok(false),
-    }
-}
-
 /// A question about two circuits of two inputs, whose gates and output are given as literals.
 struct Row<'a> {
     first: &'a [(u32, u32)],

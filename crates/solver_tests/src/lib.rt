@@ -10,8 +10,6 @@ mod drawn_circuits;
 #[cfg(test)]
 mod lemmas;
 #[cfg(test)]
-mod parities;
-#[cfg(test)]
 mod queries;
 #[cfg(test)]
 mod refutation;
