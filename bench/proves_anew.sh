@@ -51,5 +51,7 @@ for change, crates in CHANGES:
         continue
     seen = {}
     above = [it for it in below if stands_on(it, base, seen)]
-    print(f"{change} ({base}): {len(above)} of {len(below)} crates, {sum(minutes.get(it, 0) for it in above):.0f} of {whole:.0f} processor minutes")
+    unknown = sum(it not in minutes for it in above)
+    known = f"{sum(minutes.get(it, 0) for it in above):.0f} of {whole:.0f} processor minutes"
+    print(f"{change} ({base}): {len(above)} of {len(below)} crates, {known}" + (f", without {unknown} crates that weren't measured" if unknown else ""))
 PYTHON
