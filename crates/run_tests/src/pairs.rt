@@ -84,7 +84,7 @@ fn failing(
     let ended = run_failing(alloc, words, [EMPTY, EMPTY], None, failing)?;
     assert_eq!(rt;
         (ended.status, ended.report.is_empty(), ended.calls),
-        (6, true, call + 1)
+        (6, true, call.saturating_add(1))
     );
     Ok(ended.account.as_deref().map(|bytes| bytes.len()))
 }
