@@ -4,6 +4,8 @@
 
 #![tactic(auto)]
 
+mod parts;
 mod pieces;
 
+pub use parts::Parts;
 pub use pieces::{put_last_number, put_last_word, put_number, put_text, put_word};

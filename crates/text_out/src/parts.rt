@@ -1,0 +1,30 @@
+//! Texts that are printed part by part.
+
+ghost use Rattle.std.specs.Prelude.{◌≡◌, ℕ, ◌<◌, List, [], ◌++◌, IsFalse, IsTrue, OnOk};
+ghost use Rattle.text_out.specs.Extends.{Extends};
+
+use std::alloc::AllocError;
+
+/// A text that is printed part by part, each of which is small beside it, so that it need never be whole in memory.
+pub trait Parts {
+    /// What is still to be printed.
+    ghost left: { Self → List ℕ };
+
+    /// How many steps there are at most to its end.
+    ghost steps: { Self → ℕ };
+
+    /// Whether all of it is printed.
+    fn is_done(&self) -> bool
+        ensures done { IsTrue result → left self.now ≡ [] }
+        ensures more { IsFalse result → 0 < steps self.now };
+
+    /// Prints the next part at the end of `out`, if there is one.
+    ///
+    /// # Errors
+    ///
+    /// Only when out of memory. A first part of what was to be printed may stand in `out` then.
+    fn put_next(&mut self, out: &mut Vec<u8>) -> Result<(), AllocError>
+        ensures same { OnOk result (out.new.items ++ left self.new ≡ out.old.items ++ left self.old) }
+        ensures fewer { OnOk result (0 < steps self.old → steps self.new < steps self.old) }
+        ensures kept { Extends out.old.items out.new.items };
+}
