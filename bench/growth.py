@@ -8,7 +8,6 @@ import random
 import subprocess
 import sys
 import tempfile
-import threading
 from account_of import in_order
 
 RESYNTHESIZE = "balance; rewrite; refactor; balance; rewrite; rewrite -z; balance; refactor -z; rewrite -z; balance"
@@ -26,16 +25,14 @@ def tool(*command):
 
 
 def measured(limit, *command):
-    """What a command printed, its status (None past the limit), its processor seconds and its memory at most in MiB."""
-    ran = subprocess.Popen(command, stdout=subprocess.PIPE, stderr=subprocess.DEVNULL, text=True)
-    late = threading.Timer(limit, ran.kill)
-    late.start()
-    printed = ran.stdout.read()
-    _, status, usage = os.wait4(ran.pid, 0)
-    late.cancel()
-    ran.returncode = os.waitstatus_to_exitcode(status)
-    status = None if ran.returncode < 0 else ran.returncode
-    return printed, status, usage.ru_utime + usage.ru_stime, usage.ru_maxrss / 1024
+    """What a command printed, its status (None past the limit), its processor seconds and its memory at most in MiB. GNU
+    time starts it: a child that Python starts is charged with Python's own memory."""
+    with tempfile.NamedTemporaryFile("r") as told:
+        timed = ("/usr/bin/time", "-q", "-f", "%U %S %M", "-o", told.name, "--", "timeout", "-s", "KILL", str(limit), *command)
+        ran = subprocess.run(timed, stdout=subprocess.PIPE, stderr=subprocess.DEVNULL, text=True)
+        user, system, memory = told.read().split()[-3:]
+    status = None if ran.returncode in (124, 137) else ran.returncode
+    return ran.stdout, status, float(user) + float(system), int(memory) / 1024
 
 
 def joined(nets, groups):

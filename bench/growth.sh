@@ -5,7 +5,7 @@
 # resynthesized, with ports permuted and negated. Prints for each pair the ports and gates, the answer, the processor seconds and the memory of
 # `match` and of `check`, and the seconds of ABC's `bm` on the pair without negations, which it doesn't know. A family ends with its first pair
 # that isn't answered within the limit. Writes the numbers to docs/growth.tsv and a plot of them to docs/growth.svg. Needs Debian's yosys and
-# berkeley-abc. Not part of the gate. Ends with status 1 where an answer isn't `matched` or an account isn't accepted.
+# berkeley-abc and time. Not part of the gate. Ends with status 1 where an answer isn't `matched` or an account isn't accepted.
 #
 #     bench/growth.sh [LIMIT [SEED]]      LIMIT: the seconds of a pair, 60
 set -eu
