@@ -1,0 +1,6 @@
+pub mod KeptLemmas
+pub mod NumberLemmas
+pub mod MarkLemmas
+pub mod NeededLemmas
+pub mod ValidLemmas
+pub mod TrimLemmas
