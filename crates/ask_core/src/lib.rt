@@ -3,6 +3,7 @@
 
 mod guiding;
 mod question;
+mod told;
 mod vector;
 
-pub use question::{Answer, ask};
+pub use question::{Answer, ask, ask_watched};

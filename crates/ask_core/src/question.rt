@@ -8,14 +8,16 @@ ghost use Rattle.joint_hash.specs.Merging.{AreLemmas};
 ghost use Rattle.ask_core.specs.Answers.{IsAnswer, IsAskedIn, IsBounded, IsBoundedStop, IsPaidFor, IsStopped};
 
 use crate::guiding::GatePairs;
+use crate::told::solve_told;
 use crate::vector::vector_of;
 use cnf_core::{Log, LogLine, Stop};
 use items::Items;
 use joint_hash::merge_cones;
-use learn_solver::{Solver, Verdict, solve_guided};
+use learn_solver::{Solver, Verdict};
 use net_core::Graphs;
 use query_core::{Ledger, Query, QueryBase, cone_ids};
 use std::alloc::Global;
+use watch_core::{Silent, Watch};
 
 /// An answer to a query.
 #[derive(Debug, Drop)]
@@ -27,10 +29,11 @@ pub enum Answer {
 }
 
 /// Answers a query that fits two circuits by the clauses of its two cones, by lemmas that make gates of one structure
-/// one, and, where it isn't answered soon, after looking at gates that seem to be equal. The ledger gets an entry for it, in place of a last one for which nothing was learned: the lemmas, which
-/// cost nothing, then one line for each conflict. A log that refutes has these lines. Spent comes at a conflict that is
-/// met with the budget spent; its line is kept as the refused one. When out of memory, nothing is said of the last
-/// entry. One call learns at most 3^n lines over the n variables of the query's clauses.
+/// one, and, where it isn't answered soon, after looking at gates that seem to be equal. The ledger gets an entry for it,
+/// in place of a last one for which nothing was learned: the lemmas, which cost nothing, then one line for each conflict.
+/// A log that refutes has these lines. Spent comes at a conflict that is met with the budget spent; its line is kept as
+/// the refused one. When out of memory, nothing is said of the last entry. One call learns at most 3^n lines over the n
+/// variables of the query's clauses.
 pub fn ask(
     alloc: Global,
     graphs: &Graphs<'_>,
@@ -47,14 +50,35 @@ pub fn ask(
     ensures bounded { IfOk result (λ _. IsBounded graphs.now query.now ledger.new) }
     ensures bounded_stop { IfErr result (IsBoundedStop graphs.now query.now ledger.new) }
 {
+    ask_watched(alloc, graphs, query, ledger, &Silent)
+}
+
+/// The same, with a watcher that is told what is learned.
+pub fn ask_watched<W: Watch>(
+    alloc: Global,
+    graphs: &Graphs<'_>,
+    query: &Query,
+    ledger: &mut Ledger,
+    watch: &W,
+) -> Result<Answer, Stop>
+    requires fits { IsQuery graphs.now query.now }
+    requires not_spent { ledger.old.spent ≡ false }
+    ensures answer { IfOk result (IsAnswer graphs.now query.now) }
+    ensures asked { IfOk result (λ _. IsAskedIn graphs.now query.now ledger.old ledger.new) }
+    ensures paid_for { IfOk result (IsPaidFor ledger.new) }
+    ensures not_spent { IfOk result (λ _. ledger.new.spent ≡ false) }
+    ensures stop { IfErr result (IsStopped graphs.now query.now ledger.old ledger.new) }
+    ensures bounded { IfOk result (λ _. IsBounded graphs.now query.now ledger.new) }
+    ensures bounded_stop { IfErr result (IsBoundedStop graphs.now query.now ledger.new) }
+{
     let base = QueryBase::new(alloc, graphs, query)?;
     let ids = cone_ids(alloc, &base)?;
     let lemmas = merge_cones(alloc, &base, &ids)?;
-    ask_cones(alloc, graphs, query, &base, &ids, &lemmas, ledger)
+    ask_cones(alloc, graphs, query, &base, &ids, &lemmas, ledger, watch)
 }
 
 // Answers a query by the clauses of these numbers, which are those of its cones, and by lemmas.
-fn ask_cones<'a>(
+fn ask_cones<'a, W: Watch>(
     alloc: Global,
     graphs: &Graphs<'_>,
     query: &Query,
@@ -62,6 +86,7 @@ fn ask_cones<'a>(
     ids: &'a [u64],
     lemmas: &[LogLine],
     ledger: &mut Ledger,
+    watch: &W,
 ) -> Result<Answer, Stop>
     requires fits { IsQuery graphs.now query.now }
     requires of_query { base.now ≡ record { graphs = graphs.now; query = query.now } }
@@ -78,7 +103,7 @@ fn ask_cones<'a>(
     ledger.open(alloc, query, lemmas)?;
     let mut solver = Solver::new(alloc, base, ids, lemmas)?;
     let guide = GatePairs { base, ids };
-    match solve_guided(alloc, &mut solver, &guide, ledger)? {
+    match solve_told(alloc, &mut solver, &guide, ledger, watch)? {
         Verdict::Model(values) => {
             let vector = vector_of(alloc, graphs, query, &values)?;
             Ok(Answer::Vector(vector))

@@ -11,19 +11,21 @@ ghost use Rattle.ask_core.specs.Answers.{IsAnswer};
 ghost use Rattle.fact_tests.specs.Asking.{IsAsked, IsHalted};
 ghost use Rattle.fact_tests.specs.Supports.{IsOutside};
 
-use ask_core::{Answer, ask};
+use ask_core::{Answer, ask_watched};
 use cnf_core::{Log, LogLine, Stop};
 use items::Items;
 use net_core::Graphs;
 use query_core::{Claim, Ledger, Query, of_claim};
 use std::alloc::{AllocError, Global};
+use watch_core::Watch;
 
 /// Finds a vector that meets a query, or a log that refutes it.
-pub(crate) fn answer_to(
+pub(crate) fn answer_to<W: Watch>(
     alloc: Global,
     graphs: &Graphs<'_>,
     query: &Query,
     ledger: &mut Ledger,
+    watch: &W,
 ) -> Result<Answer, Stop>
     requires fits { IsQuery graphs.now query.now }
     requires unspent { ledger.old.spent ≡ false }
@@ -32,7 +34,7 @@ pub(crate) fn answer_to(
     ensures unspent { IfOk result (λ _. ledger.new.spent ≡ false) }
     ensures stop { IfErr result (IsHalted graphs.now query.now ledger.old ledger.new) }
 {
-    ask(alloc, graphs, query, ledger)
+    ask_watched(alloc, graphs, query, ledger, watch)
 }
 
 /// Refutes a claim whose output reaches none of the shape's inputs. The clauses of the query's two outputs are

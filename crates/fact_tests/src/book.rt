@@ -24,6 +24,7 @@ use oracle_core::{Compared, Oracle};
 use query_core::{Claim, Ledger, Query, of_match};
 use std::alloc::Global;
 use std::marker::Model;
+use watch_core::Stage;
 
 /// What is known of the two circuits of something that decides claims: each claim that was decided is kept as a fact,
 /// and so is each answer about a matching. Contracts see it as what it knows.
@@ -66,6 +67,9 @@ impl<D: Decide> Book<D> {
         requires missing { All (λ fact. fact.claim ≢ claim) self.old.facts }
         ensures { Claims claim self.old self.new ledger.old ledger.new result }
     {
+        self.decider.at(Stage::Deciding {
+            claims: self.facts.as_slice().len() as u64,
+        });
         match self.decider.evidence(alloc, &claim, ledger) {
             Ok(evidence) => {
                 let number = self.facts.add(Fact { claim, evidence })?;
@@ -169,5 +173,9 @@ impl<D: Decide> Oracle for Book<D> {
 
     fn facts(&self) -> &[Fact] {
         self.facts.as_slice()
+    }
+
+    fn at(&self, stage: Stage) {
+        self.decider.at(stage)
     }
 }

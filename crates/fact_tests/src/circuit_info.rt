@@ -13,6 +13,7 @@ use oracle_core::Oracle;
 use output_info::OutputInfo;
 use query_core::Ledger;
 use std::alloc::Global;
+use watch_core::Watch;
 
 /// Of each output of the first circuit the inputs that it depends on, and how, and the pairs of these inputs that may be
 /// exchanged. An output depends on no input that it doesn't reach through gates, and of these nothing is asked. The others
@@ -22,10 +23,10 @@ use std::alloc::Global;
 ///
 /// `Spent` where a line had to be learned and the budget was spent; the ledger keeps it as the refused line. `Memory`
 /// when out of memory; nothing is said of the ledger then.
-pub fn info(
+pub fn info<W: Watch>(
     alloc: Global,
     graphs: &Graphs<'_>,
-    book: &mut FactBook<'_>,
+    book: &mut FactBook<'_, W>,
     ledger: &mut Ledger,
 ) -> Result<Vec<OutputInfo>, Stop>
     requires graphs { book.old.graphs ≡ graphs.now }

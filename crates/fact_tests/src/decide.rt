@@ -16,6 +16,7 @@ use cnf_core::Stop;
 use net_core::Graphs;
 use query_core::{Claim, Ledger, Query};
 use std::alloc::Global;
+use watch_core::Stage;
 
 /// Decides claims about two circuits, and answers queries of matchings of theirs. It keeps nothing of what it decided;
 /// what has to be refuted is asked in a ledger.
@@ -62,4 +63,7 @@ pub trait Decide {
         ensures decided { IfOk result (λ _. IsDecided (circuits self.now) query.now ledger.old ledger.new) }
         ensures unspent { IfOk result (λ _. ledger.new.spent ≡ false) }
         ensures stop { IfErr result (IsHalted (circuits self.now) query.now ledger.old ledger.new) };
+
+    /// Whoever watches is told what the run is at. No answer depends on it.
+    fn at(&self, stage: Stage);
 }

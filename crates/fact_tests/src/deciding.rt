@@ -22,6 +22,7 @@ use net_core::{Graph, Graphs, Side};
 use query_core::{Claim, Ledger, Query, Shape, of_claim};
 use std::alloc::{AllocError, Global};
 use std::marker::Model;
+use watch_core::{Stage, Watch};
 
 /// What is known of a circuit without asking.
 #[derive(Drop)]
@@ -46,13 +47,15 @@ impl<'a> Source<'a> {
 /// of its inputs, by a vector that was seen to break it, and else by asking; a query of a matching is asked. Contracts see
 /// it as the circuits.
 #[derive(Drop)]
-pub struct Sources<'a> {
+pub struct Sources<'a, W: Watch> {
     graphs: &'a Graphs<'a>,
     first: Source<'a>,
     second: Source<'a>,
+    /// Is told what the run is at.
+    watch: &'a W,
 }
 
-impl<'a> Model for Sources<'a> {
+impl<'a, W: Watch> Model for Sources<'a, W> {
     ghost use Rattle.net_core.specs.Sides.{Graphs as AnyGraphs};
     ghost use Rattle.fact_tests.specs.Books.{AreSources};
 
@@ -63,24 +66,26 @@ impl<'a> Model for Sources<'a> {
     ghost invariant = { λ a. AreSources a.graphs.now a.first a.second };
 }
 
-impl<'a> Sources<'a> {
+impl<'a, W: Watch> Sources<'a, W> {
     /// The supports of all outputs; nothing was hunted. The seed chooses the vectors that are simulated.
     pub(crate) fn new(
         alloc: Global,
         graphs: &'a Graphs<'a>,
         seed: u64,
-    ) -> Result<Sources<'a>, AllocError>
+        watch: &'a W,
+    ) -> Result<Sources<'a, W>, AllocError>
         ensures { IfOk result (λ sources. sources ≡ graphs.now) }
     {
         Ok(Sources {
             graphs,
             first: Source::new(alloc, graphs.first(), seed)?,
             second: Source::new(alloc, graphs.second(), seed)?,
+            watch,
         })
     }
 }
 
-impl<'a> Decide for Sources<'a> {
+impl<'a, W: Watch> Decide for Sources<'a, W> {
     ghost circuits = { λ sources. sources };
 
     fn graphs(&self) -> &Graphs<'_> {
@@ -94,25 +99,31 @@ impl<'a> Decide for Sources<'a> {
         ledger: &mut Ledger,
     ) -> Result<Evidence, Stop> {
         let graphs = self.graphs;
+        let watch = self.watch;
         match claim.side {
-            Side::First => decide(alloc, graphs, &mut self.first, claim, ledger),
-            Side::Second => decide(alloc, graphs, &mut self.second, claim, ledger),
+            Side::First => decide(alloc, graphs, &mut self.first, claim, ledger, watch),
+            Side::Second => decide(alloc, graphs, &mut self.second, claim, ledger, watch),
         }
     }
 
     fn answer_to(&self, alloc: Global, query: &Query, ledger: &mut Ledger) -> Result<Answer, Stop> {
-        answer_to(alloc, self.graphs, query, ledger)
+        answer_to(alloc, self.graphs, query, ledger, self.watch)
+    }
+
+    fn at(&self, stage: Stage) {
+        self.watch.at(stage)
     }
 }
 
 /// Decides a claim of a circuit: by structure where its output reaches none of the shape's inputs; by a vector that was
 /// seen to break it; and else by asking.
-fn decide(
+fn decide<W: Watch>(
     alloc: Global,
     graphs: &Graphs<'_>,
     source: &mut Source<'_>,
     claim: &Claim,
     ledger: &mut Ledger,
+    watch: &W,
 ) -> Result<Evidence, Stop>
     requires placed { IsClaim graphs.now claim.now }
     requires source { IsSource (graph_of graphs.now claim.now.side) source.old }
@@ -132,7 +143,7 @@ fn decide(
         .vector_of(alloc, claim.output, claim.shape)?
     {
         Some(vector) => Ok(Evidence::Fails(vector)),
-        None => by_asking(alloc, graphs, claim, ledger),
+        None => by_asking(alloc, graphs, claim, ledger, watch),
     }
 }
 
@@ -176,11 +187,12 @@ fn by_structure(
 }
 
 /// What the answer of a claim's query says of the claim.
-fn by_asking(
+fn by_asking<W: Watch>(
     alloc: Global,
     graphs: &Graphs<'_>,
     claim: &Claim,
     ledger: &mut Ledger,
+    watch: &W,
 ) -> Result<Evidence, Stop>
     requires placed { IsClaim graphs.now claim.now }
     requires unspent { ledger.old.spent ≡ false }
@@ -191,7 +203,7 @@ fn by_asking(
     ensures stop { IfErr result (IsHalted graphs.now (claim_query graphs.now claim.now) ledger.old ledger.new) }
 {
     let query = of_claim(alloc, graphs, claim)?;
-    match answer_to(alloc, graphs, &query, ledger) {
+    match answer_to(alloc, graphs, &query, ledger, watch) {
         Ok(Answer::Vector(vector)) => {
             let vector = with_values(alloc, vector, &claim.shape)?;
             Ok(Evidence::Fails(vector))

@@ -13,16 +13,17 @@ use oracle_core::{Compared, Oracle};
 use query_core::{Claim, Ledger};
 use std::alloc::{AllocError, Global};
 use std::marker::Model;
+use watch_core::{Silent, Stage, Watch};
 
 /// Facts about two circuits. A claim is decided by structure where its output doesn't reach its inputs; then by a
 /// vector that simulation saw; and else it is asked. Each fact is kept, and so is each answer about a matching.
-/// Contracts see the book as what it knows.
+/// What the run is at goes to a watcher. Contracts see the book as what it knows.
 #[derive(Drop)]
-pub struct FactBook<'a> {
-    book: Book<Sources<'a>>,
+pub struct FactBook<'a, W: Watch = Silent> {
+    book: Book<Sources<'a, W>>,
 }
 
-impl<'a> Model for FactBook<'a> {
+impl<'a, W: Watch> Model for FactBook<'a, W> {
     ghost use Rattle.oracle_core.specs.Oracles.{Known};
 
     ghost Value = { Known };
@@ -32,7 +33,7 @@ impl<'a> Model for FactBook<'a> {
 
 impl<'a> FactBook<'a> {
     /// An empty book, which every ledger suits in which nothing was asked. The seed chooses the vectors that are
-    /// simulated.
+    /// simulated. Nobody watches.
     ///
     /// # Errors
     ///
@@ -44,14 +45,36 @@ impl<'a> FactBook<'a> {
             → ledger.spent ≡ false
             → Suits book ledger) }
     {
-        let sources = Sources::new(alloc, graphs, seed)?;
+        FactBook::watched(alloc, graphs, seed, &Silent)
+    }
+}
+
+impl<'a, W: Watch> FactBook<'a, W> {
+    /// The same, with a watcher that is told what the run is at.
+    ///
+    /// # Errors
+    ///
+    /// Only when out of memory.
+    pub fn watched(
+        alloc: Global,
+        graphs: &'a Graphs<'a>,
+        seed: u64,
+        watch: &'a W,
+    ) -> Result<FactBook<'a, W>, AllocError>
+        ensures empty { IfOk result (λ book. book ≡ record { graphs = graphs.now; facts = []; answered = [] }) }
+        ensures suits { IfOk result (λ book. (ledger : Ledgered)
+            → ledger.asked ≡ []
+            → ledger.spent ≡ false
+            → Suits book ledger) }
+    {
+        let sources = Sources::new(alloc, graphs, seed, watch)?;
         Ok(FactBook {
             book: Book::new(alloc, sources),
         })
     }
 }
 
-impl<'a> Oracle for FactBook<'a> {
+impl<'a, W: Watch> Oracle for FactBook<'a, W> {
     ghost known = { λ book. book };
 
     fn claim(&mut self, alloc: Global, claim: Claim, ledger: &mut Ledger) -> Result<u64, Stop> {
@@ -70,5 +93,9 @@ impl<'a> Oracle for FactBook<'a> {
 
     fn facts(&self) -> &[Fact] {
         self.book.facts()
+    }
+
+    fn at(&self, stage: Stage) {
+        self.book.at(stage)
     }
 }

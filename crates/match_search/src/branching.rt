@@ -28,6 +28,7 @@ use pair_search::{Impasse, Queue, branch, turn_back};
 use port_covers::cover::ports_in;
 use query_core::Ledger;
 use std::alloc::{AllocError, Global};
+use watch_core::Stage;
 
 /// Decides ports one by one, as conflict-driven solvers decide variables, until a match is found, or a ban without pairs. What
 /// follows of bans and of ports with one way left is held and deleted; from an impasse a ban is learned that leads as far back as
@@ -106,6 +107,9 @@ fn turn<O: Oracle>(
     ensures less { IfOk result (λ found. IfNone found (left domains.new < left domains.old)) }
     ensures found { IfOk result (λ found. IfSome found (IsFound graphs.now book.new)) }
 {
+    oracle.at(Stage::Banning {
+        bans: book.bans().len() as u64,
+    });
     let impasse = match ahead(alloc, graphs, oracle, guide, domains, queue, book, ledger)? {
         Ahead::Deeper => return Ok(None),
         Ahead::Match(matching, logs) => return Ok(Some(Found::Match(matching, logs))),

@@ -25,6 +25,7 @@ use oracle_core::{Compared, Oracle};
 use query_core::Ledger;
 use std::alloc::Global;
 use table_guess::Trials;
+use watch_core::Stage;
 
 /// An output that differs from its partner, and a vector on which it does.
 #[derive(Debug, Drop)]
@@ -90,6 +91,7 @@ pub(crate) fn compare_all<O: Oracle>(
 {
     let outputs = graphs.first().outputs().len() as u32;
     for output in 0..outputs {
+        oracle.at(Stage::Proving { output, outputs });
         if let Some(vector) = compare_one(alloc, oracle, matching, output, ledger, logs)? {
             return Ok(Some(Difference { output, vector }));
         }

@@ -15,6 +15,7 @@ use oracle_core::Oracle;
 use query_core::Ledger;
 use std::alloc::Global;
 use table_guess::Guesser;
+use watch_core::Stage;
 
 /// How many guessed tables are compared.
 const MOST_GUESSES: u32 = 16;
@@ -67,7 +68,8 @@ fn compare_by<O: Oracle>(
     ensures serves { Serves (O.known oracle.old) (O.known oracle.new) ledger.old ledger.new result }
     ensures shown { IfOk result (λ found. IfSome found (λ shown. IsShownMatch graphs.now shown.0 shown.1)) }
 {
-    for _ in 0..MOST_GUESSES {
+    for guesses in 0..MOST_GUESSES {
+        oracle.at(Stage::Guessing { guesses });
         match compare_guess(alloc, graphs, oracle, guesser, ledger)? {
             Guessed::Match(table, logs) => return Ok(Some((table, logs))),
             Guessed::Fails => {}

@@ -12,6 +12,7 @@ use cnf_core::{Log, Stop};
 use net_core::Matching;
 use query_core::{Claim, Ledger};
 use std::alloc::Global;
+use watch_core::Stage;
 
 /// How an output of the first circuit compares with the output that a matching sends it to.
 #[derive(Debug, Drop)]
@@ -65,4 +66,7 @@ pub trait Oracle {
     fn facts(&self) -> &[Fact]
         ensures value { result.now ≡ (known self.now).facts }
         ensures lawful { AreFacts (known self.now).graphs (known self.now).facts };
+
+    /// Whoever watches is told what the run is at. No answer depends on it.
+    fn at(&self, stage: Stage);
 }

@@ -9,6 +9,7 @@ use crate::failing::Failing;
 use crate::outside::{ShelfStop, Sink};
 use crate::safe_sink::SafeSink;
 use std::alloc::Global;
+use watch_core::{Stage, Watch};
 
 /// A sink in memory of which some calls fail, to try what a program does then. Its calls are numbered from 0. A call
 /// whose number is among those to fail counts a fault and writes nothing; each other call does what it does on a
@@ -55,5 +56,11 @@ impl Sink for MemSink {
             return Err(ShelfStop::Failed);
         }
         self.inside.put(piece)
+    }
+}
+
+impl Watch for MemSink {
+    fn at(&self, stage: Stage) {
+        self.inside.at(stage)
     }
 }

@@ -6,6 +6,7 @@ ghost use Rattle.shelf_core.specs.declared.outside.ShelfStop.TheVariants.{Memory
 
 use std::alloc::{AllocError, AllocFailed};
 use thiserror::Error;
+use watch_core::Watch;
 
 /// Why a call of a shelf or a sink was refused.
 #[derive(Clone, Copy, Debug, PartialEq, Eq, Error)]
@@ -59,8 +60,9 @@ pub trait Shelf {
         ensures { Closes tells (state self.old) (state self.new) result };
 }
 
-/// A stream of bytes that goes out of the program, as its standard output.
-pub trait Sink {
+/// A stream of bytes that goes out of the program, as its standard output. It is told what the run is at, too; that changes
+/// nothing of what it is to contracts.
+pub trait Sink: Watch {
     /// Whether the sink tells the bytes that it took. Where it doesn't, `written` of its state means nothing.
     ghost tells: { Bool };
 

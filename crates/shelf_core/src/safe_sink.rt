@@ -4,6 +4,7 @@ ghost use Rattle.shelf_core.specs.Safe.{safe_sink};
 use crate::outside::{ShelfStop, Sink};
 use std::alloc::Global;
 use std::marker::Model;
+use watch_core::{Stage, Watch};
 
 /// A sink in memory, which never fails: a call is refused only when out of memory. It means the bytes that were written.
 #[derive(Debug, Drop)]
@@ -45,5 +46,12 @@ impl Sink for SafeSink {
     fn put(&mut self, piece: &[u8]) -> Result<(), ShelfStop> {
         self.inside.extend_from_slice(piece)?;
         Ok(())
+    }
+}
+
+impl Watch for SafeSink {
+    /// Nobody watches.
+    fn at(&self, stage: Stage) {
+        let _ = stage;
     }
 }

@@ -4,24 +4,45 @@ use crate::outside::{ShelfStop, Sink};
 use std::io;
 use std::io::Write;
 use std::rt::Runtime;
+use watch_core::{Silent, Stage, Watch};
 
-/// The machine's standard output. It does not tell what was written.
+/// The machine's standard output. It does not tell what was written. What the run is at goes to its watcher.
 #[derive(Drop)]
-pub struct StdSink<R: Runtime> {
+pub struct StdSink<R: Runtime, W: Watch = Silent> {
     rt: R,
+    watch: W,
     faults: u64,
 }
 
 impl<R: Runtime> StdSink<R> {
-    /// The standard output of the runtime.
+    /// The standard output of the runtime; nobody watches.
     pub fn new(rt: R) -> StdSink<R>
         ensures { (⟦<StdSink<R> as Sink>⟧.state result).faults ≡ 0 }
     {
-        StdSink { rt, faults: 0 }
+        StdSink::watched(rt, Silent)
     }
 }
 
-impl<R: Runtime> Sink for StdSink<R> {
+impl<R: Runtime, W: Watch> StdSink<R, W> {
+    /// The standard output of the runtime, and a watcher that is told what the run is at.
+    pub fn watched(rt: R, watch: W) -> StdSink<R, W>
+        ensures { (⟦<StdSink<R, W> as Sink>⟧.state result).faults ≡ 0 }
+    {
+        StdSink {
+            rt,
+            watch,
+            faults: 0,
+        }
+    }
+}
+
+impl<R: Runtime, W: Watch> Watch for StdSink<R, W> {
+    fn at(&self, stage: Stage) {
+        self.watch.at(stage)
+    }
+}
+
+impl<R: Runtime, W: Watch> Sink for StdSink<R, W> {
     ghost tells = { false };
 
     ghost state = { λ sink. record { written = []; faults = sink.faults } };

@@ -20,6 +20,7 @@ use net_core::Graphs;
 use query_core::{Claim, Ledger, Query, of_claim};
 use std::alloc::Global;
 use std::marker::Model;
+use watch_core::Stage;
 
 /// Two circuits with as many ports, of at most 12 inputs, of which all vectors are tried. Contracts see it as the circuits.
 #[derive(Drop)]
@@ -66,6 +67,11 @@ impl<'a> Decide for AllVectors<'a> {
 
     fn answer_to(&self, alloc: Global, query: &Query, ledger: &mut Ledger) -> Result<Answer, Stop> {
         answer_to(alloc, self.graphs, query, ledger)
+    }
+
+    /// Nobody watches.
+    fn at(&self, stage: Stage) {
+        let _ = stage;
     }
 }
 

@@ -14,6 +14,7 @@ use oracle_core::{Compared, Oracle};
 use query_core::{Claim, Ledger};
 use std::alloc::{AllocError, Global};
 use std::marker::Model;
+use watch_core::Stage;
 
 /// An oracle for tests, about two circuits of at most 12 inputs. It tries all vectors on each query. Where none meets
 /// it, it splits on one input after the other, and charges each line of the log that comes of it. Contracts see it as
@@ -71,5 +72,9 @@ impl<'a> Oracle for TableOracle<'a> {
 
     fn facts(&self) -> &[Fact] {
         self.book.facts()
+    }
+
+    fn at(&self, stage: Stage) {
+        self.book.at(stage)
     }
 }

@@ -5,7 +5,7 @@ use Rattle.query_core.proofs.ClaimQueryLemmas.{meets-breaks}
 use Rattle.fact_tests.proofs.deciding.by_asking.Goals as goal
 
 pub returns-in-Ok-Vector-clause-evidence : goal.returns-in-Ok-Vector-clause-evidence
-returns-in-Ok-Vector-clause-evidence c =
+returns-in-Ok-Vector-clause-evidence g c =
     let graphs = c.args.graphs.now in
     let claim = c.args.claim.now in
     let x = c.in-Ok-Vector.vector in
