@@ -2,9 +2,10 @@
 
 use aiger_reader::read;
 use net_file::Named;
-use net_print::{put_aag, put_aig, put_blif};
+use net_print::{AagParts, AigParts, BlifParts, put_aag, put_aig, put_blif};
 use std::alloc::{AllocError, Global};
 use std::test::Fail;
+use text_out::Parts;
 
 // Whether the three texts of a netlist are these, each after a byte that stands there before.
 fn are_texts(
@@ -77,5 +78,35 @@ fn prints_a_wire_as_a_cover(rt: HostRuntime) -> Result<(), Fail> {
             b">.model npnp\n.inputs i0\n.outputs o0\n.names z\n.names i0 o0\n1 1\n.end\n",
         )?
     );
+    Ok(())
+}
+
+// How many bytes the longest part of a text has.
+fn longest_part<P: Parts + Drop>(alloc: Global, parts: P) -> Result<usize, AllocError> {
+    let mut rest = parts;
+    let mut part = Vec::new(alloc);
+    let mut longest = 0;
+    while !rest.is_done() {
+        part.clear();
+        rest.put_next(&mut part)?;
+        longest = longest.max(part.len());
+    }
+    Ok(longest)
+}
+
+fn longest_parts(alloc: Global, named: &Named) -> Result<(usize, usize, usize), AllocError> {
+    Ok((
+        longest_part(alloc, AagParts::new(named))?,
+        longest_part(alloc, AigParts::new(named))?,
+        longest_part(alloc, BlifParts::new(&named.graph))?,
+    ))
+}
+
+#[test]
+fn prints_a_line_or_a_cover_at_a_time(rt: HostRuntime) -> Result<(), Fail> {
+    let named = read(rt.alloc(), b"aag 3 2 0 2 1\n2\n4\n6\n2\n6 2 4\ni1 b c\n")?;
+    let header = b"aag 3 2 0 2 1\n".len();
+    let cover = b".names i0 i1 g0\n11 1\n".len();
+    assert_eq!(rt; longest_parts(rt.alloc(), &named)?, (header, header, cover));
     Ok(())
 }
