@@ -1,4 +1,5 @@
 pub mod Ranges
+pub mod Orders
 pub mod Parts
 pub mod Steps
 pub mod Groups

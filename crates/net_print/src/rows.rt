@@ -1,16 +1,55 @@
 //! What both forms of AIGER begin with: the header, and the lines of the outputs.
 
-ghost use Rattle.std.specs.Prelude.{◌≡◌, [], ◌∷◌, ◌++◌, map, OnOk};
+ghost use Rattle.std.specs.Prelude.{◌≡◌, [], ◌∷◌, ◌++◌, length, map, if◌then◌else◌, OnOk};
 ghost use Rattle.text_out.specs.Extends.{Extends};
 ghost use Rattle.net_print.specs.Rows.{rows_text, output_row, header_text, counts_text};
 
 use net_core::{Graph, Lit};
 use std::alloc::AllocError;
-use text_out::{put_last_number, put_number, put_text};
+use text_out::{Parts, put_last_number, put_number, put_text};
 
-/// Writes the header's line, after the keyword of a form.
+/// The header's line, after the keyword of a form.
+#[derive(Drop)]
+pub(crate) struct Header<'a> {
+    keyword: &'a [u8],
+    graph: &'a Graph,
+    is_printed: bool,
+}
+
+impl<'a> Header<'a> {
+    pub(crate) fn new(keyword: &'a [u8], graph: &'a Graph) -> Header<'a>
+        ensures { ⟦<Header<'a> as Parts>⟧.left result ≡ header_text keyword.now graph.now }
+    {
+        Header {
+            keyword,
+            graph,
+            is_printed: false,
+        }
+    }
+}
+
+impl<'a> Parts for Header<'a> {
+    ghost left = { λ header. if header.is_printed then [] else header_text header.keyword.now header.graph.now };
+
+    ghost steps = { λ header. if header.is_printed then 0 else 1 };
+
+    fn is_done(&self) -> bool {
+        self.is_printed
+    }
+
+    fn put_next(&mut self, out: &mut Vec<u8>) -> Result<(), AllocError> {
+        if self.is_printed {
+            return Ok(());
+        }
+        put_header(self.keyword, self.graph, out)?;
+        self.is_printed = true;
+        Ok(())
+    }
+}
+
+// Writes the header's line.
 #[tactic(auto, using(text_out::proofs::Extending::extends_same, text_out::proofs::Extending::extends_twice))]
-pub(crate) fn put_header(keyword: &[u8], graph: &Graph, out: &mut Vec<u8>) -> Result<(), AllocError>
+fn put_header(keyword: &[u8], graph: &Graph, out: &mut Vec<u8>) -> Result<(), AllocError>
     ensures ok { OnOk result (out.new.items ≡ out.old.items ++ header_text keyword.now graph.now) }
     ensures kept { Extends out.old.items out.new.items }
 {
@@ -32,14 +71,37 @@ fn put_counts(variables: u64, inputs: u32, out: &mut Vec<u8>) -> Result<(), Allo
     put_number(0, out)
 }
 
-/// Writes a line for each output: its literal.
-#[tactic(auto, using(text_out::proofs::Extending::extends_same, text_out::proofs::Extending::extends_twice))]
-pub(crate) fn put_output_rows(outputs: &[Lit], out: &mut Vec<u8>) -> Result<(), AllocError>
-    ensures ok { OnOk result (out.new.items ≡ out.old.items ++ rows_text (map output_row outputs.now)) }
-    ensures kept { Extends out.old.items out.new.items }
-{
-    for output in outputs.iter() {
-        put_last_number(output.0 as u64, out)?;
+/// A line for each output: its literal.
+#[derive(Drop)]
+pub(crate) struct OutputRows<'a> {
+    outputs: &'a [Lit],
+}
+
+impl<'a> OutputRows<'a> {
+    pub(crate) fn new(graph: &'a Graph) -> OutputRows<'a>
+        ensures { ⟦<OutputRows<'a> as Parts>⟧.left result ≡ rows_text (map output_row graph.now.outputs) }
+    {
+        OutputRows {
+            outputs: graph.outputs(),
+        }
     }
-    Ok(())
+}
+
+impl<'a> Parts for OutputRows<'a> {
+    ghost left = { λ rows. rows_text (map output_row rows.outputs.now) };
+
+    ghost steps = { λ rows. length rows.outputs.now };
+
+    fn is_done(&self) -> bool {
+        self.outputs.is_empty()
+    }
+
+    fn put_next(&mut self, out: &mut Vec<u8>) -> Result<(), AllocError> {
+        let [output, rest @ ..] = self.outputs else {
+            return Ok(());
+        };
+        put_last_number(output.0 as u64, out)?;
+        self.outputs = rest;
+        Ok(())
+    }
 }

@@ -4,8 +4,10 @@
 
 #![tactic(auto)]
 
+mod chain;
 mod parts;
 mod pieces;
 
-pub use parts::Parts;
+pub use chain::{Chain, Whole};
+pub use parts::{Parts, put_all};
 pub use pieces::{put_last_number, put_last_word, put_number, put_text, put_word};

@@ -16,6 +16,7 @@ pub trait Parts {
     /// Whether all of it is printed.
     fn is_done(&self) -> bool
         ensures done { IsTrue result → left self.now ≡ [] }
+        ensures last { IsTrue result → steps self.now ≡ 0 }
         ensures more { IsFalse result → 0 < steps self.now };
 
     /// Prints the next part at the end of `out`, if there is one.
@@ -27,4 +28,21 @@ pub trait Parts {
         ensures same { OnOk result (out.new.items ++ left self.new ≡ out.old.items ++ left self.old) }
         ensures fewer { OnOk result (0 < steps self.old → steps self.new < steps self.old) }
         ensures kept { Extends out.old.items out.new.items };
+}
+
+/// Prints all that is left of a text at the end of `out`.
+///
+/// # Errors
+///
+/// Only when out of memory. A first part of the text may stand in `out` then.
+#[tactic(auto, using(crate::proofs::Extending::extends_same, crate::proofs::Extending::extends_twice))]
+pub fn put_all<P: Parts + Drop>(parts: P, out: &mut Vec<u8>) -> Result<(), AllocError>
+    ensures ok { OnOk result (out.new.items ≡ out.old.items ++ P.left parts) }
+    ensures kept { Extends out.old.items out.new.items }
+{
+    let mut rest = parts;
+    while !rest.is_done() {
+        rest.put_next(out)?;
+    }
+    Ok(())
 }
