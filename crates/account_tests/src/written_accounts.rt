@@ -3,7 +3,7 @@
 ghost use Rattle.std.specs.Prelude.{◌≡◌, IfOk, length};
 
 use account_core::{Ban, Evidence, Fact, Step};
-use account_write::{last_line, put_match, put_none_ports, put_refusal};
+use account_write::{Account, last_line};
 use bit_list::Bits;
 use circuits::{Pair, PortKind};
 use cnf_core::{Log, LogLine};
@@ -12,6 +12,7 @@ use net_core::{Matching, Side};
 use query_core::{Claim, Shape};
 use std::alloc::{AllocError, Global};
 use std::test::Fail;
+use text_out::put_all;
 
 /// Input 0 goes to input 1, input 1 to input 0 inverted, and the output to the output inverted.
 fn crossed(alloc: Global) -> Result<Matching, AllocError>
@@ -39,35 +40,46 @@ fn short_log(alloc: Global) -> Result<Log, AllocError> {
     Ok(Log { lines })
 }
 
-/// Writes the match with these logs.
-fn put_crossed(alloc: Global, logs: &[Log], out: &mut Vec<u8>) -> Result<(), AllocError> {
-    let matching = crossed(alloc)?;
-    put_match(alloc, &matching, logs, out)
+/// The lines of an account up to the last one.
+fn text_of(alloc: Global, account: &Account) -> Result<Vec<u8>, AllocError> {
+    let mut text = Vec::new(alloc);
+    put_all(account.lines(), &mut text)?;
+    Ok(text)
 }
 
-/// Writes the match with one log.
-fn put_short_match(alloc: Global, out: &mut Vec<u8>) -> Result<(), AllocError> {
-    let logs = one(alloc, short_log(alloc)?)?;
-    put_crossed(alloc, &logs, out)
+/// Logs of which the second one is empty.
+fn two_logs(alloc: Global) -> Result<Items<Log>, AllocError> {
+    let mut logs = one(alloc, short_log(alloc)?)?;
+    logs.push(Log {
+        lines: Items::new(alloc),
+    })?;
+    logs.push(short_log(alloc)?)?;
+    Ok(logs)
+}
+
+/// The account of the match with these logs.
+fn crossed_account(alloc: Global, logs: Items<Log>) -> Result<Account, AllocError> {
+    let matching = crossed(alloc)?;
+    Account::of_match(alloc, &matching, logs)
 }
 
 #[test]
 fn writes_a_match(rt: HostRuntime) -> Result<(), Fail> {
-    let mut out = Vec::new(rt.alloc());
-    put_short_match(rt.alloc(), &mut out)?;
-    out.extend_from_slice(last_line())?;
+    let account = crossed_account(rt.alloc(), two_logs(rt.alloc())?)?;
+    let mut text = text_of(rt.alloc(), &account)?;
+    text.extend_from_slice(last_line())?;
     assert_eq!(rt;
-        out.as_slice(),
-        b"npnp 1\nmatch i0+1 i1-0 o0-0\nl : 4 0\nend\n".as_slice()
+        text.as_slice(),
+        b"npnp 1\nmatch i0+1 i1-0 o0-0\nl : 4 0\nl : 4 0\nend\n".as_slice()
     );
     Ok(())
 }
 
 #[test]
 fn writes_that_ports_differ(rt: HostRuntime) -> Result<(), Fail> {
-    let mut out = Vec::new(rt.alloc());
-    put_none_ports(&mut out)?;
-    assert_eq!(rt; out.as_slice(), b"npnp 1\nnone ports\n".as_slice());
+    let account = Account::of_other_ports(rt.alloc())?;
+    let text = text_of(rt.alloc(), &account)?;
+    assert_eq!(rt; text.as_slice(), b"npnp 1\nnone ports\n".as_slice());
     Ok(())
 }
 
@@ -112,25 +124,25 @@ fn mismatch(alloc: Global) -> Result<Ban, AllocError> {
     })
 }
 
-/// Writes a refusal of these facts and the ban.
-fn put_banning(alloc: Global, facts: &[Fact], out: &mut Vec<u8>) -> Result<(), AllocError> {
+/// The refusal of these facts and the ban.
+fn banning(alloc: Global, facts: Items<Fact>) -> Result<Account, AllocError> {
     let bans = one(alloc, mismatch(alloc)?)?;
-    put_refusal(facts, &bans, 3, out)
+    Account::of_refusal(alloc, facts, bans, 3)
 }
 
-/// Writes a refusal of both facts and the ban.
-fn put_short_refusal(alloc: Global, out: &mut Vec<u8>) -> Result<(), AllocError> {
+/// Both facts.
+fn two_facts(alloc: Global) -> Result<Items<Fact>, AllocError> {
     let mut facts = one(alloc, failing(alloc)?)?;
     facts.push(holding(alloc)?)?;
-    put_banning(alloc, &facts, out)
+    Ok(facts)
 }
 
 #[test]
 fn writes_a_refusal(rt: HostRuntime) -> Result<(), Fail> {
-    let mut out = Vec::new(rt.alloc());
-    put_short_refusal(rt.alloc(), &mut out)?;
+    let account = banning(rt.alloc(), two_facts(rt.alloc())?)?;
+    let text = text_of(rt.alloc(), &account)?;
     assert_eq!(rt;
-        out.as_slice(),
+        text.as_slice(),
         b"npnp 1\nfails a 0 up 1 =01\nholds b 0 down 0\nl : 4 0\nban o0-0 : mismatch 0 1\nnone ban 3\n".as_slice()
     );
     Ok(())

@@ -3,4 +3,4 @@ pub mod LogLemmas
 pub mod PairLemmas
 pub mod MatchLemmas
 pub mod RefusalLemmas
-pub mod WroteLemmas
+pub mod LineLemmas

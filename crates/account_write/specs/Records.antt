@@ -1,11 +1,12 @@
 -- The records of the account of what a search came to (this project's format): after the header, for a match its pairs and the
 -- logs that show it; for none the facts and bans, up to a ban without pairs; or that the circuits have other numbers of ports.
-use Rattle.std.specs.Prelude.{◌≡◌, ℕ, ◌+◌, Bool, List, [], ◌∷◌, ◌++◌, map, All}
+use Rattle.std.specs.Prelude.{◌≡◌, ℕ, ◌+◌, ◌<◌, Bool, List, [], ◌∷◌, ◌++◌, length, map, All}
 use Rattle.std.specs.List.{flat_map}
 use Rattle.circuits.specs.declared.port.Pair.{Pair}
 use Rattle.circuits.specs.declared.port.PortKind.{PortKind}
 use Rattle.circuits.specs.declared.port.PortKind.TheVariants.{Input, Output}
 use Rattle.cnf_core.specs.declared.log.Log.{Log}
+use Rattle.cnf_core.specs.declared.log.LogLine.{LogLine}
 use Rattle.net_core.specs.declared.matching.Matching.{Matching}
 use Rattle.query_core.specs.declared.claims.Claim.{Claim}
 use Rattle.account_core.specs.declared.conclusion.Conclusion.TheVariants as conclusion
@@ -18,6 +19,8 @@ use Rattle.account_core.specs.Covers.{way}
 use Rattle.account_file.specs.declared.record.Record.{Record}
 use Rattle.account_file.specs.declared.record.Record.TheVariants as entry
 use Rattle.account_file.specs.Spelling.{record_line, IsWritable}
+use Rattle.account_write.specs.declared.account.Account.{Account}
+use Rattle.account_write.specs.declared.lines.Lines.{Lines}
 
 -- where each port of a kind goes, from port `first` on, as pairs
 abbrev pub pairs_from : PortKind → ℕ → List (ℕ × Bool) → List Pair
@@ -64,7 +67,40 @@ none_ports_records = entry.Header ∷ entry.Conclusion conclusion.NonePorts ∷ 
 abbrev pub account_of : List Record → List ℕ
 account_of records = lines_of records ++ record_line entry.End
 
--- Records were written after a text: their lines, which can be read back.
-pub record Wrote (before after : List ℕ) (records : List Record) : Type 0 where
-  pub lines : after ≡ before ++ lines_of records
-  pub writable : All IsWritable records
+-- the line of a fact, and the lines of its log
+abbrev pub head_of : Claim → Evidence → Record
+head_of claim (evidence.Fails bits) = entry.Fact (head.Fails claim bits)
+head_of claim (evidence.Holds log) = entry.Fact (head.Holds claim)
+
+abbrev pub log_lines : Evidence → List LogLine
+log_lines (evidence.Fails bits) = []
+log_lines (evidence.Holds log) = log.lines
+
+-- records, the lines of a log, those of facts, of logs and of bans, and records again
+abbrev pub in_order : List Record → List LogLine → List Fact → List Log → List Ban → List Record → List Record
+in_order front log facts logs bans back =
+    front
+    ++ (map (λ line. entry.Line line) log
+    ++ (flat_map fact_records facts
+    ++ (flat_map log_records logs
+    ++ (map (λ ban. entry.Ban ban) bans ++ back))))
+
+-- the records of an account, up to the last line
+abbrev pub records_of : Account → List Record
+records_of account = in_order account.front [] account.facts account.logs account.bans account.back
+
+-- the records of an account that are still to be printed: what is left of a log that was begun comes before the next fact
+abbrev pub records_left : Lines → List Record
+records_left lines = in_order lines.front.now lines.log.now lines.facts.now lines.logs.now lines.bans.now lines.back.now
+
+-- how many steps are left: one for each record, and one for each log that is to be begun
+abbrev pub steps_left : Lines → ℕ
+steps_left lines = length (records_left lines) + length lines.logs.now
+
+-- One step was taken: a line was printed, or a log was begun.
+pub record Steps (old new : Lines) (before after : List ℕ) : Type 0 where
+  -- what was printed and what is left are the same text as before
+  pub lines : after ++ lines_of (records_left new) ≡ before ++ lines_of (records_left old)
+  -- what was printed can be read back
+  pub writable : All IsWritable (records_left new) → All IsWritable (records_left old)
+  pub fewer : 0 < steps_left old → steps_left new < steps_left old

@@ -1,8 +1,10 @@
 //! Writes the account of what a search came to. The account is accepted where what the search came to is so.
 #![tactic(auto)]
 
+mod account;
 mod laws;
-mod writing;
+mod lines;
 
+pub use account::Account;
 pub use laws::{match_is_accepted, none_ports_is_accepted, refusal_is_accepted};
-pub use writing::{last_line, put_match, put_none_ports, put_refusal};
+pub use lines::{Lines, last_line};

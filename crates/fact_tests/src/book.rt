@@ -4,6 +4,7 @@ ghost use Rattle.std.specs.Prelude.{◌≡◌, ◌≢◌, ◌<◌, [], false, tr
 ghost use Rattle.circuits.specs.Matches.{HavePorts};
 ghost use Rattle.cnf_core.specs.Derivations.{IsRefutation};
 ghost use Rattle.query_core.specs.Claims.{IsClaim};
+ghost use Rattle.account_core.specs.Facts.{AreFacts};
 ghost use Rattle.query_core.specs.Formulas.{formula_of};
 ghost use Rattle.query_core.specs.Ledgers.{Ledgered};
 ghost use Rattle.query_core.specs.MatchQueries.{match_query};
@@ -19,6 +20,7 @@ use account_core::Fact;
 use ask_core::Answer;
 use bit_list::Bits;
 use cnf_core::{Log, Stop};
+use items::Items;
 use net_core::Matching;
 use oracle_core::{Compared, Oracle};
 use query_core::{Claim, Ledger, Query, of_match};
@@ -58,6 +60,16 @@ impl<D: Decide> Book<D> {
             facts: FactList::new(alloc),
             kept: AnswerMap::new(alloc),
         }
+    }
+
+    /// The facts, in the order of their numbers; what else is known is let go. It takes no memory.
+    pub fn into_facts(self) -> Items<Fact>
+    where
+        D: Drop,
+        ensures value { result ≡ self.facts }
+        ensures lawful { AreFacts self.graphs result }
+    {
+        self.facts.into_items()
     }
 
     /// Decides a claim that has no fact.

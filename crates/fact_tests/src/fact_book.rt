@@ -2,12 +2,14 @@
 
 ghost use Rattle.std.specs.Prelude.{◌≡◌, [], false, IfOk};
 ghost use Rattle.query_core.specs.Ledgers.{Ledgered};
+ghost use Rattle.account_core.specs.Facts.{AreFacts};
 ghost use Rattle.oracle_core.specs.Oracles.{Suits};
 
 use crate::book::Book;
 use crate::deciding::Sources;
 use account_core::Fact;
 use cnf_core::Stop;
+use items::Items;
 use net_core::{Graphs, Matching};
 use oracle_core::{Compared, Oracle};
 use query_core::{Claim, Ledger};
@@ -71,6 +73,14 @@ impl<'a, W: Watch> FactBook<'a, W> {
         Ok(FactBook {
             book: Book::new(alloc, sources),
         })
+    }
+
+    /// The facts, in the order of their numbers; what else is known is let go. It takes no memory.
+    pub fn into_facts(self) -> Items<Fact>
+        ensures value { result ≡ self.entry.facts }
+        ensures lawful { AreFacts self.entry.graphs result }
+    {
+        self.book.into_facts()
     }
 }
 

@@ -5,6 +5,7 @@ ghost use Rattle.oracle_core.specs.Oracles.{IsNumberOf};
 
 use account_core::Fact;
 use indexmap::IndexSet;
+use items::Items;
 use query_core::Claim;
 use std::alloc::{AllocError, Global};
 use std::marker::Model;
@@ -68,5 +69,13 @@ impl FactList {
         ensures { result.now ≡ self.now }
     {
         self.facts.as_slice()
+    }
+
+    /// The facts as a list, in the order of their numbers. It takes no memory.
+    pub fn into_items(self) -> Items<Fact>
+        ensures { result ≡ self }
+    {
+        let FactList { facts, claims: _ } = self;
+        Items::from_vec(facts)
     }
 }

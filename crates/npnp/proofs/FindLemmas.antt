@@ -140,9 +140,8 @@ no_room graphs budget result is = subst (Solves graphs budget) (sym is) (record 
 
 -- what an oracle knows, by equal values
 
-pub facts_for : (graphs : Graphs) (known old : Known) (facts : List Fact) → known.graphs ≡ old.graphs → graphs ≡ old.graphs → facts ≡ known.facts → AreFacts known.graphs known.facts → AreFacts graphs facts
-facts_for graphs known old facts same first are lawful =
-    subst (λ (fs : List Fact). AreFacts graphs fs) (sym are) (subst (λ (g : Graphs). AreFacts g known.facts) (same ∙ sym first) lawful)
+pub facts_for : (graphs : Graphs) (known old : Known) (facts : List Fact) → known.graphs ≡ old.graphs → graphs ≡ old.graphs → AreFacts known.graphs facts → AreFacts graphs facts
+facts_for graphs known old facts same first lawful = subst (λ (g : Graphs). AreFacts g facts) (same ∙ sym first) lawful
 
 pub bans_for : (graphs : Graphs) (known facts : List Fact) (held bans : List Ban) → facts ≡ known → bans ≡ held → AreValidBans graphs (map decided_by known) held → AreValidBans graphs (map decided_by facts) bans
 bans_for graphs known facts held bans are same valid =

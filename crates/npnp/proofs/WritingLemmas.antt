@@ -1,154 +1,200 @@
 -- First parts of a text that is written in pieces.
-use Rattle.std.proofs.Common.{◌≡◌, ◌≢◌, ◌⊎◌, ℕ, ◌+◌, ◌<◌, ◌≤◌, min, inl, inr, Bool, IsTrue, List, ◌++◌, length, take, drop, Option, Some, Result, Ok, Err, OnOk, OnErr, refl, sym, ◌∙◌, ap, subst, arith, length-take}
+use Rattle.std.proofs.Common.{◌≡◌, ◌⊎◌, ℕ, ◌+◌, ◌≤◌, min, inl, inr, Bool, IsTrue, List, [], ◌++◌, length, take, drop, Option, Some, Result, Ok, Err, OnOk, OnErr, refl, sym, ◌∙◌, ap, subst, arith, append_assoc}
 use Rattle.std.specs.List.{between}
-use Rattle.std.proofs.lemmas.List.{take-append-drop, take-take, take_all, take_at, take-append-le, take_min, drop-take, drop_at}
+use Rattle.std.proofs.lemmas.List.{append-nil, length-take-le, take-append-drop, take-take, take_all, take_at, take-append-le, take_min, drop-append-le, drop-take, drop_at}
 use Rattle.std.proofs.lemmas.Slice.{between_is}
-use Rattle.npnp.specs.Files.{FillsFile, FillsOn, HoldsFirst, WritesFile}
+use Rattle.npnp.specs.Files.{HoldsFirst, WritesFile, WritesOn}
 use Rattle.npnp.proofs.CheckLemmas.{rose_later}
 use Rattle.shelf_core.specs.Calls.{Appends, Closes, Creates}
 use Rattle.shelf_core.specs.State.{ShelfState, Writing, grown}
 use Rattle.shelf_core.specs.declared.outside.ShelfStop.{ShelfStop}
-use Rattle.shelf_core.specs.declared.outside.ShelfStop.TheVariants.{Failed}
+use Rattle.shelf_core.specs.declared.outside.ShelfStop.TheVariants.{Memory}
 
 take_plus : (m k : ℕ) (xs : List ℕ) → take (m + k) xs ≡ take m xs ++ take k (drop m xs)
 take_plus m k xs =
     sym (take-append-drop m (take (m + k) xs)) ∙ (ap (λ ys. ys ++ drop m (take (m + k) xs)) (take-take m (m + k) xs (omega arith)) ∙ ap (λ ys. take m xs ++ ys) (drop-take m k xs))
 
--- the next piece after what was written
-pub fill_more : (text : List ℕ) (done end : ℕ) → done ≤ end → take done text ++ between done end text ≡ take end text
-fill_more text done end le =
-    ap (λ ys. take done text ++ ys) (between_is text done end) ∙ (ap (λ ys. ys ++ drop done (take end text)) (sym (take-take done end text le)) ∙ take-append-drop done (take end text))
+-- a first part of a text is one of a text that goes on
+first_of : (text more : List ℕ) (k : ℕ) → (count : ℕ) × (take k text ≡ take count (text ++ more))
+first_of text more k =
+    let least = min k (length text) in
+    (least, sym (take_min k text) ∙ sym (take-append-le least text more (omega arith)))
 
--- a first part of it
-pub fill_part : (text : List ℕ) (done end k : ℕ) → done ≤ end → end ≤ length text → (count : ℕ) × (take done text ++ take k (between done end text) ≡ take count text)
-fill_part text done end k le within =
-    let whole = take end text in
-    let size = length whole in
-    let is : size ≡ min end (length text) = length-take end text in
-    let count = min (done + k) size in (
-      count,
-      ap (λ ys. take done text ++ take k ys) (between_is text done end)
-          ∙ (ap (λ ys. ys ++ take k (drop done whole)) (sym (take-take done end text le))
-          ∙ (sym (take_plus done k whole)
-          ∙ (sym (take_min (done + k) whole)
-          ∙ take-take count end text (omega (arith, is))))),
-    )
+-- and so is a text with a first part of what comes after it
+first_behind : (text more : List ℕ) (k : ℕ) → text ++ take k more ≡ take (length text + k) (text ++ more)
+first_behind text more k =
+    sym (take_plus (length text) k (text ++ more) ∙ (ap (λ ys. ys ++ take k (drop (length text) (text ++ more))) (take_at text more (length text) refl) ∙ ap (λ ys. text ++ take k ys) (drop_at text more (length text) refl)))
 
--- a first part of the lines is one of the whole account
-pub first_of_lines : (lines last : List ℕ) (content : Option (List ℕ)) → HoldsFirst lines content → HoldsFirst (lines ++ last) content
-first_of_lines lines last content (count, is) =
-    let least = min count (length lines) in
-    (least, is ∙ ap Some (sym (take_min count lines) ∙ sym (take-append-le least lines last (omega arith))))
-
--- and so is the lines with a first part of the last one
-pub first_behind : (lines last : List ℕ) (k : ℕ) → lines ++ take k last ≡ take (length lines + k) (lines ++ last)
-first_behind lines last k =
-    sym (take_plus (length lines) k (lines ++ last) ∙ (ap (λ ys. ys ++ take k (drop (length lines) (lines ++ last))) (take_at lines last (length lines) refl) ∙ ap (λ ys. lines ++ take k ys) (drop_at lines last (length lines) refl)))
-
-pub whole_first : (text : List ℕ) (content : Option (List ℕ)) → content ≡ Some text → HoldsFirst text content
+whole_first : (text : List ℕ) (content : Option (List ℕ)) → content ≡ Some text → HoldsFirst text content
 whole_first text content is = (length text, is ∙ ap Some (sym (take_all (length text) text (omega arith))))
 
--- How far a text was written to the open file.
-pub record IsFilling (tells : Bool) (text : List ℕ) (start now : ShelfState) (done : ℕ) : Type 0 where
-  pub writing : now.mode ≡ Writing
-  pub name_is : now.name ≡ start.name
-  pub within : done ≤ length text
-  pub held_is : IsTrue tells → now.held now.name ≡ Some (take done text)
-  pub others : IsTrue tells → (n : List ℕ) → n ≢ start.name → now.held n ≡ start.held n
-  pub faults : start.faults ≤ now.faults
-
--- a refusal is the same one in every answer
-same_stop : (a b : ShelfStop) (r : Result ℕ ShelfStop) → r ≡ Err a → r ≡ Err b → a ≡ b
-same_stop a b r one other = cc
-
--- the next piece was written
-pub filled_on : (tells : Bool) (text : List ℕ) (done end : ℕ) (old new : ShelfState)
-    → (IsTrue tells → old.held old.name ≡ Some (take done text))
-    → done < end
-    → end ≤ length text
-    → Appends tells (between done end text) old new (Ok tt)
-    → FillsOn tells text done old new (Ok end)
-filled_on tells text done end old new held less within appends = record {
-  others = λ t n other. appends.others n other;
-  writing = appends.mode;
-  named = appends.named;
-  more = (less, within);
-  whole = λ t. appends.whole t ∙ (ap (λ content. grown content (between done end text)) (held t) ∙ ap Some (fill_more text done end (omega (arith, less))));
-  part = λ t. tt;
-  faults = appends.faults;
+-- nothing was written yet
+pub written_none : (tells : Bool) (pending : List ℕ) (now : ShelfState) → now.mode ≡ Writing → WritesOn tells pending pending now now (Ok tt)
+written_none tells pending now writing = record {
+  others = λ t n other. refl;
+  writing = writing;
+  named = refl;
+  whole = λ t there is. ([], refl, is ∙ ap Some (sym (append-nil there)));
+  part = λ t there is. tt;
+  faults = omega arith;
   failed = λ e. cc;
 }
 
--- or refused
-pub not_filled_on : (tells : Bool) (text : List ℕ) (done end : ℕ) (old new : ShelfState) (stop : ShelfStop) (result : Result ℕ ShelfStop)
-    → result ≡ Err stop
-    → (IsTrue tells → old.held old.name ≡ Some (take done text))
-    → done < end
-    → end ≤ length text
-    → Appends tells (between done end text) old new (Err stop)
-    → FillsOn tells text done old new result
-not_filled_on tells text done end old new stop result is held less within appends =
-    subst (λ r. FillsOn tells text done old new r) (sym is) (record {
-      others = λ t n other. appends.others n other;
-      writing = tt;
-      named = appends.named;
-      more = tt;
-      whole = λ t. tt;
-      part = λ t.
-          let k = (appends.part t).0 in
-          let first = fill_part text done end k (omega (arith, less)) within in
-          (first.0, (appends.part t).1 ∙ (ap (λ content. grown content (take k (between done end text))) (held t) ∙ ap Some first.1));
-      faults = appends.faults;
-      failed = λ e. appends.failed (ap Err (same_stop stop Failed (Err stop) refl e));
-    })
+-- a piece was appended, or a first part of it
+pub written_one : (tells : Bool) (piece left : List ℕ) (old new : ShelfState) (result : Result (Unit {0}) ShelfStop)
+    → Appends tells piece old new result
+    → WritesOn tells (piece ++ left) left old new result
+written_one tells piece left old new (Ok done) appends = record {
+  others = λ t n other. appends.others n other;
+  writing = appends.mode;
+  named = appends.named;
+  whole = λ t there is. (piece, refl, appends.whole t ∙ ap (λ content. grown content piece) is);
+  part = λ t there is. tt;
+  faults = appends.faults;
+  failed = appends.failed;
+}
+written_one tells piece left old new (Err stop) appends = record {
+  others = λ t n other. appends.others n other;
+  writing = appends.mode;
+  named = appends.named;
+  whole = λ t there is. tt;
+  part = λ t there is.
+      let k = (appends.part t).0 in
+      let first = first_of piece left k in
+      (first.0, (appends.part t).1 ∙ (ap (λ content. grown content (take k piece)) is ∙ ap (λ bytes. Some (there ++ bytes)) first.1));
+  faults = appends.faults;
+  failed = appends.failed;
+}
 
--- the lines weren't written
-pub not_filled : (tells : Bool) (lines last : List ℕ) (old new : ShelfState) (stop : ShelfStop) (result : Result (Unit {0}) ShelfStop)
-    → result ≡ Err stop
-    → FillsFile tells lines old new (Err stop)
-    → FillsFile tells (lines ++ last) old new result
-not_filled tells lines last old new stop result is fills =
-    subst (λ r. FillsFile tells (lines ++ last) old new r) (sym is) (record {
-      others = fills.others;
-      writing = tt;
-      named = fills.named;
-      whole = λ t. tt;
-      part = λ t. first_of_lines lines last (new.held old.name) (fills.part t);
-      faults = fills.faults;
-      failed = λ e. fills.failed e;
-    })
-
--- the last line is written after them, or refused
-pub filled : (tells : Bool) (lines last : List ℕ) (old middle new : ShelfState) (result : Result (Unit {0}) ShelfStop)
-    → FillsFile tells lines old middle (Ok tt)
-    → Appends tells last middle new result
-    → FillsFile tells (lines ++ last) old new result
-filled tells lines last old middle new result fills appends = record {
-  others = λ t n other. appends.others n (λ e. other (e ∙ fills.named)) ∙ fills.others t n other;
-  writing = written_mode result;
-  named = appends.named ∙ fills.named;
-  whole = λ t. whole t result appends;
-  part = λ t. part t result appends;
-  faults = omega (arith, fills.faults, appends.faults);
-  failed = λ e. rose_later old.faults middle.faults new.faults fills.faults appends.faults (appends.failed e);
+-- writing goes on
+pub written_then : (tells : Bool) (pending middle left : List ℕ) (old now new : ShelfState) (result : Result (Unit {0}) ShelfStop)
+    → WritesOn tells pending middle old now (Ok tt)
+    → WritesOn tells middle left now new result
+    → WritesOn tells pending left old new result
+written_then tells pending middle left old now new result first then = record {
+  others = λ t n other. then.others t n (λ e. other (e ∙ first.named)) ∙ first.others t n other;
+  writing = then.writing;
+  named = then.named ∙ first.named;
+  whole = λ t there is. whole t there is result then;
+  part = λ t there is. part t there is result then;
+  faults = omega (arith, first.faults, then.faults);
+  failed = λ e. rose_later old.faults now.faults new.faults first.faults then.faults (then.failed e);
 }
   where
-    written_mode : (r : Result (Unit {0}) ShelfStop) → OnOk r (new.mode ≡ Writing)
-    written_mode (Ok x) = appends.mode
-    written_mode (Err stop) = tt
+    held : IsTrue tells → (there : List ℕ) (is : old.held old.name ≡ Some there) → (piece : List ℕ) × (pending ≡ piece ++ middle) × (now.held now.name ≡ Some (there ++ piece))
+    held t there is = let one = first.whole t there is in (one.0, one.1, ap now.held first.named ∙ one.2)
 
-    there : IsTrue tells → middle.held middle.name ≡ Some lines
-    there t = ap middle.held fills.named ∙ fills.whole t
+    whole : IsTrue tells → (there : List ℕ) → old.held old.name ≡ Some there → (r : Result (Unit {0}) ShelfStop) → WritesOn tells middle left now new r
+        → OnOk r ((piece : List ℕ) × (pending ≡ piece ++ left) × (new.held old.name ≡ Some (there ++ piece)))
+    whole t there is (Ok x) next =
+        let one = held t there is in
+        let two = next.whole t (there ++ one.0) one.2 in (
+          one.0 ++ two.0,
+          one.1 ∙ (ap (λ bytes. one.0 ++ bytes) two.1 ∙ sym (append_assoc one.0 two.0 left)),
+          ap new.held (sym first.named) ∙ (two.2 ∙ ap Some (append_assoc there one.0 two.0)),
+        )
+    whole t there is (Err stop) next = tt
 
-    whole : IsTrue tells → (r : Result (Unit {0}) ShelfStop) → Appends tells last middle new r → OnOk r (new.held old.name ≡ Some (lines ++ last))
-    whole t (Ok x) appended = ap new.held (sym fills.named) ∙ (appended.whole t ∙ ap (λ content. grown content last) (there t))
-    whole t (Err stop) appended = tt
+    part : IsTrue tells → (there : List ℕ) → old.held old.name ≡ Some there → (r : Result (Unit {0}) ShelfStop) → WritesOn tells middle left now new r
+        → OnErr r ((count : ℕ) × (new.held old.name ≡ Some (there ++ take count pending)))
+    part t there is (Ok x) next = tt
+    part t there is (Err stop) next =
+        let one = held t there is in
+        let two = next.part t (there ++ one.0) one.2 in (
+          length one.0 + two.0,
+          ap new.held (sym first.named)
+              ∙ (two.1
+              ∙ ap Some (append_assoc there one.0 (take two.0 middle)
+              ∙ ap (λ bytes. there ++ bytes) (first_behind one.0 middle two.0 ∙ ap (take (length one.0 + two.0)) (sym one.1)))),
+        )
 
-    part : IsTrue tells → (r : Result (Unit {0}) ShelfStop) → Appends tells last middle new r → OnErr r (HoldsFirst (lines ++ last) (new.held old.name))
-    part t (Ok x) appended = tt
-    part t (Err stop) appended =
-        let k = (appended.part t).0 in
-        (length lines + k, ap new.held (sym fills.named) ∙ ((appended.part t).1 ∙ (ap (λ content. grown content (take k last)) (there t) ∙ ap Some (first_behind lines last k))))
+-- as much is still to be written in another form
+pub written_as : (tells : Bool) (pending other left : List ℕ) (old new : ShelfState) (result : Result (Unit {0}) ShelfStop)
+    → other ≡ pending
+    → WritesOn tells other left old new result
+    → WritesOn tells pending left old new result
+written_as tells pending other left old new result is writes = subst (λ bytes. WritesOn tells bytes left old new result) is writes
+
+-- more comes after what was to be written
+pub written_before : (tells : Bool) (pending left more : List ℕ) (old new : ShelfState) (result : Result (Unit {0}) ShelfStop)
+    → WritesOn tells pending left old new result
+    → WritesOn tells (pending ++ more) (left ++ more) old new result
+written_before tells pending left more old new (Ok done) writes = record {
+  others = writes.others;
+  writing = writes.writing;
+  named = writes.named;
+  whole = λ t there is.
+      let one = writes.whole t there is in
+      (one.0, ap (λ bytes. bytes ++ more) one.1 ∙ append_assoc one.0 left more, one.2);
+  part = λ t there is. tt;
+  faults = writes.faults;
+  failed = writes.failed;
+}
+written_before tells pending left more old new (Err stop) writes = record {
+  others = writes.others;
+  writing = writes.writing;
+  named = writes.named;
+  whole = λ t there is. tt;
+  part = λ t there is.
+      let one = writes.part t there is in
+      let first = first_of pending more one.0 in
+      (first.0, one.1 ∙ ap (λ bytes. Some (there ++ bytes)) first.1);
+  faults = writes.faults;
+  failed = writes.failed;
+}
+
+-- memory ran out after some of it was written
+pub written_out_of_memory : (tells : Bool) (pending left other : List ℕ) (old new : ShelfState) (result : Result (Unit {0}) ShelfStop)
+    → result ≡ Err Memory
+    → WritesOn tells pending left old new (Ok tt)
+    → WritesOn tells pending other old new result
+written_out_of_memory tells pending left other old new result is writes =
+    subst (λ r. WritesOn tells pending other old new r) (sym is) (record {
+      others = writes.others;
+      writing = writes.writing;
+      named = writes.named;
+      whole = λ t there held. tt;
+      part = λ t there held.
+          let one = writes.whole t there held in
+          (length one.0, one.2 ∙ ap (λ bytes. Some (there ++ bytes)) (sym (take_at one.0 left (length one.0) refl) ∙ ap (take (length one.0)) (sym one.1)));
+      faults = writes.faults;
+      failed = λ e. cc;
+    })
+
+-- a refusal is the same one for each answer
+pub not_written_on : (tells : Bool) (pending left other : List ℕ) (old new : ShelfState) (stop : ShelfStop) (result : Result (Unit {0}) ShelfStop)
+    → result ≡ Err stop
+    → WritesOn tells pending left old new (Err stop)
+    → WritesOn tells pending other old new result
+not_written_on tells pending left other old new stop result is writes =
+    subst (λ r. WritesOn tells pending other old new r) (sym is) (record {
+      others = writes.others;
+      writing = writes.writing;
+      named = writes.named;
+      whole = λ t there held. tt;
+      part = writes.part;
+      faults = writes.faults;
+      failed = writes.failed;
+    })
+
+-- a piece of a text, and what comes after it
+pub piece_of : (text : List ℕ) (done end : ℕ) → done ≤ end → end ≤ length text → between done end text ++ drop end text ≡ drop done text
+piece_of text done end le within =
+    ap (λ piece. piece ++ drop end text) (between_is text done end)
+    ∙ (sym (drop-append-le done (take end text) (drop end text) (omega (arith, le, length-take-le end text within)))
+    ∙ ap (drop done) (take-append-drop end text))
+
+-- the next piece was appended
+pub written_piece : (tells : Bool) (text : List ℕ) (done end : ℕ) (old now new : ShelfState) (result : Result (Unit {0}) ShelfStop)
+    → done ≤ end
+    → end ≤ length text
+    → WritesOn tells text (drop done text) old now (Ok tt)
+    → Appends tells (between done end text) now new result
+    → WritesOn tells text (drop end text) old new result
+written_piece tells text done end old now new result le within first appends =
+    written_then tells text (drop done text) (drop end text) old now new result first
+    (written_as tells (drop done text) (between done end text ++ drop end text) (drop end text) now new result (piece_of text done end le within)
+    (written_one tells (between done end text) (drop end text) now new result appends))
 
 -- the file wasn't made
 pub not_created : (tells : Bool) (name text : List ℕ) (old new : ShelfState) (stop : ShelfStop) (result : Result (Unit {0}) ShelfStop)
@@ -164,37 +210,44 @@ not_created tells name text old new stop result is creates =
       failed = λ e. creates.failed e;
     })
 
+made_empty : (tells : Bool) (name : List ℕ) (old made : ShelfState) → Creates tells name old made (Ok tt) → IsTrue tells → made.held made.name ≡ Some []
+made_empty tells name old made creates t = ap made.held (creates.named t) ∙ creates.empty t
+
 -- it was made, and not filled
-pub not_written : (tells : Bool) (name text : List ℕ) (old middle new : ShelfState) (stop : ShelfStop) (result : Result (Unit {0}) ShelfStop)
+pub not_written : (tells : Bool) (name text : List ℕ) (old made new : ShelfState) (stop : ShelfStop) (result : Result (Unit {0}) ShelfStop)
     → result ≡ Err stop
-    → Creates tells name old middle (Ok tt)
-    → FillsFile tells text middle new (Err stop)
+    → Creates tells name old made (Ok tt)
+    → WritesOn tells text [] made new (Err stop)
     → WritesFile tells name text old new result
-not_written tells name text old middle new stop result is creates fills =
+not_written tells name text old made new stop result is creates writes =
     subst (λ r. WritesFile tells name text old new r) (sym is) (record {
-      others = λ t n other. fills.others t n (λ e. other (e ∙ creates.named t)) ∙ creates.others n other;
+      others = λ t n other. writes.others t n (λ e. other (e ∙ creates.named t)) ∙ creates.others n other;
       whole = λ t. tt;
-      part = λ t. inr (subst (λ n. HoldsFirst text (new.held n)) (creates.named t) (fills.part t));
-      faults = omega (arith, creates.faults, fills.faults);
-      failed = λ e. rose_later old.faults middle.faults new.faults creates.faults fills.faults (fills.failed e);
+      part = λ t.
+          let first = writes.part t [] (made_empty tells name old made creates t) in
+          inr (first.0, ap new.held (sym (creates.named t)) ∙ first.1);
+      faults = omega (arith, creates.faults, writes.faults);
+      failed = λ e. rose_later old.faults made.faults new.faults creates.faults writes.faults (writes.failed e);
     })
 
 -- it was filled, and closed or not
 pub closed : (tells : Bool) (name text : List ℕ) (old made full new : ShelfState) (result : Result (Unit {0}) ShelfStop)
     → Creates tells name old made (Ok tt)
-    → FillsFile tells text made full (Ok tt)
+    → WritesOn tells text [] made full (Ok tt)
     → Closes tells full new result
     → WritesFile tells name text old new result
-closed tells name text old made full new result creates fills closes = record {
-  others = λ t n other. closes.files n ∙ (fills.others t n (λ e. other (e ∙ creates.named t)) ∙ creates.others n other);
+closed tells name text old made full new result creates writes closes = record {
+  others = λ t n other. closes.files n ∙ (writes.others t n (λ e. other (e ∙ creates.named t)) ∙ creates.others n other);
   whole = λ t. whole t result;
   part = λ t. part t result;
-  faults = omega (arith, creates.faults, fills.faults, closes.faults);
-  failed = λ e. rose_later old.faults full.faults new.faults (omega (arith, creates.faults, fills.faults)) closes.faults (closes.failed e);
+  faults = omega (arith, creates.faults, writes.faults, closes.faults);
+  failed = λ e. rose_later old.faults full.faults new.faults (omega (arith, creates.faults, writes.faults)) closes.faults (closes.failed e);
 }
   where
     there : IsTrue tells → new.held name ≡ Some text
-    there t = closes.files name ∙ subst (λ n. full.held n ≡ Some text) (creates.named t) (fills.whole t)
+    there t =
+        let all = writes.whole t [] (made_empty tells name old made creates t) in
+        closes.files name ∙ (ap full.held (sym (creates.named t)) ∙ (all.2 ∙ ap Some (sym (all.1 ∙ append-nil all.0))))
 
     whole : IsTrue tells → (r : Result (Unit {0}) ShelfStop) → OnOk r (new.held name ≡ Some text)
     whole t (Ok x) = there t

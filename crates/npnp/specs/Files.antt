@@ -57,23 +57,17 @@ pub record WritesFile (tells : Bool) (name text : List ℕ) (old new : ShelfStat
   pub faults : old.faults ≤ new.faults
   pub failed : result ≡ Err Failed → Rose old.faults new.faults
 
--- Writing a text to the open file, which was empty.
-pub record FillsFile (tells : Bool) (text : List ℕ) (old new : ShelfState) (result : Result (Unit {0}) ShelfStop) : Type 0 where
+-- Writing to the open file the next bytes of what is still to be written of a text: `pending` before, and `left` afterwards.
+pub record WritesOn (tells : Bool) (pending left : List ℕ) (old new : ShelfState)
+    (result : Result (Unit {0}) ShelfStop) : Type 0 where
+  -- no other file changes, and the same file stays open for writing
   pub others : IsTrue tells → (n : List ℕ) → n ≢ old.name → new.held n ≡ old.held n
-  pub writing : OnOk result (new.mode ≡ Writing)
+  pub writing : new.mode ≡ Writing
   pub named : new.name ≡ old.name
-  pub whole : IsTrue tells → OnOk result (new.held old.name ≡ Some text)
-  pub part : IsTrue tells → OnErr result (HoldsFirst text (new.held old.name))
-  pub faults : old.faults ≤ new.faults
-  pub failed : result ≡ Err Failed → Rose old.faults new.faults
-
--- Writing the next piece of a text to the open file, which held its first bytes, and holds n afterwards.
-pub record FillsOn (tells : Bool) (text : List ℕ) (done : ℕ) (old new : ShelfState) (result : Result ℕ ShelfStop) : Type 0 where
-  pub others : IsTrue tells → (n : List ℕ) → n ≢ old.name → new.held n ≡ old.held n
-  pub writing : IfOk result (λ end. new.mode ≡ Writing)
-  pub named : new.name ≡ old.name
-  pub more : IfOk result (λ end. (done < end) × (end ≤ length text))
-  pub whole : IsTrue tells → IfOk result (λ end. new.held old.name ≡ Some (take end text))
-  pub part : IsTrue tells → OnErr result (HoldsFirst text (new.held old.name))
+  -- the file grows by what isn't left any more, and on a refusal by some first part of what is still to be written
+  pub whole : IsTrue tells → (there : List ℕ) → old.held old.name ≡ Some there
+      → OnOk result ((piece : List ℕ) × (pending ≡ piece ++ left) × (new.held old.name ≡ Some (there ++ piece)))
+  pub part : IsTrue tells → (there : List ℕ) → old.held old.name ≡ Some there
+      → OnErr result ((count : ℕ) × (new.held old.name ≡ Some (there ++ take count pending)))
   pub faults : old.faults ≤ new.faults
   pub failed : result ≡ Err Failed → Rose old.faults new.faults

@@ -14,8 +14,7 @@ use Rattle.query_core.specs.Ledgers.{Ledgered}
 use Rattle.account_check.specs.Verdicts.{IsAccepted as Proves, IsRejected as IsBadAt}
 use Rattle.account_check.specs.declared.verdict.Verdict.{Verdict}
 use Rattle.account_check.specs.declared.verdict.Verdict.TheVariants as verdict
-use Rattle.account_file.specs.Spelling.{record_line}
-use Rattle.account_file.specs.declared.record.Record.TheVariants as entry
+use Rattle.account_write.specs.Records.{account_of, records_of}
 use Rattle.port_report.specs.Reports.{names_of}
 use Rattle.npnp.specs.Circuits.{IsCircuit, IsCircuitFault}
 use Rattle.npnp.specs.Files.{HoldsFirst}
@@ -168,13 +167,9 @@ pub record IsProvedMatch (graphs : Graphs) (account : List ℕ) : Type 0 where
   pub accepted : Proves graphs account (verdict.Match table)
   pub matches : IsMatchOfFunctions graphs.first graphs.second table.inputs table.outputs
 
--- the last line of an account
-abbrev pub last_line : List ℕ
-last_line = record_line entry.End
-
 -- Searching two graphs for a match: an answer with its account, or the budget is spent or memory ran out.
 pub record Solves (graphs : Graphs) (budget : ℕ) (result : Result Solved Outcome) : Type 0 where
-  pub answer : IfOk result (λ solved. IsAnswered graphs (solved.account.items ++ last_line) solved.outcome)
+  pub answer : IfOk result (λ solved. IsAnswered graphs (account_of (records_of solved.account)) solved.outcome)
   pub stopped : IfErr result (IsStopWithin graphs budget)
 
 -- Nothing was asked in a ledger.

@@ -1,10 +1,9 @@
-//! The pair of netlists that a number gives, printed and written to two files.
+//! The pair of netlists that a number gives, written to two files.
 
-ghost use Rattle.std.specs.Prelude.{◌≡◌, IfOk, OnOk};
+ghost use Rattle.std.specs.Prelude.{◌≡◌, IfOk};
 ghost use Rattle.net_print.specs.BlifLines.{blif_text};
 ghost use Rattle.net_print.specs.Files.{aig_text};
 ghost use Rattle.shelf_core.specs.State.{Closed};
-ghost use Rattle.npnp.specs.Files.{WritesFile};
 ghost use Rattle.npnp.specs.Steps.{Decides, PrintsPair, WritesPair, WritesText, asked_make};
 
 use crate::matching::unwritten;
@@ -12,22 +11,13 @@ use crate::outcome::Outcome;
 use crate::report::report_line;
 use crate::run::Ending;
 use crate::words::Make;
-use crate::writing::append_pieces;
-use gen_pair::make;
+use crate::writing::write_text;
+use gen_pair::{GenPair, make};
 use net_core::Graphs;
-use net_file::Named;
-use net_print::{put_aig, put_blif};
-use shelf_core::{Shelf, ShelfStop};
+use net_print::{AigParts, BlifParts};
+use shelf_core::Shelf;
 use std::alloc::{AllocError, Global};
-
-/// A pair of netlists as texts.
-#[derive(Debug, Drop)]
-pub struct Printed {
-    /// The first netlist in the binary form of AIGER.
-    pub first: Vec<u8>,
-    /// The second netlist as BLIF.
-    pub second: Vec<u8>,
-}
+use text_out::Parts;
 
 /// Makes the pair of a number, and writes the first netlist in the binary form of AIGER and the second as BLIF. The error
 /// is an outcome whose report is one line: memory ran out, or a file was not written.
@@ -41,71 +31,51 @@ pub fn make_files<S: Shelf>(
 {
     let outcome = Outcome::Made;
     let report = report_line(alloc, &outcome)?;
-    let texts = print_pair(alloc, asked.number)?;
-    write_both(shelf, asked, &texts)?;
+    let pair = pair_of(alloc, asked.number)?;
+    write_pair(alloc, shelf, asked, &pair)?;
     Ok(Ending { outcome, report })
 }
 
-/// The pair of a number as texts.
-fn print_pair(alloc: Global, number: u64) -> Result<Printed, AllocError>
-    ensures { IfOk result (λ texts. PrintsPair number texts.first.items texts.second.items) }
+/// The pair of a number. Its graphs' gates stand in order, so that its texts can be read.
+fn pair_of(alloc: Global, number: u64) -> Result<GenPair, AllocError>
+    ensures { IfOk result (λ pair. PrintsPair number (aig_text pair.first) (blif_text pair.second.graph)) }
 {
     let pair = make(alloc, number)?;
-    // a graph's gates stand in order
     let graphs = Graphs::new(&pair.first.graph, &pair.second.graph);
     let _first = graphs.first();
     let _second = graphs.second();
-    let first = binary(alloc, &pair.first)?;
-    let second = blif(alloc, &pair.second)?;
-    Ok(Printed { first, second })
+    Ok(pair)
 }
 
-// A netlist in the binary form of AIGER.
-fn binary(alloc: Global, named: &Named) -> Result<Vec<u8>, AllocError>
-    ensures { IfOk result (λ text. text.items ≡ aig_text named.now) }
-{
-    let mut text = Vec::new(alloc);
-    put_aig(named, &mut text)?;
-    Ok(text)
-}
-
-// A netlist as BLIF.
-fn blif(alloc: Global, named: &Named) -> Result<Vec<u8>, AllocError>
-    ensures { IfOk result (λ text. text.items ≡ blif_text named.now.graph) }
-{
-    let mut text = Vec::new(alloc);
-    put_blif(named, &mut text)?;
-    Ok(text)
-}
-
-// Writes one text after the other.
-fn write_both<S: Shelf>(shelf: &mut S, asked: &Make<'_>, texts: &Printed) -> Result<(), Outcome>
+/// Writes the netlists of a pair, each part by part.
+fn write_pair<S: Shelf>(
+    alloc: Global,
+    shelf: &mut S,
+    asked: &Make<'_>,
+    pair: &GenPair,
+) -> Result<(), Outcome>
     requires { (S.state shelf.old).mode ≡ Closed }
     ensures { WritesPair S.tells asked.now.first.now asked.now.second.now
-        texts.now.first.items texts.now.second.items (S.state shelf.old) (S.state shelf.new) result }
+        (aig_text pair.now.first) (blif_text pair.now.second.graph) (S.state shelf.old) (S.state shelf.new) result }
 {
-    write_named(shelf, asked.first, &texts.first)?;
-    write_named(shelf, asked.second, &texts.second)
+    let mut first = AigParts::new(&pair.first);
+    write_named(alloc, shelf, asked.first, &mut first)?;
+    let mut second = BlifParts::new(&pair.second.graph);
+    write_named(alloc, shelf, asked.second, &mut second)
 }
 
 // Writes a text under a name, or says how the run ends without it.
-fn write_named<S: Shelf>(shelf: &mut S, name: &str, text: &[u8]) -> Result<(), Outcome>
+fn write_named<S: Shelf, P: Parts>(
+    alloc: Global,
+    shelf: &mut S,
+    name: &str,
+    text: &mut P,
+) -> Result<(), Outcome>
     requires { (S.state shelf.old).mode ≡ Closed }
-    ensures { WritesText S.tells name.now text.now (S.state shelf.old) (S.state shelf.new) result }
+    ensures { WritesText S.tells name.now (P.left text.old) (S.state shelf.old) (S.state shelf.new) result }
 {
-    match write_text(shelf, name, text) {
+    match write_text(alloc, shelf, name, text) {
         Ok(()) => Ok(()),
         Err(stop) => Err(unwritten(stop)),
     }
-}
-
-// Writes a text under a name, in place of what the name holds, in pieces. After a refusal no further call is made.
-fn write_text<S: Shelf>(shelf: &mut S, name: &str, text: &[u8]) -> Result<(), ShelfStop>
-    requires { (S.state shelf.old).mode ≡ Closed }
-    ensures writes { WritesFile S.tells name.now text.now (S.state shelf.old) (S.state shelf.new) result }
-    ensures closed { OnOk result ((S.state shelf.new).mode ≡ Closed) }
-{
-    shelf.create(name)?;
-    append_pieces(shelf, text)?;
-    shelf.close()
 }

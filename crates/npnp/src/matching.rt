@@ -1,6 +1,6 @@
 //! A match of two netlists, sought and proved.
 
-ghost use Rattle.std.specs.Prelude.{◌≡◌, ℕ, ◌++◌, ◌↔◌, Err, IfOk, IsTrue, map};
+ghost use Rattle.std.specs.Prelude.{◌≡◌, ℕ, ◌↔◌, Err, IfOk, IsTrue, map};
 ghost use Rattle.cnf_core.specs.declared.stop.Stop.TheVariants.{Spent};
 ghost use Rattle.account_core.specs.Given.{decided_by};
 ghost use Rattle.account_core.specs.Facts.{AreFacts};
@@ -11,7 +11,8 @@ ghost use Rattle.match_search.specs.Founds.{IsFound};
 ghost use Rattle.shelf_core.specs.State.{Closed};
 ghost use Rattle.npnp.specs.Info.{IsSpentOf};
 ghost use Rattle.npnp.specs.Stops.{unwritten};
-ghost use Rattle.npnp.specs.Steps.{Concludes, Decides, Finds, IsAnswered, IsNew, Solves, asked_match, last_line};
+ghost use Rattle.account_write.specs.Records.{account_of, records_of};
+ghost use Rattle.npnp.specs.Steps.{Concludes, Decides, Finds, IsAnswered, IsNew, Solves, asked_match};
 
 use crate::netlists::read_netlist;
 use crate::outcome::{Outcome, Which};
@@ -20,24 +21,24 @@ use crate::run::Ending;
 use crate::words::Match;
 use crate::writing::write_account;
 use account_core::{Ban, Fact};
-use account_write::{put_match, put_none_ports, put_refusal};
+use account_trim::{Core, trim};
+use account_write::Account;
 use ban_book::BanBook;
 use cnf_core::{Log, Stop};
 use fact_tests::FactBook;
+use items::Items;
 use match_search::{Found, decide};
 use net_core::{Graphs, Matching};
 use net_file::Named;
-use oracle_core::Oracle;
 use query_core::Ledger;
 use shelf_core::{Shelf, ShelfStop};
 use std::alloc::{AllocError, Global};
 
 /// What came of a search, and the account that proves it.
-#[derive(Debug, Drop)]
+#[derive(Drop)]
 pub struct Solved {
     pub outcome: Outcome,
-    /// The account's lines up to the last one.
-    pub account: Vec<u8>,
+    pub account: Account,
 }
 
 /// Looks for a match of the two netlists that the words name, and writes the account of the answer. The error is an
@@ -67,21 +68,28 @@ fn find_of<S: Shelf>(
     let solved = solve(alloc, asked, &graphs)?;
     let report = report_named(alloc, first, second, &solved.outcome)?;
     let Solved { outcome, account } = solved;
-    conclude(shelf, asked.account, &account, Ending { outcome, report })
+    conclude(
+        alloc,
+        shelf,
+        asked.account,
+        &account,
+        Ending { outcome, report },
+    )
 }
 
 /// Writes an account, and ends the run by its answer where it was written.
 fn conclude<S: Shelf>(
+    alloc: Global,
     shelf: &mut S,
     name: &str,
-    account: &[u8],
+    account: &Account,
     ending: Ending,
 ) -> Result<Ending, Outcome>
     requires { (S.state shelf.old).mode ≡ Closed }
-    ensures { Concludes S.tells name.now (account.now ++ last_line) ending
+    ensures { Concludes S.tells name.now (account_of (records_of account.now)) ending
         (S.state shelf.old) (S.state shelf.new) result }
 {
-    match write_account(shelf, name, account) {
+    match write_account(alloc, shelf, name, account) {
         Ok(()) => Ok(ending),
         Err(stop) => Err(unwritten(stop)),
     }
@@ -143,14 +151,14 @@ fn search_in(
 ) -> Result<Solved, Stop>
     requires ports { HaveAsMany graphs.now.first graphs.now.second }
     requires new { IsNew ledger.old }
-    ensures answer { IfOk result (λ solved. IsAnswered graphs.now (solved.account.items ++ last_line) solved.outcome) }
+    ensures answer { IfOk result (λ solved. IsAnswered graphs.now (account_of (records_of solved.account)) solved.outcome) }
     ensures spent { (learned : ℕ) → result ≡ Err (Spent learned)
         → IsSpentOf graphs.now ledger.old.budget ledger.new }
 {
     let mut book = FactBook::new(alloc, graphs, seed)?;
     let mut bans = BanBook::new(alloc);
     let found = decide(alloc, graphs, &mut book, &mut bans, seed, ledger)?;
-    Ok(answered(alloc, graphs, found, book.facts(), bans.bans())?)
+    Ok(answered(alloc, graphs, found, book.into_facts(), bans.bans())?)
 }
 
 /// The answer that a search came to by facts and bans, with its account.
@@ -158,17 +166,17 @@ fn answered(
     alloc: Global,
     graphs: &Graphs<'_>,
     found: Found,
-    facts: &[Fact],
+    facts: Items<Fact>,
     bans: &[Ban],
 ) -> Result<Solved, AllocError>
     requires ports { HaveAsMany graphs.now.first graphs.now.second }
-    requires facts { AreFacts graphs.now facts.now }
-    requires bans { AreValidBans graphs.now (map decided_by facts.now) bans.now }
+    requires facts { AreFacts graphs.now facts }
+    requires bans { AreValidBans graphs.now (map decided_by facts) bans.now }
     requires found { IsFound graphs.now bans.now found }
-    ensures { IfOk result (λ solved. IsAnswered graphs.now (solved.account.items ++ last_line) solved.outcome) }
+    ensures { IfOk result (λ solved. IsAnswered graphs.now (account_of (records_of solved.account)) solved.outcome) }
 {
     match found {
-        Found::Match(matching, logs) => matched(alloc, graphs, matching, &logs),
+        Found::Match(matching, logs) => matched(alloc, graphs, matching, logs),
         Found::None(ban) => refused(alloc, graphs, facts, bans, ban),
     }
 }
@@ -178,15 +186,14 @@ fn matched(
     alloc: Global,
     graphs: &Graphs<'_>,
     matching: Matching,
-    logs: &[Log],
+    logs: Items<Log>,
 ) -> Result<Solved, AllocError>
-    requires { IsShownMatch graphs.now matching logs.now }
-    ensures { IfOk result (λ solved. IsAnswered graphs.now (solved.account.items ++ last_line) solved.outcome) }
+    requires { IsShownMatch graphs.now matching logs }
+    ensures { IfOk result (λ solved. IsAnswered graphs.now (account_of (records_of solved.account)) solved.outcome) }
 {
     // a graph's ports are numbers of 32 bits
     let _first = graphs.first();
-    let mut account = Vec::new(alloc);
-    put_match(alloc, &matching, logs, &mut account)?;
+    let account = Account::of_match(alloc, &matching, logs)?;
     Ok(Solved {
         outcome: Outcome::Matched(matching),
         account,
@@ -197,37 +204,38 @@ fn matched(
 fn refused(
     alloc: Global,
     graphs: &Graphs<'_>,
-    facts: &[Fact],
+    facts: Items<Fact>,
     bans: &[Ban],
     number: u64,
 ) -> Result<Solved, AllocError>
     requires ports { HaveAsMany graphs.now.first graphs.now.second }
-    requires facts { AreFacts graphs.now facts.now }
-    requires bans { AreValidBans graphs.now (map decided_by facts.now) bans.now }
+    requires facts { AreFacts graphs.now facts }
+    requires bans { AreValidBans graphs.now (map decided_by facts) bans.now }
     requires empty { IsEmptyBan bans.now number }
-    ensures { IfOk result (λ solved. IsAnswered graphs.now (solved.account.items ++ last_line) solved.outcome) }
+    ensures { IfOk result (λ solved. IsAnswered graphs.now (account_of (records_of solved.account)) solved.outcome) }
 {
     let _first = graphs.first();
     let _second = graphs.second();
-    let mut account = Vec::new(alloc);
-    put_refusal(facts, bans, number, &mut account)?;
+    let Core {
+        facts,
+        bans,
+        number,
+    } = trim(alloc, facts, bans, number)?;
     Ok(Solved {
         outcome: Outcome::NoMatching,
-        account,
+        account: Account::of_refusal(alloc, facts, bans, number)?,
     })
 }
 
 /// The answer that there is no match, since the graphs have other numbers of ports, with its account.
 fn other_ports(alloc: Global, graphs: &Graphs<'_>) -> Result<Solved, AllocError>
     requires { HaveAsMany graphs.now.first graphs.now.second → ⊥ }
-    ensures { IfOk result (λ solved. IsAnswered graphs.now (solved.account.items ++ last_line) solved.outcome) }
+    ensures { IfOk result (λ solved. IsAnswered graphs.now (account_of (records_of solved.account)) solved.outcome) }
 {
     let _first = graphs.first();
     let _second = graphs.second();
-    let mut account = Vec::new(alloc);
-    put_none_ports(&mut account)?;
     Ok(Solved {
         outcome: Outcome::NoMatching,
-        account,
+        account: Account::of_other_ports(alloc)?,
     })
 }

@@ -7,19 +7,21 @@ ghost use Rattle.account_check.specs.declared.verdict.Verdict.TheVariants as ver
 ghost use Rattle.account_core.specs.Ports.{HaveAsMany};
 ghost use Rattle.net_core.specs.declared.matching.Matching.{Matching as Table};
 ghost use Rattle.npnp.specs.Make.{IsPairOf};
-ghost use Rattle.npnp.specs.Steps.{IsAnswered, IsProvedMatch, IsStopWithin, Tries, last_line};
+ghost use Rattle.account_write.specs.Records.{account_of, records_of};
+ghost use Rattle.npnp.specs.Steps.{IsAnswered, IsProvedMatch, IsStopWithin, Tries};
 
-use crate::matching::{Solved, solve_by_search};
+use crate::matching::solve_by_search;
 use crate::outcome::Outcome;
 use crate::report::report_line;
 use crate::run::Ending;
 use crate::words::{DEFAULT_BUDGET, DEFAULT_SEED, Trial};
 use account_check::{CheckStop, Verdict, check};
-use account_write::last_line;
+use account_write::{Account, last_line};
 use gen_pair::{GenPair, make};
 use items::Items;
 use net_core::Graphs;
-use std::alloc::Global;
+use std::alloc::{AllocError, Global};
+use text_out::put_all;
 
 /// Makes the pair of a number, looks for a match of it with the default budget and seed, writes the account of the match in
 /// memory, and checks it. The error is an outcome whose report is one line: the budget was spent, or memory ran out.
@@ -53,13 +55,19 @@ fn prove_match(alloc: Global, graphs: &Graphs<'_>) -> Result<Vec<u8>, Outcome>
     ensures stopped { IfErr result (IsStopWithin graphs.now 1000000000) }
 {
     let solved = solve_by_search(alloc, graphs, DEFAULT_SEED, DEFAULT_BUDGET)?;
-    let Solved {
-        outcome: _outcome,
-        mut account,
-    } = solved;
-    account.extend_from_slice(last_line())?;
-    accept(alloc, graphs, &account)?;
-    Ok(account)
+    let text = text_of(alloc, &solved.account)?;
+    accept(alloc, graphs, &text)?;
+    Ok(text)
+}
+
+/// The whole text of an account.
+fn text_of(alloc: Global, account: &Account) -> Result<Vec<u8>, AllocError>
+    ensures { IfOk result (λ text. text.items ≡ account_of (records_of account.now)) }
+{
+    let mut text = Vec::new(alloc);
+    put_all(account.lines(), &mut text)?;
+    text.extend_from_slice(last_line())?;
+    Ok(text)
 }
 
 /// Checks an account of a match, which is accepted unless memory runs out.

@@ -1,12 +1,14 @@
-//! An account, written to a shelf.
+//! Texts that are printed part by part, written to a shelf.
 
-ghost use Rattle.std.specs.Prelude.{◌≡◌, ◌<◌, ◌≤◌, ◌++◌, [], IsTrue, Some, length, take};
+ghost use Rattle.std.specs.Prelude.{◌≡◌, ◌≤◌, [], OnOk, drop, vec_len};
+ghost use Rattle.account_write.specs.Records.{account_of, records_of};
 ghost use Rattle.shelf_core.specs.State.{Closed, Writing};
-ghost use Rattle.npnp.specs.Files.{FillsFile, FillsOn, WritesFile};
-ghost use Rattle.npnp.specs.Steps.{last_line};
+ghost use Rattle.npnp.specs.Files.{WritesFile, WritesOn};
 
-use account_write::last_line;
+use account_write::{Account, last_line};
 use shelf_core::{Shelf, ShelfStop};
+use std::alloc::Global;
+use text_out::Parts;
 
 /// The bytes that one append writes, but for the last ones.
 const PIECE: usize = 65_536;
@@ -14,60 +16,101 @@ const PIECE: usize = 65_536;
 /// Writes an account under a name, in place of what the name holds: its lines up to the last one in pieces, and the
 /// last one by itself, so that a file that was cut off doesn't end as an account does. After a refusal no further call
 /// is made.
-pub fn write_account<S: Shelf>(shelf: &mut S, name: &str, lines: &[u8]) -> Result<(), ShelfStop>
+pub fn write_account<S: Shelf>(
+    alloc: Global,
+    shelf: &mut S,
+    name: &str,
+    account: &Account,
+) -> Result<(), ShelfStop>
     requires { (S.state shelf.old).mode ≡ Closed }
-    ensures { WritesFile S.tells name.now (lines.now ++ last_line) (S.state shelf.old) (S.state shelf.new) result }
+    ensures { WritesFile S.tells name.now (account_of (records_of account.now))
+        (S.state shelf.old) (S.state shelf.new) result }
 {
     shelf.create(name)?;
-    fill(shelf, lines)?;
+    append_account(alloc, shelf, account)?;
+    shelf.close()
+}
+
+/// Writes a text under a name, in place of what the name holds. After a refusal no further call is made.
+pub fn write_text<S: Shelf, P: Parts>(
+    alloc: Global,
+    shelf: &mut S,
+    name: &str,
+    text: &mut P,
+) -> Result<(), ShelfStop>
+    requires { (S.state shelf.old).mode ≡ Closed }
+    ensures writes { WritesFile S.tells name.now (P.left text.old) (S.state shelf.old) (S.state shelf.new) result }
+    ensures closed { OnOk result ((S.state shelf.new).mode ≡ Closed) }
+{
+    shelf.create(name)?;
+    append_text(alloc, shelf, text)?;
     shelf.close()
 }
 
 /// Writes an account to the open file.
-fn fill<S: Shelf>(shelf: &mut S, lines: &[u8]) -> Result<(), ShelfStop>
-    requires writing { (S.state shelf.old).mode ≡ Writing }
-    requires empty { IsTrue S.tells → (S.state shelf.old).held (S.state shelf.old).name ≡ Some [] }
-    ensures { FillsFile S.tells (lines.now ++ last_line) (S.state shelf.old) (S.state shelf.new) result }
+fn append_account<S: Shelf>(
+    alloc: Global,
+    shelf: &mut S,
+    account: &Account,
+) -> Result<(), ShelfStop>
+    requires { (S.state shelf.old).mode ≡ Writing }
+    ensures { WritesOn S.tells (account_of (records_of account.now)) [] (S.state shelf.old) (S.state shelf.new) result }
 {
-    append_pieces(shelf, lines)?;
+    let mut lines = account.lines();
+    append_text(alloc, shelf, &mut lines)?;
     shelf.append(last_line())
 }
 
-/// Writes a text to the open file, piece by piece.
-pub(crate) fn append_pieces<S: Shelf>(shelf: &mut S, text: &[u8]) -> Result<(), ShelfStop>
-    requires writing { (S.state shelf.old).mode ≡ Writing }
-    requires empty { IsTrue S.tells → (S.state shelf.old).held (S.state shelf.old).name ≡ Some [] }
-    ensures { FillsFile S.tells text.now (S.state shelf.old) (S.state shelf.new) result }
+/// Writes a text to the open file in pieces. It is never whole in memory: parts of it are printed until a piece stands there,
+/// which is appended.
+fn append_text<S: Shelf, P: Parts>(
+    alloc: Global,
+    shelf: &mut S,
+    text: &mut P,
+) -> Result<(), ShelfStop>
+    requires { (S.state shelf.old).mode ≡ Writing }
+    ensures { WritesOn S.tells (P.left text.old) [] (S.state shelf.old) (S.state shelf.new) result }
+{
+    let mut buffer = Vec::new(alloc);
+    while !text.is_done() {
+        text.put_next(&mut buffer)?;
+        append_pieces(shelf, &mut buffer)?;
+    }
+    append_rest(shelf, &buffer)
+}
+
+/// Writes as many pieces as stand in the buffer, and leaves there what comes after them.
+fn append_pieces<S: Shelf>(shelf: &mut S, buffer: &mut Vec<u8>) -> Result<(), ShelfStop>
+    requires { (S.state shelf.old).mode ≡ Writing }
+    ensures { WritesOn S.tells buffer.old.items buffer.new.items (S.state shelf.old) (S.state shelf.new) result }
 {
     let mut done = 0;
-    while done < text.len() {
-        done = append_next(shelf, text, done)?;
+    while buffer.len() - done >= PIECE {
+        shelf.append(&buffer[done..done + PIECE])?;
+        done += PIECE;
     }
+    remove_front(buffer, done);
     Ok(())
 }
 
-/// Writes the next piece of a text to the open file, which holds n bytes of it, and answers how many it holds
-/// then.
-fn append_next<S: Shelf>(shelf: &mut S, text: &[u8], done: usize) -> Result<usize, ShelfStop>
-    requires writing { (S.state shelf.old).mode ≡ Writing }
-    requires held { IsTrue S.tells → (S.state shelf.old).held (S.state shelf.old).name ≡ Some (take done text.now) }
-    requires less { done < length text.now }
-    ensures { FillsOn S.tells text.now done (S.state shelf.old) (S.state shelf.new) result }
+/// Takes the first bytes off a buffer. Where there are none to be taken, as after most parts, it costs nothing.
+fn remove_front(buffer: &mut Vec<u8>, count: usize)
+    requires { count ≤ vec_len buffer.old }
+    ensures { buffer.new.items ≡ drop count buffer.old.items }
 {
-    let end = piece_end(text.len(), done);
-    shelf.append(&text[done..end])?;
-    Ok(end)
+    let left = buffer.len() - count;
+    buffer.rotate_left(count);
+    buffer.truncate(left);
 }
 
-/// Where the piece ends that begins at a place of a text.
-fn piece_end(size: usize, start: usize) -> usize
-    requires { start < size }
-    ensures more { start < result }
-    ensures within { result ≤ size }
+/// Writes what is left, if there is anything.
+fn append_rest<S: Shelf>(shelf: &mut S, text: &[u8]) -> Result<(), ShelfStop>
+    requires { (S.state shelf.old).mode ≡ Writing }
+    ensures { WritesOn S.tells text.now [] (S.state shelf.old) (S.state shelf.new) result }
 {
-    if size - start > PIECE {
-        start + PIECE
+    if text.is_empty() {
+        Ok(())
     } else {
-        size
+        shelf.append(text)
     }
 }

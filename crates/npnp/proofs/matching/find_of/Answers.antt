@@ -1,7 +1,8 @@
 -- An answer was found, and its account was written; or nothing was.
-use Rattle.std.proofs.Common.{◌++◌, inr, refl, sym, subst}
+use Rattle.std.proofs.Common.{inr, refl, subst}
 use Rattle.std.proofs.lemmas.Result.{err_from_is_err_and}
-use Rattle.npnp.specs.Steps.{IsAnswered, IsStopWithin, graphs_of, last_line}
+use Rattle.account_write.specs.Records.{account_of, records_of}
+use Rattle.npnp.specs.Steps.{IsAnswered, IsStopWithin, graphs_of}
 use Rattle.npnp.specs.declared.outcome.Outcome.TheVariants.{Memory}
 use Rattle.npnp.proofs.FindLemmas.{not_solved, solved, table_of_answer}
 use Rattle.npnp.proofs.matching.find_of.Goals as goal
@@ -15,8 +16,8 @@ returns-in_err-solved g c =
 
 pub report_named-requires : goal.report_named-requires
 report_named-requires g c =
-    table_of_answer (graphs_of c.args.first.now c.args.second.now) (c.in_ok-solved.solved.account.items ++ last_line) c.in_ok-solved.solved.outcome
-    (subst (λ graphs. IsAnswered graphs (c.in_ok-solved.solved.account.items ++ last_line) c.in_ok-solved.solved.outcome) c.new-graphs.ensures c.in_ok-solved.ensures.answer)
+    table_of_answer (graphs_of c.args.first.now c.args.second.now) (account_of (records_of c.in_ok-solved.solved.account)) c.in_ok-solved.solved.outcome
+    (subst (λ graphs. IsAnswered graphs (account_of (records_of c.in_ok-solved.solved.account)) c.in_ok-solved.solved.outcome) c.new-graphs.ensures c.in_ok-solved.ensures.answer)
 
 pub returns-in_err-report : goal.returns-in_err-report
 returns-in_err-report g c =
@@ -28,7 +29,6 @@ returns g c =
     let first = c.args.first.now in
     let second = c.args.second.now in
     let outcome = c.in_ok-solved.solved.outcome in
-    solved _ first second _ (c.deref.result.now ++ last_line) _ _ _ _ _
-    (subst (λ lines. IsAnswered (graphs_of first second) (lines ++ last_line) outcome) (sym c.deref.ensures.value)
-    (subst (λ graphs. IsAnswered graphs (c.in_ok-solved.solved.account.items ++ last_line) outcome) c.new-graphs.ensures c.in_ok-solved.ensures.answer))
+    solved _ first second _ (account_of (records_of c.in_ok-solved.solved.account)) _ _ _ _ _
+    (subst (λ graphs. IsAnswered graphs (account_of (records_of c.in_ok-solved.solved.account)) outcome) c.new-graphs.ensures c.in_ok-solved.ensures.answer)
     c.in_ok-report.ensures c.conclude.ensures

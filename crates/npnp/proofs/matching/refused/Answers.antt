@@ -1,7 +1,21 @@
--- The account of facts and bans is accepted, so there is no match.
-use Rattle.std.proofs.Common.{rules}
+-- The account of the facts and bans that the conclusion rests on is accepted, so there is no match.
+use Rattle.std.proofs.Common.{subst}
+use Rattle.std.proofs.lemmas.List.{length-map}
+use Rattle.account_core.specs.Given.{decided_by}
+use Rattle.account_trim.specs.Names.{ReferBack}
+use Rattle.account_trim.proofs.ValidLemmas.{bans_kept, conclusion_kept, facts_kept, refer_back}
 use Rattle.npnp.proofs.AnswerLemmas.{answer_refused}
 use Rattle.npnp.proofs.matching.refused.Goals as goal
 
+pub trim-requires-clause-earlier : goal.trim-requires-clause-earlier
+trim-requires-clause-earlier c = subst (λ n. ReferBack n c.args.bans.now) (length-map c.args.facts decided_by) (refer_back _ _ _ c.requires.bans)
+
+pub trim-requires-clause-held : goal.trim-requires-clause-held
+trim-requires-clause-held c = c.requires.empty.held
+
 pub returns : goal.returns
-returns c = answer_refused _ _ _ _ _ c.first-first.ensures.sound c.second-second.ensures.sound c.requires.ports c.requires.facts c.requires.bans c.requires.empty c.in_ok-put_refusal.ensures.writable (search (rules, c.in_ok-put_refusal.ensures.lines, c.new-account.ensures.items))
+returns c =
+    let trimmed = c.in_ok-facts.ensures in
+    answer_refused _ _ _ _ _ c.first-first.ensures.sound c.second-second.ensures.sound c.requires.ports
+    (facts_kept _ _ _ _ _ trimmed c.requires.facts) (bans_kept _ _ _ _ _ trimmed c.requires.bans) (conclusion_kept _ _ _ _ trimmed c.requires.empty)
+    c.in_ok-of_refusal.ensures.records c.in_ok-of_refusal.ensures.writable

@@ -25,10 +25,10 @@ returns-in_err-found-clause-spent c = λ learned is.
     (spent_says (IsStopped c.in_ok-book.book c.args.ledger.now c.decide.new.ledger) learned c.in_err-found.ensures.serves.stopped (cc (p.1, p.2, is)))
 
 pub answered-requires-clause-facts : goal.answered-requires-clause-facts
-answered-requires-clause-facts c = facts_for _ c.decide.new.oracle c.in_ok-book.book _ c.decide.ensures.serves.grows.graphs (sym (ap (λ (known : Known). known.graphs) c.in_ok-book.ensures.empty)) c.facts.ensures.value c.facts.ensures.lawful
+answered-requires-clause-facts c = facts_for _ c.decide.new.oracle c.in_ok-book.book _ c.decide.ensures.serves.grows.graphs (sym (ap (λ (known : Known). known.graphs) c.in_ok-book.ensures.empty)) c.into_facts.ensures.lawful
 
 pub answered-requires-clause-bans : goal.answered-requires-clause-bans
-answered-requires-clause-bans c = bans_for c.args.graphs.now c.decide.new.oracle.facts c.facts.result.now c.decide.new.book c.bans-2.result.now c.facts.ensures.value c.bans-2.ensures c.decide.ensures.bans
+answered-requires-clause-bans c = bans_for c.args.graphs.now c.decide.new.oracle.facts c.into_facts.result c.decide.new.book c.bans-2.result.now c.into_facts.ensures.value c.bans-2.ensures c.decide.ensures.bans
 
 pub answered-requires-clause-found : goal.answered-requires-clause-found
 answered-requires-clause-found c = subst (λ bans. IsFound c.args.graphs.now bans c.in_ok-found.found) (sym c.bans-2.ensures) c.in_ok-found.ensures.found

@@ -1,10 +1,12 @@
-use Rattle.std.proofs.Common.{◌-◌, length}
-use Rattle.npnp.proofs.WritingLemmas.{IsFilling}
+use Rattle.std.proofs.Common.{◌≤◌, ◌-◌, Ok, drop, length}
+use Rattle.npnp.specs.Files.{WritesOn}
 use Rattle.npnp.proofs.writing.append_pieces.Given as goal
 
+-- the first n bytes were written
 abbrev pub invariant-loop-done : goal.invariant-loop-done
 invariant-loop-done g l =
-    IsFilling g.S.Shelf.tells l.text (g.S.Shelf.state l.fn.shelf) (g.S.Shelf.state l.shelf) l.done
+    (l.done ≤ length l.buffer.items)
+    × WritesOn g.S.Shelf.tells l.buffer.items (drop l.done l.buffer.items) (g.S.Shelf.state l.fn.shelf) (g.S.Shelf.state l.shelf) (Ok tt)
 
 abbrev pub decreases-loop-done : goal.decreases-loop-done
-decreases-loop-done g l = length l.text - l.done
+decreases-loop-done g l = length l.buffer.items - l.done

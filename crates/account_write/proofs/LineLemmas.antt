@@ -1,0 +1,132 @@
+-- The lines of an account, one after another.
+use Rattle.std.proofs.Common.{◌≡◌, ℕ, ◌+◌, ◌<◌, ◌≤◌, ◌==◌, ◌&&◌, Bool, true, IsFalse, List, [], ◌∷◌, ◌++◌, length, map, All, Result, Ok, Err, OnOk, refl, sym, ap, subst, ◌∙◌, arith, append_assoc}
+use Rattle.std.specs.List.{flat_map}
+use Rattle.std.proofs.lemmas.Bool.{false≢true}
+use Rattle.std.proofs.lemmas.List.Elements.{All-cons, All-nil}
+use Rattle.cnf_core.specs.declared.log.Log.{Log}
+use Rattle.cnf_core.specs.declared.log.LogLine.{LogLine}
+use Rattle.query_core.specs.declared.claims.Claim.{Claim}
+use Rattle.account_core.specs.declared.fact.Evidence.{Evidence}
+use Rattle.account_core.specs.declared.fact.Evidence.TheVariants as evidence
+use Rattle.account_core.specs.declared.fact.Fact.{Fact}
+use Rattle.account_core.specs.declared.step.Ban.{Ban}
+use Rattle.account_file.specs.declared.record.Record.{Record}
+use Rattle.account_file.specs.declared.record.Record.TheVariants as entry
+use Rattle.account_file.specs.Spelling.{record_line, IsWritable}
+use Rattle.account_write.specs.declared.lines.Lines.{Lines}
+use Rattle.account_write.specs.Records.{Steps, fact_records, head_of, in_order, lines_of, log_lines, log_records, records_left, shown_records, steps_left}
+
+-- a fact's records are its line and those of its log
+shown_is : (claim : Claim) (e : Evidence) → shown_records claim e ≡ head_of claim e ∷ map (λ line. entry.Line line) (log_lines e)
+shown_is claim (evidence.Fails bits) = refl
+shown_is claim (evidence.Holds log) = refl
+
+-- the next record in order, where nothing is left of what comes before it
+
+pub front_first : (front rest : List Record) (log : List LogLine) (facts : List Fact) (logs : List Log) (bans : List Ban) (back : List Record) (one : Record) → front ≡ one ∷ rest → in_order front log facts logs bans back ≡ one ∷ in_order rest log facts logs bans back
+front_first front rest log facts logs bans back one is = ap (λ f. in_order f log facts logs bans back) is
+
+pub line_first : (log rest : List LogLine) (facts : List Fact) (logs : List Log) (bans : List Ban) (back : List Record) (one : LogLine) → log ≡ one ∷ rest → in_order [] log facts logs bans back ≡ entry.Line one ∷ in_order [] rest facts logs bans back
+line_first log rest facts logs bans back one is = ap (λ l. in_order [] l facts logs bans back) is
+
+pub fact_first : (facts rest : List Fact) (logs : List Log) (bans : List Ban) (back : List Record) (one : Fact) → facts ≡ one ∷ rest → in_order [] [] facts logs bans back ≡ head_of one.claim one.evidence ∷ in_order [] (log_lines one.evidence) rest logs bans back
+fact_first facts rest logs bans back one is =
+    let after = flat_map log_records logs ++ (map (λ ban. entry.Ban ban) bans ++ back) in
+    ap (λ fs. in_order [] [] fs logs bans back) is
+    ∙ (append_assoc (fact_records one) (flat_map fact_records rest) after
+    ∙ ap (λ l. l ++ (flat_map fact_records rest ++ after)) (shown_is one.claim one.evidence))
+
+pub log_first : (logs rest : List Log) (bans : List Ban) (back : List Record) (one : Log) → logs ≡ one ∷ rest → in_order [] [] [] logs bans back ≡ in_order [] one.lines [] rest bans back
+log_first logs rest bans back one is =
+    let after = map (λ ban. entry.Ban ban) bans ++ back in
+    ap (λ ls. in_order [] [] [] ls bans back) is ∙ append_assoc (log_records one) (flat_map log_records rest) after
+
+pub ban_first : (bans rest : List Ban) (back : List Record) (one : Ban) → bans ≡ one ∷ rest → in_order [] [] [] [] bans back ≡ entry.Ban one ∷ in_order [] [] [] [] rest back
+ban_first bans rest back one is = ap (λ bs. in_order [] [] [] [] bs back) is
+
+-- the same, where what comes before it is empty by its length
+
+pub line_next : (front : List Record) (log rest : List LogLine) (facts : List Fact) (logs : List Log) (bans : List Ban) (back : List Record) (one : LogLine) → length front ≡ 0 → log ≡ one ∷ rest → in_order front log facts logs bans back ≡ entry.Line one ∷ in_order front rest facts logs bans back
+line_next [] log rest facts logs bans back one none is = line_first log rest facts logs bans back one is
+line_next (x ∷ front) log rest facts logs bans back one none is = absurd (omega (arith, none))
+
+pub fact_next : (front : List Record) (log lines : List LogLine) (facts rest : List Fact) (logs : List Log) (bans : List Ban) (back : List Record) (one : Fact) → length front ≡ 0 → length log ≡ 0 → facts ≡ one ∷ rest → lines ≡ log_lines one.evidence → in_order front log facts logs bans back ≡ head_of one.claim one.evidence ∷ in_order front lines rest logs bans back
+fact_next [] [] lines facts rest logs bans back one none no_line is of_log =
+    fact_first facts rest logs bans back one is ∙ ap (λ ls. head_of one.claim one.evidence ∷ in_order [] ls rest logs bans back) (sym of_log)
+fact_next [] (x ∷ log) lines facts rest logs bans back one none no_line is of_log = absurd (omega (arith, no_line))
+fact_next (x ∷ front) log lines facts rest logs bans back one none no_line is of_log = absurd (omega (arith, none))
+
+pub log_next : (front : List Record) (log lines : List LogLine) (facts : List Fact) (logs rest : List Log) (bans : List Ban) (back : List Record) (one : Log) → length front ≡ 0 → length log ≡ 0 → length facts ≡ 0 → logs ≡ one ∷ rest → lines ≡ one.lines → in_order front log facts logs bans back ≡ in_order front lines facts rest bans back
+log_next [] [] lines [] logs rest bans back one none no_line no_fact is of_log =
+    log_first logs rest bans back one is ∙ ap (λ ls. in_order [] ls [] rest bans back) (sym of_log)
+log_next [] [] lines (x ∷ facts) logs rest bans back one none no_line no_fact is of_log = absurd (omega (arith, no_fact))
+log_next [] (x ∷ log) lines facts logs rest bans back one none no_line no_fact is of_log = absurd (omega (arith, no_line))
+log_next (x ∷ front) log lines facts logs rest bans back one none no_line no_fact is of_log = absurd (omega (arith, none))
+
+pub ban_next : (front : List Record) (log : List LogLine) (facts : List Fact) (logs : List Log) (bans rest : List Ban) (back : List Record) (one : Ban) → length front ≡ 0 → length log ≡ 0 → length facts ≡ 0 → length logs ≡ 0 → bans ≡ one ∷ rest → in_order front log facts logs bans back ≡ entry.Ban one ∷ in_order front log facts logs rest back
+ban_next [] [] [] [] bans rest back one none no_line no_fact no_log is = ban_first bans rest back one is
+ban_next [] [] [] (x ∷ logs) bans rest back one none no_line no_fact no_log is = absurd (omega (arith, no_log))
+ban_next [] [] (x ∷ facts) logs bans rest back one none no_line no_fact no_log is = absurd (omega (arith, no_fact))
+ban_next [] (x ∷ log) facts logs bans rest back one none no_line no_fact no_log is = absurd (omega (arith, no_line))
+ban_next (x ∷ front) log facts logs bans rest back one none no_line no_fact no_log is = absurd (omega (arith, none))
+
+pub back_next : (front : List Record) (log : List LogLine) (facts : List Fact) (logs : List Log) (bans : List Ban) (back rest : List Record) (one : Record) → length front ≡ 0 → length log ≡ 0 → length facts ≡ 0 → length logs ≡ 0 → length bans ≡ 0 → back ≡ one ∷ rest → in_order front log facts logs bans back ≡ one ∷ in_order front log facts logs bans rest
+back_next [] [] [] [] [] back rest one none no_line no_fact no_log no_ban is = is
+back_next [] [] [] [] (x ∷ bans) back rest one none no_line no_fact no_log no_ban is = absurd (omega (arith, no_ban))
+back_next [] [] [] (x ∷ logs) bans back rest one none no_line no_fact no_log no_ban is = absurd (omega (arith, no_log))
+back_next [] [] (x ∷ facts) logs bans back rest one none no_line no_fact no_log no_ban is = absurd (omega (arith, no_fact))
+back_next [] (x ∷ log) facts logs bans back rest one none no_line no_fact no_log no_ban is = absurd (omega (arith, no_line))
+back_next (x ∷ front) log facts logs bans back rest one none no_line no_fact no_log no_ban is = absurd (omega (arith, none))
+
+-- where one of the lists isn't empty a step is left
+
+both_true : (b c : Bool) → b ≡ true → c ≡ true → (b && c) ≡ true
+both_true b c is also = ap (λ d. d && c) is ∙ also
+
+pub some_left : (front : List Record) (log : List LogLine) (facts : List Fact) (logs : List Log) (bans : List Ban) (back : List Record) (a b c d e f : Bool)
+    → a ≡ (length front == 0)
+    → b ≡ (length log == 0)
+    → c ≡ (length facts == 0)
+    → d ≡ (length logs == 0)
+    → e ≡ (length bans == 0)
+    → f ≡ (length back == 0)
+    → IsFalse (a && b && c && d && e && f)
+    → 0 < length (in_order front log facts logs bans back) + length logs
+some_left [] [] [] [] [] [] a b c d e f one two three four five six is =
+    absurd (false≢true (sym is ∙ both_true (a && b && c && d && e) f (both_true (a && b && c && d) e (both_true (a && b && c) d (both_true (a && b) c (both_true a b one two) three) four) five) six))
+some_left (x ∷ front) log facts logs bans back a b c d e f one two three four five six is = omega arith
+some_left [] (x ∷ log) facts logs bans back a b c d e f one two three four five six is = omega arith
+some_left [] [] (x ∷ facts) logs bans back a b c d e f one two three four five six is =
+    let first = fact_first (x ∷ facts) facts logs bans back x refl in omega (arith, ap length first)
+some_left [] [] [] (x ∷ logs) bans back a b c d e f one two three four five six is = omega arith
+some_left [] [] [] [] (x ∷ bans) back a b c d e f one two three four five six is = omega arith
+some_left [] [] [] [] [] (x ∷ back) a b c d e f one two three four five six is = omega arith
+
+-- a line was printed
+pub printed : {E : Type 0} (result : Result (Unit {0}) E) (old new : Lines) (before after : List ℕ) (one : Record)
+    → records_left old ≡ one ∷ records_left new
+    → length new.logs.now ≤ length old.logs.now
+    → OnOk result (after ≡ before ++ record_line one)
+    → OnOk result (IsWritable one)
+    → OnOk result (Steps old new before after)
+printed {E} (Err stop) old new before after one first logs line writable = tt
+printed {E} (Ok done) old new before after one first logs line writable = record {
+  lines = ap (λ text. text ++ lines_of (records_left new)) line ∙ (append_assoc before (record_line one) (lines_of (records_left new)) ∙ ap (λ entries. before ++ lines_of entries) (sym first));
+  writable = λ each. subst (All IsWritable) (sym first) (All-cons IsWritable one (records_left new) writable each);
+  fewer = λ some. omega (arith, logs, ap length first);
+}
+
+-- a log was begun
+pub begun : (old new : Lines) (text : List ℕ)
+    → records_left old ≡ records_left new
+    → length new.logs.now < length old.logs.now
+    → Steps old new text text
+begun old new text same fewer = record {
+  lines = ap (λ entries. text ++ lines_of entries) (sym same);
+  writable = λ each. subst (All IsWritable) (sym same) each;
+  fewer = λ some. omega (arith, fewer, ap length same);
+}
+
+-- all can be read back, where each that was printed can
+pub all_read_back : (lines : List Record) → lines ≡ [] → All IsWritable lines
+all_read_back lines none = subst (All IsWritable) (sym none) (All-nil IsWritable)
