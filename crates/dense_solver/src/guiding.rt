@@ -1,0 +1,62 @@
+//! What the solver looks at first.
+
+use crate::base::DenseBase;
+use cnf_core::SatLit;
+use gate_pairs::{Gate, Pair, gates_of, pairs_of};
+use learn_solver::{Agenda, Candidate, Guide, Operands};
+use std::alloc::{AllocError, Global};
+
+/// The number that vectors are drawn from. Each question of a run draws the same ones.
+const SEED: u64 = 1;
+
+/// The pairs of a query's gates that seem to be equal. Each is two candidates: that the one is true and the other isn't.
+#[derive(Drop)]
+pub(crate) struct GatePairs<'a> {
+    pub(crate) base: &'a DenseBase,
+    /// The numbers of the clauses that say what the gates are: after the first clause three for each.
+    pub(crate) ids: &'a [u64],
+}
+
+impl<'a> Guide for GatePairs<'a> {
+    fn agenda(&self, alloc: Global) -> Result<Agenda, AllocError> {
+        let gates = gates_of(alloc, self.base, self.ids)?;
+        let candidates = candidates_of(alloc, &gates)?;
+        let gates = operands_of(alloc, &gates)?;
+        Ok(Agenda { gates, candidates })
+    }
+}
+
+// Two candidates for each pair.
+fn candidates_of(alloc: Global, gates: &[Gate]) -> Result<Vec<Candidate>, AllocError> {
+    let pairs = pairs_of(alloc, gates, SEED)?;
+    let mut candidates = Vec::new(alloc);
+    for pair in pairs.iter() {
+        let Pair { one, other } = *pair;
+        push_clash(&mut candidates, one, other.opposite())?;
+        push_clash(&mut candidates, one.opposite(), other)?;
+    }
+    Ok(candidates)
+}
+
+// The variables of each gate.
+fn operands_of(alloc: Global, gates: &[Gate]) -> Result<Vec<Operands>, AllocError> {
+    let mut variables = Vec::new(alloc);
+    for gate in gates.iter() {
+        variables.push(Operands {
+            gate: gate.output.variable(),
+            first: gate.first.variable(),
+            second: gate.second.variable(),
+        })?;
+    }
+    Ok(variables)
+}
+
+// Adds the candidate that two literals are never true together.
+fn push_clash(
+    candidates: &mut Vec<Candidate>,
+    one: SatLit,
+    other: SatLit,
+) -> Result<(), AllocError> {
+    candidates.push(Candidate { one, other })?;
+    Ok(())
+}
