@@ -1,7 +1,6 @@
 //! One question about two cones, answered by a vector or by a refutation.
 #![tactic(auto)]
 
-mod guiding;
 mod question;
 mod vector;
 

@@ -235,18 +235,22 @@ renaming_made full ids names numbers lemmas told dense low over are turned numbe
       let low_k : k < length told = omega (arith, below, sizes, told_size) in
       let none : Clause3 = record { lits = []; len = 0 } in
       let own : map (renamed names) (clause_at (map literals_of dense) k) ≡ clause_at (front ++ clauses_of lemmas) k =
-          ap (map (renamed names)) (get_or-map literals_of dense k none [] (omega (arith, low_k, turned.size))) ∙ (turned.back k none none low_k ∙ (sym (get_or-map literals_of told k none [] low_k) ∙ ap (λ cs. clause_at cs k) over.are)) in
+      ap (map (renamed names)) (get_or-map literals_of dense k none [] (omega (arith, low_k, turned.size))) ∙ (turned.back k none none low_k ∙ (sym (get_or-map literals_of told k none [] low_k) ∙ ap (λ cs. clause_at cs k) over.are)) in
       sym (own ∙ sym (same_clause k (omega (arith, below, sizes))));
 })
   where
     front : List (List SatLit)
     front = map (clause_at full.clauses) ids
+
     after : List ℕ
     after = map (λ j. length full.clauses + j) (range_with_len 0 (length lemmas))
+
     sizes : length (ids ++ after) ≡ length ids + length lemmas
     sizes = omega (arith, length-append ids after, length-map-range_with_len (λ j. length full.clauses + j) 0 (length lemmas))
+
     told_size : length told ≡ length ids + length lemmas
     told_size = omega (arith, length-map told literals_of, ap length over.are, length-append front (clauses_of lemmas), length-map ids (clause_at full.clauses), length-map lemmas (λ (l : LogLine). l.clause))
+
     same_clause : (k : ℕ) → k < length ids + length lemmas → clause_at (full.clauses ++ clauses_of lemmas) (slice_index_or (ids ++ after) k 0) ≡ clause_at (front ++ clauses_of lemmas) k
     same_clause k below =
         let front_size = length-map ids (clause_at full.clauses) in
@@ -276,10 +280,10 @@ whole_made n wanted names told dense over turned =
     let dense_size = length-map dense literals_of in
     let all_size = length-map (map literals_of dense) (map (renamed names)) in
     sym over.are ∙ same_lists (map literals_of told) (map (map (renamed names)) (map literals_of dense)) (omega (arith, size, dense_size, all_size, turned.size)) (λ k below.
-        let low : k < length told = omega (arith, below, size) in
-        sym (get_or-map (map (renamed names)) (map literals_of dense) k [] [] (omega (arith, low, turned.size, dense_size))
-        ∙ (ap (map (renamed names)) (get_or-map literals_of dense k none [] (omega (arith, low, turned.size)))
-        ∙ (turned.back k none none low ∙ sym (get_or-map literals_of told k none [] low)))))
+    let low : k < length told = omega (arith, below, size) in
+    sym (get_or-map (map (renamed names)) (map literals_of dense) k [] [] (omega (arith, low, turned.size, dense_size))
+    ∙ (ap (map (renamed names)) (get_or-map literals_of dense k none [] (omega (arith, low, turned.size)))
+    ∙ (turned.back k none none low ∙ sym (get_or-map literals_of told k none [] low)))))
 
 -- one bit more
 pub spreading_more : (variables : ℕ) (names : List ℕ) (values full new : List Bool) (i v : ℕ) (b : Bool) → AreNames variables names → IsSpreading variables names values full i → i < length names → v ≡ slice_index_or names i v → b ≡ bit values i → new ≡ slice_set full v b → IsSpreading variables names values new (i + 1)

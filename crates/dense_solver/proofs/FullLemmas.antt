@@ -159,9 +159,9 @@ module _ (small : Formula) (names numbers : List ℕ) (full : Formula) (ids : Li
       let extended = charged_extended lines before after learned first charged in
       let ls : after.lines ≡ lemmas ++ map t lines = ap (λ (x : Charging O). x.lines) charged.charged ∙ ap (λ xs. xs ++ map t lines) first in
       let closed : list_any is_empty (clauses_of (lemmas ++ map t lines)) ≡ true =
-          ap (list_any is_empty) (clauses_after names numbers (length full.clauses + length lemmas) lemmas lines)
-          ∙ (list_any-append is_empty (clauses_of lemmas) (map (map (renamed names)) (clauses_of lines))
-          ∙ (ap (λ b. b || list_any is_empty (map (map (renamed names)) (clauses_of lines))) is.filled ∙ (empties_renamed (renamed names) (clauses_of lines) ∙ found))) in
+      ap (list_any is_empty) (clauses_after names numbers (length full.clauses + length lemmas) lemmas lines)
+      ∙ (list_any-append is_empty (clauses_of lemmas) (map (map (renamed names)) (clauses_of lines))
+      ∙ (ap (λ b. b || list_any is_empty (map (map (renamed names)) (clauses_of lines))) is.filled ∙ (empties_renamed (renamed names) (clauses_of lines) ∙ found))) in
       let same : whole.lines ≡ after.lines = told ∙ sym ls in
       record {
         lines_are = same;

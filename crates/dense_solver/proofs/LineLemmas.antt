@@ -54,7 +54,6 @@ tests_agree a b c d there back =
       | inr (no_, e) ↦ elim (eqb_tells c d) [ inl (is, f) ↦ absurd (e (back f)) | inr (is, f) ↦ no_ ∙ sym is ]
     ]
 
-
 same_number : (l m : SatLit) → l.0 ≡ m.0 → l ≡ m
 same_number l m e = ap (λ n. record { 0 = n }) e
 
@@ -78,6 +77,7 @@ names_rename variables names are = record {
   where
     name : SatLit → ℕ
     name l = slice_index_or names (variable_of l) 0
+
     back : (l m : SatLit) → variable_of l < length names → variable_of m < length names → renamed names l ≡ renamed names m → l.0 ≡ m.0
     back l m below there e =
         let variables_are : name l ≡ name m = sym (variable_of-literal (name l) (not (is_negated l))) ∙ (ap variable_of e ∙ variable_of-literal (name m) (not (is_negated m))) in

@@ -69,10 +69,13 @@ small_learned {O} small s new before after (Err stop) all extended = tt
 
 halted : {O : Type 0} (small : Formula) (s new : Solving) (before after : Charging O) (stop : Stop) → IsAll small s → IsStopped s new before after stop → IsHalted small before after stop
 halted {O} small s new before after Memory all is = tt
-halted {O} small s new before after (Spent n) all is = (learned small s new before after all is.extended, record {
-  told = is.learned_is;
-  used = omega (arith, is.used, is.extended.counted, ap length is.extended.lines_are, ap length (ap (λ (x : Solving). x.lines) all.is));
-})
+halted {O} small s new before after (Spent n) all is = (
+  learned small s new before after all is.extended,
+  record {
+    told = is.learned_is;
+    used = omega (arith, is.used, is.extended.counted, ap length is.extended.lines_are, ap length (ap (λ (x : Solving). x.lines) all.is));
+  },
+)
 
 pub small_halted : {O : Type 0} (small : Formula) (s new : Solving) (before after : Charging O) (r : Result Verdict Stop) → IsAll small s → IfErr r (IsStopped s new before after) → IfErr r (IsHalted small before after)
 small_halted {O} small s new before after (Ok v) all is = tt

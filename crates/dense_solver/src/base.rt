@@ -105,12 +105,7 @@ impl Base for DenseBase {
 }
 
 // The numbers of clauses of a formula, and those of n lemmas after it.
-fn numbers_of(
-    alloc: Global,
-    ids: &[u64],
-    count: u64,
-    lemmas: usize,
-) -> Result<Vec<u64>, AllocError>
+fn numbers_of(alloc: Global, ids: &[u64], count: u64, lemmas: usize) -> Result<Vec<u64>, AllocError>
     requires count { count < 2 ^ 62 }
     requires lemmas { lemmas < 2 ^ 63 }
     ensures { IfOk result (λ numbers. numbers.items ≡ numbers_of ids.now count lemmas) }

@@ -10,8 +10,8 @@ mod lines;
 mod names;
 mod small;
 mod solving;
-mod telling;
 mod tab;
+mod telling;
 
 pub use base::DenseBase;
 pub use lines::translated;

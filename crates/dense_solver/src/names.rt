@@ -49,11 +49,7 @@ fn list_clauses(
 }
 
 // Lists the variables of a clause that aren't marked yet, and marks them.
-fn list_all(
-    clause: &[SatLit],
-    marked: &mut [bool],
-    names: &mut Vec<u64>,
-) -> Result<(), AllocError>
+fn list_all(clause: &[SatLit], marked: &mut [bool], names: &mut Vec<u64>) -> Result<(), AllocError>
     requires known { AreKnown (length marked.old) clause.now }
     requires marks { AreMarks (length marked.old) names.old.items marked.old }
     ensures marks { OnOk result (AreMarks (length marked.old) names.new.items marked.new) }
