@@ -7,13 +7,12 @@ ghost use Rattle.query_core.specs.Queries.{IsQuery};
 ghost use Rattle.joint_hash.specs.Merging.{AreLemmas};
 ghost use Rattle.ask_core.specs.Answers.{IsAnswer, IsAskedIn, IsBounded, IsBoundedStop, IsPaidFor, IsStopped};
 
-use crate::guiding::GatePairs;
-use crate::told::solve_told;
 use crate::vector::vector_of;
 use cnf_core::{Log, LogLine, Stop};
+use dense_solver::{Tab, solve_dense};
 use items::Items;
 use joint_hash::merge_cones;
-use learn_solver::{Solver, Verdict};
+use learn_solver::Verdict;
 use net_core::Graphs;
 use query_core::{Ledger, Query, QueryBase, cone_ids};
 use std::alloc::Global;
@@ -78,12 +77,12 @@ pub fn ask_watched<W: Watch>(
 }
 
 // Answers a query by the clauses of these numbers, which are those of its cones, and by lemmas.
-fn ask_cones<'a, W: Watch>(
+fn ask_cones<W: Watch>(
     alloc: Global,
     graphs: &Graphs<'_>,
     query: &Query,
-    base: &'a QueryBase<'a>,
-    ids: &'a [u64],
+    base: &QueryBase<'_>,
+    ids: &[u64],
     lemmas: &[LogLine],
     ledger: &mut Ledger,
     watch: &W,
@@ -101,9 +100,8 @@ fn ask_cones<'a, W: Watch>(
     ensures stop { IfErr result (IsStopped graphs.now query.now ledger.old ledger.new) }
 {
     ledger.open(alloc, query, lemmas)?;
-    let mut solver = Solver::new(alloc, base, ids, lemmas)?;
-    let guide = GatePairs { base, ids };
-    match solve_told(alloc, &mut solver, &guide, ledger, watch)? {
+    let tab = Tab::new(alloc, ledger.budget(), ledger.learned(), watch);
+    match solve_dense(alloc, base, ids, lemmas, tab, ledger)? {
         Verdict::Model(values) => {
             let vector = vector_of(alloc, graphs, query, &values)?;
             Ok(Answer::Vector(vector))

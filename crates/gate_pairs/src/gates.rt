@@ -3,7 +3,6 @@
 ghost use Rattle.std.specs.Prelude.{◌*◌, ◌<◌, length};
 
 use cnf_core::{Base, SatLit};
-use query_core::QueryBase;
 use std::alloc::{AllocError, Global};
 
 /// A gate: the literal of its variable, and its operands.
@@ -20,7 +19,7 @@ pub struct Gate {
 /// # Errors
 ///
 /// Only when out of memory.
-pub fn gates_of(alloc: Global, base: &QueryBase<'_>, ids: &[u64]) -> Result<Vec<Gate>, AllocError> {
+pub fn gates_of<B: Base>(alloc: Global, base: &B, ids: &[u64]) -> Result<Vec<Gate>, AllocError> {
     let mut gates = Vec::new(alloc);
     let end = ids.len() / 3;
     for k in 1..end {
@@ -33,7 +32,7 @@ pub fn gates_of(alloc: Global, base: &QueryBase<'_>, ids: &[u64]) -> Result<Vec<
 
 // Gate k of the cones, counted from 1, whose clauses have these numbers: after that of variable 0 three for each gate, of
 // which the last says that the operands imply it.
-fn gate_at(base: &QueryBase<'_>, ids: &[u64], k: usize) -> Option<Gate>
+fn gate_at<B: Base>(base: &B, ids: &[u64], k: usize) -> Option<Gate>
     requires { 3 * k < length ids.now }
 {
     let id = ids[3 * k];

@@ -1,9 +1,10 @@
 -- A lemma more: an implication between two variables.
-use Rattle.std.proofs.Common.{◌≡◌, ◌≢◌, ℕ, ◌+◌, ◌<◌, ◌==◌, ◌&&◌, ◌||◌, not, cond, true, false, List, [], ◌∷◌, ◌++◌, length, map, take, None, Some, nat_lt, slice_index_or, inl, inr, refl, sym, ◌∙◌, ap, subst, arith, ne_eqb}
+use Rattle.std.proofs.Common.{◌≡◌, ◌≢◌, ℕ, ◌+◌, ◌<◌, ◌≤◌, ◌==◌, ◌&&◌, ◌||◌, not, cond, true, false, List, [], ◌∷◌, ◌++◌, length, map, take, All, None, Some, nat_lt, slice_index_or, inl, inr, refl, sym, ◌∙◌, ap, subst, arith, ne_eqb}
 use Rattle.std.specs.List.{list_any, list_all}
 use Rattle.std.proofs.lemmas.Bool.{cases_eq, cond-false, lt-ltb}
 use Rattle.std.proofs.lemmas.List.{get_or_append_left, get_or_at, length-append, map-append, take-append-le, take_at}
 use Rattle.std.proofs.lemmas.List.Folds.{list_any-append}
+use Rattle.std.proofs.lemmas.List.Elements.{All-push}
 use Rattle.cnf_core.specs.declared.literal.SatLit.{SatLit}
 use Rattle.cnf_core.specs.declared.log.LogLine.{LogLine}
 use Rattle.cnf_core.specs.declared.fault.LineFault.TheVariants as fault
@@ -52,7 +53,8 @@ lemma_more formula lines clause hints a b are is below there apart good =
           ap (list_any is_empty) (map-append (λ (l : LogLine). l.clause) lines (line ∷ []))
           ∙ (list_any-append is_empty (clauses_of lines) (clause ∷ [])
           ∙ (ap (λ t. t || (is_empty clause || false)) are.filled ∙ ap (λ c. is_empty c || false) is));
+      short = subst (All (λ (c : List SatLit). length c ≤ 3)) (sym (map-append (λ (l : LogLine). l.clause) lines (line ∷ []))) (All-push (λ (c : List SatLit). length c ≤ 3) (clauses_of lines) clause are.short (omega (arith, ap length is)));
     }
 
 pub no_lemmas : (formula : Formula) (lines : List LogLine) → lines ≡ [] → AreLemmas formula lines
-no_lemmas formula lines none = subst (λ ls. AreLemmas formula ls) (sym none) (record { derived = λ k d below. absurd (omega (arith, below)); filled = refl })
+no_lemmas formula lines none = subst (λ ls. AreLemmas formula ls) (sym none) (record { derived = λ k d below. absurd (omega (arith, below)); filled = refl; short = λ k d below. absurd (omega (arith, below)) })

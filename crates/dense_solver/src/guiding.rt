@@ -1,9 +1,9 @@
 //! What the solver looks at first.
 
+use crate::base::DenseBase;
 use cnf_core::SatLit;
 use gate_pairs::{Gate, Pair, gates_of, pairs_of};
 use learn_solver::{Agenda, Candidate, Guide, Operands};
-use query_core::QueryBase;
 use std::alloc::{AllocError, Global};
 
 /// The number that vectors are drawn from. Each question of a run draws the same ones.
@@ -12,8 +12,8 @@ const SEED: u64 = 1;
 /// The pairs of a query's gates that seem to be equal. Each is two candidates: that the one is true and the other isn't.
 #[derive(Drop)]
 pub(crate) struct GatePairs<'a> {
-    pub(crate) base: &'a QueryBase<'a>,
-    /// The numbers of the cones' clauses.
+    pub(crate) base: &'a DenseBase,
+    /// The numbers of the clauses that say what the gates are: after the first clause three for each.
     pub(crate) ids: &'a [u64],
 }
 

@@ -1,0 +1,5 @@
+pub mod RenameLemmas
+pub mod LineLemmas
+pub mod BaseLemmas
+pub mod SmallLemmas
+pub mod FullLemmas

@@ -1,0 +1,9 @@
+-- A line is over the names.
+use Rattle.std.proofs.Common.{length}
+use Rattle.watch_lists.specs.Propagations.{AreKnown}
+use Rattle.learn_solver.proofs.StartLemmas.{line_clause}
+use Rattle.dense_solver.proofs.telling.translated_all.Goals as goal
+
+pub translated-requires-clause-known : goal.translated-requires-clause-known
+translated-requires-clause-known c =
+    line_clause (AreKnown (length c.args.dense.now.names)) c.args.lines.now c.loop-line.line-index c.line-item.result c.loop-line-test.true c.line-item.is c.requires.known
