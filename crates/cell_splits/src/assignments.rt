@@ -35,6 +35,22 @@ impl Assignment {
         })
     }
 
+    /// The inputs of the first circuit whose signs are known have one bit: 0 or 1 on all is what few drawn assignments come
+    /// near to, and what tells the bits of two numbers that are compared.
+    pub fn constant(
+        alloc: Global,
+        inputs: &Cells,
+        bit: bool,
+        blocks: u64,
+    ) -> Result<Assignment, AllocError> {
+        let is_all = open_in(inputs) <= 8;
+        Ok(Assignment {
+            patterns: Patterns::constant(alloc, inputs, bit)?,
+            blocks: if is_all { 1 } else { blocks },
+            is_all,
+        })
+    }
+
     /// An assignment that most literals of each cell have on a vector of the first circuit.
     pub fn by_majority(
         alloc: Global,
@@ -110,8 +126,8 @@ fn leave_out_single(cells: &[usize], sizes: &[usize], tally: &mut Tally) {
     }
 }
 
-// How many inputs of a circuit have open signs.
-fn open_in(inputs: &Cells) -> usize {
+/// How many inputs of a circuit have open signs.
+pub fn open_in(inputs: &Cells) -> usize {
     let mut open = 0usize;
     for literal in 0..inputs.of(Side::First).len() {
         open = open.saturating_add(inputs.is_open(literal) as usize);

@@ -2,22 +2,27 @@
 
 use crate::draws::Draws;
 use crate::lane_counts::LaneCounts;
-use flip_sim::{FlipSim, Lanes};
+use flip_sim::{FlipSim, Lanes, bit_of, with_bit};
 use items::Items;
 use port_cells::port_at;
 use std::alloc::{AllocError, Global};
 
 /// The most generations. Later ones gain little.
-const MOST_GENERATIONS: u32 = 300;
+const MOST_GENERATIONS: u64 = 300;
 
-/// How many of 256 vectors have descendants; they stay too.
-const PARENTS: usize = 64;
+/// How many words of gates may be computed for them, a tenth of a second's, and how many generations there are at least.
+const MOST_WORDS: u64 = 1 << 27;
+
+const FEWEST_GENERATIONS: u64 = 8;
+
+/// How many of 256 vectors have descendants. They stay too, as the first ones.
+pub const BEST: usize = 64;
 
 /// From which vector on a descendant has two inputs inverted and not one.
 const FIRST_OF_TWO: usize = 160;
 
 /// 256 vectors of a circuit on which many outputs change with many inputs, far more than on drawn ones: there wide gates tell
-/// their inputs. A column for each input.
+/// their inputs. A column for each input. The first `BEST` are the best so far, the others are made of them.
 ///
 /// # Errors
 ///
@@ -38,15 +43,17 @@ pub fn climbed(
 }
 
 // A generation sets few inputs right, so that many inputs take many.
-fn generations(simulator: &FlipSim<'_>) -> u32 {
-    let inputs = simulator.graph().inputs();
+fn generations(simulator: &FlipSim<'_>) -> u64 {
+    let inputs = u64::from(simulator.graph().inputs());
+    let most = (MOST_WORDS / simulator.words_of_flips().max(1)).max(FEWEST_GENERATIONS);
     inputs
         .saturating_mul(2)
         .saturating_add(40)
         .min(MOST_GENERATIONS)
+        .min(most)
 }
 
-// The best vectors, and others that are made of them.
+// The best vectors, and three others that are made of each of them.
 fn next_generation(
     alloc: Global,
     vectors: &[Lanes],
@@ -54,12 +61,50 @@ fn next_generation(
     draws: &mut Draws,
 ) -> Result<Items<Lanes>, AllocError> {
     let best = by_changes(alloc, vectors, simulator)?;
-    let mutations = mutations(alloc, &best, vectors.len(), draws)?;
-    let mut next = Items::new(alloc);
-    for (input, lanes) in vectors.iter().enumerate() {
-        next.push(mutated(*lanes, input, &mutations))?;
+    let turns = [turn(draws), turn(draws), turn(draws)];
+    let mut next = Vec::with_capacity(alloc, vectors.len())?;
+    for lanes in vectors.iter() {
+        next.push(descended(*lanes, &best, turns))?;
     }
-    Ok(next)
+    mutate(draws, &mut next);
+    Ok(Items::from_vec(next))
+}
+
+// By how much the best vectors are turned, which there are 64 of.
+fn turn(draws: &mut Draws) -> u32 {
+    (draws.word() % 64) as u32
+}
+
+// What an input has on the best vectors, and on three more turns of them.
+fn descended(lanes: Lanes, best: &[usize], turns: [u32; 3]) -> Lanes {
+    let mut word = 0u64;
+    for (place, lane) in best.iter().take(BEST).enumerate() {
+        word |= (bit_of(lanes, *lane) as u64) << (place % 64);
+    }
+    let [one, two, three] = turns;
+    Lanes::from_array([
+        word,
+        word.rotate_left(one),
+        word.rotate_left(two),
+        word.rotate_left(three),
+    ])
+}
+
+// Inverts one input on each vector after the best ones, and two on the last of them.
+fn mutate(draws: &mut Draws, vectors: &mut [Lanes]) {
+    for lane in BEST..256 {
+        invert(draws.below(vectors.len()), lane, vectors);
+        if lane >= FIRST_OF_TWO {
+            invert(draws.below(vectors.len()), lane, vectors);
+        }
+    }
+}
+
+fn invert(input: usize, lane: usize, vectors: &mut [Lanes]) {
+    if input < vectors.len() {
+        let lanes = vectors[input];
+        vectors[input] = with_bit(lanes, lane, !bit_of(lanes, lane));
+    }
 }
 
 // The vectors' numbers, those on which most outputs change with inputs first.
@@ -85,59 +130,4 @@ fn add_changes(simulator: &FlipSim<'_>, input: u32, changes: &mut LaneCounts) {
     for output in simulator.reached(input).iter() {
         changes.add(simulator.output(*output) ^ simulator.flipped_output(*output));
     }
-}
-
-// What a vector of the next generation is made of.
-#[derive(Clone, Copy, Debug, Drop)]
-struct Mutation {
-    parent: usize,
-    /// The inputs that are inverted; the number of inputs stands for none.
-    one: usize,
-    other: usize,
-}
-
-fn mutations(
-    alloc: Global,
-    best: &[usize],
-    inputs: usize,
-    draws: &mut Draws,
-) -> Result<Vec<Mutation>, AllocError> {
-    let mut mutations = Vec::with_capacity(alloc, 256)?;
-    for lane in 0..256usize {
-        let is_parent = lane < PARENTS;
-        let rank = if is_parent {
-            lane
-        } else {
-            draws.below(PARENTS)
-        };
-        mutations.push(Mutation {
-            parent: match best.get(rank) {
-                Some(parent) => *parent,
-                None => 0,
-            },
-            one: if is_parent {
-                inputs
-            } else {
-                draws.below(inputs)
-            },
-            other: if lane < FIRST_OF_TWO {
-                inputs
-            } else {
-                draws.below(inputs)
-            },
-        })?;
-    }
-    Ok(mutations)
-}
-
-// An input's bits on the next generation.
-fn mutated(lanes: Lanes, input: usize, mutations: &[Mutation]) -> Lanes {
-    let old = lanes.to_array();
-    let mut new = [0u64; 4];
-    for (lane, mutation) in mutations.iter().enumerate() {
-        let bit = (old[mutation.parent / 64 % 4] >> (mutation.parent % 64)) % 2;
-        let inverted = (mutation.one == input) != (mutation.other == input);
-        new[lane / 64 % 4] |= (bit ^ inverted as u64) << (lane % 64);
-    }
-    Lanes::from_array(new)
 }

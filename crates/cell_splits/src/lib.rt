@@ -12,8 +12,8 @@ mod patterns;
 mod state;
 
 pub use anchors::anchored;
-pub use assignments::Assignment;
-pub use climbing::climbed;
+pub use assignments::{Assignment, open_in};
+pub use climbing::{BEST, climbed};
 pub use draws::Draws;
 pub use exact::{Keys, add_hashes};
 pub use link::Link;

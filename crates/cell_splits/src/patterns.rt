@@ -66,6 +66,18 @@ impl Patterns {
         Ok(patterns)
     }
 
+    /// All inputs of the first circuit have one bit. Where cells have a literal and another one's complement the last one
+    /// decides.
+    pub fn constant(alloc: Global, inputs: &Cells, bit: bool) -> Result<Patterns, AllocError> {
+        let mut patterns = Patterns {
+            cells: vec![in alloc; replicated(false); inputs.count()]?,
+        };
+        for port in 0..inputs.of(Side::First).len() / 2 {
+            patterns.assign(inputs, port, replicated(bit));
+        }
+        Ok(patterns)
+    }
+
     /// One bit for each cell: the one that most of its literals have on a vector of the first circuit, which is a lane of its
     /// inputs' bits.
     pub fn by_majority(
@@ -165,9 +177,12 @@ fn put_lanes(cells: &mut [Lanes], cell: Option<&usize>, lanes: Lanes) {
 
 // On which of 64 vectors a port's turn comes, where the turns go round from a port on.
 fn hot_lanes(port: usize, ports: usize, from: usize) -> u64 {
+    let ports = ports.max(1);
+    let first = port.saturating_add(ports).saturating_sub(from % ports) % ports;
     let mut lanes = 0u64;
-    for lane in 0..64usize {
-        if from.saturating_add(lane) % ports.max(1) == port {
+    for turn in 0..64 / ports + 1 {
+        let lane = ports.saturating_mul(turn).saturating_add(first);
+        if lane < 64 {
             lanes |= 1u64 << lane;
         }
     }

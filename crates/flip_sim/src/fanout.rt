@@ -1,27 +1,21 @@
 //! What an input reaches.
 
-ghost use Rattle.std.specs.Prelude.{◌≡◌, ◌+◌, ◌^◌, ◌<◌, All, IfOk, OnOk, length, vec_len};
+ghost use Rattle.std.specs.Prelude.{◌≡◌, ◌+◌, ◌^◌, ◌<◌, All, OnOk, length};
 ghost use Rattle.circuits.specs.Literals.{signal_of};
-ghost use Rattle.circuits.specs.Netlists.{signals_of};
-ghost use Rattle.flip_sim.specs.Fanouts.{IsFanout, IsStep};
 ghost use Rattle.net_core.specs.Graph.{AreInOrder};
 
 use items::Items;
 use net_core::{Gate, Graph, Lit};
 use std::alloc::{AllocError, Global};
 
-/// A gate that an input reaches, and its signal.
-#[derive(Clone, Copy, Debug, Drop)]
-pub(crate) struct Step {
-    pub(crate) gate: Gate,
-    pub(crate) signal: u32,
-}
-
 /// What an input reaches.
 #[derive(Debug, Drop)]
 pub(crate) struct Fanout {
-    /// The gates, in order.
-    pub(crate) steps: Items<Step>,
+    /// A bit for each gate, 64 in a word: a list of the gates would take 32 times as much where an input reaches all of them, and
+    /// a circuit of 1,024 inputs and 100,000 gates takes 13 megabytes.
+    pub(crate) gates: Items<u64>,
+    /// How many gates there are.
+    pub(crate) count: u64,
     /// The outputs, ascending.
     pub(crate) outputs: Items<u32>,
 }
@@ -30,18 +24,15 @@ impl Fanout {
     /// How many words of 64 vectors are computed where the input is inverted. Comparing an output costs as much as some four
     /// gates.
     pub(crate) fn words(&self) -> u64 {
-        let gates = self.steps.len() as u64;
         let outputs = self.outputs.len() as u64;
-        gates
+        self.count
             .saturating_add(outputs.saturating_mul(4))
             .saturating_mul(4)
     }
 }
 
 /// What each input of a circuit reaches.
-pub(crate) fn fanouts(alloc: Global, graph: &Graph) -> Result<Items<Fanout>, AllocError>
-    ensures { IfOk result (All (IsFanout (signals_of graph.now))) }
-{
+pub(crate) fn fanouts(alloc: Global, graph: &Graph) -> Result<Items<Fanout>, AllocError> {
     let mut fanouts = Items::new(alloc);
     for input in 0..graph.inputs() {
         fanouts.push(fanout_of(alloc, graph, input)?)?;
@@ -52,14 +43,17 @@ pub(crate) fn fanouts(alloc: Global, graph: &Graph) -> Result<Items<Fanout>, All
 // What an input reaches.
 fn fanout_of(alloc: Global, graph: &Graph, input: u32) -> Result<Fanout, AllocError>
     requires { input < graph.now.inputs }
-    ensures { IfOk result (IsFanout (signals_of graph.now)) }
 {
     let mut reached = vec![in alloc; false; graph.signals()]?;
     reached[input as usize + 1] = true;
     let first = graph.inputs() as usize + 1;
-    let steps = reached_gates(alloc, graph.gates(), first, &mut reached)?;
+    let gates = reached_gates(alloc, graph.gates(), first, &mut reached)?;
     let outputs = reached_outputs(alloc, graph.outputs(), &reached)?;
-    Ok(Fanout { steps, outputs })
+    Ok(Fanout {
+        count: ones_of(&gates),
+        gates,
+        outputs,
+    })
 }
 
 // The gates that read a reached signal, which are reached then too. Signal `first` is the first gate.
@@ -68,25 +62,25 @@ fn reached_gates(
     gates: &[Gate],
     first: usize,
     reached: &mut [bool],
-) -> Result<Items<Step>, AllocError>
+) -> Result<Items<u64>, AllocError>
     requires order { AreInOrder first gates.now }
     requires room { first + length gates.now ≡ length reached.old }
-    requires few { first + length gates.now < 2 ^ 31 }
-    ensures steps { IfOk result (All (IsStep (length reached.old))) }
-    ensures length { length reached.new ≡ length reached.old }
+    ensures { length reached.new ≡ length reached.old }
 {
-    let mut steps = Items::new(alloc);
+    let mut words = Items::new(alloc);
+    let mut word = 0u64;
     for t in 0..gates.len() {
-        let gate = gates[t];
-        if reads(gate, reached) {
+        if reads(gates[t], reached) {
             reached[first + t] = true;
-            steps.push(Step {
-                gate,
-                signal: (first + t) as u32,
-            })?;
+            word |= 1u64 << (t % 64);
+        }
+        if t % 64 == 63 {
+            words.push(word)?;
+            word = 0;
         }
     }
-    Ok(steps)
+    words.push(word)?;
+    Ok(words)
 }
 
 // Whether a gate reads a reached signal.
@@ -95,6 +89,15 @@ fn reads(gate: Gate, reached: &[bool]) -> bool
     requires second_operand { signal_of gate.b < length reached.now }
 {
     reached[gate.a.signal() as usize] | reached[gate.b.signal() as usize]
+}
+
+// How many bits are 1.
+fn ones_of(words: &[u64]) -> u64 {
+    let mut ones = 0u64;
+    for word in words.iter() {
+        ones = ones.saturating_add(u64::from(word.count_ones()));
+    }
+    ones
 }
 
 // The outputs whose signals are reached.

@@ -1,12 +1,11 @@
 //! A circuit on 256 vectors at once.
 
-ghost use Rattle.std.specs.Prelude.{◌≡◌, ◌+◌, ◌<◌, All, length, vec_len};
+ghost use Rattle.std.specs.Prelude.{◌≡◌, ◌+◌, ◌<◌, length, vec_len};
 ghost use Rattle.circuits.specs.Literals.{signal_of};
 ghost use Rattle.circuits.specs.Netlists.{signals_of};
-ghost use Rattle.flip_sim.specs.Fanouts.{IsFanout, IsStep};
-ghost use Rattle.net_core.specs.Graph.{AreInOrder, IsGraph};
+ghost use Rattle.net_core.specs.Graph.{AreInOrder};
 
-use crate::fanout::{Fanout, Step, fanouts};
+use crate::fanout::{Fanout, fanouts};
 use crate::lanes::{Lanes, replicated};
 use items::Items;
 use net_core::{Gate, Graph, Lit};
@@ -20,23 +19,23 @@ pub struct FlipSim<'a> {
     fanouts: Items<Fanout>,
     /// What each signal has on the vectors.
     values: Vec<Lanes>,
-    /// What it has with the input inverted, and else the same.
+    /// What it has with the input inverted, and else the same, once an input was inverted on these vectors.
     flipped: Vec<Lanes>,
+    /// Whether that is so. Who inverts no input needs no copy.
+    is_copied: bool,
     /// How many words of 64 vectors were computed.
     words: u64,
 }
 
 impl<'a> Model for FlipSim<'a> {
-    ghost use Rattle.std.specs.Prelude.{◌≡◌, All, vec_len};
+    ghost use Rattle.std.specs.Prelude.{◌≡◌, vec_len};
     ghost use Rattle.circuits.specs.Netlists.{Net, signals_of};
-    ghost use Rattle.flip_sim.specs.Fanouts.{IsFanout};
 
     ghost Value = { Net };
 
     ghost view = { λ a. a.graph.now };
 
-    ghost invariant = { λ a. All (IsFanout (signals_of a.graph.now)) a.fanouts
-        × (vec_len a.values ≡ signals_of a.graph.now)
+    ghost invariant = { λ a. (vec_len a.values ≡ signals_of a.graph.now)
         × (vec_len a.flipped ≡ signals_of a.graph.now) };
 }
 
@@ -56,6 +55,7 @@ impl<'a> FlipSim<'a> {
             fanouts,
             values,
             flipped,
+            is_copied: false,
             words: 0,
         })
     }
@@ -112,14 +112,13 @@ impl<'a> FlipSim<'a> {
             self.graph.inputs() as usize + 1,
             self.values.as_mut_slice(),
         );
-        self.flipped
-            .as_mut_slice()
-            .copy_from_slice(self.values.as_slice());
+        self.is_copied = false;
         self.words = self.words.saturating_add(4 * gates.len() as u64);
     }
 
     /// Inverts an input, and computes what the gates have that it reaches.
     pub fn flip(&mut self, input: u32) {
+        self.copy();
         if input >= self.graph.inputs() {
             return;
         }
@@ -127,8 +126,23 @@ impl<'a> FlipSim<'a> {
             return;
         };
         self.flipped[input as usize + 1] = !self.values[input as usize + 1];
-        flip_gates(&fanout.steps, self.flipped.as_mut_slice());
+        flip_gates(
+            self.graph.gates(),
+            self.graph.inputs() as usize + 1,
+            &fanout.gates,
+            self.flipped.as_mut_slice(),
+        );
         self.words = self.words.saturating_add(fanout.words());
+    }
+
+    // Copies what each signal has on the vectors, if that wasn't done yet.
+    fn copy(&mut self) {
+        if !self.is_copied {
+            self.flipped
+                .as_mut_slice()
+                .copy_from_slice(self.values.as_slice());
+            self.is_copied = true;
+        }
     }
 
     /// Takes the inversion of an input back.
@@ -141,7 +155,8 @@ impl<'a> FlipSim<'a> {
         };
         self.flipped[input as usize + 1] = self.values[input as usize + 1];
         restore(
-            &fanout.steps,
+            &fanout.gates,
+            self.graph.inputs() as usize + 1,
             self.values.as_slice(),
             self.flipped.as_mut_slice(),
         );
@@ -176,25 +191,61 @@ fn run_gates(gates: &[Gate], first: usize, values: &mut [Lanes])
     }
 }
 
-// Gives each of some gates its bits, in order.
-fn flip_gates(steps: &[Step], values: &mut [Lanes])
-    requires { All (IsStep (length values.old)) steps.now }
+// Gives each of some gates its bits, in order, where signal `first` is the first gate. The gates are bits, 64 in a word.
+fn flip_gates(gates: &[Gate], first: usize, words: &[u64], values: &mut [Lanes])
+    requires order { AreInOrder first gates.now }
+    requires room { first + length gates.now ≡ length values.old }
     ensures { length values.new ≡ length values.old }
 {
-    for step in steps.iter() {
-        let lanes = gate_lanes(values, step.gate);
-        values[step.signal as usize] = lanes;
+    for (place, word) in words.iter().enumerate() {
+        flip_word(gates, first, place.saturating_mul(64), *word, values);
+    }
+}
+
+// Gives the gates of a word their bits, those from the place `from` on.
+fn flip_word(gates: &[Gate], first: usize, from: usize, word: u64, values: &mut [Lanes])
+    requires order { AreInOrder first gates.now }
+    requires room { first + length gates.now ≡ length values.old }
+    ensures { length values.new ≡ length values.old }
+{
+    let mut left = word;
+    for _ in 0..word.count_ones() {
+        let t = from.saturating_add(left.trailing_zeros() as usize);
+        if t < gates.len() {
+            let lanes = gate_lanes(values, gates[t]);
+            values[first + t] = lanes;
+        }
+        left &= left.wrapping_sub(1);
     }
 }
 
 // Gives each of some gates the bits that it has in other values.
-fn restore(steps: &[Step], from: &[Lanes], values: &mut [Lanes])
-    requires steps { All (IsStep (length values.old)) steps.now }
-    requires from { length from.now ≡ length values.old }
+fn restore(words: &[u64], first: usize, from: &[Lanes], values: &mut [Lanes])
+    requires { length from.now ≡ length values.old }
     ensures { length values.new ≡ length values.old }
 {
-    for step in steps.iter() {
-        values[step.signal as usize] = from[step.signal as usize];
+    for (place, word) in words.iter().enumerate() {
+        restore_word(
+            *word,
+            place.saturating_mul(64).saturating_add(first),
+            from,
+            values,
+        );
+    }
+}
+
+// Gives the gates of a word the bits that they have in other values, from the signal `first` on.
+fn restore_word(word: u64, first: usize, from: &[Lanes], values: &mut [Lanes])
+    requires { length from.now ≡ length values.old }
+    ensures { length values.new ≡ length values.old }
+{
+    let mut left = word;
+    for _ in 0..word.count_ones() {
+        let signal = first.saturating_add(left.trailing_zeros() as usize);
+        if signal < values.len() {
+            values[signal] = from[signal];
+        }
+        left &= left.wrapping_sub(1);
     }
 }
 

@@ -47,10 +47,8 @@ pub(crate) fn compare_guesses<O: Oracle>(
     ensures serves { Serves (O.known oracle.old) (O.known oracle.new) ledger.old ledger.new result }
     ensures shown { IfOk result (λ found. IfSome found (λ shown. IsShownMatch graphs.now shown.0 shown.1)) }
 {
-    match Guesser::new(alloc, graphs, seed)? {
-        Some(mut guesser) => compare_by(alloc, graphs, oracle, &mut guesser, ledger),
-        None => Ok(None),
-    }
+    let mut guesser = Guesser::new(alloc, graphs, seed)?;
+    compare_by(alloc, graphs, oracle, &mut guesser, ledger)
 }
 
 // Compares what a guesser finds.

@@ -34,11 +34,11 @@ pub fn turn_back(
     ensures less { IfOk result (λ refusal. IfNone refusal (left domains.new < left domains.old)) }
     ensures refusal { IfOk result (λ refusal. IfSome refusal (IsEmptyBan book.new)) }
 {
-    queue.add_new(book.bans())?;
+    queue.add_new(domains, book.bans())?;
     match learn(alloc, graphs, domains, impasse, book)? {
         Learned::Refusal(ban) => Ok(Some(ban)),
         Learned::Back(back) => {
-            queue.add_learned(book.bans(), back.ban)?;
+            queue.add_learned(domains, book.bans(), back.ban)?;
             go_back(domains, queue, book.bans(), back)?;
             Ok(None)
         }

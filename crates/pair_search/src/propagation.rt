@@ -35,9 +35,11 @@ pub fn propagate(
         return Ok(Some(impasse));
     }
     while queue.head < domains.entries().len() {
-        let entry = domains.entries()[queue.head];
-        queue.head += 1;
-        if let Some(impasse) = follow(domains, queue, bans, entry)? {
+        let place = queue.head;
+        let entry = domains.entries()[place];
+        let found = follow(domains, queue, bans, entry)?;
+        queue.head = place + 1;
+        if let Some(impasse) = found {
             return Ok(Some(impasse));
         }
     }
@@ -56,7 +58,7 @@ fn apply_new(
         (IsImpasse domains.new.inputs domains.new.outputs bans.now domains.new.entries)) }
 {
     for number in queue.seen..bans.len() {
-        queue.add(&bans[number], number as u64)?;
+        queue.add(domains, &bans[number], number as u64)?;
         queue.seen = number + 1;
         if let Some(impasse) = apply_ban(domains, bans, number as u64)? {
             return Ok(Some(impasse));
@@ -88,7 +90,7 @@ fn apply_ban(
 // What follows of one entry.
 fn follow(
     domains: &mut Domains,
-    queue: &Queue,
+    queue: &mut Queue,
     bans: &[Ban],
     entry: Entry,
 ) -> Result<Option<Impasse>, AllocError>
@@ -106,7 +108,7 @@ fn follow(
 // What follows of a pair that is held.
 fn follow_held(
     domains: &mut Domains,
-    queue: &Queue,
+    queue: &mut Queue,
     bans: &[Ban],
     pair: Pair,
 ) -> Result<Option<Impasse>, AllocError>
@@ -123,10 +125,10 @@ fn follow_held(
     Ok(found)
 }
 
-// Applies the bans that a pair is in.
+// Applies the bans that watch a pair.
 fn apply_bans(
     domains: &mut Domains,
-    queue: &Queue,
+    queue: &mut Queue,
     bans: &[Ban],
     pair: Pair,
 ) -> Result<Option<Impasse>, AllocError>
@@ -135,17 +137,90 @@ fn apply_bans(
     ensures impasse { IfOk result (λ found. IfSome found
         (IsImpasse domains.new.inputs domains.new.outputs bans.now domains.new.entries)) }
 {
-    let mut place = queue.first_link(pair);
+    let mut place = queue.take_list(pair);
     for _ in 0..queue.links() {
-        let Some((number, before)) = queue.next_link(place) else {
+        let Some(link) = queue.link_at(place) else {
             return Ok(None);
         };
-        if let Some(impasse) = apply_ban(domains, bans, number)? {
+        if let Some(impasse) = apply_link(domains, queue, bans, pair, place)? {
+            keep_all(queue, pair, link.before);
             return Ok(Some(impasse));
         }
-        place = before;
+        place = link.before;
     }
     Ok(None)
+}
+
+// Puts the links from a place on back into a pair's list.
+fn keep_all(queue: &mut Queue, pair: Pair, from: usize) {
+    let mut place = from;
+    for _ in 0..queue.links() {
+        let Some(link) = queue.link_at(place) else {
+            return;
+        };
+        queue.put(pair, place);
+        place = link.before;
+    }
+}
+
+// Applies the ban of a link that was taken out of a held pair's list, and puts the link into that of another pair of the ban
+// that isn't held, or back where there is none. Where the other watched pair is deleted, nothing follows of the ban.
+fn apply_link(
+    domains: &mut Domains,
+    queue: &mut Queue,
+    bans: &[Ban],
+    pair: Pair,
+    place: usize,
+) -> Result<Option<Impasse>, AllocError>
+    requires justified { AreJustified domains.old.inputs domains.old.outputs bans.now domains.old.entries }
+    ensures propagates { OnOk result (Propagates bans.now domains.old domains.new) }
+    ensures impasse { IfOk result (λ found. IfSome found
+        (IsImpasse domains.new.inputs domains.new.outputs bans.now domains.new.entries)) }
+{
+    let Some(link) = queue.link_at(place) else {
+        return Ok(None);
+    };
+    let other = queue.other(place);
+    if is_gone(domains, other) {
+        queue.put(pair, place);
+        return Ok(None);
+    }
+    let watched = next_watch(domains, bans, link.ban, pair, other);
+    queue.put(watched, place);
+    if watched != pair {
+        return Ok(None);
+    }
+    apply_ban(domains, bans, link.ban)
+}
+
+// Whether there is such a pair, and it is deleted.
+fn is_gone(domains: &Domains, pair: Option<Pair>) -> bool {
+    let Some(pair) = pair else {
+        return false;
+    };
+    if !is_known(domains, pair) {
+        return false;
+    }
+    domains.reason(pair).is_some()
+}
+
+// What a ban is to watch in place of a held pair: one of its pairs that isn't held nor watched, or the pair itself.
+fn next_watch(
+    domains: &Domains,
+    bans: &[Ban],
+    number: u64,
+    pair: Pair,
+    other: Option<Pair>,
+) -> Pair {
+    let Some(ban) = bans.get(number as usize) else {
+        return pair;
+    };
+    for next in ban.pairs.iter() {
+        if (Some(*next) != other) & !is_held(domains, *next) {
+            return *next;
+        }
+    }
+    pair
 }
 
 // What follows of a pair that is deleted: its ports may have one way left, or none.

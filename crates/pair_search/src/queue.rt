@@ -1,20 +1,25 @@
 //! What is still to be propagated, and which bans a pair is in.
 
+use crate::units::is_held;
 use account_core::Ban;
 use circuits::{Pair, PortKind};
+use class_refine::Domains;
 use std::alloc::{AllocError, Global};
 
 /// No link.
 const NONE: usize = usize::MAX;
 
-/// A ban that a pair is in, and the place of the link before it.
+/// A ban in a pair's list, and the place of the link before it there. The links of a ban stand beside each other, at an even
+/// place and the odd one after it.
 #[derive(Clone, Copy, Debug)]
-struct Link {
-    ban: u64,
-    before: usize,
+pub(crate) struct Link {
+    pub(crate) ban: u64,
+    pub(crate) pair: Pair,
+    pub(crate) before: usize,
 }
 
-/// How far propagation has come, and an index from pairs to bans. What it says is tried, and not trusted.
+/// How far propagation has come, and the bans in the lists of two of their pairs each (watched literals: Moskewicz and others,
+/// Chaff, DAC 2001). A ban is looked at only where one of these comes to be held. What it says is tried, and not trusted.
 #[derive(Debug, Drop)]
 pub struct Queue {
     /// How many entries were followed.
@@ -48,18 +53,24 @@ impl Queue {
         })
     }
 
-    /// Adds a ban under each of its pairs.
-    pub(crate) fn add(&mut self, ban: &Ban, number: u64) -> Result<(), AllocError> {
-        for pair in ban.pairs.iter() {
-            self.link(*pair, number)?;
-        }
-        Ok(())
+    /// Has a ban watch the two of its pairs that are held last, or not at all.
+    pub(crate) fn add(
+        &mut self,
+        domains: &Domains,
+        ban: &Ban,
+        number: u64,
+    ) -> Result<(), AllocError> {
+        let Some((one, other)) = last_two(domains, &ban.pairs) else {
+            return Ok(());
+        };
+        self.link(one, number)?;
+        self.link(other, number)
     }
 
     /// Adds the bans that came since.
-    pub(crate) fn add_new(&mut self, bans: &[Ban]) -> Result<(), AllocError> {
+    pub(crate) fn add_new(&mut self, domains: &Domains, bans: &[Ban]) -> Result<(), AllocError> {
         for number in self.seen..bans.len() {
-            self.add(&bans[number], number as u64)?;
+            self.add(domains, &bans[number], number as u64)?;
         }
         self.seen = bans.len();
         Ok(())
@@ -67,25 +78,54 @@ impl Queue {
 
     /// Adds the last ban that a conflict was resolved to. Those that it was made of are passed over: they follow of less, and
     /// there are many.
-    pub(crate) fn add_learned(&mut self, bans: &[Ban], number: u64) -> Result<(), AllocError> {
+    pub(crate) fn add_learned(
+        &mut self,
+        domains: &Domains,
+        bans: &[Ban],
+        number: u64,
+    ) -> Result<(), AllocError> {
         if number >= self.seen as u64 {
             if let Some(ban) = bans.get(number as usize) {
-                self.add(ban, number)?;
+                self.add(domains, ban, number)?;
             }
         }
         self.seen = bans.len();
         Ok(())
     }
 
+    // Puts a ban into a pair's list.
     fn link(&mut self, pair: Pair, ban: u64) -> Result<(), AllocError> {
-        let number = self.number(pair);
         let place = self.links.len();
+        self.links.push(Link {
+            ban,
+            pair,
+            before: NONE,
+        })?;
+        self.put(pair, place);
+        Ok(())
+    }
+
+    /// Puts the link of a place into a pair's list.
+    pub(crate) fn put(&mut self, pair: Pair, place: usize) {
+        let number = self.number(pair);
         let before = self.last(number);
-        self.links.push(Link { ban, before })?;
+        if let Some(link) = self.links.get_mut(place) {
+            link.pair = pair;
+            link.before = before;
+        }
         if let Some(last) = self.lasts.get_mut(number) {
             *last = place;
         }
-        Ok(())
+    }
+
+    /// Empties a pair's list, and answers the place of its last link.
+    pub(crate) fn take_list(&mut self, pair: Pair) -> usize {
+        let number = self.number(pair);
+        let last = self.last(number);
+        if let Some(place) = self.lasts.get_mut(number) {
+            *place = NONE;
+        }
+        last
     }
 
     fn last(&self, number: usize) -> usize {
@@ -113,21 +153,52 @@ impl Queue {
             .saturating_add(sign) as usize
     }
 
-    /// The place of the last link of a pair.
-    pub(crate) fn first_link(&self, pair: Pair) -> usize {
-        self.last(self.number(pair))
-    }
-
-    /// The ban of a link, and the place of the link before it.
-    pub(crate) fn next_link(&self, place: usize) -> Option<(u64, usize)> {
+    /// The link of a place.
+    pub(crate) fn link_at(&self, place: usize) -> Option<Link> {
         match self.links.get(place) {
-            Some(link) => Some((link.ban, link.before)),
+            Some(link) => Some(*link),
             None => None,
         }
+    }
+
+    /// The other pair that the ban of a link watches.
+    pub(crate) fn other(&self, place: usize) -> Option<Pair> {
+        let twin = if place % 2 == 0 {
+            place.saturating_add(1)
+        } else {
+            place - 1
+        };
+        Some(self.links.get(twin)?.pair)
     }
 
     /// How many links there are.
     pub(crate) fn links(&self) -> usize {
         self.links.len()
+    }
+}
+
+// The two of some pairs that are held last, where those come last that aren't held; of one pair that one twice.
+fn last_two(domains: &Domains, pairs: &[Pair]) -> Option<(Pair, Pair)> {
+    let mut one = *pairs.first()?;
+    let mut other = one;
+    for pair in pairs.iter() {
+        if (*pair != one) & ((other == one) | (rank(domains, *pair) > rank(domains, other))) {
+            other = *pair;
+        }
+        if rank(domains, other) > rank(domains, one) {
+            (one, other) = (other, one);
+        }
+    }
+    Some((one, other))
+}
+
+// Where the entry of a held pair stands, or the greatest number for one that isn't held.
+fn rank(domains: &Domains, pair: Pair) -> usize {
+    if !is_held(domains, pair) {
+        return NONE;
+    }
+    match domains.place(pair) {
+        Some(place) => place,
+        None => NONE,
     }
 }

@@ -193,11 +193,9 @@ pub fn near_keys(
     let mine = cells.members(alloc, Side::First)?;
     let its = cells.members(alloc, Side::Second)?;
     for (mine, its) in mine.iter().zip(its.iter()) {
-        if mine.len() > 1 {
-            let classes = Classes::new(alloc, mine, its, first, second, slack)?;
-            put_keys(mine, &classes.left, &mut left);
-            put_keys(its, &classes.right, &mut right);
-        }
+        let classes = Classes::new(alloc, mine, its, first, second, slack)?;
+        put_keys(mine, &classes.left, &mut left);
+        put_keys(its, &classes.right, &mut right);
     }
     Ok((left, right))
 }

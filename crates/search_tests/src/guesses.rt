@@ -16,10 +16,8 @@ fn guessed(alloc: Global, graphs: &Graphs<'_>, seed: u64) -> Result<Option<Match
     if !are_small(graphs) {
         return Ok(None);
     }
-    match Guesser::new(alloc, graphs, seed)? {
-        Some(mut guesser) => guesser.guess(alloc, graphs),
-        None => Ok(None),
-    }
+    let mut guesser = Guesser::new(alloc, graphs, seed)?;
+    guesser.guess(alloc, graphs)
 }
 
 /// Whether a table, where there is one, inverts an output.

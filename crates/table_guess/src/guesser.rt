@@ -11,18 +11,24 @@ use crate::leaf::with_paired_outputs;
 use crate::level::{Level, next_state};
 use crate::matching::matching_of;
 use bit_list::Bits;
-use cell_splits::{Assignment, Draws, Keys, Link, Patterns, State, anchored, climbed};
+use cell_splits::{
+    Assignment, BEST, Draws, Keys, Link, Patterns, State, anchored, climbed, open_in,
+};
 use flip_sim::{FlipSim, Lanes};
 use items::Items;
 use net_core::{Graph, Graphs, Matching, Side};
 use port_cells::{Cells, Slack};
 use std::alloc::{AllocError, Global};
 
-/// The most gates that the inputs may reach, a gate counted for each input: a simulator keeps these, in 12 bytes each.
-const MOST_REACHED: u64 = 1 << 23;
-
-/// How many words of gates may be computed, about a second.
+/// How many words of gates may be computed, about a second's.
 const MOST_WORDS: u64 = 1 << 28;
+
+/// On how many blocks of 256 vectors a circuit may be run with each input inverted where that takes longer. A search of large
+/// circuits needs some ten of them.
+const MOST_RUNS: u64 = 128;
+
+/// The most inputs whose signs are guessed one after the other, before vectors are looked for that decide them all.
+const FEW_OPEN: usize = 4;
 
 /// How often a search begins anew, with other choices. Most tables that are found are found in the first two rounds.
 const ROUNDS: u32 = 8;
@@ -84,34 +90,30 @@ pub struct Guesser<'a> {
     round: u32,
     /// Whether all that was counted was counted on all vectors. Then a search that is exhausted has missed no table.
     is_exact: bool,
+    /// How many words of gates may be computed, with those for the first counts.
+    most_words: u64,
 }
 
 impl<'a> Guesser<'a> {
-    /// Counts of both circuits, on vectors drawn by a seed where all are too many. None where counting is too expensive.
+    /// Counts of both circuits, on vectors drawn by a seed where all are too many.
     ///
     /// # Errors
     ///
     /// Only when out of memory.
-    pub fn new(
-        alloc: Global,
-        graphs: &Graphs<'a>,
-        seed: u64,
-    ) -> Result<Option<Guesser<'a>>, AllocError> {
-        if is_expensive(graphs.first()) || is_expensive(graphs.second()) {
-            return Ok(None);
-        }
+    pub fn new(alloc: Global, graphs: &Graphs<'a>, seed: u64) -> Result<Guesser<'a>, AllocError> {
         let first = FlipSim::new(alloc, graphs.first())?;
         let second = FlipSim::new(alloc, graphs.second())?;
         let words = first.words_of_flips().max(second.words_of_flips());
         let sample = Sample::new(graphs.first().inputs(), words);
-        if sample.blocks.saturating_mul(words) > MOST_WORDS {
-            return Ok(None);
-        }
         let mut draws = Draws::new(seed);
         let first = Circuit::new(alloc, first, sample, &mut draws)?;
         let second = Circuit::new(alloc, second, sample, &mut draws)?;
         let kept = Kept::new(alloc, graphs.first().inputs())?;
-        Ok(Some(Guesser {
+        let counted = first
+            .simulator
+            .words()
+            .saturating_add(second.simulator.words());
+        Ok(Guesser {
             first,
             second,
             sample,
@@ -120,7 +122,11 @@ impl<'a> Guesser<'a> {
             climbed: Items::new(alloc),
             round: 0,
             is_exact: sample.is_all,
-        }))
+            most_words: words
+                .saturating_mul(MOST_RUNS)
+                .max(MOST_WORDS)
+                .saturating_add(counted),
+        })
     }
 
     /// Keeps a vector of the first circuit's inputs on which a table failed, so that further tables agree on it.
@@ -194,7 +200,7 @@ impl<'a> Guesser<'a> {
         let Some(root) = self.refined(alloc, root)? else {
             return Ok(None);
         };
-        if !root.inputs.has_open() {
+        if open_in(&root.inputs) <= FEW_OPEN {
             return Ok(None);
         }
         let mut states = anchored(
@@ -236,7 +242,7 @@ impl<'a> Guesser<'a> {
 
     fn is_spent(&self) -> bool {
         let words = self.first.simulator.words();
-        words.saturating_add(self.second.simulator.words()) > MOST_WORDS
+        words.saturating_add(self.second.simulator.words()) > self.most_words
     }
 
     // Refines a state, and chooses what is guessed next.
@@ -331,8 +337,9 @@ impl<'a> Guesser<'a> {
         blocks: u64,
     ) -> Result<Option<State>, AllocError> {
         let mut state = state;
-        for _ in 0..assignments {
-            let Some(finer) = self.split_under_one(alloc, state, blocks)? else {
+        for number in 0..assignments {
+            let assignment = self.assignment(alloc, &state, number, blocks)?;
+            let Some(finer) = self.split_under_one(alloc, state, assignment)? else {
                 return Ok(None);
             };
             state = finer;
@@ -344,9 +351,8 @@ impl<'a> Guesser<'a> {
         &mut self,
         alloc: Global,
         state: State,
-        blocks: u64,
+        assignment: Assignment,
     ) -> Result<Option<State>, AllocError> {
-        let assignment = self.assignment(alloc, &state, blocks)?;
         let first = assignment.count(
             alloc,
             &state,
@@ -370,20 +376,24 @@ impl<'a> Guesser<'a> {
         link.split(alloc, state)
     }
 
-    // A drawn assignment, or in half of the cases one by a vector on which many inputs matter.
+    // An assignment by a vector on which many inputs matter, or a drawn one, in turn.
     fn assignment(
         &mut self,
         alloc: Global,
         state: &State,
+        number: u32,
         blocks: u64,
     ) -> Result<Assignment, AllocError> {
-        let lane = self.draws.below(2 * 256);
-        if lane >= 256 {
+        if number % 4 == 1 {
+            return Assignment::constant(alloc, &state.inputs, number % 8 == 5, blocks);
+        }
+        if number % 4 == 3 {
             return Assignment::draw(alloc, &state.inputs, blocks, &mut self.draws);
         }
         if self.climbed.is_empty() {
             self.climbed = climbed(alloc, &mut self.first.simulator, &mut self.draws)?;
         }
+        let lane = self.draws.below(BEST);
         Assignment::by_majority(alloc, &state.inputs, &self.climbed, lane, blocks)
     }
 
@@ -443,12 +453,6 @@ impl<'a> Guesser<'a> {
             },
         })
     }
-}
-
-// Whether a circuit's inputs may reach too many gates to be kept.
-fn is_expensive(graph: &Graph) -> bool {
-    let gates = graph.gates().len() as u64;
-    gates.saturating_mul(u64::from(graph.inputs())) > MOST_REACHED
 }
 
 // Whether the sign of some input is known.

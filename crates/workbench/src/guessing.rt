@@ -22,9 +22,7 @@ pub(crate) fn run<R: Print + AllocGlobal>(rt: &R, graphs: &Graphs<'_>, seed: u64
 fn is_found(alloc: Global, graphs: &Graphs<'_>, seed: u64) -> Result<bool, AllocError>
     requires { HaveAsMany graphs.now.first graphs.now.second }
 {
-    let Some(mut guesser) = Guesser::new(alloc, graphs, seed)? else {
-        return Ok(false);
-    };
+    let mut guesser = Guesser::new(alloc, graphs, seed)?;
     Ok(guesser.guess(alloc, graphs)?.is_some())
 }
 
