@@ -21,26 +21,37 @@ use port_report::put_info;
 use query_core::Ledger;
 use shelf_core::Shelf;
 use std::alloc::{AllocError, Global};
+use watch_core::Watch;
 
 /// The number that the vectors are drawn from.
 const SEED: u64 = 1;
 
 /// Reports what is known of the file that the words name. The error is an outcome whose report is one line: the file is
 /// no netlist, the budget was spent, or there was a fault.
-pub fn inform<S: Shelf>(alloc: Global, info: &Info<'_>, shelf: &mut S) -> Result<Ending, Outcome>
+pub fn inform<S: Shelf, W: Watch>(
+    alloc: Global,
+    info: &Info<'_>,
+    shelf: &mut S,
+    watch: &W,
+) -> Result<Ending, Outcome>
     requires { (S.state shelf.old).mode ≡ Closed }
     ensures { Decides S.tells (asked_info info.now) (S.state shelf.old) (S.state shelf.new) result }
 {
-    let named = read_netlist(alloc, shelf, Which::First, info.file)?;
-    inform_of(alloc, &named, info.budget)
+    let named = read_netlist(alloc, shelf, Which::First, info.file, watch)?;
+    inform_of(alloc, &named, info.budget, watch)
 }
 
 /// Reports what is known of a netlist, for which at most `budget` clauses are learned.
-fn inform_of(alloc: Global, named: &Named, budget: u64) -> Result<Ending, Outcome>
+fn inform_of<W: Watch>(
+    alloc: Global,
+    named: &Named,
+    budget: u64,
+    watch: &W,
+) -> Result<Ending, Outcome>
     ensures { InformsOf named.now budget result }
 {
     let mut ledger = Ledger::new(alloc, budget);
-    match rows_of(alloc, named, &mut ledger) {
+    match rows_of(alloc, named, &mut ledger, watch) {
         Ok(rows) => informed(alloc, named, &rows),
         Err(Stop::Spent(_)) => Err(Outcome::Spent(ledger)),
         Err(Stop::Memory) => Err(Outcome::Memory),
@@ -48,7 +59,12 @@ fn inform_of(alloc: Global, named: &Named, budget: u64) -> Result<Ending, Outcom
 }
 
 /// The rows of a netlist, by what is asked of it in a new ledger.
-fn rows_of(alloc: Global, named: &Named, ledger: &mut Ledger) -> Result<Vec<OutputInfo>, Stop>
+fn rows_of<W: Watch>(
+    alloc: Global,
+    named: &Named,
+    ledger: &mut Ledger,
+    watch: &W,
+) -> Result<Vec<OutputInfo>, Stop>
     requires { IsNew ledger.old }
     ensures rows { IfOk result (λ rows. AreRows named.now.graph rows.items) }
     ensures spent { (learned : ℕ) → result ≡ Err (Spent learned)
@@ -56,7 +72,7 @@ fn rows_of(alloc: Global, named: &Named, ledger: &mut Ledger) -> Result<Vec<Outp
 {
     // the circuit is set against itself: claims of its first side are all that is asked
     let graphs = Graphs::new(&named.graph, &named.graph);
-    let mut book = FactBook::new(alloc, &graphs, SEED)?;
+    let mut book = FactBook::watched(alloc, &graphs, SEED, watch)?;
     fact_tests::info(alloc, &graphs, &mut book, ledger)
 }
 

@@ -14,6 +14,7 @@ use net_core::Graphs;
 use net_file::Named;
 use shelf_core::{Shelf, ShelfStop};
 use std::alloc::Global;
+use watch_core::{Stage, Watch};
 
 /// Why an account isn't read on.
 #[derive(Drop)]
@@ -49,12 +50,13 @@ impl From<CheckStop> for Halt {
 }
 
 /// What the account under a name says of two netlists. It is read piece by piece, up to the first bad line, and closed.
-pub fn judge<S: Shelf>(
+pub fn judge<S: Shelf, W: Watch>(
     alloc: Global,
     first: &Named,
     second: &Named,
     shelf: &mut S,
     name: &str,
+    watch: &W,
 ) -> Result<Outcome, Stop>
     requires { (S.state shelf.old).mode ≡ Closed }
     ensures { Judges S.tells (graphs_of first.now second.now) ((S.state shelf.old).held name.now)
@@ -63,16 +65,17 @@ pub fn judge<S: Shelf>(
     let graphs = Graphs::new(&first.graph, &second.graph);
     match shelf.open(name)? {
         None => Ok(Outcome::Absent(Which::Account)),
-        Some(size) => judge_open(alloc, &graphs, shelf, size),
+        Some(size) => judge_open(alloc, &graphs, shelf, size, watch),
     }
 }
 
 /// What the open account, of `size` bytes, says of two circuits. It is closed then.
-fn judge_open<S: Shelf>(
+fn judge_open<S: Shelf, W: Watch>(
     alloc: Global,
     graphs: &Graphs<'_>,
     shelf: &mut S,
     size: u64,
+    watch: &W,
 ) -> Result<Outcome, Stop>
     requires reading { (S.state shelf.old).mode ≡ Reading }
     requires left { (S.state shelf.old).left ≡ size }
@@ -81,18 +84,19 @@ fn judge_open<S: Shelf>(
         (S.state shelf.old) (S.state shelf.new) result }
 {
     let mut piece = zeros(alloc, PIECE)?;
-    let outcome = judge_by(alloc, graphs, shelf, &mut piece, size)?;
+    let outcome = judge_by(alloc, graphs, shelf, &mut piece, size, watch)?;
     shelf.close()?;
     Ok(outcome)
 }
 
 /// What the open account says of two circuits, read into `piece`.
-fn judge_by<S: Shelf>(
+fn judge_by<S: Shelf, W: Watch>(
     alloc: Global,
     graphs: &Graphs<'_>,
     shelf: &mut S,
     piece: &mut [u8],
     size: u64,
+    watch: &W,
 ) -> Result<Outcome, Stop>
     requires reading { (S.state shelf.old).mode ≡ Reading }
     requires left { (S.state shelf.old).left ≡ size }
@@ -105,16 +109,17 @@ fn judge_by<S: Shelf>(
     let _first = graphs.first();
     let _second = graphs.second();
     let mut check = AccountCheck::new(alloc, graphs)?;
-    judge_rest(alloc, shelf, piece, size, &mut check)
+    judge_rest(alloc, shelf, piece, size, &mut check, watch)
 }
 
 /// What the unread bytes of the open account come to, of which none was checked yet.
-fn judge_rest<S: Shelf>(
+fn judge_rest<S: Shelf, W: Watch>(
     alloc: Global,
     shelf: &mut S,
     piece: &mut [u8],
     size: u64,
     check: &mut AccountCheck<'_>,
+    watch: &W,
 ) -> Result<Outcome, Stop>
     requires reading { (S.state shelf.old).mode ≡ Reading }
     requires left { (S.state shelf.old).left ≡ size }
@@ -124,7 +129,7 @@ fn judge_rest<S: Shelf>(
     ensures { (graphs : TwoGraphs) → HasTaken graphs [] check.old
         → JudgesRest S.tells graphs (S.state shelf.old) (S.state shelf.new) result }
 {
-    match feed_rest(alloc, shelf, piece, size, check) {
+    match feed_rest(alloc, shelf, piece, size, check, watch) {
         Ok(()) => settle(alloc, check),
         Err(Halt::Bad { line, why }) => Ok(Outcome::Rejected { line, why }),
         Err(Halt::Stop(stop)) => Err(stop),
@@ -132,12 +137,13 @@ fn judge_rest<S: Shelf>(
 }
 
 /// Checks the unread bytes of the open account piece by piece, up to the first bad line.
-fn feed_rest<S: Shelf>(
+fn feed_rest<S: Shelf, W: Watch>(
     alloc: Global,
     shelf: &mut S,
     piece: &mut [u8],
     size: u64,
     check: &mut AccountCheck<'_>,
+    watch: &W,
 ) -> Result<(), Halt>
     requires reading { (S.state shelf.old).mode ≡ Reading }
     requires left { (S.state shelf.old).left ≡ size }
@@ -149,6 +155,7 @@ fn feed_rest<S: Shelf>(
 {
     let mut left = size;
     while left > 0 {
+        watch.at(Stage::Checking { left, bytes: size });
         left -= feed_next(alloc, shelf, piece, check)?;
     }
     Ok(())

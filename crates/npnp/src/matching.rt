@@ -33,6 +33,7 @@ use net_file::Named;
 use query_core::Ledger;
 use shelf_core::{Shelf, ShelfStop};
 use std::alloc::{AllocError, Global};
+use watch_core::Watch;
 
 /// What came of a search, and the account that proves it.
 #[derive(Drop)]
@@ -43,29 +44,35 @@ pub struct Solved {
 
 /// Looks for a match of the two netlists that the words name, and writes the account of the answer. The error is an
 /// outcome whose report is one line: a file is no netlist, the budget was spent, or there was a fault.
-pub fn find<S: Shelf>(alloc: Global, asked: &Match<'_>, shelf: &mut S) -> Result<Ending, Outcome>
+pub fn find<S: Shelf, W: Watch>(
+    alloc: Global,
+    asked: &Match<'_>,
+    shelf: &mut S,
+    watch: &W,
+) -> Result<Ending, Outcome>
     requires { (S.state shelf.old).mode ≡ Closed }
     ensures { Decides S.tells (asked_match asked.now) (S.state shelf.old) (S.state shelf.new) result }
 {
-    let first = read_netlist(alloc, shelf, Which::First, asked.first)?;
-    let second = read_netlist(alloc, shelf, Which::Second, asked.second)?;
-    find_of(alloc, asked, &first, &second, shelf)
+    let first = read_netlist(alloc, shelf, Which::First, asked.first, watch)?;
+    let second = read_netlist(alloc, shelf, Which::Second, asked.second, watch)?;
+    find_of(alloc, asked, &first, &second, shelf, watch)
 }
 
 /// Looks for a match of two netlists, and writes the account once it is whole.
-fn find_of<S: Shelf>(
+fn find_of<S: Shelf, W: Watch>(
     alloc: Global,
     asked: &Match<'_>,
     first: &Named,
     second: &Named,
     shelf: &mut S,
+    watch: &W,
 ) -> Result<Ending, Outcome>
     requires { (S.state shelf.old).mode ≡ Closed }
     ensures { Finds S.tells first.now second.now asked.now.account.now asked.now.budget
         (S.state shelf.old) (S.state shelf.new) result }
 {
     let graphs = Graphs::new(&first.graph, &second.graph);
-    let solved = solve(alloc, asked, &graphs)?;
+    let solved = solve(alloc, asked, &graphs, watch)?;
     let report = report_named(alloc, first, second, &solved.outcome)?;
     let Solved { outcome, account } = solved;
     conclude(
@@ -106,11 +113,16 @@ pub(crate) fn unwritten(stop: ShelfStop) -> Outcome
 }
 
 /// Looks for a match of two graphs. Where they have other numbers of ports there is nothing to search.
-fn solve(alloc: Global, asked: &Match<'_>, graphs: &Graphs<'_>) -> Result<Solved, Outcome>
+fn solve<W: Watch>(
+    alloc: Global,
+    asked: &Match<'_>,
+    graphs: &Graphs<'_>,
+    watch: &W,
+) -> Result<Solved, Outcome>
     ensures { Solves graphs.now asked.now.budget result }
 {
     if have_as_many_ports(graphs) {
-        solve_by_search(alloc, graphs, asked.seed, asked.budget)
+        solve_by_search(alloc, graphs, asked.seed, asked.budget, watch)
     } else {
         Ok(other_ports(alloc, graphs)?)
     }
@@ -125,17 +137,18 @@ fn have_as_many_ports(graphs: &Graphs<'_>) -> bool
 }
 
 /// Searches two graphs with as many ports, with at most `budget` learned clauses.
-pub(crate) fn solve_by_search(
+pub(crate) fn solve_by_search<W: Watch>(
     alloc: Global,
     graphs: &Graphs<'_>,
     seed: u64,
     budget: u64,
+    watch: &W,
 ) -> Result<Solved, Outcome>
     requires { HaveAsMany graphs.now.first graphs.now.second }
     ensures { Solves graphs.now budget result }
 {
     let mut ledger = Ledger::new(alloc, budget);
-    match search_in(alloc, graphs, seed, &mut ledger) {
+    match search_in(alloc, graphs, seed, &mut ledger, watch) {
         Ok(solved) => Ok(solved),
         Err(Stop::Spent(_)) => Err(Outcome::Spent(ledger)),
         Err(Stop::Memory) => Err(Outcome::Memory),
@@ -143,11 +156,12 @@ pub(crate) fn solve_by_search(
 }
 
 /// Searches two graphs with as many ports, and asks in a new ledger.
-fn search_in(
+fn search_in<'a, W: Watch>(
     alloc: Global,
-    graphs: &Graphs<'_>,
+    graphs: &'a Graphs<'a>,
     seed: u64,
     ledger: &mut Ledger,
+    watch: &'a W,
 ) -> Result<Solved, Stop>
     requires ports { HaveAsMany graphs.now.first graphs.now.second }
     requires new { IsNew ledger.old }
@@ -155,7 +169,7 @@ fn search_in(
     ensures spent { (learned : ℕ) → result ≡ Err (Spent learned)
         → IsSpentOf graphs.now ledger.old.budget ledger.new }
 {
-    let mut book = FactBook::new(alloc, graphs, seed)?;
+    let mut book = FactBook::watched(alloc, graphs, seed, watch)?;
     let mut bans = BanBook::new(alloc);
     let found = decide(alloc, graphs, &mut book, &mut bans, seed, ledger)?;
     Ok(answered(alloc, graphs, found, book.into_facts(), bans.bans())?)

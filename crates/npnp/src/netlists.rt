@@ -11,25 +11,39 @@ use crate::outcome::{Outcome, Which};
 use net_file::{Named, NetStop};
 use shelf_core::Shelf;
 use std::alloc::Global;
+use watch_core::{Stage, Watch};
 
 /// The most bytes that a netlist may have.
 const NETLIST_LIMIT: u64 = 67_108_864;
 
 /// Reads the netlist under a name. The error is how the run ends where none stands there: `which` is the file that
 /// it names. A file of more than 67,108,864 bytes is closed unread.
-pub fn read_netlist<S: Shelf>(
+pub fn read_netlist<S: Shelf, W: Watch>(
     alloc: Global,
     shelf: &mut S,
     which: Which,
     name: &str,
+    watch: &W,
 ) -> Result<Named, Outcome>
     requires { (S.state shelf.old).mode ≡ Closed }
     ensures { ReadsNetlist S.tells which name.now (S.state shelf.old) (S.state shelf.new) result }
 {
+    watch.at(Stage::Reading {
+        file: place_of(which),
+    });
     match read_file(alloc, shelf, name, NETLIST_LIMIT)? {
         File::Absent => Err(Outcome::Absent(which)),
         File::TooLong => Err(Outcome::TooLarge(which)),
         File::Bytes(bytes) => parse_netlist(alloc, which, &bytes),
+    }
+}
+
+/// A file's place among those that the words name, from 1.
+fn place_of(which: Which) -> u32 {
+    match which {
+        Which::First => 1,
+        Which::Second => 2,
+        Which::Account => 3,
     }
 }
 

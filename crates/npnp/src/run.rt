@@ -30,6 +30,7 @@ use crate::words::{Check, Command, command_asked};
 use account_check::Verdict;
 use shelf_core::{Shelf, ShelfStop, Sink};
 use std::alloc::Global;
+use watch_core::Watch;
 
 /// What is printed where there is no memory.
 const OUT_OF_MEMORY: &[u8] = b"out of memory\n";
@@ -62,6 +63,8 @@ pub struct Ending {
 /// bytes is closed unread. The account of a match is written once its answer is known: its lines in pieces of 65,536
 /// bytes, and its last line by itself. The files of a pair are written one after the other in such pieces. After a
 /// failure no further call of the shelf is made.
+///
+/// The sink is told what the run is at, and gets the report at the end.
 pub fn run<S: Shelf, K: Sink>(
     alloc: Global,
     words: &[String],
@@ -186,12 +189,12 @@ pub fn run<S: Shelf, K: Sink>(
         × IsReport S.tells (S.state shelf.old).held (map string_bytes words.now) asked text
         × WritesPart (K.state out.old) (K.state out.new) text }
 {
-    let ending = answer(alloc, words, shelf);
+    let ending = answer(alloc, words, shelf, &*out);
     tell(ending, out)
 }
 
 /// How the words and the files, or a fault that came between, end the run.
-fn answer<S: Shelf>(alloc: Global, words: &[String], shelf: &mut S) -> Ending
+fn answer<S: Shelf, W: Watch>(alloc: Global, words: &[String], shelf: &mut S, watch: &W) -> Ending
     requires { (S.state shelf.old).mode ≡ Closed }
     ensures right { IsTrue S.tells
         → IsRight (S.state shelf.old).held (map string_bytes words.now) result.outcome }
@@ -221,24 +224,29 @@ fn answer<S: Shelf>(alloc: Global, words: &[String], shelf: &mut S) -> Ending
     let Some(command) = command_asked(words) else {
         return end_by_line(alloc, Outcome::Usage);
     };
-    match follow(alloc, &command, shelf) {
+    match follow(alloc, &command, shelf, watch) {
         Ok(ending) => ending,
         Err(outcome) => end_by_line(alloc, outcome),
     }
 }
 
 /// How the files that a command names end the run. The error is an outcome whose report is one line.
-fn follow<S: Shelf>(alloc: Global, command: &Command<'_>, shelf: &mut S) -> Result<Ending, Outcome>
+fn follow<S: Shelf, W: Watch>(
+    alloc: Global,
+    command: &Command<'_>,
+    shelf: &mut S,
+    watch: &W,
+) -> Result<Ending, Outcome>
     requires { (S.state shelf.old).mode ≡ Closed }
     ensures decides { Decides S.tells command.now (S.state shelf.old) (S.state shelf.new) result }
     ensures no_call { IsTrialCommand command.now → shelf.new ≡ shelf.old }
 {
     match command {
-        Command::Check(check) => decide(alloc, check, shelf),
-        Command::Match(asked) => find(alloc, asked, shelf),
-        Command::Info(info) => inform(alloc, info, shelf),
+        Command::Check(check) => decide(alloc, check, shelf, watch),
+        Command::Match(asked) => find(alloc, asked, shelf, watch),
+        Command::Info(info) => inform(alloc, info, shelf, watch),
         Command::Make(asked) => make_files(alloc, asked, shelf),
-        Command::Trial(trial) => try_pair(alloc, trial),
+        Command::Trial(trial) => try_pair(alloc, trial, watch),
     }
 }
 
@@ -257,13 +265,18 @@ fn end_by_line(alloc: Global, outcome: Outcome) -> Ending
 
 /// How the files that a check names end the run. The error is an outcome that came before both netlists were read, or
 /// a fault.
-fn decide<S: Shelf>(alloc: Global, check: &Check<'_>, shelf: &mut S) -> Result<Ending, Outcome>
+fn decide<S: Shelf, W: Watch>(
+    alloc: Global,
+    check: &Check<'_>,
+    shelf: &mut S,
+    watch: &W,
+) -> Result<Ending, Outcome>
     requires { (S.state shelf.old).mode ≡ Closed }
     ensures { Decides S.tells (asked_check check.now) (S.state shelf.old) (S.state shelf.new) result }
 {
-    let first = read_netlist(alloc, shelf, Which::First, check.first)?;
-    let second = read_netlist(alloc, shelf, Which::Second, check.second)?;
-    let outcome = judge(alloc, &first, &second, shelf, check.account)?;
+    let first = read_netlist(alloc, shelf, Which::First, check.first, watch)?;
+    let second = read_netlist(alloc, shelf, Which::Second, check.second, watch)?;
+    let outcome = judge(alloc, &first, &second, shelf, check.account, watch)?;
     let report = report_named(alloc, &first, &second, &outcome)?;
     Ok(Ending { outcome, report })
 }

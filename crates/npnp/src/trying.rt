@@ -22,23 +22,29 @@ use items::Items;
 use net_core::Graphs;
 use std::alloc::{AllocError, Global};
 use text_out::put_all;
+use watch_core::Watch;
 
 /// Makes the pair of a number, looks for a match of it with the default budget and seed, writes the account of the match in
 /// memory, and checks it. The error is an outcome whose report is one line: the budget was spent, or memory ran out.
-pub fn try_pair(alloc: Global, trial: &Trial) -> Result<Ending, Outcome>
+pub fn try_pair<W: Watch>(alloc: Global, trial: &Trial, watch: &W) -> Result<Ending, Outcome>
     ensures { Tries trial.now.number result }
 {
     let pair = make(alloc, trial.number)?;
-    try_of(alloc, trial.number, &pair)
+    try_of(alloc, trial.number, &pair, watch)
 }
 
 /// Tries the pair of a number.
-fn try_of(alloc: Global, number: u64, pair: &GenPair) -> Result<Ending, Outcome>
+fn try_of<W: Watch>(
+    alloc: Global,
+    number: u64,
+    pair: &GenPair,
+    watch: &W,
+) -> Result<Ending, Outcome>
     requires { IsPairOf number pair.now.first.graph pair.now.second.graph pair.now.hidden }
     ensures { Tries number result }
 {
     let graphs = Graphs::new(&pair.first.graph, &pair.second.graph);
-    let account = prove_match(alloc, &graphs)?;
+    let account = prove_match(alloc, &graphs, watch)?;
     let outcome = Outcome::Tried {
         number,
         account: Items::from_vec(account),
@@ -48,13 +54,13 @@ fn try_of(alloc: Global, number: u64, pair: &GenPair) -> Result<Ending, Outcome>
 }
 
 /// The account of a match of two graphs that have one, checked.
-fn prove_match(alloc: Global, graphs: &Graphs<'_>) -> Result<Vec<u8>, Outcome>
+fn prove_match<W: Watch>(alloc: Global, graphs: &Graphs<'_>, watch: &W) -> Result<Vec<u8>, Outcome>
     requires ports { HaveAsMany graphs.now.first graphs.now.second }
     requires equal { HaveNpnpEqualFunctions graphs.now.first graphs.now.second }
     ensures account { IfOk result (λ account. IsProvedMatch graphs.now account.items) }
     ensures stopped { IfErr result (IsStopWithin graphs.now 1000000000) }
 {
-    let solved = solve_by_search(alloc, graphs, DEFAULT_SEED, DEFAULT_BUDGET)?;
+    let solved = solve_by_search(alloc, graphs, DEFAULT_SEED, DEFAULT_BUDGET, watch)?;
     let text = text_of(alloc, &solved.account)?;
     accept(alloc, graphs, &text)?;
     Ok(text)

@@ -15,3 +15,5 @@ mod pairs;
 mod refusals;
 #[cfg(test)]
 mod runs;
+#[cfg(test)]
+mod watching;

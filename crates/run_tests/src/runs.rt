@@ -29,7 +29,7 @@ pub(crate) struct Ended {
 }
 
 /// What is noted of a run, copied.
-fn note(
+pub(crate) fn note(
     alloc: Global,
     status: u8,
     report: &[u8],
@@ -66,7 +66,7 @@ fn file(alloc: Global, name: &str, bytes: &[u8]) -> Result<(String, Vec<u8>), Al
 }
 
 /// Two netlists, named `A` and `B`, and an account, named `t`, where there is one.
-fn files_of(
+pub(crate) fn files_of(
     alloc: Global,
     netlists: [&[u8]; 2],
     account: Option<&[u8]>,

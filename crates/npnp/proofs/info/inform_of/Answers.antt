@@ -6,16 +6,16 @@ use Rattle.npnp.proofs.InfoLemmas.{budget_of_new, informed_is, is_new}
 use Rattle.npnp.proofs.info.inform_of.Goals as goal
 
 pub rows_of-requires : goal.rows_of-requires
-rows_of-requires c = is_new c.new-ledger.result c.args.budget c.new-ledger.ensures
+rows_of-requires g c = is_new c.new-ledger.result c.args.budget c.new-ledger.ensures
 
 pub returns-in-Ok : goal.returns-in-Ok
-returns-in-Ok c =
+returns-in-Ok g c =
     let graph = c.args.named.now.graph in
     informed_is c.args.named.now c.args.budget graph c.deref.result.now c.informed.result refl
     (subst (AreRows graph) (sym c.deref.ensures.value) c.in-Ok.ensures.rows) c.informed.ensures.outcome c.informed.ensures.report c.informed.ensures.memory
 
 pub returns-in-Err-Spent : goal.returns-in-Err-Spent
-returns-in-Err-Spent c = record {
+returns-in-Err-Spent g c = record {
   rows = tt;
   stopped = inl (
     c.rows_of.new.ledger,

@@ -7,15 +7,15 @@ use Rattle.npnp.proofs.InfoLemmas.{memory_stops, spent_is, suits_first}
 use Rattle.npnp.proofs.info.rows_of.Goals as goal
 
 pub returns-in_err-book-clause-spent : goal.returns-in_err-book-clause-spent
-returns-in_err-book-clause-spent c =
+returns-in_err-book-clause-spent g c =
     let p = err_from_is_err_and c.from_residual.result c.from_residual.ensures.1 in
     memory_stops _ c.from_residual.result (cc (p.1, p.2))
 
 pub info-requires-clause-suits : goal.info-requires-clause-suits
-info-requires-clause-suits c =
+info-requires-clause-suits g c =
     suits_first c.new-graphs.result c.in_ok-book.book c.args.ledger.now c.args.ledger.now.budget c.in_ok-book.ensures.empty c.requires
 
 pub returns-clause-spent : goal.returns-clause-spent
-returns-clause-spent c = λ learned is.
+returns-clause-spent g c = λ learned is.
     spent_is (with_itself c.args.named.now.graph) c.new-graphs.result c.in_ok-book.book c.args.ledger.now c.info.new.ledger c.args.ledger.now.budget learned c.new-graphs.ensures c.in_ok-book.ensures.empty c.requires
     (subst (λ result. IfErr result (IsStopped c.in_ok-book.book c.args.ledger.now c.info.new.ledger)) is c.info.ensures.serves.stopped)

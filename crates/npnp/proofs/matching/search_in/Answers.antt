@@ -8,32 +8,32 @@ use Rattle.npnp.proofs.InfoLemmas.{memory_stops, spent_is, spent_says, suits_fir
 use Rattle.npnp.proofs.matching.search_in.Goals as goal
 
 pub returns-in_err-book-clause-spent : goal.returns-in_err-book-clause-spent
-returns-in_err-book-clause-spent c =
+returns-in_err-book-clause-spent g c =
     let p = err_from_is_err_and c.from_residual.result c.from_residual.ensures.1 in
     memory_stops _ c.from_residual.result (cc (p.1, p.2))
 
 pub decide-requires-clause-graphs : goal.decide-requires-clause-graphs
-decide-requires-clause-graphs c = sym (ap (λ (known : Known). known.graphs) c.in_ok-book.ensures.empty)
+decide-requires-clause-graphs g c = sym (ap (λ (known : Known). known.graphs) c.in_ok-book.ensures.empty)
 
 pub decide-requires-clause-suits : goal.decide-requires-clause-suits
-decide-requires-clause-suits c = suits_first c.args.graphs.now c.in_ok-book.book c.args.ledger.now c.args.ledger.now.budget c.in_ok-book.ensures.empty c.requires.new
+decide-requires-clause-suits g c = suits_first c.args.graphs.now c.in_ok-book.book c.args.ledger.now c.args.ledger.now.budget c.in_ok-book.ensures.empty c.requires.new
 
 pub returns-in_err-found-clause-spent : goal.returns-in_err-found-clause-spent
-returns-in_err-found-clause-spent c = λ learned is.
+returns-in_err-found-clause-spent g c = λ learned is.
     let p = err_from_is_err_and c.from_residual-in_err-found.result c.from_residual-in_err-found.ensures.1 in
     spent_is c.args.graphs.now c.args.graphs.now c.in_ok-book.book c.args.ledger.now c.decide.new.ledger c.args.ledger.now.budget learned refl c.in_ok-book.ensures.empty c.requires.new
     (spent_says (IsStopped c.in_ok-book.book c.args.ledger.now c.decide.new.ledger) learned c.in_err-found.ensures.serves.stopped (cc (p.1, p.2, is)))
 
 pub answered-requires-clause-facts : goal.answered-requires-clause-facts
-answered-requires-clause-facts c = facts_for _ c.decide.new.oracle c.in_ok-book.book _ c.decide.ensures.serves.grows.graphs (sym (ap (λ (known : Known). known.graphs) c.in_ok-book.ensures.empty)) c.into_facts.ensures.lawful
+answered-requires-clause-facts g c = facts_for _ c.decide.new.oracle c.in_ok-book.book _ c.decide.ensures.serves.grows.graphs (sym (ap (λ (known : Known). known.graphs) c.in_ok-book.ensures.empty)) c.into_facts.ensures.lawful
 
 pub answered-requires-clause-bans : goal.answered-requires-clause-bans
-answered-requires-clause-bans c = bans_for c.args.graphs.now c.decide.new.oracle.facts c.into_facts.result c.decide.new.book c.bans-2.result.now c.into_facts.ensures.value c.bans-2.ensures c.decide.ensures.bans
+answered-requires-clause-bans g c = bans_for c.args.graphs.now c.decide.new.oracle.facts c.into_facts.result c.decide.new.book c.bans-2.result.now c.into_facts.ensures.value c.bans-2.ensures c.decide.ensures.bans
 
 pub answered-requires-clause-found : goal.answered-requires-clause-found
-answered-requires-clause-found c = subst (λ bans. IsFound c.args.graphs.now bans c.in_ok-found.found) (sym c.bans-2.ensures) c.in_ok-found.ensures.found
+answered-requires-clause-found g c = subst (λ bans. IsFound c.args.graphs.now bans c.in_ok-found.found) (sym c.bans-2.ensures) c.in_ok-found.ensures.found
 
 pub returns-in_err-answered-clause-spent : goal.returns-in_err-answered-clause-spent
-returns-in_err-answered-clause-spent c =
+returns-in_err-answered-clause-spent g c =
     let p = err_from_is_err_and c.from_residual-in_err-answered.result c.from_residual-in_err-answered.ensures.1 in
     memory_stops _ c.from_residual-in_err-answered.result (cc (p.1, p.2))

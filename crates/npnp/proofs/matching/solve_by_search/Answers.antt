@@ -4,10 +4,10 @@ use Rattle.npnp.proofs.InfoLemmas.{budget_of_new, is_new}
 use Rattle.npnp.proofs.matching.solve_by_search.Goals as goal
 
 pub search_in-requires-clause-new : goal.search_in-requires-clause-new
-search_in-requires-clause-new c = is_new c.new-ledger.result c.args.budget c.new-ledger.ensures
+search_in-requires-clause-new g c = is_new c.new-ledger.result c.args.budget c.new-ledger.ensures
 
 pub returns-in-Err-Spent : goal.returns-in-Err-Spent
-returns-in-Err-Spent c = record {
+returns-in-Err-Spent g c = record {
   answer = tt;
   stopped = inl (
     c.search_in.new.ledger,
@@ -18,4 +18,4 @@ returns-in-Err-Spent c = record {
 }
 
 pub returns-in-Ok : goal.returns-in-Ok
-returns-in-Ok c = record { answer = c.in-Ok.ensures.answer; stopped = tt }
+returns-in-Ok g c = record { answer = c.in-Ok.ensures.answer; stopped = tt }

@@ -9,25 +9,25 @@ use Rattle.npnp.proofs.TryingLemmas.{as_many, equal, no_room, stopped, tried}
 use Rattle.npnp.proofs.trying.try_of.Goals as goal
 
 pub prove_match-requires-clause-ports : goal.prove_match-requires-clause-ports
-prove_match-requires-clause-ports c = subst (λ (two : Graphs). HaveAsMany two.first two.second) (sym c.new-graphs.ensures) (as_many _ _ _ _ c.requires)
+prove_match-requires-clause-ports g c = subst (λ (two : Graphs). HaveAsMany two.first two.second) (sym c.new-graphs.ensures) (as_many _ _ _ _ c.requires)
 
 pub prove_match-requires-clause-equal : goal.prove_match-requires-clause-equal
-prove_match-requires-clause-equal c = subst (λ (two : Graphs). HaveNpnpEqualFunctions two.first two.second) (sym c.new-graphs.ensures) (equal _ _ _ _ c.requires)
+prove_match-requires-clause-equal g c = subst (λ (two : Graphs). HaveNpnpEqualFunctions two.first two.second) (sym c.new-graphs.ensures) (equal _ _ _ _ c.requires)
 
 pub returns-in_err-account : goal.returns-in_err-account
-returns-in_err-account c =
+returns-in_err-account g c =
     let p = err_from_is_err_and c.from_residual.result c.from_residual.ensures.1 in
     let o = c.in_err-account.field-0.0 in
     stopped _ (graphs_of c.args.pair.now.first c.args.pair.now.second) c.args.pair.now.hidden o _ (cc (p.1, p.2)) c.requires
     (subst (λ two. IsStopWithin two 1000000000 o) c.new-graphs.ensures c.in_err-account.ensures.stopped)
 
 pub returns-in_err-report : goal.returns-in_err-report
-returns-in_err-report c =
+returns-in_err-report g c =
     let p = err_from_is_err_and c.from_residual-in_err-report.result c.from_residual-in_err-report.ensures.1 in
     no_room _ _ (cc (p.1, p.2))
 
 pub returns : goal.returns
-returns c =
+returns g c =
     let two = graphs_of c.args.pair.now.first c.args.pair.now.second in
     let account = c.from_vec.result in
     tried _ two c.args.pair.now.hidden account _ c.requires

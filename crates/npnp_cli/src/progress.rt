@@ -1,0 +1,91 @@
+//! What a long run is at, told on standard error.
+
+use std::cell::Cell;
+use std::rt::{Clock, Env};
+use std::time::{Duration, Instant};
+use std::{env, io};
+use watch_core::{Stage, Watch};
+
+/// The variable of the environment that asks for it, by the value 1. The script `npnp` sets it where standard error is a
+/// terminal.
+const VARIABLE: &str = "NPNP_PROGRESS";
+
+/// Nothing is told before a run has taken this many seconds, since most runs are over then; and after that once in each.
+const FIRST: u64 = 2;
+const BETWEEN: u64 = 1;
+
+/// A watcher that tells standard error now and then what a run is at.
+#[derive(Drop)]
+pub(crate) struct Progress<R> {
+    rt: R,
+    /// When the run began; None where nothing is to be told.
+    start: Option<Instant>,
+    /// The time since then from which on the next line is told.
+    due: Cell<Duration>,
+    /// The last stage, except that clauses were learned for it.
+    stage: Cell<Stage>,
+    /// How many clauses were learned in the run.
+    learned: Cell<u64>,
+}
+
+impl<R: Env + Clock + AllocGlobal> Progress<R> {
+    /// It tells where the environment asks for it.
+    pub(crate) fn new(rt: R) -> Progress<R> {
+        let start = if is_wanted(&rt) {
+            Instant::now(&rt).ok()
+        } else {
+            None
+        };
+        Progress {
+            rt,
+            start,
+            due: Cell::new(Duration::from_secs(FIRST)),
+            stage: Cell::new(Stage::Reading { file: 1 }),
+            learned: Cell::new(0),
+        }
+    }
+}
+
+/// Whether the environment asks for progress.
+fn is_wanted<R: Env + AllocGlobal>(rt: &R) -> bool {
+    match env::var(rt, VARIABLE) {
+        Ok(value) => value.as_str() == "1",
+        Err(_) => false,
+    }
+}
+
+impl<R: Clock + Eprint + Drop> Watch for Progress<R> {
+    fn at(&self, stage: Stage) {
+        let Some(start) = self.start else {
+            return;
+        };
+        self.note(stage);
+        let Ok(passed) = start.elapsed(&self.rt) else {
+            return;
+        };
+        if passed < self.due.get() {
+            return;
+        }
+        self.due
+            .set(passed.saturating_add(Duration::from_secs(BETWEEN)));
+        // a line that can't be written is left out
+        let _ = self.tell(passed.as_secs());
+    }
+}
+
+impl<R: Eprint> Progress<R> {
+    /// Keeps what a stage says.
+    fn note(&self, stage: Stage) {
+        match stage {
+            Stage::Learning { learned, budget: _ } => self.learned.set(learned),
+            stage => self.stage.set(stage),
+        }
+    }
+
+    /// Writes a line on standard error.
+    fn tell(&self, seconds: u64) -> io::Result<()> {
+        let stage = self.stage.get();
+        let learned = self.learned.get();
+        eprintln!(self.rt; "npnp: {seconds} s: {stage}; {learned} clauses learned")
+    }
+}
