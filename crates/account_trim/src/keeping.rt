@@ -66,7 +66,7 @@ pub(crate) fn kept_bans(
     Ok(list)
 }
 
-// Adds a ban under its new names if it is marked.
+// Adds a ban, whose step names facts and bans by other numbers, if it is marked.
 fn keep_ban(
     alloc: Global,
     ban: &Ban,
