@@ -12,6 +12,7 @@ const VARIABLE: &str = "NPNP_PROGRESS";
 
 /// Nothing is told before a run has taken this many seconds, since most runs are over then; and after that once in each.
 const FIRST: u64 = 2;
+
 const BETWEEN: u64 = 1;
 
 /// A watcher that tells standard error now and then what a run is at.
