@@ -10,8 +10,9 @@ use std::alloc::{AllocError, Global};
 /// The most generations. Later ones gain little.
 const MOST_GENERATIONS: u64 = 300;
 
-/// How many words of gates may be computed for them, a tenth of a second's, and how many generations there are at least.
-const MOST_WORDS: u64 = 1 << 27;
+/// How many words of gates may be computed for them, a fifth of a second's (with half of that adders of 128 bits get too few
+/// generations), and how many generations there are at least.
+const MOST_WORDS: u64 = 1 << 28;
 
 const FEWEST_GENERATIONS: u64 = 8;
 
