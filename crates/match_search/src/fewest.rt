@@ -1,10 +1,9 @@
-//! The port that has the fewest ways left for its weight.
+//! The port that has the fewest ways left.
 
 ghost use Rattle.std.specs.Prelude.{◌<◌};
 ghost use Rattle.class_refine.specs.Trails.{ports_of};
 
 use crate::reads::Reads;
-use crate::weights::Weights;
 use circuits::{Pair, PortKind};
 use class_refine::Domains;
 use conflict_core::Port;
@@ -13,35 +12,32 @@ use net_core::Side;
 use port_covers::side::port_on;
 use std::alloc::{AllocError, Global};
 
-// A port, how many ways it has left, and its weight.
+// A port, and how many ways it has left.
 #[derive(Clone, Copy, Debug)]
 struct Candidate {
     port: Port,
-    ways: u64,
-    weight: u64,
+    ways: usize,
 }
 
-/// Of the ports that are in no pair the one of either circuit that has the fewest ways left for its weight: ports of the last
-/// conflicts are decided first, so that these come again sooner. Inputs that an output in a pair
+/// Of the ports that are in no pair the one of either circuit that has the fewest ways left. Inputs that an output in a pair
 /// reads come before outputs, since its partner is known once they have pairs: with outputs that have fewer ways first, searches
 /// took up to 25 times as long (an 8-bit ALU), and none took more than twice as long without. Other inputs aren't looked at.
 pub(crate) fn fewest_ways(
     alloc: Global,
     reads: &Reads,
-    weights: &Weights,
     domains: &Domains,
 ) -> Result<Option<Port>, AllocError> {
-    let first = fewest_read(alloc, &reads.first, weights, domains, Side::First)?;
-    let second = fewest_read(alloc, &reads.second, weights, domains, Side::Second)?;
+    let first = fewest_read(alloc, &reads.first, domains, Side::First)?;
+    let second = fewest_read(alloc, &reads.second, domains, Side::Second)?;
     match fewer(first, second) {
         Some(candidate) => Ok(Some(candidate.port)),
-        None => Ok(fewest_of_outputs(weights, domains)),
+        None => Ok(fewest_of_outputs(domains)),
     }
 }
 
-fn fewest_of_outputs(weights: &Weights, domains: &Domains) -> Option<Port> {
-    let first = fewest_outputs(weights, domains, Side::First);
-    let best = fewer(first, fewest_outputs(weights, domains, Side::Second))?;
+fn fewest_of_outputs(domains: &Domains) -> Option<Port> {
+    let first = fewest_outputs(domains, Side::First);
+    let best = fewer(first, fewest_outputs(domains, Side::Second))?;
     Some(best.port)
 }
 
@@ -49,7 +45,6 @@ fn fewest_of_outputs(weights: &Weights, domains: &Domains) -> Option<Port> {
 fn fewest_read(
     alloc: Global,
     reads: &[Items<u32>],
-    weights: &Weights,
     domains: &Domains,
     side: Side,
 ) -> Result<Option<Candidate>, AllocError> {
@@ -57,7 +52,7 @@ fn fewest_read(
     for pair in domains.pairs().iter() {
         mark_read(reads, *pair, side, &mut read);
     }
-    Ok(fewest_inputs(weights, domains, side, &read))
+    Ok(fewest_inputs(domains, side, &read))
 }
 
 // Marks the inputs that an output in a pair reads.
@@ -78,43 +73,26 @@ fn mark_all(inputs: &[u32], read: &mut [bool]) {
     }
 }
 
-fn fewest_outputs(weights: &Weights, domains: &Domains, side: Side) -> Option<Candidate> {
+fn fewest_outputs(domains: &Domains, side: Side) -> Option<Candidate> {
     let mut best = None;
     for number in 0..domains.ports(PortKind::Output) {
-        best = fewer(
-            best,
-            candidate_at(weights, domains, side, PortKind::Output, number),
-        );
+        best = fewer(best, candidate_at(domains, side, PortKind::Output, number));
     }
     best
 }
 
-fn fewest_inputs(
-    weights: &Weights,
-    domains: &Domains,
-    side: Side,
-    read: &[bool],
-) -> Option<Candidate> {
+fn fewest_inputs(domains: &Domains, side: Side, read: &[bool]) -> Option<Candidate> {
     let mut best = None;
     for number in 0..domains.ports(PortKind::Input) {
         if let Some(true) = read.get(number as usize) {
-            best = fewer(
-                best,
-                candidate_at(weights, domains, side, PortKind::Input, number),
-            );
+            best = fewer(best, candidate_at(domains, side, PortKind::Input, number));
         }
     }
     best
 }
 
 // A port with its ways, if it is in no pair.
-fn candidate_at(
-    weights: &Weights,
-    domains: &Domains,
-    side: Side,
-    kind: PortKind,
-    number: u32,
-) -> Option<Candidate>
+fn candidate_at(domains: &Domains, side: Side, kind: PortKind, number: u32) -> Option<Candidate>
     requires { number < ports_of domains.now.inputs domains.now.outputs kind }
 {
     if let Some(_) = domains.held(side, kind, number) {
@@ -122,15 +100,13 @@ fn candidate_at(
     }
     let ways = (domains.ports(kind) as usize).saturating_mul(2);
     let gone = domains.gone(side, kind, number);
-    let port = Port { side, kind, number };
     Some(Candidate {
-        port,
-        ways: ways.saturating_sub(gone) as u64,
-        weight: weights.of(port),
+        port: Port { side, kind, number },
+        ways: ways.saturating_sub(gone),
     })
 }
 
-// That of two candidates which has fewer ways for its weight.
+// That of two candidates which has fewer ways.
 fn fewer(one: Option<Candidate>, other: Option<Candidate>) -> Option<Candidate> {
     let Some(first) = one else {
         return other;
@@ -138,9 +114,5 @@ fn fewer(one: Option<Candidate>, other: Option<Candidate>) -> Option<Candidate> 
     let Some(second) = other else {
         return one;
     };
-    if second.ways.saturating_mul(first.weight) < first.ways.saturating_mul(second.weight) {
-        other
-    } else {
-        one
-    }
+    if second.ways < first.ways { other } else { one }
 }
