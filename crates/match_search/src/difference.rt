@@ -20,7 +20,8 @@ use ban_book::BanBook;
 use bit_list::Bits;
 use circuits::{Pair, PortKind};
 use items::{Few, Items};
-use net_core::{Graph, Graphs, Matching};
+use net_core::{Graph, Matching};
+use port_sides::PairableGraphs;
 use std::alloc::{AllocError, Global};
 use word_sim::{Tri, tri_eval};
 
@@ -29,7 +30,7 @@ use word_sim::{Tri, tri_eval};
 /// matching sends it to, and answers its number. The pairs of inputs that the difference doesn't need are left out.
 pub(crate) fn exclude(
     alloc: Global,
-    graphs: &Graphs<'_>,
+    graphs: &PairableGraphs<'_>,
     matching: &Matching,
     output: u32,
     vector: &Bits,
@@ -109,7 +110,7 @@ fn inputs_and(alloc: Global, matching: &Matching, pair: Pair) -> Result<Vec<Pair
 /// Leaves out each input's pair without which the values show the difference too.
 pub(crate) fn leave_out(
     alloc: Global,
-    graphs: &Graphs<'_>,
+    graphs: &PairableGraphs<'_>,
     whole: Vec<Pair>,
     pair: Pair,
     values: &[Tri],
@@ -131,7 +132,7 @@ pub(crate) fn leave_out(
 // The pairs, without that at a place where the difference doesn't need it.
 fn without_needless(
     alloc: Global,
-    graphs: &Graphs<'_>,
+    graphs: &PairableGraphs<'_>,
     pairs: Vec<Pair>,
     place: usize,
     pair: Pair,
@@ -157,7 +158,7 @@ fn without_needless(
 // The pairs without that at a place, where it is of an input and the values show the difference without it.
 fn without(
     alloc: Global,
-    graphs: &Graphs<'_>,
+    graphs: &PairableGraphs<'_>,
     pairs: &[Pair],
     place: usize,
     pair: Pair,
@@ -196,7 +197,7 @@ fn removed(alloc: Global, pairs: &[Pair], place: usize) -> Result<Vec<Pair>, All
 /// Whether the values make the partner of an output definite and wrong, whatever the inputs have that aren't paired.
 pub(crate) fn is_wrong(
     alloc: Global,
-    graphs: &Graphs<'_>,
+    graphs: &PairableGraphs<'_>,
     pairs: &[Pair],
     pair: Pair,
     values: &[Tri],

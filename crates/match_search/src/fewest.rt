@@ -9,7 +9,7 @@ use class_refine::Domains;
 use conflict_core::Port;
 use items::Items;
 use net_core::Side;
-use port_covers::side::port_on;
+use port_sides::port_on;
 use std::alloc::{AllocError, Global};
 
 // A port, and how many ways it has left.

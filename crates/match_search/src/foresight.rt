@@ -14,8 +14,8 @@ use account_core::{Ban, Step};
 use ban_book::BanBook;
 use circuits::{Pair, PortKind};
 use items::{Few, Items};
-use net_core::Graphs;
 use port_covers::cover::add_one;
+use port_sides::PairableGraphs;
 use std::alloc::{AllocError, Global};
 use table_guess::{Suspect, Trials};
 use word_sim::Tri;
@@ -25,7 +25,7 @@ use word_sim::Tri;
 /// aren't paired: holds a ban that says so, and answers its number.
 pub(crate) fn foresee(
     alloc: Global,
-    graphs: &Graphs<'_>,
+    graphs: &PairableGraphs<'_>,
     held: &[Pair],
     trials: &Trials,
     book: &mut BanBook,
@@ -46,7 +46,7 @@ pub(crate) fn foresee(
 // this doesn't need are left out.
 fn exclude_suspect(
     alloc: Global,
-    graphs: &Graphs<'_>,
+    graphs: &PairableGraphs<'_>,
     held: &[Pair],
     suspect: &Suspect,
     book: &mut BanBook,

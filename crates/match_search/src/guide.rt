@@ -5,7 +5,7 @@ ghost use Rattle.table_guess.specs.Trials.{AreTrials};
 
 use crate::reads::{Reads, by_count};
 use fact_bans::Seen;
-use net_core::Graphs;
+use port_sides::PairableGraphs;
 use std::alloc::{AllocError, Global};
 use table_guess::Trials;
 
@@ -30,7 +30,11 @@ pub(crate) struct Guide {
 
 impl Guide {
     /// What a search begins with. Another seed draws other vectors.
-    pub(crate) fn new(alloc: Global, graphs: &Graphs<'_>, seed: u64) -> Result<Guide, AllocError>
+    pub(crate) fn new(
+        alloc: Global,
+        graphs: &PairableGraphs<'_>,
+        seed: u64,
+    ) -> Result<Guide, AllocError>
         ensures { IfOk result (λ guide. AreTrials graphs.now.first guide.trials) }
     {
         let trials = Trials::new(alloc, graphs.first(), seed)?;
@@ -68,7 +72,11 @@ impl Guide {
 }
 
 // The outputs of the first circuit, those first that read the fewest inputs, whose claims are cheap; none where there are too many.
-fn order_of(alloc: Global, reads: &Reads, graphs: &Graphs<'_>) -> Result<Vec<u32>, AllocError> {
+fn order_of(
+    alloc: Global,
+    reads: &Reads,
+    graphs: &PairableGraphs<'_>,
+) -> Result<Vec<u32>, AllocError> {
     let first = graphs.first();
     let inputs = first.inputs();
     let outputs = first.outputs().len() as u32;

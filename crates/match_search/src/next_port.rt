@@ -11,14 +11,15 @@ use crate::reads::Reads;
 use circuits::PortKind;
 use class_refine::Domains;
 use conflict_core::Port;
-use net_core::{Graphs, Side};
+use net_core::Side;
+use port_sides::PairableGraphs;
 use std::alloc::{AllocError, Global};
 
 /// The next port that is in no pair: the one of either circuit that has the fewest ways left, of the inputs that outputs in
 /// pairs read, else of the outputs. It is None where each port is in a pair.
 pub(crate) fn next_port(
     alloc: Global,
-    graphs: &Graphs<'_>,
+    graphs: &PairableGraphs<'_>,
     reads: &Reads,
     domains: &Domains,
 ) -> Result<Option<Port>, AllocError>

@@ -4,7 +4,8 @@ ghost use Rattle.std.specs.Prelude.{◌≡◌, ◌<◌, ◌+◌, All, length};
 ghost use Rattle.circuits.specs.Literals.{signal_of};
 
 use items::Items;
-use net_core::{Gate, Graph, Graphs};
+use net_core::{Gate, Graph};
+use port_sides::PairableGraphs;
 use std::alloc::{AllocError, Global};
 
 /// For each output of either circuit the inputs that it reads through gates.
@@ -16,7 +17,7 @@ pub(crate) struct Reads {
 
 impl Reads {
     /// Those of two circuits.
-    pub(crate) fn new(alloc: Global, graphs: &Graphs<'_>) -> Result<Reads, AllocError> {
+    pub(crate) fn new(alloc: Global, graphs: &PairableGraphs<'_>) -> Result<Reads, AllocError> {
         let first = reads_of(alloc, graphs.first())?;
         let second = reads_of(alloc, graphs.second())?;
         Ok(Reads { first, second })

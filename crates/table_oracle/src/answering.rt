@@ -6,7 +6,6 @@ ghost use Rattle.query_core.specs.Claims.{IsClaim};
 ghost use Rattle.query_core.specs.ClaimQueries.{claim_query};
 ghost use Rattle.query_core.specs.Queries.{IsQuery, bits_in};
 ghost use Rattle.account_core.specs.Facts.{IsEvidence};
-ghost use Rattle.account_core.specs.Ports.{HaveAsMany};
 ghost use Rattle.ask_core.specs.Answers.{IsAnswer};
 ghost use Rattle.fact_tests.specs.Asking.{IsDecided, IsHalted};
 
@@ -17,6 +16,7 @@ use ask_core::Answer;
 use cnf_core::Stop;
 use fact_tests::{Decide, with_values};
 use net_core::Graphs;
+use port_sides::PairableGraphs;
 use query_core::{Claim, Ledger, Query, of_claim};
 use std::alloc::Global;
 use std::marker::Model;
@@ -40,12 +40,13 @@ impl<'a> Model for AllVectors<'a> {
 }
 
 impl<'a> AllVectors<'a> {
-    pub(crate) fn new(graphs: &'a Graphs<'a>) -> AllVectors<'a>
-        requires ports { HaveAsMany graphs.now.first graphs.now.second }
+    pub(crate) fn new(graphs: &PairableGraphs<'a>) -> AllVectors<'a>
         requires small { graphs.now.first.inputs ≤ 12 }
         ensures { result ≡ graphs.now }
     {
-        AllVectors { graphs }
+        AllVectors {
+            graphs: graphs.graphs(),
+        }
     }
 }
 
