@@ -59,6 +59,14 @@ impl<'a> QueryBase<'a> {
         })
     }
 
+    /// The two circuits, which the query fits.
+    pub fn graphs(&self) -> &Graphs<'a>
+        ensures value { result.now ≡ self.now.graphs }
+        ensures fits { IsQuery self.now.graphs self.now.query }
+    {
+        self.graphs
+    }
+
     /// The numbers of the clauses that belong to the cones, ascending: that of variable 0, those of the gates that the
     /// output of their cone reaches, and those of the two outputs.
     pub(crate) fn cone_ids(&self, alloc: Global) -> Result<Vec<u64>, AllocError>
