@@ -1,15 +1,17 @@
 -- What a solver's answer over the clauses of a query's cones says of the query.
-use Rattle.std.proofs.Common.{◌≡◌, ◌↔◌, ℕ, ◌+◌, ◌<◌, Bool, true, false, List, [], ◌∷◌, ◌++◌, length, take, All, Contains, slice_index_or, sym, ◌∙◌, ap, subst, arith}
-use Rattle.std.proofs.lemmas.List.{get_or-map, get_or_append_left, get_or-append-add, length-append, length-map}
+use Rattle.std.proofs.Common.{◌≡◌, ◌↔◌, ℕ, ◌+◌, ◌<◌, Bool, true, false, List, [], ◌∷◌, ◌++◌, length, take, drop, All, Contains, slice_index_or, inl, inr, take-append-drop, sym, ◌∙◌, ap, subst, arith}
+use Rattle.std.proofs.lemmas.List.{get_or-map, get_or_append_left, get_or-append-add, length-append, length-map, map-append}
+use Rattle.std.proofs.lemmas.List.Elements.{Contains-append_left}
 use Rattle.std.proofs.lemmas.List.FromFn.{length-map-range_with_len, map-range_with_len_more}
 use Rattle.circuits.specs.Literals.{bit}
 use Rattle.cnf_core.specs.declared.literal.SatLit.{SatLit}
 use Rattle.cnf_core.specs.declared.stop.Stop.{Stop}
 use Rattle.cnf_core.specs.declared.stop.Stop.TheVariants.{Spent, Memory}
-use Rattle.cnf_core.specs.Clauses.{Formula, Meets, clause_at, is_met}
+use Rattle.cnf_core.specs.Clauses.{Formula, Meets, clause_at, is_met, opposite}
 use Rattle.cnf_core.specs.Derivations.{AreDerived, clauses_of, line_fault}
 use Rattle.cnf_core.specs.declared.log.LogLine.{LogLine}
 use Rattle.joint_hash.specs.Merging.{AreLemmas}
+use Rattle.joint_hash.specs.Trees.{AreJoined}
 use Rattle.learn_solver.proofs.AdvanceLemmas.{derived_after}
 use Rattle.net_core.specs.Sides.{Graphs}
 use Rattle.query_core.specs.declared.query.Query.{Query}
@@ -101,3 +103,29 @@ made_of_cones graphs query lemmas base ids s asking cones are is = record {
   lines = ap (λ (x : Solving). x.lines) is;
   are = subst (λ (a : Asking). AreLemmas (formula_of a.graphs a.query) lemmas) asking are;
 }
+
+-- lines that begin with lemmas by which gates are joined join them too
+pub joined_longer : (graphs : Graphs) (query : Query) (lemmas lines : List LogLine) → AreJoined graphs query lemmas → take (length lemmas) lines ≡ lemmas → AreJoined graphs query lines
+joined_longer graphs query lemmas lines are begin gate is =
+    let joined = are gate is in
+    record {
+      first = joined.first;
+      is_gate = joined.is_gate;
+      is_first = joined.is_first;
+      one_tree = joined.one_tree;
+      joined = elim (joined.joined) [
+        | inl same ↦ inl same
+        | inr equal ↦ inr (record { to = longer (opposite joined.first.output ∷ gate.output ∷ []) equal.to; back = longer (joined.first.output ∷ opposite gate.output ∷ []) equal.back })
+      ];
+    }
+  where
+    longer : (clause : List SatLit) → Contains (clauses_of lemmas) clause → Contains (clauses_of lines) clause
+    longer clause has =
+        let rest = drop (length lemmas) lines in
+        let split : lemmas ++ rest ≡ lines = ap (λ (ls : List LogLine). ls ++ rest) (sym begin) ∙ take-append-drop (length lemmas) lines in
+        subst (λ (cs : List (List SatLit)). Contains cs clause) (sym (map-append (λ (l : LogLine). l.clause) lemmas rest) ∙ ap clauses_of split) (Contains-append_left (clauses_of lemmas) (clauses_of rest) clause has)
+
+pub joined_in : {O : Type 0} (graphs : Graphs) (query : Query) (lemmas lines : List LogLine) (base : Asking) (s new : Solving) (first after : Charging O) → base ≡ record { graphs = graphs; query = query } → IsOfCones graphs query lemmas s → AreJoined base.graphs base.query lemmas → IsExtended s new first after → lines ≡ new.lines → AreJoined graphs query lines
+joined_in {O} graphs query lemmas lines base s new first after asking of joined extended are =
+    let begin : take (length lemmas) new.lines ≡ lemmas = ap (λ (ls : List LogLine). take (length ls) new.lines) (sym of.lines) ∙ (extended.kept ∙ of.lines) in
+    subst (AreJoined graphs query) (sym are) (joined_longer graphs query lemmas new.lines (subst (λ (a : Asking). AreJoined a.graphs a.query lemmas) asking joined) begin)

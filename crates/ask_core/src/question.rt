@@ -5,7 +5,8 @@ ghost use Rattle.query_core.specs.Formulas.{formula_of, query_clauses};
 ghost use Rattle.query_core.specs.ConeClauses.{IsConeId};
 ghost use Rattle.query_core.specs.Queries.{IsQuery};
 ghost use Rattle.joint_hash.specs.Merging.{AreLemmas};
-ghost use Rattle.ask_core.specs.Answers.{IsAnswer, IsAskedIn, IsBounded, IsBoundedStop, IsPaidFor, IsStopped};
+ghost use Rattle.joint_hash.specs.Trees.{AreJoined};
+ghost use Rattle.ask_core.specs.Answers.{IsAnswer, IsAskedIn, IsBounded, IsBoundedStop, IsPaidFor, IsStopped, JoinsTrees};
 
 use crate::vector::vector_of;
 use cnf_core::{Log, LogLine, Stop};
@@ -30,7 +31,7 @@ pub enum Answer {
 /// Answers a query that fits two circuits by the clauses of its two cones, by lemmas that make gates of one structure
 /// one, and, where it isn't answered soon, after looking at gates that seem to be equal. The ledger gets an entry for it,
 /// in place of a last one for which nothing was learned: the lemmas, which cost nothing, then one line for each conflict.
-/// A log that refutes has these lines. Spent comes at a conflict that is met with the budget spent; its line is kept as
+/// A log that refutes has these lines, so it says of gates that unfold to one tree that they are equal. Spent comes at a conflict that is met with the budget spent; its line is kept as
 /// the refused one. When out of memory, nothing is said of the last entry. One call learns at most 3^n lines over the n
 /// variables of the query's clauses.
 pub fn ask(
@@ -42,6 +43,7 @@ pub fn ask(
     requires fits { IsQuery graphs.now query.now }
     requires not_spent { ledger.old.spent ≡ false }
     ensures answer { IfOk result (IsAnswer graphs.now query.now) }
+    ensures joined { IfOk result (JoinsTrees graphs.now query.now) }
     ensures asked { IfOk result (λ _. IsAskedIn graphs.now query.now ledger.old ledger.new) }
     ensures paid_for { IfOk result (IsPaidFor ledger.new) }
     ensures not_spent { IfOk result (λ _. ledger.new.spent ≡ false) }
@@ -63,6 +65,7 @@ pub fn ask_watched<W: Watch>(
     requires fits { IsQuery graphs.now query.now }
     requires not_spent { ledger.old.spent ≡ false }
     ensures answer { IfOk result (IsAnswer graphs.now query.now) }
+    ensures joined { IfOk result (JoinsTrees graphs.now query.now) }
     ensures asked { IfOk result (λ _. IsAskedIn graphs.now query.now ledger.old ledger.new) }
     ensures paid_for { IfOk result (IsPaidFor ledger.new) }
     ensures not_spent { IfOk result (λ _. ledger.new.spent ≡ false) }
@@ -92,8 +95,10 @@ fn ask_cones<W: Watch>(
     requires there { All (λ id. id < length (query_clauses base.now.graphs base.now.query)) ids.now }
     requires cones { (id : ℕ) → (Contains ids.now id ↔ IsConeId base.now.graphs base.now.query id) }
     requires lemmas { AreLemmas (formula_of base.now.graphs base.now.query) lemmas.now }
+    requires joined { AreJoined base.now.graphs base.now.query lemmas.now }
     requires not_spent { ledger.old.spent ≡ false }
     ensures answer { IfOk result (IsAnswer graphs.now query.now) }
+    ensures joined { IfOk result (JoinsTrees graphs.now query.now) }
     ensures asked { IfOk result (λ _. IsAskedIn graphs.now query.now ledger.old ledger.new) }
     ensures paid_for { IfOk result (IsPaidFor ledger.new) }
     ensures not_spent { IfOk result (λ _. ledger.new.spent ≡ false) }

@@ -12,7 +12,7 @@ use Rattle.query_core.specs.Ledgers.{Ledgered, charging_of, one_if}
 use Rattle.query_core.specs.declared.ledger.Asked.{Asked}
 use Rattle.query_core.proofs.ChargingLemmas.{is_opened}
 use Rattle.ask_core.specs.Answers.{IsStopped}
-use Rattle.ask_core.proofs.AskLemmas.{asked_in, made_of_cones, meets_cones, stopped_in}
+use Rattle.ask_core.proofs.AskLemmas.{asked_in, joined_in, made_of_cones, meets_cones, stopped_in}
 use Rattle.ask_core.proofs.ShortLemmas.{short_from}
 use Rattle.ask_core.proofs.question.ask_cones.Goals as goal
 
@@ -79,3 +79,13 @@ solve_dense-requires-clause-same g c =
       open_too = ap (λ (t : Charging (Unit {0})). t.opened) c.new-tab.ensures;
       not_spent = ap (λ (t : Charging (Unit {0})). t.spent) c.new-tab.ensures;
     }
+
+pub returns-in-Refuted-clause-joined : goal.returns-in-Refuted-clause-joined
+returns-in-Refuted-clause-joined g c =
+    let graphs = c.args.graphs.now in
+    let query = c.args.query.now in
+    let s = start_of (formula_of c.args.base.now.graphs c.args.base.now.query) c.args.ids.now c.args.lemmas.now in
+    let new = with_lines_of s (charging_of c.solve_dense.new.ledger) in
+    let of = made_of_cones graphs query c.args.lemmas.now c.args.base.now c.args.ids.now s c.requires.of_query c.requires.cones c.requires.lemmas refl in
+    let refuted = subst (λ (v : Verdict). IsVerdict new v) c.in-Refuted.is c.in_ok-values.ensures.verdict in
+    joined_in graphs query c.args.lemmas.now c.in-Refuted.log.lines c.args.base.now s new (charging_of c.open.new.self) (charging_of c.solve_dense.new.ledger) c.requires.of_query of c.requires.joined c.in_ok-values.ensures.lines refuted.lines_are

@@ -15,6 +15,11 @@ ask_cones-requires-clause-cones g c =
     let base = c.in_ok-base.base in
     subst (λ (xs : List ℕ). (id : ℕ) → (Contains xs id ↔ IsConeId base.graphs base.query id)) (sym c.deref-2.ensures.value) c.in_ok-ids.ensures.cones
 
+pub merge_cones-requires-clause-cones : goal.merge_cones-requires-clause-cones
+merge_cones-requires-clause-cones g c =
+    let base = c.in_ok-base.base in
+    subst (λ (xs : List ℕ). (id : ℕ) → (Contains xs id ↔ IsConeId base.graphs base.query id)) (sym c.deref.ensures.value) c.in_ok-ids.ensures.cones
+
 pub returns-clause-bounded : goal.returns-clause-bounded
 returns-clause-bounded g c = bounded_answer c.args.graphs.now c.args.query.now c.args.ledger.now c.ask_cones.new.ledger c.ask_cones.result c.ask_cones.ensures.asked
 
