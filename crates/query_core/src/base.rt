@@ -3,11 +3,9 @@
 ghost use Rattle.std.specs.Prelude.{◌≡◌, ◌<◌, IfOk, length};
 ghost use Rattle.circuits.specs.Matches.{HavePorts};
 ghost use Rattle.query_core.specs.Queries.{IsQuery};
-ghost use Rattle.query_core.specs.ConeClauses.{AreConeIds};
 ghost use Rattle.query_core.specs.MatchQueries.{match_query, IsOfMatching};
 
 use crate::clauses::{clause_over, count_of, variables_of};
-use crate::cones::{gates_of, query_ids};
 use crate::query::Query;
 use crate::variables::{Variables, left_variables, right_variables};
 use cnf_core::{Base, Clause3};
@@ -57,24 +55,6 @@ impl<'a> QueryBase<'a> {
             left,
             right,
         })
-    }
-
-    /// The two circuits, which the query fits.
-    pub fn graphs(&self) -> &Graphs<'a>
-        ensures value { result.now ≡ self.now.graphs }
-        ensures fits { IsQuery self.now.graphs self.now.query }
-    {
-        self.graphs
-    }
-
-    /// The numbers of the clauses that belong to the cones, ascending: that of variable 0, those of the gates that the
-    /// output of their cone reaches, and those of the two outputs.
-    pub(crate) fn cone_ids(&self, alloc: Global) -> Result<Vec<u64>, AllocError>
-        ensures { IfOk result (λ ids. AreConeIds self.now.graphs self.now.query ids.items) }
-    {
-        let left = gates_of(alloc, self.graphs, &self.query.left)?;
-        let right = gates_of(alloc, self.graphs, &self.query.right)?;
-        query_ids(alloc, self.graphs, &self.query, &left, &right)
     }
 
     /// Asks about another output and value of the same matching. Only the last two clauses become others, and it takes

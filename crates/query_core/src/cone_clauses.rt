@@ -72,6 +72,14 @@ impl<'a> ConeClauses<'a> {
         })
     }
 
+    /// The two circuits, which the query fits.
+    pub fn graphs(&self) -> &Graphs<'a>
+        ensures value { result.now ≡ self.now.graphs }
+        ensures fits { IsQuery self.now.graphs self.now.query }
+    {
+        self.graphs
+    }
+
     /// The numbers of the clauses in the query's formula, ascending.
     pub fn ids(&self) -> &[u64]
         ensures value { result.now ≡ self.now.ids }

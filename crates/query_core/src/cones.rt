@@ -1,31 +1,12 @@
 //! The numbers of the clauses that belong to a query's cones.
 
-ghost use Rattle.std.specs.Prelude.{◌≡◌, ◌+◌, ◌*◌, ◌^◌, ◌<◌, ◌++◌, ◌↔◌, ℕ, All, AllPairs, Contains, IfOk, OnOk, length};
-ghost use Rattle.query_core.specs.Formulas.{query_clauses};
+ghost use Rattle.std.specs.Prelude.{◌≡◌, ◌+◌, ◌*◌, ◌^◌, ◌<◌, ◌++◌, IfOk, OnOk, length};
 ghost use Rattle.query_core.specs.Queries.{IsQuery, circuit_of};
-ghost use Rattle.query_core.specs.ConeClauses.{AreConeIds, AreReached, IsConeId, gate_ids};
+ghost use Rattle.query_core.specs.ConeClauses.{AreConeIds, AreReached, gate_ids};
 
-use crate::base::QueryBase;
 use crate::query::{Cone, Query};
 use net_core::Graphs;
 use std::alloc::{AllocError, Global};
-
-/// The numbers of the clauses that belong to the cones, ascending: that of variable 0, those of the gates that the
-/// output of their cone reaches, and those of the two outputs. What meets these clauses has a vector that is asked for.
-///
-/// # Errors
-///
-/// Only when out of memory.
-pub fn cone_ids(alloc: Global, base: &QueryBase<'_>) -> Result<Vec<u64>, AllocError>
-    ensures ascending { IfOk result (λ ids. AllPairs (λ one other. one < other) ids.items) }
-    ensures there { IfOk result
-        (λ ids. All (λ id. id < length (query_clauses base.now.graphs base.now.query)) ids.items) }
-    ensures cones { IfOk result
-        (λ ids. (id : ℕ) → (Contains ids.items id ↔ IsConeId base.now.graphs base.now.query id)) }
-{
-    let ids = base.cone_ids(alloc)?;
-    Ok(ids)
-}
 
 /// The gates that a cone's output reaches, ascending.
 pub(crate) fn gates_of(

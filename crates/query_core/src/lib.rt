@@ -21,7 +21,6 @@ pub use base::QueryBase;
 pub use claim_queries::of_claim;
 pub use claims::{Claim, Shape};
 pub use cone_clauses::ConeClauses;
-pub use cones::cone_ids;
 pub use feeds::Feeds;
 pub use images::image;
 pub use ledger::{Asked, Ledger};
