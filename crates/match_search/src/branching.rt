@@ -111,7 +111,9 @@ fn turn<O: Oracle>(
         Ahead::Match(matching, logs) => return Ok(Some(Found::Match(matching, logs))),
         Ahead::Impasse(impasse) => impasse,
     };
+    let before = book.bans().len();
     let refusal = turn_back(alloc, graphs, domains, queue, impasse, book)?;
+    guide.learn(book.bans(), before);
     guide.forget(domains.pairs().len());
     match refusal {
         None => Ok(None),
@@ -162,7 +164,7 @@ fn go_on<O: Oracle>(
     ensures trail { OnOk result (IsTrail graphs.now book.new domains.new) }
     ensures ahead { IfOk result (IsAhead graphs.now book.new domains.old domains.new) }
 {
-    let Some(port) = next_port(alloc, graphs, &guide.reads, domains)? else {
+    let Some(port) = next_port(alloc, graphs, &guide.reads, &guide.weights, domains)? else {
         return compare_held(alloc, graphs, oracle, guide, domains, book, ledger);
     };
     match branch(domains, book.bans(), port)? {

@@ -4,6 +4,8 @@ ghost use Rattle.std.specs.Prelude.{◌≡◌, ◌<◌, IfOk, IfSome};
 ghost use Rattle.table_guess.specs.Trials.{AreTrials};
 
 use crate::reads::{Reads, by_count};
+use crate::weights::Weights;
+use account_core::Ban;
 use fact_bans::Seen;
 use port_sides::PairableGraphs;
 use std::alloc::{AllocError, Global};
@@ -20,6 +22,7 @@ pub(crate) struct Guide {
     pub(crate) trials: Trials,
     pub(crate) seen: Seen,
     pub(crate) reads: Reads,
+    pub(crate) weights: Weights,
     /// The outputs of the first circuit whose tallies are held at first, in that order, and how many have been.
     order: Vec<u32>,
     tallied: usize,
@@ -40,11 +43,14 @@ impl Guide {
         let trials = Trials::new(alloc, graphs.first(), seed)?;
         let seen = Seen::new(alloc, graphs, seed)?;
         let reads = Reads::new(alloc, graphs)?;
+        let first = graphs.first();
+        let weights = Weights::new(alloc, first.inputs(), first.outputs().len() as u32)?;
         let order = order_of(alloc, &reads, graphs)?;
         Ok(Guide {
             trials,
             seen,
             reads,
+            weights,
             order,
             tallied: 0,
             asked: 0,
@@ -58,6 +64,15 @@ impl Guide {
     {
         self.asked = self.asked.min(held);
         self.exchanged = self.exchanged.min(held);
+    }
+
+    /// Notes the bans that a conflict came to, those from a place on, the last of which was learned.
+    pub(crate) fn learn(&mut self, bans: &[Ban], from: usize)
+        ensures { self.new.trials ≡ self.old.trials }
+    {
+        if from < bans.len() {
+            self.weights.count(&bans[from..]);
+        }
     }
 
     /// The next output of the first circuit whose tallies are to be held, one of n outputs.

@@ -14,7 +14,7 @@ use crate::vectors::meeting_vector;
 use account_core::Evidence;
 use ask_core::Answer;
 use cnf_core::Stop;
-use fact_tests::{Decide, with_values};
+use fact_tests::{Decide, evidence_of};
 use net_core::Graphs;
 use port_sides::PairableGraphs;
 use query_core::{Claim, Ledger, Query, of_claim};
@@ -63,7 +63,7 @@ impl<'a> Decide for AllVectors<'a> {
         claim: &Claim,
         ledger: &mut Ledger,
     ) -> Result<Evidence, Stop> {
-        evidence_of(alloc, self.graphs, claim, ledger)
+        decide(alloc, self.graphs, claim, ledger)
     }
 
     fn answer_to(&self, alloc: Global, query: &Query, ledger: &mut Ledger) -> Result<Answer, Stop> {
@@ -100,8 +100,8 @@ fn answer_to(
     }
 }
 
-/// What the answer of a claim's query says of the claim.
-fn evidence_of(
+/// Decides a claim by its query.
+fn decide(
     alloc: Global,
     graphs: &Graphs<'_>,
     claim: &Claim,
@@ -118,11 +118,7 @@ fn evidence_of(
 {
     let query = of_claim(alloc, graphs, claim)?;
     match answer_to(alloc, graphs, &query, ledger) {
-        Ok(Answer::Vector(vector)) => {
-            let vector = with_values(alloc, vector, &claim.shape)?;
-            Ok(Evidence::Fails(vector))
-        }
-        Ok(Answer::Refuted(log)) => Ok(Evidence::Holds(log)),
+        Ok(answer) => Ok(evidence_of(alloc, graphs, claim, answer)?),
         Err(stop) => Err(stop),
     }
 }
