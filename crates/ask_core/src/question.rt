@@ -1,8 +1,7 @@
 //! One question, asked.
 
-ghost use Rattle.std.specs.Prelude.{◌≡◌, ◌<◌, ◌↔◌, ℕ, false, All, Contains, IfOk, IfErr, length};
-ghost use Rattle.query_core.specs.Formulas.{formula_of, query_clauses};
-ghost use Rattle.query_core.specs.ConeClauses.{IsConeId};
+ghost use Rattle.std.specs.Prelude.{◌≡◌, false, IfOk, IfErr};
+ghost use Rattle.query_core.specs.Formulas.{formula_of};
 ghost use Rattle.query_core.specs.Queries.{IsQuery};
 ghost use Rattle.joint_hash.specs.Merging.{AreLemmas};
 ghost use Rattle.joint_hash.specs.Trees.{AreJoined};
@@ -12,10 +11,10 @@ use crate::vector::vector_of;
 use cnf_core::{Log, LogLine, Stop};
 use dense_solver::{Tab, solve_dense};
 use items::Items;
-use joint_hash::merge_cones;
+use joint_hash::merge;
 use learn_solver::Verdict;
 use net_core::Graphs;
-use query_core::{Ledger, Query, QueryBase, cone_ids};
+use query_core::{ConeClauses, Ledger, Query};
 use std::alloc::Global;
 use watch_core::{Silent, Watch};
 
@@ -73,29 +72,26 @@ pub fn ask_watched<W: Watch>(
     ensures bounded { IfOk result (λ _. IsBounded graphs.now query.now ledger.new) }
     ensures bounded_stop { IfErr result (IsBoundedStop graphs.now query.now ledger.new) }
 {
-    let base = QueryBase::new(alloc, graphs, query)?;
-    let ids = cone_ids(alloc, &base)?;
-    let lemmas = merge_cones(alloc, &base, &ids)?;
-    ask_cones(alloc, graphs, query, &base, &ids, &lemmas, ledger, watch)
+    let cones = ConeClauses::new(alloc, graphs, query)?;
+    let lemmas = merge(alloc, &cones)?;
+    ask_cones(alloc, graphs, query, &cones, &lemmas, ledger, watch)
 }
 
-// Answers a query by the clauses of these numbers, which are those of its cones, and by lemmas.
+// Answers a query by the clauses of its cones and by lemmas.
 fn ask_cones<W: Watch>(
     alloc: Global,
     graphs: &Graphs<'_>,
     query: &Query,
-    base: &QueryBase<'_>,
-    ids: &[u64],
+    cones: &ConeClauses<'_>,
     lemmas: &[LogLine],
     ledger: &mut Ledger,
     watch: &W,
 ) -> Result<Answer, Stop>
     requires fits { IsQuery graphs.now query.now }
-    requires of_query { base.now ≡ record { graphs = graphs.now; query = query.now } }
-    requires there { All (λ id. id < length (query_clauses base.now.graphs base.now.query)) ids.now }
-    requires cones { (id : ℕ) → (Contains ids.now id ↔ IsConeId base.now.graphs base.now.query id) }
-    requires lemmas { AreLemmas (formula_of base.now.graphs base.now.query) lemmas.now }
-    requires joined { AreJoined base.now.graphs base.now.query lemmas.now }
+    requires of_graphs { cones.now.graphs ≡ graphs.now }
+    requires of_query { cones.now.query ≡ query.now }
+    requires lemmas { AreLemmas (formula_of cones.now.graphs cones.now.query) lemmas.now }
+    requires joined { AreJoined cones.now.graphs cones.now.query lemmas.now }
     requires not_spent { ledger.old.spent ≡ false }
     ensures answer { IfOk result (IsAnswer graphs.now query.now) }
     ensures joined { IfOk result (JoinsTrees graphs.now query.now) }
@@ -104,9 +100,10 @@ fn ask_cones<W: Watch>(
     ensures not_spent { IfOk result (λ _. ledger.new.spent ≡ false) }
     ensures stop { IfErr result (IsStopped graphs.now query.now ledger.old ledger.new) }
 {
+    let _ids = cones.ids();
     ledger.open(alloc, query, lemmas)?;
     let tab = Tab::new(alloc, ledger.budget(), ledger.learned(), watch);
-    match solve_dense(alloc, base, ids, lemmas, tab, ledger)? {
+    match solve_dense(alloc, cones, lemmas, tab, ledger)? {
         Verdict::Model(values) => {
             let vector = vector_of(alloc, graphs, query, &values)?;
             Ok(Answer::Vector(vector))

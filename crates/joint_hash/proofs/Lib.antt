@@ -9,3 +9,4 @@ pub mod MergeLemmas
 pub mod SharedLemmas
 pub mod TreeLemmas
 pub mod VisitLemmas
+pub mod ListedLemmas

@@ -1,6 +1,6 @@
 -- Lemmas by which gates of one structure are one (structural hashing, as for and-inverter graphs: Kuehlmann and others, IEEE
 -- TCAD 2002).
-use Rattle.std.specs.Prelude.{◌≡◌, ◌⊎◌, ◌&&◌, ◌==◌, ℕ, ◌+◌, ◌%◌, ◌<◌, ◌≤◌, Bool, true, false, List, [], ◌∷◌, ◌++◌, length, All, Option, None, Some, nat_lt, if◌then◌else◌}
+use Rattle.std.specs.Prelude.{◌≡◌, ◌⊎◌, ◌&&◌, ◌==◌, ℕ, ◌+◌, ◌%◌, ◌<◌, ◌≤◌, Bool, true, false, List, [], ◌∷◌, ◌++◌, length, All, Contains, Option, None, Some, nat_lt, if◌then◌else◌}
 use Rattle.std.specs.Bool.{beq}
 use Rattle.std.specs.List.{list_any, AllByRecursion}
 use Rattle.std.specs.Map.{lookup}
@@ -37,6 +37,10 @@ LeadOn clauses made (id ∷ ids) =
     (id < length clauses)
     × (AllByRecursion (λ l. is_false made l ≡ true) (clause_at clauses id)
     ⊎ ((literal : SatLit) × LeavesOnly made (clause_at clauses id) literal × LeadOn clauses (made ++ literal ∷ []) ids))
+
+-- those of these numbers that are below a count are among others
+abbrev pub AreListed : ℕ → List ℕ → List ℕ → Type 0
+AreListed count listed ids = All (λ id. id < count → Contains listed id) ids
 
 -- whether the clause of this number is the last of a gate's three
 abbrev pub is_last : ℕ → Bool

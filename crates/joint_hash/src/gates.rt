@@ -5,8 +5,8 @@ ghost use Rattle.query_core.specs.ConeClauses.{IsConeId};
 ghost use Rattle.query_core.specs.Formulas.{query_clauses};
 ghost use Rattle.joint_hash.specs.Trees.{IsGateOf};
 
-use cnf_core::{Base, SatLit};
-use query_core::QueryBase;
+use cnf_core::SatLit;
+use query_core::ConeClauses;
 
 /// A gate of a query's cones.
 #[derive(Clone, Copy, Drop)]
@@ -20,18 +20,19 @@ pub struct ConeGate {
 }
 
 /// The gate of the cones whose last clause has this number.
-pub(crate) fn gate_of(base: &QueryBase<'_>, last: u64) -> ConeGate
-    requires there { last < length (query_clauses base.now.graphs base.now.query) }
-    requires cone { IsConeId base.now.graphs base.now.query last }
+pub(crate) fn gate_of(cones: &ConeClauses<'_>, last: u64) -> ConeGate
+    requires there { last < length (query_clauses cones.now.graphs cones.now.query) }
+    requires cone { IsConeId cones.now.graphs cones.now.query last }
     requires some { last ≢ 0 }
     requires third { last % 3 ≡ 0 }
-    ensures gate { IsGateOf base.now.graphs base.now.query result }
+    ensures gate { IsGateOf cones.now.graphs cones.now.query result }
     ensures last { result.id + 2 ≡ last }
 {
-    let graphs = base.graphs();
+    let graphs = cones.graphs();
     let _first = graphs.first();
     let _second = graphs.second();
-    let clause = base.clause(last);
+    let _ids = cones.ids();
+    let clause = cones.clause(last);
     let [output, first, second] = clause.lits;
     ConeGate {
         id: last - 2,

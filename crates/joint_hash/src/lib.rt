@@ -7,4 +7,4 @@ mod merging;
 mod twins;
 
 pub use gates::ConeGate;
-pub use merging::{merge, merge_cones};
+pub use merging::merge;

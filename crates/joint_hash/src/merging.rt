@@ -7,15 +7,15 @@ ghost use Rattle.query_core.specs.ConeClauses.{IsConeId};
 ghost use Rattle.query_core.specs.Queries.{IsQuery};
 ghost use Rattle.query_core.specs.Formulas.{formula_of, query_clauses};
 ghost use Rattle.joint_hash.specs.Trees.{AreJoined, IsGateOf};
-ghost use Rattle.joint_hash.specs.Merging.{AreEquated, AreLemmas, AreTwins, HasAlso, IsUnderWay, LeadOn, chain_ids, clauses_with, first_with, is_last, lemma_ids, operands_of, twin_of};
+ghost use Rattle.joint_hash.specs.Merging.{AreEquated, AreLemmas, AreListed, AreTwins, HasAlso, IsUnderWay, LeadOn, chain_ids, clauses_with, first_with, is_last, lemma_ids, operands_of, twin_of};
 
 use crate::gates::{ConeGate, gate_of};
 use crate::hinting::hints_among;
 use crate::twins::{Twin, operands_of, put_twin, twin_of};
-use cnf_core::{Base, LogLine, SatLit};
+use cnf_core::{LogLine, SatLit};
 use indexmap::IndexMap;
 use items::Items;
-use query_core::{QueryBase, cone_ids};
+use query_core::ConeClauses;
 use std::alloc::{AllocError, Global};
 
 /// Lemmas by which gates of the two cones that unfold to the same tree are one: for each gate but the first of its
@@ -24,31 +24,26 @@ use std::alloc::{AllocError, Global};
 /// # Errors
 ///
 /// Only when out of memory.
-pub fn merge(alloc: Global, base: &QueryBase<'_>) -> Result<Vec<LogLine>, AllocError>
-    ensures lemmas { IfOk result (λ lines. AreLemmas (formula_of base.now.graphs base.now.query) lines.items) }
-    ensures joined { IfOk result (λ lines. AreJoined base.now.graphs base.now.query lines.items) }
+pub fn merge(alloc: Global, cones: &ConeClauses<'_>) -> Result<Vec<LogLine>, AllocError>
+    ensures lemmas { IfOk result (λ lines. AreLemmas (formula_of cones.now.graphs cones.now.query) lines.items) }
+    ensures joined { IfOk result (λ lines. AreJoined cones.now.graphs cones.now.query lines.items) }
 {
-    let ids = cone_ids(alloc, base)?;
-    merge_cones(alloc, base, &ids)
+    merge_ids(alloc, cones, cones.ids())
 }
 
-/// The same, where the numbers of the cones' clauses are known.
-///
-/// # Errors
-///
-/// Only when out of memory.
-pub fn merge_cones(
+// The same, by the numbers of the cones' clauses.
+fn merge_ids(
     alloc: Global,
-    base: &QueryBase<'_>,
+    cones: &ConeClauses<'_>,
     ids: &[u64],
 ) -> Result<Vec<LogLine>, AllocError>
     requires ascending { AllPairs (λ one other. one < other) ids.now }
-    requires there { All (λ id. id < length (query_clauses base.now.graphs base.now.query)) ids.now }
-    requires cones { (id : ℕ) → (Contains ids.now id ↔ IsConeId base.now.graphs base.now.query id) }
-    ensures lemmas { IfOk result (λ lines. AreLemmas (formula_of base.now.graphs base.now.query) lines.items) }
-    ensures joined { IfOk result (λ lines. AreJoined base.now.graphs base.now.query lines.items) }
+    requires there { All (λ id. id < length (query_clauses cones.now.graphs cones.now.query)) ids.now }
+    requires cones { (id : ℕ) → (Contains ids.now id ↔ IsConeId cones.now.graphs cones.now.query id) }
+    ensures lemmas { IfOk result (λ lines. AreLemmas (formula_of cones.now.graphs cones.now.query) lines.items) }
+    ensures joined { IfOk result (λ lines. AreJoined cones.now.graphs cones.now.query lines.items) }
 {
-    let graphs = base.graphs();
+    let graphs = cones.graphs();
     let _first = graphs.first();
     let _second = graphs.second();
     let mut merged = Merged {
@@ -56,7 +51,7 @@ pub fn merge_cones(
         firsts: IndexMap::new(alloc),
         twins: IndexMap::new(alloc),
     };
-    add_gates(alloc, base, ids, &mut merged)?;
+    add_gates(alloc, cones, ids, &mut merged)?;
     let Merged { lines, .. } = merged;
     Ok(lines)
 }
@@ -74,20 +69,20 @@ struct Merged {
 // Goes over all gates of the cones. Each stands after its operands.
 fn add_gates(
     alloc: Global,
-    base: &QueryBase<'_>,
+    cones: &ConeClauses<'_>,
     ids: &[u64],
     merged: &mut Merged,
 ) -> Result<(), AllocError>
     requires ascending { AllPairs (λ one other. one < other) ids.now }
-    requires there { All (λ id. id < length (query_clauses base.now.graphs base.now.query)) ids.now }
-    requires cones { (id : ℕ) → (Contains ids.now id ↔ IsConeId base.now.graphs base.now.query id) }
-    requires under_way { IsUnderWay base.now.graphs base.now.query 0
+    requires there { All (λ id. id < length (query_clauses cones.now.graphs cones.now.query)) ids.now }
+    requires cones { (id : ℕ) → (Contains ids.now id ↔ IsConeId cones.now.graphs cones.now.query id) }
+    requires under_way { IsUnderWay cones.now.graphs cones.now.query 0
         merged.old.lines.items merged.old.firsts.entries merged.old.twins.entries }
-    ensures { OnOk result (IsUnderWay base.now.graphs base.now.query (length (query_clauses base.now.graphs base.now.query))
+    ensures { OnOk result (IsUnderWay cones.now.graphs cones.now.query (length (query_clauses cones.now.graphs cones.now.query))
         merged.new.lines.items merged.new.firsts.entries merged.new.twins.entries) }
 {
     for id in ids.iter() {
-        add_at(alloc, base, *id, merged)?;
+        add_at(alloc, cones, *id, merged)?;
     }
     Ok(())
 }
@@ -95,22 +90,22 @@ fn add_gates(
 // Goes over a gate, where this is the number of its last clause.
 fn add_at(
     alloc: Global,
-    base: &QueryBase<'_>,
+    cones: &ConeClauses<'_>,
     id: u64,
     merged: &mut Merged,
 ) -> Result<(), AllocError>
-    requires there { id < length (query_clauses base.now.graphs base.now.query) }
-    requires cone { IsConeId base.now.graphs base.now.query id }
-    requires under_way { IsUnderWay base.now.graphs base.now.query id
+    requires there { id < length (query_clauses cones.now.graphs cones.now.query) }
+    requires cone { IsConeId cones.now.graphs cones.now.query id }
+    requires under_way { IsUnderWay cones.now.graphs cones.now.query id
         merged.old.lines.items merged.old.firsts.entries merged.old.twins.entries }
-    ensures { OnOk result (IsUnderWay base.now.graphs base.now.query (id + 1)
+    ensures { OnOk result (IsUnderWay cones.now.graphs cones.now.query (id + 1)
         merged.new.lines.items merged.new.firsts.entries merged.new.twins.entries) }
 {
     if !is_last(id) {
         return Ok(());
     }
-    let gate = gate_of(base, id);
-    add_gate(alloc, base, &gate, merged)
+    let gate = gate_of(cones, id);
+    add_gate(alloc, cones, &gate, merged)
 }
 
 // Whether the clause of this number is the last of a gate's three: they follow the clause of variable 0.
@@ -124,17 +119,17 @@ fn is_last(id: u64) -> bool
 // needs nothing the second time.
 fn add_gate(
     alloc: Global,
-    base: &QueryBase<'_>,
+    cones: &ConeClauses<'_>,
     gate: &ConeGate,
     merged: &mut Merged,
 ) -> Result<(), AllocError>
-    requires gate { IsGateOf base.now.graphs base.now.query gate.now }
-    requires under_way { IsUnderWay base.now.graphs base.now.query (gate.now.id + 2)
+    requires gate { IsGateOf cones.now.graphs cones.now.query gate.now }
+    requires under_way { IsUnderWay cones.now.graphs cones.now.query (gate.now.id + 2)
         merged.old.lines.items merged.old.firsts.entries merged.old.twins.entries }
-    ensures { OnOk result (IsUnderWay base.now.graphs base.now.query (gate.now.id + 3)
+    ensures { OnOk result (IsUnderWay cones.now.graphs cones.now.query (gate.now.id + 3)
         merged.new.lines.items merged.new.firsts.entries merged.new.twins.entries) }
 {
-    let graphs = base.graphs();
+    let graphs = cones.graphs();
     let _first = graphs.first();
     let _second = graphs.second();
     let operands = operands_of(&merged.twins, gate);
@@ -143,7 +138,7 @@ fn add_gate(
         Some(first) if is_joined(&merged.twins, gate, &first) => Ok(()),
         Some(first) => equate(
             alloc,
-            base,
+            cones,
             gate,
             &first,
             &mut merged.lines,
@@ -187,29 +182,30 @@ fn is_joined(twins: &IndexMap<u64, Twin>, gate: &ConeGate, first: &ConeGate) -> 
 // implies the first one.
 fn equate(
     alloc: Global,
-    base: &QueryBase<'_>,
+    cones: &ConeClauses<'_>,
     gate: &ConeGate,
     first: &ConeGate,
     lines: &mut Vec<LogLine>,
     twins: &mut IndexMap<u64, Twin>,
 ) -> Result<(), AllocError>
-    requires fits { IsQuery base.now.graphs base.now.query }
-    requires gate { IsGateOf base.now.graphs base.now.query gate.now }
-    requires first { IsGateOf base.now.graphs base.now.query first.now }
+    requires fits { IsQuery cones.now.graphs cones.now.query }
+    requires gate { IsGateOf cones.now.graphs cones.now.query gate.now }
+    requires first { IsGateOf cones.now.graphs cones.now.query first.now }
     requires apart { variable_of first.now.output ≢ variable_of gate.now.output }
     requires operands { operands_of (twin_of twins.old.entries) first.now
         ≡ operands_of (twin_of twins.old.entries) gate.now }
-    requires twins { AreTwins (length (query_clauses base.now.graphs base.now.query))
-        (clauses_with (formula_of base.now.graphs base.now.query) lines.old.items) (twin_of twins.old.entries) }
-    requires lemmas { AreLemmas (formula_of base.now.graphs base.now.query) lines.old.items }
-    ensures { OnOk result (AreEquated (formula_of base.now.graphs base.now.query) first.now gate.now
+    requires twins { AreTwins (length (query_clauses cones.now.graphs cones.now.query))
+        (clauses_with (formula_of cones.now.graphs cones.now.query) lines.old.items) (twin_of twins.old.entries) }
+    requires lemmas { AreLemmas (formula_of cones.now.graphs cones.now.query) lines.old.items }
+    ensures { OnOk result (AreEquated (formula_of cones.now.graphs cones.now.query) first.now gate.now
         lines.old.items lines.new.items (twin_of twins.old.entries) (twin_of twins.new.entries)) }
 {
-    let lemma = base.count() + lines.len() as u64;
+    let _ids = cones.ids();
+    let lemma = cones.count() + lines.len() as u64;
     let there = chain(alloc, twins, first, gate)?;
     add_lemma(
         alloc,
-        base,
+        cones,
         first.output.opposite(),
         gate.output,
         &there,
@@ -218,7 +214,7 @@ fn equate(
     let back = chain(alloc, twins, gate, first)?;
     add_lemma(
         alloc,
-        base,
+        cones,
         first.output,
         gate.output.opposite(),
         &back,
@@ -235,23 +231,24 @@ fn equate(
 // Adds the lemma that one of two literals is true, by the clauses of these numbers.
 fn add_lemma(
     alloc: Global,
-    base: &QueryBase<'_>,
+    cones: &ConeClauses<'_>,
     one: SatLit,
     other: SatLit,
     ids: &[u64],
     lines: &mut Vec<LogLine>,
 ) -> Result<(), AllocError>
-    requires one { variable_of one < (formula_of base.now.graphs base.now.query).variables }
-    requires other { variable_of other < (formula_of base.now.graphs base.now.query).variables }
+    requires one { variable_of one < (formula_of cones.now.graphs cones.now.query).variables }
+    requires other { variable_of other < (formula_of cones.now.graphs cones.now.query).variables }
     requires two { variable_of one ≢ variable_of other }
-    requires lemmas { AreLemmas (formula_of base.now.graphs base.now.query) lines.old.items }
-    requires leads { LeadOn (clauses_with (formula_of base.now.graphs base.now.query) lines.old.items)
+    requires lemmas { AreLemmas (formula_of cones.now.graphs cones.now.query) lines.old.items }
+    requires listed { AreListed (length (query_clauses cones.now.graphs cones.now.query)) cones.now.ids ids.now }
+    requires leads { LeadOn (clauses_with (formula_of cones.now.graphs cones.now.query) lines.old.items)
         (opposite one ∷ opposite other ∷ []) ids.now }
-    ensures lemmas { OnOk result (AreLemmas (formula_of base.now.graphs base.now.query) lines.new.items) }
+    ensures lemmas { OnOk result (AreLemmas (formula_of cones.now.graphs cones.now.query) lines.new.items) }
     ensures clauses { OnOk result (clauses_of lines.new.items ≡ clauses_of lines.old.items ++ (one ∷ other ∷ []) ∷ []) }
 {
     let clause = pair(alloc, one, other)?;
-    let hints = hints_among(alloc, base, lines, &clause, ids)?;
+    let hints = hints_among(alloc, cones, lines, &clause, ids)?;
     lines.push(LogLine { clause, hints })?;
     Ok(())
 }

@@ -2,6 +2,7 @@ use Rattle.std.proofs.Common.{◌≡◌, ℕ, ◌+◌, ◌++◌, List, Vec, Glob
 use Rattle.cnf_core.specs.declared.literal.SatLit.{SatLit}
 use Rattle.cnf_core.specs.Clauses.{clause_at, opposite}
 use Rattle.cnf_core.specs.Derivations.{clauses_of, effect_of, hint_fault}
+use Rattle.query_core.specs.Formulas.{query_clauses}
 use Rattle.joint_hash.proofs.HintLemmas.{IsOnTheWay, hint_ends, not_hinted, way_ends, way_makes, way_neither, way_there}
 use Rattle.joint_hash.proofs.hinting.hints_among.Goals as goal
 use Rattle.joint_hash.proofs.hinting.hints_among.Goals.{in-Makes+in_ok-push-in-Makes+in_ok-push-in-Makes-2, in-Neither}
@@ -12,19 +13,19 @@ moved clauses start rest {new} {old} {made} {later} {hints} e f g way =
     subst (λ (v : Vec SatLit Global). IsOnTheWay clauses start v.items later rest) (sym e) (subst (λ (h : List ℕ). IsOnTheWay clauses start old.items h rest) (sym f) (subst (λ (m : List SatLit). IsOnTheWay clauses start m hints rest) (sym g) way))
 
 pub loop-id-init : goal.loop-id-init
-loop-id-init g c =
-    let clauses = (g.B.Base.formula c.args.base.now).clauses ++ clauses_of c.args.lines.now in
+loop-id-init c =
+    let clauses = query_clauses c.args.cones.now.graphs c.args.cones.now.query ++ clauses_of c.args.lines.now in
     let start = map opposite c.args.clause.now in
     let made : c.in_ok-made.made.items ≡ start = c.in_ok-made.ensures in
-    subst (λ (m : List SatLit). IsOnTheWay clauses start m c.new-hints.result c.args.ids.now) (sym made) (subst (λ (h : List ℕ). IsOnTheWay clauses start start h c.args.ids.now) (sym c.new-hints.ensures) (record { hinted = not_hinted clauses start; leads = c.requires }))
+    subst (λ (m : List SatLit). IsOnTheWay clauses start m c.new-hints.result c.args.ids.now) (sym made) (subst (λ (h : List ℕ). IsOnTheWay clauses start start h c.args.ids.now) (sym c.new-hints.ensures) (record { hinted = not_hinted clauses start; leads = c.requires.leads }))
 
-pub effect_at-requires : goal.effect_at-requires
-effect_at-requires g c =
-    way_there ((g.B.Base.formula c.args.base.now).clauses ++ clauses_of c.args.lines.now) (map opposite c.args.clause.now) c.loop-id.made.items c.loop-id.hints c.args.ids.now c.loop-id.id-index c.loop-id-test.true c.loop-id.invariant
+pub effect_at-requires-clause-there : goal.effect_at-requires-clause-there
+effect_at-requires-clause-there c =
+    way_there (query_clauses c.args.cones.now.graphs c.args.cones.now.query ++ clauses_of c.args.lines.now) (map opposite c.args.clause.now) c.loop-id.made.items c.loop-id.hints c.args.ids.now c.loop-id.id-index c.loop-id-test.true c.loop-id.invariant
 
 pub loop-id-preserved : goal.loop-id-preserved
-loop-id-preserved g c =
-    let clauses = (g.B.Base.formula c.args.base.now).clauses ++ clauses_of c.args.lines.now in
+loop-id-preserved c =
+    let clauses = query_clauses c.args.cones.now.graphs c.args.cones.now.query ++ clauses_of c.args.lines.now in
     let start = map opposite c.args.clause.now in
     let ids = c.args.ids.now in
     let i = c.loop-id.id-index in
@@ -40,8 +41,8 @@ loop-id-preserved g c =
     ]
 
 pub returns-in-Conflict : goal.returns-in-Conflict
-returns-in-Conflict g c =
-    let clauses = (g.B.Base.formula c.args.base.now).clauses ++ clauses_of c.args.lines.now in
+returns-in-Conflict c =
+    let clauses = query_clauses c.args.cones.now.graphs c.args.cones.now.query ++ clauses_of c.args.lines.now in
     let start = map opposite c.args.clause.now in
     let ids = c.args.ids.now in
     let i = c.loop-id.id-index in
@@ -52,5 +53,5 @@ returns-in-Conflict g c =
     ap (hint_fault clauses start) c.in_ok-push-in-Conflict.ensures.ok ∙ hint_ends clauses start made c.loop-id.hints id c.loop-id.invariant.hinted there (effect ∙ c.in-Conflict.is)
 
 pub unreachable-requires : goal.unreachable-requires
-unreachable-requires g c =
-    way_ends ((g.B.Base.formula c.args.base.now).clauses ++ clauses_of c.args.lines.now) (map opposite c.args.clause.now) c.loop-id.made.items c.loop-id.hints c.args.ids.now c.loop-id.id-index c.loop-id-test.false c.loop-id.invariant
+unreachable-requires c =
+    way_ends (query_clauses c.args.cones.now.graphs c.args.cones.now.query ++ clauses_of c.args.lines.now) (map opposite c.args.clause.now) c.loop-id.made.items c.loop-id.hints c.args.ids.now c.loop-id.id-index c.loop-id-test.false c.loop-id.invariant

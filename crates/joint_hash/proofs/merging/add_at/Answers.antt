@@ -7,9 +7,9 @@ use Rattle.joint_hash.proofs.merging.add_at.Goals as goal
 
 pub returns-then-not-is_last : goal.returns-then-not-is_last
 returns-then-not-is_last c =
-    let base = c.args.base.now in
+    let cones = c.args.cones.now in
     let merged = c.args.merged.now in
-    passed_other base.graphs base.query c.args.id merged.lines.items merged.firsts.entries merged.twins.entries c.requires.under_way (sym c.is_last.ensures ∙ c.if-not-is_last.true)
+    passed_other cones.graphs cones.query c.args.id merged.lines.items merged.firsts.entries merged.twins.entries c.requires.under_way (sym c.is_last.ensures ∙ c.if-not-is_last.true)
 
 pub gate_of-gate-requires : goal.gate_of-gate-requires
 gate_of-gate-requires c =
@@ -24,16 +24,16 @@ gate_of-gate-requires c =
 
 pub add_gate-requires : goal.add_gate-requires
 add_gate-requires c =
-    let base = c.args.base.now in
+    let cones = c.args.cones.now in
     let merged = c.args.merged.now in
     record {
       gate = c.gate_of-gate.ensures.gate;
-      under_way = subst (λ k. IsUnderWay base.graphs base.query k merged.lines.items merged.firsts.entries merged.twins.entries) (sym c.gate_of-gate.ensures.last) c.requires.under_way;
+      under_way = subst (λ k. IsUnderWay cones.graphs cones.query k merged.lines.items merged.firsts.entries merged.twins.entries) (sym c.gate_of-gate.ensures.last) c.requires.under_way;
     }
 
 pub returns : goal.returns
 returns c =
-    let base = c.args.base.now in
+    let cones = c.args.cones.now in
     let merged = c.add_gate.new.merged in
     let next : c.gate_of-gate.result.id + 3 ≡ c.args.id + 1 = omega (arith, c.gate_of-gate.ensures.last) in
-    on_ok_weaker c.add_gate.result (λ way. subst (λ k. IsUnderWay base.graphs base.query k merged.lines.items merged.firsts.entries merged.twins.entries) next way) c.add_gate.ensures
+    on_ok_weaker c.add_gate.result (λ way. subst (λ k. IsUnderWay cones.graphs cones.query k merged.lines.items merged.firsts.entries merged.twins.entries) next way) c.add_gate.ensures

@@ -13,24 +13,24 @@ equate-requires-clause-operands c =
 
 pub returns-in-None : goal.returns-in-None
 returns-in-None c =
-    let base = c.args.base.now in
+    let cones = c.args.cones.now in
     let merged = c.args.merged.now in
     let first = subst (λ (g : Graphs). IsGraph g.first) c.graphs-graphs.ensures.value c.first-first.ensures.sound in
     let second = subst (λ (g : Graphs). IsGraph g.second) c.graphs-graphs.ensures.value c.second-second.ensures.sound in
-    on_ok_weaker c.keep.result (kept_after base.graphs base.query c.args.gate.now first second c.graphs-graphs.ensures.fits c.requires.gate merged.lines.items merged.firsts.entries c.keep.new.firsts.entries merged.twins.entries c.operands_of-operands.result c.requires.under_way c.operands_of-operands.ensures (sym c.first_with.ensures ∙ c.in-None.is)) c.keep.ensures
+    on_ok_weaker c.keep.result (kept_after cones.graphs cones.query c.args.gate.now first second c.graphs-graphs.ensures.fits c.requires.gate merged.lines.items merged.firsts.entries c.keep.new.firsts.entries merged.twins.entries c.operands_of-operands.result c.requires.under_way c.operands_of-operands.ensures (sym c.first_with.ensures ∙ c.in-None.is)) c.keep.ensures
 
 pub returns-in-Some : goal.returns-in-Some
 returns-in-Some c =
-    let base = c.args.base.now in
+    let cones = c.args.cones.now in
     let merged = c.args.merged.now in
     let first = subst (λ (g : Graphs). IsGraph g.first) c.graphs-graphs.ensures.value c.first-first.ensures.sound in
     let second = subst (λ (g : Graphs). IsGraph g.second) c.graphs-graphs.ensures.value c.second-second.ensures.sound in
-    added_after base.graphs base.query c.args.gate.now first second c.graphs-graphs.ensures.fits c.requires.gate merged.lines.items merged.firsts.entries merged.twins.entries c.operands_of-operands.result c.in-Some.first c.requires.under_way c.operands_of-operands.ensures (sym c.first_with.ensures ∙ c.in-Some.is) (sym c.is_joined.ensures ∙ c.if-is_joined.true)
+    added_after cones.graphs cones.query c.args.gate.now first second c.graphs-graphs.ensures.fits c.requires.gate merged.lines.items merged.firsts.entries merged.twins.entries c.operands_of-operands.result c.in-Some.first c.requires.under_way c.operands_of-operands.ensures (sym c.first_with.ensures ∙ c.in-Some.is) (sym c.is_joined.ensures ∙ c.if-is_joined.true)
 
 pub returns-in-Some-2 : goal.returns-in-Some-2
 returns-in-Some-2 c =
-    let base = c.args.base.now in
+    let cones = c.args.cones.now in
     let merged = c.args.merged.now in
     let first = subst (λ (g : Graphs). IsGraph g.first) c.graphs-graphs.ensures.value c.first-first.ensures.sound in
     let second = subst (λ (g : Graphs). IsGraph g.second) c.graphs-graphs.ensures.value c.second-second.ensures.sound in
-    on_ok_weaker c.equate.result (equated_after base.graphs base.query c.args.gate.now first second c.graphs-graphs.ensures.fits c.requires.gate merged.lines.items c.equate.new.lines.items merged.firsts.entries merged.twins.entries c.equate.new.twins.entries c.operands_of-operands.result c.in-Some.first c.requires.under_way c.operands_of-operands.ensures (sym c.first_with.ensures ∙ c.in-Some.is) (sym c.is_joined.ensures ∙ c.if-is_joined.false)) c.equate.ensures
+    on_ok_weaker c.equate.result (equated_after cones.graphs cones.query c.args.gate.now first second c.graphs-graphs.ensures.fits c.requires.gate merged.lines.items c.equate.new.lines.items merged.firsts.entries merged.twins.entries c.equate.new.twins.entries c.operands_of-operands.result c.in-Some.first c.requires.under_way c.operands_of-operands.ensures (sym c.first_with.ensures ∙ c.in-Some.is) (sym c.is_joined.ensures ∙ c.if-is_joined.false)) c.equate.ensures

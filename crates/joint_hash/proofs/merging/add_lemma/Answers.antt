@@ -9,7 +9,7 @@ use Rattle.joint_hash.proofs.merging.add_lemma.Goals as goal
 
 pub returns-clause-lemmas : goal.returns-clause-lemmas
 returns-clause-lemmas c =
-    let formula = formula_of c.args.base.now.graphs c.args.base.now.query in
+    let formula = formula_of c.args.cones.now.graphs c.args.cones.now.query in
     let lines = c.args.lines.now.items in
     let clause = c.in_ok-clause.clause in
     let hints = c.in_ok-hints.hints in
