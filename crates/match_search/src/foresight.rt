@@ -9,7 +9,7 @@ ghost use Rattle.port_covers.specs.Held.{AreApart, AreHeld, IsPart};
 ghost use Rattle.port_covers.specs.Levels.{HoldsMore};
 ghost use Rattle.table_guess.specs.Trials.{AreTrials, IsSuspect};
 
-use crate::difference::{definite, is_wrong, leave_out, output_value};
+use crate::difference::{definite, is_wrong, leave_out_latest, output_value};
 use account_core::{Ban, Step};
 use ban_book::BanBook;
 use circuits::{Pair, PortKind};
@@ -64,7 +64,7 @@ fn exclude_suspect(
     if !is_wrong(alloc, graphs, &pairs, pair, &values, first)? {
         return Ok(None);
     }
-    let pairs = leave_out(alloc, graphs, pairs, pair, &values)?;
+    let pairs = leave_out_latest(alloc, graphs, held, pairs, pair, &values)?;
     let ban = vector_ban(alloc, &pairs, pair.from, values)?;
     let number = book.hold(ban)?;
     Ok(Some(number))
