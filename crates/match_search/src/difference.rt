@@ -133,7 +133,7 @@ pub(crate) fn leave_out(
 /// of the earlier ones leads further back.
 pub(crate) fn leave_out_latest(
     alloc: Global,
-    graphs: &Graphs<'_>,
+    graphs: &PairableGraphs<'_>,
     held: &[Pair],
     whole: Vec<Pair>,
     pair: Pair,
@@ -156,7 +156,7 @@ pub(crate) fn leave_out_latest(
 // The pairs, without one of them where the difference doesn't need it.
 fn without_one(
     alloc: Global,
-    graphs: &Graphs<'_>,
+    graphs: &PairableGraphs<'_>,
     pairs: Vec<Pair>,
     other: Pair,
     pair: Pair,
