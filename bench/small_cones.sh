@@ -1,14 +1,14 @@
 #!/usr/bin/env bash
 # Prints what a question of a small cone costs by the size of the netlist round it: `npnp info` of 250 outputs of ten gates each
 # and four inputs, beside more and more gates that no output reaches. Each output is the AND of one input and the majority of
-# three, with exclusive ors between, so that neither simulation nor structure decides its seven claims that hold (four of
-# inputs, three of pairs), which are asked one by one. Not part of the gate.
+# three, with exclusive ors between, so that neither simulation nor structure decides its ten claims that hold (four of
+# inputs, two of each of three pairs), which are asked one by one. Not part of the gate.
 set -eu
 top=$(cd "$(dirname "${BASH_SOURCE[0]}")/.." && pwd)
 work=$(mktemp -d)
 trap 'rm -rf "$work"' EXIT
 outputs=250
-questions=$((7 * outputs))
+questions=$((10 * outputs))
 "$top/npnp" --help >/dev/null
 
 # writes such a netlist with n gates that no output reaches

@@ -1,8 +1,9 @@
 -- What is kept of a list, and at which number it stands then.
-use Rattle.std.proofs.Common.{◌≡◌, ℕ, zero, suc, ◌+◌, ◌<◌, ◌≤◌, inl, inr, Bool, true, false, cond, List, [], ◌∷◌, ◌++◌, length, map, take, All, AllPairs, slice_index_or, refl, sym, ap, subst, ◌∙◌, arith}
+use Rattle.std.proofs.Common.{◌≡◌, ℕ, zero, suc, ◌+◌, ◌<◌, ◌≤◌, inl, inr, Bool, true, false, cond, List, [], ◌∷◌, ◌++◌, length, take, drop, set, get_or, All, AllPairs, slice_index_or, refl, sym, ap, subst, ◌∙◌, arith}
 use Rattle.std.proofs.lemmas.Bool.{cases_lt, false≢true}
-use Rattle.std.specs.Prelude.{reverse}
-use Rattle.std.proofs.lemmas.List.{append-nil, append_assoc, length-append, map-append, reverse-append}
+use Rattle.std.specs.List.{swap}
+use Rattle.std.proofs.lemmas.List.{append-nil, drop-drop, drop-set-lt, get_or-drop, set-set, take-set-le, take_all, take_more_set}
+use Rattle.std.proofs.lemmas.List.Edits.{length-swap, swap_is}
 use Rattle.circuits.specs.Literals.{bit}
 use Rattle.account_trim.specs.Trims.{kept, number_of}
 
@@ -123,42 +124,99 @@ kept_more {X} (false ∷ marks) (x ∷ xs) zero d same below = refl
 kept_more {X} (true ∷ marks) (x ∷ xs) (suc k) d same below = ap (λ ys. x ∷ ys) (kept_more marks xs k d (omega (arith, same)) (omega (arith, below)))
 kept_more {X} (false ∷ marks) (x ∷ xs) (suc k) d same below = kept_more marks xs k d (omega (arith, same)) (omega (arith, below))
 
--- the last element, at the place after those before it
-pub kept_last : {X : Type 0} (marks : List Bool) (before : List X) (x : X) → length before < length marks → kept (take (suc (length before)) marks) (before ++ x ∷ []) ≡ kept (take (length before) marks) before ++ cond (bit marks (length before)) (x ∷ []) []
-kept_last {X} [] before x below = absurd (omega (arith, below))
-kept_last {X} (true ∷ marks) [] x below = refl
-kept_last {X} (false ∷ marks) [] x below = refl
-kept_last {X} (true ∷ marks) (y ∷ before) x below = ap (λ ys. y ∷ ys) (kept_last marks before x (omega (arith, below)))
-kept_last {X} (false ∷ marks) (y ∷ before) x below = kept_last marks before x (omega (arith, below))
+-- The first ones of a list are those that were kept before a place, and from there on it is as it was.
+pub record AreFirst {X : Type 0} (marks : List Bool) (old list : List X) (count place : ℕ) : Type 0 where
+  pub as_many : length list ≡ length old
+  pub within : count ≤ place
+  pub front : take count list ≡ kept (take place marks) (take place old)
+  pub back : drop place list ≡ drop place old
 
--- the last element is taken off, and kept or not
-pub popped : {X : Type 0} (marks : List Bool) (all before list more : List X) (x : X) → length before < length marks → kept (take (length (before ++ x ∷ [])) marks) (before ++ x ∷ []) ++ reverse list ≡ kept marks all → more ≡ list ++ cond (bit marks (length before)) (x ∷ []) [] → kept (take (length before) marks) before ++ reverse more ≡ kept marks all
-popped {X} marks all before list more x below whole is =
-    let mark = bit marks (length before) in
-    let front = kept (take (length before) marks) before in
-    let count : length (before ++ x ∷ []) ≡ suc (length before) = omega (arith, length-append before (x ∷ [])) in
-    ap (λ l. front ++ reverse l) is
-    ∙ (turned mark
-    ∙ (ap (λ l. l ++ reverse list) (sym (kept_last marks before x below))
-    ∙ (ap (λ n. kept (take n marks) (before ++ x ∷ []) ++ reverse list) (sym count)
-    ∙ whole)))
-  where
-    turned : (mark : Bool) → kept (take (length before) marks) before ++ reverse (list ++ cond mark (x ∷ []) []) ≡ kept (take (length before) marks) before ++ cond mark (x ∷ []) [] ++ reverse list
-    turned true = ap (λ l. kept (take (length before) marks) before ++ l) (reverse-append list (x ∷ [])) ∙ sym (append_assoc (kept (take (length before) marks) before) (x ∷ []) (reverse list))
-    turned false = ap (λ l. kept (take (length before) marks) before ++ reverse l) (append-nil list) ∙ ap (λ l. l ++ reverse list) (sym (append-nil (kept (take (length before) marks) before)))
+-- an element is moved to the end of the first ones
+front_moved : {X : Type 0} (list : List X) (count place : ℕ) (d : X) → count ≤ place → place < length list → take (count + 1) (swap list count place) ≡ take count list ++ get_or list place d ∷ []
+front_moved {X} list count place d later there =
+    let x = get_or list place d in
+    let y = get_or list count d in
+    let here : count < length list = omega (arith, later, there) in
+    let is = ap (take (count + 1)) (sym (swap_is list count place d here there)) in
+    elim (cases_lt count place) [
+      | inl less ↦ is ∙ (take-set-le (count + 1) (set list count x) place y (omega (arith, less)) ∙ take_more_set list count x here)
+      | inr le ↦
+          let same : place ≡ count = omega (arith, later, le) in
+          is
+          ∙ (ap (λ p. take (count + 1) (set (set list count x) p y)) same
+          ∙ (ap (take (count + 1)) (set-set list count x y)
+          ∙ (take_more_set list count y here
+          ∙ ap (λ p. take count list ++ get_or list p d ∷ []) (sym same))))
+    ]
 
--- one element more, each under its new form
-pub kept_mapped : {X : Type 0} (f : X → X) (marks : List Bool) (xs list more : List X) (i : ℕ) (d : X) → length marks ≡ length xs → i < length xs → list ≡ map f (kept (take i marks) (take i xs)) → more ≡ list ++ cond (bit marks i) (f (slice_index_or xs i d) ∷ []) [] → more ≡ map f (kept (take (i + 1) marks) (take (i + 1) xs))
-kept_mapped {X} f marks xs list more i d same below before is =
-    let x = slice_index_or xs i d in
-    let front = kept (take i marks) (take i xs) in
-    let next : suc i ≡ i + 1 = omega arith in
-    is
-    ∙ (ap (λ l. l ++ cond (bit marks i) (f x ∷ []) []) before
-    ∙ (by (bit marks i)
-    ∙ (ap (map f) (sym (kept_more marks xs i d same below))
-    ∙ ap (λ n. map f (kept (take n marks) (take n xs))) next)))
-  where
-    by : (mark : Bool) → map f (kept (take i marks) (take i xs)) ++ cond mark (f (slice_index_or xs i d) ∷ []) [] ≡ map f (kept (take i marks) (take i xs) ++ cond mark (slice_index_or xs i d ∷ []) [])
-    by true = sym (map-append f (kept (take i marks) (take i xs)) (slice_index_or xs i d ∷ []))
-    by false = append-nil (map f (kept (take i marks) (take i xs))) ∙ ap (map f) (sym (append-nil (kept (take i marks) (take i xs))))
+back_stays : {X : Type 0} (list : List X) (count place : ℕ) (d : X) → count ≤ place → place < length list → drop (place + 1) (swap list count place) ≡ drop (place + 1) list
+back_stays {X} list count place d later there =
+    let x = get_or list place d in
+    ap (drop (place + 1)) (sym (swap_is list count place d (omega (arith, later, there)) there))
+    ∙ (drop-set-lt (place + 1) (set list count x) place (get_or list count d) (omega arith)
+    ∙ drop-set-lt (place + 1) list count x (omega (arith, later)))
+
+-- what stands from a place on tells the element there, and what stands after it
+read_back : {X : Type 0} (list old : List X) (place : ℕ) (d : X) → drop place list ≡ drop place old → get_or list place d ≡ get_or old place d
+read_back {X} list old place d back =
+    let there : place ≡ place + 0 = omega arith in
+    ap (λ k. get_or list k d) there
+    ∙ (sym (get_or-drop place list 0 d)
+    ∙ (ap (λ l. get_or l 0 d) back
+    ∙ (get_or-drop place old 0 d
+    ∙ ap (λ k. get_or old k d) (sym there))))
+
+next_back : {X : Type 0} (list old : List X) (place : ℕ) → drop place list ≡ drop place old → drop (place + 1) list ≡ drop (place + 1) old
+next_back {X} list old place back = sym (drop-drop 1 place list) ∙ (ap (drop 1) back ∙ drop-drop 1 place old)
+
+-- what is kept up to a place and there
+kept_there : {X : Type 0} (marks : List Bool) (old : List X) (place : ℕ) (d : X) (mark : Bool) → length marks ≡ length old → place < length old → bit marks place ≡ mark → kept (take (place + 1) marks) (take (place + 1) old) ≡ kept (take place marks) (take place old) ++ cond mark (get_or old place d ∷ []) []
+kept_there {X} marks old place d mark same below told =
+    let next : place + 1 ≡ suc place = omega arith in
+    ap (λ n. kept (take n marks) (take n old)) next
+    ∙ (kept_more marks old place d same below
+    ∙ ap (λ b. kept (take place marks) (take place old) ++ cond b (get_or old place d ∷ []) []) told)
+
+-- one place more
+first_by : {X : Type 0} (d : X) (marks : List Bool) (old list more : List X) (count next place : ℕ) (mark : Bool) → length marks ≡ length old → place < length old → bit marks place ≡ mark → AreFirst marks old list count place
+    → more ≡ cond mark (swap list count place) list → next ≡ count + cond mark 1 0 → AreFirst marks old more next (place + 1)
+first_by {X} d marks old list more count next place true same below told was is count_is =
+    let there : place < length list = omega (arith, below, was.as_many) in
+    record {
+      as_many = ap length is ∙ (length-swap list count place ∙ was.as_many);
+      within = omega (arith, was.within, count_is);
+      front =
+          ap (λ k. take k more) count_is
+          ∙ (ap (take (count + 1)) is
+          ∙ (front_moved list count place d was.within there
+          ∙ (ap (λ l. l ++ get_or list place d ∷ []) was.front
+          ∙ (ap (λ x. kept (take place marks) (take place old) ++ x ∷ []) (read_back list old place d was.back)
+          ∙ sym (kept_there marks old place d true same below told)))));
+      back = ap (drop (place + 1)) is ∙ (back_stays list count place d was.within there ∙ next_back list old place was.back);
+    }
+first_by {X} d marks old list more count next place false same below told was is count_is =
+    let count_stays : next ≡ count = omega (arith, count_is) in
+    record {
+      as_many = ap length is ∙ was.as_many;
+      within = omega (arith, was.within, count_stays);
+      front =
+          ap (λ k. take k more) count_stays
+          ∙ (ap (take count) is
+          ∙ (was.front
+          ∙ (sym (append-nil (kept (take place marks) (take place old)))
+          ∙ sym (kept_there marks old place d false same below told))));
+      back = ap (drop (place + 1)) is ∙ next_back list old place was.back;
+    }
+
+pub first_more : {X : Type 0} (marks : List Bool) (old list more : List X) (count next place : ℕ) → length marks ≡ length old → place < length old → AreFirst marks old list count place
+    → more ≡ cond (bit marks place) (swap list count place) list → next ≡ count + cond (bit marks place) 1 0 → AreFirst marks old more next (place + 1)
+first_more {X} marks [] list more count next place same below was is count_is = absurd (omega (arith, below))
+first_more {X} marks (d ∷ rest) list more count next place same below was is count_is =
+    first_by d marks (d ∷ rest) list more count next place (bit marks place) same below refl was is count_is
+
+-- all places
+pub first_all : {X : Type 0} (marks : List Bool) (old list : List X) (count place : ℕ) → length marks ≡ length old → length marks ≤ place → AreFirst marks old list count place → take count list ≡ kept marks old
+first_all {X} marks old list count place same end all =
+    all.front
+    ∙ (ap (λ m. kept m (take place old)) (take_all place marks end)
+    ∙ ap (kept marks) (take_all place old (omega (arith, same, end))))

@@ -1,16 +1,15 @@
 -- Bans are marked from the last to the first.
-use Rattle.std.proofs.Common.{◌≡◌, ℕ, suc, ◌+◌, ◌<◌, ◌≤◌, ◌⊎◌, inl, inr, Bool, true, false, List, [], ◌∷◌, length, replicate, All, slice_index_or, slice_set, refl, sym, ap, subst, ◌∙◌, arith}
-use Rattle.std.specs.Prelude.{Contains}
+use Rattle.std.proofs.Common.{◌≡◌, ℕ, ◌+◌, ◌<◌, ◌≤◌, inl, inr, Bool, true, false, List, length, replicate, slice_index_or, slice_set, sym, ap, subst, ◌∙◌, arith}
 use Rattle.std.proofs.lemmas.Bool.{cases_lt, false≢true}
 use Rattle.std.proofs.lemmas.Bool.Decides.{eqb_tells}
 use Rattle.std.proofs.lemmas.List.{get_or-replicate, get_or-set_other, get_or-set_same, get_or_default, get_or_past, length-replicate, length-set}
 use Rattle.std.proofs.lemmas.List.Elements.{All-contains}
-use Rattle.circuits.specs.Literals.{EachAt, bit}
+use Rattle.circuits.specs.Literals.{bit}
 use Rattle.account_core.specs.declared.step.Ban.{Ban}
 use Rattle.account_core.specs.declared.step.Step.{Step}
 use Rattle.account_trim.specs.declared.marking.Marks.{Marks}
 use Rattle.account_trim.specs.Marks.{MarksNamed}
-use Rattle.account_trim.specs.Names.{AreAmong, AreMarked, HasMarked, IsClosed, IsNeeded, ReferBack, bans_named, facts_named}
+use Rattle.account_trim.specs.Names.{AreAmong, HasMarked, IsClosed, IsNeeded, ReferBack, bans_named, facts_named}
 
 -- The bans from a place on have had their turn.
 pub record IsMarking (all : List Ban) (count number left : ℕ) (marks : Marks) : Type 0 where

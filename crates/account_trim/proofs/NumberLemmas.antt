@@ -1,19 +1,15 @@
 -- Steps by lists of new numbers.
-use Rattle.std.proofs.Common.{◌≡◌, ℕ, ◌+◌, ◌<◌, Bool, List, [], ◌∷◌, ◌++◌, length, map, All, Option, None, Some, slice_index_or, refl, sym, ap, subst, ◌∙◌, arith}
+use Rattle.std.proofs.Common.{◌≡◌, ℕ, ◌+◌, ◌<◌, Bool, List, [], ◌∷◌, ◌++◌, length, map, All, Option, None, Some, refl, sym, ap, ◌∙◌, arith}
 use Rattle.std.specs.Prelude.{option_to_list}
 use Rattle.std.specs.List.{flat_map, range_with_len}
 use Rattle.std.proofs.lemmas.List.FromFn.{get_or-map-range_with_len, map-range_with_len_more}
-use Rattle.std.proofs.lemmas.List.Elements.{All-append, All-cons, All-head, All-nil, All-tail}
+use Rattle.std.proofs.lemmas.List.Elements.{All-cons, All-head, All-nil, All-tail}
 use Rattle.account_core.specs.declared.step.Ban.{Ban}
 use Rattle.account_core.specs.declared.step.Step.{Step}
 use Rattle.account_core.specs.declared.step.Step.TheVariants.{Vector, Mismatch, Tally, Cover}
 use Rattle.account_trim.specs.Names.{bans_named, facts_named}
 use Rattle.account_trim.specs.Numbered.{at, numbered, numbered_ban, referred}
-use Rattle.account_trim.specs.Trims.{number_of, reference_of, renumbered, renumbered_ban}
-
--- the list of new numbers
-abbrev pub new_numbers : List Bool → List ℕ
-new_numbers marks = map (number_of marks) (range_with_len 0 (length marks))
+use Rattle.account_trim.specs.Trims.{new_numbers, number_of, reference_of, renumbered, renumbered_ban}
 
 -- one number more
 pub new_more : (marks : List Bool) (i : ℕ) (numbers more : List ℕ) (next : ℕ) → next ≡ number_of marks i → numbers ≡ map (number_of marks) (range_with_len 0 i) → more ≡ numbers ++ next ∷ [] → more ≡ map (number_of marks) (range_with_len 0 (i + 1))

@@ -1,16 +1,15 @@
 -- What is left of facts and bans for a conclusion.
-use Rattle.std.proofs.Common.{◌≡◌, ℕ, ◌+◌, ◌<◌, Bool, List, length, map, All, slice_index_or, refl, sym, ap, subst, ◌∙◌, arith}
-use Rattle.std.specs.List.{range_with_len}
+use Rattle.std.proofs.Common.{◌≡◌, ℕ, ◌<◌, Bool, List, length, map, All, slice_index_or, sym, ap, subst, ◌∙◌, arith}
 use Rattle.std.proofs.lemmas.List.FromFn.{get_or-map-range_with_len, length-map-range_with_len}
 use Rattle.std.proofs.lemmas.List.Elements.{All-weaker}
 use Rattle.account_core.specs.declared.fact.Fact.{Fact}
 use Rattle.account_core.specs.declared.step.Ban.{Ban}
 use Rattle.account_trim.specs.declared.trimming.Core.{Core}
 use Rattle.account_trim.specs.Names.{IsNeeded, ReferBack, bans_named, facts_named}
-use Rattle.account_trim.specs.Numbered.{numbered_ban}
-use Rattle.account_trim.specs.Trims.{IsTrimmed, kept, number_of, renumbered_ban}
+use Rattle.account_trim.specs.Numbered.{at, numbered_ban}
+use Rattle.account_trim.specs.Trims.{IsTrimmed, kept, new_numbers, number_of}
 use Rattle.account_trim.proofs.KeptLemmas.{All-kept}
-use Rattle.account_trim.proofs.NumberLemmas.{map_numbered_new, new_numbers}
+use Rattle.account_trim.proofs.NumberLemmas.{map_numbered_new}
 
 pub new_count : (marks : List Bool) (numbers : List ℕ) → numbers ≡ new_numbers marks → length numbers ≡ length marks
 new_count marks numbers is = ap length is ∙ length-map-range_with_len (number_of marks) 0 (length marks)
@@ -33,7 +32,7 @@ pub trimmed : (facts : List Fact) (bans : List Ban) (number : ℕ) (core : Core)
     → ban_numbers ≡ new_numbers ban_marks
     → core.facts ≡ kept fact_marks facts
     → core.bans ≡ map (numbered_ban fact_numbers ban_numbers) (kept ban_marks bans)
-    → core.number ≡ slice_index_or ban_numbers number core.number
+    → core.number ≡ at ban_numbers number
     → IsTrimmed facts bans number core
 trimmed facts bans number core fact_marks ban_marks fact_numbers ban_numbers many_facts many_bans needed refer held of_facts of_bans facts_are bans_are number_is = record {
   fact_marks = fact_marks;
@@ -49,5 +48,5 @@ trimmed facts bans number core fact_marks ban_marks fact_numbers ban_numbers man
       ∙ map_numbered_new fact_marks ban_marks (kept ban_marks bans)
       (All-kept (λ (ban : Ban). All (λ k. k < length fact_marks) (facts_named ban.step)) ban_marks bans many_bans (facts_there (length facts) (length fact_marks) bans refer many_facts))
       (All-kept (λ (ban : Ban). All (λ k. k < length ban_marks) (bans_named ban.step)) ban_marks bans many_bans (bans_there (length facts) (length ban_marks) bans refer many_bans))));
-  number_is = number_is ∙ (ap (λ (ns : List ℕ). slice_index_or ns number core.number) of_bans ∙ get_or-map-range_with_len (number_of ban_marks) 0 (length ban_marks) number number core.number (omega (arith, held, many_bans)) (omega arith));
+  number_is = number_is ∙ (ap (λ (ns : List ℕ). at ns number) of_bans ∙ get_or-map-range_with_len (number_of ban_marks) 0 (length ban_marks) number number 0 (omega (arith, held, many_bans)) (omega arith));
 }

@@ -1,8 +1,8 @@
 -- Facts and bans that are kept for a conclusion stay valid under their new numbers.
-use Rattle.std.proofs.Common.{◌≡◌, ◌≢◌, ℕ, suc, ◌+◌, ◌<◌, ◌⊎◌, inl, inr, Bool, true, false, List, [], ◌∷◌, ◌++◌, length, map, take, All, Option, None, Some, slice_index_or, refl, sym, ap, subst, ◌∙◌, arith}
+use Rattle.std.proofs.Common.{◌≡◌, ◌≢◌, ℕ, ◌<◌, inl, inr, Bool, true, false, List, [], ◌∷◌, length, map, take, All, Option, None, Some, slice_index_or, refl, sym, ap, subst, ◌∙◌, arith}
 use Rattle.std.specs.Prelude.{Contains, option_to_list}
 use Rattle.std.specs.List.{AllZip, flat_map}
-use Rattle.std.proofs.lemmas.List.{get_or-map, get_or-take, length-map, length-take, length-take-le, take-map, get_or_default}
+use Rattle.std.proofs.lemmas.List.{get_or-map, get_or-take, length-map, length-take-le, take-map}
 use Rattle.std.proofs.lemmas.List.Elements.{All-append, All-cons, All-head, All-nil, All-tail, Contains-append_right}
 use Rattle.circuits.specs.Literals.{EachAt, bit}
 use Rattle.circuits.specs.declared.port.Pair.{Pair}
@@ -12,17 +12,17 @@ use Rattle.account_core.specs.declared.fact.Fact.{Fact}
 use Rattle.account_core.specs.declared.step.Ban.{Ban}
 use Rattle.account_core.specs.declared.step.Step.{Step}
 use Rattle.account_core.specs.declared.step.Step.TheVariants.{Vector, Mismatch, Tally, Cover}
-use Rattle.account_core.specs.Covers.{IsCover, IsReference, ways}
+use Rattle.account_core.specs.Covers.{IsReference, ways}
 use Rattle.account_core.specs.Facts.{AreFacts, IsFact}
 use Rattle.account_core.specs.Given.{Decided, Given, ban_at, decided_by, fact_at, given_of, no_fact, pairs_of}
 use Rattle.account_core.specs.Mismatches.{IsImage, IsMismatch}
 use Rattle.account_core.specs.Shown.{IsEmptyBan}
 use Rattle.account_core.specs.Steps.{AreNamesKnown, AreValidBans, HasShown, IsValidBan, KeepsRule}
-use Rattle.account_core.specs.Tallies.{HaveShapes, IsTally, LackShapes, SayOf, shapes_of}
+use Rattle.account_core.specs.Tallies.{HaveShapes, LackShapes, SayOf, shapes_of}
 use Rattle.account_trim.specs.declared.trimming.Core.{Core}
 use Rattle.account_trim.specs.Names.{HasMarked, ReferBack, bans_named, facts_named}
 use Rattle.account_trim.specs.Trims.{IsTrimmed, kept, number_of, reference_of, renumbered, renumbered_ban}
-use Rattle.account_trim.proofs.KeptLemmas.{All-kept, AllPairs-kept, kept_at, kept_below, kept_is, kept_take, number_of-later, number_of-take, place_of, IsPlace}
+use Rattle.account_trim.proofs.KeptLemmas.{All-kept, AllPairs-kept, kept_at, kept_below, kept_is, kept_take, number_of-take, place_of, IsPlace}
 use Rattle.account_trim.proofs.NumberLemmas.{All-back, All-front}
 
 -- what was given under a number is given under the new one

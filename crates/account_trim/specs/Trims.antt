@@ -1,5 +1,6 @@
 -- Facts and bans without those that a conclusion doesn't rest on, numbered anew.
 use Rattle.std.specs.Prelude.{◌≡◌, ℕ, zero, suc, Bool, true, false, List, [], ◌∷◌, length, map, Option, None, Some}
+use Rattle.std.specs.List.{range_with_len}
 use Rattle.account_core.specs.declared.fact.Fact.{Fact}
 use Rattle.account_core.specs.declared.step.Ban.{Ban}
 use Rattle.account_core.specs.declared.step.Step.{Step}
@@ -20,6 +21,10 @@ number_of [] k = 0
 number_of (mark ∷ marks) zero = 0
 number_of (true ∷ marks) (suc k) = suc (number_of marks k)
 number_of (false ∷ marks) (suc k) = number_of marks k
+
+-- the new numbers, each at the old one
+abbrev pub new_numbers : List Bool → List ℕ
+new_numbers marks = map (number_of marks) (range_with_len 0 (length marks))
 
 abbrev pub reference_of : List Bool → Option ℕ → Option ℕ
 reference_of marks None = None

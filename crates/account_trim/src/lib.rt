@@ -6,6 +6,7 @@ mod keeping;
 mod laws;
 mod marking;
 mod numbering;
+mod renumbering;
 mod trimming;
 
 pub use laws::{trimmed_bans, trimmed_conclusion, trimmed_facts, valid_bans_refer_back};

@@ -1,15 +1,33 @@
 //! The new numbers of what is marked.
 
-ghost use Rattle.std.specs.Prelude.{◌≡◌, cond, IfOk, length, map};
-ghost use Rattle.std.specs.List.{range_with_len};
-ghost use Rattle.account_trim.specs.Trims.{number_of};
+ghost use Rattle.std.specs.Prelude.{◌≡◌, cond, IfOk};
+ghost use Rattle.account_trim.specs.Trims.{new_numbers};
 
+use crate::marking::Marks;
 use items::Items;
 use std::alloc::{AllocError, Global};
 
-/// For each place the number of marked ones before it.
-pub(crate) fn numbers_of(alloc: Global, marks: &[bool]) -> Result<Items<u64>, AllocError>
-    ensures { IfOk result (λ numbers. numbers ≡ map (number_of marks.now) (range_with_len 0 (length marks.now))) }
+/// The new numbers of facts and of bans, each at the old one.
+#[derive(Drop)]
+pub(crate) struct Numbers {
+    pub(crate) facts: Items<u64>,
+    pub(crate) bans: Items<u64>,
+}
+
+/// The numbers that what is marked gets.
+pub(crate) fn numbers_by(alloc: Global, marks: &Marks) -> Result<Numbers, AllocError>
+    ensures facts { IfOk result (λ numbers. numbers.facts ≡ new_numbers marks.now.facts.items) }
+    ensures bans { IfOk result (λ numbers. numbers.bans ≡ new_numbers marks.now.bans.items) }
+{
+    Ok(Numbers {
+        facts: numbers_of(alloc, &marks.facts)?,
+        bans: numbers_of(alloc, &marks.bans)?,
+    })
+}
+
+// For each place the number of marked ones before it.
+fn numbers_of(alloc: Global, marks: &[bool]) -> Result<Items<u64>, AllocError>
+    ensures { IfOk result (λ numbers. numbers ≡ new_numbers marks.now) }
 {
     let mut numbers = Items::new(alloc);
     let mut next = 0;

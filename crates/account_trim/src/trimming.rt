@@ -1,12 +1,15 @@
 //! Facts and bans without those that a conclusion doesn't rest on.
 
-ghost use Rattle.std.specs.Prelude.{◌<◌, IfOk, length};
-ghost use Rattle.account_trim.specs.Names.{ReferBack};
-ghost use Rattle.account_trim.specs.Trims.{IsTrimmed};
+ghost use Rattle.std.specs.Prelude.{◌≡◌, ◌<◌, All, IfOk, length, map};
+ghost use Rattle.account_trim.specs.Marks.{AreMarks};
+ghost use Rattle.account_trim.specs.Names.{ReferBack, bans_named, facts_named};
+ghost use Rattle.account_trim.specs.Numbered.{at, numbered_ban};
+ghost use Rattle.account_trim.specs.Trims.{IsTrimmed, kept};
 
-use crate::keeping::{kept_bans, kept_facts};
-use crate::marking::needed;
-use crate::numbering::numbers_of;
+use crate::keeping::keep_marked;
+use crate::marking::{Marks, needed};
+use crate::numbering::{Numbers, numbers_by};
+use crate::renumbering::renumber_all;
 use account_core::{Ban, Fact};
 use items::Items;
 use std::alloc::{AllocError, Global};
@@ -20,7 +23,7 @@ pub struct Core {
 }
 
 /// Keeps of facts and bans what the ban of a number rests on: that ban, what its step names, what the steps of these bans
-/// name, and so on, in their order and numbered anew.
+/// name, and so on, in their order and numbered anew. What is kept stays in memory where it is.
 ///
 /// # Errors
 ///
@@ -28,19 +31,42 @@ pub struct Core {
 pub fn trim(
     alloc: Global,
     facts: Items<Fact>,
-    bans: &[Ban],
+    bans: Items<Ban>,
     number: u64,
 ) -> Result<Core, AllocError>
-    requires earlier { ReferBack (length facts) bans.now }
-    requires held { number < length bans.now }
-    ensures { IfOk result (IsTrimmed facts bans.now number) }
+    requires earlier { ReferBack (length facts) bans }
+    requires held { number < length bans }
+    ensures { IfOk result (IsTrimmed facts bans number) }
 {
-    let marks = needed(alloc, facts.len(), bans, number as usize)?;
-    let fact_numbers = numbers_of(alloc, &marks.facts)?;
-    let ban_numbers = numbers_of(alloc, &marks.bans)?;
-    Ok(Core {
-        facts: kept_facts(alloc, facts, &marks.facts)?,
-        bans: kept_bans(alloc, bans, &marks.bans, &fact_numbers, &ban_numbers)?,
-        number: ban_numbers[number as usize],
-    })
+    let marks = needed(alloc, facts.len(), &bans, number as usize)?;
+    let numbers = numbers_by(alloc, &marks)?;
+    Ok(core_of(facts, bans, number, &marks, &numbers))
+}
+
+// Those of facts and bans that are marked, under their new numbers.
+fn core_of(
+    facts: Items<Fact>,
+    bans: Items<Ban>,
+    number: u64,
+    marks: &Marks,
+    numbers: &Numbers,
+) -> Core
+    requires marks { AreMarks (length facts) (length bans) marks.now }
+    requires facts { All (λ ban. All (λ k. k < length numbers.now.facts) (facts_named ban.step)) bans }
+    requires bans { All (λ ban. All (λ k. k < length numbers.now.bans) (bans_named ban.step)) bans }
+    requires held { number < length numbers.now.bans }
+    ensures facts { result.facts ≡ kept marks.now.facts.items facts }
+    ensures bans { result.bans ≡ map (numbered_ban numbers.now.facts numbers.now.bans) (kept marks.now.bans.items bans) }
+    ensures number { result.number ≡ at numbers.now.bans number }
+{
+    let mut facts = facts.into_vec();
+    keep_marked(&mut facts, &marks.facts);
+    let mut bans = bans.into_vec();
+    keep_marked(&mut bans, &marks.bans);
+    renumber_all(&mut bans, numbers);
+    Core {
+        facts: Items::from_vec(facts),
+        bans: Items::from_vec(bans),
+        number: numbers.bans[number as usize],
+    }
 }

@@ -1,21 +1,23 @@
 -- What a solver's answer over the clauses of a query's cones says of the query.
-use Rattle.std.proofs.Common.{◌≡◌, ◌↔◌, ℕ, ◌+◌, ◌<◌, Bool, true, false, List, [], ◌∷◌, ◌++◌, length, take, All, Contains, slice_index_or, sym, ◌∙◌, ap, subst, arith}
-use Rattle.std.proofs.lemmas.List.{get_or-map, get_or_append_left, get_or-append-add, length-append, length-map}
+use Rattle.std.proofs.Common.{◌≡◌, ℕ, ◌+◌, ◌<◌, Bool, true, false, List, [], ◌∷◌, ◌++◌, length, take, drop, All, Contains, slice_index_or, inl, inr, take-append-drop, sym, ◌∙◌, ap, subst, arith}
+use Rattle.std.proofs.lemmas.List.{get_or-map, get_or_append_left, get_or-append-add, length-append, length-map, map-append}
+use Rattle.std.proofs.lemmas.List.Elements.{Contains-append_left}
 use Rattle.std.proofs.lemmas.List.FromFn.{length-map-range_with_len, map-range_with_len_more}
 use Rattle.circuits.specs.Literals.{bit}
 use Rattle.cnf_core.specs.declared.literal.SatLit.{SatLit}
 use Rattle.cnf_core.specs.declared.stop.Stop.{Stop}
 use Rattle.cnf_core.specs.declared.stop.Stop.TheVariants.{Spent, Memory}
-use Rattle.cnf_core.specs.Clauses.{Formula, Meets, clause_at, is_met}
+use Rattle.cnf_core.specs.Clauses.{Formula, Meets, clause_at, is_met, opposite}
 use Rattle.cnf_core.specs.Derivations.{AreDerived, clauses_of, line_fault}
 use Rattle.cnf_core.specs.declared.log.LogLine.{LogLine}
 use Rattle.joint_hash.specs.Merging.{AreLemmas}
+use Rattle.joint_hash.specs.Trees.{AreJoined}
 use Rattle.learn_solver.proofs.AdvanceLemmas.{derived_after}
 use Rattle.net_core.specs.Sides.{Graphs}
 use Rattle.query_core.specs.declared.query.Query.{Query}
 use Rattle.query_core.specs.Queries.{vector_in}
-use Rattle.query_core.specs.Formulas.{Asking, formula_of}
-use Rattle.query_core.specs.ConeClauses.{AllOfCones, IsConeId, MeetsCones}
+use Rattle.query_core.specs.Formulas.{formula_of}
+use Rattle.query_core.specs.ConeClauses.{AllOfCones, AreConeIds, Coned, IsConeId, MeetsCones}
 use Rattle.cnf_core.specs.Charges.{Charging}
 use Rattle.query_core.specs.Ledgers.{Ledgered, charging_of, one_if, opened, with_lines}
 use Rattle.query_core.proofs.ChargingLemmas.{asked_after, is_opened}
@@ -91,13 +93,40 @@ stopped_in graphs query lemmas s new old first after (Spent learned) of there op
   spent = stopped.spent;
 }
 
--- the solver that is made for the numbers of the cones' clauses
-pub made_of_cones : (graphs : Graphs) (query : Query) (lemmas : List LogLine) (base : Asking) (ids : List ℕ) (s : Solving) → base ≡ record { graphs = graphs; query = query } → ((id : ℕ) → (Contains ids id ↔ IsConeId base.graphs base.query id)) → AreLemmas (formula_of base.graphs base.query) lemmas → s ≡ record { formula = formula_of base.graphs base.query; ids = ids; lines = lemmas } → IsOfCones graphs query lemmas s
-made_of_cones graphs query lemmas base ids s asking cones are is = record {
-  formula = ap (λ (x : Solving). x.formula) is ∙ ap (λ (a : Asking). formula_of a.graphs a.query) asking;
+-- the solver that is made for the clauses of the cones
+pub made_of_cones : (graphs : Graphs) (query : Query) (lemmas : List LogLine) (cones : Coned) (s : Solving) → cones.graphs ≡ graphs → cones.query ≡ query → AreConeIds cones.graphs cones.query cones.ids → AreLemmas (formula_of cones.graphs cones.query) lemmas → s ≡ record { formula = formula_of cones.graphs cones.query; ids = cones.ids; lines = lemmas } → IsOfCones graphs query lemmas s
+made_of_cones graphs query lemmas cones s graphs_are query_is ids are is = record {
+  formula = ap (λ (x : Solving). x.formula) is ∙ (ap (λ (g : Graphs). formula_of g cones.query) graphs_are ∙ ap (formula_of graphs) query_is);
   ids = λ id cone.
-      let own = (cones id).1 (subst (λ (a : Asking). IsConeId a.graphs a.query id) (sym asking) cone) in
+      let own = (ids.cones id).1 (subst (λ (q : Query). IsConeId cones.graphs q id) (sym query_is) (subst (λ (g : Graphs). IsConeId g query id) (sym graphs_are) cone)) in
       subst (λ (xs : List ℕ). Contains xs id) (sym (ap (λ (x : Solving). x.ids) is)) own;
   lines = ap (λ (x : Solving). x.lines) is;
-  are = subst (λ (a : Asking). AreLemmas (formula_of a.graphs a.query) lemmas) asking are;
+  are = subst (λ (q : Query). AreLemmas (formula_of graphs q) lemmas) query_is (subst (λ (g : Graphs). AreLemmas (formula_of g cones.query) lemmas) graphs_are are);
 }
+
+-- lines that begin with lemmas by which gates are joined join them too
+pub joined_longer : (graphs : Graphs) (query : Query) (lemmas lines : List LogLine) → AreJoined graphs query lemmas → take (length lemmas) lines ≡ lemmas → AreJoined graphs query lines
+joined_longer graphs query lemmas lines are begin gate is =
+    let joined = are gate is in
+    record {
+      first = joined.first;
+      is_gate = joined.is_gate;
+      is_first = joined.is_first;
+      one_tree = joined.one_tree;
+      joined = elim (joined.joined) [
+        | inl same ↦ inl same
+        | inr equal ↦ inr (record { to = longer (opposite joined.first.output ∷ gate.output ∷ []) equal.to; back = longer (joined.first.output ∷ opposite gate.output ∷ []) equal.back })
+      ];
+    }
+  where
+    longer : (clause : List SatLit) → Contains (clauses_of lemmas) clause → Contains (clauses_of lines) clause
+    longer clause has =
+        let rest = drop (length lemmas) lines in
+        let split : lemmas ++ rest ≡ lines = ap (λ (ls : List LogLine). ls ++ rest) (sym begin) ∙ take-append-drop (length lemmas) lines in
+        subst (λ (cs : List (List SatLit)). Contains cs clause) (sym (map-append (λ (l : LogLine). l.clause) lemmas rest) ∙ ap clauses_of split) (Contains-append_left (clauses_of lemmas) (clauses_of rest) clause has)
+
+pub joined_in : {O : Type 0} (graphs : Graphs) (query : Query) (lemmas lines : List LogLine) (cones : Coned) (s new : Solving) (first after : Charging O) → cones.graphs ≡ graphs → cones.query ≡ query → IsOfCones graphs query lemmas s → AreJoined cones.graphs cones.query lemmas → IsExtended s new first after → lines ≡ new.lines → AreJoined graphs query lines
+joined_in {O} graphs query lemmas lines cones s new first after graphs_are query_is of joined extended are =
+    let begin : take (length lemmas) new.lines ≡ lemmas = ap (λ (ls : List LogLine). take (length ls) new.lines) (sym of.lines) ∙ (extended.kept ∙ of.lines) in
+    let own = subst (λ (q : Query). AreJoined graphs q lemmas) query_is (subst (λ (g : Graphs). AreJoined g cones.query lemmas) graphs_are joined) in
+    subst (AreJoined graphs query) (sym are) (joined_longer graphs query lemmas new.lines own begin)

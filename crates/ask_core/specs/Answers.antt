@@ -5,6 +5,7 @@ use Rattle.cnf_core.specs.declared.stop.Stop.{Stop}
 use Rattle.cnf_core.specs.declared.stop.Stop.TheVariants.{Spent, Memory}
 use Rattle.cnf_core.specs.Derivations.{AreDerived, IsRefutation, clauses_of, line_fault}
 use Rattle.joint_hash.specs.Merging.{AreLemmas}
+use Rattle.joint_hash.specs.Trees.{AreJoined}
 use Rattle.learn_solver.specs.Analyses.{has_all}
 use Rattle.net_core.specs.Sides.{Graphs}
 use Rattle.query_core.specs.declared.query.Query.{Query}
@@ -24,6 +25,11 @@ pub record IsVector (graphs : Graphs) (query : Query) (vector : List Bool) : Typ
 abbrev pub IsAnswer : Graphs → Query → Answer → Type 0
 IsAnswer graphs query (Vector vector) = IsVector graphs query vector
 IsAnswer graphs query (Refuted log) = IsRefutation (formula_of graphs query) log.lines
+
+-- for each gate of the cones, a log has both implications between it and the first gate that unfolds to the same tree
+abbrev pub JoinsTrees : Graphs → Query → Answer → Type 0
+JoinsTrees graphs query (Vector vector) = Unit {0}
+JoinsTrees graphs query (Refuted log) = AreJoined graphs query log.lines
 
 -- the lines of a log are those of the ledger's last query: its lemmas, and those that were learned for it and paid for
 abbrev pub IsPaidFor : Ledgered → Answer → Type 0

@@ -1,20 +1,20 @@
 //! One question, asked.
 
-ghost use Rattle.std.specs.Prelude.{◌≡◌, ◌<◌, ◌↔◌, ℕ, false, All, Contains, IfOk, IfErr, length};
-ghost use Rattle.query_core.specs.Formulas.{formula_of, query_clauses};
-ghost use Rattle.query_core.specs.ConeClauses.{IsConeId};
+ghost use Rattle.std.specs.Prelude.{◌≡◌, false, IfOk, IfErr};
+ghost use Rattle.query_core.specs.Formulas.{formula_of};
 ghost use Rattle.query_core.specs.Queries.{IsQuery};
 ghost use Rattle.joint_hash.specs.Merging.{AreLemmas};
-ghost use Rattle.ask_core.specs.Answers.{IsAnswer, IsAskedIn, IsBounded, IsBoundedStop, IsPaidFor, IsStopped};
+ghost use Rattle.joint_hash.specs.Trees.{AreJoined};
+ghost use Rattle.ask_core.specs.Answers.{IsAnswer, IsAskedIn, IsBounded, IsBoundedStop, IsPaidFor, IsStopped, JoinsTrees};
 
 use crate::vector::vector_of;
 use cnf_core::{Log, LogLine, Stop};
 use dense_solver::{Tab, solve_dense};
 use items::Items;
-use joint_hash::merge_cones;
+use joint_hash::merge;
 use learn_solver::Verdict;
 use net_core::Graphs;
-use query_core::{Ledger, Query, QueryBase, cone_ids};
+use query_core::{ConeClauses, Ledger, Query};
 use std::alloc::Global;
 use watch_core::{Silent, Watch};
 
@@ -30,7 +30,7 @@ pub enum Answer {
 /// Answers a query that fits two circuits by the clauses of its two cones, by lemmas that make gates of one structure
 /// one, and, where it isn't answered soon, after looking at gates that seem to be equal. The ledger gets an entry for it,
 /// in place of a last one for which nothing was learned: the lemmas, which cost nothing, then one line for each conflict.
-/// A log that refutes has these lines. Spent comes at a conflict that is met with the budget spent; its line is kept as
+/// A log that refutes has these lines, so it says of gates that unfold to one tree that they are equal. Spent comes at a conflict that is met with the budget spent; its line is kept as
 /// the refused one. When out of memory, nothing is said of the last entry. One call learns at most 3^n lines over the n
 /// variables of the query's clauses.
 pub fn ask(
@@ -42,6 +42,7 @@ pub fn ask(
     requires fits { IsQuery graphs.now query.now }
     requires not_spent { ledger.old.spent ≡ false }
     ensures answer { IfOk result (IsAnswer graphs.now query.now) }
+    ensures joined { IfOk result (JoinsTrees graphs.now query.now) }
     ensures asked { IfOk result (λ _. IsAskedIn graphs.now query.now ledger.old ledger.new) }
     ensures paid_for { IfOk result (IsPaidFor ledger.new) }
     ensures not_spent { IfOk result (λ _. ledger.new.spent ≡ false) }
@@ -63,6 +64,7 @@ pub fn ask_watched<W: Watch>(
     requires fits { IsQuery graphs.now query.now }
     requires not_spent { ledger.old.spent ≡ false }
     ensures answer { IfOk result (IsAnswer graphs.now query.now) }
+    ensures joined { IfOk result (JoinsTrees graphs.now query.now) }
     ensures asked { IfOk result (λ _. IsAskedIn graphs.now query.now ledger.old ledger.new) }
     ensures paid_for { IfOk result (IsPaidFor ledger.new) }
     ensures not_spent { IfOk result (λ _. ledger.new.spent ≡ false) }
@@ -70,38 +72,38 @@ pub fn ask_watched<W: Watch>(
     ensures bounded { IfOk result (λ _. IsBounded graphs.now query.now ledger.new) }
     ensures bounded_stop { IfErr result (IsBoundedStop graphs.now query.now ledger.new) }
 {
-    let base = QueryBase::new(alloc, graphs, query)?;
-    let ids = cone_ids(alloc, &base)?;
-    let lemmas = merge_cones(alloc, &base, &ids)?;
-    ask_cones(alloc, graphs, query, &base, &ids, &lemmas, ledger, watch)
+    let cones = ConeClauses::new(alloc, graphs, query)?;
+    let lemmas = merge(alloc, &cones)?;
+    ask_cones(alloc, graphs, query, &cones, &lemmas, ledger, watch)
 }
 
-// Answers a query by the clauses of these numbers, which are those of its cones, and by lemmas.
+// Answers a query by the clauses of its cones and by lemmas.
 fn ask_cones<W: Watch>(
     alloc: Global,
     graphs: &Graphs<'_>,
     query: &Query,
-    base: &QueryBase<'_>,
-    ids: &[u64],
+    cones: &ConeClauses<'_>,
     lemmas: &[LogLine],
     ledger: &mut Ledger,
     watch: &W,
 ) -> Result<Answer, Stop>
     requires fits { IsQuery graphs.now query.now }
-    requires of_query { base.now ≡ record { graphs = graphs.now; query = query.now } }
-    requires there { All (λ id. id < length (query_clauses base.now.graphs base.now.query)) ids.now }
-    requires cones { (id : ℕ) → (Contains ids.now id ↔ IsConeId base.now.graphs base.now.query id) }
-    requires lemmas { AreLemmas (formula_of base.now.graphs base.now.query) lemmas.now }
+    requires of_graphs { cones.now.graphs ≡ graphs.now }
+    requires of_query { cones.now.query ≡ query.now }
+    requires lemmas { AreLemmas (formula_of cones.now.graphs cones.now.query) lemmas.now }
+    requires joined { AreJoined cones.now.graphs cones.now.query lemmas.now }
     requires not_spent { ledger.old.spent ≡ false }
     ensures answer { IfOk result (IsAnswer graphs.now query.now) }
+    ensures joined { IfOk result (JoinsTrees graphs.now query.now) }
     ensures asked { IfOk result (λ _. IsAskedIn graphs.now query.now ledger.old ledger.new) }
     ensures paid_for { IfOk result (IsPaidFor ledger.new) }
     ensures not_spent { IfOk result (λ _. ledger.new.spent ≡ false) }
     ensures stop { IfErr result (IsStopped graphs.now query.now ledger.old ledger.new) }
 {
+    let _ids = cones.ids();
     ledger.open(alloc, query, lemmas)?;
     let tab = Tab::new(alloc, ledger.budget(), ledger.learned(), watch);
-    match solve_dense(alloc, base, ids, lemmas, tab, ledger)? {
+    match solve_dense(alloc, cones, lemmas, tab, ledger)? {
         Verdict::Model(values) => {
             let vector = vector_of(alloc, graphs, query, &values)?;
             Ok(Answer::Vector(vector))

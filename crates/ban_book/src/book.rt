@@ -5,6 +5,7 @@ ghost use Rattle.ban_book.specs.Covering.{Covers, IsWithin};
 
 use account_core::Ban;
 use circuits::Pair;
+use items::Items;
 use std::alloc::{AllocError, Global};
 use std::marker::Model;
 
@@ -59,6 +60,14 @@ impl BanBook {
         ensures { result.now ≡ self.now }
     {
         self.bans.as_slice()
+    }
+
+    /// The bans, in the order of their numbers. The book is given up.
+    pub fn into_bans(self) -> Items<Ban>
+        ensures { result ≡ self }
+    {
+        let BanBook { bans } = self;
+        Items::from_vec(bans)
     }
 }
 

@@ -16,8 +16,8 @@ use account_core::Ban;
 use ban_book::BanBook;
 use circuits::Pair;
 use class_refine::Domains;
-use net_core::Graphs;
 use port_covers::cover::{add_one, hold_cover};
+use port_sides::PairableGraphs;
 use std::alloc::{AllocError, Global};
 
 /// Held pairs, in the order that bans have, and the number of a ban that has no other pairs.
@@ -32,7 +32,7 @@ pub struct Conflict {
 /// a ban beside the given pairs.
 pub fn cover_port(
     alloc: Global,
-    graphs: &Graphs<'_>,
+    graphs: &PairableGraphs<'_>,
     domains: &Domains,
     held: &[Pair],
     port: Port,

@@ -19,8 +19,8 @@ use crate::port::{Port, Resolved};
 use ban_book::BanBook;
 use circuits::Pair;
 use class_refine::{Cause, Domains, Entry, Fate};
-use net_core::{Graphs, Side};
-use port_covers::side::port_on;
+use net_core::Side;
+use port_sides::{PairableGraphs, port_on};
 use std::alloc::{AllocError, Global};
 
 // What is done about the latest pair of a conflict.
@@ -35,7 +35,7 @@ pub(crate) enum Pivot {
 /// first unique implication point. Where there is none before any choice, the conflict's last ban has no pairs.
 pub fn resolve(
     alloc: Global,
-    graphs: &Graphs<'_>,
+    graphs: &PairableGraphs<'_>,
     domains: &Domains,
     conflict: Conflict,
     book: &mut BanBook,
@@ -207,7 +207,7 @@ fn back_to(domains: &Domains, last: usize, place: usize, ban: u64) -> Learned
 // beside pairs that were held before it.
 fn resolve_on(
     alloc: Global,
-    graphs: &Graphs<'_>,
+    graphs: &PairableGraphs<'_>,
     domains: &Domains,
     place: usize,
     side: Side,

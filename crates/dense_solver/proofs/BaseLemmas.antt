@@ -49,6 +49,11 @@ over_more n clauses told c is own = record {
   over = All-push (IsOver n) told c is.over own;
 }
 
+pub told_more : (n : ℕ) (clauses : List (List SatLit)) (ids : List ℕ) (i id : ℕ) (told new : List Clause3) (c : Clause3) → AreOver n (map (clause_at clauses) (take i ids)) told → i < length ids → id ≡ slice_index_or ids i id → literals_of c ≡ clause_at clauses id → IsOver n c → new ≡ told ++ c ∷ [] → AreOver n (map (clause_at clauses) (take (i + 1) ids)) new
+told_more n clauses ids i id told new c is within id_is c_is own new_is =
+    let last = ap (λ x. map (clause_at clauses) (take i ids) ++ x ∷ []) (c_is ∙ ap (clause_at clauses) id_is) ∙ sym (ap (map (clause_at clauses)) (take_more ids i id within) ∙ map-append (clause_at clauses) (take i ids) (slice_index_or ids i id ∷ [])) in
+    subst (AreOver n (map (clause_at clauses) (take (i + 1) ids))) (sym new_is) (subst (λ cs. AreOver n cs (told ++ c ∷ [])) last (over_more n (map (clause_at clauses) (take i ids)) told c is own))
+
 pub lemma_over_more : (n : ℕ) (front : List (List SatLit)) (lemmas : List LogLine) (i : ℕ) (line : LogLine) (told new : List Clause3) (c : Clause3) → AreOver n (front ++ clauses_of (take i lemmas)) told → i < length lemmas → line ≡ slice_index_or lemmas i line → literals_of c ≡ line.clause → IsOver n c → new ≡ told ++ c ∷ [] → AreOver n (front ++ clauses_of (take (i + 1) lemmas)) new
 lemma_over_more n front lemmas i line told new c is within line_is c_is own new_is =
     let last = ap (λ x. clauses_of (take i lemmas) ++ x ∷ []) (c_is ∙ ap (λ (l : LogLine). l.clause) line_is) ∙ sym (ap clauses_of (take_more lemmas i line within) ∙ map-append (λ (l : LogLine). l.clause) (take i lemmas) (slice_index_or lemmas i line ∷ [])) in
@@ -63,41 +68,32 @@ place_at variables names places v are (k, within, is) =
     (omega (arith, place, within), ap (λ j. slice_index_or names j 0) place ∙ at_k)
 
 -- over its place and back
-pub back_again : (variables : ℕ) (names places : List ℕ) (l : SatLit) → ArePlaces variables names places → Contains names (variable_of l) → (variable_of (renamed places l) < length names) × (renamed names (renamed places l) ≡ l)
-back_again variables names places l are named =
+pub back_again : (names : List ℕ) (place : ℕ) (l m : SatLit) → place < length names → slice_index_or names place 0 ≡ variable_of l → m ≡ literal_of place (not (is_negated l)) → (renamed names m ≡ l) × (variable_of m < length names)
+back_again names place l m there at m_is =
     let s = not (is_negated l) in
-    let p = slice_index_or places (variable_of l) 0 in
-    let at = place_at variables names places (variable_of l) are named in
-    let variable : variable_of (renamed places l) ≡ p = variable_of-literal p s in
-    let sign : not (is_negated (renamed places l)) ≡ s = ap not (is_negated-literal p s) ∙ twice s in
-    (omega (arith, variable, at.0), ap (λ v. literal_of (slice_index_or names v 0) (not (is_negated (renamed places l)))) variable ∙ (ap (λ b. literal_of (slice_index_or names p 0) b) sign ∙ (ap (λ v. literal_of v s) at.1 ∙ itself l)))
+    let variable : variable_of m ≡ place = ap variable_of m_is ∙ variable_of-literal place s in
+    let sign : not (is_negated m) ≡ s = ap not (ap is_negated m_is ∙ is_negated-literal place s) ∙ twice s in
+    (ap (λ v. literal_of (slice_index_or names v 0) (not (is_negated m))) variable ∙ (ap (λ b. literal_of (slice_index_or names place 0) b) sign ∙ (ap (λ v. literal_of v s) at ∙ itself l)), omega (arith, variable, there))
   where
     twice : (b : Bool) → not (not b) ≡ b
     twice true = refl
     twice false = refl
 
-clause_back : (variables : ℕ) (names places : List ℕ) → ArePlaces variables names places → (clause : List SatLit) → IsNamed names clause → map (renamed names) (map (renamed places) clause) ≡ clause
-clause_back variables names places are [] named = refl
-clause_back variables names places are (l ∷ clause) named =
-    ap (λ m. m ∷ map (renamed names) (map (renamed places) clause)) (back_again variables names places l are (All-head (λ (x : SatLit). Contains names (variable_of x)) l clause named)).1
-    ∙ ap (λ ls. l ∷ ls) (clause_back variables names places are clause (All-tail (λ (x : SatLit). Contains names (variable_of x)) l clause named))
-
 -- one clause more over the places
-pub turned_more : (variables : ℕ) (names places : List ℕ) (clauses : List Clause3) (i : ℕ) (dense new : List Clause3) (t : Clause3) (clause : List SatLit) (d : Clause3) → ArePlaces variables names places → AreTurned names clauses dense i → i < length clauses → clause ≡ literals_of (slice_index_or clauses i d) → IsNamed names clause → 1 ≤ length clause → literals_of t ≡ map (renamed places) clause → 1 ≤ t.len → t.len ≤ 3 → new ≡ dense ++ t ∷ [] → AreTurned names clauses new (i + 1)
-turned_more variables names places clauses i dense new t clause d are is within clause_is named filled t_is some short new_is = subst (λ ts. AreTurned names clauses ts (i + 1)) (sym new_is) (record {
+pub turned_more : (names : List ℕ) (clauses : List Clause3) (i : ℕ) (dense new : List Clause3) (t : Clause3) (clause : List SatLit) (d : Clause3) → AreTurned names clauses dense i → i < length clauses → clause ≡ literals_of (slice_index_or clauses i d) → 1 ≤ length clause → map (renamed names) (literals_of t) ≡ clause → AreKnown (length names) (literals_of t) → 1 ≤ t.len → t.len ≤ 3 → new ≡ dense ++ t ∷ [] → AreTurned names clauses new (i + 1)
+turned_more names clauses i dense new t clause d is within clause_is filled back known some short new_is = subst (λ ts. AreTurned names clauses ts (i + 1)) (sym new_is) (record {
   size = length-append dense (t ∷ []) ∙ ap (λ n. n + 1) is.size;
   over = All-push (IsOver (length names)) dense t is.over (record {
     some = some;
     short = short;
-    filled = omega (arith, filled, ap length t_is, length-map clause (renamed places));
-    known = subst (AreKnown (length names)) (sym t_is) (All-map (λ (x : SatLit). variable_of x < length names) (renamed places) clause (λ k e below. (back_again variables names places (slice_index_or clause k e) are (named k e below)).0));
+    filled = omega (arith, filled, ap length back, length-map (literals_of t) (renamed names));
+    known = known;
   });
   back = λ k c e below. elim (cases_lt k i) [
     | inl before ↦ ap (λ (x : Clause3). map (renamed names) (literals_of x)) (get_or_append_left dense (t ∷ []) c k (omega (arith, before, is.size))) ∙ is.back k c e before
     | inr late ↦
         let last : k ≡ i = omega (arith, late, below) in
-        let own : map (renamed names) (literals_of t) ≡ clause = ap (map (renamed names)) t_is ∙ clause_back variables names places are clause named in
-        ap (λ (x : Clause3). map (renamed names) (literals_of x)) (get_or_at dense t [] c k (is.size ∙ sym last)) ∙ (own ∙ (clause_is ∙ (ap literals_of (get_or_default clauses i d e within) ∙ ap (λ j. literals_of (slice_index_or clauses j e)) (sym last))))
+        ap (λ (x : Clause3). map (renamed names) (literals_of x)) (get_or_at dense t [] c k (is.size ∙ sym last)) ∙ (back ∙ (clause_is ∙ (ap literals_of (get_or_default clauses i d e within) ∙ ap (λ j. literals_of (slice_index_or clauses j e)) (sym last))))
   ];
 })
 

@@ -1,6 +1,7 @@
 -- Clauses and lines over other variables, with other numbers.
 use Rattle.std.specs.Prelude.{◌≡◌, ℕ, ◌+◌, ◌-◌, ◌<◌, ◌≤◌, ◌^◌, ◌++◌, not, eqb, Bool, true, List, length, map, All, Contains, nat_lt, slice_index_or, if◌then◌else◌}
 use Rattle.std.specs.List.{IsDistinct, range_with_len}
+use Rattle.std.specs.List.Sorted.{IsNonDecreasing}
 use Rattle.circuits.specs.Literals.{bit}
 use Rattle.cnf_core.specs.declared.literal.SatLit.{SatLit}
 use Rattle.cnf_core.specs.declared.clause.Clause3.{Clause3}
@@ -8,6 +9,8 @@ use Rattle.cnf_core.specs.declared.log.LogLine.{LogLine}
 use Rattle.cnf_core.specs.Clauses.{Formula, clause_at, is_negated, literal_of, literals_of, variable_of}
 use Rattle.cnf_core.specs.Derivations.{clauses_of}
 use Rattle.watch_lists.specs.Propagations.{AreKnown}
+use Rattle.dense_solver.specs.declared.places.Places.{Places}
+use Rattle.dense_solver.specs.declared.places.Places.TheVariants.{Table, Bisected}
 
 -- a literal with its sign, of the variable that is listed for its own
 abbrev pub renamed : List ℕ → SatLit → SatLit
@@ -66,6 +69,16 @@ pub record ArePlaces (variables : ℕ) (names places : List ℕ) : Type 0 where
   pub size : length places ≡ variables
   pub few : All (λ place. place < 2 ^ 63) places
   pub each : (k : ℕ) → k < length names → slice_index_or places (slice_index_or names k 0) 0 ≡ k
+
+-- A table has the place of each name.
+pub record IsTable (names table : List ℕ) : Type 0 where
+  pub are : ArePlaces (length table) names table
+  pub known : All (λ v. v < length table) names
+
+-- how the places of names are found is right for these
+abbrev pub TellPlaces : List ℕ → Places → Type 0
+TellPlaces names (Table table) = IsTable names table.items
+TellPlaces names Bisected = IsNonDecreasing names
 
 -- The first n of clauses, over the places of names.
 pub record AreTurned (names : List ℕ) (clauses turned : List Clause3) (count : ℕ) : Type 0 where

@@ -3,13 +3,14 @@
 ghost use Rattle.std.specs.Prelude.{◌≡◌, ◌<◌, ◌^◌, ◌++◌, All, IfOk, length, map};
 ghost use Rattle.cnf_core.specs.Clauses.{clause_at};
 ghost use Rattle.cnf_core.specs.Derivations.{clauses_of};
+ghost use Rattle.query_core.specs.Formulas.{formula_of, query_clauses};
 ghost use Rattle.watch_lists.specs.Propagations.{AreKnown};
 ghost use Rattle.dense_solver.specs.Renamings.{AreShort, IsRenaming, numbers_of, renamed, small_formula};
 
 use crate::clauses::{over_names, wanted};
 use crate::names::names_of;
 use cnf_core::{Base, Clause3, LogLine, SatLit};
-use items::Items;
+use query_core::ConeClauses;
 use std::alloc::{AllocError, Global};
 use std::marker::Model;
 
@@ -36,33 +37,32 @@ impl Model for DenseBase {
 }
 
 impl DenseBase {
-    /// The formula's clauses of these numbers, and those of lemmas.
+    /// The clauses of a query's cones, and those of lemmas.
     ///
     /// # Errors
     ///
     /// Only when out of memory.
-    pub fn new<B: Base>(
+    pub fn new(
         alloc: Global,
-        base: &B,
-        ids: &[u64],
+        cones: &ConeClauses<'_>,
         lemmas: &[LogLine],
     ) -> Result<DenseBase, AllocError>
-        requires ids { All (λ id. id < length (B.formula base.now).clauses) ids.now }
-        requires known { All (AreKnown (B.formula base.now).variables) (clauses_of lemmas.now) }
+        requires known { All (AreKnown (formula_of cones.now.graphs cones.now.query).variables) (clauses_of lemmas.now) }
         requires short { AreShort (clauses_of lemmas.now) }
-        ensures renaming { IfOk result
-            (λ dense. IsRenaming (small_formula dense) dense.names dense.numbers (B.formula base.now) lemmas.now) }
-        ensures whole { IfOk result (λ dense. map (clause_at (B.formula base.now).clauses) ids.now ++ clauses_of lemmas.now
+        ensures renaming { IfOk result (λ dense. IsRenaming (small_formula dense) dense.names dense.numbers
+            (formula_of cones.now.graphs cones.now.query) lemmas.now) }
+        ensures whole { IfOk result (λ dense.
+            map (clause_at (query_clauses cones.now.graphs cones.now.query)) cones.now.ids ++ clauses_of lemmas.now
             ≡ map (map (renamed dense.names)) dense.clauses) }
     {
-        let variables = base.variables();
-        let clauses = wanted(alloc, base, ids, lemmas)?;
+        let variables = cones.variables();
+        let clauses = wanted(alloc, cones, lemmas)?;
         let names = names_of(alloc, &clauses, variables)?;
         let clauses = over_names(alloc, &clauses, &names, variables)?;
         if clauses.len() as u64 >= 1 << 62 {
             return Err(AllocError);
         }
-        let numbers = numbers_of(alloc, ids, base.count(), lemmas.len())?;
+        let numbers = numbers_of(alloc, cones.ids(), cones.count(), lemmas.len())?;
         Ok(DenseBase {
             names,
             clauses,

@@ -8,6 +8,7 @@ mod clauses;
 mod guiding;
 mod lines;
 mod names;
+mod places;
 mod small;
 mod solving;
 mod tab;

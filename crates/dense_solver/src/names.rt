@@ -1,6 +1,7 @@
 //! The variables of clauses.
 
 ghost use Rattle.std.specs.Prelude.{◌≡◌, ◌<◌, ◌^◌, ℕ, false, All, Contains, IfOk, OnOk, length, replicate};
+ghost use Rattle.std.specs.List.Sorted.{IsNonDecreasing};
 ghost use Rattle.cnf_core.specs.Clauses.{literals_of, variable_of};
 ghost use Rattle.watch_lists.specs.Propagations.{AreKnown};
 ghost use Rattle.dense_solver.specs.Renamings.{AreListed, AreMarks, AreNames, IsNamed, IsOver};
@@ -17,6 +18,7 @@ pub(crate) fn names_of(
     requires { All (IsOver variables) clauses.now }
     ensures names { IfOk result (λ names. AreNames variables names.items) }
     ensures all { IfOk result (λ names. All (λ clause. IsNamed names.items (literals_of clause)) clauses.now) }
+    ensures ascending { IfOk result (λ names. IsNonDecreasing names.items) }
 {
     let mut marked = unmarked(alloc, variables as usize)?;
     let mut names = Vec::new(alloc);

@@ -2,6 +2,7 @@
 
 ghost use Rattle.std.specs.Prelude.{◌≡◌, ◌<◌, ◌^◌, All, IfOk, IfErr, true, false, length};
 ghost use Rattle.cnf_core.specs.Derivations.{AreDerived, clauses_of};
+ghost use Rattle.query_core.specs.Formulas.{formula_of};
 ghost use Rattle.learn_solver.specs.Solvers.{IsAsking, IsExtended, IsStopped, IsVerdict};
 ghost use Rattle.dense_solver.specs.Renamings.{AreShort, IsRenaming, small_formula};
 ghost use Rattle.dense_solver.specs.Solved.{IsOf, IsSettled, IsUnsettled, start_of, with_lines_of};
@@ -12,10 +13,11 @@ use crate::tab::Tab;
 use crate::telling::{charge_told, told};
 use cnf_core::{Base, Charge, LogLine, Stop};
 use learn_solver::Verdict;
+use query_core::ConeClauses;
 use std::alloc::Global;
 use watch_core::Watch;
 
-/// Looks for a model of clauses of these numbers, with lemmas that are derived in order from the formula and have one to three literals. The
+/// Looks for a model of the clauses of a query's cones, with lemmas that are derived in order from the formula and have one to three literals. The
 /// search is over the variables that occur in them alone, and costs by them, whatever else the formula has. The lemmas are the lines of the
 /// ledger's open entry, and the tab has the ledger's budget, of which as much is spent. What is learned is charged to the tab as it comes, and
 /// to the ledger, in terms of the formula, when the search ends.
@@ -24,59 +26,56 @@ use watch_core::Watch;
 ///
 /// `Spent` at a conflict that is met with the budget spent: its line is the ledger's refused one. Running out of memory may leave
 /// the ledger anyhow.
-pub fn solve_dense<B: Base, L: Charge, W: Watch>(
+pub fn solve_dense<L: Charge, W: Watch>(
     alloc: Global,
-    base: &B,
-    ids: &[u64],
+    cones: &ConeClauses<'_>,
     lemmas: &[LogLine],
     tab: Tab<'_, W>,
     ledger: &mut L,
 ) -> Result<Verdict, Stop>
-    requires ids { All (λ id. id < length (B.formula base.now).clauses) ids.now }
-    requires derived { AreDerived (B.formula base.now) lemmas.now }
+    requires derived { AreDerived (formula_of cones.now.graphs cones.now.query) lemmas.now }
     requires short { AreShort (clauses_of lemmas.now) }
     requires asking { IsAsking (L.charging ledger.old) lemmas.now }
     requires same { IsOf tab (L.charging ledger.old) }
-    ensures verdict { IfOk result (IsVerdict (with_lines_of (start_of (B.formula base.now) ids.now lemmas.now) (L.charging ledger.new))) }
-    ensures lines { IfOk result (λ _. IsExtended (start_of (B.formula base.now) ids.now lemmas.now)
-        (with_lines_of (start_of (B.formula base.now) ids.now lemmas.now) (L.charging ledger.new))
+    ensures verdict { IfOk result (IsVerdict (with_lines_of (start_of (formula_of cones.now.graphs cones.now.query) cones.now.ids lemmas.now) (L.charging ledger.new))) }
+    ensures lines { IfOk result (λ _. IsExtended (start_of (formula_of cones.now.graphs cones.now.query) cones.now.ids lemmas.now)
+        (with_lines_of (start_of (formula_of cones.now.graphs cones.now.query) cones.now.ids lemmas.now) (L.charging ledger.new))
         (L.charging ledger.old) (L.charging ledger.new)) }
     ensures not_spent { IfOk result (λ _. IsAsking (L.charging ledger.new) (L.charging ledger.new).lines) }
-    ensures stop { IfErr result (IsStopped (start_of (B.formula base.now) ids.now lemmas.now)
-        (with_lines_of (start_of (B.formula base.now) ids.now lemmas.now) (L.charging ledger.new))
+    ensures stop { IfErr result (IsStopped (start_of (formula_of cones.now.graphs cones.now.query) cones.now.ids lemmas.now)
+        (with_lines_of (start_of (formula_of cones.now.graphs cones.now.query) cones.now.ids lemmas.now) (L.charging ledger.new))
         (L.charging ledger.old) (L.charging ledger.new)) }
 {
-    let dense = DenseBase::new(alloc, base, ids, lemmas)?;
+    let dense = DenseBase::new(alloc, cones, lemmas)?;
     let mut tab = tab;
-    search_dense(alloc, base, &dense, ids.len(), lemmas, &mut tab, ledger)
+    search_dense(alloc, cones, &dense, lemmas, &mut tab, ledger)
 }
 
-// The search over names, of whose clauses the first n say what the gates are.
-fn search_dense<B: Base, L: Charge, W: Watch>(
+// The search over names, of whose clauses the first are those of the cones.
+fn search_dense<L: Charge, W: Watch>(
     alloc: Global,
-    base: &B,
+    cones: &ConeClauses<'_>,
     dense: &DenseBase,
-    gates: usize,
     lemmas: &[LogLine],
     tab: &mut Tab<'_, W>,
     ledger: &mut L,
 ) -> Result<Verdict, Stop>
-    requires renaming { IsRenaming (small_formula dense.now) dense.now.names dense.now.numbers (B.formula base.now) lemmas.now }
+    requires renaming { IsRenaming (small_formula dense.now) dense.now.names dense.now.numbers (formula_of cones.now.graphs cones.now.query) lemmas.now }
     requires few { length lemmas.now < 2 ^ 62 }
     requires opened { (L.charging ledger.old).opened ≡ true }
     requires not_spent { (L.charging ledger.old).spent ≡ false }
     requires same { IsOf tab.old (L.charging ledger.old) }
-    ensures settled { IfOk result (IsSettled (small_formula dense.now) dense.now.names dense.now.numbers (B.formula base.now) lemmas.now
+    ensures settled { IfOk result (IsSettled (small_formula dense.now) dense.now.names dense.now.numbers (formula_of cones.now.graphs cones.now.query) lemmas.now
         (L.charging ledger.old) (L.charging ledger.new)) }
-    ensures unsettled { IfErr result (IsUnsettled (small_formula dense.now) dense.now.names dense.now.numbers (B.formula base.now) lemmas.now
+    ensures unsettled { IfErr result (IsUnsettled (small_formula dense.now) dense.now.names dense.now.numbers (formula_of cones.now.graphs cones.now.query) lemmas.now
         (L.charging ledger.old) (L.charging ledger.new)) }
 {
     let _count = dense.count();
-    let next = base.count() + lemmas.len() as u64;
-    match solve_small(alloc, dense, gates, tab) {
+    let next = cones.count() + lemmas.len() as u64;
+    match solve_small(alloc, dense, cones.ids().len(), tab) {
         Ok(own) => {
             let lines = charge_told(alloc, dense, next, tab.lines(), ledger)?;
-            let verdict = told(alloc, dense, base.variables(), lemmas, lines, own)?;
+            let verdict = told(alloc, dense, cones.variables(), lemmas, lines, own)?;
             Ok(verdict)
         }
         Err(Stop::Spent(_)) => {

@@ -15,8 +15,9 @@ use crate::seen::Seen;
 use ban_book::BanBook;
 use circuits::Pair;
 use cnf_core::Stop;
-use net_core::{Graphs, Side};
+use net_core::Side;
 use oracle_core::Oracle;
+use port_sides::PairableGraphs;
 use query_core::{Claim, Ledger, Shape};
 use std::alloc::Global;
 
@@ -30,7 +31,7 @@ use std::alloc::Global;
 /// `Spent` where a line had to be learned and the ledger's budget was spent. `Memory` when out of memory.
 pub fn swap_mismatch<O: Oracle>(
     alloc: Global,
-    graphs: &Graphs<'_>,
+    graphs: &PairableGraphs<'_>,
     oracle: &mut O,
     one: Pair,
     other: Pair,
@@ -66,7 +67,7 @@ pub fn swap_mismatch<O: Oracle>(
 // Holds a ban of the pairs, of which the first input's comes first, by the claim of values that is worth to be asked.
 fn by_values<O: Oracle>(
     alloc: Global,
-    graphs: &Graphs<'_>,
+    graphs: &PairableGraphs<'_>,
     oracle: &mut O,
     one: Pair,
     other: Pair,

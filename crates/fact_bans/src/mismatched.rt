@@ -18,8 +18,8 @@ use ban_book::BanBook;
 use circuits::Pair;
 use cnf_core::Stop;
 use items::Few;
-use net_core::Graphs;
 use oracle_core::Oracle;
+use port_sides::PairableGraphs;
 use query_core::{Claim, Ledger};
 use std::alloc::{AllocError, Global};
 
@@ -34,7 +34,7 @@ pub(crate) struct Carried {
 /// where both fail, or both hold.
 pub(crate) fn hold_by<O: Oracle>(
     alloc: Global,
-    graphs: &Graphs<'_>,
+    graphs: &PairableGraphs<'_>,
     oracle: &mut O,
     pairs: &[Pair],
     carried: Carried,

@@ -14,8 +14,9 @@ use crate::seen::Seen;
 use ban_book::BanBook;
 use circuits::Pair;
 use cnf_core::Stop;
-use net_core::{Graphs, Side};
+use net_core::Side;
 use oracle_core::Oracle;
+use port_sides::PairableGraphs;
 use query_core::{Claim, Ledger};
 use std::alloc::Global;
 
@@ -27,7 +28,7 @@ use std::alloc::Global;
 /// `Spent` where a line had to be learned and the ledger's budget was spent. `Memory` when out of memory.
 pub fn mismatch<O: Oracle>(
     alloc: Global,
-    graphs: &Graphs<'_>,
+    graphs: &PairableGraphs<'_>,
     oracle: &mut O,
     input: Pair,
     output: Pair,

@@ -1,33 +1,10 @@
-//! Sides, and the ports that pairs have of them.
+//! Shapes of claims about the inputs of pairs.
 
 ghost use Rattle.std.specs.Prelude.{◌≡◌};
-ghost use Rattle.account_core.specs.Ports.{ports_in};
-ghost use Rattle.account_core.specs.Tallies.{other_side, port_on};
 ghost use Rattle.query_core.specs.Images.{moved_value, one_input, two_inputs};
 
 use circuits::Pair;
-use net_core::Side;
 use query_core::Shape;
-
-/// The other one of two circuits.
-pub(crate) fn other_side(side: Side) -> Side
-    ensures { result ≡ other_side side }
-{
-    match side {
-        Side::First => Side::Second,
-        Side::Second => Side::First,
-    }
-}
-
-/// A pair's port of a circuit.
-pub(crate) fn port_on(side: Side, pair: Pair) -> u32
-    ensures { result ≡ port_on side pair }
-{
-    match side {
-        Side::First => pair.from,
-        Side::Second => pair.to,
-    }
-}
 
 /// The shape of one input with a value.
 pub(crate) fn one_input(input: u32, value: bool) -> Shape

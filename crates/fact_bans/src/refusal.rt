@@ -3,7 +3,7 @@
 ghost use Rattle.std.specs.Prelude.{◌≡◌, ◌+◌, ◌<◌, ◌∷◌, [], All, IfOk, IfSome, IsTrue, OnOk, length};
 ghost use Rattle.circuits.specs.declared.port.PortKind.TheVariants.{Output};
 ghost use Rattle.account_core.specs.Covers.{way, ways};
-ghost use Rattle.account_core.specs.Ports.{HaveAsMany, IsKnown};
+ghost use Rattle.account_core.specs.Ports.{IsKnown};
 ghost use Rattle.account_core.specs.Shown.{IsEmptyBan};
 ghost use Rattle.account_core.specs.Tallies.{Ascend};
 ghost use Rattle.ban_book.specs.Covering.{Covers};
@@ -20,8 +20,8 @@ use ban_book::BanBook;
 use circuits::{Pair, PortKind};
 use cnf_core::Stop;
 use items::{Few, Items};
-use net_core::Graphs;
 use oracle_core::Oracle;
+use port_sides::PairableGraphs;
 use query_core::Ledger;
 use std::alloc::{AllocError, Global};
 
@@ -40,19 +40,18 @@ const MOST_TRIES: u32 = 32;
 /// `Spent` where a line had to be learned and the ledger's budget was spent. `Memory` when out of memory.
 pub fn refuse<O: Oracle>(
     alloc: Global,
-    graphs: &Graphs<'_>,
+    graphs: &PairableGraphs<'_>,
     oracle: &mut O,
     seen: &mut Seen,
     book: &mut BanBook,
     ledger: &mut Ledger,
 ) -> Result<Option<u64>, Stop>
-    requires ports { HaveAsMany graphs.now.first graphs.now.second }
     requires may { MayHold graphs.now (O.known oracle.old) ledger.old book.old }
     ensures holds { HoldsBans graphs.now (O.known oracle.old) (O.known oracle.new) ledger.old ledger.new book.old book.new result }
     ensures empty { IfOk result (λ found. IfSome found (IsEmptyBan book.new)) }
 {
     for _try in 0..MOST_TRIES {
-        let outputs = output_count(graphs);
+        let outputs = graphs.ports(PortKind::Output);
         let Some(classes) = Classes::new(alloc, outputs, seen)? else {
             return Ok(None);
         };
@@ -66,19 +65,18 @@ pub fn refuse<O: Oracle>(
 // Holds the ban that classes of outputs are for.
 fn refuse_by<O: Oracle>(
     alloc: Global,
-    graphs: &Graphs<'_>,
+    graphs: &PairableGraphs<'_>,
     oracle: &mut O,
     classes: &Classes,
     seen: &mut Seen,
     book: &mut BanBook,
     ledger: &mut Ledger,
 ) -> Result<Option<u64>, Stop>
-    requires ports { HaveAsMany graphs.now.first graphs.now.second }
     requires may { MayHold graphs.now (O.known oracle.old) ledger.old book.old }
     ensures holds { HoldsBans graphs.now (O.known oracle.old) (O.known oracle.new) ledger.old ledger.new book.old book.new result }
     ensures empty { IfOk result (λ found. IfSome found (IsEmptyBan book.new)) }
 {
-    let outputs = output_count(graphs);
+    let outputs = graphs.ports(PortKind::Output);
     let from = marked(alloc, &classes.from, outputs)?;
     let to = marked(alloc, &classes.to, outputs)?;
     if from.len() + to.len() <= outputs as usize {
@@ -90,13 +88,6 @@ fn refuse_by<O: Oracle>(
     let ban = cover_ban(alloc, from, to, refs)?;
     let number = book.hold(ban)?;
     Ok(Some(number))
-}
-
-// How many outputs the first circuit has.
-fn output_count(graphs: &Graphs<'_>) -> u32
-    ensures { result ≡ length graphs.now.first.outputs }
-{
-    graphs.first().outputs().len() as u32
 }
 
 // The places of marks below a number.
@@ -129,7 +120,7 @@ fn add_marked(ports: &mut Items<u32>, marks: &[bool], port: u32) -> Result<(), A
 // The bans of all ways to pair some outputs with others. None where a way has none.
 fn rows<O: Oracle>(
     alloc: Global,
-    graphs: &Graphs<'_>,
+    graphs: &PairableGraphs<'_>,
     oracle: &mut O,
     from: &[u32],
     to: &[u32],
@@ -156,7 +147,7 @@ fn rows<O: Oracle>(
 // The bans of all ways to pair an output with others. None where a way has none.
 fn row<O: Oracle>(
     alloc: Global,
-    graphs: &Graphs<'_>,
+    graphs: &PairableGraphs<'_>,
     oracle: &mut O,
     from: u32,
     to: &[u32],
@@ -184,7 +175,7 @@ fn row<O: Oracle>(
 // Adds the bans of both ways to pair two outputs. Answers whether they have bans.
 fn add_ways<O: Oracle>(
     alloc: Global,
-    graphs: &Graphs<'_>,
+    graphs: &PairableGraphs<'_>,
     oracle: &mut O,
     from: u32,
     to: u32,
@@ -222,7 +213,7 @@ fn way(from: u32, to: u32, flip: bool) -> Pair
 // Adds the ban of a way. Answers whether it has one.
 fn add_way<O: Oracle>(
     alloc: Global,
-    graphs: &Graphs<'_>,
+    graphs: &PairableGraphs<'_>,
     oracle: &mut O,
     pair: Pair,
     refs: &mut Items<Option<u64>>,
@@ -246,7 +237,7 @@ fn add_way<O: Oracle>(
 // A ban of one way, held already, as by an earlier try, or by a tally.
 fn ban_of<O: Oracle>(
     alloc: Global,
-    graphs: &Graphs<'_>,
+    graphs: &PairableGraphs<'_>,
     oracle: &mut O,
     pair: Pair,
     seen: &mut Seen,

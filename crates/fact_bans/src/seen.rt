@@ -3,7 +3,8 @@
 use crate::sampling::{Flips, sampled};
 use crate::swaps::{Swaps, blocks_for_swaps, swaps_seen};
 use account_core::Tallied;
-use net_core::{Graphs, Side};
+use net_core::Side;
+use port_sides::PairableGraphs;
 use query_core::{Claim, Shape};
 use std::alloc::{AllocError, Global};
 
@@ -30,7 +31,7 @@ impl Seen {
     /// # Errors
     ///
     /// Only when out of memory.
-    pub fn new(alloc: Global, graphs: &Graphs<'_>, seed: u64) -> Result<Seen, AllocError> {
+    pub fn new(alloc: Global, graphs: &PairableGraphs<'_>, seed: u64) -> Result<Seen, AllocError> {
         Ok(Seen {
             first: sampled(alloc, graphs.first(), seed)?,
             second: sampled(alloc, graphs.second(), seed)?,
@@ -43,7 +44,7 @@ impl Seen {
     pub(crate) fn look_at_swaps(
         &mut self,
         alloc: Global,
-        graphs: &Graphs<'_>,
+        graphs: &PairableGraphs<'_>,
     ) -> Result<(), AllocError> {
         if self.swaps.is_none() {
             self.swaps = Some(two_swaps(alloc, graphs, self.seed)?);
@@ -140,7 +141,11 @@ fn note_swap(swaps: &mut TwoSwaps, claim: Claim) {
 }
 
 // What vectors show of both circuits, as many of each, since claims are compared. Nothing where one is too large.
-fn two_swaps(alloc: Global, graphs: &Graphs<'_>, seed: u64) -> Result<TwoSwaps, AllocError> {
+fn two_swaps(
+    alloc: Global,
+    graphs: &PairableGraphs<'_>,
+    seed: u64,
+) -> Result<TwoSwaps, AllocError> {
     let first = blocks_for_swaps(alloc, graphs.first())?;
     let second = blocks_for_swaps(alloc, graphs.second())?;
     let blocks = first.min(second);

@@ -13,15 +13,15 @@ ghost use Rattle.fact_bans.specs.Serving.{HoldsBans, MayHold};
 
 use crate::lists::{Wanted, list_both, list_one};
 use crate::plan::Plan;
-use crate::ports::{other_side, port_on};
 use crate::seen::Seen;
 use account_core::{Ban, Step, Tallied};
 use ban_book::BanBook;
 use circuits::Pair;
 use cnf_core::Stop;
 use items::{Few, Items};
-use net_core::{Graphs, Side};
+use net_core::Side;
 use oracle_core::Oracle;
+use port_sides::{PairableGraphs, other_side, port_on};
 use query_core::Ledger;
 use std::alloc::{AllocError, Global};
 
@@ -34,7 +34,7 @@ use std::alloc::{AllocError, Global};
 /// `Spent` where a line had to be learned and the ledger's budget was spent. `Memory` when out of memory.
 pub fn tally<O: Oracle>(
     alloc: Global,
-    graphs: &Graphs<'_>,
+    graphs: &PairableGraphs<'_>,
     oracle: &mut O,
     pair: Pair,
     seen: &mut Seen,
@@ -57,7 +57,7 @@ pub fn tally<O: Oracle>(
 // Holds the ban that a plan is for.
 fn tally_by<O: Oracle>(
     alloc: Global,
-    graphs: &Graphs<'_>,
+    graphs: &PairableGraphs<'_>,
     oracle: &mut O,
     pair: Pair,
     plan: &Plan,
@@ -93,7 +93,7 @@ pub(crate) struct Lists {
 // Has the claims of a plan decided. None where one isn't decided as it should be.
 fn ask<O: Oracle>(
     alloc: Global,
-    graphs: &Graphs<'_>,
+    graphs: &PairableGraphs<'_>,
     oracle: &mut O,
     pair: Pair,
     plan: &Plan,

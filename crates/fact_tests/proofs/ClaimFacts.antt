@@ -6,7 +6,7 @@ use Rattle.circuits.specs.Netlists.{Net}
 use Rattle.net_core.specs.Sides.{Graphs}
 use Rattle.query_core.specs.declared.claims.Claim.{Claim}
 use Rattle.query_core.specs.declared.claims.Shape.{Shape}
-use Rattle.query_core.specs.declared.claims.Shape.TheVariants.{Up, Down, Swap}
+use Rattle.query_core.specs.declared.claims.Shape.TheVariants.{Up, Down}
 use Rattle.cnf_core.proofs.DerivationLaws.{refuted_unmet}
 use Rattle.net_core.specs.Graph.{IsGraph}
 use Rattle.net_core.specs.Sides.{graph_of}
@@ -22,7 +22,7 @@ use Rattle.query_core.specs.Queries.{IsQuery, IsUnmet}
 use Rattle.query_core.proofs.AssignmentLemmas.{assignment_there}
 use Rattle.query_core.proofs.ClaimQueryLemmas.{claim_query_fits, holds-unmet}
 use Rattle.query_core.proofs.ClaimLaws.{no_break, inside-fails, holds_or_fails, symmetric-swaps, skew-swaps}
-use Rattle.fact_tests.specs.Outputs.{IsAlike, IsDependence, IsSymmetry, dependence, is_for, symmetry}
+use Rattle.fact_tests.specs.Outputs.{IsAlike, IsDependence, IsSymmetry, dependence, half_swap, is_for, symmetry}
 use Rattle.fact_tests.specs.Functions.{InSupport, IsSymmetric, IsSkew}
 
 -- an input is outside the support where both claims hold, and inside where one of them doesn't
@@ -53,31 +53,41 @@ dependence_is net k i false false there up down =
     ((inside-fails net k i there).1 (inl (failing net k (Up i) there (refuted up))), (refuted up, refuted down))
 
 -- two inputs may be exchanged where both swaps hold
-pub alike_both : (net : Net) (k i j : ℕ) (inverted second : Bool)
-    → ShapeHolds net k (Swap i j false (not inverted))
-    → Decides second (ShapeHolds net k (Swap i j true inverted))
-    → Decides second (IsAlike net.inputs (output_bit net k) i j inverted)
-alike_both net k i j false second holds decides =
-    (λ is. (symmetric-swaps net k i j).1 (holds, decides.0 is), λ alike. decides.1 ((symmetric-swaps net k i j).0 alike).1)
-alike_both net k i j true second holds decides =
-    (λ is. (skew-swaps net k i j).1 (holds, decides.0 is), λ alike. decides.1 ((skew-swaps net k i j).0 alike).1)
+alike_both : (net : Net) (k i j : ℕ) (inverted from : Bool)
+    → ShapeHolds net k (half_swap i j inverted from)
+    → ShapeHolds net k (half_swap i j inverted (not from))
+    → IsAlike net.inputs (output_bit net k) i j inverted
+alike_both net k i j false false one other = (symmetric-swaps net k i j).1 (one, other)
+alike_both net k i j false true one other = (symmetric-swaps net k i j).1 (other, one)
+alike_both net k i j true false one other = (skew-swaps net k i j).1 (one, other)
+alike_both net k i j true true one other = (skew-swaps net k i j).1 (other, one)
 
--- the same of shapes that are these swaps
-pub alike_then : (net : Net) (k i j : ℕ) (inverted second : Bool) (one other : Shape)
-    → one ≡ Swap i j false (not inverted)
-    → other ≡ Swap i j true inverted
+-- and only there
+alike_half : (net : Net) (k i j : ℕ) (inverted from : Bool) → IsAlike net.inputs (output_bit net k) i j inverted → ShapeHolds net k (half_swap i j inverted from)
+alike_half net k i j false false alike = ((symmetric-swaps net k i j).0 alike).0
+alike_half net k i j false true alike = ((symmetric-swaps net k i j).0 alike).1
+alike_half net k i j true false alike = ((skew-swaps net k i j).0 alike).0
+alike_half net k i j true true alike = ((skew-swaps net k i j).0 alike).1
+
+-- where one of them holds, the other decides
+pub alike_then : (net : Net) (k i j : ℕ) (inverted from second : Bool) (one other : Shape)
+    → one ≡ half_swap i j inverted from
+    → other ≡ half_swap i j inverted (not from)
     → ShapeHolds net k one
     → Decides second (ShapeHolds net k other)
     → Decides second (IsAlike net.inputs (output_bit net k) i j inverted)
-alike_then net k i j inverted second one other is also holds decides =
-    alike_both net k i j inverted second (subst (ShapeHolds net k) is holds) (subst (λ shape. Decides second (ShapeHolds net k shape)) also decides)
+alike_then net k i j inverted from second one other is also holds decides = (
+  λ so. alike_both net k i j inverted from (subst (ShapeHolds net k) is holds) (subst (ShapeHolds net k) also (decides.0 so)),
+  λ alike. decides.1 (subst (ShapeHolds net k) (sym also) (alike_half net k i j inverted (not from) alike)),
+)
 
--- and not where the first of them doesn't
-pub alike_never : (net : Net) (k i j : ℕ) (inverted : Bool)
-    → (ShapeHolds net k (Swap i j false (not inverted)) → ⊥)
+-- and they may not where one of them doesn't
+pub alike_never : (net : Net) (k i j : ℕ) (inverted from : Bool) (one : Shape)
+    → one ≡ half_swap i j inverted from
+    → (ShapeHolds net k one → ⊥)
     → Decides false (IsAlike net.inputs (output_bit net k) i j inverted)
-alike_never net k i j false never = (λ is. absurd (false≢true is), λ alike. absurd (never ((symmetric-swaps net k i j).0 alike).0))
-alike_never net k i j true never = (λ is. absurd (false≢true is), λ alike. absurd (never ((skew-swaps net k i j).0 alike).0))
+alike_never net k i j inverted from one is never =
+    (λ so. absurd (false≢true so), λ alike. absurd (never (subst (ShapeHolds net k) (sym is) (alike_half net k i j inverted from alike))))
 
 pub symmetry_is : (n : ℕ) (f : List Bool → Bool) (i j : ℕ) (symmetric skew : Bool)
     → Decides symmetric (IsSymmetric n f i j)

@@ -2,7 +2,6 @@ mod AnswerLemmas
 mod NumberLemmas
 mod EqualLemmas
 mod WorkLemmas
-mod SupportLemmas
 mod StructureLemmas
 mod ReachLemmas
 pub mod ConeLemmas
@@ -13,3 +12,4 @@ mod Serving
 mod ClaimFacts
 pub mod RowLemmas
 mod OneRow
+mod AlikeLemmas

@@ -59,7 +59,7 @@ no_fall_both true false there back = sym (there refl)
 no_fall_both false true there back = back refl
 no_fall_both false false there back = refl
 
-set-here : (x : List Bool) (i : ℕ) (b : Bool) → bit x i ≡ b → with_input i b x ≡ x
+pub set-here : (x : List Bool) (i : ℕ) (b : Bool) → bit x i ≡ b → with_input i b x ≡ x
 set-here x i b is = ap (λ b. set x i b) (sym is) ∙ set-get_or x i false
 
 -- a function that neither falls nor rises doesn't depend on the input
@@ -69,7 +69,7 @@ unchanged n f i x true up down len is =
 unchanged n f i x false up down len is =
     ap f (sym (set-here x i false is)) ∙ (no_fall_both (f (set x i false)) (f (set x i true)) (up x len) (down x len) ∙ ap (λ b. f (set x i (not b))) (sym is))
 
-one_unate : (n : ℕ) (f : List Bool → Bool) (i : ℕ) (a b : Unate) → InSupport n f i → IsUnate n f i a → IsUnate n f i b → a ≡ b
+pub one_unate : (n : ℕ) (f : List Bool → Bool) (i : ℕ) (a b : Unate) → InSupport n f i → IsUnate n f i a → IsUnate n f i b → a ≡ b
 one_unate n f i Positive Positive inside one other = refl
 one_unate n f i Positive Negative inside one other = absurd (inside.2 (unchanged n f i inside.0 (bit inside.0 i) one other inside.1 refl))
 one_unate n f i Positive Binate inside one other = absurd (other.0 one)

@@ -11,7 +11,7 @@ use Rattle.net_core.specs.Cones.{output_signal}
 use Rattle.query_core.specs.Claims.{output_bit, with_input}
 use Rattle.query_core.specs.Formulas.{reaching}
 use Rattle.fact_tests.specs.Functions.{InSupport}
-use Rattle.fact_tests.specs.Supports.{only_input, output_reaches}
+use Rattle.net_supports.specs.Supports.{only_input, output_reaches}
 use Rattle.fact_tests.proofs.StructureLemmas.{length-only_input, only_at, or_left, or_right}
 
 -- two valuations have the same bit at each signal that only marks inputs of which P is said

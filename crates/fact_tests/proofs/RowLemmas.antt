@@ -91,7 +91,7 @@ pub support_gap : (n : ℕ) (f : List Bool → Bool) (start : ℕ) (entries : Li
     → b < input_at n entries t
     → InSupport n f b
     → ⊥
-support_gap n f start entries t b lists from behind before inside =
+support_gap n f start entries t b lists from later before inside =
     let found = lists.whole b from (omega (arith, before, input_at-le n f start entries t lists)) inside in
     at found.0 found.1 found.2 found.3 found.4
   where
@@ -99,7 +99,7 @@ support_gap n f start entries t b lists from behind before inside =
     at k entry h is same =
         let here : input_at n entries k ≡ b = same_entry entries k (n, Positive) entry h ∙ (ap (λ (entry : ℕ × Unate). entry.0) is ∙ same) in
         elim (cases_lt k t) [
-          | inl less ↦ omega (arith, behind k less h, here)
+          | inl less ↦ omega (arith, later k less h, here)
           | inr past ↦ omega (arith, ascending_at n f start entries t k lists past h, here, before)
         ]
 
@@ -110,13 +110,13 @@ support_first n f start entries b lists from before inside =
 
 -- none between one and the next
 pub support_next : (n : ℕ) (f : List Bool → Bool) (start : ℕ) (entries : List (ℕ × Unate)) (t b : ℕ) → ListsSupport n f start n entries → t < length entries → input_at n entries t < b → b < input_at n entries (t + 1) → InSupport n f b → ⊥
-support_next n f start entries t b lists there behind before inside =
-    support_gap n f start entries (t + 1) b lists (omega (arith, (lists.within t (n, Positive) there).0, behind))
-    (λ k less h. omega (arith, ascending_at n f start entries k t lists (omega (arith, less)) there, behind)) before inside
+support_next n f start entries t b lists there later before inside =
+    support_gap n f start entries (t + 1) b lists (omega (arith, (lists.within t (n, Positive) there).0, later))
+    (λ k less h. omega (arith, ascending_at n f start entries k t lists (omega (arith, less)) there, later)) before inside
 
 -- what stands after an entry is the rest of the support
-pub support_behind : (n : ℕ) (f : List Bool → Bool) (entries : List (ℕ × Unate)) (t : ℕ) → ListsSupport n f 0 n entries → t < length entries → ListsSupport n f (input_at n entries t + 1) n (drop (t + 1) entries)
-support_behind n f entries t lists there =
+pub support_later : (n : ℕ) (f : List Bool → Bool) (entries : List (ℕ × Unate)) (t : ℕ) → ListsSupport n f 0 n entries → t < length entries → ListsSupport n f (input_at n entries t + 1) n (drop (t + 1) entries)
+support_later n f entries t lists there =
     let P : ℕ × Unate → Type 0 = λ entry. (input_at n entries t + 1 ≤ entry.0) × (entry.0 < n) in
     record {
       right = All-drop (IsEntry n f) (t + 1) entries lists.right;
@@ -341,12 +341,12 @@ pub inputs_end : (n : ℕ) (f : List Bool → Bool) (support : List (ℕ × Unat
 inputs_end n f support t pairs past so_far = subst (λ i. ListsPairs n f i 0 pairs) (ap (λ (entry : ℕ × Unate). entry.0) (get_or_past support t (n, Positive) past)) so_far
 
 -- what is after an entry, as a slice of the support
-pub behind_slice : (n : ℕ) (f : List Bool → Bool) (support : List (ℕ × Unate)) (t : ℕ) → ListsSupport n f 0 n support → t < length support → ListsSupport n f ((get_or support t (0, Positive)).0 + 1) n (take (length support - (t + 1)) (drop (t + 1) support))
-behind_slice n f support t lists there =
+pub later_slice : (n : ℕ) (f : List Bool → Bool) (support : List (ℕ × Unate)) (t : ℕ) → ListsSupport n f 0 n support → t < length support → ListsSupport n f ((get_or support t (0, Positive)).0 + 1) n (take (length support - (t + 1)) (drop (t + 1) support))
+later_slice n f support t lists there =
     let here = read_at n support t there in
     let all : take (length support - (t + 1)) (drop (t + 1) support) ≡ drop (t + 1) support = take_all (length support - (t + 1)) (drop (t + 1) support) (omega (arith, length-drop (t + 1) support)) in
     subst (λ i. ListsSupport n f (i + 1) n (take (length support - (t + 1)) (drop (t + 1) support))) (sym here)
-    (subst (ListsSupport n f (input_at n support t + 1) n) (sym all) (support_behind n f support t lists there))
+    (subst (ListsSupport n f (input_at n support t + 1) n) (sym all) (support_later n f support t lists there))
 
 -- one input more is decided
 pub support_step : (n : ℕ) (f : List Bool → Bool) (i : ℕ) (entries new : List (ℕ × Unate)) (unate : Option Unate) → ListsSupport n f 0 i entries → i < n → IsDependence n f i unate → new ≡ entries ++ entry_of i unate → ListsSupport n f 0 (i + 1) new

@@ -34,7 +34,8 @@ use Rattle.query_core.specs.ClaimQueries.{claim_query, opposite_shape, values_fe
 use Rattle.query_core.specs.Formulas.{feed_literal, feeds_differ, false_literal, formula_of, plain, query_clauses, reaching, reaches, same_feed, same_side, shared_from, signal_literals, stand_in, stands_for, left_literals, right_literals, half_clauses}
 use Rattle.query_core.proofs.ClaimQueryLemmas.{values_count}
 use Rattle.query_core.proofs.FormulaLemmas.{count_of, first_output, second_output, gate_clause_count, length-reaching, length-feeds_differ}
-use Rattle.fact_tests.specs.Supports.{IsOutside, only_input, output_reaches, reaches_input, closing_line}
+use Rattle.net_supports.specs.Supports.{only_input, output_reaches, reaches_input}
+use Rattle.fact_tests.specs.Supports.{IsOutside, closing_line}
 
 -- ---- what reaches what
 

@@ -13,7 +13,7 @@ use Rattle.fact_tests.specs.declared.deciding.Source.{Source}
 
 -- what is known without asking is of this circuit
 abbrev pub IsSource : Net → Source → Type 0
-IsSource net source = (source.supports ≡ net) × (source.sightings ≡ net)
+IsSource net source = (source.supports ≡ net) × (source.sightings ≡ net) × (source.nearby ≡ net)
 
 -- The answer of a query of a match.
 pub record IsKept (graphs : Graphs) (kept : Kept) : Type 0 where

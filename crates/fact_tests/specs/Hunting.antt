@@ -8,6 +8,9 @@ abbrev pub IsGroup : Net → ℕ → Signed → Type 0
 IsGroup net output group = (group.net ≡ net) × Covers group output
 
 -- signatures are of this circuit
+abbrev pub IsOf : Net → Signed → Type 0
+IsOf net signed = signed.net ≡ net
+
 abbrev pub AreHeld : Net → Option Signed → Type 0
 AreHeld net None = Unit {0}
-AreHeld net (Some group) = group.net ≡ net
+AreHeld net (Some group) = IsOf net group

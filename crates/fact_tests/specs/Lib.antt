@@ -7,6 +7,7 @@ pub mod Functions
 pub mod Rows
 pub mod Outputs
 pub use Rattle.account_core.specs.Facts as DecidedFacts
+pub use Rattle.net_supports.specs.Supports as Reached
 pub use Rattle.oracle_core.specs.Oracles
 pub use Rattle.oracle_core.specs.Work
 pub use Rattle.ask_core.specs.Answers

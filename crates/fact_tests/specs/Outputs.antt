@@ -1,5 +1,5 @@
 -- What an oracle is asked about an output of the first of its two circuits.
-use Rattle.std.specs.Prelude.{◌≡◌, ℕ, Bool, true, false, List, [], ◌∷◌, Option, None, Some}
+use Rattle.std.specs.Prelude.{◌≡◌, ℕ, Bool, true, false, not, List, [], ◌∷◌, Option, None, Some}
 use Rattle.net_core.specs.Graph.{IsGraph}
 use Rattle.net_core.specs.Sides.{Graphs}
 use Rattle.query_core.specs.Ledgers.{Ledgered}
@@ -7,6 +7,8 @@ use Rattle.account_core.specs.Facts.{AreFacts}
 use Rattle.oracle_core.specs.Oracles.{Grows, Keeps, Known, Suits}
 use Rattle.account_core.specs.declared.fact.Evidence.{Evidence}
 use Rattle.account_core.specs.declared.fact.Evidence.TheVariants.{Fails, Holds}
+use Rattle.query_core.specs.declared.claims.Shape.{Shape}
+use Rattle.query_core.specs.declared.claims.Shape.TheVariants.{Swap}
 use Rattle.query_core.specs.Claims.{output_bit}
 use Rattle.output_info.specs.declared.info.Unate.{Unate}
 use Rattle.output_info.specs.declared.info.Unate.TheVariants.{Positive, Negative, Binate}
@@ -55,6 +57,24 @@ IsSymmetry n f i j (Some sym) = IsSym n f i j sym
 abbrev pub IsAlike : ℕ → (List Bool → Bool) → ℕ → ℕ → Bool → Type 0
 IsAlike n f i j false = IsSymmetric n f i j
 IsAlike n f i j true = IsSkew n f i j
+
+-- One of the two swaps by which inputs may be exchanged, as they are or each inverted: that in which input i has this value.
+abbrev pub half_swap : ℕ → ℕ → Bool → Bool → Shape
+half_swap i j inverted false = Swap i j false (not inverted)
+half_swap i j inverted true = Swap i j true inverted
+
+-- Whether inputs in which a function is unate in these ways may be alike: as they are, where it is unate in both in one way; and
+-- each inverted, where it is unate in opposite ways. Inputs in which it is binate may be alike either way.
+abbrev pub may_be_alike : Unate → Unate → Bool → Bool
+may_be_alike Positive Positive inverted = not inverted
+may_be_alike Positive Negative inverted = inverted
+may_be_alike Positive Binate inverted = false
+may_be_alike Negative Positive inverted = inverted
+may_be_alike Negative Negative inverted = not inverted
+may_be_alike Negative Binate inverted = false
+may_be_alike Binate Positive inverted = false
+may_be_alike Binate Negative inverted = false
+may_be_alike Binate Binate inverted = true
 
 -- the dependence on an input, by whether the function never falls, and whether it never rises, where the input rises
 abbrev pub dependence : Bool → Bool → Option Unate

@@ -1,48 +1,18 @@
--- Which inputs an output reaches through gates (structural support, as in textbooks of logic synthesis), and the log of a claim
--- whose inputs it doesn't reach.
-use Rattle.std.specs.Prelude.{◌≡◌, ℕ, ◌+◌, ◌*◌, ◌<◌, ◌≤◌, ◌==◌, Bool, false, List, [], ◌∷◌, length, map, slice_index_or}
-use Rattle.std.specs.List.{range_with_len}
-use Rattle.circuits.specs.Literals.{EachAt, bit}
+-- When an output reaches none of a claim's inputs, and the log of such a claim.
+use Rattle.std.specs.Prelude.{◌≡◌, ℕ, ◌+◌, ◌*◌, false, [], ◌∷◌, length}
 use Rattle.circuits.specs.Netlists.{Net}
 use Rattle.cnf_core.specs.declared.log.LogLine.{LogLine}
-use Rattle.net_core.specs.Cones.{output_signal}
-use Rattle.net_core.specs.Sides.{graph_of}
-use Rattle.net_core.specs.Sides.{Graphs}
+use Rattle.net_core.specs.Sides.{Graphs, graph_of}
+use Rattle.net_supports.specs.Supports.{output_reaches}
 use Rattle.query_core.specs.declared.claims.Claim.{Claim}
 use Rattle.query_core.specs.declared.claims.Shape.{Shape}
 use Rattle.query_core.specs.declared.claims.Shape.TheVariants.{Up, Down, Swap}
-use Rattle.query_core.specs.Formulas.{reaching}
-use Rattle.word_sim.specs.Columns.{word_bit}
-
--- one of n inputs
-abbrev pub only_input : ℕ → ℕ → List Bool
-only_input n i = map (λ k. k == i) (range_with_len 0 n)
-
--- whether each signal reaches an input: the constant doesn't, and a gate reaches what one of its operands reaches
-abbrev pub reaches_input : Net → ℕ → List Bool
-reaches_input net i = reaching (false ∷ only_input net.inputs i) net.gates
-
--- whether output k reaches input i
-abbrev pub output_reaches : Net → ℕ → ℕ → Bool
-output_reaches net k i = bit (reaches_input net i) (output_signal net k)
 
 -- output k reaches none of a shape's inputs
 abbrev pub IsOutside : Net → ℕ → Shape → Type 0
 IsOutside net k (Up i) = output_reaches net k i ≡ false
 IsOutside net k (Down i) = output_reaches net k i ≡ false
 IsOutside net k (Swap i j a b) = (output_reaches net k i ≡ false) × (output_reaches net k j ≡ false)
-
--- The bits of 64 inputs from number `first` on: a word for each output.
-pub record IsBlock (net : Net) (first : ℕ) (words : List ℕ) : Type 0 where
-  pub outputs : length words ≡ length net.outputs
-  pub bits : (k v d : ℕ) → k < length net.outputs
-      → v < 64
-      → word_bit v (slice_index_or words k d) ≡ output_reaches net k (first + v)
-
--- The bits of all inputs, 64 a block.
-pub record AreBlocks (net : Net) (blocks : List (List ℕ)) : Type 0 where
-  pub all : net.inputs ≤ 64 * length blocks
-  pub each : EachAt (λ b words. IsBlock net (64 * b) words) blocks
 
 -- the empty line that follows from the clauses of the two outputs, of which either is the other's opposite
 abbrev pub closing_line : Graphs → Claim → LogLine

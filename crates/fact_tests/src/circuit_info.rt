@@ -6,9 +6,9 @@ ghost use Rattle.fact_tests.specs.Rows.{AreRows};
 
 use crate::fact_book::FactBook;
 use crate::rows::rows_by;
-use crate::structure::Supports;
 use cnf_core::Stop;
 use net_core::Graphs;
+use net_supports::Supports;
 use oracle_core::Oracle;
 use output_info::OutputInfo;
 use query_core::Ledger;

@@ -1,24 +1,26 @@
 //! Claims, decided by structure, by vectors that were seen, and by asking.
 
-ghost use Rattle.std.specs.Prelude.{◌≡◌, ◌<◌, false, IsTrue, IfOk, IfErr, length};
+ghost use Rattle.std.specs.Prelude.{◌≡◌, ◌<◌, false, IsTrue, IfOk, IfErr, IfSome, length};
 ghost use Rattle.net_core.specs.Sides.{graph_of};
-ghost use Rattle.query_core.specs.Claims.{IsClaim, IsPlaced, with_values};
+ghost use Rattle.query_core.specs.Claims.{BreaksShape, IsClaim, IsPlaced, with_values};
 ghost use Rattle.query_core.specs.ClaimQueries.{claim_query};
 ghost use Rattle.account_core.specs.Facts.{IsEvidence};
+ghost use Rattle.ask_core.specs.Answers.{IsAnswer};
 ghost use Rattle.fact_tests.specs.Asking.{IsDecided, IsHalted};
 ghost use Rattle.fact_tests.specs.Books.{IsSource};
 ghost use Rattle.fact_tests.specs.Supports.{IsOutside};
 
 use crate::asking::{answer_to, refute_outside};
 use crate::decide::Decide;
+use crate::nearby::Nearby;
 use crate::sightings::Sightings;
-use crate::structure::Supports;
 use account_core::Evidence;
 use ask_core::Answer;
 use bit_list::Bits;
 use cnf_core::Stop;
 use items::Items;
 use net_core::{Graph, Graphs, Side};
+use net_supports::Supports;
 use query_core::{Claim, Ledger, Query, Shape, of_claim};
 use std::alloc::{AllocError, Global};
 use std::marker::Model;
@@ -29,16 +31,18 @@ use watch_core::{Stage, Watch};
 pub(crate) struct Source<'a> {
     supports: Supports<'a>,
     sightings: Sightings<'a>,
+    nearby: Nearby<'a>,
 }
 
 impl<'a> Source<'a> {
-    /// The supports of a circuit's outputs; nothing was hunted.
+    /// The supports of a circuit's outputs; nothing was simulated.
     pub(crate) fn new(alloc: Global, graph: &'a Graph, seed: u64) -> Result<Source<'a>, AllocError>
         ensures { IfOk result (IsSource graph.now) }
     {
         Ok(Source {
             supports: Supports::new(alloc, graph)?,
             sightings: Sightings::new(graph, seed),
+            nearby: Nearby::new(alloc, graph, seed),
         })
     }
 }
@@ -138,12 +142,29 @@ fn decide<W: Watch>(
     if is_outside(&source.supports, claim.output, &claim.shape) {
         return by_structure(alloc, graphs, claim, ledger);
     }
-    match source
-        .sightings
-        .vector_of(alloc, claim.output, claim.shape)?
-    {
+    match seen(alloc, source, claim.output, claim.shape)? {
         Some(vector) => Ok(Evidence::Fails(vector)),
-        None => by_asking(alloc, graphs, claim, ledger, watch),
+        None => by_asking(alloc, graphs, &mut source.nearby, claim, ledger, watch),
+    }
+}
+
+/// A vector that breaks the claim of a shape at an output, where one is seen: among those that are drawn, or near those that
+/// questions gave.
+fn seen(
+    alloc: Global,
+    source: &mut Source<'_>,
+    output: u32,
+    shape: Shape,
+) -> Result<Option<Bits>, AllocError>
+    requires output { output < length source.old.sightings.outputs }
+    requires placed { IsPlaced source.old.sightings.inputs shape }
+    requires same { source.old.nearby ≡ source.old.sightings }
+    ensures same { source.new ≡ source.old }
+    ensures breaks { IfOk result (λ found. IfSome found (BreaksShape source.old.sightings output shape)) }
+{
+    match source.sightings.vector_of(alloc, output, shape)? {
+        Some(vector) => Ok(Some(vector)),
+        None => source.nearby.vector_of(alloc, output, shape),
     }
 }
 
@@ -186,8 +207,37 @@ fn by_structure(
     }
 }
 
-/// What the answer of a claim's query says of the claim.
+/// Decides a claim by asking. Where a vector breaks it, later claims are tried on others near it.
 fn by_asking<W: Watch>(
+    alloc: Global,
+    graphs: &Graphs<'_>,
+    nearby: &mut Nearby<'_>,
+    claim: &Claim,
+    ledger: &mut Ledger,
+    watch: &W,
+) -> Result<Evidence, Stop>
+    requires placed { IsClaim graphs.now claim.now }
+    requires nearby { nearby.old ≡ graph_of graphs.now claim.now.side }
+    requires unspent { ledger.old.spent ≡ false }
+    ensures nearby { nearby.new ≡ nearby.old }
+    ensures evidence { IfOk result (IsEvidence graphs.now claim.now) }
+    ensures decided { IfOk result
+        (λ _. IsDecided graphs.now (claim_query graphs.now claim.now) ledger.old ledger.new) }
+    ensures unspent { IfOk result (λ _. ledger.new.spent ≡ false) }
+    ensures stop { IfErr result (IsHalted graphs.now (claim_query graphs.now claim.now) ledger.old ledger.new) }
+{
+    match asked(alloc, graphs, claim, ledger, watch) {
+        Ok(Evidence::Fails(vector)) => {
+            nearby.note(alloc, claim.output, &vector)?;
+            Ok(Evidence::Fails(vector))
+        }
+        Ok(Evidence::Holds(log)) => Ok(Evidence::Holds(log)),
+        Err(stop) => Err(stop),
+    }
+}
+
+/// What the answer of a claim's query says of the claim.
+fn asked<W: Watch>(
     alloc: Global,
     graphs: &Graphs<'_>,
     claim: &Claim,
@@ -204,17 +254,38 @@ fn by_asking<W: Watch>(
 {
     let query = of_claim(alloc, graphs, claim)?;
     match answer_to(alloc, graphs, &query, ledger, watch) {
-        Ok(Answer::Vector(vector)) => {
-            let vector = with_values(alloc, vector, &claim.shape)?;
-            Ok(Evidence::Fails(vector))
-        }
-        Ok(Answer::Refuted(log)) => Ok(Evidence::Holds(log)),
+        Ok(answer) => Ok(evidence_of(alloc, graphs, claim, answer)?),
         Err(stop) => Err(stop),
     }
 }
 
+/// What the answer of a claim's query says of the claim: a vector breaks it, once the shape's inputs have its values; a
+/// log that refutes the query is evidence for it.
+///
+/// # Errors
+///
+/// Only when out of memory.
+pub fn evidence_of(
+    alloc: Global,
+    graphs: &Graphs<'_>,
+    claim: &Claim,
+    answer: Answer,
+) -> Result<Evidence, AllocError>
+    requires placed { IsClaim graphs.now claim.now }
+    requires answer { IsAnswer graphs.now (claim_query graphs.now claim.now) answer }
+    ensures { IfOk result (IsEvidence graphs.now claim.now) }
+{
+    match answer {
+        Answer::Vector(vector) => {
+            let vector = with_values(alloc, vector, &claim.shape)?;
+            Ok(Evidence::Fails(vector))
+        }
+        Answer::Refuted(log) => Ok(Evidence::Holds(log)),
+    }
+}
+
 /// The vector with the shape's inputs set to its values.
-pub fn with_values(alloc: Global, vector: Items<bool>, shape: &Shape) -> Result<Bits, AllocError>
+fn with_values(alloc: Global, vector: Items<bool>, shape: &Shape) -> Result<Bits, AllocError>
     requires { IsPlaced (length vector) shape.now }
     ensures { IfOk result (λ bits. bits ≡ with_values shape.now vector) }
 {

@@ -5,12 +5,12 @@ ghost use Rattle.std.specs.Bool.{Decides};
 ghost use Rattle.oracle_core.specs.Oracles.{Serves};
 ghost use Rattle.query_core.specs.Claims.{IsPlaced, ShapeHolds};
 ghost use Rattle.fact_tests.specs.Outputs.{MayAsk, is_for};
-ghost use Rattle.fact_tests.specs.Supports.{output_reaches};
+ghost use Rattle.net_supports.specs.Supports.{output_reaches};
 
-use crate::structure::Supports;
 use account_core::Evidence;
 use cnf_core::Stop;
 use net_core::{Graphs, Side};
+use net_supports::Supports;
 use oracle_core::Oracle;
 use query_core::{Claim, Ledger, Shape};
 use std::alloc::Global;

@@ -10,7 +10,7 @@ ghost use Rattle.query_core.specs.Facts as of_net;
 ghost use Rattle.output_info.specs.declared.info.OutputInfo.{OutputInfo as Row};
 ghost use Rattle.fact_tests.specs.Functions.{InSupport, IsPositive, IsNegative, IsBinate, IsSymmetric, IsSkew};
 ghost use Rattle.fact_tests.specs.Rows.{AreRows, AreRowsOf, IsRow};
-ghost use Rattle.fact_tests.specs.Supports.{output_reaches};
+ghost use Rattle.net_supports.specs.Supports.{output_reaches};
 
 /// What is said of the function of an output is what is said of the output.
 pub fn facts_of_outputs()

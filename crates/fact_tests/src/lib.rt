@@ -13,14 +13,14 @@ mod facts;
 mod first_output;
 mod func_support;
 pub mod laws;
+mod nearby;
 mod rows;
 mod sightings;
-mod structure;
 mod symmetry_test;
 mod unate_test;
 
 pub use book::Book;
 pub use circuit_info::info;
 pub use decide::Decide;
-pub use deciding::with_values;
+pub use deciding::evidence_of;
 pub use fact_book::FactBook;

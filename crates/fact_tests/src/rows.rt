@@ -7,10 +7,10 @@ ghost use Rattle.fact_tests.specs.Rows.{AreRows, IsRow};
 
 use crate::first_output::FirstOutput;
 use crate::func_support::support;
-use crate::structure::Supports;
 use crate::symmetry_test::symmetries;
 use cnf_core::Stop;
 use net_core::Graphs;
+use net_supports::Supports;
 use oracle_core::Oracle;
 use output_info::OutputInfo;
 use query_core::Ledger;

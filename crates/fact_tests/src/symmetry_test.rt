@@ -1,12 +1,11 @@
 //! The symmetries of an output.
 
-ghost use Rattle.std.specs.Prelude.{◌≡◌, ◌+◌, ◌<◌, ◌++◌, IfOk, OnOk, length};
+ghost use Rattle.std.specs.Prelude.{◌≡◌, ◌+◌, ◌<◌, ◌++◌, ℕ, IfOk, OnOk, length};
 ghost use Rattle.std.specs.Bool.{Decides};
 ghost use Rattle.oracle_core.specs.Oracles.{Serves};
-ghost use Rattle.query_core.specs.declared.claims.Shape.TheVariants.{Swap as swap_of};
-ghost use Rattle.fact_tests.specs.Outputs.{IsAlike, IsSymmetry, MayAsk, function_at, inputs_in, pair_of, symmetry};
-ghost use Rattle.fact_tests.specs.Functions.{InSupport};
-ghost use Rattle.fact_tests.specs.Rows.{ListsPairs, ListsSupport};
+ghost use Rattle.query_core.specs.Claims.{IsPlaced};
+ghost use Rattle.fact_tests.specs.Outputs.{IsAlike, IsSymmetry, MayAsk, function_at, half_swap, inputs_in, may_be_alike, pair_of, symmetry};
+ghost use Rattle.fact_tests.specs.Rows.{IsEntry, ListsPairs, ListsSupport};
 
 use crate::first_output::FirstOutput;
 use cnf_core::Stop;
@@ -34,38 +33,38 @@ pub(crate) fn symmetries<O: Oracle>(
 {
     let mut pairs = Items::new(alloc);
     for (place, entry) in support.iter().enumerate() {
-        let behind = &support[place + 1..];
-        add_pairs(alloc, output, entry.0, behind, &mut pairs, oracle, ledger)?;
+        let later = &support[place + 1..];
+        add_pairs(alloc, output, *entry, later, &mut pairs, oracle, ledger)?;
     }
     Ok(pairs)
 }
 
-/// Adds the pairs whose lesser input is `first`: the other ones are the inputs of the support after it.
+/// Adds the pairs whose lesser input is the first entry's: the other ones are the inputs of the support after it.
 fn add_pairs<O: Oracle>(
     alloc: Global,
     output: &FirstOutput<'_>,
-    first: u32,
-    behind: &[(u32, Unate)],
+    first: (u32, Unate),
+    later: &[(u32, Unate)],
     pairs: &mut Items<(u32, u32, Sym)>,
     oracle: &mut O,
     ledger: &mut Ledger,
 ) -> Result<(), Stop>
     requires may { MayAsk output.now.graphs.now (O.known oracle.old) ledger.old }
     requires there { output.now.number < length output.now.graphs.now.first.outputs }
-    requires first { InSupport (inputs_in output.now.graphs.now)
+    requires first { IsEntry (inputs_in output.now.graphs.now)
         (function_at output.now.graphs.now output.now.number) first }
-    requires behind { ListsSupport (inputs_in output.now.graphs.now)
-        (function_at output.now.graphs.now output.now.number) (first + 1) (inputs_in output.now.graphs.now) behind.now }
+    requires later { ListsSupport (inputs_in output.now.graphs.now)
+        (function_at output.now.graphs.now output.now.number) (first.0 + 1) (inputs_in output.now.graphs.now) later.now }
     requires pairs { ListsPairs (inputs_in output.now.graphs.now)
-        (function_at output.now.graphs.now output.now.number) first 0 pairs.old }
+        (function_at output.now.graphs.now output.now.number) first.0 0 pairs.old }
     ensures serves { Serves (O.known oracle.old) (O.known oracle.new) ledger.old ledger.new result }
     ensures pairs { OnOk result (ListsPairs (inputs_in output.now.graphs.now)
-        (function_at output.now.graphs.now output.now.number) (first + 1) 0 pairs.new) }
+        (function_at output.now.graphs.now output.now.number) (first.0 + 1) 0 pairs.new) }
 {
-    for entry in behind.iter() {
-        let second = entry.0;
-        let sym = exchange(alloc, output, first, second, oracle, ledger)?;
-        note(first, second, sym, pairs)?;
+    let mut start = false;
+    for entry in later.iter() {
+        let sym = exchange(alloc, output, first, *entry, &mut start, oracle, ledger)?;
+        note(first.0, entry.0, sym, pairs)?;
     }
     Ok(())
 }
@@ -89,54 +88,84 @@ fn note(
 fn exchange<O: Oracle>(
     alloc: Global,
     output: &FirstOutput<'_>,
-    first: u32,
-    second: u32,
+    first: (u32, Unate),
+    second: (u32, Unate),
+    start: &mut bool,
     oracle: &mut O,
     ledger: &mut Ledger,
 ) -> Result<Option<Sym>, Stop>
     requires may { MayAsk output.now.graphs.now (O.known oracle.old) ledger.old }
     requires there { output.now.number < length output.now.graphs.now.first.outputs }
-    requires order { first < second }
-    requires second { second < inputs_in output.now.graphs.now }
+    requires order { first.0 < second.0 }
+    requires first { IsEntry (inputs_in output.now.graphs.now)
+        (function_at output.now.graphs.now output.now.number) first }
+    requires second { IsEntry (inputs_in output.now.graphs.now)
+        (function_at output.now.graphs.now output.now.number) second }
     ensures serves { Serves (O.known oracle.old) (O.known oracle.new) ledger.old ledger.new result }
     ensures sym { IfOk result (IsSymmetry (inputs_in output.now.graphs.now)
-        (function_at output.now.graphs.now output.now.number) first second) }
+        (function_at output.now.graphs.now output.now.number) first.0 second.0) }
 {
-    let symmetric = are_alike(alloc, output, first, second, false, oracle, ledger)?;
-    let skew = are_alike(alloc, output, first, second, true, oracle, ledger)?;
+    let symmetric = are_alike(alloc, output, first, second, false, start, oracle, ledger)?;
+    let skew = are_alike(alloc, output, first, second, true, start, oracle, ledger)?;
     Ok(by_swaps(symmetric, skew))
 }
 
-/// Whether the two inputs may be exchanged: as they are, or each inverted. That is so where two swaps hold.
+/// Whether the two inputs may be exchanged: as they are, or each inverted. That is so where two swaps hold, which aren't asked
+/// where unateness tells the inputs apart. The one that starts is asked first, and where it holds the other starts from then on: of
+/// a carry one holds for the inputs of lesser digits, and is expensive, and the other one for those of greater digits.
 fn are_alike<O: Oracle>(
     alloc: Global,
     output: &FirstOutput<'_>,
-    first: u32,
-    second: u32,
+    first: (u32, Unate),
+    second: (u32, Unate),
     inverted: bool,
+    start: &mut bool,
     oracle: &mut O,
     ledger: &mut Ledger,
 ) -> Result<bool, Stop>
     requires may { MayAsk output.now.graphs.now (O.known oracle.old) ledger.old }
     requires there { output.now.number < length output.now.graphs.now.first.outputs }
-    requires order { first < second }
-    requires second { second < inputs_in output.now.graphs.now }
+    requires order { first.0 < second.0 }
+    requires first { IsEntry (inputs_in output.now.graphs.now)
+        (function_at output.now.graphs.now output.now.number) first }
+    requires second { IsEntry (inputs_in output.now.graphs.now)
+        (function_at output.now.graphs.now output.now.number) second }
     ensures serves { Serves (O.known oracle.old) (O.known oracle.new) ledger.old ledger.new result }
     ensures told { IfOk result (λ alike. Decides alike (IsAlike (inputs_in output.now.graphs.now)
-        (function_at output.now.graphs.now output.now.number) first second inverted)) }
+        (function_at output.now.graphs.now output.now.number) first.0 second.0 inverted)) }
 {
-    let one = swap(first, second, false, !inverted);
+    if !may_be_alike(first.1, second.1, inverted) {
+        return Ok(false);
+    }
+    let from = *start;
+    let one = half_swap(first.0, second.0, inverted, from);
     let holds = output.holds(alloc, one, oracle, ledger)?;
     if !holds {
         return Ok(false);
     }
-    let other = swap(first, second, true, inverted);
+    *start = !from;
+    let other = half_swap(first.0, second.0, inverted, !from);
     output.holds(alloc, other, oracle, ledger)
 }
 
-fn swap(i: u32, j: u32, a: bool, b: bool) -> Shape
-    ensures { result ≡ swap_of i j a b }
+/// Whether inputs in which a function is unate in these ways may be exchanged: as they are, or each inverted.
+fn may_be_alike(first: Unate, second: Unate, inverted: bool) -> bool
+    ensures { result ≡ may_be_alike first second inverted }
 {
+    match (first, second) {
+        (Unate::Binate, Unate::Binate) => true,
+        (Unate::Binate, _) | (_, Unate::Binate) => false,
+        (Unate::Positive, Unate::Positive) | (Unate::Negative, Unate::Negative) => !inverted,
+        (Unate::Positive, Unate::Negative) | (Unate::Negative, Unate::Positive) => inverted,
+    }
+}
+
+/// One of the two swaps by which inputs may be exchanged: that in which the lesser input has this value.
+fn half_swap(i: u32, j: u32, inverted: bool, a: bool) -> Shape
+    ensures shape { result ≡ half_swap i j inverted a }
+    ensures placed { (n : ℕ) → i < j → j < n → IsPlaced n result }
+{
+    let b = if a { inverted } else { !inverted };
     Shape::Swap { i, j, a, b }
 }
 

@@ -1,18 +1,16 @@
 -- Hints, one after the other, and the lines that they derive.
-use Rattle.std.proofs.Common.{◌≡◌, ℕ, ◌+◌, ◌<◌, ◌&&◌, ◌||◌, not, cond, Bool, true, false, List, [], ◌∷◌, ◌++◌, length, map, filter, take, Option, None, Some, nat_lt, slice_index_or, inl, inr, refl, sym, ◌∙◌, ap, subst, arith, append_assoc}
-use Rattle.std.specs.List.{list_any, list_all}
-use Rattle.std.proofs.lemmas.Bool.{cases_eq, lt-ltb, ltb-true}
-use Rattle.std.proofs.lemmas.List.{get_or_append_left, get_or_at, length-append, map-append, take-append-le, take_at}
-use Rattle.std.proofs.lemmas.List.Folds.{list_any-append}
+use Rattle.std.proofs.Common.{◌≡◌, ℕ, suc, ◌≤◌, drop, drop_of_length-le, ◌+◌, ◌<◌, ◌&&◌, not, cond, List, [], ◌∷◌, ◌++◌, length, filter, Option, None, Some, slice_index_or, refl, ◌∙◌, ap, subst, arith, append_assoc}
+use Rattle.std.specs.List.{list_all}
+use Rattle.std.proofs.lemmas.Bool.{lt-ltb}
 use Rattle.cnf_core.specs.declared.literal.SatLit.{SatLit}
-use Rattle.cnf_core.specs.declared.log.LogLine.{LogLine}
 use Rattle.cnf_core.specs.declared.effect.Effect.{Effect}
 use Rattle.cnf_core.specs.declared.effect.Effect.TheVariants.{Conflict, Makes, Neither}
-use Rattle.cnf_core.specs.declared.fault.LineFault.{LineFault}
 use Rattle.cnf_core.specs.declared.fault.LineFault.TheVariants as fault
-use Rattle.cnf_core.specs.Clauses.{Formula, clause_at, opposite, variable_of}
-use Rattle.cnf_core.specs.Derivations.{AreDerived, clauses_of, effect_by, effect_of, fault_behind, hint_fault, is_empty, is_false, is_same, is_true, line_fault}
-use Rattle.joint_hash.specs.Merging.{AreLemmas}
+use Rattle.cnf_core.specs.Clauses.{clause_at}
+use Rattle.cnf_core.specs.Derivations.{effect_by, effect_of, fault_behind, hint_fault, is_false, is_same, is_true}
+use Rattle.std.proofs.Math.Seq.{drop-cons}
+use Rattle.joint_hash.specs.Merging.{LeadOn}
+use Rattle.joint_hash.proofs.LeadLemmas.{lead_makes, lead_neither, lead_there}
 
 -- the literals that aren't false
 abbrev pub open_ones : List SatLit → List SatLit → List SatLit
@@ -30,29 +28,51 @@ pub record IsHinted (clauses : List (List SatLit)) (start made : List SatLit) (h
 pub not_hinted : (clauses : List (List SatLit)) (start : List SatLit) → IsHinted clauses start start []
 not_hinted clauses start = record { goes = λ rest. refl }
 
--- the effect of a clause that is there
-there_is : (clauses : List (List SatLit)) (made : List SatLit) (id : ℕ) (e : Effect) → cond (nat_lt id (length clauses)) (Some (effect_of made (clause_at clauses id))) None ≡ Some e → (id < length clauses) × (effect_of made (clause_at clauses id) ≡ e)
-there_is clauses made id e is = by_test (nat_lt id (length clauses)) refl is
-  where
-    by_test : (b : Bool) → nat_lt id (length clauses) ≡ b → cond b (Some (effect_of made (clause_at clauses id))) None ≡ Some e → (id < length clauses) × (effect_of made (clause_at clauses id) ≡ e)
-    by_test true below same = (ltb-true id (length clauses) below, cc)
-    by_test false below same = absurd (let x : None ≡ Some e = same in cc)
-
 -- one hint more
-pub hint_makes : (clauses : List (List SatLit)) (start made : List SatLit) (hints : List ℕ) (id : ℕ) (l : SatLit) → IsHinted clauses start made hints → cond (nat_lt id (length clauses)) (Some (effect_of made (clause_at clauses id))) None ≡ Some (Makes l) → IsHinted clauses start (made ++ l ∷ []) (hints ++ id ∷ [])
-hint_makes clauses start made hints id l is effect = record {
+pub hint_makes : (clauses : List (List SatLit)) (start made : List SatLit) (hints : List ℕ) (id : ℕ) (l : SatLit) → IsHinted clauses start made hints → id < length clauses → effect_of made (clause_at clauses id) ≡ Makes l → IsHinted clauses start (made ++ l ∷ []) (hints ++ id ∷ [])
+hint_makes clauses start made hints id l is there makes = record {
   goes = λ rest.
-      let there = there_is clauses made id (Makes l) effect in
       ap (hint_fault clauses start) (append_assoc hints (id ∷ []) rest)
       ∙ (is.goes (id ∷ rest)
-      ∙ (ap (λ t. cond t (fault_behind (effect_of made (clause_at clauses id)) rest (λ m. hint_fault clauses (made ++ m ∷ []) rest)) (Some fault.UnknownHint)) (lt-ltb id (length clauses) there.0)
-      ∙ ap (λ e. fault_behind e rest (λ m. hint_fault clauses (made ++ m ∷ []) rest)) there.1));
+      ∙ (ap (λ t. cond t (fault_behind (effect_of made (clause_at clauses id)) rest (λ m. hint_fault clauses (made ++ m ∷ []) rest)) (Some fault.UnknownHint)) (lt-ltb id (length clauses) there)
+      ∙ ap (λ e. fault_behind e rest (λ m. hint_fault clauses (made ++ m ∷ []) rest)) makes));
 }
 
 -- the last one
-pub hint_ends : (clauses : List (List SatLit)) (start made : List SatLit) (hints : List ℕ) (id : ℕ) → IsHinted clauses start made hints → cond (nat_lt id (length clauses)) (Some (effect_of made (clause_at clauses id))) None ≡ Some Conflict → hint_fault clauses start (hints ++ id ∷ []) ≡ None
-hint_ends clauses start made hints id is effect =
-    let there = there_is clauses made id Conflict effect in
+pub hint_ends : (clauses : List (List SatLit)) (start made : List SatLit) (hints : List ℕ) (id : ℕ) → IsHinted clauses start made hints → id < length clauses → effect_of made (clause_at clauses id) ≡ Conflict → hint_fault clauses start (hints ++ id ∷ []) ≡ None
+hint_ends clauses start made hints id is there conflict =
     is.goes (id ∷ [])
-    ∙ (ap (λ t. cond t (fault_behind (effect_of made (clause_at clauses id)) [] (λ m. hint_fault clauses (made ++ m ∷ []) [])) (Some fault.UnknownHint)) (lt-ltb id (length clauses) there.0)
-    ∙ ap (λ e. fault_behind e [] (λ m. hint_fault clauses (made ++ m ∷ []) [])) there.1)
+    ∙ (ap (λ t. cond t (fault_behind (effect_of made (clause_at clauses id)) [] (λ m. hint_fault clauses (made ++ m ∷ []) [])) (Some fault.UnknownHint)) (lt-ltb id (length clauses) there)
+    ∙ ap (λ e. fault_behind e [] (λ m. hint_fault clauses (made ++ m ∷ []) [])) conflict)
+
+-- Hints so far, and clauses that lead on from there.
+pub record IsOnTheWay (clauses : List (List SatLit)) (start made : List SatLit) (hints ids : List ℕ) : Type 0 where
+  pub hinted : IsHinted clauses start made hints
+  pub leads : LeadOn clauses made ids
+
+-- the next clause
+pub next_leads : (clauses : List (List SatLit)) (start made : List SatLit) (hints ids : List ℕ) (i : ℕ) → i < length ids → IsOnTheWay clauses start made hints (drop i ids) → LeadOn clauses made (slice_index_or ids i 0 ∷ drop (i + 1) ids)
+next_leads clauses start made hints ids i within way =
+    let e : suc i ≡ i + 1 = omega arith in
+    subst (λ k. LeadOn clauses made (slice_index_or ids i 0 ∷ drop k ids)) e (subst (LeadOn clauses made) (drop-cons ids i 0 within) way.leads)
+
+pub way_there : (clauses : List (List SatLit)) (start made : List SatLit) (hints ids : List ℕ) (i : ℕ) → i < length ids → IsOnTheWay clauses start made hints (drop i ids) → slice_index_or ids i 0 < length clauses
+way_there clauses start made hints ids i within way =
+    lead_there clauses made (slice_index_or ids i 0) (drop (i + 1) ids) (next_leads clauses start made hints ids i within way)
+
+pub way_makes : (clauses : List (List SatLit)) (start made : List SatLit) (hints ids : List ℕ) (i : ℕ) (l : SatLit) → i < length ids → IsOnTheWay clauses start made hints (drop i ids) → effect_of made (clause_at clauses (slice_index_or ids i 0)) ≡ Makes l → IsOnTheWay clauses start (made ++ l ∷ []) (hints ++ slice_index_or ids i 0 ∷ []) (drop (i + 1) ids)
+way_makes clauses start made hints ids i l within way makes = record {
+  hinted = hint_makes clauses start made hints (slice_index_or ids i 0) l way.hinted (way_there clauses start made hints ids i within way) makes;
+  leads = lead_makes clauses made (slice_index_or ids i 0) (drop (i + 1) ids) l (next_leads clauses start made hints ids i within way) makes;
+}
+
+pub way_neither : (clauses : List (List SatLit)) (start made : List SatLit) (hints ids : List ℕ) (i : ℕ) → i < length ids → IsOnTheWay clauses start made hints (drop i ids) → effect_of made (clause_at clauses (slice_index_or ids i 0)) ≡ Neither → IsOnTheWay clauses start made hints (drop (i + 1) ids)
+way_neither clauses start made hints ids i within way neither = record {
+  hinted = way.hinted;
+  leads = lead_neither clauses made (slice_index_or ids i 0) (drop (i + 1) ids) (next_leads clauses start made hints ids i within way) neither;
+}
+
+-- it doesn't come to its end
+pub way_ends : (clauses : List (List SatLit)) (start made : List SatLit) (hints ids : List ℕ) (i : ℕ) → length ids ≤ i → IsOnTheWay clauses start made hints (drop i ids) → ⊥
+way_ends clauses start made hints ids i past way =
+    subst (LeadOn clauses made) (drop_of_length-le ids {i = i} past) way.leads

@@ -1,3 +1,12 @@
+pub mod AddLemmas
+pub mod ChainLemmas
+pub mod GateLemmas
 pub mod HintLemmas
+pub mod LeadLemmas
 pub mod LineLemmas
-pub mod TableLemmas
+pub mod LiteralLemmas
+pub mod MergeLemmas
+pub mod SharedLemmas
+pub mod TreeLemmas
+pub mod VisitLemmas
+pub mod ListedLemmas

@@ -1,40 +1,43 @@
 //! The gates of a query's cones, read from its clauses.
 
-ghost use Rattle.std.specs.Prelude.{◌≡◌, ◌*◌, ◌<◌, ◌≤◌, All, length};
-ghost use Rattle.cnf_core.specs.Clauses.{variable_of};
-ghost use Rattle.query_core.specs.Formulas.{formula_of, query_clauses};
+ghost use Rattle.std.specs.Prelude.{◌≡◌, ◌≢◌, ◌+◌, ◌%◌, ◌<◌, ◌^◌, length};
+ghost use Rattle.query_core.specs.ConeClauses.{IsConeId};
+ghost use Rattle.query_core.specs.Formulas.{query_clauses};
+ghost use Rattle.joint_hash.specs.Trees.{IsGateOf};
 
-use cnf_core::{Base, SatLit};
-use query_core::QueryBase;
+use cnf_core::SatLit;
+use query_core::ConeClauses;
 
-/// A gate: the literal of its variable, its operands, and the numbers of its clauses: that it implies the one operand,
-/// that it implies the other, and that both imply it.
+/// A gate of a query's cones.
 #[derive(Clone, Copy, Drop)]
-pub(crate) struct Gate {
-    pub(crate) output: SatLit,
-    pub(crate) first: SatLit,
-    pub(crate) second: SatLit,
-    pub(crate) to_first: u64,
-    pub(crate) to_second: u64,
-    pub(crate) from_both: u64,
+pub struct ConeGate {
+    /// The number of its first clause, that it implies its first operand. That it implies the second one is the next
+    /// clause, and that both imply it is the one after.
+    pub id: u64,
+    pub output: SatLit,
+    pub first: SatLit,
+    pub second: SatLit,
 }
 
-/// Gate k of the cones, counted from 1, whose clauses have these numbers: after that of variable 0 three for each gate.
-pub(crate) fn gate_at(base: &QueryBase<'_>, ids: &[u64], k: usize) -> Gate
-    requires there { All (λ id. id < length (query_clauses base.now.graphs base.now.query)) ids.now }
-    requires some { 1 ≤ k }
-    requires within { 3 * k < length ids.now }
-    ensures known { variable_of result.output < (formula_of base.now.graphs base.now.query).variables }
+/// The gate of the cones whose last clause has this number.
+pub(crate) fn gate_of(cones: &ConeClauses<'_>, last: u64) -> ConeGate
+    requires there { last < length (query_clauses cones.now.graphs cones.now.query) }
+    requires cone { IsConeId cones.now.graphs cones.now.query last }
+    requires some { last ≢ 0 }
+    requires third { last % 3 ≡ 0 }
+    ensures gate { IsGateOf cones.now.graphs cones.now.query result }
+    ensures last { result.id + 2 ≡ last }
 {
-    let from_both = ids[3 * k];
-    let clause = base.clause(from_both);
+    let graphs = cones.graphs();
+    let _first = graphs.first();
+    let _second = graphs.second();
+    let _ids = cones.ids();
+    let clause = cones.clause(last);
     let [output, first, second] = clause.lits;
-    Gate {
+    ConeGate {
+        id: last - 2,
         output,
         first: first.opposite(),
         second: second.opposite(),
-        to_first: ids[3 * k - 2],
-        to_second: ids[3 * k - 1],
-        from_both,
     }
 }

@@ -1,58 +1,61 @@
 //! Hints that derive a clause.
 
-ghost use Rattle.std.specs.Prelude.{◌≡◌, ◌++◌, None, Some, IfOk, IfSome, length, map, nat_lt, if◌then◌else◌};
+ghost use Rattle.std.specs.Prelude.{◌≡◌, ◌<◌, ◌++◌, Contains, None, IfOk, length, map};
 ghost use Rattle.cnf_core.specs.Clauses.{clause_at, opposite};
 ghost use Rattle.cnf_core.specs.Derivations.{clauses_of, effect_of, hint_fault, is_false, is_true};
+ghost use Rattle.query_core.specs.Formulas.{query_clauses};
+ghost use Rattle.joint_hash.specs.Merging.{AreListed, LeadOn};
 
-use cnf_core::{Base, Effect, LogLine, SatLit};
+use cnf_core::{Effect, LogLine, SatLit};
 use items::Items;
+use query_core::ConeClauses;
 use std::alloc::{AllocError, Global};
 
 /// Hints that derive a clause from a formula and from lines: those of the clauses of these numbers, gone over in their
-/// order, that make a literal true, up to the first conflict. None where there is no conflict.
-pub(crate) fn hints_among<B: Base>(
+/// order, that make a literal true, up to the first conflict, to which they lead.
+pub(crate) fn hints_among(
     alloc: Global,
-    base: &B,
+    cones: &ConeClauses<'_>,
     lines: &[LogLine],
     clause: &[SatLit],
     ids: &[u64],
-) -> Result<Option<Items<u64>>, AllocError>
-    ensures { IfOk result (λ found. IfSome found (λ hints.
-        hint_fault ((B.formula base.now).clauses ++ clauses_of lines.now) (map opposite clause.now) hints ≡ None)) }
+) -> Result<Items<u64>, AllocError>
+    requires leads { LeadOn (query_clauses cones.now.graphs cones.now.query ++ clauses_of lines.now) (map opposite clause.now) ids.now }
+    requires listed { AreListed (length (query_clauses cones.now.graphs cones.now.query)) cones.now.ids ids.now }
+    ensures { IfOk result (λ hints.
+        hint_fault (query_clauses cones.now.graphs cones.now.query ++ clauses_of lines.now) (map opposite clause.now) hints ≡ None) }
 {
     let mut made = opposites(alloc, clause)?;
     let mut hints = Items::new(alloc);
     for id in ids.iter() {
-        match effect_at(base, lines, &made, *id) {
-            Some(Effect::Conflict) => {
+        match effect_at(cones, lines, &made, *id) {
+            Effect::Conflict => {
                 hints.push(*id)?;
-                return Ok(Some(hints));
+                return Ok(hints);
             }
-            Some(Effect::Makes(literal)) => {
+            Effect::Makes(literal) => {
                 made.push(literal)?;
                 hints.push(*id)?;
             }
-            Some(Effect::Neither) | None => {}
+            Effect::Neither => {}
         }
     }
-    Ok(None)
+    unreachable!()
 }
 
-// What the clause of a number does where these literals are true, or None where there is no such clause.
-fn effect_at<B: Base>(base: &B, lines: &[LogLine], made: &[SatLit], id: u64) -> Option<Effect>
-    ensures { let clauses = (B.formula base.now).clauses ++ clauses_of lines.now
-        in result ≡ (if nat_lt id (length clauses) then Some (effect_of made.now (clause_at clauses id)) else None) }
+// What the clause of a number does where these literals are true.
+fn effect_at(cones: &ConeClauses<'_>, lines: &[LogLine], made: &[SatLit], id: u64) -> Effect
+    requires there { id < length (query_clauses cones.now.graphs cones.now.query ++ clauses_of lines.now) }
+    requires listed { id < length (query_clauses cones.now.graphs cones.now.query) → Contains cones.now.ids id }
+    ensures { result ≡ effect_of made.now (clause_at (query_clauses cones.now.graphs cones.now.query ++ clauses_of lines.now) id) }
 {
-    let count = base.count();
+    let count = cones.count();
     if id < count {
-        let clause = base.clause(id);
-        return Some(effect(made, clause.literals()));
+        let clause = cones.clause(id);
+        return effect(made, clause.literals());
     }
     let place = (id - count) as usize;
-    if place < lines.len() {
-        return Some(effect(made, &lines[place].clause));
-    }
-    None
+    effect(made, &lines[place].clause)
 }
 
 // What a clause does where these literals are true.

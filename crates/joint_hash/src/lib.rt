@@ -4,5 +4,7 @@
 mod gates;
 mod hinting;
 mod merging;
+mod twins;
 
-pub use merging::{merge, merge_cones};
+pub use gates::ConeGate;
+pub use merging::merge;

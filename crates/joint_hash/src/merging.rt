@@ -1,41 +1,57 @@
 //! Gates of one structure, merged by lemmas.
 
-ghost use Rattle.std.specs.Prelude.{◌≡◌, ◌≢◌, ◌<◌, ◌∷◌, [], ℕ, All, IfOk, IfSome, OnOk, length};
-ghost use Rattle.cnf_core.specs.Clauses.{variable_of};
+ghost use Rattle.std.specs.Prelude.{◌≡◌, ◌≢◌, ◌<◌, ◌^◌, ◌+◌, ◌==◌, ◌||◌, ◌&&◌, ◌↔◌, ◌∷◌, ◌++◌, [], ℕ, All, AllPairs, Contains, Some, IfOk, OnOk, is_some, length, map, nat_lt, if◌then◌else◌};
+ghost use Rattle.cnf_core.specs.Clauses.{opposite, variable_of};
+ghost use Rattle.cnf_core.specs.Derivations.{clauses_of};
+ghost use Rattle.query_core.specs.ConeClauses.{IsConeId};
+ghost use Rattle.query_core.specs.Queries.{IsQuery};
 ghost use Rattle.query_core.specs.Formulas.{formula_of, query_clauses};
-ghost use Rattle.joint_hash.specs.Merging.{AreLemmas, IsUnderWay};
+ghost use Rattle.joint_hash.specs.Trees.{AreJoined, IsGateOf};
+ghost use Rattle.joint_hash.specs.Merging.{AreEquated, AreLemmas, AreListed, AreTwins, HasAlso, IsUnderWay, LeadOn, chain_ids, clauses_with, first_with, is_last, lemma_ids, operands_of, twin_of};
 
-use crate::gates::{Gate, gate_at};
+use crate::gates::{ConeGate, gate_of};
 use crate::hinting::hints_among;
-use cnf_core::{Base, LogLine, SatLit};
+use crate::twins::{Twin, operands_of, put_twin, twin_of};
+use cnf_core::{LogLine, SatLit};
 use indexmap::IndexMap;
 use items::Items;
-use query_core::{QueryBase, cone_ids};
+use query_core::ConeClauses;
 use std::alloc::{AllocError, Global};
 
-/// Lemmas by which gates of the two cones that unfold to the same tree are one.
-pub fn merge(alloc: Global, base: &QueryBase<'_>) -> Result<Vec<LogLine>, AllocError>
-    ensures { IfOk result (λ lines. AreLemmas (formula_of base.now.graphs base.now.query) lines.items) }
+/// Lemmas by which gates of the two cones that unfold to the same tree are one: for each gate but the first of its
+/// class, that the first one implies it and that it implies the first one.
+///
+/// # Errors
+///
+/// Only when out of memory.
+pub fn merge(alloc: Global, cones: &ConeClauses<'_>) -> Result<Vec<LogLine>, AllocError>
+    ensures lemmas { IfOk result (λ lines. AreLemmas (formula_of cones.now.graphs cones.now.query) lines.items) }
+    ensures joined { IfOk result (λ lines. AreJoined cones.now.graphs cones.now.query lines.items) }
 {
-    let ids = cone_ids(alloc, base)?;
-    merge_cones(alloc, base, &ids)
+    merge_ids(alloc, cones, cones.ids())
 }
 
-/// The same, where the numbers of the cones' clauses are known.
-pub fn merge_cones(
+// The same, by the numbers of the cones' clauses.
+fn merge_ids(
     alloc: Global,
-    base: &QueryBase<'_>,
+    cones: &ConeClauses<'_>,
     ids: &[u64],
 ) -> Result<Vec<LogLine>, AllocError>
-    requires there { All (λ id. id < length (query_clauses base.now.graphs base.now.query)) ids.now }
-    ensures { IfOk result (λ lines. AreLemmas (formula_of base.now.graphs base.now.query) lines.items) }
+    requires ascending { AllPairs (λ one other. one < other) ids.now }
+    requires there { All (λ id. id < length (query_clauses cones.now.graphs cones.now.query)) ids.now }
+    requires cones { (id : ℕ) → (Contains ids.now id ↔ IsConeId cones.now.graphs cones.now.query id) }
+    ensures lemmas { IfOk result (λ lines. AreLemmas (formula_of cones.now.graphs cones.now.query) lines.items) }
+    ensures joined { IfOk result (λ lines. AreJoined cones.now.graphs cones.now.query lines.items) }
 {
+    let graphs = cones.graphs();
+    let _first = graphs.first();
+    let _second = graphs.second();
     let mut merged = Merged {
         lines: Vec::new(alloc),
         firsts: IndexMap::new(alloc),
         twins: IndexMap::new(alloc),
     };
-    add_gates(alloc, base, ids, &mut merged)?;
+    add_gates(alloc, cones, ids, &mut merged)?;
     let Merged { lines, .. } = merged;
     Ok(lines)
 }
@@ -45,58 +61,84 @@ pub fn merge_cones(
 struct Merged {
     lines: Vec<LogLine>,
     /// The first gate of each class, by the representatives of its operands, the lesser one first.
-    firsts: IndexMap<(SatLit, SatLit), Gate>,
+    firsts: IndexMap<(SatLit, SatLit), ConeGate>,
     /// What stands for the variable of each later gate.
     twins: IndexMap<u64, Twin>,
-}
-
-/// What stands for a variable.
-#[derive(Clone, Copy, Drop)]
-struct Twin {
-    /// The variable of the first gate of the class, plain.
-    first: SatLit,
-    /// The number of the lemma that it implies the variable; the next one is that the variable implies it.
-    lemma: u64,
 }
 
 // Goes over all gates of the cones. Each stands after its operands.
 fn add_gates(
     alloc: Global,
-    base: &QueryBase<'_>,
+    cones: &ConeClauses<'_>,
     ids: &[u64],
     merged: &mut Merged,
 ) -> Result<(), AllocError>
-    requires there { All (λ id. id < length (query_clauses base.now.graphs base.now.query)) ids.now }
-    requires under_way { IsUnderWay (formula_of base.now.graphs base.now.query) merged.old.lines.items merged.old.firsts.entries }
-    ensures { OnOk result (IsUnderWay (formula_of base.now.graphs base.now.query) merged.new.lines.items merged.new.firsts.entries) }
+    requires ascending { AllPairs (λ one other. one < other) ids.now }
+    requires there { All (λ id. id < length (query_clauses cones.now.graphs cones.now.query)) ids.now }
+    requires cones { (id : ℕ) → (Contains ids.now id ↔ IsConeId cones.now.graphs cones.now.query id) }
+    requires under_way { IsUnderWay cones.now.graphs cones.now.query 0
+        merged.old.lines.items merged.old.firsts.entries merged.old.twins.entries }
+    ensures { OnOk result (IsUnderWay cones.now.graphs cones.now.query (length (query_clauses cones.now.graphs cones.now.query))
+        merged.new.lines.items merged.new.firsts.entries merged.new.twins.entries) }
 {
-    let end = ids.len() / 3;
-    for k in 1..end {
-        let gate = gate_at(base, ids, k);
-        add_gate(alloc, base, &gate, merged)?;
+    for id in ids.iter() {
+        add_at(alloc, cones, *id, merged)?;
     }
     Ok(())
 }
 
-// Keeps a gate as the first of its class, or joins it to the one that is.
-fn add_gate(
+// Goes over a gate, where this is the number of its last clause.
+fn add_at(
     alloc: Global,
-    base: &QueryBase<'_>,
-    gate: &Gate,
+    cones: &ConeClauses<'_>,
+    id: u64,
     merged: &mut Merged,
 ) -> Result<(), AllocError>
-    requires known { variable_of gate.now.output < (formula_of base.now.graphs base.now.query).variables }
-    requires under_way { IsUnderWay (formula_of base.now.graphs base.now.query) merged.old.lines.items merged.old.firsts.entries }
-    ensures { OnOk result (IsUnderWay (formula_of base.now.graphs base.now.query) merged.new.lines.items merged.new.firsts.entries) }
+    requires there { id < length (query_clauses cones.now.graphs cones.now.query) }
+    requires cone { IsConeId cones.now.graphs cones.now.query id }
+    requires under_way { IsUnderWay cones.now.graphs cones.now.query id
+        merged.old.lines.items merged.old.firsts.entries merged.old.twins.entries }
+    ensures { OnOk result (IsUnderWay cones.now.graphs cones.now.query (id + 1)
+        merged.new.lines.items merged.new.firsts.entries merged.new.twins.entries) }
 {
-    let first = representative(&merged.twins, gate.first);
-    let second = representative(&merged.twins, gate.second);
-    let operands = in_order(first, second);
-    match first_of(&merged.firsts, operands) {
-        None => keep(&mut merged.firsts, operands, gate),
-        Some(first) => join(
+    if !is_last(id) {
+        return Ok(());
+    }
+    let gate = gate_of(cones, id);
+    add_gate(alloc, cones, &gate, merged)
+}
+
+// Whether the clause of this number is the last of a gate's three: they follow the clause of variable 0.
+fn is_last(id: u64) -> bool
+    ensures { result ≡ is_last id }
+{
+    (0 < id) & (id % 3 == 0)
+}
+
+// Keeps a gate as the first of its class, or joins it to the one that is. A gate that both cones have comes twice, and
+// needs nothing the second time.
+fn add_gate(
+    alloc: Global,
+    cones: &ConeClauses<'_>,
+    gate: &ConeGate,
+    merged: &mut Merged,
+) -> Result<(), AllocError>
+    requires gate { IsGateOf cones.now.graphs cones.now.query gate.now }
+    requires under_way { IsUnderWay cones.now.graphs cones.now.query (gate.now.id + 2)
+        merged.old.lines.items merged.old.firsts.entries merged.old.twins.entries }
+    ensures { OnOk result (IsUnderWay cones.now.graphs cones.now.query (gate.now.id + 3)
+        merged.new.lines.items merged.new.firsts.entries merged.new.twins.entries) }
+{
+    let graphs = cones.graphs();
+    let _first = graphs.first();
+    let _second = graphs.second();
+    let operands = operands_of(&merged.twins, gate);
+    match first_with(&merged.firsts, operands) {
+        None => keep(&mut merged.firsts, operands, *gate),
+        Some(first) if is_joined(&merged.twins, gate, &first) => Ok(()),
+        Some(first) => equate(
             alloc,
-            base,
+            cones,
             gate,
             &first,
             &mut merged.lines,
@@ -105,101 +147,108 @@ fn add_gate(
     }
 }
 
-// The gate that is kept under these operands.
-fn first_of(firsts: &IndexMap<(SatLit, SatLit), Gate>, operands: (SatLit, SatLit)) -> Option<Gate>
-    ensures { (bound : ℕ) → All (λ entry. variable_of entry.1.output < bound) firsts.now.entries
-        → IfSome result (λ gate. variable_of gate.output < bound) }
+// The first gate that has these operands.
+fn first_with(
+    firsts: &IndexMap<(SatLit, SatLit), ConeGate>,
+    operands: (SatLit, SatLit),
+) -> Option<ConeGate>
+    ensures { result ≡ first_with firsts.now.entries operands }
 {
-    let gate = firsts.get(&operands)?;
-    Some(*gate)
+    firsts.get(&operands).copied()
 }
 
-// Keeps a gate under these operands.
+// Keeps a gate as the first with these operands.
 fn keep(
-    firsts: &mut IndexMap<(SatLit, SatLit), Gate>,
+    firsts: &mut IndexMap<(SatLit, SatLit), ConeGate>,
     operands: (SatLit, SatLit),
-    gate: &Gate,
+    gate: ConeGate,
 ) -> Result<(), AllocError>
-    ensures { (bound : ℕ) → All (λ entry. variable_of entry.1.output < bound) firsts.old.entries
-        → variable_of gate.now.output < bound
-        → OnOk result (All (λ entry. variable_of entry.1.output < bound) firsts.new.entries) }
+    ensures { OnOk result (HasAlso firsts.old.entries firsts.new.entries operands gate) }
 {
-    firsts.insert(operands, *gate)?;
+    firsts.insert(operands, gate)?;
     Ok(())
 }
 
-// Adds the lemmas that the first gate of a class implies a later one, and that this one implies it. A gate that both cones
-// have comes twice, and needs none the second time.
-fn join(
+// Whether a gate has the variable of the first one with its operands, or is joined to it.
+fn is_joined(twins: &IndexMap<u64, Twin>, gate: &ConeGate, first: &ConeGate) -> bool
+    ensures { result ≡ ((variable_of gate.now.output == variable_of first.now.output)
+        || is_some (twin_of twins.now.entries (variable_of gate.now.output))) }
+{
+    let variable = gate.output.variable();
+    (variable == first.output.variable()) | twin_of(twins, variable).is_some()
+}
+
+// Makes a gate one with the first that has its operands: adds the lemmas that the first one implies it, and that it
+// implies the first one.
+fn equate(
     alloc: Global,
-    base: &QueryBase<'_>,
-    gate: &Gate,
-    first: &Gate,
+    cones: &ConeClauses<'_>,
+    gate: &ConeGate,
+    first: &ConeGate,
     lines: &mut Vec<LogLine>,
     twins: &mut IndexMap<u64, Twin>,
 ) -> Result<(), AllocError>
-    requires gate { variable_of gate.now.output < (formula_of base.now.graphs base.now.query).variables }
-    requires first { variable_of first.now.output < (formula_of base.now.graphs base.now.query).variables }
-    requires lemmas { AreLemmas (formula_of base.now.graphs base.now.query) lines.old.items }
-    ensures { OnOk result (AreLemmas (formula_of base.now.graphs base.now.query) lines.new.items) }
+    requires fits { IsQuery cones.now.graphs cones.now.query }
+    requires gate { IsGateOf cones.now.graphs cones.now.query gate.now }
+    requires first { IsGateOf cones.now.graphs cones.now.query first.now }
+    requires apart { variable_of first.now.output ≢ variable_of gate.now.output }
+    requires operands { operands_of (twin_of twins.old.entries) first.now
+        ≡ operands_of (twin_of twins.old.entries) gate.now }
+    requires twins { AreTwins (length (query_clauses cones.now.graphs cones.now.query))
+        (clauses_with (formula_of cones.now.graphs cones.now.query) lines.old.items) (twin_of twins.old.entries) }
+    requires lemmas { AreLemmas (formula_of cones.now.graphs cones.now.query) lines.old.items }
+    ensures { OnOk result (AreEquated (formula_of cones.now.graphs cones.now.query) first.now gate.now
+        lines.old.items lines.new.items (twin_of twins.old.entries) (twin_of twins.new.entries)) }
 {
-    let variable = gate.output.variable();
-    if variable == first.output.variable() {
-        return Ok(());
-    }
-    if twins.get(&variable).is_some() {
-        return Ok(());
-    }
-    let lemma = base.count() + lines.len() as u64;
-    let there = used_by(alloc, twins, first, gate)?;
+    let _ids = cones.ids();
+    let lemma = cones.count() + lines.len() as u64;
+    let there = chain(alloc, twins, first, gate)?;
     add_lemma(
         alloc,
-        base,
-        opposite(first.output),
+        cones,
+        first.output.opposite(),
         gate.output,
         &there,
         lines,
     )?;
-    let back = used_by(alloc, twins, gate, first)?;
+    let back = chain(alloc, twins, gate, first)?;
     add_lemma(
         alloc,
-        base,
+        cones,
         first.output,
-        opposite(gate.output),
+        gate.output.opposite(),
         &back,
         lines,
     )?;
-    let first = first.output;
-    twins.insert(variable, Twin { first, lemma })?;
-    Ok(())
-}
-
-// The literal of the same variable with the other sign.
-fn opposite(literal: SatLit) -> SatLit
-    ensures { variable_of result ≡ variable_of literal }
-{
-    literal.opposite()
+    let twin = Twin {
+        first: first.output,
+        to_variable: lemma,
+        from_variable: lemma + 1,
+    };
+    put_twin(twins, gate.output.variable(), twin)
 }
 
 // Adds the lemma that one of two literals is true, by the clauses of these numbers.
 fn add_lemma(
     alloc: Global,
-    base: &QueryBase<'_>,
+    cones: &ConeClauses<'_>,
     one: SatLit,
     other: SatLit,
     ids: &[u64],
     lines: &mut Vec<LogLine>,
 ) -> Result<(), AllocError>
-    requires one { variable_of one < (formula_of base.now.graphs base.now.query).variables }
-    requires other { variable_of other < (formula_of base.now.graphs base.now.query).variables }
+    requires one { variable_of one < (formula_of cones.now.graphs cones.now.query).variables }
+    requires other { variable_of other < (formula_of cones.now.graphs cones.now.query).variables }
     requires two { variable_of one ≢ variable_of other }
-    requires lemmas { AreLemmas (formula_of base.now.graphs base.now.query) lines.old.items }
-    ensures { OnOk result (AreLemmas (formula_of base.now.graphs base.now.query) lines.new.items) }
+    requires lemmas { AreLemmas (formula_of cones.now.graphs cones.now.query) lines.old.items }
+    requires listed { AreListed (length (query_clauses cones.now.graphs cones.now.query)) cones.now.ids ids.now }
+    requires leads { LeadOn (clauses_with (formula_of cones.now.graphs cones.now.query) lines.old.items)
+        (opposite one ∷ opposite other ∷ []) ids.now }
+    ensures lemmas { OnOk result (AreLemmas (formula_of cones.now.graphs cones.now.query) lines.new.items) }
+    ensures clauses { OnOk result (clauses_of lines.new.items ≡ clauses_of lines.old.items ++ (one ∷ other ∷ []) ∷ []) }
 {
     let clause = pair(alloc, one, other)?;
-    let Some(hints) = hints_among(alloc, base, lines, &clause, ids)? else {
-        return Ok(());
-    };
+    let hints = hints_among(alloc, cones, lines, &clause, ids)?;
     lines.push(LogLine { clause, hints })?;
     Ok(())
 }
@@ -216,19 +265,23 @@ fn pair(alloc: Global, one: SatLit, other: SatLit) -> Result<Items<SatLit>, Allo
 
 // The numbers of the clauses by which one gate implies another of its class: it implies its operands, these their
 // representatives, those the operands of the other, and these that gate.
-fn used_by(
+fn chain(
     alloc: Global,
     twins: &IndexMap<u64, Twin>,
-    from: &Gate,
-    to: &Gate,
-) -> Result<Vec<u64>, AllocError> {
+    start: &ConeGate,
+    end: &ConeGate,
+) -> Result<Vec<u64>, AllocError>
+    requires start { start.now.id < 2 ^ 62 }
+    requires end { end.now.id < 2 ^ 62 }
+    ensures { IfOk result (λ ids. ids.items ≡ chain_ids (twin_of twins.now.entries) start.now end.now) }
+{
     let mut ids = Vec::new(alloc);
-    ids.extend_from_slice(&[from.to_first, from.to_second])?;
-    push_lemma(&mut ids, twins, from.first, true)?;
-    push_lemma(&mut ids, twins, from.second, true)?;
-    push_lemma(&mut ids, twins, to.first, false)?;
-    push_lemma(&mut ids, twins, to.second, false)?;
-    ids.push(to.from_both)?;
+    ids.extend_from_slice(&[start.id, start.id + 1])?;
+    push_lemma(&mut ids, twins, start.first, true)?;
+    push_lemma(&mut ids, twins, start.second, true)?;
+    push_lemma(&mut ids, twins, end.first, false)?;
+    push_lemma(&mut ids, twins, end.second, false)?;
+    ids.push(end.id + 2)?;
     Ok(ids)
 }
 
@@ -239,36 +292,24 @@ fn push_lemma(
     twins: &IndexMap<u64, Twin>,
     literal: SatLit,
     onto: bool,
-) -> Result<(), AllocError> {
-    let Some(twin) = twins.get(&literal.variable()) else {
+) -> Result<(), AllocError>
+    ensures { OnOk result (ids.new.items ≡ ids.old.items
+        ++ lemma_ids (twin_of twins.now.entries (variable_of literal)) literal onto) }
+{
+    let Some(twin) = twin_of(twins, literal.variable()) else {
         return Ok(());
     };
-    let lemma = if literal.is_negated() == onto {
-        twin.lemma
-    } else {
-        twin.lemma.saturating_add(1)
-    };
-    ids.push(lemma)?;
+    ids.push(lemma_of(twin, literal, onto))?;
     Ok(())
 }
 
-// The literal that stands for a literal: that of the first gate of its class, with its sign, or itself.
-fn representative(twins: &IndexMap<u64, Twin>, literal: SatLit) -> SatLit {
-    let Some(twin) = twins.get(&literal.variable()) else {
-        return literal;
-    };
-    if literal.is_negated() {
-        twin.first.opposite()
+// The number of the lemma that a literal implies what stands for it, or that this implies the literal.
+fn lemma_of(twin: Twin, literal: SatLit, onto: bool) -> u64
+    ensures { lemma_ids (Some twin) literal onto ≡ result ∷ [] }
+{
+    if literal.is_negated() == onto {
+        twin.to_variable
     } else {
-        twin.first
-    }
-}
-
-// Two literals, the one of the lesser number first.
-fn in_order(one: SatLit, other: SatLit) -> (SatLit, SatLit) {
-    if other < one {
-        (other, one)
-    } else {
-        (one, other)
+        twin.from_variable
     }
 }

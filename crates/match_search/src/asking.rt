@@ -12,16 +12,17 @@ use class_refine::Domains;
 use cnf_core::Stop;
 use conflict_core::Port;
 use fact_bans::{Seen, mismatch, tally};
-use net_core::{Graphs, Side};
+use net_core::Side;
 use oracle_core::Oracle;
 use pair_search::way_of;
+use port_sides::PairableGraphs;
 use query_core::Ledger;
 use std::alloc::Global;
 
 /// Holds the tallies of an output of the first circuit and each of the second.
 pub(crate) fn ask_output<O: Oracle>(
     alloc: Global,
-    graphs: &Graphs<'_>,
+    graphs: &PairableGraphs<'_>,
     oracle: &mut O,
     domains: &Domains,
     output: u32,
@@ -51,7 +52,7 @@ pub(crate) fn ask_output<O: Oracle>(
 /// or two, so that what refers to them needs few pairs too.
 pub(crate) fn ask_of<O: Oracle>(
     alloc: Global,
-    graphs: &Graphs<'_>,
+    graphs: &PairableGraphs<'_>,
     oracle: &mut O,
     domains: &Domains,
     pair: Pair,
@@ -71,7 +72,7 @@ pub(crate) fn ask_of<O: Oracle>(
 // Holds the tally of a pair of outputs.
 fn ask_alone<O: Oracle>(
     alloc: Global,
-    graphs: &Graphs<'_>,
+    graphs: &PairableGraphs<'_>,
     oracle: &mut O,
     pair: Pair,
     seen: &mut Seen,
@@ -91,7 +92,7 @@ fn ask_alone<O: Oracle>(
 // Holds the mismatches of a pair and those of the other kind that aren't deleted.
 fn ask_beside<O: Oracle>(
     alloc: Global,
-    graphs: &Graphs<'_>,
+    graphs: &PairableGraphs<'_>,
     oracle: &mut O,
     domains: &Domains,
     pair: Pair,
@@ -128,7 +129,7 @@ fn other_kind(kind: PortKind) -> PortKind {
 // Holds the mismatches of a pair and the ways of a port of the first circuit.
 fn ask_port<O: Oracle>(
     alloc: Global,
-    graphs: &Graphs<'_>,
+    graphs: &PairableGraphs<'_>,
     oracle: &mut O,
     domains: &Domains,
     pair: Pair,
@@ -156,7 +157,7 @@ fn ask_port<O: Oracle>(
 // Holds a mismatch of a pair and another one that isn't deleted.
 fn ask_way<O: Oracle>(
     alloc: Global,
-    graphs: &Graphs<'_>,
+    graphs: &PairableGraphs<'_>,
     oracle: &mut O,
     domains: &Domains,
     pair: Pair,

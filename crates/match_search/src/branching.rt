@@ -3,7 +3,6 @@
 ghost use Rattle.std.specs.Prelude.{◌<◌, ◌≤◌, List, IfNone, IfOk, IfSome, OnOk};
 ghost use Rattle.account_core.specs.declared.step.Ban.{Ban as AnyBan};
 ghost use Rattle.oracle_core.specs.Oracles.{Serves};
-ghost use Rattle.account_core.specs.Ports.{HaveAsMany};
 ghost use Rattle.fact_bans.specs.Serving.{HoldsBans, MayHold};
 ghost use Rattle.match_search.specs.Founds.{IsFound};
 ghost use Rattle.port_covers.specs.Held.{IsWhole};
@@ -22,10 +21,9 @@ use ban_book::BanBook;
 use circuits::PortKind;
 use class_refine::Domains;
 use cnf_core::Stop;
-use net_core::Graphs;
 use oracle_core::Oracle;
 use pair_search::{Impasse, Queue, branch, turn_back};
-use port_covers::cover::ports_in;
+use port_sides::PairableGraphs;
 use query_core::Ledger;
 use std::alloc::{AllocError, Global};
 use watch_core::Stage;
@@ -39,14 +37,13 @@ use watch_core::Stage;
 /// `Spent` where a line had to be learned and the ledger's budget was spent. `Memory` when out of memory.
 pub(crate) fn explore<O: Oracle>(
     alloc: Global,
-    graphs: &Graphs<'_>,
+    graphs: &PairableGraphs<'_>,
     oracle: &mut O,
     guide: &mut Guide,
     book: &mut BanBook,
     ledger: &mut Ledger,
 ) -> Result<Found, Stop>
     requires may { MayHold graphs.now (O.known oracle.old) ledger.old book.old }
-    requires ports { HaveAsMany graphs.now.first graphs.now.second }
     requires trials { AreTrials graphs.now.first guide.old.trials }
     ensures serves { Serves (O.known oracle.old) (O.known oracle.new) ledger.old ledger.new result }
     ensures valid { AreValid graphs.now (O.known oracle.new) book.new }
@@ -75,22 +72,21 @@ pub(crate) fn explore<O: Oracle>(
 }
 
 // All pairs of two circuits are open.
-fn open_domains(alloc: Global, graphs: &Graphs<'_>) -> Result<Domains, AllocError>
-    requires ports { HaveAsMany graphs.now.first graphs.now.second }
+fn open_domains(alloc: Global, graphs: &PairableGraphs<'_>) -> Result<Domains, AllocError>
     ensures { IfOk result (λ domains. (bans : List AnyBan) → IsTrail graphs.now bans domains) }
 {
-    let first = graphs.first();
+    let _ports = graphs.graphs();
     Domains::new(
         alloc,
-        ports_in(first, PortKind::Input),
-        ports_in(first, PortKind::Output),
+        graphs.ports(PortKind::Input),
+        graphs.ports(PortKind::Output),
     )
 }
 
 // One step ahead, and back from an impasse. It answers None where less is left than before.
 fn turn<O: Oracle>(
     alloc: Global,
-    graphs: &Graphs<'_>,
+    graphs: &PairableGraphs<'_>,
     oracle: &mut O,
     guide: &mut Guide,
     domains: &mut Domains,
@@ -115,7 +111,9 @@ fn turn<O: Oracle>(
         Ahead::Match(matching, logs) => return Ok(Some(Found::Match(matching, logs))),
         Ahead::Impasse(impasse) => impasse,
     };
+    let before = book.bans().len();
     let refusal = turn_back(alloc, graphs, domains, queue, impasse, book)?;
+    guide.learn(book.bans(), before);
     guide.forget(domains.pairs().len());
     match refusal {
         None => Ok(None),
@@ -126,7 +124,7 @@ fn turn<O: Oracle>(
 // One step ahead: what follows is held and deleted, then the next port is decided.
 fn ahead<O: Oracle>(
     alloc: Global,
-    graphs: &Graphs<'_>,
+    graphs: &PairableGraphs<'_>,
     oracle: &mut O,
     guide: &mut Guide,
     domains: &mut Domains,
@@ -151,7 +149,7 @@ fn ahead<O: Oracle>(
 // Decides the next port, and where no port is left compares the outputs.
 fn go_on<O: Oracle>(
     alloc: Global,
-    graphs: &Graphs<'_>,
+    graphs: &PairableGraphs<'_>,
     oracle: &mut O,
     guide: &mut Guide,
     domains: &mut Domains,
@@ -166,7 +164,7 @@ fn go_on<O: Oracle>(
     ensures trail { OnOk result (IsTrail graphs.now book.new domains.new) }
     ensures ahead { IfOk result (IsAhead graphs.now book.new domains.old domains.new) }
 {
-    let Some(port) = next_port(alloc, graphs, &guide.reads, domains)? else {
+    let Some(port) = next_port(alloc, graphs, &guide.reads, &guide.weights, domains)? else {
         return compare_held(alloc, graphs, oracle, guide, domains, book, ledger);
     };
     match branch(domains, book.bans(), port)? {
@@ -178,7 +176,7 @@ fn go_on<O: Oracle>(
 // Compares the outputs under the pairs that are held, one of each port.
 fn compare_held<O: Oracle>(
     alloc: Global,
-    graphs: &Graphs<'_>,
+    graphs: &PairableGraphs<'_>,
     oracle: &mut O,
     guide: &mut Guide,
     domains: &Domains,

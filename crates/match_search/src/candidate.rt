@@ -3,7 +3,6 @@
 ghost use Rattle.std.specs.Prelude.{◌≡◌, ◌<◌, [], IfNone, IfOk, IfSome, OnOk, length};
 ghost use Rattle.account_core.specs.Facts.{AreFacts};
 ghost use Rattle.oracle_core.specs.Oracles.{IsDifference, Serves, Suits};
-ghost use Rattle.account_core.specs.Ports.{HaveAsMany};
 ghost use Rattle.circuits.specs.Matches.{HavePorts};
 ghost use Rattle.account_core.specs.Shown.{AreLogs};
 ghost use Rattle.match_search.specs.Founds.{IsComparison};
@@ -20,8 +19,9 @@ use bit_list::Bits;
 use circuits::Pair;
 use cnf_core::{Log, Stop};
 use items::Items;
-use net_core::{Graphs, Matching};
+use net_core::Matching;
 use oracle_core::{Compared, Oracle};
+use port_sides::PairableGraphs;
 use query_core::Ledger;
 use std::alloc::Global;
 use table_guess::Trials;
@@ -38,7 +38,7 @@ pub(crate) struct Difference {
 /// so, and keeps the vector.
 pub(crate) fn compare_whole<O: Oracle>(
     alloc: Global,
-    graphs: &Graphs<'_>,
+    graphs: &PairableGraphs<'_>,
     oracle: &mut O,
     trials: &mut Trials,
     held: &[Pair],
@@ -46,7 +46,6 @@ pub(crate) fn compare_whole<O: Oracle>(
     ledger: &mut Ledger,
 ) -> Result<Settled, Stop>
     requires may { MayHold graphs.now (O.known oracle.old) ledger.old book.old }
-    requires ports { HaveAsMany graphs.now.first graphs.now.second }
     requires held { AreHeld graphs.now held.now }
     requires whole { IsWhole graphs.now held.now }
     requires trials { AreTrials graphs.now.first trials.old }
@@ -71,7 +70,7 @@ pub(crate) fn compare_whole<O: Oracle>(
 /// Compares the outputs in order, until one differs. The logs of those that agree come after those given.
 pub(crate) fn compare_all<O: Oracle>(
     alloc: Global,
-    graphs: &Graphs<'_>,
+    graphs: &PairableGraphs<'_>,
     oracle: &mut O,
     matching: &Matching,
     ledger: &mut Ledger,

@@ -3,7 +3,6 @@
 ghost use Rattle.std.specs.Prelude.{◌≡◌, [], IfOk, map};
 ghost use Rattle.account_core.specs.Given.{decided_by};
 ghost use Rattle.oracle_core.specs.Oracles.{Serves, Suits};
-ghost use Rattle.account_core.specs.Ports.{HaveAsMany};
 ghost use Rattle.account_core.specs.Steps.{AreValidBans};
 ghost use Rattle.match_search.specs.Founds.{IsFound};
 
@@ -12,8 +11,8 @@ use crate::guessed::compare_guesses;
 use crate::searching::search;
 use ban_book::BanBook;
 use cnf_core::Stop;
-use net_core::Graphs;
 use oracle_core::Oracle;
+use port_sides::PairableGraphs;
 use query_core::Ledger;
 use std::alloc::Global;
 
@@ -27,14 +26,13 @@ use std::alloc::Global;
 /// `Spent` where a line had to be learned and the ledger's budget was spent. `Memory` when out of memory.
 pub fn decide<O: Oracle>(
     alloc: Global,
-    graphs: &Graphs<'_>,
+    graphs: &PairableGraphs<'_>,
     oracle: &mut O,
     book: &mut BanBook,
     seed: u64,
     ledger: &mut Ledger,
 ) -> Result<Found, Stop>
     requires graphs { graphs.now ≡ (O.known oracle.old).graphs }
-    requires ports { HaveAsMany graphs.now.first graphs.now.second }
     requires book { book.old ≡ [] }
     requires suits { Suits (O.known oracle.old) ledger.old }
     ensures serves { Serves (O.known oracle.old) (O.known oracle.new) ledger.old ledger.new result }

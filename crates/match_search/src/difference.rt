@@ -20,7 +20,8 @@ use ban_book::BanBook;
 use bit_list::Bits;
 use circuits::{Pair, PortKind};
 use items::{Few, Items};
-use net_core::{Graph, Graphs, Matching};
+use net_core::{Graph, Matching};
+use port_sides::PairableGraphs;
 use std::alloc::{AllocError, Global};
 use word_sim::{Tri, tri_eval};
 
@@ -29,7 +30,7 @@ use word_sim::{Tri, tri_eval};
 /// matching sends it to, and answers its number. The pairs of inputs that the difference doesn't need are left out.
 pub(crate) fn exclude(
     alloc: Global,
-    graphs: &Graphs<'_>,
+    graphs: &PairableGraphs<'_>,
     matching: &Matching,
     output: u32,
     vector: &Bits,
@@ -109,7 +110,7 @@ fn inputs_and(alloc: Global, matching: &Matching, pair: Pair) -> Result<Vec<Pair
 /// Leaves out each input's pair without which the values show the difference too.
 pub(crate) fn leave_out(
     alloc: Global,
-    graphs: &Graphs<'_>,
+    graphs: &PairableGraphs<'_>,
     whole: Vec<Pair>,
     pair: Pair,
     values: &[Tri],
@@ -128,10 +129,71 @@ pub(crate) fn leave_out(
     Ok(pairs)
 }
 
+/// Leaves out each input's pair without which the values show the difference too, first those that were held last: what a ban has
+/// of the earlier ones leads further back.
+pub(crate) fn leave_out_latest(
+    alloc: Global,
+    graphs: &PairableGraphs<'_>,
+    held: &[Pair],
+    whole: Vec<Pair>,
+    pair: Pair,
+    values: &[Tri],
+) -> Result<Vec<Pair>, AllocError>
+    requires known { IsKnown graphs.now pair }
+    requires shown { IsShown graphs.now whole.items pair values.now whole.items }
+    ensures { IfOk result (λ pairs. IsShown graphs.now whole.items pair values.now pairs.items) }
+{
+    let first = output_value(alloc, graphs.first(), values, pair.from)?;
+    let mut pairs = whole;
+    let mut left = held.len();
+    while left > 0 {
+        left -= 1;
+        pairs = without_one(alloc, graphs, pairs, held[left], pair, values, first)?;
+    }
+    Ok(pairs)
+}
+
+// The pairs, without one of them where the difference doesn't need it.
+fn without_one(
+    alloc: Global,
+    graphs: &PairableGraphs<'_>,
+    pairs: Vec<Pair>,
+    other: Pair,
+    pair: Pair,
+    values: &[Tri],
+    first: Tri,
+) -> Result<Vec<Pair>, AllocError>
+    requires ordered { AreOrdered pairs.items }
+    requires known { All (IsKnown graphs.now) pairs.items }
+    requires output { pair.to < length graphs.now.second.outputs }
+    requires values { length values.now ≡ graphs.now.first.inputs }
+    requires first { first ≡ first_value graphs.now values.now pair.from }
+    ensures { (whole : List AnyPair) → IsShown graphs.now whole pair values.now pairs.items
+        → IfOk result (λ fewer. IsShown graphs.now whole pair values.now fewer.items) }
+{
+    let Some(place) = place_of(&pairs, other) else {
+        return Ok(pairs);
+    };
+    let fewer = without_needless(alloc, graphs, pairs, place, pair, values, first)?;
+    Ok(fewer)
+}
+
+// Where a pair stands among some.
+fn place_of(pairs: &[Pair], pair: Pair) -> Option<usize>
+    ensures { IfSome result (λ place. place < length pairs.now) }
+{
+    for (place, other) in pairs.iter().enumerate() {
+        if *other == pair {
+            return Some(place);
+        }
+    }
+    None
+}
+
 // The pairs, without that at a place where the difference doesn't need it.
 fn without_needless(
     alloc: Global,
-    graphs: &Graphs<'_>,
+    graphs: &PairableGraphs<'_>,
     pairs: Vec<Pair>,
     place: usize,
     pair: Pair,
@@ -157,7 +219,7 @@ fn without_needless(
 // The pairs without that at a place, where it is of an input and the values show the difference without it.
 fn without(
     alloc: Global,
-    graphs: &Graphs<'_>,
+    graphs: &PairableGraphs<'_>,
     pairs: &[Pair],
     place: usize,
     pair: Pair,
@@ -196,7 +258,7 @@ fn removed(alloc: Global, pairs: &[Pair], place: usize) -> Result<Vec<Pair>, All
 /// Whether the values make the partner of an output definite and wrong, whatever the inputs have that aren't paired.
 pub(crate) fn is_wrong(
     alloc: Global,
-    graphs: &Graphs<'_>,
+    graphs: &PairableGraphs<'_>,
     pairs: &[Pair],
     pair: Pair,
     values: &[Tri],

@@ -10,8 +10,8 @@ use ban_book::BanBook;
 use circuits::{Pair, PortKind};
 use cnf_core::Stop;
 use fact_bans::{Seen, swap_mismatch};
-use net_core::Graphs;
 use oracle_core::Oracle;
+use port_sides::PairableGraphs;
 use query_core::Ledger;
 use std::alloc::Global;
 
@@ -19,7 +19,7 @@ use std::alloc::Global;
 /// shown.
 pub(crate) fn exclude_by_swaps<O: Oracle>(
     alloc: Global,
-    graphs: &Graphs<'_>,
+    graphs: &PairableGraphs<'_>,
     oracle: &mut O,
     held: &[Pair],
     newest: Pair,
@@ -46,7 +46,7 @@ pub(crate) fn exclude_by_swaps<O: Oracle>(
 // Holds a ban of the newest pair, an input's, and a third one.
 fn exclude_with<O: Oracle>(
     alloc: Global,
-    graphs: &Graphs<'_>,
+    graphs: &PairableGraphs<'_>,
     oracle: &mut O,
     held: &[Pair],
     newest: Pair,
@@ -78,7 +78,7 @@ fn exclude_with<O: Oracle>(
 // Holds a ban of three pairs, where the third is an output's and the others are inputs', or the first is an output's.
 fn exclude_three<O: Oracle>(
     alloc: Global,
-    graphs: &Graphs<'_>,
+    graphs: &PairableGraphs<'_>,
     oracle: &mut O,
     one: Pair,
     other: Pair,

@@ -1,50 +1,59 @@
-//! The port that has the fewest ways left.
+//! The port that has the fewest ways left for its weight.
 
 ghost use Rattle.std.specs.Prelude.{◌<◌};
 ghost use Rattle.class_refine.specs.Trails.{ports_of};
 
 use crate::reads::Reads;
+use crate::weights::Weights;
 use circuits::{Pair, PortKind};
 use class_refine::Domains;
 use conflict_core::Port;
 use items::Items;
 use net_core::Side;
-use port_covers::side::port_on;
+use port_sides::port_on;
 use std::alloc::{AllocError, Global};
 
-// A port, and how many ways it has left.
+/// An output counts as if it had so many times its ways. Once inputs have pairs, the partners of outputs that read them are known, so
+/// inputs come first where no conflict says otherwise: with the same count for both, of 11 near misses three weren't refused in 3
+/// seconds that took under one, and with ten times two others weren't.
+const OUTPUT_FACTOR: u64 = 4;
+
+// A port, how many ways it has left, as they count, and its weight.
 #[derive(Clone, Copy, Debug)]
 struct Candidate {
     port: Port,
-    ways: usize,
+    ways: u64,
+    weight: u64,
 }
 
-/// Of the ports that are in no pair the one of either circuit that has the fewest ways left. Inputs that an output in a pair
-/// reads come before outputs, since its partner is known once they have pairs: with outputs that have fewer ways first, searches
-/// took up to 25 times as long (an 8-bit ALU), and none took more than twice as long without. Other inputs aren't looked at.
+/// Of the ports that are in no pair the one of either circuit that has the fewest ways left for its weight: ports of the last
+/// conflicts are decided first, so that these come again sooner and lead to bans of few pairs. Of the inputs those alone are looked at
+/// that an output in a pair reads.
 pub(crate) fn fewest_ways(
     alloc: Global,
     reads: &Reads,
+    weights: &Weights,
     domains: &Domains,
 ) -> Result<Option<Port>, AllocError> {
-    let first = fewest_read(alloc, &reads.first, domains, Side::First)?;
-    let second = fewest_read(alloc, &reads.second, domains, Side::Second)?;
-    match fewer(first, second) {
+    let first = fewest_read(alloc, &reads.first, weights, domains, Side::First)?;
+    let second = fewest_read(alloc, &reads.second, weights, domains, Side::Second)?;
+    let input = fewer(first, second);
+    match fewer(input, fewest_of_outputs(weights, domains)) {
         Some(candidate) => Ok(Some(candidate.port)),
-        None => Ok(fewest_of_outputs(domains)),
+        None => Ok(None),
     }
 }
 
-fn fewest_of_outputs(domains: &Domains) -> Option<Port> {
-    let first = fewest_outputs(domains, Side::First);
-    let best = fewer(first, fewest_outputs(domains, Side::Second))?;
-    Some(best.port)
+fn fewest_of_outputs(weights: &Weights, domains: &Domains) -> Option<Candidate> {
+    let first = fewest_outputs(weights, domains, Side::First);
+    fewer(first, fewest_outputs(weights, domains, Side::Second))
 }
 
 // That of the inputs of a circuit that outputs in pairs read.
 fn fewest_read(
     alloc: Global,
     reads: &[Items<u32>],
+    weights: &Weights,
     domains: &Domains,
     side: Side,
 ) -> Result<Option<Candidate>, AllocError> {
@@ -52,7 +61,7 @@ fn fewest_read(
     for pair in domains.pairs().iter() {
         mark_read(reads, *pair, side, &mut read);
     }
-    Ok(fewest_inputs(domains, side, &read))
+    Ok(fewest_inputs(weights, domains, side, &read))
 }
 
 // Marks the inputs that an output in a pair reads.
@@ -73,26 +82,43 @@ fn mark_all(inputs: &[u32], read: &mut [bool]) {
     }
 }
 
-fn fewest_outputs(domains: &Domains, side: Side) -> Option<Candidate> {
+fn fewest_outputs(weights: &Weights, domains: &Domains, side: Side) -> Option<Candidate> {
     let mut best = None;
     for number in 0..domains.ports(PortKind::Output) {
-        best = fewer(best, candidate_at(domains, side, PortKind::Output, number));
+        best = fewer(
+            best,
+            candidate_at(weights, domains, side, PortKind::Output, number),
+        );
     }
     best
 }
 
-fn fewest_inputs(domains: &Domains, side: Side, read: &[bool]) -> Option<Candidate> {
+fn fewest_inputs(
+    weights: &Weights,
+    domains: &Domains,
+    side: Side,
+    read: &[bool],
+) -> Option<Candidate> {
     let mut best = None;
     for number in 0..domains.ports(PortKind::Input) {
         if let Some(true) = read.get(number as usize) {
-            best = fewer(best, candidate_at(domains, side, PortKind::Input, number));
+            best = fewer(
+                best,
+                candidate_at(weights, domains, side, PortKind::Input, number),
+            );
         }
     }
     best
 }
 
 // A port with its ways, if it is in no pair.
-fn candidate_at(domains: &Domains, side: Side, kind: PortKind, number: u32) -> Option<Candidate>
+fn candidate_at(
+    weights: &Weights,
+    domains: &Domains,
+    side: Side,
+    kind: PortKind,
+    number: u32,
+) -> Option<Candidate>
     requires { number < ports_of domains.now.inputs domains.now.outputs kind }
 {
     if let Some(_) = domains.held(side, kind, number) {
@@ -100,13 +126,23 @@ fn candidate_at(domains: &Domains, side: Side, kind: PortKind, number: u32) -> O
     }
     let ways = (domains.ports(kind) as usize).saturating_mul(2);
     let gone = domains.gone(side, kind, number);
+    let left = ways.saturating_sub(gone) as u64;
+    let port = Port { side, kind, number };
     Some(Candidate {
-        port: Port { side, kind, number },
-        ways: ways.saturating_sub(gone),
+        port,
+        ways: left.saturating_mul(factor(kind)),
+        weight: weights.of(port),
     })
 }
 
-// That of two candidates which has fewer ways.
+fn factor(kind: PortKind) -> u64 {
+    match kind {
+        PortKind::Input => 1,
+        PortKind::Output => OUTPUT_FACTOR,
+    }
+}
+
+// That of two candidates which has fewer ways for its weight.
 fn fewer(one: Option<Candidate>, other: Option<Candidate>) -> Option<Candidate> {
     let Some(first) = one else {
         return other;
@@ -114,5 +150,9 @@ fn fewer(one: Option<Candidate>, other: Option<Candidate>) -> Option<Candidate> 
     let Some(second) = other else {
         return one;
     };
-    if second.ways < first.ways { other } else { one }
+    if second.ways.saturating_mul(first.weight) < first.ways.saturating_mul(second.weight) {
+        other
+    } else {
+        one
+    }
 }

@@ -15,9 +15,9 @@ use ban_book::BanBook;
 use circuits::PortKind;
 use class_refine::Domains;
 use cnf_core::Stop;
-use net_core::Graphs;
 use oracle_core::Oracle;
 use pair_search::{Impasse, Queue, propagate};
+use port_sides::PairableGraphs;
 use query_core::Ledger;
 use std::alloc::{AllocError, Global};
 use table_guess::Trials;
@@ -25,7 +25,7 @@ use table_guess::Trials;
 /// Holds and deletes what follows, and tries the pairs that are held on vectors.
 pub(crate) fn follow<O: Oracle>(
     alloc: Global,
-    graphs: &Graphs<'_>,
+    graphs: &PairableGraphs<'_>,
     oracle: &mut O,
     guide: &mut Guide,
     domains: &mut Domains,
@@ -53,7 +53,7 @@ pub(crate) fn follow<O: Oracle>(
 // Holds and deletes what follows of bans and of claims, those of one input first, which are fewer and whose bans are shorter.
 fn settle_all<O: Oracle>(
     alloc: Global,
-    graphs: &Graphs<'_>,
+    graphs: &PairableGraphs<'_>,
     oracle: &mut O,
     guide: &mut Guide,
     domains: &mut Domains,
@@ -81,7 +81,7 @@ fn settle_all<O: Oracle>(
 // Holds each held pair that wasn't yet against claims of two inputs, beside all others.
 fn exchange_held<O: Oracle>(
     alloc: Global,
-    graphs: &Graphs<'_>,
+    graphs: &PairableGraphs<'_>,
     oracle: &mut O,
     guide: &mut Guide,
     domains: &Domains,
@@ -115,7 +115,7 @@ fn exchange_held<O: Oracle>(
 // In each turn but the last one it is one more.
 fn settle<O: Oracle>(
     alloc: Global,
-    graphs: &Graphs<'_>,
+    graphs: &PairableGraphs<'_>,
     oracle: &mut O,
     guide: &mut Guide,
     domains: &mut Domains,
@@ -150,7 +150,7 @@ fn settle<O: Oracle>(
 // Holds the bans that decided claims show of the next output, or else of the next held pair. Answers whether there is one.
 fn ask_next<O: Oracle>(
     alloc: Global,
-    graphs: &Graphs<'_>,
+    graphs: &PairableGraphs<'_>,
     oracle: &mut O,
     guide: &mut Guide,
     domains: &Domains,
@@ -172,7 +172,7 @@ fn ask_next<O: Oracle>(
 // Holds the tallies of the next output that none were held of. Answers whether there is one.
 fn ask_next_output<O: Oracle>(
     alloc: Global,
-    graphs: &Graphs<'_>,
+    graphs: &PairableGraphs<'_>,
     oracle: &mut O,
     guide: &mut Guide,
     domains: &Domains,
@@ -195,7 +195,7 @@ fn ask_next_output<O: Oracle>(
 // Holds the bans that decided claims show of the next held pair that wasn't held against any. Answers whether there is one.
 fn ask_next_pair<O: Oracle>(
     alloc: Global,
-    graphs: &Graphs<'_>,
+    graphs: &PairableGraphs<'_>,
     oracle: &mut O,
     guide: &mut Guide,
     domains: &Domains,
@@ -222,7 +222,7 @@ fn ask_next_pair<O: Oracle>(
 // Tries the pairs that are held on vectors.
 fn foresee_held(
     alloc: Global,
-    graphs: &Graphs<'_>,
+    graphs: &PairableGraphs<'_>,
     trials: &Trials,
     domains: &Domains,
     book: &mut BanBook,

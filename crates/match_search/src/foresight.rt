@@ -9,13 +9,13 @@ ghost use Rattle.port_covers.specs.Held.{AreApart, AreHeld, IsPart};
 ghost use Rattle.port_covers.specs.Levels.{HoldsMore};
 ghost use Rattle.table_guess.specs.Trials.{AreTrials, IsSuspect};
 
-use crate::difference::{definite, is_wrong, leave_out, output_value};
+use crate::difference::{definite, is_wrong, leave_out_latest, output_value};
 use account_core::{Ban, Step};
 use ban_book::BanBook;
 use circuits::{Pair, PortKind};
 use items::{Few, Items};
-use net_core::Graphs;
 use port_covers::cover::add_one;
+use port_sides::PairableGraphs;
 use std::alloc::{AllocError, Global};
 use table_guess::{Suspect, Trials};
 use word_sim::Tri;
@@ -25,7 +25,7 @@ use word_sim::Tri;
 /// aren't paired: holds a ban that says so, and answers its number.
 pub(crate) fn foresee(
     alloc: Global,
-    graphs: &Graphs<'_>,
+    graphs: &PairableGraphs<'_>,
     held: &[Pair],
     trials: &Trials,
     book: &mut BanBook,
@@ -46,7 +46,7 @@ pub(crate) fn foresee(
 // this doesn't need are left out.
 fn exclude_suspect(
     alloc: Global,
-    graphs: &Graphs<'_>,
+    graphs: &PairableGraphs<'_>,
     held: &[Pair],
     suspect: &Suspect,
     book: &mut BanBook,
@@ -64,7 +64,7 @@ fn exclude_suspect(
     if !is_wrong(alloc, graphs, &pairs, pair, &values, first)? {
         return Ok(None);
     }
-    let pairs = leave_out(alloc, graphs, pairs, pair, &values)?;
+    let pairs = leave_out_latest(alloc, graphs, held, pairs, pair, &values)?;
     let ban = vector_ban(alloc, &pairs, pair.from, values)?;
     let number = book.hold(ban)?;
     Ok(Some(number))

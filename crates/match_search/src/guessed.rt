@@ -3,15 +3,15 @@
 ghost use Rattle.std.specs.Prelude.{◌≡◌, IfOk, IfSome};
 ghost use Rattle.account_core.specs.Facts.{AreFacts};
 ghost use Rattle.oracle_core.specs.Oracles.{Serves, Suits};
-ghost use Rattle.account_core.specs.Ports.{HaveAsMany};
 ghost use Rattle.account_core.specs.Shown.{IsShownMatch};
 ghost use Rattle.match_search.specs.Founds.{IsGuessed};
 
 use crate::candidate::compare_all;
 use cnf_core::{Log, Stop};
 use items::Items;
-use net_core::{Graphs, Matching};
+use net_core::Matching;
 use oracle_core::Oracle;
+use port_sides::PairableGraphs;
 use query_core::Ledger;
 use std::alloc::Global;
 use table_guess::Guesser;
@@ -35,14 +35,13 @@ pub(crate) enum Guessed {
 /// nothing of whether there is a match. Another seed draws other vectors.
 pub(crate) fn compare_guesses<O: Oracle>(
     alloc: Global,
-    graphs: &Graphs<'_>,
+    graphs: &PairableGraphs<'_>,
     oracle: &mut O,
     seed: u64,
     ledger: &mut Ledger,
 ) -> Result<Option<(Matching, Items<Log>)>, Stop>
     requires graphs { graphs.now ≡ (O.known oracle.old).graphs }
     requires lawful { AreFacts graphs.now (O.known oracle.old).facts }
-    requires ports { HaveAsMany graphs.now.first graphs.now.second }
     requires suits { Suits (O.known oracle.old) ledger.old }
     ensures serves { Serves (O.known oracle.old) (O.known oracle.new) ledger.old ledger.new result }
     ensures shown { IfOk result (λ found. IfSome found (λ shown. IsShownMatch graphs.now shown.0 shown.1)) }
@@ -54,14 +53,13 @@ pub(crate) fn compare_guesses<O: Oracle>(
 // Compares what a guesser finds.
 fn compare_by<O: Oracle>(
     alloc: Global,
-    graphs: &Graphs<'_>,
+    graphs: &PairableGraphs<'_>,
     oracle: &mut O,
     guesser: &mut Guesser<'_>,
     ledger: &mut Ledger,
 ) -> Result<Option<(Matching, Items<Log>)>, Stop>
     requires graphs { graphs.now ≡ (O.known oracle.old).graphs }
     requires lawful { AreFacts graphs.now (O.known oracle.old).facts }
-    requires ports { HaveAsMany graphs.now.first graphs.now.second }
     requires suits { Suits (O.known oracle.old) ledger.old }
     ensures serves { Serves (O.known oracle.old) (O.known oracle.new) ledger.old ledger.new result }
     ensures shown { IfOk result (λ found. IfSome found (λ shown. IsShownMatch graphs.now shown.0 shown.1)) }
@@ -81,14 +79,13 @@ fn compare_by<O: Oracle>(
 // agrees on it.
 fn compare_guess<O: Oracle>(
     alloc: Global,
-    graphs: &Graphs<'_>,
+    graphs: &PairableGraphs<'_>,
     oracle: &mut O,
     guesser: &mut Guesser<'_>,
     ledger: &mut Ledger,
 ) -> Result<Guessed, Stop>
     requires graphs { graphs.now ≡ (O.known oracle.old).graphs }
     requires lawful { AreFacts graphs.now (O.known oracle.old).facts }
-    requires ports { HaveAsMany graphs.now.first graphs.now.second }
     requires suits { Suits (O.known oracle.old) ledger.old }
     ensures serves { Serves (O.known oracle.old) (O.known oracle.new) ledger.old ledger.new result }
     ensures guessed { IfOk result (IsGuessed graphs.now) }

@@ -4,8 +4,10 @@ ghost use Rattle.std.specs.Prelude.{◌≡◌, ◌<◌, IfOk, IfSome};
 ghost use Rattle.table_guess.specs.Trials.{AreTrials};
 
 use crate::reads::{Reads, by_count};
+use crate::weights::Weights;
+use account_core::Ban;
 use fact_bans::Seen;
-use net_core::Graphs;
+use port_sides::PairableGraphs;
 use std::alloc::{AllocError, Global};
 use table_guess::Trials;
 
@@ -20,6 +22,7 @@ pub(crate) struct Guide {
     pub(crate) trials: Trials,
     pub(crate) seen: Seen,
     pub(crate) reads: Reads,
+    pub(crate) weights: Weights,
     /// The outputs of the first circuit whose tallies are held at first, in that order, and how many have been.
     order: Vec<u32>,
     tallied: usize,
@@ -30,17 +33,24 @@ pub(crate) struct Guide {
 
 impl Guide {
     /// What a search begins with. Another seed draws other vectors.
-    pub(crate) fn new(alloc: Global, graphs: &Graphs<'_>, seed: u64) -> Result<Guide, AllocError>
+    pub(crate) fn new(
+        alloc: Global,
+        graphs: &PairableGraphs<'_>,
+        seed: u64,
+    ) -> Result<Guide, AllocError>
         ensures { IfOk result (λ guide. AreTrials graphs.now.first guide.trials) }
     {
         let trials = Trials::new(alloc, graphs.first(), seed)?;
         let seen = Seen::new(alloc, graphs, seed)?;
         let reads = Reads::new(alloc, graphs)?;
+        let first = graphs.first();
+        let weights = Weights::new(alloc, first.inputs(), first.outputs().len() as u32)?;
         let order = order_of(alloc, &reads, graphs)?;
         Ok(Guide {
             trials,
             seen,
             reads,
+            weights,
             order,
             tallied: 0,
             asked: 0,
@@ -56,6 +66,15 @@ impl Guide {
         self.exchanged = self.exchanged.min(held);
     }
 
+    /// Notes the bans that a conflict came to, those from a place on, the last of which was learned.
+    pub(crate) fn learn(&mut self, bans: &[Ban], from: usize)
+        ensures { self.new.trials ≡ self.old.trials }
+    {
+        if from < bans.len() {
+            self.weights.count(&bans[from..]);
+        }
+    }
+
     /// The next output of the first circuit whose tallies are to be held, one of n outputs.
     pub(crate) fn next_output(&mut self, outputs: u32) -> Option<u32>
         ensures trials { self.new.trials ≡ self.old.trials }
@@ -68,7 +87,11 @@ impl Guide {
 }
 
 // The outputs of the first circuit, those first that read the fewest inputs, whose claims are cheap; none where there are too many.
-fn order_of(alloc: Global, reads: &Reads, graphs: &Graphs<'_>) -> Result<Vec<u32>, AllocError> {
+fn order_of(
+    alloc: Global,
+    reads: &Reads,
+    graphs: &PairableGraphs<'_>,
+) -> Result<Vec<u32>, AllocError> {
     let first = graphs.first();
     let inputs = first.inputs();
     let outputs = first.outputs().len() as u32;

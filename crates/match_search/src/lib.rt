@@ -18,6 +18,7 @@ mod next_port;
 mod reads;
 mod searching;
 mod table;
+mod weights;
 
 pub use deciding::decide;
 pub use found::Found;

@@ -8,18 +8,21 @@ ghost use Rattle.conflict_core.specs.Conflicts.{FitPorts};
 
 use crate::fewest::fewest_ways;
 use crate::reads::Reads;
+use crate::weights::Weights;
 use circuits::PortKind;
 use class_refine::Domains;
 use conflict_core::Port;
-use net_core::{Graphs, Side};
+use net_core::Side;
+use port_sides::PairableGraphs;
 use std::alloc::{AllocError, Global};
 
-/// The next port that is in no pair: the one of either circuit that has the fewest ways left, of the inputs that outputs in
+/// The next port that is in no pair: the one of either circuit that has the fewest ways left for its weight, of the inputs that outputs in
 /// pairs read, else of the outputs. It is None where each port is in a pair.
 pub(crate) fn next_port(
     alloc: Global,
-    graphs: &Graphs<'_>,
+    graphs: &PairableGraphs<'_>,
     reads: &Reads,
+    weights: &Weights,
     domains: &Domains,
 ) -> Result<Option<Port>, AllocError>
     requires fit { FitPorts graphs.now domains.now.inputs domains.now.outputs }
@@ -30,7 +33,7 @@ pub(crate) fn next_port(
     ensures none { IfOk result (λ next. IfNone next (IsWhole graphs.now (held_in domains.now.entries))) }
 {
     let _ = graphs;
-    if let Some(port) = fewest_ways(alloc, reads, domains)? {
+    if let Some(port) = fewest_ways(alloc, reads, weights, domains)? {
         if is_free(domains, port) {
             return Ok(Some(port));
         }

@@ -2,7 +2,6 @@
 
 ghost use Rattle.std.specs.Prelude.{◌≡◌, [], IfOk, map};
 ghost use Rattle.account_core.specs.Given.{decided_by};
-ghost use Rattle.account_core.specs.Ports.{HaveAsMany};
 ghost use Rattle.account_core.specs.Steps.{AreValidBans};
 ghost use Rattle.oracle_core.specs.Oracles.{Serves, Suits};
 ghost use Rattle.match_search.specs.Founds.{IsFound};
@@ -13,8 +12,8 @@ use crate::guide::Guide;
 use ban_book::BanBook;
 use cnf_core::Stop;
 use fact_bans::refuse;
-use net_core::Graphs;
 use oracle_core::Oracle;
+use port_sides::PairableGraphs;
 use query_core::Ledger;
 use std::alloc::Global;
 
@@ -30,14 +29,13 @@ use std::alloc::Global;
 /// `Spent` where a line had to be learned and the ledger's budget was spent. `Memory` when out of memory.
 pub fn search<O: Oracle>(
     alloc: Global,
-    graphs: &Graphs<'_>,
+    graphs: &PairableGraphs<'_>,
     oracle: &mut O,
     book: &mut BanBook,
     seed: u64,
     ledger: &mut Ledger,
 ) -> Result<Found, Stop>
     requires graphs { graphs.now ≡ (O.known oracle.old).graphs }
-    requires ports { HaveAsMany graphs.now.first graphs.now.second }
     requires book { book.old ≡ [] }
     requires suits { Suits (O.known oracle.old) ledger.old }
     ensures serves { Serves (O.known oracle.old) (O.known oracle.new) ledger.old ledger.new result }

@@ -1,7 +1,6 @@
 //! The table of pairs of all ports.
 
 ghost use Rattle.std.specs.Prelude.{◌≡◌, ◌<◌, All, AllPairs, IfOk, length};
-ghost use Rattle.account_core.specs.Ports.{HaveAsMany};
 ghost use Rattle.circuits.specs.declared.port.Pair.{Pair as AnyPair};
 ghost use Rattle.circuits.specs.Matches.{HavePorts};
 ghost use Rattle.query_core.specs.Images.{Extends};
@@ -9,25 +8,23 @@ ghost use Rattle.port_covers.specs.Held.{AreApart, AreHeld, IsEntryOf, IsWhole};
 
 use circuits::{Pair, PortKind};
 use items::Items;
-use net_core::{Graphs, Matching};
-use port_covers::cover::ports_in;
+use net_core::Matching;
+use port_sides::PairableGraphs;
 use std::alloc::{AllocError, Global};
 
 /// The matching that has each of the pairs, where each port is in one.
 pub(crate) fn table(
     alloc: Global,
-    graphs: &Graphs<'_>,
+    graphs: &PairableGraphs<'_>,
     held: &[Pair],
 ) -> Result<Matching, AllocError>
-    requires ports { HaveAsMany graphs.now.first graphs.now.second }
     requires held { AreHeld graphs.now held.now }
     requires whole { IsWhole graphs.now held.now }
     ensures ports { IfOk result (λ table. HavePorts graphs.now.first graphs.now.second table.inputs table.outputs) }
     ensures extends { IfOk result (λ table. Extends held.now table.inputs table.outputs) }
 {
-    let first = graphs.first();
-    let inputs = ports_in(first, PortKind::Input);
-    let outputs = ports_in(first, PortKind::Output);
+    let inputs = graphs.ports(PortKind::Input);
+    let outputs = graphs.ports(PortKind::Output);
     Ok(Matching {
         inputs: entries(alloc, held, PortKind::Input, inputs)?,
         outputs: entries(alloc, held, PortKind::Output, outputs)?,

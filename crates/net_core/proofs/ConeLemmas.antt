@@ -1,23 +1,29 @@
--- Sets of signals that are closed under operands, from the last gate to the first.
-use Rattle.std.proofs.Common.{◌≡◌, ◌⊎◌, ◌↔◌, ℕ, zero, suc, ◌+◌, ◌<◌, Bool, true, false, List, [], ◌∷◌, ◌++◌, length, drop, set, replicate, All, Contains, slice_index_or, inl, inr, refl, sym, ap, subst, ◌∙◌, arith}
-use Rattle.std.proofs.lemmas.Bool.{cases_lt, false≢true}
+-- The gates to which a signal leads are those that the search finds.
+use Rattle.std.proofs.Common.{◌≡◌, ◌⊎◌, ◌↔◌, ℕ, zero, suc, ◌+◌, ◌-◌, ◌<◌, ◌≤◌, ◌||◌, eqb, Bool, true, false, List, [], ◌∷◌, ◌++◌, length, set, replicate, All, AllPairs, Contains, slice_index_or, inl, inr, refl, sym, ap, subst, ◌∙◌, arith}
+use Rattle.std.specs.List.{IsDistinct, list_any}
+use Rattle.std.specs.List.Sorted.{IsPermutation, IsNonDecreasingBy, IsSorted}
+use Rattle.std.specs.Ordering.{nat_cmp}
+use Rattle.std.proofs.lemmas.Bool.{cases_lt, eq-eqb, false≢true}
 use Rattle.std.proofs.lemmas.Bool.Decides.{eqb_tells}
-use Rattle.std.proofs.lemmas.List.{length-set, length-replicate, length_push, get_or-set_same, get_or-set_other, get_or-replicate, get_or_default, get_or_append_left, get_or_push, get_or-drop}
-use Rattle.std.proofs.lemmas.List.Elements.{All-contains, Contains-append_left, Contains-push}
-use Rattle.std.proofs.lemmas.List.Quantifiers.{all_pairs_push}
+use Rattle.std.proofs.lemmas.Cmp.{nat_eq_equiv}
+use Rattle.std.proofs.lemmas.List.{length-append, length-set, length-replicate, get_or-set_same, get_or-set_other, get_or-replicate, get_or_default, get_or_append_left, get_or-append-add}
+use Rattle.std.proofs.lemmas.List.Elements.{All-contains, All-head, All-push, All-tail, Contains-append_left, Contains-push}
+use Rattle.std.proofs.lemmas.List.Sorted.{Contains-permutation, IsNonDecreasingBy-from_sort, IsPermutation-sym}
+use Rattle.std.proofs.lemmas.Map.Keys.{IsDistinct-push, IsDistinct-IsPermutation, apart_from_distinct}
+use Rattle.std.proofs.lemmas.Map.Steps.{length-le_from_distinct_below}
 use Rattle.circuits.specs.declared.netlist.Gate.{Gate}
 use Rattle.circuits.specs.Literals.{bit, signal_of}
 use Rattle.circuits.specs.Netlists.{Net}
 use Rattle.net_core.specs.Graph.{AreInOrder}
-use Rattle.net_core.specs.Cones.{AreMarked, IsPart, IsReached, ReachesGate, only, output_signal, with_both}
+use Rattle.net_core.specs.Cones.{AreFound, AreReachedFrom, HasOperands, IsFoundBy, IsMarked, IsSearched, Leads, ReachesGate, output_signal}
 
--- a signal of a set is one of its places
+-- a marked place is one of the list's
 pub within_bit : (marks : List Bool) (s : ℕ) → bit marks s ≡ true → s < length marks
 within_bit [] s is = absurd (false≢true is)
 within_bit (b ∷ marks) zero is = omega arith
 within_bit (b ∷ marks) (suc s) is = omega (arith, within_bit marks s is)
 
--- one signal more
+-- one mark more
 bit-added : (marks : List Bool) (i s : ℕ) → i < length marks → bit marks s ≡ true → bit (set marks i true) s ≡ true
 bit-added marks i s there is =
     elim (eqb_tells s i) [
@@ -32,178 +38,223 @@ bit-from_added marks i s is =
       | inr (found, apart) ↦ inr (sym (get_or-set_other marks i s true false apart) ∙ is)
     ]
 
-both-kept : (gate : Gate) (marks : List Bool) → signal_of gate.a < length marks → signal_of gate.b < length marks → IsPart marks (with_both gate marks)
-both-kept gate marks a b s is =
-    bit-added (set marks (signal_of gate.a) true) (signal_of gate.b) s (omega (arith, b, length-set marks (signal_of gate.a) true)) (bit-added marks (signal_of gate.a) s a is)
-
-both-first : (gate : Gate) (marks : List Bool) → signal_of gate.a < length marks → signal_of gate.b < length marks → bit (with_both gate marks) (signal_of gate.a) ≡ true
-both-first gate marks a b =
-    bit-added (set marks (signal_of gate.a) true) (signal_of gate.b) (signal_of gate.a) (omega (arith, b, length-set marks (signal_of gate.a) true)) (get_or-set_same marks (signal_of gate.a) true false a)
-
-both-second : (gate : Gate) (marks : List Bool) → signal_of gate.b < length marks → bit (with_both gate marks) (signal_of gate.b) ≡ true
-both-second gate marks b =
-    get_or-set_same (set marks (signal_of gate.a) true) (signal_of gate.b) true false (omega (arith, b, length-set marks (signal_of gate.a) true))
-
-both-cases : (gate : Gate) (marks : List Bool) (s : ℕ) → bit (with_both gate marks) s ≡ true → (s ≡ signal_of gate.b) ⊎ ((s ≡ signal_of gate.a) ⊎ (bit marks s ≡ true))
-both-cases gate marks s is =
-    elim (bit-from_added (set marks (signal_of gate.a) true) (signal_of gate.b) s is) [
-      | inl e ↦ inl e
-      | inr more ↦ inr (bit-from_added marks (signal_of gate.a) s more)
-    ]
-
-both-part : (gate : Gate) (marks other : List Bool) → IsPart marks other → bit other (signal_of gate.a) ≡ true → bit other (signal_of gate.b) ≡ true → IsPart (with_both gate marks) other
-both-part gate marks other part a b s is =
-    elim (both-cases gate marks s is) [
-      | inl e ↦ subst (λ n. bit other n ≡ true) (sym e) b
-      | inr (inl e) ↦ subst (λ n. bit other n ≡ true) (sym e) a
-      | inr (inr was) ↦ part s was
-    ]
-
-both-length : (gate : Gate) (marks : List Bool) → length (with_both gate marks) ≡ length marks
-both-length gate marks =
-    length-set (set marks (signal_of gate.a) true) (signal_of gate.b) true ∙ length-set marks (signal_of gate.a) true
-
--- at first no gate was looked at
-pub reached-start : (first : ℕ) (gates : List Gate) (start : List Bool) → IsReached first gates (length gates) start start
-reached-start first gates start = record {
-  signals = refl;
-  kept = λ s is. is;
-  closed = λ t d past below is. absurd (omega (arith, past, below));
-  least = λ other closed part. part;
-}
-
--- a gate that isn't in the set
-pub reached-skip : (first : ℕ) (gates : List Gate) (left : ℕ) (start marks : List Bool) → bit marks (first + left) ≡ false → IsReached first gates (left + 1) start marks → IsReached first gates left start marks
-reached-skip first gates left start marks out reached = record {
-  signals = reached.signals;
-  kept = reached.kept;
-  closed = λ t d past below is.
-      elim (cases_lt left t) [
-        | inl later ↦ reached.closed t d (omega (arith, later)) below is
-        | inr here ↦
-            let e : t ≡ left = omega (arith, past, here) in
-            absurd (false≢true (sym out ∙ (ap (λ n. bit marks (first + n)) (sym e) ∙ is)))
-      ];
-  least = reached.least;
-}
-
--- a gate that is in the set
-pub reached-more : (first : ℕ) (gates : List Gate) (left : ℕ) (start marks : List Bool) (gate : Gate) → AreInOrder first gates → length start ≡ first + length gates → left < length gates → gate ≡ slice_index_or gates left gate → bit marks (first + left) ≡ true → IsReached first gates (left + 1) start marks → IsReached first gates left start (with_both gate marks)
-reached-more first gates left start marks gate order size there is_gate in_set reached = record {
-  signals = both-length gate marks ∙ reached.signals;
-  kept = λ s is. both-kept gate marks a b s (reached.kept s is);
-  closed = λ t d past below is.
-      elim (cases_lt left t) [
-        | inl later ↦ elsewhere t d later below is
-        | inr here ↦
-            let e : t ≡ left = omega (arith, past, here) in
-            let same : slice_index_or gates t d ≡ gate = ap (λ n. slice_index_or gates n d) e ∙ (get_or_default gates left d gate there ∙ sym is_gate) in
-            (ap (λ (g : Gate). bit (with_both gate marks) (signal_of g.a)) same ∙ both-first gate marks a b, ap (λ (g : Gate). bit (with_both gate marks) (signal_of g.b)) same ∙ both-second gate marks b)
-      ];
-  least = λ other closed part.
-      let own = closed left gate there (reached.least other closed part (first + left) in_set) in
-      both-part gate marks other (reached.least other closed part) (ap (λ (g : Gate). bit other (signal_of g.a)) is_gate ∙ own.0) (ap (λ (g : Gate). bit other (signal_of g.b)) is_gate ∙ own.1);
-}
-  where
-    early_a : signal_of gate.a < first + left
-    early_a = omega (arith, ap (λ (g : Gate). signal_of g.a) is_gate, order.first_operands left gate there)
-
-    early_b : signal_of gate.b < first + left
-    early_b = omega (arith, ap (λ (g : Gate). signal_of g.b) is_gate, order.second_operands left gate there)
-
-    a : signal_of gate.a < length marks
-    a = omega (arith, early_a, reached.signals, size, there)
-
-    b : signal_of gate.b < length marks
-    b = omega (arith, early_b, reached.signals, size, there)
-
-    elsewhere : (t : ℕ) (d : Gate) → left < t → t < length gates → bit (with_both gate marks) (first + t) ≡ true → (bit (with_both gate marks) (signal_of (slice_index_or gates t d).a) ≡ true) × (bit (with_both gate marks) (signal_of (slice_index_or gates t d).b) ≡ true)
-    elsewhere t d later below is =
-        elim (both-cases gate marks (first + t) is) [
-          | inl e ↦ absurd (omega (arith, e, early_b, later))
-          | inr (inl e) ↦ absurd (omega (arith, e, early_a, later))
-          | inr (inr was) ↦
-              let both = reached.closed t d (omega (arith, later)) below was in
-              (both-kept gate marks a b (signal_of (slice_index_or gates t d).a) both.0, both-kept gate marks a b (signal_of (slice_index_or gates t d).b) both.1)
-        ]
-
--- the one signal of a set
-only-there : (signals s : ℕ) → s < signals → bit (only signals s) s ≡ true
-only-there signals s below =
-    get_or-set_same (replicate signals false) s true false (omega (arith, below, length-replicate signals false))
-
-only-one : (signals s u : ℕ) → bit (only signals s) u ≡ true → u ≡ s
-only-one signals s u is =
-    elim (bit-from_added (replicate signals false) s u is) [
-      | inl e ↦ e
-      | inr was ↦
-          let below : u < signals = omega (arith, within_bit (replicate signals false) u was, length-replicate signals false) in
-          absurd (false≢true (sym (get_or-replicate signals u false false below) ∙ was))
-    ]
-
--- the set that a pass over the gates leaves is what the output reaches
-pub reaches-in : (net : Net) (k signals : ℕ) (marks : List Bool) → IsReached (1 + net.inputs) net.gates 0 (only signals (output_signal net k)) marks → (t : ℕ) → bit marks (1 + net.inputs + t) ≡ true → ReachesGate net k t
-reaches-in net k signals marks reached t is other fan_in =
-    reached.least other fan_in.operands (λ u one. subst (λ n. bit other n ≡ true) (sym (only-one signals (output_signal net k) u one)) fan_in.output) (1 + net.inputs + t) is
-
-pub reaches-from : (net : Net) (k signals : ℕ) (marks : List Bool) → output_signal net k < signals → IsReached (1 + net.inputs) net.gates 0 (only signals (output_signal net k)) marks → (t : ℕ) → ReachesGate net k t → bit marks (1 + net.inputs + t) ≡ true
-reaches-from net k signals marks there reached t reaches =
-    reaches marks (record {
-      output = reached.kept (output_signal net k) (only-there signals (output_signal net k) there);
-      operands = λ t d below is. reached.closed t d (omega arith) below is;
-    })
-
--- places that are marked
-pub marked-start : (marks : List Bool) → AreMarked marks 0 []
-marked-start marks = record {
-  ascending = λ i j d before within. absurd (omega (arith, within));
-  below = λ k d within. absurd (omega (arith, within));
+-- nothing is marked at first
+pub none_found : (count : ℕ) → AreFound count (replicate count false) []
+unfolding IsDistinct
+none_found count = record {
+  size = length-replicate count false;
+  listed = λ t is.
+      let below : t < count = omega (arith, within_bit (replicate count false) t is, length-replicate count false) in
+      absurd (false≢true (sym (get_or-replicate count t false false below) ∙ is));
   marked = λ k d within. absurd (omega (arith, within));
-  all = λ place below is. absurd (omega (arith, below));
+  distinct = tt;
 }
 
-pub marked-skip : (marks : List Bool) (count : ℕ) (places : List ℕ) → bit marks count ≡ false → AreMarked marks count places → AreMarked marks (count + 1) places
-marked-skip marks count places out are = record {
-  ascending = are.ascending;
-  below = λ k d within. omega (arith, are.below k d within);
-  marked = are.marked;
-  all = λ place below is.
-      elim (cases_lt place count) [
-        | inl before ↦ are.all place before is
-        | inr here ↦
-            let e : place ≡ count = omega (arith, here, below) in
-            absurd (false≢true (sym out ∙ (ap (bit marks) (sym e) ∙ is)))
-      ];
-}
+-- what isn't marked isn't listed
+not_among : (marks : List Bool) (t : ℕ) (found : List ℕ) → bit marks t ≡ false → All (λ u. bit marks u ≡ true) found → list_any (eqb t) found ≡ false
+not_among marks t [] unmarked all = refl
+not_among marks t (u ∷ found) unmarked all =
+    elim (eqb_tells t u) [
+      | inl (same, e) ↦ absurd (false≢true (sym unmarked ∙ (ap (bit marks) e ∙ All-head (λ v. bit marks v ≡ true) u found all)))
+      | inr (other, apart) ↦ ap (λ b. b || list_any (eqb t) found) other ∙ not_among marks t found unmarked (All-tail (λ v. bit marks v ≡ true) u found all)
+    ]
 
-pub marked-more : (marks : List Bool) (count : ℕ) (places : List ℕ) → bit marks count ≡ true → AreMarked marks count places → AreMarked marks (count + 1) (places ++ count ∷ [])
-marked-more marks count places is_marked are = record {
-  ascending = all_pairs_push (λ one other. one < other) places count are.ascending are.below;
-  below = λ k d within. pushed (λ n. n < count + 1) (λ k d within. omega (arith, are.below k d within)) (omega arith) k d within;
-  marked = pushed (λ n. bit marks n ≡ true) are.marked is_marked;
-  all = λ place below is.
-      elim (cases_lt place count) [
-        | inl before ↦ Contains-append_left places (count ∷ []) place (are.all place before is)
-        | inr here ↦
-            let e : place ≡ count = omega (arith, here, below) in
-            subst (Contains (places ++ count ∷ [])) (sym e) (Contains-push places count)
-      ];
-}
+-- the gate of one signal more
+found_by : (count first s : ℕ) (marks new_marks : List Bool) (found new_found : List ℕ) → s < first + count → IsFoundBy first s marks found new_marks new_found → AreFound count marks found → AreFound count new_marks new_found
+found_by count first s marks new_marks found new_found there (inl old) are =
+    subst (λ ms. AreFound count ms new_found) (sym old.marks_are) (subst (AreFound count marks) (sym old.found_are) are)
+found_by count first s marks new_marks found new_found there (inr new) are =
+    subst (λ ms. AreFound count ms new_found) (sym new.marks_are) (subst (AreFound count (set marks t true)) (sym new.found_are) added)
   where
-    pushed : (P : ℕ → Type 0) → All P places → P count → All P (places ++ count ∷ [])
-    pushed P all last k d within =
-        elim (cases_lt k (length places)) [
-          | inl before ↦ subst P (sym (get_or_append_left places (count ∷ []) d k before)) (all k d before)
-          | inr here ↦
-              let e : k ≡ length places = omega (arith, here, within, length_push places count) in
-              subst P (sym (get_or_push places count d k (sym e))) last
+    t : ℕ
+    t = s - first
+
+    low : t < length marks
+    low = omega (arith, new.from, there, are.size)
+
+    added : AreFound count (set marks t true) (found ++ t ∷ [])
+    added = record {
+      size = length-set marks t true ∙ are.size;
+      listed = λ u is.
+          elim (bit-from_added marks t u is) [
+            | inl e ↦ subst (Contains (found ++ t ∷ [])) (sym e) (Contains-push found t)
+            | inr was ↦ Contains-append_left found (t ∷ []) u (are.listed u was)
+          ];
+      marked = All-push (λ u. bit (set marks t true) u ≡ true) found t (λ k d within. bit-added marks t (slice_index_or found k d) low (are.marked k d within)) (get_or-set_same marks t true false low);
+      distinct = IsDistinct-push nat_eq_equiv found t are.distinct (not_among marks t found new.unmarked are.marked);
+    }
+
+marked_now : (first s : ℕ) (marks new_marks : List Bool) (found new_found : List ℕ) → s < first + length marks → IsFoundBy first s marks found new_marks new_found → IsMarked first new_marks s
+marked_now first s marks new_marks found new_found there (inl old) = subst (λ ms. IsMarked first ms s) (sym old.marks_are) old.marked
+marked_now first s marks new_marks found new_found there (inr new) =
+    subst (λ ms. IsMarked first ms s) (sym new.marks_are) (λ from. get_or-set_same marks (s - first) true false (omega (arith, from, there)))
+
+marked_still : (first s u : ℕ) (marks new_marks : List Bool) (found new_found : List ℕ) → s < first + length marks → IsFoundBy first s marks found new_marks new_found → IsMarked first marks u → IsMarked first new_marks u
+marked_still first s u marks new_marks found new_found there (inl old) marked = subst (λ ms. IsMarked first ms u) (sym old.marks_are) marked
+marked_still first s u marks new_marks found new_found there (inr new) marked =
+    subst (λ ms. IsMarked first ms u) (sym new.marks_are) (λ from. bit-added marks (s - first) (u - first) (omega (arith, new.from, there)) (marked from))
+
+listed_still : (first s : ℕ) (marks new_marks : List Bool) (found new_found : List ℕ) → IsFoundBy first s marks found new_marks new_found → (length found ≤ length new_found) × ((k : ℕ) → k < length found → slice_index_or new_found k 0 ≡ slice_index_or found k 0)
+listed_still first s marks new_marks found new_found (inl old) =
+    (omega (arith, ap length old.found_are), λ k within. ap (λ (fs : List ℕ). slice_index_or fs k 0) old.found_are)
+listed_still first s marks new_marks found new_found (inr new) =
+    (omega (arith, ap length new.found_are, length-append found ((s - first) ∷ [])), λ k within. ap (λ (fs : List ℕ). slice_index_or fs k 0) new.found_are ∙ get_or_append_left found ((s - first) ∷ []) 0 k within)
+
+least_still : (first : ℕ) (gates : List Gate) (signal s : ℕ) (marks new_marks : List Bool) (found new_found : List ℕ) → Leads first gates signal s → IsFoundBy first s marks found new_marks new_found → All (λ t. Leads first gates signal (first + t)) found → All (λ t. Leads first gates signal (first + t)) new_found
+least_still first gates signal s marks new_marks found new_found leads (inl old) all =
+    subst (All (λ t. Leads first gates signal (first + t))) (sym old.found_are) all
+least_still first gates signal s marks new_marks found new_found leads (inr new) all =
+    let at : s ≡ first + (s - first) = omega (arith, new.from) in
+    subst (All (λ t. Leads first gates signal (first + t))) (sym new.found_are) (All-push (λ t. Leads first gates signal (first + t)) found (s - first) all (subst (Leads first gates signal) at leads))
+
+-- at first the signal's own gate is found
+pub searched_first : (first : ℕ) (gates : List Gate) (signal : ℕ) (marks new_marks : List Bool) (found new_found : List ℕ) → marks ≡ replicate (length gates) false → found ≡ [] → signal < first + length gates → IsFoundBy first signal marks found new_marks new_found → IsSearched first gates signal 0 new_marks new_found
+searched_first first gates signal marks new_marks found new_found unmarked none there by =
+    let none_yet = subst (λ fs. AreFound (length gates) marks fs) (sym none) (subst (λ ms. AreFound (length gates) ms []) (sym unmarked) (none_found (length gates))) in
+    record {
+      are = found_by (length gates) first signal marks new_marks found new_found there by none_yet;
+      start = marked_now first signal marks new_marks found new_found (omega (arith, there, none_yet.size)) by;
+      done = omega arith;
+      operands = λ k d less. absurd (omega (arith, less));
+      least = least_still first gates signal signal marks new_marks found new_found (λ set closed has. has) by (subst (All (λ t. Leads first gates signal (first + t))) (sym none) (λ k d within. absurd (omega (arith, within))));
+    }
+
+-- each gate that is listed is there
+pub found_there : (first : ℕ) (gates : List Gate) (signal count : ℕ) (marks : List Bool) (found : List ℕ) → IsSearched first gates signal count marks found → All (λ t. t < length gates) found
+found_there first gates signal count marks found searched k d within =
+    omega (arith, within_bit marks (slice_index_or found k d) (searched.are.marked k d within), searched.are.size)
+
+-- no more are listed than there are gates
+pub found_few : (first : ℕ) (gates : List Gate) (signal count : ℕ) (marks : List Bool) (found : List ℕ) → IsSearched first gates signal count marks found → length found ≤ length gates
+found_few first gates signal count marks found searched =
+    length-le_from_distinct_below found (length gates) searched.are.distinct (λ q member. among q found (found_there first gates signal count marks found searched) member)
+  where
+    among : (q : ℕ) (xs : List ℕ) → All (λ t. t < length gates) xs → list_any (eqb q) xs ≡ true → q < length gates
+    among q [] all member = absurd (false≢true member)
+    among q (x ∷ xs) all member =
+        elim (eqb_tells q x) [
+          | inl (same, e) ↦ omega (arith, e, All-head (λ t. t < length gates) x xs all)
+          | inr (other, apart) ↦ among q xs (All-tail (λ t. t < length gates) x xs all) (sym (ap (λ b. b || list_any (eqb q) xs) other) ∙ member)
         ]
 
--- the marked places after the inputs are the gates that the output reaches
-pub cone-gates : (net : Net) (k signals : ℕ) (marks : List Bool) (places : List ℕ) → output_signal net k < signals → IsReached (1 + net.inputs) net.gates 0 (only signals (output_signal net k)) marks → AreMarked (drop (1 + net.inputs) marks) (length (drop (1 + net.inputs) marks)) places → (t : ℕ) → Contains places t ↔ ReachesGate net k t
-cone-gates net k signals marks places there reached are t = (
-  λ listed. reaches-in net k signals marks reached t (sym (get_or-drop (1 + net.inputs) marks t false) ∙ All-contains (λ n. bit (drop (1 + net.inputs) marks) n ≡ true) places t are.marked listed),
-  λ reaches.
-      let is = get_or-drop (1 + net.inputs) marks t false ∙ reaches-from net k signals marks there reached t reaches in
-      are.all t (within_bit (drop (1 + net.inputs) marks) t is) is,
+-- the operands of one gate more
+pub searched_more : (first : ℕ) (gates : List Gate) (signal n : ℕ) (gate : Gate) (marks marks_a marks_b : List Bool) (found found_a found_b : List ℕ) → AreInOrder first gates → n < length found → ((d : Gate) → gate ≡ slice_index_or gates (slice_index_or found n 0) d) → IsFoundBy first (signal_of gate.a) marks found marks_a found_a → IsFoundBy first (signal_of gate.b) marks_a found_a marks_b found_b → IsSearched first gates signal n marks found → IsSearched first gates signal (n + 1) marks_b found_b
+searched_more first gates signal n gate marks marks_a marks_b found found_a found_b order within gate_is by_a by_b searched = record {
+  are = are_b;
+  start = kept signal searched.start;
+  done = omega (arith, within, longer_a.0, longer_b.0);
+  operands = λ k d less. elim (cases_lt k n) [
+    | inl before ↦
+        let both = searched.operands k d before in
+        let at = same k (omega (arith, before, within)) in
+        let move = λ (s : ℕ) (marked : IsMarked first marks s). kept s marked in
+        (subst (λ t. IsMarked first marks_b (signal_of (slice_index_or gates t d).a)) (sym at) (move (signal_of (slice_index_or gates (slice_index_or found k 0) d).a) both.0), subst (λ t. IsMarked first marks_b (signal_of (slice_index_or gates t d).b)) (sym at) (move (signal_of (slice_index_or gates (slice_index_or found k 0) d).b) both.1))
+    | inr late ↦
+        let e : k ≡ n = omega (arith, late, less) in
+        let at : slice_index_or found_b k 0 ≡ slice_index_or found n 0 = ap (λ j. slice_index_or found_b j 0) e ∙ same n within in
+        let gate_at : slice_index_or gates (slice_index_or found_b k 0) d ≡ gate = ap (λ t. slice_index_or gates t d) at ∙ sym (gate_is d) in
+        (subst (λ (g : Gate). IsMarked first marks_b (signal_of g.a)) (sym gate_at) (marked_still first (signal_of gate.b) (signal_of gate.a) marks_a marks_b found_a found_b low_b by_b (marked_now first (signal_of gate.a) marks marks_a found found_a low_a by_a)), subst (λ (g : Gate). IsMarked first marks_b (signal_of g.b)) (sym gate_at) (marked_now first (signal_of gate.b) marks_a marks_b found_a found_b low_b by_b))
+  ];
+  least = least_still first gates signal (signal_of gate.b) marks_a marks_b found_a found_b (λ set closed has. (led set closed has).1) by_b (least_still first gates signal (signal_of gate.a) marks marks_a found found_a (λ set closed has. (led set closed has).0) by_a searched.least);
+}
+  where
+    t : ℕ
+    t = slice_index_or found n 0
+
+    there : t < length gates
+    there = found_there first gates signal n marks found searched n 0 within
+
+    a_there : signal_of gate.a < first + length gates
+    a_there = omega (arith, ap (λ (g : Gate). signal_of g.a) (gate_is gate), order.first_operands t gate there, there)
+
+    b_there : signal_of gate.b < first + length gates
+    b_there = omega (arith, ap (λ (g : Gate). signal_of g.b) (gate_is gate), order.second_operands t gate there, there)
+
+    are_a : AreFound (length gates) marks_a found_a
+    are_a = found_by (length gates) first (signal_of gate.a) marks marks_a found found_a a_there by_a searched.are
+
+    are_b : AreFound (length gates) marks_b found_b
+    are_b = found_by (length gates) first (signal_of gate.b) marks_a marks_b found_a found_b b_there by_b are_a
+
+    low_a : signal_of gate.a < first + length marks
+    low_a = omega (arith, a_there, searched.are.size)
+
+    low_b : signal_of gate.b < first + length marks_a
+    low_b = omega (arith, b_there, are_a.size)
+
+    longer_a : (length found ≤ length found_a) × ((k : ℕ) → k < length found → slice_index_or found_a k 0 ≡ slice_index_or found k 0)
+    longer_a = listed_still first (signal_of gate.a) marks marks_a found found_a by_a
+
+    longer_b : (length found_a ≤ length found_b) × ((k : ℕ) → k < length found_a → slice_index_or found_b k 0 ≡ slice_index_or found_a k 0)
+    longer_b = listed_still first (signal_of gate.b) marks_a marks_b found_a found_b by_b
+
+    same : (k : ℕ) → k < length found → slice_index_or found_b k 0 ≡ slice_index_or found k 0
+    same k less = longer_b.1 k (omega (arith, less, longer_a.0)) ∙ longer_a.1 k less
+
+    kept : (s : ℕ) → IsMarked first marks s → IsMarked first marks_b s
+    kept s marked =
+        marked_still first (signal_of gate.b) s marks_a marks_b found_a found_b low_b by_b (marked_still first (signal_of gate.a) s marks marks_a found found_a low_a by_a marked)
+
+    led : (set : List Bool) → HasOperands first gates set → bit set signal ≡ true → (bit set (signal_of gate.a) ≡ true) × (bit set (signal_of gate.b) ≡ true)
+    led set closed has =
+        let own = closed t gate there (searched.least n 0 within set closed has) in
+        (ap (λ (g : Gate). bit set (signal_of g.a)) (gate_is gate) ∙ own.0, ap (λ (g : Gate). bit set (signal_of g.b)) (gate_is gate) ∙ own.1)
+
+-- where the operands of all were found, these are the gates to which the signal leads
+pub searched_all : (first : ℕ) (gates : List Gate) (signal : ℕ) (marks : List Bool) (found : List ℕ) → signal < first + length gates → IsSearched first gates signal (length found) marks found → AreReachedFrom first gates signal found
+searched_all first gates signal marks found there searched = record {
+  there = found_there first gates signal (length found) marks found searched;
+  distinct = searched.are.distinct;
+  each = λ t. (
+    λ listed. All-contains (λ u. Leads first gates signal (first + u)) found t searched.least listed,
+    λ leads. searched.are.listed t (sym (at_gate t) ∙ leads all closed has),
+  );
+}
+  where
+    -- the constant and the inputs, and the gates that are marked
+    all : List Bool
+    all = replicate first true ++ marks
+
+    at_gate : (t : ℕ) → bit all (first + t) ≡ bit marks t
+    at_gate t =
+        let at : first + t ≡ length (replicate first true) + t = omega (arith, length-replicate first true) in
+        ap (bit all) at ∙ get_or-append-add (replicate first true) marks t false
+
+    marked_in : (s : ℕ) → IsMarked first marks s → bit all s ≡ true
+    marked_in s marked =
+        elim (cases_lt s first) [
+          | inl before ↦ get_or_append_left (replicate first true) marks false s (omega (arith, before, length-replicate first true)) ∙ get_or-replicate first s true false before
+          | inr late ↦
+              let e : s ≡ first + (s - first) = omega (arith, late) in
+              ap (bit all) e ∙ (at_gate (s - first) ∙ marked (omega (arith, late)))
+        ]
+
+    has : bit all signal ≡ true
+    has = marked_in signal searched.start
+
+    closed : HasOperands first gates all
+    closed t d within is =
+        let listed = searched.are.listed t (sym (at_gate t) ∙ is) in
+        let k = listed.0 in
+        let at : slice_index_or found k 0 ≡ t = get_or_default found k 0 t listed.1 ∙ listed.2 in
+        let both = searched.operands k d listed.1 in
+        (subst (λ u. bit all (signal_of (slice_index_or gates u d).a) ≡ true) at (marked_in (signal_of (slice_index_or gates (slice_index_or found k 0) d).a) both.0), subst (λ u. bit all (signal_of (slice_index_or gates u d).b) ≡ true) at (marked_in (signal_of (slice_index_or gates (slice_index_or found k 0) d).b) both.1))
+
+-- in order, no two are the same
+pub ascending_cone : (found gates : List ℕ) → IsDistinct eqb found → IsPermutation found gates → IsSorted nat_cmp gates → AllPairs (λ one other. one < other) gates
+ascending_cone found gates distinct moved sorted i j d before within =
+    let rises : IsNonDecreasingBy (λ x. x) gates = IsNonDecreasingBy-from_sort (λ x. x) gates sorted in
+    let apart = apart_from_distinct eqb gates i j d (IsDistinct-IsPermutation eqb (λ x y. nat_eq_equiv.symm x y) found gates moved distinct) before within in
+    elim (cases_lt (slice_index_or gates i d) (slice_index_or gates j d)) [
+      | inl less ↦ less
+      | inr not_less ↦
+          let e : slice_index_or gates i d ≡ slice_index_or gates j d = omega (arith, not_less, rises i j d (omega (arith, before)) within) in
+          absurd (false≢true (sym apart ∙ eq-eqb (slice_index_or gates i d) (slice_index_or gates j d) e))
+    ]
+
+-- the gates to which the output's signal leads are those that the output reaches
+pub cone_gates : (net : Net) (k : ℕ) (found gates : List ℕ) → AreReachedFrom (1 + net.inputs) net.gates (output_signal net k) found → IsPermutation found gates → (t : ℕ) → Contains gates t ↔ ReachesGate net k t
+cone_gates net k found gates reached moved t = (
+  λ listed other fan_in. (reached.each t).0 (Contains-permutation gates found t (IsPermutation-sym found gates moved) listed) other fan_in.operands fan_in.output,
+  λ reaches. Contains-permutation found gates t moved ((reached.each t).1 (λ set closed has. reaches set (record { output = has; operands = closed }))),
 )

@@ -1,5 +1,6 @@
 -- The cone of an output: the gates that it reaches through operands (the transitive fan-in of textbooks of logic synthesis).
-use Rattle.std.specs.Prelude.{◌≡◌, ℕ, ◌+◌, ◌<◌, ◌≤◌, Bool, true, false, List, length, All, AllPairs, Contains, replicate, slice_index_or, slice_set}
+use Rattle.std.specs.Prelude.{◌≡◌, ◌⊎◌, ◌↔◌, ℕ, ◌+◌, ◌-◌, ◌<◌, ◌≤◌, eqb, Bool, true, false, List, [], ◌∷◌, ◌++◌, length, All, Contains, slice_index_or, slice_set}
+use Rattle.std.specs.List.{IsDistinct}
 use Rattle.circuits.specs.declared.netlist.Gate.{Gate}
 use Rattle.circuits.specs.Literals.{EachAt, bit, signal_of}
 use Rattle.circuits.specs.Netlists.{Net}
@@ -27,30 +28,50 @@ Reaches net k s = (set : List Bool) → IsFanIn net k set → bit set s ≡ true
 abbrev pub ReachesGate : Net → ℕ → ℕ → Type 0
 ReachesGate net k t = Reaches net k (1 + net.inputs + t)
 
--- one set has all of another
-abbrev pub IsPart : List Bool → List Bool → Type 0
-IsPart set other = (s : ℕ) → bit set s ≡ true → bit other s ≡ true
+-- the gate of a signal is marked, where the signal is that of a gate
+abbrev pub IsMarked : ℕ → List Bool → ℕ → Type 0
+IsMarked first marks s = first ≤ s → bit marks (s - first) ≡ true
 
--- one signal of n
-abbrev pub only : ℕ → ℕ → List Bool
-only signals s = slice_set (replicate signals false) s true
+-- A signal whose gate is marked, or that is no gate's: nothing changes.
+pub record IsOld (first s : ℕ) (marks : List Bool) (found : List ℕ) (new_marks : List Bool) (new_found : List ℕ) : Type 0 where
+  pub marked : IsMarked first marks s
+  pub marks_are : new_marks ≡ marks
+  pub found_are : new_found ≡ found
 
--- a set with both operands of a gate
-abbrev pub with_both : Gate → List Bool → List Bool
-with_both gate set = slice_set (slice_set set (signal_of gate.a) true) (signal_of gate.b) true
+-- A signal whose gate isn't marked: it is marked, and listed last.
+pub record IsNew (first s : ℕ) (marks : List Bool) (found : List ℕ) (new_marks : List Bool) (new_found : List ℕ) : Type 0 where
+  pub from : first ≤ s
+  pub unmarked : bit marks (s - first) ≡ false
+  pub marks_are : new_marks ≡ slice_set marks (s - first) true
+  pub found_are : new_found ≡ found ++ (s - first) ∷ []
 
--- The operands of the gates from number `from` on were added to a set, and nothing that the least closed set hasn't.
-pub record IsReached (first : ℕ) (gates : List Gate) (from : ℕ) (start set : List Bool) : Type 0 where
-  pub signals : length set ≡ length start
-  pub kept : IsPart start set
-  pub closed : (t : ℕ) (d : Gate) → from ≤ t → t < length gates → bit set (first + t) ≡ true
-      → (bit set (signal_of (slice_index_or gates t d).a) ≡ true)
-      × (bit set (signal_of (slice_index_or gates t d).b) ≡ true)
-  pub least : (other : List Bool) → HasOperands first gates other → IsPart start other → IsPart set other
+abbrev pub IsFoundBy : ℕ → ℕ → List Bool → List ℕ → List Bool → List ℕ → Type 0
+IsFoundBy first s marks found new_marks new_found =
+    IsOld first s marks found new_marks new_found ⊎ IsNew first s marks found new_marks new_found
 
--- These are the marked ones of the first n places, in ascending order.
-pub record AreMarked (marks : List Bool) (count : ℕ) (places : List ℕ) : Type 0 where
-  pub ascending : AllPairs (λ one other. one < other) places
-  pub below : All (λ place. place < count) places
-  pub marked : All (λ place. bit marks place ≡ true) places
-  pub all : (place : ℕ) → place < count → bit marks place ≡ true → Contains places place
+-- each set of signals that is closed under operands and has one signal has this one
+abbrev pub Leads : ℕ → List Gate → ℕ → ℕ → Type 0
+Leads first gates from to = (set : List Bool) → HasOperands first gates set → bit set from ≡ true → bit set to ≡ true
+
+-- Marked gates, each listed once.
+pub record AreFound (count : ℕ) (marks : List Bool) (found : List ℕ) : Type 0 where
+  pub size : length marks ≡ count
+  pub listed : (t : ℕ) → bit marks t ≡ true → Contains found t
+  pub marked : All (λ t. bit marks t ≡ true) found
+  pub distinct : IsDistinct eqb found
+
+-- Gates to which a signal leads, its own one if it has one; the operands of the first n were found.
+pub record IsSearched (first : ℕ) (gates : List Gate) (signal count : ℕ) (marks : List Bool) (found : List ℕ) : Type 0 where
+  pub are : AreFound (length gates) marks found
+  pub start : IsMarked first marks signal
+  pub done : count ≤ length found
+  pub operands : (k : ℕ) (d : Gate) → k < count
+      → IsMarked first marks (signal_of (slice_index_or gates (slice_index_or found k 0) d).a)
+      × IsMarked first marks (signal_of (slice_index_or gates (slice_index_or found k 0) d).b)
+  pub least : All (λ t. Leads first gates signal (first + t)) found
+
+-- The gates to which a signal leads, each once.
+pub record AreReachedFrom (first : ℕ) (gates : List Gate) (signal : ℕ) (found : List ℕ) : Type 0 where
+  pub there : All (λ t. t < length gates) found
+  pub distinct : IsDistinct eqb found
+  pub each : (t : ℕ) → (Contains found t ↔ Leads first gates signal (first + t))

@@ -1,9 +1,8 @@
 //! Cones of outputs.
 
-ghost use Rattle.std.specs.Prelude.{◌≡◌, ◌+◌, ◌^◌, ◌<◌, ◌↔◌, ℕ, true, All, AllPairs, Contains, IfOk, drop, length};
-ghost use Rattle.circuits.specs.Literals.{bit, signal_of};
-ghost use Rattle.net_core.specs.Graph.{AreInOrder, IsGraph};
-ghost use Rattle.net_core.specs.Cones.{AreMarked, IsReached, ReachesGate, only, with_both};
+ghost use Rattle.std.specs.Prelude.{◌≡◌, ◌+◌, ◌<◌, ◌↔◌, ℕ, [], false, All, AllPairs, Contains, IfOk, OnOk, length, replicate};
+ghost use Rattle.net_core.specs.Graph.{AreInOrder};
+ghost use Rattle.net_core.specs.Cones.{AreReachedFrom, IsFoundBy, ReachesGate};
 
 use crate::graph::Graph;
 use circuits::Gate;
@@ -11,7 +10,7 @@ use std::alloc::{AllocError, Global};
 
 impl Graph {
     /// The numbers of the gates that an output reaches, ascending: its own gate, the gates of that one's operands, and
-    /// so on (its transitive fan-in). It takes one pass over the gates.
+    /// so on (its transitive fan-in). It takes a step for each of these, and a byte for each gate that there is.
     ///
     /// # Errors
     ///
@@ -23,78 +22,71 @@ impl Graph {
         ensures reached { IfOk result (λ gates. (t : ℕ)
             → (Contains gates.items t ↔ ReachesGate self.now output t)) }
     {
-        let first_gate = 1 + self.inputs() as usize;
-        let signals = self.signals();
-        let signal = self.outputs()[output as usize].signal() as usize;
-        let reached = reached(alloc, self.gates(), first_gate, signals, signal)?;
-        let gates = marked_places(alloc, behind(&reached, first_gate))?;
+        let first_gate = 1 + self.inputs();
+        let signal = self.outputs()[output as usize].signal();
+        let _signals = self.signals();
+        let mut gates = reached(alloc, self.gates(), first_gate, signal)?;
+        gates.sort_unstable();
         Ok(gates)
     }
 }
 
-/// Marks a signal, and the signals of the gates and inputs that it reaches.
-fn reached(
-    alloc: Global,
+/// The gates that a signal reaches, each once.
+fn reached(alloc: Global, gates: &[Gate], first: u32, signal: u32) -> Result<Vec<u32>, AllocError>
+    requires order { AreInOrder first gates.now }
+    requires there { signal < first + length gates.now }
+    ensures { IfOk result (λ found. AreReachedFrom first gates.now signal found.items) }
+{
+    let mut marks = unmarked(alloc, gates.len())?;
+    let mut found = Vec::new(alloc);
+    find_all(gates, first, signal, &mut marks, &mut found)?;
+    Ok(found)
+}
+
+fn unmarked(alloc: Global, count: usize) -> Result<Vec<bool>, AllocError>
+    ensures { IfOk result (λ marks. marks.items ≡ replicate count false) }
+{
+    vec![in alloc; false; count]
+}
+
+/// Finds the gates that a signal reaches, breadth first: its own one, then those of the operands of each that was found.
+fn find_all(
     gates: &[Gate],
-    first: usize,
-    signals: usize,
-    signal: usize,
-) -> Result<Vec<bool>, AllocError>
+    first: u32,
+    signal: u32,
+    marks: &mut [bool],
+    found: &mut Vec<u32>,
+) -> Result<(), AllocError>
     requires order { AreInOrder first gates.now }
-    requires signals { signals ≡ first + length gates.now }
-    requires there { signal < signals }
-    ensures { IfOk result (λ marks. IsReached first gates.now 0 (only signals signal) marks.items) }
+    requires there { signal < first + length gates.now }
+    requires unmarked { marks.old ≡ replicate (length gates.now) false }
+    requires none { found.old.items ≡ [] }
+    ensures { OnOk result (AreReachedFrom first gates.now signal found.new.items) }
 {
-    let mut marks = vec![in alloc; false; signals]?;
-    marks[signal] = true;
-    mark_operands(gates, first, &mut marks);
-    Ok(marks)
-}
-
-/// Marks the operands of marked gates, from the last gate to the first. A gate's operands stand before it, so that one
-/// pass is enough.
-fn mark_operands(gates: &[Gate], first: usize, marks: &mut [bool])
-    requires order { AreInOrder first gates.now }
-    requires room { length marks.old ≡ first + length gates.now }
-    ensures { IsReached first gates.now 0 marks.old marks.new }
-{
-    let mut left = gates.len();
-    while left > 0 {
-        left -= 1;
-        if marks[first + left] {
-            mark_both(gates[left], marks);
-        }
+    find(first, signal, marks, found)?;
+    let mut next = 0;
+    while next < found.len() {
+        let gate = gates[found[next] as usize];
+        find(first, gate.a.signal(), marks, found)?;
+        find(first, gate.b.signal(), marks, found)?;
+        next += 1;
     }
+    Ok(())
 }
 
-/// Marks the operands of a gate.
-fn mark_both(gate: Gate, marks: &mut [bool])
-    requires first_operand { signal_of gate.a < length marks.old }
-    requires second_operand { signal_of gate.b < length marks.old }
-    ensures { marks.new ≡ with_both gate marks.old }
+/// Finds the gate of a signal, where it is a gate's, and marks it. A gate that is marked was found before.
+fn find(first: u32, signal: u32, marks: &mut [bool], found: &mut Vec<u32>) -> Result<(), AllocError>
+    requires { signal < first + length marks.old }
+    ensures { OnOk result (IsFoundBy first signal marks.old found.old.items marks.new found.new.items) }
 {
-    marks[gate.a.signal() as usize] = true;
-    marks[gate.b.signal() as usize] = true;
-}
-
-/// The places that are marked, ascending.
-fn marked_places(alloc: Global, marks: &[bool]) -> Result<Vec<u32>, AllocError>
-    requires { length marks.now < 2 ^ 31 }
-    ensures { IfOk result (λ places. AreMarked marks.now (length marks.now) places.items) }
-{
-    let mut places = Vec::new(alloc);
-    for (place, marked) in marks.iter().enumerate() {
-        if *marked {
-            places.push(place as u32)?;
-        }
+    if signal < first {
+        return Ok(());
     }
-    Ok(places)
-}
-
-/// What stands from a place on.
-fn behind(marks: &[bool], first: usize) -> &[bool]
-    requires { first < length marks.now + 1 }
-    ensures { result.now ≡ drop first marks.now }
-{
-    &marks[first..]
+    let gate = signal - first;
+    if marks[gate as usize] {
+        return Ok(());
+    }
+    found.push(gate)?;
+    marks[gate as usize] = true;
+    Ok(())
 }

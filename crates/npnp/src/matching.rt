@@ -1,6 +1,6 @@
 //! A match of two netlists, sought and proved.
 
-ghost use Rattle.std.specs.Prelude.{◌≡◌, ℕ, ◌↔◌, Err, IfOk, IsTrue, map};
+ghost use Rattle.std.specs.Prelude.{◌≡◌, ℕ, Err, IfOk, map};
 ghost use Rattle.cnf_core.specs.declared.stop.Stop.TheVariants.{Spent};
 ghost use Rattle.account_core.specs.Given.{decided_by};
 ghost use Rattle.account_core.specs.Facts.{AreFacts};
@@ -30,6 +30,7 @@ use items::Items;
 use match_search::{Found, decide};
 use net_core::{Graphs, Matching};
 use net_file::Named;
+use port_sides::PairableGraphs;
 use query_core::Ledger;
 use shelf_core::{Shelf, ShelfStop};
 use std::alloc::{AllocError, Global};
@@ -121,30 +122,20 @@ fn solve<W: Watch>(
 ) -> Result<Solved, Outcome>
     ensures { Solves graphs.now asked.now.budget result }
 {
-    if have_as_many_ports(graphs) {
-        solve_by_search(alloc, graphs, asked.seed, asked.budget, watch)
-    } else {
-        Ok(other_ports(alloc, graphs)?)
+    match PairableGraphs::new(graphs) {
+        Some(pairable) => solve_by_search(alloc, &pairable, asked.seed, asked.budget, watch),
+        None => Ok(other_ports(alloc, graphs)?),
     }
-}
-
-/// Whether two graphs have as many inputs, and as many outputs.
-fn have_as_many_ports(graphs: &Graphs<'_>) -> bool
-    ensures { IsTrue result ↔ HaveAsMany graphs.now.first graphs.now.second }
-{
-    (graphs.first().inputs() == graphs.second().inputs())
-        & (graphs.first().outputs().len() == graphs.second().outputs().len())
 }
 
 /// Searches two graphs with as many ports, with at most `budget` learned clauses.
 pub(crate) fn solve_by_search<W: Watch>(
     alloc: Global,
-    graphs: &Graphs<'_>,
+    graphs: &PairableGraphs<'_>,
     seed: u64,
     budget: u64,
     watch: &W,
 ) -> Result<Solved, Outcome>
-    requires { HaveAsMany graphs.now.first graphs.now.second }
     ensures { Solves graphs.now budget result }
 {
     let mut ledger = Ledger::new(alloc, budget);
@@ -158,35 +149,33 @@ pub(crate) fn solve_by_search<W: Watch>(
 /// Searches two graphs with as many ports, and asks in a new ledger.
 fn search_in<'a, W: Watch>(
     alloc: Global,
-    graphs: &'a Graphs<'a>,
+    graphs: &'a PairableGraphs<'a>,
     seed: u64,
     ledger: &mut Ledger,
     watch: &'a W,
 ) -> Result<Solved, Stop>
-    requires ports { HaveAsMany graphs.now.first graphs.now.second }
     requires new { IsNew ledger.old }
     ensures answer { IfOk result (λ solved. IsAnswered graphs.now (account_of (records_of solved.account)) solved.outcome) }
     ensures spent { (learned : ℕ) → result ≡ Err (Spent learned)
         → IsSpentOf graphs.now ledger.old.budget ledger.new }
 {
-    let mut book = FactBook::watched(alloc, graphs, seed, watch)?;
+    let mut book = FactBook::watched(alloc, graphs.graphs(), seed, watch)?;
     let mut bans = BanBook::new(alloc);
     let found = decide(alloc, graphs, &mut book, &mut bans, seed, ledger)?;
-    Ok(answered(alloc, graphs, found, book.into_facts(), bans.bans())?)
+    Ok(answered(alloc, graphs, found, book.into_facts(), bans.into_bans())?)
 }
 
 /// The answer that a search came to by facts and bans, with its account.
 fn answered(
     alloc: Global,
-    graphs: &Graphs<'_>,
+    graphs: &PairableGraphs<'_>,
     found: Found,
     facts: Items<Fact>,
-    bans: &[Ban],
+    bans: Items<Ban>,
 ) -> Result<Solved, AllocError>
-    requires ports { HaveAsMany graphs.now.first graphs.now.second }
     requires facts { AreFacts graphs.now facts }
-    requires bans { AreValidBans graphs.now (map decided_by facts) bans.now }
-    requires found { IsFound graphs.now bans.now found }
+    requires bans { AreValidBans graphs.now (map decided_by facts) bans }
+    requires found { IsFound graphs.now bans found }
     ensures { IfOk result (λ solved. IsAnswered graphs.now (account_of (records_of solved.account)) solved.outcome) }
 {
     match found {
@@ -198,7 +187,7 @@ fn answered(
 /// The answer that a port table is a match, with its account.
 fn matched(
     alloc: Global,
-    graphs: &Graphs<'_>,
+    graphs: &PairableGraphs<'_>,
     matching: Matching,
     logs: Items<Log>,
 ) -> Result<Solved, AllocError>
@@ -217,17 +206,17 @@ fn matched(
 /// The answer that there is no match, by a ban without pairs, with its account.
 fn refused(
     alloc: Global,
-    graphs: &Graphs<'_>,
+    graphs: &PairableGraphs<'_>,
     facts: Items<Fact>,
-    bans: &[Ban],
+    bans: Items<Ban>,
     number: u64,
 ) -> Result<Solved, AllocError>
-    requires ports { HaveAsMany graphs.now.first graphs.now.second }
     requires facts { AreFacts graphs.now facts }
-    requires bans { AreValidBans graphs.now (map decided_by facts) bans.now }
-    requires empty { IsEmptyBan bans.now number }
+    requires bans { AreValidBans graphs.now (map decided_by facts) bans }
+    requires empty { IsEmptyBan bans number }
     ensures { IfOk result (λ solved. IsAnswered graphs.now (account_of (records_of solved.account)) solved.outcome) }
 {
+    let _ports = graphs.graphs();
     let _first = graphs.first();
     let _second = graphs.second();
     let Core {

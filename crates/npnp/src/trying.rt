@@ -4,7 +4,6 @@ ghost use Rattle.std.specs.Prelude.{◌≡◌, IfOk, IfErr};
 ghost use Rattle.circuits.specs.Matches.{HaveNpnpEqualFunctions};
 ghost use Rattle.account_check.specs.Verdicts.{IsAccepted as Proves};
 ghost use Rattle.account_check.specs.declared.verdict.Verdict.TheVariants as verdict;
-ghost use Rattle.account_core.specs.Ports.{HaveAsMany};
 ghost use Rattle.net_core.specs.declared.matching.Matching.{Matching as Table};
 ghost use Rattle.npnp.specs.Make.{IsPairOf};
 ghost use Rattle.account_write.specs.Records.{account_of, records_of};
@@ -20,6 +19,7 @@ use account_write::{Account, last_line};
 use gen_pair::{GenPair, make};
 use items::Items;
 use net_core::Graphs;
+use port_sides::PairableGraphs;
 use std::alloc::{AllocError, Global};
 use text_out::put_all;
 use watch_core::Watch;
@@ -44,7 +44,10 @@ fn try_of<W: Watch>(
     ensures { Tries number result }
 {
     let graphs = Graphs::new(&pair.first.graph, &pair.second.graph);
-    let account = prove_match(alloc, &graphs, watch)?;
+    let Some(pairable) = PairableGraphs::new(&graphs) else {
+        unreachable!()
+    };
+    let account = prove_match(alloc, &pairable, watch)?;
     let outcome = Outcome::Tried {
         number,
         account: Items::from_vec(account),
@@ -54,15 +57,18 @@ fn try_of<W: Watch>(
 }
 
 /// The account of a match of two graphs that have one, checked.
-fn prove_match<W: Watch>(alloc: Global, graphs: &Graphs<'_>, watch: &W) -> Result<Vec<u8>, Outcome>
-    requires ports { HaveAsMany graphs.now.first graphs.now.second }
+fn prove_match<W: Watch>(
+    alloc: Global,
+    graphs: &PairableGraphs<'_>,
+    watch: &W,
+) -> Result<Vec<u8>, Outcome>
     requires equal { HaveNpnpEqualFunctions graphs.now.first graphs.now.second }
     ensures account { IfOk result (λ account. IsProvedMatch graphs.now account.items) }
     ensures stopped { IfErr result (IsStopWithin graphs.now 1000000000) }
 {
     let solved = solve_by_search(alloc, graphs, DEFAULT_SEED, DEFAULT_BUDGET, watch)?;
     let text = text_of(alloc, &solved.account)?;
-    accept(alloc, graphs, &text)?;
+    accept(alloc, graphs.graphs(), &text)?;
     Ok(text)
 }
 

@@ -14,14 +14,14 @@ use account_core::Ban;
 use ban_book::BanBook;
 use class_refine::{Domains, Reason};
 use conflict_core::{Back, Learned, resolve};
-use net_core::Graphs;
+use port_sides::PairableGraphs;
 use std::alloc::{AllocError, Global};
 
 /// Goes back from an impasse: resolves the conflict to a ban, and deletes its latest pair at the last choice before which
 /// all others are held. It answers a ban without pairs where there is no such choice. Less is left than before.
 pub fn turn_back(
     alloc: Global,
-    graphs: &Graphs<'_>,
+    graphs: &PairableGraphs<'_>,
     domains: &mut Domains,
     queue: &mut Queue,
     impasse: Impasse,
@@ -48,7 +48,7 @@ pub fn turn_back(
 // What the conflict of an impasse is resolved to.
 fn learn(
     alloc: Global,
-    graphs: &Graphs<'_>,
+    graphs: &PairableGraphs<'_>,
     domains: &Domains,
     impasse: Impasse,
     book: &mut BanBook,

@@ -12,7 +12,7 @@ use circuits::Pair;
 use class_refine::{Domains, Reason};
 use conflict_core::Port;
 use net_core::Side;
-use port_covers::side::port_on;
+use port_sides::port_on;
 use std::alloc::AllocError;
 
 /// Deletes the open ways of both ports of a held pair: each of them clashes with it.

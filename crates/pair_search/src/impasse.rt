@@ -10,7 +10,7 @@ ghost use Rattle.pair_search.specs.Impasses.{IsImpasse};
 use ban_book::BanBook;
 use class_refine::Domains;
 use conflict_core::{Conflict, Port, conflict_of_ban, cover_port};
-use net_core::Graphs;
+use port_sides::PairableGraphs;
 use std::alloc::{AllocError, Global};
 
 /// Where it doesn't go on.
@@ -25,7 +25,7 @@ pub enum Impasse {
 /// The conflict that an impasse is.
 pub(crate) fn conflict_of(
     alloc: Global,
-    graphs: &Graphs<'_>,
+    graphs: &PairableGraphs<'_>,
     domains: &Domains,
     impasse: Impasse,
     book: &mut BanBook,
@@ -45,7 +45,7 @@ pub(crate) fn conflict_of(
 // The conflict of a port all of whose ways are deleted.
 fn conflict_of_port(
     alloc: Global,
-    graphs: &Graphs<'_>,
+    graphs: &PairableGraphs<'_>,
     domains: &Domains,
     port: Port,
     book: &mut BanBook,

@@ -16,7 +16,7 @@ use circuits::Pair;
 use class_refine::{Domains, Entry, Fate};
 use conflict_core::Port;
 use net_core::Side;
-use port_covers::side::port_on;
+use port_sides::port_on;
 use std::alloc::AllocError;
 
 /// Holds and deletes pairs as it follows, until nothing follows or it doesn't go on. Pairs that share a port with a held

@@ -5,14 +5,12 @@ use Rattle.std.proofs.lemmas.List.{append-nil, append_assoc, length-map}
 use Rattle.std.proofs.lemmas.List.Elements.{All-contains, All-cons, All-nil}
 use Rattle.std.proofs.lemmas.List.FromFn.{length-range_with_len, get_or-range_with_len}
 use Rattle.circuits.specs.declared.port.Pair.{Pair}
-use Rattle.circuits.specs.declared.port.PortKind.{PortKind}
-use Rattle.circuits.specs.declared.port.PortKind.TheVariants.{Input, Output}
 use Rattle.net_core.specs.Sides.{Graphs}
 use Rattle.net_core.specs.declared.graphs.Side.{Side}
 use Rattle.net_core.specs.declared.graphs.Side.TheVariants.{First, Second}
 use Rattle.account_core.specs.declared.step.Ban.{Ban}
 use Rattle.account_core.specs.declared.step.Step.TheVariants as step
-use Rattle.account_core.specs.Ports.{ports_in, AreOrdered, HaveAsMany, IsKnown}
+use Rattle.account_core.specs.Ports.{ports_in, AreOrdered, IsKnown}
 use Rattle.account_core.specs.Given.{Decided, given_of}
 use Rattle.account_core.specs.Covers.{IsReference}
 use Rattle.account_core.specs.Steps.{AreValidBans, IsValidBan}
@@ -60,10 +58,6 @@ range_below n k d below =
     let there : k < n = omega (arith, below, length-range_with_len 0 n) in
     omega (arith, get_or-range_with_len 0 n k d there, there)
 
-pub as_many : (graphs : Graphs) (kind : PortKind) → HaveAsMany graphs.first graphs.second → ports_in graphs.first kind ≡ ports_in graphs.second kind
-as_many graphs Input many = many.inputs
-as_many graphs Output many = many.outputs
-
 -- the ports that the ways of a port have on one side
 tried_ascends : (side : Side) (port count : ℕ) → Ascend (ports_tried side port count)
 tried_ascends First port count i j d less below = absurd (omega (arith, less, below))
@@ -80,7 +74,7 @@ tried_many Second port count = omega (arith, length-range_with_len 0 count)
 abbrev pub cover_of : Graphs → List Pair → Level → Ban
 cover_of graphs pairs level = record { pairs = pairs; step = step.Cover level.kind (ports_tried level.side level.port (ports_in graphs.second level.kind)) (ports_tried (other_side level.side) level.port (ports_in graphs.second level.kind)) level.refs }
 
-pub cover_valid : (graphs : Graphs) (bans : List Ban) (pairs : List Pair) (level : Level) (facts : List Decided) → HaveAsMany graphs.first graphs.second → All (IsKnown graphs) pairs → AreOrdered pairs → level.port < ports_in graphs.first level.kind → length level.refs ≡ ways_of graphs level → AreClosed bans pairs level → IsValidBan graphs (given_of facts bans) (cover_of graphs pairs level)
+pub cover_valid : (graphs : Graphs) (bans : List Ban) (pairs : List Pair) (level : Level) (facts : List Decided) → ports_in graphs.first level.kind ≡ ports_in graphs.second level.kind → All (IsKnown graphs) pairs → AreOrdered pairs → level.port < ports_in graphs.first level.kind → length level.refs ≡ ways_of graphs level → AreClosed bans pairs level → IsValidBan graphs (given_of facts bans) (cover_of graphs pairs level)
 cover_valid graphs bans pairs level facts many known ordered there all closed = record {
   known = known;
   ordered = ordered;
@@ -102,12 +96,12 @@ cover_valid graphs bans pairs level facts many known ordered there all closed = 
     count = ports_in graphs.second level.kind
 
     many_ports : ports_in graphs.first level.kind ≡ count
-    many_ports = as_many graphs level.kind many
+    many_ports = many
 
     here : level.port < count
     here = omega (arith, there, many_ports)
 
-pub cover_valid_of : (graphs : Graphs) (bans : List Ban) (pairs : List Pair) (level : Level) → HaveAsMany graphs.first graphs.second → All (IsKnown graphs) pairs → AreOrdered pairs → level.port < ports_in graphs.first level.kind → length level.refs ≡ ways_of graphs level → AreClosed bans pairs level → (ps : List Pair) (from to : List ℕ) → ps ≡ pairs → from ≡ ports_tried level.side level.port (ports_in graphs.second level.kind) → to ≡ ports_tried (other_side level.side) level.port (ports_in graphs.second level.kind) → (facts : List Decided) → IsValidBan graphs (given_of facts bans) (record { pairs = ps; step = step.Cover level.kind from to level.refs })
+pub cover_valid_of : (graphs : Graphs) (bans : List Ban) (pairs : List Pair) (level : Level) → ports_in graphs.first level.kind ≡ ports_in graphs.second level.kind → All (IsKnown graphs) pairs → AreOrdered pairs → level.port < ports_in graphs.first level.kind → length level.refs ≡ ways_of graphs level → AreClosed bans pairs level → (ps : List Pair) (from to : List ℕ) → ps ≡ pairs → from ≡ ports_tried level.side level.port (ports_in graphs.second level.kind) → to ≡ ports_tried (other_side level.side) level.port (ports_in graphs.second level.kind) → (facts : List Decided) → IsValidBan graphs (given_of facts bans) (record { pairs = ps; step = step.Cover level.kind from to level.refs })
 cover_valid_of graphs bans pairs level many known ordered there all closed ps from to ps_is from_is to_is facts =
     subst (λ l. IsValidBan graphs (given_of facts bans) (record { pairs = l; step = step.Cover level.kind from to level.refs })) (sym ps_is) (subst (λ l. IsValidBan graphs (given_of facts bans) (record { pairs = pairs; step = step.Cover level.kind l to level.refs })) (sym from_is) (subst (λ l. IsValidBan graphs (given_of facts bans) (record { pairs = pairs; step = step.Cover level.kind (ports_tried level.side level.port (ports_in graphs.second level.kind)) l level.refs })) (sym to_is) (cover_valid graphs bans pairs level facts many known ordered there all closed)))
 

@@ -3,7 +3,6 @@ use Rattle.std.proofs.Common.{◌≡◌, ℕ, zero, suc, ◌+◌, ◌*◌, ◌/�
 use Rattle.std.specs.Prelude.{Contains}
 use Rattle.std.specs.List.{AllZip, flat_map, range_with_len}
 use Rattle.std.proofs.lemmas.List.{get_or-map, append-nil}
-use Rattle.std.proofs.lemmas.List.Elements.{All-weaker}
 use Rattle.std.proofs.lemmas.Option.{same_Some}
 use Rattle.circuits.specs.declared.port.Pair.{Pair}
 use Rattle.circuits.specs.declared.port.PortKind.{PortKind}
@@ -11,24 +10,12 @@ use Rattle.circuits.specs.Literals.{EachAt}
 use Rattle.net_core.specs.declared.graphs.Side.{Side}
 use Rattle.net_core.specs.declared.graphs.Side.TheVariants.{First, Second}
 use Rattle.account_core.specs.declared.step.Ban.{Ban}
-use Rattle.account_core.specs.Ports.{Clash}
 use Rattle.account_core.specs.Given.{ban_at, given_of}
 use Rattle.account_core.specs.Covers.{way, ways, IsImpossible}
 use Rattle.port_covers.specs.declared.level.Level.{Level}
-use Rattle.account_core.specs.Tallies.{other_side}
+use Rattle.account_core.specs.Tallies.{other_side, port_on}
 use Rattle.port_covers.specs.Levels.{first_port, nth_way, ports_tried, second_port, IsClosed, AreClosed}
-use Rattle.port_covers.proofs.ListLemmas.{any_more, cons_more, each_push}
-
--- what closes a way beside some of the pairs closes it beside more of them
-pub closed_stays : (bans : List Ban) (held few more : List Pair) (pair : Pair) (ref : Option ℕ) → IsClosed bans held pair ref → All (Contains held) more → All (Contains more) few → IsClosed bans few pair ref → IsClosed bans more pair ref
-closed_stays bans held few more pair None whole among stays is = record {
-  refers = any_more (λ (x : Pair). Clash x pair) few more stays is.refers;
-  held = is.held;
-}
-closed_stays bans held few more pair (Some ban) whole among stays is = record {
-  refers = (λ imp. whole.refers.0 (any_more (λ (x : Pair). Clash x pair) more held among imp), All-weaker (Contains (pair ∷ few)) (Contains (pair ∷ more)) (λ x. cons_more pair few more x stays) (ban_at (given_of [] bans) ban) is.refers.1);
-  held = is.held;
-}
+use Rattle.port_covers.proofs.ListLemmas.{each_push}
 
 -- a way that clashes with a held pair is closed
 pub closed_by_clash : (bans : List Ban) (pairs : List Pair) (pair : Pair) → IsImpossible pairs pair → IsClosed bans pairs pair None
@@ -47,10 +34,6 @@ closed_by_ban bans pairs pair ban d below open' among = record {
   where
     by_same : (other : ℕ) → Some ban ≡ Some other → other < length bans
     by_same other is = subst (λ n. n < length bans) (same_Some ban other is) below
-
--- the pairs of a ban that closes a way
-pub pairs_of_closed : (bans : List Ban) (pairs : List Pair) (pair : Pair) (ban : ℕ) (d : Ban) → IsClosed bans pairs pair (Some ban) → All (Contains (pair ∷ pairs)) (get_or bans ban d).pairs
-pairs_of_closed bans pairs pair ban d is = subst (All (Contains (pair ∷ pairs))) (ban_pairs bans ban d (is.held ban refl)) is.refers.1
 
 -- one more way is closed
 pub closed_more : (bans : List Ban) (pairs : List Pair) (level : Level) (ref : Option ℕ) → AreClosed bans pairs level → IsClosed bans pairs (nth_way level.side level.kind level.port (length level.refs)) ref → EachAt (λ number r. IsClosed bans pairs (nth_way level.side level.kind level.port number) r) (level.refs ++ ref ∷ [])
@@ -111,3 +94,8 @@ all_ways side kind port count R refs same each =
 
     negated : (t : ℕ) → nth_way side kind port (2 * t + 1) ≡ way_with side kind port (0 + t) true
     negated t = let e : t ≡ 0 + t = omega arith in negated_way side kind port t ∙ ap (λ n. way_with side kind port n true) e
+
+-- the port of a way
+pub port_of_way : (side : Side) (kind : PortKind) (port number : ℕ) → port_on side (nth_way side kind port number) ≡ port
+port_of_way First kind port number = refl
+port_of_way Second kind port number = refl

@@ -3,5 +3,3 @@ pub mod OrderLemmas
 pub mod GatherLemmas
 pub mod ClosedLemmas
 pub mod BookLemmas
-pub mod CloseLemmas
-pub mod MarkLemmas

@@ -1,5 +1,5 @@
 -- Pairs that are held while a match is sought (partial signed bijections: Katebi and Markov, DATE 2010).
-use Rattle.std.specs.Prelude.{◌≡◌, ◌≢◌, ℕ, ◌<◌, ⊤, Bool, true, false, List, length, All, AllPairs, Any, Contains, slice_index_or}
+use Rattle.std.specs.Prelude.{◌≡◌, ◌≢◌, ℕ, ◌<◌, ⊤, Bool, false, List, All, AllPairs, Any, Contains, slice_index_or}
 use Rattle.circuits.specs.declared.port.Pair.{Pair}
 use Rattle.circuits.specs.declared.port.PortKind.{PortKind}
 use Rattle.circuits.specs.declared.port.PortKind.TheVariants.{Input, Output}
@@ -50,8 +50,3 @@ StandsBefore one other = ArePortsInTurn one.kind other.kind one.from other.from
 -- where a pair is of this kind, its first port's entry says where it goes
 abbrev pub IsEntryOf : PortKind → List (ℕ × Bool) → Pair → Type 0
 IsEntryOf kind entries pair = pair.kind ≡ kind → slice_index_or entries pair.from (0, false) ≡ (pair.to, pair.flip)
-
--- Marks on a circuit's ports of a kind, that say which are in a pair.
-pub record AreMarks (side : Side) (pairs : List Pair) (kind : PortKind) (marks : List Bool) : Type 0 where
-  pub marked : (port : ℕ) → port < length marks → slice_index_or marks port false ≡ true → IsTaken side pairs kind port
-  pub unmarked : (port : ℕ) → port < length marks → slice_index_or marks port false ≡ false → IsTaken side pairs kind port → ⊥

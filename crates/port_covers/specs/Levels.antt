@@ -1,5 +1,6 @@
--- How far the ways of a port were tried (backtracking with conflict-directed backjumping: Prosser, Comput. Intell. 1993).
-use Rattle.std.specs.Prelude.{◌≡◌, ℕ, ◌*◌, ◌/◌, ◌%◌, ◌<◌, ◌≤◌, ◌==◌, Bool, true, false, List, [], ◌∷◌, ◌++◌, length, map, take, Option, Some}
+-- The ways of a port, and what closes them (a value of a variable that is ruled out with its reason, as in conflict-directed
+-- backjumping: Prosser, Comput. Intell. 1993).
+use Rattle.std.specs.Prelude.{◌≡◌, ℕ, ◌*◌, ◌/◌, ◌%◌, ◌<◌, ◌==◌, List, [], ◌∷◌, ◌++◌, length, Option, Some}
 use Rattle.std.specs.List.{range_with_len}
 use Rattle.circuits.specs.declared.port.Pair.{Pair}
 use Rattle.circuits.specs.declared.port.PortKind.{PortKind}
@@ -10,10 +11,9 @@ use Rattle.net_core.specs.declared.graphs.Side.TheVariants.{First, Second}
 use Rattle.account_core.specs.declared.step.Ban.{Ban}
 use Rattle.account_core.specs.Ports.{ports_in}
 use Rattle.account_core.specs.Given.{Decided, given_of}
-use Rattle.account_core.specs.Covers.{way, IsImpossible, IsReference}
+use Rattle.account_core.specs.Covers.{way, IsReference}
 use Rattle.account_core.specs.Steps.{AreValidBans}
 use Rattle.port_covers.specs.declared.level.Level.{Level}
-use Rattle.port_covers.specs.Held.{AreHeld, IsTaken}
 
 -- of a port of a circuit and one of the other: that of the first circuit, and that of the second
 abbrev pub first_port : Side → ℕ → ℕ → ℕ
@@ -47,38 +47,6 @@ AreClosed bans pairs level =
 -- how many ways the port of a level has, where the circuits have as many ports
 abbrev pub ways_of : Graphs → Level → ℕ
 ways_of graphs level = 2 * ports_in graphs.second level.kind
-
--- A port that is in no pair, and whose first ways are closed.
-pub record IsTried (graphs : Graphs) (bans : List Ban) (pairs : List Pair) (level : Level) : Type 0 where
-  pub there : level.port < ports_in graphs.first level.kind
-  pub free : IsTaken level.side pairs level.kind level.port → ⊥
-  pub room : length level.refs ≤ ways_of graphs level
-  pub closed : AreClosed bans pairs level
-
--- the way that is tried: the first that isn't closed
-abbrev pub chosen : Level → Pair
-chosen level = nth_way level.side level.kind level.port (length level.refs)
-
--- The pairs that are held are the ways that are tried, and what is closed at a level is closed beside the pairs of the levels
--- before it.
-pub record IsSearch (graphs : Graphs) (bans : List Ban) (held : List Pair) (levels : List Level) : Type 0 where
-  pub pairs : AreHeld graphs held
-  pub tried : held ≡ map chosen levels
-  pub each : EachAt (λ i level. IsTried graphs bans (take i held) level) levels
-
--- the last way that is tried is open: it isn't impossible beside the pairs before it, so it shares no port with them
-abbrev pub IsOpen : List Pair → Pair → Type 0
-IsOpen pairs pair = IsImpossible pairs pair → ⊥
-
--- Of the ways after those that were closed, the ones that are impossible are closed until the first that isn't.
-pub record ClosesImpossible (held : List Pair) (ways : ℕ) (before after : Level) (open' : Bool) : Type 0 where
-  pub side_is : after.side ≡ before.side
-  pub kind_is : after.kind ≡ before.kind
-  pub port_is : after.port ≡ before.port
-  pub more : length before.refs ≤ length after.refs
-  pub closed : (bans : List Ban) → AreClosed bans held before → AreClosed bans held after
-  pub found : open' ≡ true → (length after.refs < ways) × IsOpen held (chosen after)
-  pub none : open' ≡ false → length after.refs ≡ ways
 
 -- Bans came after those that were held, and where those were valid all are, in view of any facts.
 pub record HoldsMore (graphs : Graphs) (before after : List Ban) : Type 0 where

@@ -1,16 +1,14 @@
-//! A port whose ways are tried.
+//! The ways of a port.
 
-ghost use Rattle.std.specs.Prelude.{◌≡◌, ◌*◌, ◌^◌, ◌<◌, ◌≤◌, [], IfOk, length};
-ghost use Rattle.account_core.specs.Tallies.{other_side};
-ghost use Rattle.port_covers.specs.Held.{AreMarks, IsTaken};
-ghost use Rattle.port_covers.specs.Levels.{chosen, nth_way, ClosesImpossible};
+ghost use Rattle.std.specs.Prelude.{◌≡◌, ◌^◌, ◌<◌, []};
+ghost use Rattle.port_covers.specs.Levels.{nth_way};
 
 use circuits::{Pair, PortKind};
 use items::Items;
 use net_core::Side;
-use std::alloc::{AllocError, Global};
+use std::alloc::Global;
 
-/// A port of a circuit whose ways are tried one after the other: with port 0 of the other circuit, plain and then
+/// A port of a circuit, and what closes each of its first ways: those with port 0 of the other circuit, plain and then
 /// negated, with port 1, and so on.
 #[derive(Debug, Drop)]
 pub struct Level {
@@ -33,33 +31,6 @@ impl Level {
             port,
             refs: Items::new(alloc),
         }
-    }
-
-    /// The way that is tried: the first that isn't closed.
-    pub fn chosen(&self) -> Pair
-        requires { length self.now.refs < 2 ^ 33 }
-        ensures { result ≡ chosen self.now }
-    {
-        nth_way(self.side, self.kind, self.port, self.refs.len() as u64)
-    }
-
-    /// Closes ways that clash with held pairs, until the first that doesn't, and answers whether there is one. Those
-    /// ports of the other circuit are marked that are in a held pair; the level's port is in none.
-    pub fn close_clashing(&mut self, held: &[Pair], marks: &[bool]) -> Result<bool, AllocError>
-        requires few { length marks.now < 2 ^ 32 }
-        requires room { length self.old.refs ≤ 2 * length marks.now }
-        requires free { IsTaken self.old.side held.now self.old.kind self.old.port → ⊥ }
-        requires marks { AreMarks (other_side self.old.side) held.now self.old.kind marks.now }
-        ensures { IfOk result (ClosesImpossible held.now (2 * length marks.now) self.old self.new) }
-    {
-        let _ = held;
-        for number in self.refs.len() as u64..2 * marks.len() as u64 {
-            if !marks[(number / 2) as usize] {
-                return Ok(true);
-            }
-            self.refs.push(None)?;
-        }
-        Ok(false)
     }
 }
 

@@ -4,6 +4,4 @@
 pub mod clash;
 pub mod cover;
 pub mod level;
-pub mod marks;
 pub mod needed;
-pub mod side;

@@ -197,7 +197,7 @@ valuations_agree net x left right ordered l r =
     agree_through (false ∷ feeds_differ left right) (false ∷ y) (false ∷ z) net.gates (omega (arith, length-feeds_differ left right same, length-map left (feed_bit x))) (omega (arith, length-map left (feed_bit x), length-map right (feed_bit x), same)) (ReadsBelow-start net.inputs y first_operand net.gates inputs ordered.first_operands) (ReadsBelow-start net.inputs y second_operand net.gates inputs ordered.second_operands) (start_agrees x left right same)
 
 -- the variable of a gate that may be shared
-shared_at : (first own : ℕ) (flags : List Bool) (t : ℕ) → t < length flags → slice_index_or (shared_from first own flags) t 0 ≡ cond (bit flags t) (own + t) (first + t)
+pub shared_at : (first own : ℕ) (flags : List Bool) (t : ℕ) → t < length flags → slice_index_or (shared_from first own flags) t 0 ≡ cond (bit flags t) (own + t) (first + t)
 shared_at first own [] t below = absurd (omega (arith, below))
 shared_at first own (true ∷ flags) zero below = omega arith
 shared_at first own (false ∷ flags) zero below = omega arith
@@ -249,7 +249,7 @@ chosen_bit true a flags w n own count whole of_own of_shared t below =
       | inr free ↦ ap (λ b. bit a (cond b (own + t) (n + 1 + t))) free ∙ of_shared t refl below (sym (get_or-drop (n + 1) flags t false) ∙ free)
     ]
 
-one_side : (left right : Side) → same_side left right ≡ true → left ≡ right
+pub one_side : (left right : Side) → same_side left right ≡ true → left ≡ right
 one_side First First same = refl
 one_side First Second same = cc
 one_side Second First same = cc

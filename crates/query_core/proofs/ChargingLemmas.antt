@@ -1,11 +1,11 @@
 -- A ledger as what lines are charged to.
-use Rattle.std.proofs.Common.{◌≡◌, ℕ, ◌+◌, ◌-◌, ◌<◌, Bool, true, false, List, [], ◌∷◌, ◌++◌, length, nat_lt, slice_index_or, slice_set, Result, Ok, Err, OnOk, IfErr, sym, ◌∙◌, ap, subst, arith}
+use Rattle.std.proofs.Common.{◌≡◌, ℕ, ◌+◌, ◌-◌, ◌<◌, Bool, true, false, List, [], ◌∷◌, ◌++◌, length, nat_lt, slice_index_or, slice_set, Result, Ok, Err, OnOk, IfErr, sym, ◌∙◌, ap, arith}
 use Rattle.std.proofs.lemmas.Bool.{lt-ltb, ltb-true}
 use Rattle.std.proofs.lemmas.List.{get_or-set_same, length-set, set-get_or, set-set}
 use Rattle.cnf_core.specs.declared.log.LogLine.{LogLine}
 use Rattle.cnf_core.specs.declared.stop.Stop.{Stop}
 use Rattle.cnf_core.specs.declared.stop.Stop.TheVariants.{Spent, Memory}
-use Rattle.cnf_core.specs.Charges.{Charging, IsCharged}
+use Rattle.cnf_core.specs.Charges.{IsCharged}
 use Rattle.cnf_core.specs.Charges.{IsRefused as IsNotCharged}
 use Rattle.query_core.specs.declared.ledger.Asked.{Asked}
 use Rattle.query_core.specs.Ledgers.{IsRefused, Ledgered, charging_of, last_asked, learned_in, lines_in, nothing_asked, one_if, with_line, with_lines}

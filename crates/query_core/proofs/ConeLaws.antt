@@ -24,10 +24,10 @@ use Rattle.query_core.proofs.FormulaLemmas.{gate_clause_at, gate_clause_count, c
 use Rattle.query_core.proofs.LawLemmas.{by_sign, fed_bit, false_there, gate_met, is_itself, literal_of_bit, ordered_side, value_there}
 
 -- what an output reaches has its operands' signals too
-first_reached : (net : Net) (k t : ℕ) (d : Gate) → t < length net.gates → ReachesGate net k t → Reaches net k (signal_of (slice_index_or net.gates t d).a)
+pub first_reached : (net : Net) (k t : ℕ) (d : Gate) → t < length net.gates → ReachesGate net k t → Reaches net k (signal_of (slice_index_or net.gates t d).a)
 first_reached net k t d within reached other fan_in = (fan_in.operands t d within (reached other fan_in)).0
 
-second_reached : (net : Net) (k t : ℕ) (d : Gate) → t < length net.gates → ReachesGate net k t → Reaches net k (signal_of (slice_index_or net.gates t d).b)
+pub second_reached : (net : Net) (k t : ℕ) (d : Gate) → t < length net.gates → ReachesGate net k t → Reaches net k (signal_of (slice_index_or net.gates t d).b)
 second_reached net k t d within reached other fan_in = (fan_in.operands t d within (reached other fan_in)).1
 
 -- where a signal's literal has its bit, so has each literal of it

@@ -3,7 +3,7 @@ use Rattle.std.proofs.Common.{◌≡◌, ◌≢◌, ℕ, zero, suc, ◌+◌, ◌
 use Rattle.std.specs.List.{range_with_len, AllByRecursion}
 use Rattle.std.proofs.lemmas.List.{get_or_append_left, get_or-append-add, length-append, length-map, length-drop}
 use Rattle.std.proofs.lemmas.List.Elements.{All-from_recursion, recursion_from_All}
-use Rattle.std.proofs.lemmas.List.FromFn.{length-range_with_len, map-range_with_len_more}
+use Rattle.std.proofs.lemmas.List.FromFn.{length-range_with_len}
 use Rattle.circuits.specs.declared.netlist.Lit.{Lit}
 use Rattle.circuits.specs.declared.netlist.Gate.{Gate}
 use Rattle.circuits.specs.Literals.{signal_of, is_negated as inverts, bit}
@@ -15,11 +15,7 @@ use Rattle.query_core.specs.declared.query.Feed.{Feed}
 use Rattle.query_core.specs.declared.query.Feed.TheVariants.{Fixed, Wire}
 use Rattle.query_core.specs.declared.query.Query.{Query}
 use Rattle.query_core.specs.Queries.{circuit_of, bits_in, IsQuery, IsWired}
-use Rattle.query_core.specs.Formulas.{feed_literal, plain, signal_literals, stand_in, stands_for, and_clauses, gate_clauses, half_clauses, clauses_by, feeds_differ, reaching, reaches, shared_from, same_side, left_variables, right_variables, left_literals, right_literals, output_literal, query_clauses, formula_of, IsHalf}
-
--- one variable more
-pub plain_more : (first n : ℕ) → map plain (range_with_len first (n + 1)) ≡ map plain (range_with_len first n) ++ plain (first + n) ∷ []
-plain_more first n = map-range_with_len_more plain first n (first + n) refl
+use Rattle.query_core.specs.Formulas.{feed_literal, plain, signal_literals, stand_in, stands_for, and_clauses, gate_clauses, half_clauses, clauses_by, feeds_differ, reaching, reaches, shared_from, same_side, left_variables, right_variables, left_literals, right_literals, output_literal, query_clauses, formula_of}
 
 -- how many clauses there are
 pub gate_clause_count : (literals : List SatLit) (first : ℕ) (gates : List Gate) → length (gate_clauses literals first gates) ≡ 3 * length gates
@@ -99,7 +95,7 @@ length-feeds_differ [] right same = refl
 length-feeds_differ (feed ∷ left) [] same = absurd (omega (arith, same))
 length-feeds_differ (feed ∷ left) (other ∷ right) same = ap suc (length-feeds_differ left right (omega (arith, same)))
 
-length-shared_from : (first own : ℕ) (reaches : List Bool) → length (shared_from first own reaches) ≡ length reaches
+pub length-shared_from : (first own : ℕ) (reaches : List Bool) → length (shared_from first own reaches) ≡ length reaches
 length-shared_from first own [] = refl
 length-shared_from first own (r ∷ reaches) = ap suc (length-shared_from (first + 1) (own + 1) reaches)
 
@@ -117,14 +113,6 @@ right_variable_count graphs query fits =
     let first = bits_in graphs query + 1 in
     let same : length query.left.feed ≡ length query.right.feed = fits.left.feed ∙ sym fits.right.feed in
     chosen_count (same_side query.left.side query.right.side) first (first + length (circuit_of graphs query.left).gates) (reaches query gates) (length gates) (omega (arith, reached_count query gates same, fits.left.feed))
-
-pub left_count : (graphs : Graphs) (query : Query) → IsQuery graphs query → length (left_literals graphs query) ≡ bits_in graphs query + 1 + length (circuit_of graphs query.left).gates
-left_count graphs query fits =
-    omega (arith, signal_count query.left.feed (left_variables graphs query), length-range_with_len (bits_in graphs query + 1) (length (circuit_of graphs query.left).gates), fits.left.feed)
-
-pub right_count : (graphs : Graphs) (query : Query) → IsQuery graphs query → length (right_literals graphs query) ≡ bits_in graphs query + 1 + length (circuit_of graphs query.right).gates
-right_count graphs query fits =
-    omega (arith, signal_count query.right.feed (right_variables graphs query), right_variable_count graphs query fits, fits.right.feed)
 
 -- literals whose variables are below a number
 abbrev pub AreBelow : ℕ → List SatLit → Type 0
@@ -244,13 +232,3 @@ count_of graphs query =
     let ls = left_literals graphs query in
     let rs = right_literals graphs query in
     omega (arith, clause_count (half_clauses left ls) (half_clauses right rs) (output_literal left ls query.left.output query.left_value) (output_literal right rs query.right.output query.right_value), gate_clause_count ls (left.inputs + 1) left.gates, gate_clause_count rs (right.inputs + 1) right.gates)
-
--- each circuit of a query has a literal for each of its signals
-pub left_half : (graphs : Graphs) (query : Query) → IsQuery graphs query → IsHalf (circuit_of graphs query.left) (left_literals graphs query) query.left.output
-left_half graphs query fits = record { literals_are = left_count graphs query fits; there = fits.left.output }
-
-pub right_half : (graphs : Graphs) (query : Query) → IsQuery graphs query → IsHalf (circuit_of graphs query.right) (right_literals graphs query) query.right.output
-right_half graphs query fits = record {
-  literals_are = omega (arith, right_count graphs query fits, fits.right.inputs);
-  there = fits.right.output;
-}

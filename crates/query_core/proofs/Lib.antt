@@ -1,6 +1,8 @@
 pub mod AssignmentLemmas
 pub mod FeedLemmas
 pub mod FormulaLemmas
+pub mod VariableLemmas
+pub mod ReachingLemmas
 pub mod LawLemmas
 pub mod MatchLemmas
 pub mod RefutedLemmas

@@ -47,6 +47,11 @@ pub record AreReached (net : Net) (k : ℕ) (gates : List ℕ) : Type 0 where
   pub there : All (λ t. t < length net.gates) gates
   pub reached : (t : ℕ) → (Contains gates t ↔ ReachesGate net k t)
 
+-- Those that one of the outputs reaches.
+pub record IsSomeCone (net : Net) (gates : List ℕ) : Type 0 where
+  pub output : ℕ
+  pub are : AreReached net output gates
+
 -- the three numbers of each of these gates' clauses
 abbrev pub gate_ids : ℕ → List ℕ → List ℕ
 gate_ids first [] = []
@@ -63,3 +68,9 @@ pub record AreConeIds (graphs : Graphs) (query : Query) (ids : List ℕ) : Type 
   pub ascending : AllPairs (λ one other. one < other) ids
   pub there : All (λ id. id < length (query_clauses graphs query)) ids
   pub cones : (id : ℕ) → (Contains ids id ↔ IsConeId graphs query id)
+
+-- A query of two circuits, with the numbers of the clauses that belong to its cones.
+pub record Coned : Type 0 where
+  pub graphs : Graphs
+  pub query : Query
+  pub ids : List ℕ

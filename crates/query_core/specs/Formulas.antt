@@ -1,6 +1,6 @@
 -- A query's clauses (Tseitin's encoding: a variable for each gate, and three clauses that say that it is the AND of its
 -- operands).
-use Rattle.std.specs.Prelude.{◌≡◌, ℕ, ◌+◌, ◌<◌, ◌==◌, ◌&&◌, ◌||◌, Bool, true, false, not, List, [], ◌∷◌, ◌++◌, length, map, drop, slice_index_or, if◌then◌else◌}
+use Rattle.std.specs.Prelude.{ℕ, ◌+◌, ◌==◌, ◌&&◌, ◌||◌, Bool, true, false, not, List, [], ◌∷◌, ◌++◌, length, map, drop, slice_index_or, if◌then◌else◌}
 use Rattle.std.specs.Bool.{beq}
 use Rattle.std.specs.List.{range_with_len}
 use Rattle.circuits.specs.declared.netlist.Lit.{Lit}
@@ -142,14 +142,3 @@ pub record IsRefuted (graphs : Graphs) (query : Query) : Type 0 where
 pub record Asking : Type 0 where
   pub graphs : Graphs
   pub query : Query
-
--- What the clauses of a query are told by.
-pub record IsAsking (graphs : Graphs) (query : Query) (left right : List SatLit) : Type 0 where
-  pub fits : IsQuery graphs query
-  pub left_is : left ≡ left_literals graphs query
-  pub right_is : right ≡ right_literals graphs query
-
--- A circuit with a literal for each of its signals, and an output that is there.
-pub record IsHalf (net : Net) (literals : List SatLit) (output : ℕ) : Type 0 where
-  pub literals_are : length literals ≡ net.inputs + 1 + length net.gates
-  pub there : output < length net.outputs

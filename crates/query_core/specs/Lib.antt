@@ -8,6 +8,7 @@ pub mod Facts
 pub mod Images
 pub mod ClaimQueries
 pub mod ConeClauses
+pub mod Variables
 pub use Rattle.cnf_core.specs.Clauses
 pub use Rattle.cnf_core.specs.Derivations
 pub use Rattle.net_core.specs.Sides

@@ -4,20 +4,23 @@
 mod base;
 mod claim_queries;
 mod claims;
+mod clauses;
+mod cone_clauses;
 mod cones;
 pub mod fact_laws;
 mod feeds;
 mod images;
 pub mod laws;
 mod ledger;
-mod literals;
 mod matches;
 mod query;
+mod reaching;
+mod variables;
 
 pub use base::QueryBase;
 pub use claim_queries::of_claim;
 pub use claims::{Claim, Shape};
-pub use cones::cone_ids;
+pub use cone_clauses::ConeClauses;
 pub use feeds::Feeds;
 pub use images::image;
 pub use ledger::{Asked, Ledger};

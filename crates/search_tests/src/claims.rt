@@ -11,6 +11,7 @@ use cnf_core::Stop;
 use fact_tests::FactBook;
 use net_core::{Graph, Graphs, Side};
 use oracle_core::Oracle;
+use port_sides::PairableGraphs;
 use query_core::{Claim, Ledger, Shape};
 use samples::SampleFault;
 use std::alloc::{AllocError, Global};
@@ -97,10 +98,13 @@ fn by_table(
     budget: u64,
 ) -> Result<Outcome, AllocError> {
     let claim = of_first(shape);
-    if !(are_small(graphs) & is_claim(graphs, claim)) {
+    let Some(pairable) = PairableGraphs::new(graphs) else {
+        return Ok(Outcome::Unfit);
+    };
+    if !(are_small(&pairable) & is_claim(graphs, claim)) {
         return Ok(Outcome::Unfit);
     }
-    let mut oracle = TableOracle::new(alloc, graphs)?;
+    let mut oracle = TableOracle::new(alloc, &pairable)?;
     let mut ledger = Ledger::new(alloc, budget);
     let answer = oracle.claim(alloc, claim, &mut ledger);
     Ok(told(&answer, oracle.facts(), ledger.learned()))

@@ -2,22 +2,20 @@
 
 ghost use Rattle.std.specs.Prelude.{◌≡◌, ◌<◌};
 
-use crate::sample_circuits::{
-    AND, OR, Sample, XOR, are_small, drawn, drawn_moved, output_on, pair,
-};
+use crate::sample_circuits::{AND, OR, Sample, XOR, drawn, drawn_moved, output_on, pair};
 use cell_splits::Draws;
 use net_core::{Graphs, Matching};
+use port_sides::PairableGraphs;
 use std::alloc::{AllocError, Global};
 use std::test::Fail;
 use table_guess::{Guesser, Trials};
 
 /// What is guessed of two small circuits.
 fn guessed(alloc: Global, graphs: &Graphs<'_>, seed: u64) -> Result<Option<Matching>, AllocError> {
-    if !are_small(graphs) {
-        return Ok(None);
+    match PairableGraphs::new(graphs) {
+        Some(graphs) => Guesser::new(alloc, &graphs, seed)?.guess(alloc, &graphs),
+        None => Ok(None),
     }
-    let mut guesser = Guesser::new(alloc, graphs, seed)?;
-    guesser.guess(alloc, graphs)
 }
 
 /// Whether a table, where there is one, inverts an output.

@@ -1,9 +1,9 @@
 //! Small circuits: by the numbers of their literals, or drawn.
 
 ghost use Rattle.std.specs.Prelude.{◌≤◌, IsTrue};
-ghost use Rattle.account_core.specs.Ports.{HaveAsMany};
 
-use net_core::{Graph, Graphs, lit_value};
+use net_core::{Graph, lit_value};
+use port_sides::PairableGraphs;
 use rand_core::utils::NextWord;
 use rand_pcg::Pcg32;
 use samples::{GraphPair, SampleFault, graph};
@@ -63,16 +63,11 @@ pub(crate) fn pair(alloc: Global, first: Sample, second: Sample) -> Result<Graph
     })
 }
 
-/// Whether two circuits have as many ports, and at most 12 inputs.
-pub(crate) fn are_small(graphs: &Graphs<'_>) -> bool
-    ensures ports { IsTrue result → HaveAsMany graphs.now.first graphs.now.second }
-    ensures small { IsTrue result → graphs.now.first.inputs ≤ 12 }
+/// Whether two circuits have at most 12 inputs.
+pub(crate) fn are_small(graphs: &PairableGraphs<'_>) -> bool
+    ensures { IsTrue result → graphs.now.first.inputs ≤ 12 }
 {
-    let inputs = graphs.first().inputs();
-    let outputs = graphs.first().outputs().len();
-    (inputs == graphs.second().inputs())
-        & (outputs == graphs.second().outputs().len())
-        & (inputs <= 12)
+    graphs.first().inputs() <= 12
 }
 
 /// A circuit of three inputs and six gates, drawn by a number.

@@ -2,7 +2,6 @@
 
 ghost use Rattle.std.specs.Prelude.{◌≡◌, [], false};
 ghost use Rattle.oracle_core.specs.Oracles.{Suits};
-ghost use Rattle.account_core.specs.Ports.{HaveAsMany};
 ghost use Rattle.query_core.specs.Ledgers.{Ledgered};
 
 use crate::sample_circuits::{AND, OR, Sample, XOR, are_small, pair};
@@ -11,6 +10,7 @@ use fact_tests::FactBook;
 use match_search::{Found, search};
 use net_core::Graphs;
 use oracle_core::Oracle;
+use port_sides::PairableGraphs;
 use query_core::Ledger;
 use std::alloc::{AllocError, Global};
 use std::test::Fail;
@@ -84,9 +84,8 @@ fn is_match(found: &Found) -> bool {
 }
 
 /// What a search over a new oracle finds; None where it is stopped.
-fn found_by<O: Oracle>(alloc: Global, graphs: &Graphs<'_>, oracle: &mut O) -> Option<bool>
+fn found_by<O: Oracle>(alloc: Global, graphs: &PairableGraphs<'_>, oracle: &mut O) -> Option<bool>
     requires graphs { graphs.now ≡ (O.known oracle.old).graphs }
-    requires ports { HaveAsMany graphs.now.first graphs.now.second }
     requires suits { (ledger : Ledgered)
         → ledger.asked ≡ []
         → ledger.spent ≡ false
@@ -101,7 +100,7 @@ fn found_by<O: Oracle>(alloc: Global, graphs: &Graphs<'_>, oracle: &mut O) -> Op
 }
 
 /// What a search over the oracle that tries all vectors finds.
-fn by_table(alloc: Global, graphs: &Graphs<'_>) -> Result<Option<bool>, AllocError> {
+fn by_table(alloc: Global, graphs: &PairableGraphs<'_>) -> Result<Option<bool>, AllocError> {
     if !are_small(graphs) {
         return Ok(None);
     }
@@ -110,17 +109,17 @@ fn by_table(alloc: Global, graphs: &Graphs<'_>) -> Result<Option<bool>, AllocErr
 }
 
 /// What a search over the book of facts finds.
-fn by_book(alloc: Global, graphs: &Graphs<'_>) -> Result<Option<bool>, AllocError> {
-    if !are_small(graphs) {
-        return Ok(None);
-    }
-    let mut oracle = FactBook::new(alloc, graphs, 1)?;
+fn by_book(alloc: Global, graphs: &PairableGraphs<'_>) -> Result<Option<bool>, AllocError> {
+    let mut oracle = FactBook::new(alloc, graphs.graphs(), 1)?;
     Ok(found_by(alloc, graphs, &mut oracle))
 }
 
 /// What is found over both oracles.
 fn by_both(alloc: Global, graphs: &Graphs<'_>) -> Result<(Option<bool>, Option<bool>), AllocError> {
-    Ok((by_table(alloc, graphs)?, by_book(alloc, graphs)?))
+    match PairableGraphs::new(graphs) {
+        Some(graphs) => Ok((by_table(alloc, &graphs)?, by_book(alloc, &graphs)?)),
+        None => Ok((None, None)),
+    }
 }
 
 fn found(

@@ -2,10 +2,11 @@
 
 ghost use Rattle.std.specs.Prelude.{◌≡◌, ◌<◌, IfOk, length};
 
-use net_core::{Graph, Lit};
+use net_core::Graph;
+use net_supports::Supports;
 use std::alloc::{AllocError, Global};
 
-/// Marks the inputs that an output and the gates that it reaches read.
+/// Marks the inputs that an output reads through gates.
 ///
 /// # Errors
 ///
@@ -18,26 +19,10 @@ pub(crate) fn read_inputs(
     requires { output < length graph.now.outputs }
     ensures { IfOk result (λ marks. length marks.items ≡ graph.now.inputs) }
 {
-    let cone = graph.cone(alloc, output)?;
-    let mut marks = vec![in alloc; false; graph.inputs() as usize]?;
-    mark_input(graph.outputs()[output as usize], &mut marks);
-    for t in cone.iter() {
-        let gate = graph.gates()[*t as usize];
-        mark_input(gate.a, &mut marks);
-        mark_input(gate.b, &mut marks);
+    let supports = Supports::new(alloc, graph)?;
+    let mut marks = Vec::with_capacity(alloc, graph.inputs() as usize)?;
+    for input in 0..graph.inputs() {
+        marks.push(supports.reaches(output, input))?;
     }
     Ok(marks)
-}
-
-/// Marks the input of a literal, if it is one of an input.
-fn mark_input(literal: Lit, marks: &mut [bool])
-    ensures { length marks.new ≡ length marks.old }
-{
-    let signal = literal.signal() as usize;
-    if signal == 0 {
-        return;
-    }
-    if signal <= marks.len() {
-        marks[signal - 1] = true;
-    }
 }

@@ -10,7 +10,7 @@ ghost use Rattle.sim_signature.specs.Signatures.{AreOf, Covers, HasAllVectors, I
 use crate::change::{Change, ends_of, is_inverted};
 use crate::columns::columns;
 use crate::lanes::{bit_at, first_vector, picked};
-use crate::vectors::vectors;
+use crate::vectors::{near_vectors, vectors};
 use bit_list::Bits;
 use items::Items;
 use net_core::Graph;
@@ -86,6 +86,43 @@ impl<'a> Signatures<'a> {
         ensures all { IfOk result (λ signatures. graph.now.inputs ≤ 6 → HasAllVectors signatures) }
     {
         let inputs = vectors(alloc, graph.inputs(), generator)?;
+        Signatures::on(alloc, graph, first, count, inputs)
+    }
+
+    /// The signatures of an output on 512 vectors near one, that are drawn from the number `seed`. Near a vector that breaks
+    /// a claim of the output there are others that break other claims, also where few vectors do.
+    ///
+    /// # Errors
+    ///
+    /// Only when out of memory.
+    pub fn near(
+        alloc: Global,
+        graph: &'a Graph,
+        output: u32,
+        vector: &Bits,
+        seed: u64,
+    ) -> Result<Signatures<'a>, AllocError>
+        requires output { output < length graph.now.outputs }
+        requires inputs { length vector.now ≡ graph.now.inputs }
+        ensures { IfOk result (AreOf graph.now output 1) }
+    {
+        let inputs = near_vectors(alloc, vector, &mut Pcg32::new(seed, output as u64))?;
+        Signatures::on(alloc, graph, output, 1, inputs)
+    }
+
+    /// The signatures on these vectors, a block for each input.
+    fn on(
+        alloc: Global,
+        graph: &'a Graph,
+        first: u32,
+        count: u32,
+        inputs: Vec<u64x8>,
+    ) -> Result<Signatures<'a>, AllocError>
+        requires inputs { length inputs.items ≡ graph.now.inputs }
+        requires there { first + count ≤ length graph.now.outputs }
+        ensures { IfOk result (λ signatures. signatures
+            ≡ record { net = graph.now; first = first; count = count; blocks = inputs.items }) }
+    {
         let columns = columns(alloc, graph, &inputs, first, count)?;
         Ok(Signatures {
             graph,

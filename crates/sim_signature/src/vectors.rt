@@ -5,6 +5,7 @@ ghost use Rattle.circuits.specs.Literals.{vector_of};
 ghost use Rattle.word_sim.specs.Columns.{word_bit, word_of};
 ghost use Rattle.sim_signature.specs.Blocks.{pattern};
 
+use bit_list::Bits;
 use rand_core::Rng;
 use rand_pcg::Pcg32;
 use std::alloc::{AllocError, Global};
@@ -96,4 +97,47 @@ fn drawn_block(generator: &mut Pcg32) -> u64x8 {
         generator.next_u64(),
         generator.next_u64(),
     ])
+}
+
+/// 512 vectors near one, a block of eight words for each input, drawn by a generator: of the first 128 each input is inverted
+/// on one of 16, of the others on one of 32, of 64 and of 128. So circuits of a hundred inputs, where few vectors are near
+/// with fewer inverted, and those of few inputs, where one of 128 mostly leaves the vector as it is, both get many.
+///
+/// # Errors
+///
+/// Only when out of memory.
+pub(crate) fn near_vectors(
+    alloc: Global,
+    vector: &Bits,
+    generator: &mut Pcg32,
+) -> Result<Vec<u64x8>, AllocError>
+    ensures { IfOk result (λ blocks. length blocks.items ≡ length vector.now) }
+{
+    let mut blocks = Vec::with_capacity(alloc, vector.len())?;
+    for place in 0..vector.len() {
+        blocks.push(near_block(vector.get(place), generator))?;
+    }
+    Ok(blocks)
+}
+
+fn near_block(bit: bool, generator: &mut Pcg32) -> u64x8 {
+    u64x8::from_array([
+        near_word(bit, 4, generator),
+        near_word(bit, 4, generator),
+        near_word(bit, 5, generator),
+        near_word(bit, 5, generator),
+        near_word(bit, 6, generator),
+        near_word(bit, 6, generator),
+        near_word(bit, 7, generator),
+        near_word(bit, 7, generator),
+    ])
+}
+
+/// A bit 64 times, each time inverted with a chance of one in 2^`halvings`.
+fn near_word(bit: bool, halvings: u32, generator: &mut Pcg32) -> u64 {
+    let mut inverted = u64::MAX;
+    for _ in 0..halvings {
+        inverted &= generator.next_u64();
+    }
+    if bit { !inverted } else { inverted }
 }

@@ -8,7 +8,7 @@ use crate::refutation::takes_all;
 use cnf_core::{Base, LogLine, SatLit};
 use joint_hash::merge;
 use net_core::Graphs;
-use query_core::{Query, QueryBase};
+use query_core::{ConeClauses, Query, QueryBase};
 use rand_pcg::Pcg32;
 use samples::{GraphPair, graph};
 use std::alloc::{AllocError, Global};
@@ -17,8 +17,8 @@ use std::test::Fail;
 fn lemmas_of(alloc: Global, graphs: &Graphs<'_>, query: &Query) -> Result<Vec<LogLine>, AllocError>
     requires { IsQuery graphs.now query.now }
 {
-    let base = QueryBase::new(alloc, graphs, query)?;
-    merge(alloc, &base)
+    let cones = ConeClauses::new(alloc, graphs, query)?;
+    merge(alloc, &cones)
 }
 
 fn is_clause(line: &LogLine, numbers: &[u64]) -> bool {
@@ -204,8 +204,9 @@ fn are_lemmas(
 ) -> Result<bool, AllocError>
     requires { IsQuery graphs.now query.now }
 {
+    let cones = ConeClauses::new(alloc, graphs, query)?;
+    let lines = merge(alloc, &cones)?;
     let base = QueryBase::new(alloc, graphs, query)?;
-    let lines = merge(alloc, &base)?;
     let hold = all_hold(alloc, &base, &lines)?;
     let taken = takes_all(alloc, base, &lines)?;
     Ok(hold & taken & (lines.len() >= least))

@@ -7,7 +7,7 @@ use cnf_core::{Base, SatLit};
 use items::Items;
 use net_core::{Graphs, Matching, Pair, PortKind, Side};
 use query_core::{
-    Claim, Feed, Feeds, Query, QueryBase, Shape, cone_ids, image, of_claim, of_match,
+    Claim, ConeClauses, Feed, Feeds, Query, QueryBase, Shape, image, of_claim, of_match,
 };
 use samples::{GraphPair, graph, matching};
 use std::alloc::{AllocError, Global};
@@ -220,6 +220,23 @@ fn shares_gates_that_reach_no_difference(rt: HostRuntime) -> Result<(), Fail> {
     Ok(())
 }
 
+fn has_clause(base: &QueryBase<'_>, id: u64, literals: &[SatLit]) -> bool {
+    if id >= base.count() {
+        return false;
+    }
+    base.clause(id).literals() == literals
+}
+
+/// Whether the cones' clauses are those that the whole query has under their numbers.
+fn are_those_of(base: &QueryBase<'_>, cones: &ConeClauses<'_>) -> bool {
+    for id in cones.ids().iter() {
+        if !has_clause(base, *id, cones.clause(*id).literals()) {
+            return false;
+        }
+    }
+    true
+}
+
 fn has_cone_ids(
     alloc: Global,
     graphs: &Graphs<'_>,
@@ -229,8 +246,8 @@ fn has_cone_ids(
     requires { IsQuery graphs.now query.now }
 {
     let base = QueryBase::new(alloc, graphs, query)?;
-    let ids = cone_ids(alloc, &base)?;
-    Ok(ids.as_slice() == wanted)
+    let cones = ConeClauses::new(alloc, graphs, query)?;
+    Ok(are_those_of(&base, &cones) & (cones.ids() == wanted))
 }
 
 fn has_rise_ids(alloc: Global, graphs: &Graphs<'_>, wanted: &[u64]) -> Result<bool, Fail> {

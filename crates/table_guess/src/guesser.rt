@@ -1,7 +1,6 @@
 //! Tables that may be a match.
 
 ghost use Rattle.std.specs.Prelude.{◌≡◌, IfOk, IfSome, length};
-ghost use Rattle.account_core.specs.Ports.{HaveAsMany};
 ghost use Rattle.circuits.specs.Matches.{HavePorts};
 
 use crate::choice::{Next, next_level};
@@ -18,8 +17,9 @@ use cell_splits::{
 };
 use flip_sim::{FlipSim, Lanes};
 use items::Items;
-use net_core::{Graph, Graphs, Matching, Side};
+use net_core::{Graph, Matching, Side};
 use port_cells::Slack;
+use port_sides::PairableGraphs;
 use std::alloc::{AllocError, Global};
 
 /// How many words of gates may be computed, about a second's.
@@ -119,7 +119,11 @@ impl<'a> Guesser<'a> {
     /// # Errors
     ///
     /// Only when out of memory.
-    pub fn new(alloc: Global, graphs: &Graphs<'a>, seed: u64) -> Result<Guesser<'a>, AllocError> {
+    pub fn new(
+        alloc: Global,
+        graphs: &PairableGraphs<'a>,
+        seed: u64,
+    ) -> Result<Guesser<'a>, AllocError> {
         let first = FlipSim::new(alloc, graphs.first())?;
         let second = FlipSim::new(alloc, graphs.second())?;
         let words = first.words_of_flips().max(second.words_of_flips());
@@ -163,9 +167,8 @@ impl<'a> Guesser<'a> {
     pub fn guess(
         &mut self,
         alloc: Global,
-        graphs: &Graphs<'_>,
+        graphs: &PairableGraphs<'_>,
     ) -> Result<Option<Matching>, AllocError>
-        requires ports { HaveAsMany graphs.now.first graphs.now.second }
         ensures { IfOk result (λ found. IfSome found
             (λ table. HavePorts graphs.now.first graphs.now.second table.inputs table.outputs)) }
     {

@@ -1,27 +1,27 @@
 //! Tables from cells.
 
 ghost use Rattle.std.specs.Prelude.{◌≡◌, IfOk, IfSome, length};
-ghost use Rattle.account_core.specs.Ports.{HaveAsMany};
 ghost use Rattle.circuits.specs.Matches.{HavePorts};
 
 use cell_splits::State;
+use circuits::PortKind;
 use items::Items;
-use net_core::{Graphs, Matching, Side};
+use net_core::{Matching, Side};
 use port_cells::{Cells, port_at};
+use port_sides::PairableGraphs;
 use std::alloc::{AllocError, Global};
 
 /// The table of cells, if they make one: within a cell the first literal goes to the first, and so on.
 pub(crate) fn matching_of(
     alloc: Global,
-    graphs: &Graphs<'_>,
+    graphs: &PairableGraphs<'_>,
     state: &State,
 ) -> Result<Option<Matching>, AllocError>
-    requires ports { HaveAsMany graphs.now.first graphs.now.second }
     ensures { IfOk result (λ found. IfSome found
         (λ table. HavePorts graphs.now.first graphs.now.second table.inputs table.outputs)) }
 {
-    let inputs = graphs.first().inputs();
-    let outputs = graphs.first().outputs().len() as u32;
+    let inputs = graphs.ports(PortKind::Input);
+    let outputs = graphs.ports(PortKind::Output);
     let table = Matching {
         inputs: entries(alloc, &state.inputs)?,
         outputs: entries(alloc, &state.outputs)?,

@@ -9,7 +9,8 @@ ghost use Rattle.word_sim.specs.Columns.{vector_at};
 use crate::vectors::{first_vectors, put_vector};
 use bit_list::Bits;
 use circuits::{Pair, PortKind};
-use net_core::{Graph, Graphs};
+use net_core::Graph;
+use port_sides::PairableGraphs;
 use std::alloc::{AllocError, Global};
 use std::simd::prelude::*;
 use word_sim::{Rails, Words, and_lanes, rails_eval, simulate};
@@ -73,7 +74,7 @@ impl Trials {
     pub fn suspect(
         &self,
         alloc: Global,
-        graphs: &Graphs<'_>,
+        graphs: &PairableGraphs<'_>,
         held: &[Pair],
     ) -> Result<Option<Suspect>, AllocError>
         requires trials { AreTrials graphs.now.first self.now }
@@ -96,7 +97,7 @@ impl Trials {
     fn suspect_in(
         &self,
         alloc: Global,
-        graphs: &Graphs<'_>,
+        graphs: &PairableGraphs<'_>,
         held: &[Pair],
         word: usize,
     ) -> Result<Option<Suspect>, AllocError>

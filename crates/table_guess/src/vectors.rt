@@ -79,8 +79,30 @@ fn bits_for(input: u32, word: usize, whole: bool, generator: &mut Pcg32) -> u64 
     if whole {
         word_of_all(input, word)
     } else {
-        generator.next_u64()
+        drawn(word, generator)
     }
+}
+
+// A drawn word. Of eight words, a block, two are even, and the others mostly 0 or mostly 1: an output that is nearly always 1 on
+// even vectors, as whether a graph has an edge between two of the inputs that are 1, tells the graph only where few inputs are.
+fn drawn(word: usize, generator: &mut Pcg32) -> u64 {
+    match word % 8 {
+        2 | 5 => sparse(2, generator),
+        4 => sparse(3, generator),
+        7 => sparse(4, generator),
+        3 => !sparse(2, generator),
+        6 => !sparse(3, generator),
+        _ => generator.next_u64(),
+    }
+}
+
+// A word of which one bit of 2^draws is 1, on average.
+fn sparse(draws: u32, generator: &mut Pcg32) -> u64 {
+    let mut word = u64::MAX;
+    for _draw in 0..draws {
+        word &= generator.next_u64();
+    }
+    word
 }
 
 /// Writes a vector to a bit of the first word.

@@ -6,7 +6,6 @@ ghost use Rattle.query_core.specs.Claims.{IsClaim};
 ghost use Rattle.query_core.specs.ClaimQueries.{claim_query};
 ghost use Rattle.query_core.specs.Queries.{IsQuery, bits_in};
 ghost use Rattle.account_core.specs.Facts.{IsEvidence};
-ghost use Rattle.account_core.specs.Ports.{HaveAsMany};
 ghost use Rattle.ask_core.specs.Answers.{IsAnswer};
 ghost use Rattle.fact_tests.specs.Asking.{IsDecided, IsHalted};
 
@@ -15,8 +14,9 @@ use crate::vectors::meeting_vector;
 use account_core::Evidence;
 use ask_core::Answer;
 use cnf_core::Stop;
-use fact_tests::{Decide, with_values};
+use fact_tests::{Decide, evidence_of};
 use net_core::Graphs;
+use port_sides::PairableGraphs;
 use query_core::{Claim, Ledger, Query, of_claim};
 use std::alloc::Global;
 use std::marker::Model;
@@ -40,12 +40,13 @@ impl<'a> Model for AllVectors<'a> {
 }
 
 impl<'a> AllVectors<'a> {
-    pub(crate) fn new(graphs: &'a Graphs<'a>) -> AllVectors<'a>
-        requires ports { HaveAsMany graphs.now.first graphs.now.second }
+    pub(crate) fn new(graphs: &PairableGraphs<'a>) -> AllVectors<'a>
         requires small { graphs.now.first.inputs ≤ 12 }
         ensures { result ≡ graphs.now }
     {
-        AllVectors { graphs }
+        AllVectors {
+            graphs: graphs.graphs(),
+        }
     }
 }
 
@@ -62,7 +63,7 @@ impl<'a> Decide for AllVectors<'a> {
         claim: &Claim,
         ledger: &mut Ledger,
     ) -> Result<Evidence, Stop> {
-        evidence_of(alloc, self.graphs, claim, ledger)
+        decide(alloc, self.graphs, claim, ledger)
     }
 
     fn answer_to(&self, alloc: Global, query: &Query, ledger: &mut Ledger) -> Result<Answer, Stop> {
@@ -99,8 +100,8 @@ fn answer_to(
     }
 }
 
-/// What the answer of a claim's query says of the claim.
-fn evidence_of(
+/// Decides a claim by its query.
+fn decide(
     alloc: Global,
     graphs: &Graphs<'_>,
     claim: &Claim,
@@ -117,11 +118,7 @@ fn evidence_of(
 {
     let query = of_claim(alloc, graphs, claim)?;
     match answer_to(alloc, graphs, &query, ledger) {
-        Ok(Answer::Vector(vector)) => {
-            let vector = with_values(alloc, vector, &claim.shape)?;
-            Ok(Evidence::Fails(vector))
-        }
-        Ok(Answer::Refuted(log)) => Ok(Evidence::Holds(log)),
+        Ok(answer) => Ok(evidence_of(alloc, graphs, claim, answer)?),
         Err(stop) => Err(stop),
     }
 }

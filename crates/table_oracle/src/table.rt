@@ -3,14 +3,14 @@
 ghost use Rattle.std.specs.Prelude.{◌≡◌, ◌≤◌, [], false, IfOk};
 ghost use Rattle.query_core.specs.Ledgers.{Ledgered};
 ghost use Rattle.oracle_core.specs.Oracles.{Suits};
-ghost use Rattle.account_core.specs.Ports.{HaveAsMany};
 
 use crate::answering::AllVectors;
 use account_core::Fact;
 use cnf_core::Stop;
 use fact_tests::Book;
-use net_core::{Graphs, Matching};
+use net_core::Matching;
 use oracle_core::{Compared, Oracle};
+use port_sides::PairableGraphs;
 use query_core::{Claim, Ledger};
 use std::alloc::{AllocError, Global};
 use std::marker::Model;
@@ -38,8 +38,7 @@ impl<'a> TableOracle<'a> {
     /// # Errors
     ///
     /// Only when out of memory.
-    pub fn new(alloc: Global, graphs: &'a Graphs<'a>) -> Result<TableOracle<'a>, AllocError>
-        requires ports { HaveAsMany graphs.now.first graphs.now.second }
+    pub fn new(alloc: Global, graphs: &PairableGraphs<'a>) -> Result<TableOracle<'a>, AllocError>
         requires small { graphs.now.first.inputs ≤ 12 }
         ensures empty { IfOk result (λ table. table ≡ record { graphs = graphs.now; facts = []; answered = [] }) }
         ensures suits { IfOk result (λ table. (ledger : Ledgered)

@@ -1,5 +1,5 @@
 -- One place more.
-use Rattle.std.proofs.Common.{◌≡◌, ◌+◌, ◌≤◌, suc, Bool, true, false, cond, ap, arith, sym, ◌∙◌, map, []}
+use Rattle.std.proofs.Common.{◌≡◌, ◌+◌, ◌≤◌, suc, Bool, true, false, cond, ap, arith, sym, ◌∙◌}
 use Rattle.circuits.specs.Literals.{bit}
 use Rattle.account_trim.specs.Trims.{number_of}
 use Rattle.account_trim.proofs.KeptLemmas.{number_of-more, number_of-none, number_of-within}

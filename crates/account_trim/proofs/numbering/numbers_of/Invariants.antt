@@ -1,4 +1,4 @@
-use Rattle.std.proofs.Common.{◌≡◌, ◌≤◌, map}
+use Rattle.std.proofs.Common.{◌≡◌, map}
 use Rattle.std.specs.List.{range_with_len}
 use Rattle.account_trim.specs.Trims.{number_of}
 use Rattle.account_trim.proofs.numbering.numbers_of.Given as goal

@@ -12,7 +12,7 @@ use Rattle.query_core.specs.Ledgers.{Ledgered, charging_of, one_if}
 use Rattle.query_core.specs.declared.ledger.Asked.{Asked}
 use Rattle.query_core.proofs.ChargingLemmas.{is_opened}
 use Rattle.ask_core.specs.Answers.{IsStopped}
-use Rattle.ask_core.proofs.AskLemmas.{asked_in, made_of_cones, meets_cones, stopped_in}
+use Rattle.ask_core.proofs.AskLemmas.{asked_in, joined_in, made_of_cones, meets_cones, stopped_in}
 use Rattle.ask_core.proofs.ShortLemmas.{short_from}
 use Rattle.ask_core.proofs.question.ask_cones.Goals as goal
 
@@ -20,9 +20,9 @@ pub returns-in_err-values-clause-stop : goal.returns-in_err-values-clause-stop
 returns-in_err-values-clause-stop g c =
     let graphs = c.args.graphs.now in
     let query = c.args.query.now in
-    let s = start_of (formula_of c.args.base.now.graphs c.args.base.now.query) c.args.ids.now c.args.lemmas.now in
+    let s = start_of (formula_of c.args.cones.now.graphs c.args.cones.now.query) c.args.cones.now.ids c.args.lemmas.now in
     let new = with_lines_of s (charging_of c.solve_dense.new.ledger) in
-    let of = made_of_cones graphs query c.args.lemmas.now c.args.base.now c.args.ids.now s c.requires.of_query c.requires.cones c.requires.lemmas refl in
+    let of = made_of_cones graphs query c.args.lemmas.now c.args.cones.now s c.requires.of_graphs c.requires.of_query c.ids-ids.ensures.are c.requires.lemmas refl in
     let stop = c.in_err-values.field-0.0 in
     passed_on c.from_residual-in_err-values.result stop (IsStopped graphs query c.args.ledger.now c.solve_dense.new.ledger) c.from_residual-in_err-values.ensures.1 (stopped_in graphs query c.args.lemmas.now s new c.args.ledger.now c.open.new.self c.solve_dense.new.ledger stop of c.in_ok-open.ensures.some c.in_ok-open.ensures.opened c.in_err-values.ensures.stop)
 
@@ -30,9 +30,9 @@ pub vector_of-requires-clause-meets : goal.vector_of-requires-clause-meets
 vector_of-requires-clause-meets g c =
     let graphs = c.args.graphs.now in
     let query = c.args.query.now in
-    let s = start_of (formula_of c.args.base.now.graphs c.args.base.now.query) c.args.ids.now c.args.lemmas.now in
+    let s = start_of (formula_of c.args.cones.now.graphs c.args.cones.now.query) c.args.cones.now.ids c.args.lemmas.now in
     let new = with_lines_of s (charging_of c.solve_dense.new.ledger) in
-    let of = made_of_cones graphs query c.args.lemmas.now c.args.base.now c.args.ids.now s c.requires.of_query c.requires.cones c.requires.lemmas refl in
+    let of = made_of_cones graphs query c.args.lemmas.now c.args.cones.now s c.requires.of_graphs c.requires.of_query c.ids-ids.ensures.are c.requires.lemmas refl in
     let model = subst (λ (v : Verdict). IsVerdict new v) c.in-Model.is c.in_ok-values.ensures.verdict in
     subst (λ (bs : List Bool). MeetsCones graphs query bs) (sym c.deref.ensures.value) (meets_cones graphs query c.args.lemmas.now s new (charging_of c.open.new.self) (charging_of c.solve_dense.new.ledger) c.in-Model.values of c.in_ok-values.ensures.lines model.meets)
 
@@ -40,18 +40,18 @@ pub returns-in_ok-vector-in-Model-clause-asked : goal.returns-in_ok-vector-in-Mo
 returns-in_ok-vector-in-Model-clause-asked g c =
     let graphs = c.args.graphs.now in
     let query = c.args.query.now in
-    let s = start_of (formula_of c.args.base.now.graphs c.args.base.now.query) c.args.ids.now c.args.lemmas.now in
+    let s = start_of (formula_of c.args.cones.now.graphs c.args.cones.now.query) c.args.cones.now.ids c.args.lemmas.now in
     let new = with_lines_of s (charging_of c.solve_dense.new.ledger) in
-    let of = made_of_cones graphs query c.args.lemmas.now c.args.base.now c.args.ids.now s c.requires.of_query c.requires.cones c.requires.lemmas refl in
+    let of = made_of_cones graphs query c.args.lemmas.now c.args.cones.now s c.requires.of_graphs c.requires.of_query c.ids-ids.ensures.are c.requires.lemmas refl in
     asked_in graphs query c.args.lemmas.now s new c.args.ledger.now c.open.new.self c.solve_dense.new.ledger of c.in_ok-open.ensures.some c.in_ok-open.ensures.opened c.in_ok-values.ensures.lines
 
 pub returns-in-Refuted-clause-asked : goal.returns-in-Refuted-clause-asked
 returns-in-Refuted-clause-asked g c =
     let graphs = c.args.graphs.now in
     let query = c.args.query.now in
-    let s = start_of (formula_of c.args.base.now.graphs c.args.base.now.query) c.args.ids.now c.args.lemmas.now in
+    let s = start_of (formula_of c.args.cones.now.graphs c.args.cones.now.query) c.args.cones.now.ids c.args.lemmas.now in
     let new = with_lines_of s (charging_of c.solve_dense.new.ledger) in
-    let of = made_of_cones graphs query c.args.lemmas.now c.args.base.now c.args.ids.now s c.requires.of_query c.requires.cones c.requires.lemmas refl in
+    let of = made_of_cones graphs query c.args.lemmas.now c.args.cones.now s c.requires.of_graphs c.requires.of_query c.ids-ids.ensures.are c.requires.lemmas refl in
     asked_in graphs query c.args.lemmas.now s new c.args.ledger.now c.open.new.self c.solve_dense.new.ledger of c.in_ok-open.ensures.some c.in_ok-open.ensures.opened c.in_ok-values.ensures.lines
 
 pub solve_dense-requires-clause-asking : goal.solve_dense-requires-clause-asking
@@ -79,3 +79,13 @@ solve_dense-requires-clause-same g c =
       open_too = ap (λ (t : Charging (Unit {0})). t.opened) c.new-tab.ensures;
       not_spent = ap (λ (t : Charging (Unit {0})). t.spent) c.new-tab.ensures;
     }
+
+pub returns-in-Refuted-clause-joined : goal.returns-in-Refuted-clause-joined
+returns-in-Refuted-clause-joined g c =
+    let graphs = c.args.graphs.now in
+    let query = c.args.query.now in
+    let s = start_of (formula_of c.args.cones.now.graphs c.args.cones.now.query) c.args.cones.now.ids c.args.lemmas.now in
+    let new = with_lines_of s (charging_of c.solve_dense.new.ledger) in
+    let of = made_of_cones graphs query c.args.lemmas.now c.args.cones.now s c.requires.of_graphs c.requires.of_query c.ids-ids.ensures.are c.requires.lemmas refl in
+    let refuted = subst (λ (v : Verdict). IsVerdict new v) c.in-Refuted.is c.in_ok-values.ensures.verdict in
+    joined_in graphs query c.args.lemmas.now c.in-Refuted.log.lines c.args.cones.now s new (charging_of c.open.new.self) (charging_of c.solve_dense.new.ledger) c.requires.of_graphs c.requires.of_query of c.requires.joined c.in_ok-values.ensures.lines refuted.lines_are

@@ -1,6 +1,7 @@
 -- The variables in order.
 use Rattle.std.proofs.Common.{◌≡◌, ℕ, Bool, false, List, [], length, replicate, sym, ap, subst, ◌∙◌}
 use Rattle.std.proofs.lemmas.List.{length-replicate}
+use Rattle.std.proofs.lemmas.List.Sorted.{IsNonDecreasingBy-from_sort}
 use Rattle.dense_solver.specs.Renamings.{AreListed, AreMarks}
 use Rattle.dense_solver.proofs.BaseLemmas.{named_in_order, names_from, no_marks}
 use Rattle.dense_solver.proofs.names.names_of.Goals as goal
@@ -22,3 +23,6 @@ returns-clause-names c =
     let n = c.args.variables in
     let size : length c.deref_mut.result.now ≡ n = ap length (c.deref_mut.ensures.value ∙ c.in_ok-marked.ensures) ∙ length-replicate n false in
     names_from n c.list_clauses.new.names.items c.sort_unstable.new.self.items (subst (λ (m : ℕ). AreListed m c.list_clauses.new.names.items) size c.in_ok-list_clauses.ensures.listed) c.sort_unstable.ensures.permutation
+
+pub returns-clause-ascending : goal.returns-clause-ascending
+returns-clause-ascending c = IsNonDecreasingBy-from_sort (λ x. x) c.sort_unstable.new.self.items c.sort_unstable.ensures.sorted

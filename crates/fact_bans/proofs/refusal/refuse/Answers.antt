@@ -6,8 +6,8 @@ use Rattle.fact_bans.proofs.refusal.refuse.Goals as goal
 pub loop-try-init : goal.loop-try-init
 loop-try-init g c = held_same _ _ _ _ c.requires.may
 
-pub refuse_by-requires-clause-may : goal.refuse_by-requires-clause-may
-refuse_by-requires-clause-may g c = may_later _ _ _ _ _ _ _ c.requires.may c.loop-try.invariant
+pub refuse_by-requires : goal.refuse_by-requires
+refuse_by-requires g c = record { may = may_later _ _ _ _ _ _ _ c.requires.may c.loop-try.invariant }
 
 pub loop-try-preserved : goal.loop-try-preserved
 loop-try-preserved g c = held_then _ _ _ _ _ _ _ _ _ _ c.loop-try.invariant (held_one _ _ _ _ _ _ _ _ c.in_ok-number.ensures.holds)

@@ -1,4 +1,4 @@
-use Rattle.std.proofs.Common.{◌+◌, ◌<◌, All, length, map, refl, sym, ap, subst, ◌∙◌, arith}
+use Rattle.std.proofs.Common.{◌+◌, ◌<◌, All, length, map, refl, sym, ap, subst, arith}
 use Rattle.std.proofs.lemmas.Result.{err_from_is_err_and}
 use Rattle.circuits.specs.declared.port.PortKind.TheVariants.{Output}
 use Rattle.account_core.specs.declared.step.Ban.{Ban}
@@ -51,9 +51,9 @@ returns-clause-holds g c =
     let to = c.in_ok-to.to in
     let rows = held_one _ _ _ _ _ _ _ _ c.in_ok-refs.ensures.holds in
     let may = may_later _ _ _ _ _ _ _ c.requires.may rows in
-    let from_there = subst (λ n. All (λ port. port < n) from) c.output_count-outputs.ensures c.in_ok-from.ensures.below in
-    let to_there = subst (λ n. All (λ port. port < n) to) (c.output_count-outputs.ensures ∙ c.requires.ports.outputs) c.in_ok-to.ensures.below in
-    let many : length graphs.first.outputs < length from + length to = omega (arith, c.if-len-outputs.false, c.len.ensures, c.len-2.ensures, c.output_count-outputs.ensures) in
+    let from_there = subst (λ n. All (λ port. port < n) from) c.ports-outputs.ensures.first c.in_ok-from.ensures.below in
+    let to_there = subst (λ n. All (λ port. port < n) to) c.ports-outputs.ensures.second c.in_ok-to.ensures.below in
+    let many : length graphs.first.outputs < length from + length to = omega (arith, c.if-len-outputs.false, c.len.ensures, c.len-2.ensures, c.ports-outputs.ensures.first) in
     let are = subst (λ l. AreReferred c.rows.new.book (ways Output from l) c.in-Some.refs) c.deref-4.ensures.value (subst (λ l. AreReferred c.rows.new.book (ways Output l c.deref-4.result.now) c.in-Some.refs) c.deref-3.ensures.value (rw c.in-Some.is at c.in_ok-refs.ensures.referred)) in
     let valid = cover_valid graphs facts c.rows.new.book from to c.in-Some.refs c.in_ok-from.ensures.ascends c.in_ok-to.ensures.ascends from_there to_there many are in
     let here = subst (λ (b : Ban). IsValidBan graphs (given_of facts c.rows.new.book) b) (sym c.in_ok-ban.ensures) valid in

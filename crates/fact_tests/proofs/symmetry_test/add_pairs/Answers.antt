@@ -11,9 +11,9 @@ loop-entry-init g c =
     let graphs = c.args.output.now.graphs.now in
     let n = inputs_in graphs in
     let f = function_at graphs c.args.output.now.number in
-    let behind = c.args.behind.now in (
+    let later = c.args.later.now in (
       served_same _ _ _ c.requires.may,
-      pairs_skip n f c.args.first 0 (input_at n behind 0) c.args.pairs.now c.requires.pairs (omega arith) (λ b after low before inside. support_first n f (c.args.first + 1) behind b c.requires.behind (omega (arith, after)) before inside),
+      pairs_skip n f c.args.first.0 0 (input_at n later 0) c.args.pairs.now c.requires.pairs (omega arith) (λ b after low before inside. support_first n f (c.args.first.0 + 1) later b c.requires.later (omega (arith, after)) before inside),
     )
 
 pub returns-in_err-sym-clause-serves : goal.returns-in_err-sym-clause-serves
@@ -25,11 +25,11 @@ pub loop-entry-preserved : goal.loop-entry-preserved
 loop-entry-preserved g c =
     let graphs = c.args.output.now.graphs.now in (
       served_then _ _ _ _ _ _ c.loop-entry.invariant.0 (served_one _ _ _ _ _ c.in_ok-sym.ensures.serves),
-      pair_step (inputs_in graphs) (function_at graphs c.args.output.now.number) c.args.first c.args.behind.now c.loop-entry.entry-index _ c.loop-entry.pairs c.note.new.pairs c.in_ok-sym.sym
-          c.requires.behind c.loop-entry-test.true refl c.requires.first c.loop-entry.invariant.1 c.in_ok-sym.ensures.sym c.in_ok-note.ensures,
+      pair_step (inputs_in graphs) (function_at graphs c.args.output.now.number) c.args.first.0 c.args.later.now c.loop-entry.entry-index _ c.loop-entry.pairs c.note.new.pairs c.in_ok-sym.sym
+          c.requires.later c.loop-entry-test.true refl c.requires.first.inside c.loop-entry.invariant.1 c.in_ok-sym.ensures.sym c.in_ok-note.ensures,
     )
 
 pub returns-clause-pairs : goal.returns-clause-pairs
 returns-clause-pairs g c =
     let graphs = c.args.output.now.graphs.now in
-    pairs_end (inputs_in graphs) (function_at graphs c.args.output.now.number) c.args.first c.args.behind.now c.loop-entry.entry-index c.loop-entry.pairs c.loop-entry-test.false c.loop-entry.invariant.1
+    pairs_end (inputs_in graphs) (function_at graphs c.args.output.now.number) c.args.first.0 c.args.later.now c.loop-entry.entry-index c.loop-entry.pairs c.loop-entry-test.false c.loop-entry.invariant.1

@@ -7,4 +7,4 @@ use Rattle.fact_tests.proofs.symmetry_test.add_pairs.Given as goal
 abbrev pub invariant-loop-entry : goal.invariant-loop-entry
 invariant-loop-entry g l =
     Served (g.O.Oracle.known l.fn.oracle) (g.O.Oracle.known l.oracle) l.fn.ledger l.ledger
-    × ListsPairs (inputs_in l.output.graphs.now) (function_at l.output.graphs.now l.output.number) l.first (input_at (inputs_in l.output.graphs.now) l.behind l.entry-index) l.pairs
+    × ListsPairs (inputs_in l.output.graphs.now) (function_at l.output.graphs.now l.output.number) l.first.0 (input_at (inputs_in l.output.graphs.now) l.later l.entry-index) l.pairs

@@ -19,4 +19,4 @@ pub returns-clause-sym : goal.returns-clause-sym
 returns-clause-sym g c =
     let graphs = c.args.output.now.graphs.now in
     let f = function_at graphs c.args.output.now.number in
-    subst (IsSymmetry (inputs_in graphs) f c.args.first c.args.second) (sym c.by_swaps.ensures) (symmetry_is (inputs_in graphs) f c.args.first c.args.second c.in_ok-symmetric.symmetric c.in_ok-skew.skew c.in_ok-symmetric.ensures.told c.in_ok-skew.ensures.told)
+    subst (IsSymmetry (inputs_in graphs) f c.args.first.0 c.args.second.0) (sym c.by_swaps.ensures) (symmetry_is (inputs_in graphs) f c.args.first.0 c.args.second.0 c.in_ok-symmetric.symmetric c.in_ok-skew.skew c.in_ok-symmetric.ensures.told c.in_ok-skew.ensures.told)

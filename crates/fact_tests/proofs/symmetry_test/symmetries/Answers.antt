@@ -1,7 +1,7 @@
 -- The pairs of one input more were added; no input of the support lies before the next.
 use Rattle.std.proofs.lemmas.Result.{err_from_is_err_and}
 use Rattle.fact_tests.specs.Outputs.{function_at, inputs_in}
-use Rattle.fact_tests.proofs.RowLemmas.{behind_slice, first_step, input_step}
+use Rattle.fact_tests.proofs.RowLemmas.{later_slice, first_step, input_step}
 use Rattle.fact_tests.proofs.Serving.{served_one, served_same, served_then, serves_err}
 use Rattle.fact_tests.proofs.symmetry_test.symmetries.Goals as goal
 
@@ -12,10 +12,10 @@ loop-place-init g c =
       first_step (inputs_in graphs) (function_at graphs c.args.output.now.number) c.args.support.now c.new-pairs.result c.requires.support c.new-pairs.ensures,
     )
 
-pub add_pairs-requires-clause-behind : goal.add_pairs-requires-clause-behind
-add_pairs-requires-clause-behind g c =
+pub add_pairs-requires-clause-later : goal.add_pairs-requires-clause-later
+add_pairs-requires-clause-later g c =
     let graphs = c.args.output.now.graphs.now in
-    behind_slice (inputs_in graphs) (function_at graphs c.args.output.now.number) c.args.support.now c.loop-place.place c.requires.support c.loop-place-test.true
+    later_slice (inputs_in graphs) (function_at graphs c.args.output.now.number) c.args.support.now c.loop-place.place c.requires.support c.loop-place-test.true
 
 pub returns-in_err-add_pairs-clause-serves : goal.returns-in_err-add_pairs-clause-serves
 returns-in_err-add_pairs-clause-serves g c =

@@ -1,7 +1,6 @@
-use Rattle.std.proofs.Common.{◌≤◌}
-use Rattle.query_core.specs.Formulas.{formula_of}
 use Rattle.joint_hash.specs.Merging.{IsUnderWay}
+use Rattle.joint_hash.proofs.VisitLemmas.{above_first}
 use Rattle.joint_hash.proofs.merging.add_gates.Given as goal
 
-abbrev pub invariant-loop-k : goal.invariant-loop-k
-invariant-loop-k l = IsUnderWay (formula_of l.base.graphs l.base.query) l.merged.lines.items l.merged.firsts.entries
+abbrev pub invariant-loop-id : goal.invariant-loop-id
+invariant-loop-id l = IsUnderWay l.cones.graphs l.cones.query (above_first l.ids l.id-index) l.merged.lines.items l.merged.firsts.entries l.merged.twins.entries

@@ -1,5 +1,4 @@
-use Rattle.std.proofs.Common.{◌≡◌, ◌++◌, List, None, IfSome, map, sym, subst, ap, ◌∙◌}
-use Rattle.cnf_core.specs.declared.literal.SatLit.{SatLit}
+use Rattle.std.proofs.Common.{◌≡◌, ◌++◌, List, None, map, sym, subst, ap, ◌∙◌}
 use Rattle.cnf_core.specs.declared.log.LogLine.{LogLine}
 use Rattle.cnf_core.specs.Clauses.{opposite}
 use Rattle.cnf_core.specs.Derivations.{clauses_of, hint_fault}
@@ -8,12 +7,11 @@ use Rattle.joint_hash.specs.Merging.{AreLemmas}
 use Rattle.joint_hash.proofs.LineLemmas.{lemma_more}
 use Rattle.joint_hash.proofs.merging.add_lemma.Goals as goal
 
-pub returns : goal.returns
-returns c =
-    let formula = formula_of c.args.base.now.graphs c.args.base.now.query in
+pub returns-clause-lemmas : goal.returns-clause-lemmas
+returns-clause-lemmas c =
+    let formula = formula_of c.args.cones.now.graphs c.args.cones.now.query in
     let lines = c.args.lines.now.items in
     let clause = c.in_ok-clause.clause in
-    let hints = c.in-Some.hints in
-    let found = rw c.in-Some.is at c.in_ok-hints.ensures in
-    let good : hint_fault (formula.clauses ++ clauses_of lines) (map opposite clause) hints ≡ None = ap (λ ls. hint_fault (formula.clauses ++ clauses_of ls) (map opposite clause) hints) (sym c.deref.ensures.value) ∙ (ap (λ cl. hint_fault (formula.clauses ++ clauses_of c.deref.result.now) (map opposite cl) hints) (sym c.deref-2.ensures.value) ∙ found) in
+    let hints = c.in_ok-hints.hints in
+    let good : hint_fault (formula.clauses ++ clauses_of lines) (map opposite clause) hints ≡ None = ap (λ ls. hint_fault (formula.clauses ++ clauses_of ls) (map opposite clause) hints) (sym c.deref.ensures.value) ∙ (ap (λ cl. hint_fault (formula.clauses ++ clauses_of c.deref.result.now) (map opposite cl) hints) (sym c.deref-2.ensures.value) ∙ c.in_ok-hints.ensures) in
     subst (λ (ls : List LogLine). AreLemmas formula ls) (sym c.in_ok-push.ensures.items) (lemma_more formula lines clause hints c.args.one c.args.other c.requires.lemmas c.in_ok-clause.ensures c.requires.one c.requires.other c.requires.two good)

@@ -1,12 +1,7 @@
-use Rattle.std.proofs.Common.{◌≡◌, List, refl, sym, subst}
-use Rattle.std.proofs.lemmas.List.Elements.{Contains-get_or}
+use Rattle.std.proofs.Common.{refl, sym, subst}
 use Rattle.std.proofs.lemmas.Result.{err_from_is_err_and}
-use Rattle.circuits.specs.declared.port.Pair.{Pair}
-use Rattle.account_core.specs.Ports.{IsKnown}
 use Rattle.port_covers.specs.Held.{AreHeld}
-use Rattle.class_refine.specs.Trails.{held_in}
 use Rattle.conflict_core.proofs.PivotLemmas.{held_known}
-use Rattle.ban_book.specs.Covering.{Covers}
 use Rattle.fact_bans.proofs.HoldingLemmas.{held_one, held_same, held_then, holds_err, holds_ok, may_later}
 use Rattle.match_search.proofs.following.exchange_held.Goals as goal
 

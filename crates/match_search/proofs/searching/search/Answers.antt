@@ -5,8 +5,8 @@ use Rattle.match_search.proofs.SearchLemmas.{may_start}
 use Rattle.match_search.proofs.ServeLemmas.{served_one, serves_err, serves_last, serves_ok}
 use Rattle.match_search.proofs.searching.search.Goals as goal
 
-pub refuse-requires-clause-may : goal.refuse-requires-clause-may
-refuse-requires-clause-may g c = may_start _ _ _ _ c.requires.graphs c.facts-facts.ensures.lawful c.requires.suits c.requires.book
+pub refuse-requires : goal.refuse-requires
+refuse-requires g c = record { may = may_start _ _ _ _ c.requires.graphs c.facts-facts.ensures.lawful c.requires.suits c.requires.book }
 
 pub returns-in_err-ban-clause-serves : goal.returns-in_err-ban-clause-serves
 returns-in_err-ban-clause-serves g c =

@@ -8,7 +8,7 @@ use Rattle.npnp.proofs.AnswerLemmas.{answer_refused}
 use Rattle.npnp.proofs.matching.refused.Goals as goal
 
 pub trim-requires-clause-earlier : goal.trim-requires-clause-earlier
-trim-requires-clause-earlier c = subst (λ n. ReferBack n c.args.bans.now) (length-map c.args.facts decided_by) (refer_back _ _ _ c.requires.bans)
+trim-requires-clause-earlier c = subst (λ n. ReferBack n c.args.bans) (length-map c.args.facts decided_by) (refer_back _ _ _ c.requires.bans)
 
 pub trim-requires-clause-held : goal.trim-requires-clause-held
 trim-requires-clause-held c = c.requires.empty.held
@@ -16,6 +16,6 @@ trim-requires-clause-held c = c.requires.empty.held
 pub returns : goal.returns
 returns c =
     let trimmed = c.in_ok-facts.ensures in
-    answer_refused _ _ _ _ _ c.first-first.ensures.sound c.second-second.ensures.sound c.requires.ports
+    answer_refused _ _ _ _ _ c.first-first.ensures.sound c.second-second.ensures.sound c.graphs-ports.ensures.ports
     (facts_kept _ _ _ _ _ trimmed c.requires.facts) (bans_kept _ _ _ _ _ trimmed c.requires.bans) (conclusion_kept _ _ _ _ trimmed c.requires.empty)
     c.in_ok-of_refusal.ensures.records c.in_ok-of_refusal.ensures.writable

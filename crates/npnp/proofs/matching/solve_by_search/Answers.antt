@@ -3,8 +3,8 @@ use Rattle.std.proofs.Common.{inl, ap, refl, Err}
 use Rattle.npnp.proofs.InfoLemmas.{budget_of_new, is_new}
 use Rattle.npnp.proofs.matching.solve_by_search.Goals as goal
 
-pub search_in-requires-clause-new : goal.search_in-requires-clause-new
-search_in-requires-clause-new g c = is_new c.new-ledger.result c.args.budget c.new-ledger.ensures
+pub search_in-requires : goal.search_in-requires
+search_in-requires g c = record { new = is_new c.new-ledger.result c.args.budget c.new-ledger.ensures }
 
 pub returns-in-Err-Spent : goal.returns-in-Err-Spent
 returns-in-Err-Spent g c = record {

@@ -1,5 +1,5 @@
 -- The pair has a match: an account of it was accepted, or nothing came.
-use Rattle.std.proofs.Common.{refl, sym, subst}
+use Rattle.std.proofs.Common.{◌∙◌, refl, sym, subst, ap}
 use Rattle.std.proofs.lemmas.Result.{err_from_is_err_and}
 use Rattle.circuits.specs.Matches.{HaveNpnpEqualFunctions}
 use Rattle.account_core.specs.Ports.{HaveAsMany}
@@ -8,18 +8,23 @@ use Rattle.npnp.specs.Steps.{IsProvedMatch, IsStopWithin, graphs_of}
 use Rattle.npnp.proofs.TryingLemmas.{as_many, equal, no_room, stopped, tried}
 use Rattle.npnp.proofs.trying.try_of.Goals as goal
 
-pub prove_match-requires-clause-ports : goal.prove_match-requires-clause-ports
-prove_match-requires-clause-ports g c = subst (λ (two : Graphs). HaveAsMany two.first two.second) (sym c.new-graphs.ensures) (as_many _ _ _ _ c.requires)
+pub unreachable-requires : goal.unreachable-requires
+unreachable-requires g c =
+    let many = subst (λ (two : Graphs). HaveAsMany two.first two.second) (sym c.new-graphs.ensures) (as_many _ _ _ _ c.requires) in
+    let h = c.new.ensures.exactly.1 many in ?
 
-pub prove_match-requires-clause-equal : goal.prove_match-requires-clause-equal
-prove_match-requires-clause-equal g c = subst (λ (two : Graphs). HaveNpnpEqualFunctions two.first two.second) (sym c.new-graphs.ensures) (equal _ _ _ _ c.requires)
+pub prove_match-requires : goal.prove_match-requires
+prove_match-requires g c =
+    let same = rw c.in-Some.is at c.new.ensures.same in
+    record { equal = subst (λ (two : Graphs). HaveNpnpEqualFunctions two.first two.second) (sym (same ∙ c.new-graphs.ensures)) (equal _ _ _ _ c.requires) }
 
 pub returns-in_err-account : goal.returns-in_err-account
 returns-in_err-account g c =
     let p = err_from_is_err_and c.from_residual.result c.from_residual.ensures.1 in
     let o = c.in_err-account.field-0.0 in
+    let same = rw c.in-Some.is at c.new.ensures.same in
     stopped _ (graphs_of c.args.pair.now.first c.args.pair.now.second) c.args.pair.now.hidden o _ (cc (p.1, p.2)) c.requires
-    (subst (λ two. IsStopWithin two 1000000000 o) c.new-graphs.ensures c.in_err-account.ensures.stopped)
+    (subst (λ two. IsStopWithin two 1000000000 o) (same ∙ c.new-graphs.ensures) c.in_err-account.ensures.stopped)
 
 pub returns-in_err-report : goal.returns-in_err-report
 returns-in_err-report g c =
@@ -30,6 +35,7 @@ pub returns : goal.returns
 returns g c =
     let two = graphs_of c.args.pair.now.first c.args.pair.now.second in
     let account = c.from_vec.result in
+    let same = rw c.in-Some.is at c.new.ensures.same in
     tried _ two c.args.pair.now.hidden account _ c.requires
-    (subst (IsProvedMatch two) (sym c.from_vec.ensures) (subst (λ graphs. IsProvedMatch graphs c.in_ok-account.account.items) c.new-graphs.ensures c.in_ok-account.ensures.account))
+    (subst (IsProvedMatch two) (sym c.from_vec.ensures) (subst (λ graphs. IsProvedMatch graphs c.in_ok-account.account.items) (same ∙ c.new-graphs.ensures) c.in_ok-account.ensures.account))
     refl c.in_ok-report.ensures

@@ -1,6 +1,6 @@
--- There is a mark for each input.
+-- There is a mark for each input so far.
 use Rattle.std.proofs.Common.{◌≡◌, length}
 use Rattle.sim_signature.proofs.reading.read_inputs.Given as goal
 
-abbrev pub invariant-loop-t : goal.invariant-loop-t
-invariant-loop-t l = length l.marks.items ≡ l.graph.inputs
+abbrev pub invariant-loop-input : goal.invariant-loop-input
+invariant-loop-input l = length l.marks.items ≡ l.input

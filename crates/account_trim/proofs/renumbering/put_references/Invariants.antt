@@ -1,0 +1,6 @@
+use Rattle.std.proofs.Common.{◌≡◌, ◌++◌, drop, map, take}
+use Rattle.account_trim.specs.Numbered.{referred}
+use Rattle.account_trim.proofs.renumbering.put_references.Given as goal
+
+abbrev pub invariant-loop-place : goal.invariant-loop-place
+invariant-loop-place l = l.list ≡ map (referred l.numbers) (take l.place l.fn.list) ++ drop l.place l.fn.list

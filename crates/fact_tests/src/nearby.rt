@@ -1,0 +1,138 @@
+//! Vectors near those that answered questions.
+
+ghost use Rattle.std.specs.Prelude.{◌≡◌, ◌<◌, All, IfOk, IfSome, length};
+ghost use Rattle.circuits.specs.Netlists.{Net};
+ghost use Rattle.query_core.specs.Claims.{BreaksShape, IsPlaced};
+ghost use Rattle.fact_tests.specs.Hunting.{IsOf};
+
+use bit_list::Bits;
+use items::Items;
+use net_core::Graph;
+use query_core::Shape;
+use sim_signature::Signatures;
+use std::alloc::{AllocError, Global};
+use std::marker::Model;
+
+/// How many signatures are held. Each takes 128 bytes for an input. Of an adder of 64 bits 6,200 vectors are asked for where two are
+/// held, 1,900 with four, 880 with eight and 780 with sixteen.
+const MOST: usize = 8;
+
+/// A question takes about as long as that many passes over the gates.
+const PASSES_A_QUESTION: u32 = 64;
+
+/// What is seen of outputs on vectors near those that questions about them gave. Where few vectors break a claim, as with the
+/// carry of an adder, those that are drawn don't show it; but one that breaks another claim of the output tells where to
+/// look. Contracts see it as the circuit.
+#[derive(Drop)]
+pub(crate) struct Nearby<'a> {
+    graph: &'a Graph,
+    seed: u64,
+    /// Those that were made last.
+    held: Items<Signatures<'a>>,
+    /// How many were made.
+    made: u64,
+    /// How many passes over the gates the questions since then took.
+    passes: u32,
+}
+
+impl<'a> Model for Nearby<'a> {
+    ghost use Rattle.std.specs.Prelude.{All};
+    ghost use Rattle.circuits.specs.Netlists.{Net};
+    ghost use Rattle.fact_tests.specs.Hunting.{IsOf};
+
+    ghost Value = { Net };
+
+    ghost view = { λ a. a.graph.now };
+
+    ghost invariant = { λ a. All (IsOf a.graph.now) a.held };
+}
+
+impl<'a> Nearby<'a> {
+    /// No question was answered.
+    pub(crate) fn new(alloc: Global, graph: &'a Graph, seed: u64) -> Nearby<'a>
+        ensures { result ≡ graph.now }
+    {
+        Nearby {
+            graph,
+            seed,
+            held: Items::new(alloc),
+            made: 0,
+            passes: 0,
+        }
+    }
+
+    /// A vector that breaks the claim of a shape at an output, where one is seen.
+    pub(crate) fn vector_of(
+        &self,
+        alloc: Global,
+        output: u32,
+        shape: Shape,
+    ) -> Result<Option<Bits>, AllocError>
+        requires output { output < length self.now.outputs }
+        requires placed { IsPlaced self.now.inputs shape }
+        ensures { IfOk result (λ found. IfSome found (BreaksShape self.now output shape)) }
+    {
+        for signatures in self.held.iter() {
+            if let Some(vector) = sighting_of(alloc, signatures, output, shape)? {
+                return Ok(Some(vector));
+            }
+        }
+        Ok(None)
+    }
+
+    /// A question about an output gave a vector. Later claims are tried on others near it, unless the questions since these
+    /// were chosen last took less time than choosing them takes: a pass over the gates for each input.
+    pub(crate) fn note(
+        &mut self,
+        alloc: Global,
+        output: u32,
+        vector: &Bits,
+    ) -> Result<(), AllocError>
+        requires output { output < length self.old.outputs }
+        requires inputs { length vector.now ≡ self.old.inputs }
+        ensures { self.new ≡ self.old }
+    {
+        self.passes = self.passes.saturating_add(PASSES_A_QUESTION);
+        if self.passes < self.graph.inputs() {
+            return Ok(());
+        }
+        self.passes = 0;
+        let seed = self.seed.wrapping_add(self.made);
+        let signatures = Signatures::near(alloc, self.graph, output, vector, seed)?;
+        hold(signatures, self.made, &mut self.held)?;
+        self.made = self.made.wrapping_add(1);
+        Ok(())
+    }
+}
+
+/// Puts signatures beside those that are held, and, where there is no room, in the place of those that were made first.
+fn hold<'a>(
+    signatures: Signatures<'a>,
+    made: u64,
+    held: &mut Items<Signatures<'a>>,
+) -> Result<(), AllocError>
+    ensures { (net : Net) → IsOf net signatures.entry → All (IsOf net) held.old → All (IsOf net) held.new }
+{
+    if held.len() < MOST {
+        held.push(signatures)?;
+        return Ok(());
+    }
+    held.set((made % MOST as u64) as usize, signatures);
+    Ok(())
+}
+
+/// A vector that breaks the claim of a shape at an output, where signatures are of it and show one.
+fn sighting_of(
+    alloc: Global,
+    signatures: &Signatures<'_>,
+    output: u32,
+    shape: Shape,
+) -> Result<Option<Bits>, AllocError>
+    requires placed { IsPlaced signatures.now.net.inputs shape }
+    ensures { IfOk result (λ found. IfSome found (BreaksShape signatures.now.net output shape)) }
+{
+    if !signatures.covers(output) {
+        return Ok(None);
+    }
+    signatures.sighting(alloc, output, shape)
+}

@@ -1,0 +1,83 @@
+//! What stands for the variables of gates that were joined to an earlier one.
+
+ghost use Rattle.std.specs.Prelude.{◌≡◌, ◌==◌, ℕ, Some, OnOk, if◌then◌else◌};
+ghost use Rattle.cnf_core.specs.Clauses.{is_negated, opposite};
+ghost use Rattle.joint_hash.specs.Merging.{in_order, operands_of, representative, twin_of};
+
+use crate::gates::ConeGate;
+use cnf_core::SatLit;
+use indexmap::IndexMap;
+use std::alloc::AllocError;
+
+/// What stands for a variable.
+#[derive(Clone, Copy, Drop)]
+pub(crate) struct Twin {
+    /// The literal of the first gate of the class, plain.
+    pub(crate) first: SatLit,
+    /// The number of the lemma that the first gate implies the variable.
+    pub(crate) to_variable: u64,
+    /// The number of the lemma that the variable implies the first gate.
+    pub(crate) from_variable: u64,
+}
+
+/// What stands for a variable, if anything does but itself.
+pub(crate) fn twin_of(twins: &IndexMap<u64, Twin>, variable: u64) -> Option<Twin>
+    ensures { result ≡ twin_of twins.now.entries variable }
+{
+    twins.get(&variable).copied()
+}
+
+/// Puts what stands for a variable.
+pub(crate) fn put_twin(
+    twins: &mut IndexMap<u64, Twin>,
+    variable: u64,
+    twin: Twin,
+) -> Result<(), AllocError>
+    ensures { OnOk result ((other : ℕ) → twin_of twins.new.entries other
+        ≡ (if variable == other then Some twin else twin_of twins.old.entries other)) }
+{
+    twins.insert(variable, twin)?;
+    Ok(())
+}
+
+/// The representatives of a gate's operands, in order.
+pub(crate) fn operands_of(twins: &IndexMap<u64, Twin>, gate: &ConeGate) -> (SatLit, SatLit)
+    ensures { result ≡ operands_of (twin_of twins.now.entries) gate.now }
+{
+    in_order(
+        representative(twins, gate.first),
+        representative(twins, gate.second),
+    )
+}
+
+// The literal that stands for a literal: that of the first gate of its class, with its sign, or itself.
+fn representative(twins: &IndexMap<u64, Twin>, literal: SatLit) -> SatLit
+    ensures { result ≡ representative (twin_of twins.now.entries) literal }
+{
+    match twin_of(twins, literal.variable()) {
+        None => literal,
+        Some(twin) => signed_as(literal, twin.first),
+    }
+}
+
+// A literal, with the sign of another.
+fn signed_as(other: SatLit, literal: SatLit) -> SatLit
+    ensures { result ≡ (if is_negated other then opposite literal else literal) }
+{
+    if other.is_negated() {
+        literal.opposite()
+    } else {
+        literal
+    }
+}
+
+// Two literals, the one of the lesser number first.
+fn in_order(one: SatLit, other: SatLit) -> (SatLit, SatLit)
+    ensures { result ≡ in_order one other }
+{
+    if other.0 < one.0 {
+        (other, one)
+    } else {
+        (one, other)
+    }
+}

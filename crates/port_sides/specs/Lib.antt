@@ -1,0 +1,2 @@
+pub use Rattle.account_core.specs.Ports
+pub use Rattle.account_core.specs.Tallies

@@ -1,0 +1,101 @@
+//! Which signals of a circuit reach an input whose two feeds differ.
+
+ghost use Rattle.std.specs.Prelude.{◌≡◌, ◌+◌, ◌++◌, ◌∷◌, false, All, IfOk, OnOk, length, take};
+ghost use Rattle.circuits.specs.Literals.{bit};
+ghost use Rattle.net_core.specs.Graph.{AreInOrder};
+ghost use Rattle.query_core.specs.ConeClauses.{AreReached, IsSomeCone};
+ghost use Rattle.query_core.specs.Formulas.{feeds_differ, reaching, reaches};
+
+use crate::feeds::Feeds;
+use crate::query::Query;
+use net_core::{Gate, Graph};
+use std::alloc::{AllocError, Global};
+
+/// Whether each signal of the right circuit reaches an input whose two feeds differ.
+pub(crate) fn reaches(alloc: Global, query: &Query, gates: &[Gate]) -> Result<Vec<bool>, AllocError>
+    requires feeds { length query.now.left.feed ≡ length query.now.right.feed }
+    requires ordered { AreInOrder (length query.now.right.feed + 1) gates.now }
+    ensures reaches { IfOk result (λ signals. signals.items ≡ reaches query.now gates.now) }
+    ensures count { IfOk result
+        (λ signals. length signals.items ≡ length query.now.left.feed + 1 + length gates.now) }
+{
+    let mut signals = differing(alloc, query)?;
+    push_reaching(gates, &mut signals)?;
+    Ok(signals)
+}
+
+/// Whether each of these gates, which the right output reaches, reaches an input whose two feeds differ. What is said of
+/// the other gates is nothing.
+pub(crate) fn reaches_in_cone(
+    alloc: Global,
+    query: &Query,
+    right: &Graph,
+    gates: &[u32],
+) -> Result<Vec<bool>, AllocError>
+    requires left { length query.now.left.feed ≡ right.now.inputs }
+    requires right { length query.now.right.feed ≡ right.now.inputs }
+    requires gates { AreReached right.now query.now.right.output gates.now }
+    ensures marks { IfOk result (λ marked. All (λ t. bit marked.items (right.now.inputs + 1 + t)
+        ≡ bit (reaches query.now right.now.gates) (right.now.inputs + 1 + t)) gates.now) }
+    ensures count { IfOk result
+        (λ marked. length marked.items ≡ right.now.inputs + 1 + length right.now.gates) }
+{
+    let mut marked = differing(alloc, query)?;
+    marked.resize(right.signals(), false)?;
+    mark_cone(right, gates, &mut marked);
+    Ok(marked)
+}
+
+// The constant's signal, and whether the two feeds of each input differ.
+fn differing(alloc: Global, query: &Query) -> Result<Vec<bool>, AllocError>
+    requires { length query.now.left.feed ≡ length query.now.right.feed }
+    ensures signals { IfOk result (λ signals. signals.items
+        ≡ false ∷ feeds_differ query.now.left.feed query.now.right.feed) }
+    ensures count { IfOk result (λ signals. length signals.items ≡ length query.now.left.feed + 1) }
+{
+    let mut signals = Vec::new(alloc);
+    signals.push(false)?;
+    push_differing(&query.left.feed, &query.right.feed, &mut signals)?;
+    Ok(signals)
+}
+
+// Adds whether the two feeds of each input differ.
+fn push_differing(left: &Feeds, right: &Feeds, signals: &mut Vec<bool>) -> Result<(), AllocError>
+    requires { length left.now ≡ length right.now }
+    ensures { OnOk result (signals.new.items ≡ signals.old.items ++ feeds_differ left.now right.now) }
+{
+    for input in 0..left.len() {
+        signals.push(left.get(input) != right.get(input))?;
+    }
+    Ok(())
+}
+
+// Adds whether each gate reaches what one of its operands reaches.
+fn push_reaching(gates: &[Gate], signals: &mut Vec<bool>) -> Result<(), AllocError>
+    requires { AreInOrder (length signals.old.items) gates.now }
+    ensures reaches { OnOk result (signals.new.items ≡ reaching signals.old.items gates.now) }
+    ensures count { OnOk result (length signals.new.items ≡ length signals.old.items + length gates.now) }
+{
+    for gate in gates.iter() {
+        let reaches = signals[gate.a.signal() as usize] | signals[gate.b.signal() as usize];
+        signals.push(reaches)?;
+    }
+    Ok(())
+}
+
+// Marks each of a cone's gates that has a marked operand. The constant and the inputs are marked before.
+fn mark_cone(graph: &Graph, gates: &[u32], marked: &mut [bool])
+    requires cone { IsSomeCone graph.now gates.now }
+    requires room { length marked.old ≡ graph.now.inputs + 1 + length graph.now.gates }
+    ensures marks { let first = graph.now.inputs + 1
+        in All (λ t. bit marked.new (first + t) ≡ bit (reaching (take first marked.old) graph.now.gates) (first + t)) gates.now }
+    ensures size { length marked.new ≡ length marked.old }
+{
+    let first = graph.inputs() as usize + 1;
+    let all = graph.gates();
+    for gate in gates.iter() {
+        let row = all[*gate as usize];
+        let reaches = marked[row.a.signal() as usize] | marked[row.b.signal() as usize];
+        marked[first + *gate as usize] = reaches;
+    }
+}
