@@ -8,6 +8,7 @@ use crate::weights::Weights;
 use account_core::Ban;
 use fact_bans::Seen;
 use net_core::Graphs;
+use pair_search::Impasse;
 use std::alloc::{AllocError, Global};
 use table_guess::Trials;
 
@@ -62,12 +63,15 @@ impl Guide {
         self.exchanged = self.exchanged.min(held);
     }
 
-    /// Notes the bans that a conflict came to, those from a place on, the last of which was learned.
-    pub(crate) fn learn(&mut self, bans: &[Ban], from: usize)
+    /// Notes the bans that the conflict of an impasse came to, those from a place on, the last of which was learned; where there are
+    /// none, the ban of the impasse was.
+    pub(crate) fn learn(&mut self, bans: &[Ban], from: usize, impasse: Impasse)
         ensures { self.new.trials ≡ self.old.trials }
     {
         if from < bans.len() {
             self.weights.count(&bans[from..]);
+        } else if let Some(learned) = ban_of(bans, impasse) {
+            self.weights.count_learned(learned);
         }
     }
 
@@ -79,6 +83,14 @@ impl Guide {
         let output = *self.order.get(self.tallied)?;
         self.tallied = self.tallied.saturating_add(1);
         if output < outputs { Some(output) } else { None }
+    }
+}
+
+// The ban of an impasse that is one.
+fn ban_of(bans: &[Ban], impasse: Impasse) -> Option<&Ban> {
+    match impasse {
+        Impasse::Ban(number) => bans.get(number as usize),
+        Impasse::Port(_) => None,
     }
 }
 
