@@ -113,7 +113,7 @@ fn turn<O: Oracle>(
     };
     let before = book.bans().len();
     let refusal = turn_back(alloc, graphs, domains, queue, impasse, book)?;
-    guide.learn(book.bans(), before);
+    guide.learn(book.bans(), before, impasse);
     guide.forget(domains.pairs().len());
     match refusal {
         None => Ok(None),

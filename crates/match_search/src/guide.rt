@@ -7,6 +7,7 @@ use crate::reads::{Reads, by_count};
 use crate::weights::Weights;
 use account_core::Ban;
 use fact_bans::Seen;
+use pair_search::Impasse;
 use port_sides::PairableGraphs;
 use std::alloc::{AllocError, Global};
 use table_guess::Trials;
@@ -66,12 +67,15 @@ impl Guide {
         self.exchanged = self.exchanged.min(held);
     }
 
-    /// Notes the bans that a conflict came to, those from a place on, the last of which was learned.
-    pub(crate) fn learn(&mut self, bans: &[Ban], from: usize)
+    /// Notes the bans that the conflict of an impasse came to, those from a place on, the last of which was learned; where there are
+    /// none, the ban of the impasse was.
+    pub(crate) fn learn(&mut self, bans: &[Ban], from: usize, impasse: Impasse)
         ensures { self.new.trials ≡ self.old.trials }
     {
         if from < bans.len() {
             self.weights.count(&bans[from..]);
+        } else if let Some(learned) = ban_of(bans, impasse) {
+            self.weights.count_learned(learned);
         }
     }
 
@@ -83,6 +87,14 @@ impl Guide {
         let output = *self.order.get(self.tallied)?;
         self.tallied = self.tallied.saturating_add(1);
         if output < outputs { Some(output) } else { None }
+    }
+}
+
+// The ban of an impasse that is one.
+fn ban_of(bans: &[Ban], impasse: Impasse) -> Option<&Ban> {
+    match impasse {
+        Impasse::Ban(number) => bans.get(number as usize),
+        Impasse::Port(_) => None,
     }
 }
 

@@ -44,8 +44,13 @@ impl Weights {
             self.raise_covered(&ban.step);
         }
         if let Some(learned) = bans.last() {
-            self.raise(&learned.pairs);
+            self.count_learned(learned);
         }
+    }
+
+    /// Counts a conflict of which this ban was learned: the ports of its pairs get heavier.
+    pub(crate) fn count_learned(&mut self, learned: &Ban) {
+        self.raise(&learned.pairs);
         self.step = self.step.saturating_add(self.step / 16);
         if self.step > MOST_STEP {
             self.scale();
@@ -53,8 +58,7 @@ impl Weights {
     }
 
     /// The weight of a port, with a tenth of a conflict for each, so that among ports that were in none the number of ways decides.
-    /// With a fiftieth near misses of a cubic graph and of a funnel shifter took three times as many conflicts, with a third the
-    /// graph's did.
+    /// With a fiftieth a near miss of a funnel shifter took three times as many conflicts.
     pub(crate) fn of(&self, port: Port) -> u64 {
         let place = self.place(port.side, port.kind, port.number);
         let weight = match self.weights.get(place) {
