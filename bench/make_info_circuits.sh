@@ -1,6 +1,6 @@
 #!/usr/bin/env bash
 # Makes netlists whose supports, unateness and symmetries are of interest, by Yosys and ABC (Debian's yosys and berkeley-abc),
-# each as NAME.aig with the names of its ports and as NAME.blif: an adder of 32 bits, a multiplier of 4, a priority encoder
+# each as NAME.aig with the names of its ports and as NAME.blif: adders of 32 and of 64 bits, a multiplier of 4, a priority encoder
 # of 32 inputs, an ALU of 8 bits, a decoder with 64 outputs, majorities and parities of 9 inputs, and a netlist of 328 inputs
 # and 392 outputs. Not part of the gate.
 #
@@ -16,6 +16,7 @@ make() {
   echo "$1: $(head -c 60 "$work/$1.aig" | head -n 1)"
 }
 make adder32 'module adder32(input [31:0] a, b, output [32:0] y); assign y = a + b; endmodule'
+make adder64 'module adder64(input [63:0] a, b, output [64:0] y); assign y = a + b; endmodule'
 make multiply4 'module multiply4(input [3:0] a, b, output [7:0] y); assign y = a * b; endmodule'
 make priority32 'module priority32(input [31:0] a, output reg [4:0] y, output any);
   integer k;
