@@ -4,13 +4,14 @@ ghost use Rattle.query_core.specs.Queries.{IsQuery};
 
 use crate::answers::{exceeds, is_query};
 use crate::drawn_circuits::drawn;
+use crate::queries::match_query;
 use crate::refutation::takes_all;
 use cnf_core::{Base, LogLine, SatLit};
 use joint_hash::merge;
-use net_core::Graphs;
+use net_core::{Graphs, Matching};
 use query_core::{ConeClauses, Query, QueryBase};
 use rand_pcg::Pcg32;
-use samples::{GraphPair, graph};
+use samples::{GraphPair, graph, matching};
 use std::alloc::{AllocError, Global};
 use std::test::Fail;
 
@@ -137,6 +138,31 @@ fn merges_gates_of_one_structure(rt: HostRuntime) -> Result<(), Fail> {
     for (place, row) in ROWS.iter().enumerate() {
         assert!(rt; row_holds(rt.alloc(), row)?, "in row {place}");
     }
+    Ok(())
+}
+
+/// Whether the query of a match for its one output, where it is true, has these lemmas.
+fn has_match_lemmas(
+    alloc: Global,
+    graphs: &Graphs<'_>,
+    matching: &Matching,
+    wanted: &[[u64; 2]],
+) -> Result<bool, AllocError> {
+    let Some(query) = match_query(alloc, graphs, matching, true)? else {
+        return Ok(false);
+    };
+    let lines = lemmas_of(alloc, graphs, &query)?;
+    Ok(are_clauses(&lines, wanted))
+}
+
+#[test]
+fn merges_what_a_match_asks(rt: HostRuntime) -> Result<(), Fail> {
+    let both = GraphPair {
+        first: graph(rt.alloc(), 2, &[(2, 4)], &[6])?,
+        second: graph(rt.alloc(), 2, &[(4, 2)], &[6])?,
+    };
+    let identity = matching(rt.alloc(), &[(0, false), (1, false)], &[(0, false)])?;
+    assert!(rt; has_match_lemmas(rt.alloc(), &both.graphs(), &identity, BOTH_WAYS)?);
     Ok(())
 }
 

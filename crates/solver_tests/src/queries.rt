@@ -65,6 +65,28 @@ fn and_or(alloc: Global) -> Result<GraphPair, Fail> {
     })
 }
 
+/// The query of a match for its one output, or None where these aren't the circuits' ports.
+pub fn match_query(
+    alloc: Global,
+    graphs: &Graphs<'_>,
+    matching: &Matching,
+    value: bool,
+) -> Result<Option<Query>, AllocError>
+    ensures { IfOk result (λ query. IfSome query (IsQuery graphs.now)) }
+{
+    if graphs.first().inputs() != graphs.second().inputs() {
+        return Ok(None);
+    }
+    if graphs.first().outputs().len() != 1 || graphs.second().outputs().len() != 1 {
+        return Ok(None);
+    }
+    if !matching.check_shape(graphs.first().inputs(), 1) {
+        return Ok(None);
+    }
+    let query = of_match(alloc, graphs, matching, 0, value)?;
+    Ok(Some(query))
+}
+
 /// The first wrong clause of a match's query for its one output, or clause 0 where these aren't the circuits' ports.
 fn wrong_match_clause(
     alloc: Global,
@@ -73,16 +95,9 @@ fn wrong_match_clause(
     value: bool,
     wanted: &[&[u64]],
 ) -> Result<Option<u64>, AllocError> {
-    if graphs.first().inputs() != graphs.second().inputs() {
+    let Some(query) = match_query(alloc, graphs, matching, value)? else {
         return Ok(Some(0));
-    }
-    if graphs.first().outputs().len() != 1 || graphs.second().outputs().len() != 1 {
-        return Ok(Some(0));
-    }
-    if !matching.check_shape(graphs.first().inputs(), 1) {
-        return Ok(Some(0));
-    }
-    let query = of_match(alloc, graphs, matching, 0, value)?;
+    };
     wrong_clause_of(alloc, graphs, &query, wanted)
 }
 
