@@ -14,8 +14,8 @@ use port_sides::port_on;
 use std::alloc::{AllocError, Global};
 
 /// An output counts as if it had so many times its ways. Once inputs have pairs, the partners of outputs that read them are known, so
-/// inputs come first where no conflict says otherwise: with the same count for both, of 11 near misses three weren't refused in 3
-/// seconds that took under one, and with ten times two others weren't.
+/// inputs come first where no conflict says otherwise. Counted alike, three of 11 near misses took 1.5 seconds and more that take
+/// less than one so; with ten times two weren't refused in 2 seconds.
 const OUTPUT_FACTOR: u64 = 4;
 
 // A port, how many ways it has left, as they count, and its weight.
