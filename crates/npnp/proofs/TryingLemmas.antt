@@ -1,5 +1,7 @@
 -- What a trial of a pair says of the words.
-use Rattle.std.proofs.Common.{◌≡◌, ◌≢◌, ◌↔◌, ℕ, inl, inr, Bool, List, [], ◌++◌, get_or, Option, Some, Result, Ok, Err, IfErr, refl, sym, ◌∙◌, ap, subst}
+use Rattle.std.proofs.Common.{◌≡◌, ◌≢◌, ◌↔◌, ℕ, inl, inr, Bool, true, List, [], ◌++◌, get_or, Option, None, Some, Result, Ok, Err, IfErr, refl, sym, ◌∙◌, ap, subst}
+use Rattle.std.specs.Prelude.{is_some}
+use Rattle.std.proofs.lemmas.Bool.{false≢true}
 use Rattle.circuits.specs.Matches.{HaveNpnpEqualFunctions}
 use Rattle.circuits.specs.Netlists.{Net}
 use Rattle.account_check.specs.Verdicts.{IsAccepted as Proves, IsRejected as IsBadAt}
@@ -33,6 +35,11 @@ as_many number first second hidden pair = record { inputs = sym pair.matches.sam
 
 pub equal : (number : ℕ) (first second : Net) (hidden : Matching) → IsPairOf number first second hidden → HaveNpnpEqualFunctions first second
 equal number first second hidden pair = (hidden.inputs, hidden.outputs, pair.matches)
+
+-- an option that has something is no other
+pub none_some : {X : Type 0} (o : Option X) → is_some o ≡ true → ((x : X) → o ≡ Some x → ⊥) → ⊥
+none_some None is none = false≢true is
+none_some (Some x) is none = none x refl
 
 -- where two graphs have a match, the account of an answer proves one
 pub proved_match : (graphs : Graphs) (account : List ℕ) (o : Outcome) → HaveNpnpEqualFunctions graphs.first graphs.second → IsAnswered graphs account o → IsProvedMatch graphs account

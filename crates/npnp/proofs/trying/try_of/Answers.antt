@@ -1,17 +1,17 @@
 -- The pair has a match: an account of it was accepted, or nothing came.
-use Rattle.std.proofs.Common.{◌∙◌, refl, sym, subst, ap}
+use Rattle.std.proofs.Common.{◌∙◌, refl, sym, subst}
 use Rattle.std.proofs.lemmas.Result.{err_from_is_err_and}
 use Rattle.circuits.specs.Matches.{HaveNpnpEqualFunctions}
 use Rattle.account_core.specs.Ports.{HaveAsMany}
 use Rattle.net_core.specs.Sides.{Graphs}
 use Rattle.npnp.specs.Steps.{IsProvedMatch, IsStopWithin, graphs_of}
-use Rattle.npnp.proofs.TryingLemmas.{as_many, equal, no_room, stopped, tried}
+use Rattle.npnp.proofs.TryingLemmas.{as_many, equal, no_room, none_some, stopped, tried}
 use Rattle.npnp.proofs.trying.try_of.Goals as goal
 
 pub unreachable-requires : goal.unreachable-requires
 unreachable-requires g c =
     let many = subst (λ (two : Graphs). HaveAsMany two.first two.second) (sym c.new-graphs.ensures) (as_many _ _ _ _ c.requires) in
-    let h = c.new.ensures.exactly.1 many in ?
+    none_some c.new.result (c.new.ensures.exactly.1 many) c.in_default.not-Some
 
 pub prove_match-requires : goal.prove_match-requires
 prove_match-requires g c =

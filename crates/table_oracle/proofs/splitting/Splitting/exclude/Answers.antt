@@ -1,4 +1,4 @@
-use Rattle.std.proofs.Common.{◌≡◌, List, OnOk, IfErr, IfSome, IfNone, map, sym, ap, subst, ◌∙◌}
+use Rattle.std.proofs.Common.{List, OnOk, IfErr, IfSome, IfNone, map, sym, ap, subst, ◌∙◌}
 use Rattle.cnf_core.specs.declared.literal.SatLit.{SatLit}
 use Rattle.cnf_core.specs.declared.log.LogLine.{LogLine}
 use Rattle.cnf_core.specs.Clauses.{opposite}
