@@ -78,16 +78,16 @@ impl Keys {
     }
 }
 
-// Whether the cell of an input has other inputs too.
-fn is_shared(inputs: &Cells, side: Side, input: u32, sizes: &[usize]) -> bool {
+/// Whether the cell of an input has other inputs too.
+pub(crate) fn is_shared(inputs: &Cells, side: Side, input: u32, sizes: &[usize]) -> bool {
     let Some(cell) = inputs.of(side).get(literal_of(input, false)) else {
         return false;
     };
     sizes.get(*cell) != Some(&1)
 }
 
-// A number for an input's two cells.
-fn own_class(inputs: &[usize], input: u32) -> u64 {
+/// A number for an input's two cells.
+pub(crate) fn own_class(inputs: &[usize], input: u32) -> u64 {
     let plain = cell_at(inputs, literal_of(input, false));
     let inverted = cell_at(inputs, literal_of(input, true));
     plain.min(inverted)

@@ -162,6 +162,36 @@ impl<'a> FlipSim<'a> {
         );
     }
 
+    /// Whether an input reaches a gate. Gates are numbered from 0 on.
+    pub fn reaches(&self, input: u32, gate: usize) -> bool {
+        let Some(fanout) = self.fanouts.get(input as usize) else {
+            return false;
+        };
+        match fanout.gates.get(gate / 64) {
+            Some(word) => (*word >> (gate % 64)) % 2 == 1,
+            None => false,
+        }
+    }
+
+    /// What a gate has on the vectors.
+    pub fn gate(&self, gate: usize) -> Lanes {
+        self.gate_in(&self.values, gate)
+    }
+
+    /// What a gate has with the input inverted.
+    pub fn flipped_gate(&self, gate: usize) -> Lanes {
+        self.gate_in(&self.flipped, gate)
+    }
+
+    // What a gate has where signals have these values.
+    fn gate_in(&self, values: &[Lanes], gate: usize) -> Lanes {
+        let first = self.graph.inputs() as usize + 1;
+        match values.get(first.saturating_add(gate)) {
+            Some(lanes) => *lanes,
+            None => replicated(false),
+        }
+    }
+
     /// What an output has on the vectors.
     pub fn output(&self, output: u32) -> Lanes {
         match self.graph.outputs().get(output as usize) {

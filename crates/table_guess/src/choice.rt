@@ -1,7 +1,7 @@
 //! Which literal is tried next.
 
 use crate::level::Level;
-use cell_splits::{Draws, State};
+use cell_splits::{Draws, Likeness, State};
 use net_core::Side;
 use port_cells::{Cells, Counts};
 use std::alloc::{AllocError, Global};
@@ -98,18 +98,34 @@ fn better(best: Option<(Rank, usize)>, rank: Option<Rank>, cell: usize) -> Optio
     }
 }
 
-/// The next level: a literal of the first circuit, and those that it may correspond to, if one isn't alone. In
-/// later rounds the literal and the order of the others are drawn, and small cells come first in every other round.
+/// The next level: a literal of the first circuit, and those that it may correspond to, if one isn't alone. By likeness, where
+/// that is known, those that are most alike come first. Else, in later rounds, the literal and the order of the others are
+/// drawn. Small cells come first in every other round.
 pub(crate) fn next_level(
     alloc: Global,
     state: State,
     counts: &Counts,
+    likeness: Option<&Likeness>,
     round: u32,
     draws: &mut Draws,
 ) -> Result<Next, AllocError> {
     let Some(cell) = best_cell(alloc, &state, counts, round)? else {
         return Ok(Next::Paired(state));
     };
+    match likeness {
+        Some(likeness) => likest_level(alloc, state, cell, likeness),
+        None => level_of(alloc, state, cell, round, draws),
+    }
+}
+
+// A literal of a cell, the first one or a drawn one.
+fn level_of(
+    alloc: Global,
+    state: State,
+    cell: usize,
+    round: u32,
+    draws: &mut Draws,
+) -> Result<Next, AllocError> {
     let mine = literals_in(alloc, state.inputs.of(Side::First), cell)?;
     let mut candidates = literals_in(alloc, state.inputs.of(Side::Second), cell)?;
     let mut place = 0;
@@ -125,6 +141,92 @@ pub(crate) fn next_level(
         literal: *literal,
         candidates,
     }))
+}
+
+// The literal that is most like one that it may correspond to. While signs are open, one of the cell: a guess there decides most.
+fn likest_level(
+    alloc: Global,
+    state: State,
+    cell: usize,
+    likeness: &Likeness,
+) -> Result<Next, AllocError> {
+    let only = if state.inputs.has_open() {
+        Some(cell)
+    } else {
+        None
+    };
+    let Some(literal) = likest(alloc, &state.inputs, only, likeness)? else {
+        return Ok(Next::Paired(state));
+    };
+    let candidates = candidates_of(alloc, &state.inputs, literal, likeness)?;
+    Ok(Next::Guess(Level {
+        state,
+        literal,
+        candidates,
+    }))
+}
+
+// Among the literals that aren't alone in their cells, or those of one cell, the first of those that are most like one of
+// the second circuit.
+fn likest(
+    alloc: Global,
+    inputs: &Cells,
+    only: Option<usize>,
+    likeness: &Likeness,
+) -> Result<Option<usize>, AllocError> {
+    let sizes = inputs.sizes(alloc)?;
+    let mut best = None;
+    for (literal, cell) in inputs.of(Side::First).iter().enumerate() {
+        let is_alone = sizes.get(*cell) == Some(&1);
+        if !is_alone & (only.unwrap_or(*cell) == *cell) {
+            let most = most_alike(inputs.of(Side::Second), *cell, literal, likeness);
+            best = likelier(best, most, literal);
+        }
+    }
+    let Some((_, literal)) = best else {
+        return Ok(None);
+    };
+    Ok(Some(literal))
+}
+
+// How alike a literal's input is to the one that is most like it, of those with a literal in a cell.
+fn most_alike(others: &[usize], cell: usize, literal: usize, likeness: &Likeness) -> u64 {
+    let mut most = 0u64;
+    for (other, its) in others.iter().enumerate() {
+        if *its == cell {
+            most = most.max(likeness.of(literal / 2, other / 2));
+        }
+    }
+    most
+}
+
+fn likelier(best: Option<(u64, usize)>, most: u64, literal: usize) -> Option<(u64, usize)> {
+    match best {
+        Some((likeness, _)) if likeness >= most => best,
+        _ => Some((most, literal)),
+    }
+}
+
+// The literals that one may correspond to, the likest last.
+fn candidates_of(
+    alloc: Global,
+    inputs: &Cells,
+    literal: usize,
+    likeness: &Likeness,
+) -> Result<Vec<usize>, AllocError> {
+    let cell = inputs.of(Side::First).get(literal);
+    let mut ranked = Vec::new(alloc);
+    for (other, its) in inputs.of(Side::Second).iter().enumerate() {
+        if Some(its) == cell {
+            ranked.push((likeness.of(literal / 2, other / 2), other))?;
+        }
+    }
+    ranked.sort_unstable();
+    let mut candidates = Vec::with_capacity(alloc, ranked.len())?;
+    for (_, other) in ranked.iter() {
+        candidates.push(*other)?;
+    }
+    Ok(candidates)
 }
 
 fn best_cell(

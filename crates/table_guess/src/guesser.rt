@@ -10,14 +10,16 @@ use crate::kept::Kept;
 use crate::leaf::with_paired_outputs;
 use crate::level::{Level, next_state};
 use crate::matching::matching_of;
+use crate::patience::Patience;
+use crate::signs::{has_known_sign, has_one_open_cell, with_plain_signs};
 use bit_list::Bits;
 use cell_splits::{
-    Assignment, BEST, Draws, Keys, Link, Patterns, State, anchored, climbed, open_in,
+    Assignment, BEST, Draws, Keys, Likeness, Link, Patterns, State, anchored, climbed, open_in,
 };
 use flip_sim::{FlipSim, Lanes};
 use items::Items;
 use net_core::{Graph, Graphs, Matching, Side};
-use port_cells::{Cells, Slack};
+use port_cells::Slack;
 use std::alloc::{AllocError, Global};
 
 /// How many words of gates may be computed, about a second's.
@@ -55,6 +57,19 @@ const FEW_ASSIGNMENTS: u32 = 4;
 
 const MANY_BLOCKS: u64 = 16;
 
+/// How many responses of gates to inputs may be compared so that inputs are paired by likeness, about a tenth of a second's. The
+/// first guesses gain most by it: later ones are of inputs that few gates tell apart.
+const MOST_RESPONSES: u64 = 1 << 21;
+
+/// Up to how many words of gates are computed for it at once, and of how many inputs, which bounds the memory to some twenty
+/// megabytes.
+const MOST_COMPARED: u64 = 1 << 21;
+
+const MOST_INPUTS: u32 = 1 << 10;
+
+/// How many literals are tried as the one whose sign is to decide all others.
+const FEW_TRIED: u32 = 4;
+
 /// What a state comes to.
 #[derive(Drop)]
 enum Visit {
@@ -88,6 +103,10 @@ pub struct Guesser<'a> {
     /// Vectors of the first circuit on which many inputs matter, once they are needed: a column for each input.
     climbed: Items<Lanes>,
     round: u32,
+    /// How many responses of gates to inputs may still be compared.
+    responses: u64,
+    /// Whether one input's sign decides those of nearly all others, as in a majority, which is its own dual.
+    are_signs_linked: bool,
     /// Whether all that was counted was counted on all vectors. Then a search that is exhausted has missed no table.
     is_exact: bool,
     /// How many words of gates may be computed, with those for the first counts.
@@ -121,6 +140,8 @@ impl<'a> Guesser<'a> {
             kept,
             climbed: Items::new(alloc),
             round: 0,
+            responses: MOST_RESPONSES,
+            are_signs_linked: false,
             is_exact: sample.is_all,
             most_words: words
                 .saturating_mul(MOST_RUNS)
@@ -203,6 +224,12 @@ impl<'a> Guesser<'a> {
         if open_in(&root.inputs) <= FEW_OPEN {
             return Ok(None);
         }
+        // a vector also parts inputs that may all go to each other: those with one bit on it from those with the other one
+        self.are_signs_linked = has_one_open_cell(&root.inputs)
+            && self.are_linked(alloc, root.copy()?)?;
+        if self.are_signs_linked {
+            return Ok(None);
+        }
         let mut states = anchored(
             alloc,
             &root,
@@ -218,23 +245,43 @@ impl<'a> Guesser<'a> {
         Ok(None)
     }
 
+    // Whether a guess decides nearly all open signs.
+    fn are_linked(&mut self, alloc: Global, root: State) -> Result<bool, AllocError> {
+        let Next::Guess(level) = self.next_level(alloc, root)? else {
+            return Ok(false);
+        };
+        let mut levels = Vec::new(alloc);
+        levels.push(level)?;
+        for _ in 0..FEW_TRIED {
+            let Some(state) = next_state(alloc, &mut levels)? else {
+                return Ok(false);
+            };
+            if let Some(state) = self.refined(alloc, state)? {
+                return Ok(open_in(&state.inputs) <= FEW_OPEN);
+            }
+        }
+        Ok(false)
+    }
+
     // Searches depth first until so many guesses have failed.
     fn search(&mut self, alloc: Global, root: State, failures: u32) -> Result<Attempt, AllocError> {
         let mut levels = Vec::new(alloc);
-        let mut left = failures;
+        let mut patience = Patience::of_round(self.round, failures);
         let mut visit = self.visit(alloc, root)?;
         for _ in 0..MOST_STATES {
             match visit {
                 Visit::Paired(state) => return Ok(Attempt::Paired(state)),
                 Visit::Guess(level) => levels.push(level)?,
-                Visit::Fails => left = left.saturating_sub(1),
+                Visit::Fails => patience.fail(),
             }
-            if left == 0 || self.is_spent() {
+            if patience.is_over() || self.is_spent() {
                 return Ok(Attempt::Stopped);
             }
+            let before = levels.len();
             let Some(state) = next_state(alloc, &mut levels)? else {
                 return Ok(Attempt::Exhausted);
             };
+            patience.leave(before.saturating_sub(levels.len()));
             visit = self.visit(alloc, state)?;
         }
         Ok(Attempt::Stopped)
@@ -250,16 +297,52 @@ impl<'a> Guesser<'a> {
         let Some(state) = self.refined(alloc, state)? else {
             return Ok(Visit::Fails);
         };
-        match next_level(
-            alloc,
-            state,
-            &self.first.counts,
-            self.round,
-            &mut self.draws,
-        )? {
+        match self.next_level(alloc, state)? {
             Next::Guess(level) => Ok(Visit::Guess(level)),
             Next::Paired(state) => self.paired(alloc, state),
         }
+    }
+
+    // Chooses what is guessed next.
+    fn next_level(&mut self, alloc: Global, state: State) -> Result<Next, AllocError> {
+        let likeness = self.likeness(alloc, &state)?;
+        next_level(
+            alloc,
+            state,
+            &self.first.counts,
+            likeness.as_ref(),
+            self.round,
+            &mut self.draws,
+        )
+    }
+
+    // How alike inputs are, where guesses go by that.
+    fn likeness(&mut self, alloc: Global, state: &State) -> Result<Option<Likeness>, AllocError> {
+        if !self.goes_by_likeness(state) {
+            return Ok(None);
+        }
+        let likeness = Likeness::new(
+            alloc,
+            state,
+            &mut self.first.simulator,
+            &mut self.second.simulator,
+            &mut self.draws,
+        )?;
+        self.responses = self.responses.saturating_sub(likeness.responses());
+        Ok(Some(likeness))
+    }
+
+    // Every other round goes by draws, as likeness may mislead. While signs are open it tells little, and a guess serves to split
+    // cells, unless one guess decides all signs.
+    fn goes_by_likeness(&self, state: &State) -> bool {
+        let first = self.first.simulator.words_of_flips();
+        let second = self.second.simulator.words_of_flips();
+        (self.round % 2 == 0)
+            & (self.responses > 0)
+            & (first.max(second) <= MOST_COMPARED)
+            & (self.first.graph().inputs() <= MOST_INPUTS)
+            & (self.are_signs_linked | !state.inputs.has_open())
+            & !state.inputs.is_discrete()
     }
 
     fn paired(&mut self, alloc: Global, state: State) -> Result<Visit, AllocError> {
@@ -453,37 +536,6 @@ impl<'a> Guesser<'a> {
             },
         })
     }
-}
-
-// Whether the sign of some input is known.
-fn has_known_sign(inputs: &Cells) -> bool {
-    for literal in 0..inputs.of(Side::First).len() {
-        if !inputs.is_open(literal) {
-            return true;
-        }
-    }
-    false
-}
-
-// The state where ports whose signs are open go to plain ones, if there are some.
-fn with_plain_signs(alloc: Global, state: &State) -> Result<Option<State>, AllocError> {
-    if !state.inputs.has_open() {
-        return Ok(None);
-    }
-    let first = sign_keys(alloc, state.inputs.of(Side::First))?;
-    let second = sign_keys(alloc, state.inputs.of(Side::Second))?;
-    let inputs = state.inputs.refine(alloc, &first, &second)?;
-    Ok(state.copy()?.with_inputs(inputs))
-}
-
-// Keys by which plain literals whose signs are open go to plain ones.
-fn sign_keys(alloc: Global, cells: &[usize]) -> Result<Vec<u64>, AllocError> {
-    let mut keys = Vec::with_capacity(alloc, cells.len())?;
-    for (literal, cell) in cells.iter().enumerate() {
-        let is_open = cells.get(literal ^ 1) == Some(cell);
-        keys.push(if is_open { (literal % 2) as u64 } else { 0 })?;
-    }
-    Ok(keys)
 }
 
 // The state where inputs that change no output go to such inputs in order, where both circuits have as many.

@@ -8,6 +8,8 @@ mod kept;
 mod leaf;
 mod level;
 mod matching;
+mod patience;
+mod signs;
 mod trials;
 mod vectors;
 
