@@ -6,6 +6,7 @@ mod assignments;
 mod climbing;
 mod draws;
 mod exact;
+mod input_order;
 mod lane_counts;
 mod likeness;
 mod link;

@@ -4,12 +4,14 @@
 
 use crate::draws::Draws;
 use crate::exact::{is_shared, own_class};
+use crate::input_order::places_of;
 use crate::patterns::Patterns;
 use crate::state::State;
 use flip_sim::{FlipSim, Lanes};
-use net_core::Side;
+use net_core::{Graph, Side};
 use port_cells::{mix, mix_lanes};
 use std::alloc::{AllocError, Global};
+use std::cmp::Reverse;
 
 /// From how many pairs of inputs on a feature tells nothing: nearly all inputs of circuits with fewer than 64 have it.
 const MOST_PAIRS: usize = 1 << 12;
@@ -168,6 +170,10 @@ pub struct Likeness {
     first: Vec<u64>,
     /// Of the second circuit.
     second: Vec<u64>,
+    /// The place of each input of the first circuit in the order in which they are met from the outputs on.
+    first_places: Vec<usize>,
+    /// Of the second circuit.
+    second_places: Vec<usize>,
     /// How many responses of gates to inputs were compared, with a sixteenth of the pairs of inputs, which take about as long.
     responses: u64,
 }
@@ -188,18 +194,21 @@ impl Likeness {
         let patterns = Patterns::draw(alloc, &state.inputs, draws)?;
         let left = Responses::new(alloc, state, Side::First, &patterns, first)?;
         let right = Responses::new(alloc, state, Side::Second, &patterns, second)?;
-        let mut likeness = Likeness::none(alloc, first.graph().inputs() as usize)?;
+        let mut likeness = Likeness::none(alloc, first.graph(), second.graph())?;
         likeness.compare(&left.features(alloc)?, &right.features(alloc)?);
         Ok(likeness)
     }
 
     // Inputs without features.
-    fn none(alloc: Global, inputs: usize) -> Result<Likeness, AllocError> {
+    fn none(alloc: Global, first: &Graph, second: &Graph) -> Result<Likeness, AllocError> {
+        let inputs = first.inputs() as usize;
         Ok(Likeness {
             inputs,
             shared: vec![in alloc; 0u64; inputs.saturating_mul(inputs)]?,
             first: vec![in alloc; 0u64; inputs]?,
             second: vec![in alloc; 0u64; inputs]?,
+            first_places: places_of(alloc, first)?,
+            second_places: places_of(alloc, second)?,
             responses: 0,
         })
     }
@@ -246,12 +255,24 @@ impl Likeness {
     }
 
     /// How alike an input of the first circuit and one of the second are: which part the features that they share have of those that
-    /// they could share. Greater numbers mean that they are more alike.
-    pub fn of(&self, mine: usize, its: usize) -> u64 {
+    /// they could share. Of pairs that are alike in that those come first whose places are nearest.
+    pub fn of(&self, mine: usize, its: usize) -> (u64, Reverse<usize>) {
         let row = mine.saturating_mul(self.inputs);
         let shared = at(&self.shared, row.saturating_add(its));
         let all = at(&self.first, mine).saturating_add(at(&self.second, its));
-        shared.saturating_mul(WHOLE) / all.max(1)
+        let place = place_of(&self.first_places, mine);
+        let other = place_of(&self.second_places, its);
+        (
+            shared.saturating_mul(WHOLE) / all.max(1),
+            Reverse(place.abs_diff(other)),
+        )
+    }
+}
+
+fn place_of(places: &[usize], input: usize) -> usize {
+    match places.get(input) {
+        Some(place) => *place,
+        None => 0,
     }
 }
 

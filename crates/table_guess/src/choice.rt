@@ -190,8 +190,13 @@ fn likest(
 }
 
 // How alike a literal's input is to the one that is most like it, of those with a literal in a cell.
-fn most_alike(others: &[usize], cell: usize, literal: usize, likeness: &Likeness) -> u64 {
-    let mut most = 0u64;
+fn most_alike(
+    others: &[usize],
+    cell: usize,
+    literal: usize,
+    likeness: &Likeness,
+) -> (u64, Reverse<usize>) {
+    let mut most = (0u64, Reverse(usize::MAX));
     for (other, its) in others.iter().enumerate() {
         if *its == cell {
             most = most.max(likeness.of(literal / 2, other / 2));
@@ -200,7 +205,11 @@ fn most_alike(others: &[usize], cell: usize, literal: usize, likeness: &Likeness
     most
 }
 
-fn likelier(best: Option<(u64, usize)>, most: u64, literal: usize) -> Option<(u64, usize)> {
+fn likelier(
+    best: Option<((u64, Reverse<usize>), usize)>,
+    most: (u64, Reverse<usize>),
+    literal: usize,
+) -> Option<((u64, Reverse<usize>), usize)> {
     match best {
         Some((likeness, _)) if likeness >= most => best,
         _ => Some((most, literal)),
