@@ -27,11 +27,12 @@ const CHOICE: Sample = Sample {
 const INFORMED: &[(Sample, u64, usize, &[(u32, Unate)])] = &[
     // a constant reaches no input
     (CONSTANT, 0, 0, &[]),
-    // two claims of either of two inputs, and four swaps, of which the last one fails
+    // two claims of either of two inputs, and the two swaps by which they may be exchanged; both are positive, so that inverted
+    // they may not
     (
         AND_OF_THREE,
         99,
-        8,
+        6,
         &[(0, Unate::Positive), (1, Unate::Positive)],
     ),
     // each claim of the four inputs fails, and each first swap of the six pairs
