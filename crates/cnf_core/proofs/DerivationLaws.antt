@@ -1,7 +1,7 @@
 -- What is derived by hints follows: no assignment meets a formula that a log refutes.
 use Rattle.std.proofs.Common.{◌≡◌, ◌≢◌, ℕ, zero, suc, ◌<◌, ◌≤◌, ◌&&◌, ◌||◌, not, cond, Bool, true, false, List, [], ◌∷◌, ◌++◌, length, map, filter, take, Option, None, Some, nat_lt, slice_index_or, inl, inr, refl, sym, ◌∙◌, ap, subst, arith}
 use Rattle.std.specs.List.{list_any, list_all, AllByRecursion}
-use Rattle.std.proofs.lemmas.Bool.{cases_Bool, false≢true, eqb-true, ltb-true}
+use Rattle.std.proofs.lemmas.Bool.{cases_Bool, false≢true, ltb-true}
 use Rattle.std.proofs.lemmas.List.{append-nil, append_assoc, map-append}
 use Rattle.std.proofs.lemmas.List.Folds.{list_all-append}
 use Rattle.std.proofs.lemmas.List.Elements.{All-append, All-cons, All-nil, recursion_from_All}
@@ -14,13 +14,11 @@ use Rattle.cnf_core.specs.declared.fault.LineFault.{LineFault}
 use Rattle.cnf_core.specs.declared.fault.LineFault.TheVariants as fault
 use Rattle.cnf_core.specs.Clauses.{Formula, Meets, is_met, as_signal, variable_of, literal_bit, opposite, clause_at}
 use Rattle.cnf_core.specs.Derivations.{is_same, is_true, is_false, effect_by, effect_of, fault_behind, hint_fault, is_empty, repeats_variable, line_fault, clauses_of, AreDerived, IsRefutation}
+use Rattle.cnf_core.proofs.LiteralLemmas.{same_literal}
 
 -- the opposite of a literal has the other bit
 pub opposite_bit : (a : List Bool) (l : SatLit) → literal_bit a (opposite l) ≡ not (literal_bit a l)
 opposite_bit a l = literal_bit-inverse a (as_signal l)
-
-same_literal : (l m : SatLit) → is_same l m ≡ true → l ≡ m
-same_literal l m e = ap (λ n. record { 0 = n }) (eqb-true l.0 m.0 e)
 
 -- where an assignment makes all of these true, it makes each of them true
 found_true : (a : List Bool) (made : List SatLit) (l : SatLit) → list_all (literal_bit a) made ≡ true → is_true made l ≡ true → literal_bit a l ≡ true

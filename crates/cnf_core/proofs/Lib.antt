@@ -1,2 +1,5 @@
 pub mod DerivationLaws
+pub mod EffectLemmas
+pub mod LineLemmas
+pub mod LiteralLemmas
 pub mod StoreLemmas

@@ -41,7 +41,8 @@ fault_behind Neither hints go_on = Some fault.NotUnit
 abbrev pub hint_fault : List (List SatLit) → List SatLit → List ℕ → Option LineFault
 hint_fault clauses made [] = Some fault.NoConflict
 hint_fault clauses made (hint ∷ hints) =
-    if nat_lt hint (length clauses) then fault_behind (effect_of made (clause_at clauses hint)) hints (λ literal. hint_fault clauses (made ++ literal ∷ []) hints)
+    if nat_lt hint (length clauses) then
+    fault_behind (effect_of made (clause_at clauses hint)) hints (λ literal. hint_fault clauses (made ++ literal ∷ []) hints)
     else Some fault.UnknownHint
 
 abbrev pub is_empty : List SatLit → Bool

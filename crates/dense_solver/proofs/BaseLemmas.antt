@@ -18,7 +18,8 @@ use Rattle.cnf_core.specs.Clauses.{Formula, clause_at, is_negated, literal_of, l
 use Rattle.cnf_core.specs.Derivations.{clauses_of}
 use Rattle.watch_lists.specs.Propagations.{AreKnown}
 use Rattle.dense_solver.specs.Renamings.{AreListed, AreMarks, AreNames, AreOver, ArePlaces, AreTurned, IsNamed, IsOver, IsRenaming, numbers_of, renamed}
-use Rattle.dense_solver.proofs.LineLemmas.{is_negated-literal, itself, variable_of-literal}
+use Rattle.cnf_core.proofs.LiteralLemmas.{itself, variable_of-literal}
+use Rattle.dense_solver.proofs.LineLemmas.{is_negated-literal}
 
 -- the first names have their places
 pub record IsPlacing (variables : ℕ) (names places : List ℕ) (count : ℕ) : Type 0 where

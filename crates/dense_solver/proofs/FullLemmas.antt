@@ -22,7 +22,8 @@ use Rattle.learn_solver.proofs.SolverLemmas.{line_known, line_says, steps_there}
 use Rattle.dense_solver.specs.Renamings.{AreShort, IsRenaming, IsSpread, renamed, translated}
 use Rattle.dense_solver.specs.Solved.{AreCharged, AreLearned, AreRefused, IsFound, IsSettled, IsTold, IsUnsettled, start_of, with_lines_of}
 use Rattle.dense_solver.proofs.RenameLemmas.{has_all_renamed, met_renamed}
-use Rattle.dense_solver.proofs.LineLemmas.{clauses_after, empties_renamed, is_negated-literal, line_translated, names_rename, variable_of-literal}
+use Rattle.cnf_core.proofs.LiteralLemmas.{variable_of-literal}
+use Rattle.dense_solver.proofs.LineLemmas.{clauses_after, empties_renamed, is_negated-literal, line_translated, names_rename}
 
 no_line : LogLine
 no_line = record { clause = []; hints = [] }

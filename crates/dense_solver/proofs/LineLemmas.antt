@@ -1,5 +1,5 @@
 -- Lines over names are derived where they are.
-use Rattle.std.proofs.Common.{◌≡◌, ℕ, ◌+◌, ◌-◌, ◌*◌, ◌/◌, ◌%◌, ◌<◌, ◌==◌, ◌&&◌, ◌||◌, not, cond, Bool, true, false, List, [], ◌∷◌, ◌++◌, length, map, All, None, nat_lt, slice_index_or, eqb, inl, inr, refl, sym, ◌∙◌, ap, arith}
+use Rattle.std.proofs.Common.{◌≡◌, ℕ, ◌+◌, ◌-◌, ◌*◌, ◌/◌, ◌%◌, ◌<◌, ◌==◌, ◌&&◌, ◌||◌, not, cond, Bool, true, false, List, [], ◌∷◌, ◌++◌, length, map, All, None, nat_lt, slice_index_or, inl, inr, refl, sym, ◌∙◌, ap, arith}
 use Rattle.std.specs.List.{list_any, list_all}
 use Rattle.std.proofs.lemmas.Bool.{cases_lt, eq-eqb, le-ltb, lt-ltb}
 use Rattle.std.proofs.lemmas.Bool.Decides.{eqb_tells}
@@ -10,26 +10,11 @@ use Rattle.cnf_core.specs.declared.literal.SatLit.{SatLit}
 use Rattle.cnf_core.specs.declared.log.LogLine.{LogLine}
 use Rattle.cnf_core.specs.Clauses.{Formula, clause_at, is_negated, literal_of, opposite, variable_of}
 use Rattle.cnf_core.specs.Derivations.{clauses_of, hint_fault, is_empty, line_fault}
-use Rattle.learn_solver.proofs.PlaceLemmas.{variable_of-opposite}
+use Rattle.cnf_core.proofs.LiteralLemmas.{itself, negated-opposite, same_number, variable_of-literal, variable_of-opposite}
 use Rattle.learn_solver.proofs.SolverLemmas.{line_from, line_known, line_says}
 use Rattle.watch_lists.specs.Propagations.{AreKnown}
 use Rattle.dense_solver.specs.Renamings.{AreNames, IsRenaming, renamed, renumbered, translated}
 use Rattle.dense_solver.proofs.RenameLemmas.{Renames, hints_renamed, once_renamed, opposites_known, opposites_renamed}
-
-pub variable_of-literal : (v : ℕ) (b : Bool) → variable_of (literal_of v b) ≡ v
-variable_of-literal v true = omega arith
-variable_of-literal v false = omega arith
-
--- a literal is that of its variable with its sign
-pub itself : (l : SatLit) → literal_of (variable_of l) (not (is_negated l)) ≡ l
-itself l = ap (λ n. record { 0 = n }) (number l.0)
-  where
-    number : (n : ℕ) → cond (not (eqb (n % 2) 1)) (2 * (n / 2)) (2 * (n / 2) + 1) ≡ n
-    number n =
-        elim (eqb_tells (n % 2) 1) [
-          | inl (odd, e) ↦ ap (λ b. cond (not b) (2 * (n / 2)) (2 * (n / 2) + 1)) odd ∙ omega (arith, e)
-          | inr (even, e) ↦ ap (λ b. cond (not b) (2 * (n / 2)) (2 * (n / 2) + 1)) even ∙ omega (arith, e)
-        ]
 
 pub is_negated-literal : (v : ℕ) (b : Bool) → is_negated (literal_of v b) ≡ not b
 is_negated-literal v true = elim (eqb_tells (2 * v % 2) 1) [ inl (odd, e) ↦ absurd (omega (arith, e)) | inr (even, e) ↦ even ]
@@ -39,13 +24,6 @@ opposite-literal : (v : ℕ) (b : Bool) → opposite (literal_of v b) ≡ litera
 opposite-literal v true = ap (λ n. record { 0 = n }) (let e : 2 * (2 * v / 2) + (1 - 2 * v % 2) ≡ 2 * v + 1 = omega arith in e)
 opposite-literal v false = ap (λ n. record { 0 = n }) (let e : 2 * ((2 * v + 1) / 2) + (1 - (2 * v + 1) % 2) ≡ 2 * v = omega arith in e)
 
-negated-opposite : (l : SatLit) → is_negated (opposite l) ≡ not (is_negated l)
-negated-opposite l =
-    elim (eqb_tells (l.0 % 2) 1) [
-      | inl (odd, e) ↦ elim (eqb_tells ((opposite l).0 % 2) 1) [ inl (o, f) ↦ absurd (omega (arith, e, f)) | inr (o, f) ↦ o ∙ sym (ap not odd) ]
-      | inr (even, e) ↦ elim (eqb_tells ((opposite l).0 % 2) 1) [ inl (o, f) ↦ o ∙ sym (ap not even) | inr (o, f) ↦ absurd (omega (arith, e, f)) ]
-    ]
-
 -- two tests agree where each says what the other does
 tests_agree : (a b c d : ℕ) → (a ≡ b → c ≡ d) → (c ≡ d → a ≡ b) → (a == b) ≡ (c == d)
 tests_agree a b c d there back =
@@ -53,9 +31,6 @@ tests_agree a b c d there back =
       | inl (yes_, e) ↦ yes_ ∙ sym (eq-eqb c d (there e))
       | inr (no_, e) ↦ elim (eqb_tells c d) [ inl (is, f) ↦ absurd (e (back f)) | inr (is, f) ↦ no_ ∙ sym is ]
     ]
-
-same_number : (l m : SatLit) → l.0 ≡ m.0 → l ≡ m
-same_number l m e = ap (λ n. record { 0 = n }) e
 
 not_twice : (a b : Bool) → not a ≡ not b → a ≡ b
 not_twice true true e = refl

@@ -65,7 +65,8 @@ HaveNamed n (Model values) = length values ≡ n
 HaveNamed n (Refuted log) = Unit {0}
 
 -- A search over names that ended with an answer: its lines were charged as the formula's.
-pub record IsSettled {O : Type 0} (small : Formula) (names numbers : List ℕ) (full : Formula) (lemmas : List LogLine) (old new : Charging O) (answer : Verdict) : Type 0 where
+pub record IsSettled {O : Type 0} (small : Formula) (names numbers : List ℕ) (full : Formula) (lemmas : List LogLine)
+    (old new : Charging O) (answer : Verdict) : Type 0 where
   pub lines : List LogLine
   pub own : Verdict
   pub learned : AreLearned small lines
@@ -74,12 +75,22 @@ pub record IsSettled {O : Type 0} (small : Formula) (names numbers : List ℕ) (
   pub told : IsTold names full.variables (lemmas ++ map (translated names numbers (length full.clauses + length lemmas)) lines) own answer
 
 -- A search over names whose lines were charged up to one that was refused.
-pub record IsCutOff {O : Type 0} (small : Formula) (names numbers : List ℕ) (full : Formula) (lemmas : List LogLine) (old new : Charging O) (learned_lines : ℕ) : Type 0 where
+pub record IsCutOff {O : Type 0} (small : Formula) (names numbers : List ℕ) (full : Formula) (lemmas : List LogLine)
+    (old new : Charging O) (learned_lines : ℕ) : Type 0 where
   pub lines : List LogLine
   pub learned : AreLearned small lines
   pub overdrawn : AreOverdrawn old (map (translated names numbers (length full.clauses + length lemmas)) lines) new learned_lines
 
-abbrev pub IsUnsettled : {O : Type 0} → Formula → List ℕ → List ℕ → Formula → List LogLine → Charging O → Charging O → Stop → Type 0
+abbrev pub IsUnsettled : {O : Type 0}
+    → Formula
+    → List ℕ
+    → List ℕ
+    → Formula
+    → List LogLine
+    → Charging O
+    → Charging O
+    → Stop
+    → Type 0
 IsUnsettled {O} small names numbers full lemmas old new (Spent learned) = IsCutOff small names numbers full lemmas old new learned
 IsUnsettled {O} small names numbers full lemmas old new Memory = Unit {0}
 

@@ -12,7 +12,8 @@ use Rattle.query_core.specs.Formulas.{formula_of, query_clauses}
 use Rattle.joint_hash.specs.declared.gates.ConeGate.{ConeGate}
 use Rattle.joint_hash.specs.declared.twins.Twin.{Twin}
 use Rattle.joint_hash.specs.Trees.{IsGateOf}
-use Rattle.joint_hash.specs.Merging.{AreEquated, HasAlso, IsUnderWay, clauses_with, first_with, operands_of, twin_of}
+use Rattle.joint_hash.specs.Chains.{clauses_with}
+use Rattle.joint_hash.specs.Classes.{AreEquated, HasAlso, IsUnderWay, first_with, operands_of, twin_of}
 use Rattle.joint_hash.proofs.GateLemmas.{nested}
 use Rattle.joint_hash.proofs.MergeLemmas.{equated_more, joined_more, kept_more}
 

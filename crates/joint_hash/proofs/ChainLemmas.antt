@@ -10,8 +10,10 @@ use Rattle.cnf_core.specs.Derivations.{is_false, is_same, is_true}
 use Rattle.query_core.specs.Formulas.{plain}
 use Rattle.joint_hash.specs.declared.gates.ConeGate.{ConeGate}
 use Rattle.joint_hash.specs.declared.twins.Twin.{Twin}
-use Rattle.joint_hash.specs.Merging.{AreTwins, IsTwin, LeadOn, LeavesOnly, chain_ids, lemma_ids, operands_of, representative, twin_literal}
-use Rattle.joint_hash.proofs.LiteralLemmas.{AreTheSame, in_order_same, negated_is, opposite_twice, plain_is, same_from, same_itself}
+use Rattle.joint_hash.specs.Chains.{LeadOn, LeavesOnly}
+use Rattle.joint_hash.specs.Classes.{AreTwins, IsTwin, chain_ids, lemma_ids, operands_of, representative, twin_literal}
+use Rattle.cnf_core.proofs.LiteralLemmas.{opposite_twice, same_from, same_itself}
+use Rattle.joint_hash.proofs.LiteralLemmas.{AreTheSame, in_order_same, negated_is, plain_is}
 use Rattle.joint_hash.proofs.LeadLemmas.{last_true, lead_too, nothing_new, stays_true}
 
 -- The three clauses of a gate are among these.

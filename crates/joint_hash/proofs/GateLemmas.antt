@@ -22,9 +22,10 @@ use Rattle.query_core.proofs.FormulaLemmas.{clause_below, clause_of_left, clause
 use Rattle.query_core.proofs.LawLemmas.{ordered_side}
 use Rattle.joint_hash.specs.declared.gates.ConeGate.{ConeGate}
 use Rattle.joint_hash.specs.Trees.{IsGateOf, IsReachedGate}
-use Rattle.joint_hash.specs.Merging.{HasGate}
+use Rattle.joint_hash.specs.Classes.{HasGate}
 use Rattle.joint_hash.proofs.ChainLemmas.{HasClauses}
-use Rattle.joint_hash.proofs.LiteralLemmas.{negated-plain, opposite_twice, variable_of-opposite, variable_of-plain}
+use Rattle.cnf_core.proofs.LiteralLemmas.{opposite_twice, variable_of-opposite}
+use Rattle.joint_hash.proofs.LiteralLemmas.{negated-plain, variable_of-plain}
 use Rattle.joint_hash.proofs.MergeLemmas.{AreNested}
 use Rattle.joint_hash.proofs.SharedLemmas.{gate_literal, input_literal, left_variable, one_net, operand_flags, same_literals, variable_cases}
 

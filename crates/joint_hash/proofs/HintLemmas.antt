@@ -1,25 +1,14 @@
 -- Hints, one after the other, and the lines that they derive.
-use Rattle.std.proofs.Common.{◌≡◌, ℕ, suc, ◌≤◌, drop, drop_of_length-le, ◌+◌, ◌<◌, ◌&&◌, not, cond, List, [], ◌∷◌, ◌++◌, length, filter, Option, None, Some, slice_index_or, refl, ◌∙◌, ap, subst, arith, append_assoc}
-use Rattle.std.specs.List.{list_all}
+use Rattle.std.proofs.Common.{◌≡◌, ℕ, suc, ◌≤◌, drop, drop_of_length-le, ◌+◌, ◌<◌, cond, List, [], ◌∷◌, ◌++◌, length, None, Some, slice_index_or, refl, ◌∙◌, ap, subst, arith, append_assoc}
 use Rattle.std.proofs.lemmas.Bool.{lt-ltb}
 use Rattle.cnf_core.specs.declared.literal.SatLit.{SatLit}
-use Rattle.cnf_core.specs.declared.effect.Effect.{Effect}
 use Rattle.cnf_core.specs.declared.effect.Effect.TheVariants.{Conflict, Makes, Neither}
 use Rattle.cnf_core.specs.declared.fault.LineFault.TheVariants as fault
 use Rattle.cnf_core.specs.Clauses.{clause_at}
-use Rattle.cnf_core.specs.Derivations.{effect_by, effect_of, fault_behind, hint_fault, is_false, is_same, is_true}
+use Rattle.cnf_core.specs.Derivations.{effect_of, fault_behind, hint_fault}
 use Rattle.std.proofs.Math.Seq.{drop-cons}
-use Rattle.joint_hash.specs.Merging.{LeadOn}
+use Rattle.joint_hash.specs.Chains.{LeadOn}
 use Rattle.joint_hash.proofs.LeadLemmas.{lead_makes, lead_neither, lead_there}
-
--- the literals that aren't false
-abbrev pub open_ones : List SatLit → List SatLit → List SatLit
-open_ones made clause = filter (λ l. not (is_false made l)) clause
-
--- what a clause does, by the one literal that was found and by what is left
-abbrev pub effect_with : List SatLit → Option SatLit → List SatLit → Effect
-effect_with made None left = effect_by made left
-effect_with made (Some l) left = cond (list_all (is_same l) left && not (is_true made l)) (Makes l) Neither
 
 -- Hints so far make these literals true.
 pub record IsHinted (clauses : List (List SatLit)) (start made : List SatLit) (hints : List ℕ) : Type 0 where

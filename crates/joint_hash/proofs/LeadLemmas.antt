@@ -8,8 +8,8 @@ use Rattle.cnf_core.specs.declared.effect.Effect.{Effect}
 use Rattle.cnf_core.specs.declared.effect.Effect.TheVariants.{Conflict, Makes, Neither}
 use Rattle.cnf_core.specs.Clauses.{clause_at, opposite}
 use Rattle.cnf_core.specs.Derivations.{effect_by, effect_of, is_false, is_same, is_true}
-use Rattle.joint_hash.specs.Merging.{LeadOn, LeavesOnly}
-use Rattle.joint_hash.proofs.LiteralLemmas.{same_from, same_itself, same_literal}
+use Rattle.joint_hash.specs.Chains.{LeadOn, LeavesOnly}
+use Rattle.cnf_core.proofs.LiteralLemmas.{same_from, same_itself, same_literal}
 
 -- ---- what is true with one literal more
 

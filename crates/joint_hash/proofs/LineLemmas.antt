@@ -1,31 +1,17 @@
 -- A lemma more: an implication between two variables.
-use Rattle.std.proofs.Common.{◌≡◌, ◌≢◌, ℕ, ◌<◌, ◌≤◌, ◌&&◌, ◌||◌, not, cond, true, false, List, [], ◌∷◌, ◌++◌, length, map, take, All, None, Some, nat_lt, slice_index_or, inl, inr, refl, sym, ◌∙◌, ap, subst, arith, ne_eqb}
+use Rattle.std.proofs.Common.{◌≡◌, ◌≢◌, ℕ, ◌<◌, ◌≤◌, ◌&&◌, ◌||◌, not, cond, true, false, List, [], ◌∷◌, ◌++◌, length, map, All, None, Some, nat_lt, refl, sym, ◌∙◌, ap, subst, arith, ne_eqb}
 use Rattle.std.specs.List.{list_any, list_all}
-use Rattle.std.proofs.lemmas.Bool.{cases_eq, cond-false, lt-ltb}
-use Rattle.std.proofs.lemmas.List.{get_or_append_left, get_or_at, length-append, map-append, take-append-le, take_at}
+use Rattle.std.proofs.lemmas.Bool.{cond-false, lt-ltb}
+use Rattle.std.proofs.lemmas.List.{map-append}
 use Rattle.std.proofs.lemmas.List.Folds.{list_any-append}
 use Rattle.std.proofs.lemmas.List.Elements.{All-push}
 use Rattle.cnf_core.specs.declared.literal.SatLit.{SatLit}
 use Rattle.cnf_core.specs.declared.log.LogLine.{LogLine}
 use Rattle.cnf_core.specs.declared.fault.LineFault.TheVariants as fault
 use Rattle.cnf_core.specs.Clauses.{Formula, opposite, variable_of}
-use Rattle.cnf_core.specs.Derivations.{AreDerived, clauses_of, hint_fault, is_empty, line_fault, repeats_variable}
+use Rattle.cnf_core.specs.Derivations.{clauses_of, hint_fault, is_empty, line_fault, repeats_variable}
+use Rattle.cnf_core.proofs.LineLemmas.{derived_more}
 use Rattle.joint_hash.specs.Merging.{AreLemmas}
-
--- one line more that is derived
-derived_more : (formula : Formula) (lines : List LogLine) (line : LogLine) → AreDerived formula lines → line_fault formula (clauses_of lines) line ≡ None → AreDerived formula (lines ++ line ∷ [])
-derived_more formula lines line derived good k d within =
-    elim (cases_eq k (length lines)) [
-      | inl last ↦
-          let at = get_or_at lines line [] d k (sym last) in
-          let front : take k (lines ++ line ∷ []) ≡ lines = take_at lines (line ∷ []) k (sym last) in
-          ap (λ l. line_fault formula (clauses_of (take k (lines ++ line ∷ []))) l) at ∙ (ap (λ ls. line_fault formula (clauses_of ls) line) front ∙ good)
-      | inr other ↦
-          let early : k < length lines = omega (arith, other, within, length-append lines (line ∷ [])) in
-          let at = get_or_append_left lines (line ∷ []) d k early in
-          let front : take k (lines ++ line ∷ []) ≡ take k lines = take-append-le k lines (line ∷ []) (omega (arith, early)) in
-          ap (λ l. line_fault formula (clauses_of (take k (lines ++ line ∷ []))) l) at ∙ (ap (λ ls. line_fault formula (clauses_of ls) (slice_index_or lines k d)) front ∙ derived k d early)
-    ]
 
 -- a clause of two variables has none twice
 known_pair : (n : ℕ) (a b : SatLit) → variable_of a < n → variable_of b < n → list_all (λ l. nat_lt (variable_of l) n) (a ∷ b ∷ []) ≡ true

@@ -13,7 +13,8 @@ use Rattle.query_core.specs.ConeClauses.{AreConeIds}
 use Rattle.joint_hash.specs.declared.gates.ConeGate.{ConeGate}
 use Rattle.joint_hash.specs.declared.twins.Twin.{Twin}
 use Rattle.joint_hash.specs.Trees.{IsGateOf}
-use Rattle.joint_hash.specs.Merging.{AreListed, AreTwins, chain_ids, lemma_ids}
+use Rattle.joint_hash.specs.Chains.{AreListed}
+use Rattle.joint_hash.specs.Classes.{AreTwins, chain_ids, lemma_ids}
 
 -- the clause of a number that isn't below the count is that of a line
 pub later_clause : (front : List (List SatLit)) (lines : List LogLine) (count id : ℕ) (d : LogLine) (clause : List SatLit) → count ≡ length front → count ≤ id → id - count < length lines → clause ≡ (slice_index_or lines (id - count) d).clause → clause ≡ clause_at (front ++ clauses_of lines) id

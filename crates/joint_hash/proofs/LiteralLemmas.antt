@@ -1,5 +1,5 @@
 -- Literals, their signs and variables; two of them in order; and what stands for one.
-use Rattle.std.proofs.Common.{◌≡◌, ◌⊎◌, ℕ, ◌+◌, ◌-◌, ◌*◌, ◌/◌, ◌%◌, ◌<◌, ◌≤◌, cond, not, eqb, Bool, true, false, Option, None, Some, nat_lt, inl, inr, refl, sym, ◌∙◌, ap, subst, arith, eqb-true, eq-eqb, lt-ltb, le-ltb}
+use Rattle.std.proofs.Common.{◌≡◌, ◌⊎◌, ℕ, ◌+◌, ◌-◌, ◌*◌, ◌/◌, ◌%◌, ◌<◌, ◌≤◌, cond, not, eqb, Bool, true, false, Option, None, Some, nat_lt, inl, inr, refl, sym, ◌∙◌, ap, subst, arith, lt-ltb, le-ltb}
 use Rattle.std.proofs.lemmas.Bool.{both_ways, cases_order, and_parts, and_from}
 use Rattle.std.proofs.lemmas.Bool.Decides.{eqb_tells}
 use Rattle.cnf_core.specs.declared.literal.SatLit.{SatLit}
@@ -7,35 +7,8 @@ use Rattle.cnf_core.specs.Clauses.{is_negated, opposite, variable_of}
 use Rattle.cnf_core.specs.Derivations.{is_same}
 use Rattle.query_core.specs.Formulas.{plain}
 use Rattle.joint_hash.specs.declared.twins.Twin.{Twin}
-use Rattle.joint_hash.specs.Merging.{in_order, representative, same_operands, twin_literal}
-
-pub same_number : (l m : SatLit) → l.0 ≡ m.0 → l ≡ m
-same_number l m e = ap (λ n. record { 0 = n }) e
-
-pub same_literal : (l m : SatLit) → is_same l m ≡ true → l ≡ m
-same_literal l m e = same_number l m (eqb-true l.0 m.0 e)
-
-pub same_itself : (l : SatLit) → is_same l l ≡ true
-same_itself l = eq-eqb l.0 l.0 refl
-
-pub same_from : (l m : SatLit) → l ≡ m → is_same l m ≡ true
-same_from l m e = subst (λ (x : SatLit). is_same l x ≡ true) e (same_itself l)
-
-pub opposite_twice : (l : SatLit) → opposite (opposite l) ≡ l
-opposite_twice l = ap (λ n. record { 0 = n }) (number l.0)
-  where
-    number : (n : ℕ) → 2 * ((2 * (n / 2) + (1 - n % 2)) / 2) + (1 - (2 * (n / 2) + (1 - n % 2)) % 2) ≡ n
-    number n = omega arith
-
-pub variable_of-opposite : (l : SatLit) → variable_of (opposite l) ≡ variable_of l
-variable_of-opposite l = omega arith
-
-pub negated-opposite : (l : SatLit) → is_negated (opposite l) ≡ not (is_negated l)
-negated-opposite l =
-    elim (eqb_tells (l.0 % 2) 1) [
-      | inl (odd, e) ↦ elim (eqb_tells ((opposite l).0 % 2) 1) [ inl (o, f) ↦ absurd (omega (arith, e, f)) | inr (o, f) ↦ o ∙ sym (ap not odd) ]
-      | inr (even, e) ↦ elim (eqb_tells ((opposite l).0 % 2) 1) [ inl (o, f) ↦ o ∙ sym (ap not even) | inr (o, f) ↦ absurd (omega (arith, e, f)) ]
-    ]
+use Rattle.cnf_core.proofs.LiteralLemmas.{negated-opposite, opposite_twice, same_itself, same_literal, same_number, variable_of-opposite}
+use Rattle.joint_hash.specs.Classes.{in_order, representative, same_operands, twin_literal}
 
 -- a literal is its variable, or the opposite of that
 pub plain_is : (l : SatLit) → is_negated l ≡ false → plain (variable_of l) ≡ l

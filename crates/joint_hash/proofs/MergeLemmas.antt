@@ -8,7 +8,7 @@ use Rattle.query_core.specs.Formulas.{plain}
 use Rattle.joint_hash.specs.declared.gates.ConeGate.{ConeGate}
 use Rattle.joint_hash.specs.declared.twins.Twin.{Twin}
 use Rattle.joint_hash.specs.Trees.{IsCongruence}
-use Rattle.joint_hash.specs.Merging.{AreMerged, HasGate, IsFound, IsKept, IsTwin, IsVisited, in_order, operands_of, representative, same_operands, twin_literal}
+use Rattle.joint_hash.specs.Classes.{AreMerged, HasGate, IsFound, IsKept, IsTwin, IsVisited, in_order, operands_of, representative, same_operands, twin_literal}
 use Rattle.joint_hash.proofs.LiteralLemmas.{in_order_same, operands_from, operands_same, plain_is, negated_is}
 
 -- Gates whose operands come first, each once under its number, and with the same operands where two have one variable.

@@ -9,8 +9,9 @@ use Rattle.query_core.specs.Formulas.{plain}
 use Rattle.joint_hash.specs.declared.gates.ConeGate.{ConeGate}
 use Rattle.joint_hash.specs.declared.twins.Twin.{Twin}
 use Rattle.joint_hash.specs.Trees.{AreEqualBy, IsCongruence, IsFirst, IsJoined}
-use Rattle.joint_hash.specs.Merging.{AreMerged, IsFound, IsKept, IsTwin, in_order, operands_of, representative, twin_literal}
-use Rattle.joint_hash.proofs.LiteralLemmas.{in_order_exchanged, plain_is, representative_opposite, same_from, same_itself, same_literal}
+use Rattle.joint_hash.specs.Classes.{AreMerged, IsFound, IsKept, IsTwin, in_order, operands_of, representative, twin_literal}
+use Rattle.cnf_core.proofs.LiteralLemmas.{same_from, same_itself, same_literal}
+use Rattle.joint_hash.proofs.LiteralLemmas.{in_order_exchanged, plain_is, representative_opposite}
 use Rattle.joint_hash.proofs.MergeLemmas.{AreNested, none_or_some, one_variable, some_is}
 
 other_default : (xs : List (List SatLit)) (k : ℕ) (d e : List SatLit) → k < length xs → slice_index_or xs k d ≡ slice_index_or xs k e

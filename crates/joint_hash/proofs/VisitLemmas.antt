@@ -13,7 +13,7 @@ use Rattle.query_core.specs.ConeClauses.{IsConeId}
 use Rattle.joint_hash.specs.declared.gates.ConeGate.{ConeGate}
 use Rattle.joint_hash.specs.declared.twins.Twin.{Twin}
 use Rattle.joint_hash.specs.Trees.{AreJoined, IsGateOf}
-use Rattle.joint_hash.specs.Merging.{IsUnderWay, IsVisited, first_with, is_last, twin_of}
+use Rattle.joint_hash.specs.Classes.{IsUnderWay, IsVisited, first_with, is_last, twin_of}
 use Rattle.joint_hash.proofs.GateLemmas.{gate_cone, gate_there, gate_third, nested}
 use Rattle.joint_hash.proofs.LineLemmas.{no_lemmas}
 use Rattle.joint_hash.proofs.TreeLemmas.{joined_all}

@@ -39,8 +39,18 @@ pub record IsCongruence (IsGate : ConeGate → Type 0) (same : SatLit → SatLit
   pub symmetric : (l m : SatLit) → same l m ≡ true → same m l ≡ true
   pub transitive : (l m o : SatLit) → same l m ≡ true → same m o ≡ true → same l o ≡ true
   pub opposites : (l m : SatLit) → same l m ≡ true → same (opposite l) (opposite m) ≡ true
-  pub gates : (g h : ConeGate) → IsGate g → IsGate h → same g.first h.first ≡ true → same g.second h.second ≡ true → same g.output h.output ≡ true
-  pub exchanged : (g h : ConeGate) → IsGate g → IsGate h → same g.first h.second ≡ true → same g.second h.first ≡ true → same g.output h.output ≡ true
+  pub gates : (g h : ConeGate)
+      → IsGate g
+      → IsGate h
+      → same g.first h.first ≡ true
+      → same g.second h.second ≡ true
+      → same g.output h.output ≡ true
+  pub exchanged : (g h : ConeGate)
+      → IsGate g
+      → IsGate h
+      → same g.first h.second ≡ true
+      → same g.second h.first ≡ true
+      → same g.output h.output ≡ true
 
 -- two literals unfold to one tree: each congruence has them as the same, so the least one has
 abbrev pub AreOneTree : (ConeGate → Type 0) → SatLit → SatLit → Type 0

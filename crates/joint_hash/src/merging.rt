@@ -7,7 +7,9 @@ ghost use Rattle.query_core.specs.ConeClauses.{IsConeId};
 ghost use Rattle.query_core.specs.Queries.{IsQuery};
 ghost use Rattle.query_core.specs.Formulas.{formula_of, query_clauses};
 ghost use Rattle.joint_hash.specs.Trees.{AreJoined, IsGateOf};
-ghost use Rattle.joint_hash.specs.Merging.{AreEquated, AreLemmas, AreListed, AreTwins, HasAlso, IsUnderWay, LeadOn, chain_ids, clauses_with, first_with, is_last, lemma_ids, operands_of, twin_of};
+ghost use Rattle.joint_hash.specs.Chains.{AreListed, LeadOn, clauses_with};
+ghost use Rattle.joint_hash.specs.Classes.{AreEquated, AreTwins, HasAlso, IsUnderWay, chain_ids, first_with, is_last, lemma_ids, operands_of, twin_of};
+ghost use Rattle.joint_hash.specs.Merging.{AreLemmas};
 
 use crate::gates::{ConeGate, gate_of};
 use crate::hinting::hints_among;

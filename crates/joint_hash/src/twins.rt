@@ -2,7 +2,7 @@
 
 ghost use Rattle.std.specs.Prelude.{◌≡◌, ◌==◌, ℕ, Some, OnOk, if◌then◌else◌};
 ghost use Rattle.cnf_core.specs.Clauses.{is_negated, opposite};
-ghost use Rattle.joint_hash.specs.Merging.{in_order, operands_of, representative, twin_of};
+ghost use Rattle.joint_hash.specs.Classes.{in_order, operands_of, representative, twin_of};
 
 use crate::gates::ConeGate;
 use cnf_core::SatLit;

@@ -1,5 +1,5 @@
 -- Where literals stand on a trail, and at which levels.
-use Rattle.std.proofs.Common.{◌≡◌, ℕ, zero, suc, ◌+◌, ◌-◌, ◌*◌, ◌/◌, ◌%◌, ◌<◌, ◌≤◌, ◌==◌, ◌&&◌, cond, Bool, true, List, [], ◌∷◌, length, take, Option, None, Some, is_none, slice_index_or, inl, inr, refl, sym, ◌∙◌, ap, arith}
+use Rattle.std.proofs.Common.{◌≡◌, ℕ, zero, suc, ◌+◌, ◌<◌, ◌≤◌, ◌==◌, ◌&&◌, cond, Bool, true, List, [], ◌∷◌, length, take, Option, None, Some, is_none, slice_index_or, inl, inr, refl, sym, ◌∙◌, ap, arith}
 use Rattle.std.specs.List.{list_all}
 use Rattle.std.proofs.lemmas.Bool.{cases_eq, false≢true, eq-eqb, eqb-true, or_cases, or_left, or_right, and_parts, and_from}
 use Rattle.std.proofs.lemmas.Bool.Decides.{leb_tells}
@@ -16,15 +16,7 @@ use Rattle.watch_lists.specs.Propagations.{before}
 use Rattle.learn_solver.specs.Analyses.{AreBefore, HasPlace, here_in, is_marked}
 use Rattle.learn_solver.proofs.MarkLemmas.{apart, counts_one, counts_two, passes_somewhere}
 use Rattle.watch_lists.proofs.EffectLemmas.{conflict_says, same_itself, same_literal}
-
-pub opposite_twice : (l : SatLit) → opposite (opposite l) ≡ l
-opposite_twice l = ap (λ n. record { 0 = n }) (number l.0)
-  where
-    number : (n : ℕ) → 2 * ((2 * (n / 2) + (1 - n % 2)) / 2) + (1 - (2 * (n / 2) + (1 - n % 2)) % 2) ≡ n
-    number n = omega arith
-
-pub variable_of-opposite : (l : SatLit) → variable_of (opposite l) ≡ variable_of l
-variable_of-opposite l = omega arith
+pub use Rattle.cnf_core.proofs.LiteralLemmas.{opposite_twice, variable_of-opposite}
 
 -- A literal stands before a place.
 pub record Stands (entries : List Assigned) (place : ℕ) (literal : SatLit) : Type 0 where

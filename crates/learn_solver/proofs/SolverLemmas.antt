@@ -1,8 +1,8 @@
 -- Lines that are added to a solver, and the numbers of its clauses.
 use Rattle.std.proofs.Common.{◌≡◌, ℕ, zero, suc, ◌+◌, ◌-◌, ◌<◌, not, cond, Bool, true, false, List, [], ◌∷◌, ◌++◌, length, map, take, All, Option, None, Some, nat_lt, slice_index_or, inl, inr, refl, sym, ◌∙◌, ap, subst, arith}
 use Rattle.std.specs.List.{list_any, list_all}
-use Rattle.std.proofs.lemmas.Bool.{cases_eq, cases_lt, cond-false, le-ltb, lt-ltb, ltb-true}
-use Rattle.std.proofs.lemmas.List.{append_assoc, get_or_append_left, get_or-append_right, get_or-map, get_or_at, length-append, length-map, map-append, take-append-le, take_at}
+use Rattle.std.proofs.lemmas.Bool.{cases_lt, cond-false, le-ltb, lt-ltb, ltb-true}
+use Rattle.std.proofs.lemmas.List.{append_assoc, get_or_append_left, get_or-append_right, get_or-map, length-append, length-map}
 use Rattle.std.proofs.lemmas.List.Elements.{All-append, All-map, All-push}
 use Rattle.std.proofs.lemmas.List.Recursion.{and_at}
 use Rattle.cnf_core.specs.declared.literal.SatLit.{SatLit}
@@ -14,6 +14,7 @@ use Rattle.cnf_core.specs.declared.fault.LineFault.TheVariants as fault
 use Rattle.cnf_core.specs.Clauses.{Formula, clause_at, opposite, variable_of}
 use Rattle.cnf_core.specs.Derivations.{AreDerived, clauses_of, effect_of, fault_behind, hint_fault, is_empty, line_fault, repeats_variable}
 use Rattle.watch_lists.specs.Propagations.{AreKnown}
+pub use Rattle.cnf_core.proofs.LineLemmas.{clauses_more, derived_more}
 use Rattle.learn_solver.specs.Solvers.{ArePut, IsSolver, active, id_at, wanted}
 
 -- What it says that a line has no fault.
@@ -43,24 +44,6 @@ line_from formula taken line is =
 pub line_known : (formula : Formula) (taken : List (List SatLit)) (line : LogLine) → line_fault formula taken line ≡ None → AreKnown formula.variables line.clause
 line_known formula taken line e k d within =
     ltb-true (variable_of (slice_index_or line.clause k d)) formula.variables (and_at (list_all (λ l. nat_lt (variable_of l) formula.variables)) (λ l. nat_lt (variable_of l) formula.variables) refl (λ _ _. refl) line.clause k d within (line_says formula taken line e).known)
-
--- one line more
-pub derived_more : (formula : Formula) (lines : List LogLine) (line : LogLine) → AreDerived formula lines → line_fault formula (clauses_of lines) line ≡ None → AreDerived formula (lines ++ line ∷ [])
-derived_more formula lines line derived good k d within =
-    elim (cases_eq k (length lines)) [
-      | inl last ↦
-          let at = get_or_at lines line [] d k (sym last) in
-          let front : take k (lines ++ line ∷ []) ≡ lines = take_at lines (line ∷ []) k (sym last) in
-          ap (λ l. line_fault formula (clauses_of (take k (lines ++ line ∷ []))) l) at ∙ (ap (λ ls. line_fault formula (clauses_of ls) line) front ∙ good)
-      | inr other ↦
-          let early : k < length lines = omega (arith, other, within, length-append lines (line ∷ [])) in
-          let at = get_or_append_left lines (line ∷ []) d k early in
-          let front : take k (lines ++ line ∷ []) ≡ take k lines = take-append-le k lines (line ∷ []) (omega (arith, early)) in
-          ap (λ l. line_fault formula (clauses_of (take k (lines ++ line ∷ []))) l) at ∙ (ap (λ ls. line_fault formula (clauses_of ls) (slice_index_or lines k d)) front ∙ derived k d early)
-    ]
-
-pub clauses_more : (lines : List LogLine) (line : LogLine) → clauses_of (lines ++ line ∷ []) ≡ clauses_of lines ++ line.clause ∷ []
-clauses_more lines line = map-append (λ (l : LogLine). l.clause) lines (line ∷ [])
 
 pub active_more : (formula : Formula) (ids : List ℕ) (lines : List LogLine) (line : LogLine) → active formula ids (lines ++ line ∷ []) ≡ active formula ids lines ++ line.clause ∷ []
 active_more formula ids lines line = ap (λ cs. wanted formula ids ++ cs) (clauses_more lines line) ∙ sym (append_assoc (wanted formula ids) (clauses_of lines) (line.clause ∷ []))

@@ -9,7 +9,8 @@ use Rattle.circuits.specs.declared.netlist.Gate.{Gate}
 use Rattle.circuits.specs.Literals.{signal_of, is_negated as inverts, bit}
 use Rattle.circuits.specs.Netlists.{Net}
 use Rattle.cnf_core.specs.declared.literal.SatLit.{SatLit}
-use Rattle.cnf_core.specs.Clauses.{variable_of, literal_of, opposite, clause_at}
+use Rattle.cnf_core.specs.Clauses.{variable_of, opposite, clause_at}
+use Rattle.cnf_core.proofs.LiteralLemmas.{variable_of-literal, variable_of-opposite}
 use Rattle.net_core.specs.Sides.{Graphs}
 use Rattle.query_core.specs.declared.query.Feed.{Feed}
 use Rattle.query_core.specs.declared.query.Feed.TheVariants.{Fixed, Wire}
@@ -121,13 +122,6 @@ AreBelow n literals = AllByRecursion (λ l. variable_of l < n) literals
 below-append : (n : ℕ) (xs ys : List SatLit) → AreBelow n xs → AreBelow n ys → AreBelow n (xs ++ ys)
 below-append n [] ys first second = second
 below-append n (x ∷ xs) ys first second = (first.0, below-append n xs ys first.1 second)
-
-variable_of-literal : (v : ℕ) (b : Bool) → variable_of (literal_of v b) ≡ v
-variable_of-literal v true = omega arith
-variable_of-literal v false = omega arith
-
-variable_of-opposite : (l : SatLit) → variable_of (opposite l) ≡ variable_of l
-variable_of-opposite l = omega arith
 
 feeds_below : (n m : ℕ) (feed : List Feed) → n < m → AllByRecursion (IsWired n) feed → AreBelow m (map feed_literal feed)
 feeds_below n m [] more wired = tt

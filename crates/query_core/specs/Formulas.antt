@@ -52,7 +52,9 @@ and_clauses v a b = (opposite v ∷ a ∷ []) ∷ (opposite v ∷ b ∷ []) ∷ 
 -- three clauses for each gate, of which the first is signal `first`
 abbrev pub gate_clauses : List SatLit → ℕ → List Gate → List (List SatLit)
 gate_clauses literals first [] = []
-gate_clauses literals first (gate ∷ gates) = and_clauses (stand_in literals first) (stands_for literals gate.a) (stands_for literals gate.b) ++ gate_clauses literals (first + 1) gates
+gate_clauses literals first (gate ∷ gates) =
+    and_clauses (stand_in literals first) (stands_for literals gate.a) (stands_for literals gate.b)
+    ++ gate_clauses literals (first + 1) gates
 
 -- two feeds of one input are the same
 abbrev pub same_feed : Feed → Feed → Bool
@@ -124,7 +126,11 @@ abbrev pub query_clauses : Graphs → Query → List (List SatLit)
 query_clauses graphs query =
     let left = circuit_of graphs query.left in
     let right = circuit_of graphs query.right in
-    clauses_by (half_clauses left (left_literals graphs query)) (half_clauses right (right_literals graphs query)) (output_literal left (left_literals graphs query) query.left.output query.left_value) (output_literal right (right_literals graphs query) query.right.output query.right_value)
+    let ls = left_literals graphs query in
+    let rs = right_literals graphs query in
+    clauses_by (half_clauses left ls) (half_clauses right rs)
+    (output_literal left ls query.left.output query.left_value)
+    (output_literal right rs query.right.output query.right_value)
 
 abbrev pub formula_of : Graphs → Query → Formula
 formula_of graphs query = record {

@@ -62,7 +62,9 @@ clauses_over graphs query left right =
     let other = circuit_of graphs query.right in
     let ls = literals_by one query.left.feed left in
     let rs = literals_by other query.right.feed right in
-    clauses_by (half_clauses one ls) (half_clauses other rs) (output_literal one ls query.left.output query.left_value) (output_literal other rs query.right.output query.right_value)
+    clauses_by (half_clauses one ls) (half_clauses other rs)
+    (output_literal one ls query.left.output query.left_value)
+    (output_literal other rs query.right.output query.right_value)
 
 -- What the clauses of a query are told by.
 pub record IsAsking (graphs : Graphs) (query : Query) (left right : Variables) : Type 0 where

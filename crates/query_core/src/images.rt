@@ -34,8 +34,8 @@ fn moved_claim(pairs: &[Pair], claim: &Claim) -> Option<Claim>
     })
 }
 
-// The pair of a port of the first circuit.
-fn pair_of(pairs: &[Pair], kind: PortKind, port: u32) -> Option<Pair>
+/// The first of these pairs that is of this port of the first circuit.
+pub fn pair_of(pairs: &[Pair], kind: PortKind, port: u32) -> Option<Pair>
     ensures { result ≡ pair_of pairs.now kind port }
 {
     for pair in pairs.iter() {

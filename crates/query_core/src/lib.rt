@@ -22,7 +22,7 @@ pub use claim_queries::of_claim;
 pub use claims::{Claim, Shape};
 pub use cone_clauses::ConeClauses;
 pub use feeds::Feeds;
-pub use images::image;
+pub use images::{image, pair_of};
 pub use ledger::{Asked, Ledger};
 pub use matches::of_match;
 pub use query::{Cone, Feed, Query};

@@ -1,8 +1,8 @@
 -- Literals that were made true, by the bits of their variables.
-use Rattle.std.proofs.Common.{◌≡◌, ◌≢◌, ℕ, zero, suc, ◌+◌, ◌-◌, ◌*◌, ◌/◌, ◌%◌, ◌<◌, eqb, ◌||◌, not, cond, Bool, true, false, List, [], ◌∷◌, ◌++◌, length, drop, Option, None, Some, is_some, count_by, slice_index_or, slice_set, replicate, Vec, vec_capacity, inl, inr, refl, sym, ◌∙◌, ap, subst, arith}
+use Rattle.std.proofs.Common.{◌≡◌, ℕ, zero, suc, ◌+◌, ◌<◌, ◌||◌, not, cond, Bool, true, false, List, [], ◌∷◌, ◌++◌, length, drop, Option, None, Some, is_some, count_by, slice_index_or, slice_set, replicate, Vec, vec_capacity, inl, inr, refl, sym, ◌∙◌, ap, subst, arith}
 use Rattle.std.specs.Bool.{beq}
 use Rattle.std.specs.List.{list_any}
-use Rattle.std.proofs.lemmas.Bool.{cases_eq, false≢true, eq-eqb}
+use Rattle.std.proofs.lemmas.Bool.{cases_eq, false≢true}
 use Rattle.std.proofs.lemmas.Bool.Decides.{eqb_tells}
 use Rattle.std.proofs.lemmas.List.{get_or-set_same, get_or-set_other, length-set, length-append}
 use Rattle.std.proofs.lemmas.List.Folds.{list_any-append}
@@ -14,48 +14,7 @@ use Rattle.cnf_core.specs.declared.literal.SatLit.{SatLit}
 use Rattle.cnf_core.specs.Clauses.{variable_of, is_negated, literal_of, opposite}
 use Rattle.cnf_core.specs.Derivations.{is_same, is_true, is_false}
 use Rattle.refute_check.specs.Values.{AreKnown, IsOfMade, IsMade, bit_at, tells, is_of}
-
--- a literal is that of its variable with its sign, and its opposite that with the other one
-pub itself : (l : SatLit) → literal_of (variable_of l) (not (is_negated l)) ≡ l
-itself l = ap (λ n. record { 0 = n }) (number l.0)
-  where
-    number : (n : ℕ) → cond (not (eqb (n % 2) 1)) (2 * (n / 2)) (2 * (n / 2) + 1) ≡ n
-    number n =
-        elim (eqb_tells (n % 2) 1) [
-          | inl (odd, e) ↦ ap (λ b. cond (not b) (2 * (n / 2)) (2 * (n / 2) + 1)) odd ∙ omega (arith, e)
-          | inr (even, e) ↦ ap (λ b. cond (not b) (2 * (n / 2)) (2 * (n / 2) + 1)) even ∙ omega (arith, e)
-        ]
-
-pub its_opposite : (l : SatLit) → literal_of (variable_of l) (is_negated l) ≡ opposite l
-its_opposite l = ap (λ n. record { 0 = n }) (number l.0)
-  where
-    number : (n : ℕ) → cond (eqb (n % 2) 1) (2 * (n / 2)) (2 * (n / 2) + 1) ≡ 2 * (n / 2) + (1 - n % 2)
-    number n =
-        elim (eqb_tells (n % 2) 1) [
-          | inl (odd, e) ↦ ap (λ b. cond b (2 * (n / 2)) (2 * (n / 2) + 1)) odd ∙ omega (arith, e)
-          | inr (even, e) ↦ ap (λ b. cond b (2 * (n / 2)) (2 * (n / 2) + 1)) even ∙ omega (arith, e)
-        ]
-
-pub variable_of-literal : (v : ℕ) (b : Bool) → variable_of (literal_of v b) ≡ v
-variable_of-literal v true = omega arith
-variable_of-literal v false = omega arith
-
-pub variable_of-opposite : (l : SatLit) → variable_of (opposite l) ≡ variable_of l
-variable_of-opposite l = omega arith
-
--- literals of two variables are two
-pub not_same : (l m : SatLit) → variable_of l ≢ variable_of m → is_same l m ≡ false
-not_same l m differ =
-    elim (eqb_tells l.0 m.0) [
-      | inl (found, e) ↦ absurd (differ (ap (λ n. n / 2) e))
-      | inr (found, e) ↦ found
-    ]
-
-same_itself : (l : SatLit) → is_same l l ≡ true
-same_itself l = eq-eqb l.0 l.0 refl
-
-not_opposite : (l : SatLit) → is_same (opposite l) l ≡ false
-not_opposite l = elim (eqb_tells (opposite l).0 l.0) [ inl (found, e) ↦ absurd (omega (arith, e)) | inr (found, e) ↦ found ]
+use Rattle.cnf_core.proofs.LiteralLemmas.{its_opposite, itself, not_opposite, not_same, same_itself, variable_of-literal}
 
 -- where no literal has a variable, neither literal of it is among them
 pub not_made : (made : List SatLit) (v : ℕ) (b : Bool) → list_any (is_of v) made ≡ false → is_true made (literal_of v b) ≡ false

@@ -1,6 +1,6 @@
 -- What a clause does, literal by literal, and what hints lead to.
-use Rattle.std.proofs.Common.{◌≡◌, ℕ, suc, ◌<◌, ◌==◌, ◌&&◌, ◌||◌, not, cond, Bool, true, false, List, [], ◌∷◌, ◌++◌, length, map, filter, take, drop, Option, None, Some, IfSome, slice_index_or, inl, inr, refl, sym, ◌∙◌, ap, arith}
-use Rattle.std.specs.List.{list_any, list_all}
+use Rattle.std.proofs.Common.{◌≡◌, ℕ, suc, ◌<◌, ◌==◌, ◌||◌, Bool, true, false, List, [], ◌∷◌, ◌++◌, length, map, take, drop, Some, slice_index_or, inl, inr, refl, sym, ◌∙◌, ap, subst, arith}
+use Rattle.std.specs.List.{list_any}
 use Rattle.std.proofs.lemmas.Bool.{eq-eqb}
 use Rattle.std.proofs.lemmas.List.Folds.{list_any-append}
 use Rattle.std.proofs.lemmas.Bool.Decides.{eqb_tells}
@@ -8,30 +8,24 @@ use Rattle.std.proofs.lemmas.List.{map-append}
 use Rattle.std.proofs.Math.Seq.{drop-cons, take-suc}
 use Rattle.cnf_core.specs.declared.literal.SatLit.{SatLit}
 use Rattle.cnf_core.specs.declared.effect.Effect.{Effect}
-use Rattle.cnf_core.specs.declared.effect.Effect.TheVariants.{Makes, Neither}
+use Rattle.cnf_core.specs.declared.effect.Effect.TheVariants.{Makes}
 use Rattle.cnf_core.specs.Clauses.{variable_of, opposite}
-use Rattle.cnf_core.specs.Derivations.{is_same, is_true, is_false, effect_by, effect_of, hint_fault, repeats_variable}
-use Rattle.refute_check.proofs.ValueLemmas.{not_same, variable_of-opposite}
-use Rattle.refute_check.specs.Values.{Made}
+use Rattle.cnf_core.specs.Derivations.{is_same, is_true, is_false, effect_of, hint_fault, repeats_variable}
+use Rattle.cnf_core.proofs.EffectLemmas.{known_at, makes_says}
+use Rattle.cnf_core.proofs.LiteralLemmas.{not_same, variable_of-opposite}
+use Rattle.refute_check.specs.Values.{AreKnown, CanBeMade, Made}
 
--- the literals that aren't false
-abbrev pub open_ones : List SatLit → List SatLit → List SatLit
-open_ones made clause = filter (λ l. not (is_false made l)) clause
-
--- what a clause does, by the one literal that was found and by what is left
-abbrev pub effect_with : List SatLit → Option SatLit → List SatLit → Effect
-effect_with made None left = effect_by made left
-effect_with made (Some l) left = cond (list_all (is_same l) left && not (is_true made l)) (Makes l) Neither
-
--- a literal's variable is known, and it isn't false
-pub record IsOpen (values : Made) (literal : SatLit) : Type 0 where
-  pub known : variable_of literal < values.variables
-  pub not_false : is_false values.made literal ≡ false
-
--- The first literals were looked at.
-pub record IsLooked (values : Made) (clause : List SatLit) (count : ℕ) (found : Option SatLit) : Type 0 where
-  pub effect : effect_with values.made found (open_ones values.made (drop count clause)) ≡ effect_of values.made clause
-  pub known : IfSome found (IsOpen values)
+-- what a clause of known literals makes true can be made
+pub can_be_made : (values : Made) (n : ℕ) (clause : List SatLit) (effect : Effect) (l : SatLit)
+    → values.variables ≡ n
+    → AreKnown n clause
+    → effect ≡ effect_of values.made clause
+    → Some effect ≡ Some (Makes l)
+    → CanBeMade values l
+can_be_made values n clause effect l same known_by is makes =
+    let maker = makes_says values.made clause l (sym is ∙ (let e : effect ≡ Makes l = cc in e)) in
+    let known = subst (λ m. AreKnown m clause) (sym same) known_by in
+    record { known = known_at values.variables clause l known maker.there; not_true = maker.not_true; not_false = maker.not_false }
 
 -- whether a literal has the variable of one of those before it, or of an earlier one of its own list
 abbrev pub twice_behind : List SatLit → List SatLit → Bool

@@ -11,7 +11,7 @@ ghost use Rattle.refute_check.specs.Refutations.{answer_of};
 ghost use Rattle.refute_check.specs.Values.{AreKnown, CanBeMade};
 
 use crate::values::Values;
-use cnf_core::{Base, ClauseStore, Effect, LineFault, LogLine, SatLit};
+use cnf_core::{Assignment, Base, ClauseStore, Effect, LineFault, LogLine, SatLit, effect_of};
 
 /// Derives a line from a formula and from the lines that were taken. What is made true on the way stays so.
 pub(crate) fn derive<B: Base>(
@@ -72,23 +72,23 @@ fn walk<B: Base>(
     ensures variables { values.new.variables ≡ values.old.variables }
 {
     let mut left = hints;
-    while let [hint, behind @ ..] = left {
+    while let [hint, rest @ ..] = left {
         match effect_at(base, taken, values, *hint) {
             None => return Err(LineFault::UnknownHint),
             Some(Effect::Neither) => return Err(LineFault::NotUnit),
-            Some(Effect::Conflict) => return end_at_conflict(behind),
+            Some(Effect::Conflict) => return end_at_conflict(rest),
             Some(Effect::Makes(literal)) => values.make(literal),
         }
-        left = behind;
+        left = rest;
     }
     Err(LineFault::NoConflict)
 }
 
 // Nothing may stand after a conflict.
-fn end_at_conflict(behind: &[u64]) -> Result<(), LineFault>
-    ensures { result ≡ answer_of (fault_behind Conflict behind.now (λ _. None)) }
+fn end_at_conflict(rest: &[u64]) -> Result<(), LineFault>
+    ensures { result ≡ answer_of (fault_behind Conflict rest.now (λ _. None)) }
 {
-    if behind.is_empty() {
+    if rest.is_empty() {
         Ok(())
     } else {
         Err(LineFault::AfterConflict)
@@ -106,10 +106,10 @@ fn effect_at<B: Base>(base: &B, taken: &ClauseStore, values: &Values, id: u64) -
     let count = base.count();
     if id < count {
         let clause = base.clause(id);
-        return Some(values.effect(clause.literals()));
+        return Some(effect_of(values, clause.literals()));
     }
     if id - count < taken.count() {
-        return Some(values.effect(taken.get(id - count)));
+        return Some(effect_of(values, taken.get(id - count)));
     }
     None
 }

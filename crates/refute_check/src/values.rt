@@ -1,12 +1,10 @@
 //! The literals that are true while a line is checked.
 
 ghost use Rattle.std.specs.Prelude.{◌≡◌, ◌+◌, ◌<◌, ◌≤◌, ◌++◌, ◌∷◌, [], false, None, IfOk, All, length, replicate, vec_len, vec_capacity};
-ghost use Rattle.cnf_core.specs.declared.literal.SatLit.{SatLit as AnyLiteral};
-ghost use Rattle.cnf_core.specs.Clauses.{variable_of, literal_of};
-ghost use Rattle.cnf_core.specs.Derivations.{is_true, is_false, effect_of};
-ghost use Rattle.refute_check.specs.Values.{AreKnown, CanBeMade, IsOfMade, tells, bit_at};
+ghost use Rattle.cnf_core.specs.Clauses.{variable_of};
+ghost use Rattle.refute_check.specs.Values.{CanBeMade, IsOfMade, tells, bit_at};
 
-use cnf_core::{Effect, SatLit};
+use cnf_core::{Assignment, SatLit};
 use std::alloc::{AllocError, Global};
 use std::marker::Model;
 
@@ -41,45 +39,6 @@ impl Values {
         Ok(Values { bits, made })
     }
 
-    /// Whether a literal is true.
-    pub(crate) fn is_true(&self, literal: SatLit) -> bool
-        requires { variable_of literal < self.now.variables }
-        ensures { result ≡ is_true self.now.made literal }
-    {
-        has_bit(&self.bits, literal.variable(), !literal.is_negated())
-    }
-
-    /// Whether a literal is false.
-    pub(crate) fn is_false(&self, literal: SatLit) -> bool
-        requires { variable_of literal < self.now.variables }
-        ensures { result ≡ is_false self.now.made literal }
-    {
-        has_bit(&self.bits, literal.variable(), literal.is_negated())
-    }
-
-    /// What a clause does.
-    pub(crate) fn effect(&self, clause: &[SatLit]) -> Effect
-        requires { AreKnown self.now.variables clause.now }
-        ensures effect { result ≡ effect_of self.now.made clause.now }
-        ensures makes { (literal : AnyLiteral) → result ≡ Effect.Makes literal → CanBeMade self.now literal }
-    {
-        let mut left = None;
-        for literal in clause.iter() {
-            if !self.is_false(*literal) {
-                match left {
-                    None => left = Some(*literal),
-                    Some(other) if other == *literal => {}
-                    Some(_) => return Effect::Neither,
-                }
-            }
-        }
-        match left {
-            None => Effect::Conflict,
-            Some(literal) if self.is_true(literal) => Effect::Neither,
-            Some(literal) => Effect::Makes(literal),
-        }
-    }
-
     /// Makes a literal true that is neither true nor false.
     pub(crate) fn make(&mut self, literal: SatLit)
         requires { CanBeMade self.old literal }
@@ -99,6 +58,21 @@ impl Values {
     }
 }
 
+impl Assignment for Values {
+    ghost made = { λ values. values.made };
+
+    ghost can_ask = { λ values literal. variable_of literal < values.variables };
+
+    fn is_true(&self, literal: SatLit) -> bool {
+        has_bit(&self.bits, literal.variable(), !literal.is_negated())
+    }
+
+    fn is_false(&self, literal: SatLit) -> bool {
+        has_bit(&self.bits, literal.variable(), literal.is_negated())
+    }
+}
+
+// No variable has a bit.
 fn no_bits(alloc: Global, count: usize) -> Result<Vec<Option<bool>>, AllocError>
     ensures { IfOk result (λ bits. bits.items ≡ replicate count None) }
 {

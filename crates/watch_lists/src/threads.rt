@@ -28,7 +28,7 @@ pub(crate) struct Rest {
     pub(crate) left: usize,
 }
 
-/// The watches of all clauses, those of clause `id` at `2 * id` and behind it, and the list of each literal.
+/// The watches of all clauses, those of clause `id` at `2 * id` and after it, and the list of each literal.
 #[derive(Drop)]
 pub(crate) struct Threads {
     pub(crate) watches: Vec<Watch>,

@@ -12,4 +12,4 @@ returns c =
     let front = query_clauses c.args.cones.now.graphs c.args.cones.now.query in
     let lines = c.args.lines.now in
     let within : c.args.id - c.count-count.result < length lines = omega (arith, c.requires.there, length-append front (clauses_of lines), length-map lines (λ (l : LogLine). l.clause), c.count-count.ensures.value, c.if-id-count.false) in
-    c.effect-2.ensures ∙ ap (effect_of c.args.made.now) (later_clause front lines c.count-count.result c.args.id c.index-lines-place.result c.deref.result.now c.count-count.ensures.value c.if-id-count.false within c.deref.ensures.value)
+    c.effect_of-2.ensures ∙ ap (effect_of c.args.made.now) (later_clause front lines c.count-count.result c.args.id c.index-lines-place.result c.deref.result.now c.count-count.ensures.value c.if-id-count.false within c.deref.ensures.value)

@@ -1,7 +1,7 @@
 use Rattle.std.proofs.Common.{◌≡◌, ◌+◌, ◌%◌, ◌==◌, nat_lt, sym, subst, ◌∙◌, arith, ltb-true, eqb-true}
 use Rattle.std.proofs.lemmas.Bool.{and_parts}
 use Rattle.std.proofs.lemmas.Result.{on_ok_weaker}
-use Rattle.joint_hash.specs.Merging.{IsUnderWay}
+use Rattle.joint_hash.specs.Classes.{IsUnderWay}
 use Rattle.joint_hash.proofs.VisitLemmas.{passed_other}
 use Rattle.joint_hash.proofs.merging.add_at.Goals as goal
 

@@ -1,6 +1,6 @@
 use Rattle.std.proofs.Common.{◌≡◌, ◌+◌, suc, slice_index_or, sym, subst, arith}
 use Rattle.std.proofs.lemmas.List.Elements.{Contains-get_or}
-use Rattle.joint_hash.specs.Merging.{IsUnderWay}
+use Rattle.joint_hash.specs.Classes.{IsUnderWay}
 use Rattle.joint_hash.proofs.VisitLemmas.{above_first, up_to_end, up_to_next}
 use Rattle.joint_hash.proofs.merging.add_gates.Goals as goal
 

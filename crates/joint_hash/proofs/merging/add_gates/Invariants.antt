@@ -1,4 +1,4 @@
-use Rattle.joint_hash.specs.Merging.{IsUnderWay}
+use Rattle.joint_hash.specs.Classes.{IsUnderWay}
 use Rattle.joint_hash.proofs.VisitLemmas.{above_first}
 use Rattle.joint_hash.proofs.merging.add_gates.Given as goal
 

@@ -8,11 +8,12 @@ use Rattle.cnf_core.specs.Clauses.{opposite, variable_of}
 use Rattle.cnf_core.specs.Derivations.{clauses_of}
 use Rattle.query_core.specs.Formulas.{query_clauses}
 use Rattle.joint_hash.specs.declared.twins.Twin.{Twin}
-use Rattle.joint_hash.specs.Merging.{AreListed, LeadOn, twin_of}
+use Rattle.joint_hash.specs.Chains.{AreListed, LeadOn}
+use Rattle.joint_hash.specs.Classes.{twin_of}
 use Rattle.joint_hash.proofs.ChainLemmas.{lemma_leads, lemma_leads_back, twins_after}
 use Rattle.joint_hash.proofs.GateLemmas.{gate_has, gate_known, gate_there}
 use Rattle.joint_hash.proofs.ListedLemmas.{chain_listed}
-use Rattle.joint_hash.proofs.LiteralLemmas.{variable_of-opposite}
+use Rattle.cnf_core.proofs.LiteralLemmas.{variable_of-opposite}
 use Rattle.joint_hash.proofs.merging.equate.Goals as goal
 
 pub chain-requires : goal.chain-requires
