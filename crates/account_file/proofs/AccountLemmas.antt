@@ -11,15 +11,15 @@ use Rattle.account_file.specs.declared.fault.RecordFault.{RecordFault}
 use Rattle.account_file.specs.declared.fault.RecordFault.TheVariants as fault
 use Rattle.account_file.specs.declared.place.Place.{Place}
 use Rattle.account_file.specs.declared.place.Place.TheVariants.{Start, Headed, FactLog, Logs, Ended}
-use Rattle.account_file.specs.declared.step.Step.{Step}
-use Rattle.account_file.specs.declared.step.Step.TheVariants.{Wait, Read, Refuse}
+use Rattle.account_file.specs.declared.next_record.NextRecord.{NextRecord}
+use Rattle.account_file.specs.declared.next_record.NextRecord.TheVariants.{Wait, Read, Refuse}
 use Rattle.account_file.specs.Forms.{record_in}
 use Rattle.account_file.specs.Words.{words_of}
 use Rattle.account_file.specs.Lines.{whole_lines, behind_lines}
 use Rattle.account_file.specs.Order.{place_behind, place_after}
 use Rattle.account_file.specs.Accounts.{HasForm, AreUnderWay, LineFault}
 use Rattle.account_file.specs.Spelling.{IsWritable, line_text, record_line}
-use Rattle.account_file.specs.Steps.{in_place, placed, step_by, step_at_line}
+use Rattle.account_file.specs.NextRecords.{in_place, placed, next_from, next_at_line}
 use Rattle.account_file.proofs.BadWordLemmas.{bad_number_found, bad_number_read, bad_word_found, bad_word_read, bad_words}
 use Rattle.account_file.proofs.LineLemmas.{lines_first, behind_first}
 use Rattle.account_file.proofs.OrderLemmas.{place_behind_last, at_start}
@@ -56,7 +56,7 @@ pub length_texts : (records : List Record) → length (texts_of records) ≡ len
 length_texts [] = refl
 length_texts (entry ∷ records) = ap suc (length_texts records)
 
--- what a step says of a line
+-- what is said of a line by what is done at it
 abbrev pub FaultThere : Place → List ℕ → RecordFault → Type 0
 FaultThere place line fault.Header = (place ≡ Start) × (line ≢ codes "npnp 1")
 FaultThere place line fault.Word = (place ≢ Start) × (place ≢ Ended) × (record_in (words_of line) ≡ Err fault.Word)
@@ -65,20 +65,20 @@ FaultThere place line fault.Order = (place ≢ Start) × (place ≢ Ended) × ((
 FaultThere place line fault.Truncated = ⊥
 FaultThere place line fault.Trailing = place ≡ Ended
 
-abbrev pub StepSays : Place → List ℕ → Step → Type 0
-StepSays place line Wait = ⊥
-StepSays place line (Read entry behind used) = HasForm line entry × (place_behind place entry ≡ Some behind) × (used ≡ length line + 1)
-StepSays place line (Refuse fault) = FaultThere place line fault
+abbrev pub NextSays : Place → List ℕ → NextRecord → Type 0
+NextSays place line Wait = ⊥
+NextSays place line (Read entry behind used) = HasForm line entry × (place_behind place entry ≡ Some behind) × (used ≡ length line + 1)
+NextSays place line (Refuse fault) = FaultThere place line fault
 
-header_says : (line : List ℕ) → StepSays Start line (step_at_line Start line)
+header_says : (line : List ℕ) → NextSays Start line (next_at_line Start line)
 header_says line = by (bytes_eq line (codes "npnp 1")) refl
   where
-    by : (b : Bool) → bytes_eq line (codes "npnp 1") ≡ b → StepSays Start line (step_by (length line + 1) (cond b (Ok (record_of.Header, Headed)) (Err fault.Header)))
+    by : (b : Bool) → bytes_eq line (codes "npnp 1") ≡ b → NextSays Start line (next_from (length line + 1) (cond b (Ok (record_of.Header, Headed)) (Err fault.Header)))
     by true e = let same = (bytes_eq-Decides line (codes "npnp 1")).0 e in ((tt, ap (λ l. l ++ 10 ∷ []) (sym same)), refl, refl)
     by false e = (refl, λ same. let yes = (bytes_eq-Decides line (codes "npnp 1")).1 same in let no : true ≡ false = sym yes ∙ e in cc)
 
 later_says : (place : Place) (line : List ℕ) → place ≢ Start → place ≢ Ended → (found : Result Record RecordFault) → record_in (words_of line) ≡ found
-    → StepSays place line (step_by (length line + 1) (in_place place found))
+    → NextSays place line (next_from (length line + 1) (in_place place found))
 later_says place line later open' (Err fault) e = elim (bad_words (words_of line) fault e) [
   | inl word ↦ subst (λ f. FaultThere place line f) (sym word) (later, open', e ∙ ap Err word)
   | inr number ↦ subst (λ f. FaultThere place line f) (sym number) (later, open', e ∙ ap Err number)
@@ -88,16 +88,16 @@ later_says place line later open' (Ok entry) e = by (place_behind place entry) r
     form : HasForm line entry
     form = let found = read_is_written line entry e in (found.1, found.0)
 
-    by : (p : Option Place) → place_behind place entry ≡ p → StepSays place line (step_by (length line + 1) (placed entry p))
+    by : (p : Option Place) → place_behind place entry ≡ p → NextSays place line (next_from (length line + 1) (placed entry p))
     by None is = (later, open', (entry, form, is))
     by (Some behind) is = (form, is, refl)
 
-pub step_says : (place : Place) (line : List ℕ) → StepSays place line (step_at_line place line)
-step_says Start line = header_says line
-step_says Headed line = later_says Headed line (λ e. cc) (λ e. cc) (record_in (words_of line)) refl
-step_says FactLog line = later_says FactLog line (λ e. cc) (λ e. cc) (record_in (words_of line)) refl
-step_says (Logs logs) line = later_says (Logs logs) line (λ e. cc) (λ e. cc) (record_in (words_of line)) refl
-step_says Ended line = refl
+pub next_at_line_says : (place : Place) (line : List ℕ) → NextSays place line (next_at_line place line)
+next_at_line_says Start line = header_says line
+next_at_line_says Headed line = later_says Headed line (λ e. cc) (λ e. cc) (record_in (words_of line)) refl
+next_at_line_says FactLog line = later_says FactLog line (λ e. cc) (λ e. cc) (record_in (words_of line)) refl
+next_at_line_says (Logs logs) line = later_says (Logs logs) line (λ e. cc) (λ e. cc) (record_in (words_of line)) refl
+next_at_line_says Ended line = refl
 
 -- the fault of a line by where the account stands, and by the records before it
 pub fault_there : (before : List Record) (place : Place) (line : List ℕ) (fault : RecordFault) → place_after before ≡ Some place → LineFault before line fault → FaultThere place line fault

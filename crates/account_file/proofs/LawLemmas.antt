@@ -13,15 +13,15 @@ use Rattle.account_file.specs.declared.fault.RecordFault.{RecordFault}
 use Rattle.account_file.specs.declared.fault.RecordFault.TheVariants as fault
 use Rattle.account_file.specs.declared.place.Place.{Place}
 use Rattle.account_file.specs.declared.place.Place.TheVariants.{Start, Headed, FactLog, Logs, Ended}
-use Rattle.account_file.specs.declared.step.Step.{Step}
-use Rattle.account_file.specs.declared.step.Step.TheVariants.{Wait, Read, Refuse}
+use Rattle.account_file.specs.declared.next_record.NextRecord.{NextRecord}
+use Rattle.account_file.specs.declared.next_record.NextRecord.TheVariants.{Wait, Read, Refuse}
 use Rattle.account_file.specs.Forms.{record_in}
 use Rattle.account_file.specs.Words.{words_of}
 use Rattle.account_file.specs.Lines.{whole_lines, behind_lines}
 use Rattle.account_file.specs.Order.{place_behind, place_after, AreInOrder, MayStand}
 use Rattle.account_file.specs.Accounts.{HasForm, AreRecords, LineFault, EndFault, HasFormFault, IsAccountOf, SaysNext}
-use Rattle.account_file.specs.Steps.{in_place, placed, step_by, step_at_line}
-use Rattle.account_file.proofs.AccountLemmas.{FaultThere, StepSays, fault_there, line_fault, step_says}
+use Rattle.account_file.specs.NextRecords.{in_place, placed, next_from, next_at_line}
+use Rattle.account_file.proofs.AccountLemmas.{FaultThere, NextSays, fault_there, line_fault, next_at_line_says}
 use Rattle.account_file.proofs.OrderLemmas.{place_behind_last, place_there, take_in_order}
 use Rattle.account_file.proofs.RecordLemmas.{cancel_last, written_is_read}
 
@@ -82,11 +82,11 @@ other_line line other = by (bytes_eq line (codes "npnp 1")) refl
     by false e = refl
 
 said_record : (place : Place) (line : List ℕ) (entry : Record) (behind : Place) → HasForm line entry → place_behind place entry ≡ Some behind
-    → step_at_line place line ≡ Read entry behind (length line + 1)
+    → next_at_line place line ≡ Read entry behind (length line + 1)
 said_record Start line record_of.Header behind form e =
     let same = cancel_last line (codes "npnp 1") 10 (sym form.1) in
     let headed : Headed ≡ behind = cc in
-    ap (λ b. step_by (length line + 1) (cond b (Ok (record_of.Header, Headed)) (Err fault.Header))) (header_line line same)
+    ap (λ b. next_from (length line + 1) (cond b (Ok (record_of.Header, Headed)) (Err fault.Header))) (header_line line same)
     ∙ ap (λ p. Read record_of.Header p (length line + 1)) headed
 said_record Start line (record_of.Fact (Fails claim bits)) behind form e = cc
 said_record Start line (record_of.Fact (Holds claim)) behind form e = cc
@@ -95,39 +95,39 @@ said_record Start line (record_of.Ban ban) behind form e = cc
 said_record Start line (record_of.Conclusion c) behind form e = cc
 said_record Start line record_of.End behind form e = cc
 said_record Headed line entry behind form e =
-    ap (λ r. step_by (length line + 1) (in_place Headed r)) (form_is_read line entry form) ∙ ap (λ p. step_by (length line + 1) (placed entry p)) e
+    ap (λ r. next_from (length line + 1) (in_place Headed r)) (form_is_read line entry form) ∙ ap (λ p. next_from (length line + 1) (placed entry p)) e
 said_record FactLog line entry behind form e =
-    ap (λ r. step_by (length line + 1) (in_place FactLog r)) (form_is_read line entry form) ∙ ap (λ p. step_by (length line + 1) (placed entry p)) e
+    ap (λ r. next_from (length line + 1) (in_place FactLog r)) (form_is_read line entry form) ∙ ap (λ p. next_from (length line + 1) (placed entry p)) e
 said_record (Logs logs) line entry behind form e =
-    ap (λ r. step_by (length line + 1) (in_place (Logs logs) r)) (form_is_read line entry form) ∙ ap (λ p. step_by (length line + 1) (placed entry p)) e
+    ap (λ r. next_from (length line + 1) (in_place (Logs logs) r)) (form_is_read line entry form) ∙ ap (λ p. next_from (length line + 1) (placed entry p)) e
 said_record Ended line entry behind form e = absurd (nothing_behind_end entry behind e)
 
-said_fault : (place : Place) (line : List ℕ) (fault : RecordFault) → FaultThere place line fault → step_at_line place line ≡ Refuse fault
-said_fault Start line fault.Header h = ap (λ b. step_by (length line + 1) (cond b (Ok (record_of.Header, Headed)) (Err fault.Header))) (other_line line h.1)
+said_fault : (place : Place) (line : List ℕ) (fault : RecordFault) → FaultThere place line fault → next_at_line place line ≡ Refuse fault
+said_fault Start line fault.Header h = ap (λ b. next_from (length line + 1) (cond b (Ok (record_of.Header, Headed)) (Err fault.Header))) (other_line line h.1)
 said_fault Start line fault.Word h = absurd (h.0 refl)
 said_fault Start line fault.Number h = absurd (h.0 refl)
 said_fault Start line fault.Order h = absurd (h.0 refl)
 said_fault Start line fault.Truncated h = absurd h
 said_fault Start line fault.Trailing h = cc
 said_fault Headed line fault.Header h = let e = h.0 in cc
-said_fault Headed line fault.Word h = ap (λ r. step_by (length line + 1) (in_place Headed r)) h.2
-said_fault Headed line fault.Number h = ap (λ r. step_by (length line + 1) (in_place Headed r)) h.2
+said_fault Headed line fault.Word h = ap (λ r. next_from (length line + 1) (in_place Headed r)) h.2
+said_fault Headed line fault.Number h = ap (λ r. next_from (length line + 1) (in_place Headed r)) h.2
 said_fault Headed line fault.Order h =
-    ap (λ r. step_by (length line + 1) (in_place Headed r)) (form_is_read line h.2.0 h.2.1) ∙ ap (λ p. step_by (length line + 1) (placed h.2.0 p)) h.2.2
+    ap (λ r. next_from (length line + 1) (in_place Headed r)) (form_is_read line h.2.0 h.2.1) ∙ ap (λ p. next_from (length line + 1) (placed h.2.0 p)) h.2.2
 said_fault Headed line fault.Truncated h = absurd h
 said_fault Headed line fault.Trailing h = cc
 said_fault FactLog line fault.Header h = let e = h.0 in cc
-said_fault FactLog line fault.Word h = ap (λ r. step_by (length line + 1) (in_place FactLog r)) h.2
-said_fault FactLog line fault.Number h = ap (λ r. step_by (length line + 1) (in_place FactLog r)) h.2
+said_fault FactLog line fault.Word h = ap (λ r. next_from (length line + 1) (in_place FactLog r)) h.2
+said_fault FactLog line fault.Number h = ap (λ r. next_from (length line + 1) (in_place FactLog r)) h.2
 said_fault FactLog line fault.Order h =
-    ap (λ r. step_by (length line + 1) (in_place FactLog r)) (form_is_read line h.2.0 h.2.1) ∙ ap (λ p. step_by (length line + 1) (placed h.2.0 p)) h.2.2
+    ap (λ r. next_from (length line + 1) (in_place FactLog r)) (form_is_read line h.2.0 h.2.1) ∙ ap (λ p. next_from (length line + 1) (placed h.2.0 p)) h.2.2
 said_fault FactLog line fault.Truncated h = absurd h
 said_fault FactLog line fault.Trailing h = cc
 said_fault (Logs logs) line fault.Header h = let e = h.0 in cc
-said_fault (Logs logs) line fault.Word h = ap (λ r. step_by (length line + 1) (in_place (Logs logs) r)) h.2
-said_fault (Logs logs) line fault.Number h = ap (λ r. step_by (length line + 1) (in_place (Logs logs) r)) h.2
+said_fault (Logs logs) line fault.Word h = ap (λ r. next_from (length line + 1) (in_place (Logs logs) r)) h.2
+said_fault (Logs logs) line fault.Number h = ap (λ r. next_from (length line + 1) (in_place (Logs logs) r)) h.2
 said_fault (Logs logs) line fault.Order h =
-    ap (λ r. step_by (length line + 1) (in_place (Logs logs) r)) (form_is_read line h.2.0 h.2.1) ∙ ap (λ p. step_by (length line + 1) (placed h.2.0 p)) h.2.2
+    ap (λ r. next_from (length line + 1) (in_place (Logs logs) r)) (form_is_read line h.2.0 h.2.1) ∙ ap (λ p. next_from (length line + 1) (placed h.2.0 p)) h.2.2
 said_fault (Logs logs) line fault.Truncated h = absurd h
 said_fault (Logs logs) line fault.Trailing h = cc
 said_fault Ended line fault.Header h = let e = h.0 in cc
@@ -137,31 +137,31 @@ said_fault Ended line fault.Order h = absurd (h.1 refl)
 said_fault Ended line fault.Truncated h = absurd h
 said_fault Ended line fault.Trailing h = refl
 
--- the code's step at a line after records
-line_step : (before : List Record) (place : Place) (line : List ℕ) (entry : Record) → place_after before ≡ Some place → HasForm line entry → MayStand before entry
-    → (behind : Place) × (step_at_line place line ≡ Read entry behind (length line + 1))
-line_step before place line entry at' form may = by (place_behind place entry) refl
+-- what is read at a line after records
+line_next : (before : List Record) (place : Place) (line : List ℕ) (entry : Record) → place_after before ≡ Some place → HasForm line entry → MayStand before entry
+    → (behind : Place) × (next_at_line place line ≡ Read entry behind (length line + 1))
+line_next before place line entry at' form may = by (place_behind place entry) refl
   where
-    by : (p : Option Place) → place_behind place entry ≡ p → (behind : Place) × (step_at_line place line ≡ Read entry behind (length line + 1))
+    by : (p : Option Place) → place_behind place entry ≡ p → (behind : Place) × (next_at_line place line ≡ Read entry behind (length line + 1))
     by None e = absurd (false≢true (subst IsSome (place_behind_last before entry place at' ∙ e) may))
     by (Some behind) e = (behind, said_record place line entry behind form e)
 
-fault_step : (before : List Record) (place : Place) (line : List ℕ) (fault : RecordFault) → place_after before ≡ Some place → LineFault before line fault → step_at_line place line ≡ Refuse fault
-fault_step before place line fault at' h = said_fault place line fault (fault_there before place line fault at' h)
+fault_next : (before : List Record) (place : Place) (line : List ℕ) (fault : RecordFault) → place_after before ≡ Some place → LineFault before line fault → next_at_line place line ≡ Refuse fault
+fault_next before place line fault at' h = said_fault place line fault (fault_there before place line fault at' h)
 
 -- a line that is the next record has no fault, and one fault at most
 pub no_fault : (before : List Record) (line : List ℕ) (entry : Record) (fault : RecordFault) → AreInOrder before → HasForm line entry → MayStand before entry → LineFault before line fault → ⊥
 no_fault before line entry fault order form may h =
     let at' = place_there before order in
-    let read = line_step before at'.0 line entry at'.1 form may in
-    let refused = fault_step before at'.0 line fault at'.1 h in
+    let read = line_next before at'.0 line entry at'.1 form may in
+    let refused = fault_next before at'.0 line fault at'.1 h in
     let e : Read entry read.0 (length line + 1) ≡ Refuse fault = sym read.1 ∙ refused in
     cc
 
 same_line_fault : (before : List Record) (line : List ℕ) (first second : RecordFault) → AreInOrder before → LineFault before line first → LineFault before line second → first ≡ second
 same_line_fault before line first second order f s =
     let at' = place_there before order in
-    let e : Refuse first ≡ Refuse second = sym (fault_step before at'.0 line first at'.1 f) ∙ fault_step before at'.0 line second at'.1 s in
+    let e : Refuse first ≡ Refuse second = sym (fault_next before at'.0 line first at'.1 f) ∙ fault_next before at'.0 line second at'.1 s in
     cc
 
 same_end_fault : (before : List Record) (rest : List ℕ) (first second : RecordFault) → EndFault before rest first → EndFault before rest second → first ≡ second
@@ -361,11 +361,11 @@ end_says bytes done before Ended lines form at' = by (behind_lines bytes) refl
 text_says : (bytes : List ℕ) (done left : List (List ℕ)) (before : List Record) (place : Place) → whole_lines bytes ≡ done ++ left → AllZip HasForm done before → place_after before ≡ Some place → SaysSomething bytes
 text_says bytes done [] before place lines form at' = end_says bytes done before place lines form at'
 text_says bytes done (line ∷ left) before place lines form at' =
-    by (step_at_line place line) (step_says place line)
+    by (next_at_line place line) (next_at_line_says place line)
     (λ entry behind has e. text_says bytes (done ++ line ∷ []) left (before ++ entry ∷ []) behind (lines ∙ sym (append_assoc done (line ∷ []) left))
     (all_zipped_more HasForm done before line entry form has) (place_behind_last before entry place at' ∙ e))
   where
-    by : (step : Step) → StepSays place line step → ((entry : Record) (behind : Place) → HasForm line entry → place_behind place entry ≡ Some behind → SaysSomething bytes) → SaysSomething bytes
+    by : (next : NextRecord) → NextSays place line next → ((entry : Record) (behind : Place) → HasForm line entry → place_behind place entry ≡ Some behind → SaysSomething bytes) → SaysSomething bytes
     by Wait said next = absurd said
     by (Read entry behind used) said next = next entry behind said.0 said.1
     by (Refuse wrong) said next = inr (before, (wrong, refused_at bytes done (line ∷ left) before place lines form at' line left refl wrong said))

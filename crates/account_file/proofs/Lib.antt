@@ -11,6 +11,6 @@ pub mod ReadLemmas
 pub mod ReadingLemmas
 pub mod RecordLemmas
 pub mod SpellingLemmas
-pub mod StepLemmas
+pub mod NextLemmas
 pub mod ValueLemmas
 pub mod WordLemmas

@@ -1,4 +1,4 @@
--- What a step says of the whole text, and how far the text was read after it.
+-- What the next record, or the first fault, says of the whole text, and how far the text was read after it.
 use Rattle.std.proofs.Common.{◌≡◌, ◌≢◌, ℕ, ◌+◌, ◌<◌, ◌≤◌, Bool, true, false, cond, List, [], ◌∷◌, ◌++◌, length, get_or, take, drop, All, Option, Some, None, IsSome, IfSome, is_some, Result, Ok, Err, refl, sym, ap, subst, ◌∙◌, arith, append_assoc, append-nil, length-append, length-take-le}
 use Rattle.std.specs.List.{AllZip, flat_map, before_first, after_first, position_or_len}
 use Rattle.std.proofs.Math.Seq.{take-append-add, take-append_seam, get_or-append_seam}
@@ -16,16 +16,16 @@ use Rattle.account_file.specs.declared.fault.FileStop.{FileStop}
 use Rattle.account_file.specs.declared.fault.FileStop.TheVariants.{Fault, Memory}
 use Rattle.account_file.specs.declared.place.Place.{Place}
 use Rattle.account_file.specs.declared.place.Place.TheVariants.{Start, Headed, FactLog, Logs, Ended}
-use Rattle.account_file.specs.declared.step.Step.{Step}
-use Rattle.account_file.specs.declared.step.Step.TheVariants.{Wait, Read, Refuse}
+use Rattle.account_file.specs.declared.next_record.NextRecord.{NextRecord}
+use Rattle.account_file.specs.declared.next_record.NextRecord.TheVariants.{Wait, Read, Refuse}
 use Rattle.account_file.specs.Lines.{whole_lines, behind_lines}
 use Rattle.account_file.specs.Order.{place_behind, place_after, AreInOrder}
 use Rattle.account_file.specs.Accounts.{HasForm, AreRecords, LineFault, EndFault, HasFormFault, SaysNext}
 use Rattle.account_file.specs.Reading.{Reading, HasRead, given_by}
 use Rattle.account_file.specs.Spelling.{IsWritable, record_line}
-use Rattle.account_file.specs.Steps.{has_line, step_at_line, step_at_end, step_of, answer_by, reading_behind, next_answer, next_reading}
+use Rattle.account_file.specs.NextRecords.{has_line, next_at_line, next_at_end, next_of, answer_by, reading_behind, next_answer, next_reading}
 use Rattle.account_file.specs.Texts.{Answers, Says}
-use Rattle.account_file.proofs.AccountLemmas.{texts_of, length_texts, lines_of_records, behind_records, have_forms, FaultThere, StepSays, step_says, line_fault}
+use Rattle.account_file.proofs.AccountLemmas.{texts_of, length_texts, lines_of_records, behind_records, have_forms, FaultThere, NextSays, next_at_line_says, line_fault}
 use Rattle.account_file.proofs.LineLemmas.{lines_first, lines_none, behind_none, cut_first, before_first_is_line, no_line_feed_is_line, lines_stay}
 use Rattle.account_file.proofs.OrderLemmas.{place_behind_last}
 
@@ -72,7 +72,7 @@ module _ (bytes left : List ℕ) (records : List Record) (place : Place) (text :
       at_end = λ past. absurd (omega (arith, past, below));
     }
 
-    line_says : (finished : Bool) (step : Step) → StepSays place line step → SaysNext bytes finished records (answer_by step)
+    line_says : (finished : Bool) (next : NextRecord) → NextSays place line next → SaysNext bytes finished records (answer_by next)
     line_says finished Wait said = absurd said
     line_says finished (Read entry behind used) said = record {
       form = subst (λ l. AllZip HasForm l (records ++ entry ∷ [])) (sym front_is) (all_zipped_more HasForm (texts_of records) records line entry (have_forms records w) said.0);
@@ -103,7 +103,7 @@ module _ (bytes left : List ℕ) (records : List Record) (place : Place) (text :
     cut_off open' = end_fault fault.Truncated (λ ended. open' (let same : Some place ≡ Some Ended = sym at' ∙ ended in cc))
 
 end_says : (bytes left : List ℕ) (records : List Record) (place : Place) → bytes ≡ flat_map record_line records ++ left → All IsWritable records → place_after records ≡ Some place
-    → IsLine left → SaysNext bytes true records (answer_by (step_at_end place left))
+    → IsLine left → SaysNext bytes true records (answer_by (next_at_end place left))
 end_says bytes left records Start text w at' none = cut_off bytes left records Start text w at' none (λ e. cc)
 end_says bytes left records Headed text w at' none = cut_off bytes left records Headed text w at' none (λ e. cc)
 end_says bytes left records FactLog text w at' none = cut_off bytes left records FactLog text w at' none (λ e. cc)
@@ -123,31 +123,31 @@ line_below left there = ltb-true (position_or_len is_line_feed left) (length lef
 line_missing : (left : List ℕ) → has_line left ≡ false → IsLine left
 line_missing left missing = no_line_feed_is_line left (ltb-false (position_or_len is_line_feed left) (length left) missing)
 
-pub step_of_says : (bytes left : List ℕ) (records : List Record) (place : Place) (finished : Bool) → bytes ≡ flat_map record_line records ++ left → All IsWritable records
-    → place_after records ≡ Some place → SaysNext bytes finished records (answer_by (step_of left finished place))
-step_of_says bytes left records place finished text w at' = by (has_line left) refl
+pub next_of_says : (bytes left : List ℕ) (records : List Record) (place : Place) (finished : Bool) → bytes ≡ flat_map record_line records ++ left → All IsWritable records
+    → place_after records ≡ Some place → SaysNext bytes finished records (answer_by (next_of left finished place))
+next_of_says bytes left records place finished text w at' = by (has_line left) refl
   where
-    at_end : (f : Bool) → IsLine left → SaysNext bytes f records (answer_by (cond f (step_at_end place left) Wait))
+    at_end : (f : Bool) → IsLine left → SaysNext bytes f records (answer_by (cond f (next_at_end place left) Wait))
     at_end true none = end_says bytes left records place text w at' none
     at_end false none = all_are bytes left records place text w at' none
 
     by : (b : Bool) → has_line left ≡ b
-        → SaysNext bytes finished records (answer_by (cond b (step_at_line place (before_first is_line_feed left)) (cond finished (step_at_end place left) Wait)))
+        → SaysNext bytes finished records (answer_by (cond b (next_at_line place (before_first is_line_feed left)) (cond finished (next_at_end place left) Wait)))
     by true there =
         let line = before_first is_line_feed left in
         line_says bytes left records place text w at' line (after_first is_line_feed left) (cut_first left (line_below left there)) (before_first_is_line left)
-        finished (step_at_line place line) (step_says place line)
+        finished (next_at_line place line) (next_at_line_says place line)
     by false missing = at_end finished (line_missing left missing)
 
 -- a reader waits where no line feed is left
-pub waits : (left : List ℕ) (finished : Bool) (place : Place) → step_of left finished place ≡ Wait → length left ≤ position_or_len is_line_feed left
+pub waits : (left : List ℕ) (finished : Bool) (place : Place) → next_of left finished place ≡ Wait → length left ≤ position_or_len is_line_feed left
 waits left finished place e = by (has_line left) refl
   where
     by : (b : Bool) → has_line left ≡ b → length left ≤ position_or_len is_line_feed left
     by true there =
         let line = before_first is_line_feed left in
-        let wait : step_at_line place line ≡ Wait = sym (ap (λ b. cond b (step_at_line place line) (cond finished (step_at_end place left) Wait)) there) ∙ e in
-        absurd (subst (StepSays place line) wait (step_says place line))
+        let wait : next_at_line place line ≡ Wait = sym (ap (λ b. cond b (next_at_line place line) (cond finished (next_at_end place left) Wait)) there) ∙ e in
+        absurd (subst (NextSays place line) wait (next_at_line_says place line))
     by false missing = ltb-false (position_or_len is_line_feed left) (length left) missing
 
 -- the fault of a text stays where the text goes on after its line
@@ -202,13 +202,13 @@ read_finish reading bytes records has = record {
       (λ wrong said. fault_at_end bytes reading.finished records wrong said) has.fault;
 }
 
--- what the next step says, and leaves
+-- what the next record says, and leaves
 
 pub next_says : (reading : Reading) (bytes : List ℕ) (records : List Record) → HasRead reading bytes records → SaysNext bytes reading.finished records (next_answer reading.fault reading)
 next_says reading bytes records has = by reading.fault has.fault
   where
     by : (given : Option RecordFault) → IfSome given (λ wrong. SaysNext bytes reading.finished records (Err wrong)) → SaysNext bytes reading.finished records (next_answer given reading)
-    by None h = step_of_says bytes reading.left records reading.place reading.finished has.text has.writable has.place
+    by None h = next_of_says bytes reading.left records reading.place reading.finished has.text has.writable has.place
     by (Some wrong) h = h
 
 -- as the line's number counts a fault
@@ -216,17 +216,17 @@ abbrev faults_given : Option RecordFault → ℕ
 faults_given given = cond (is_some given) 1 0
 
 -- what is left after a record
-record StepLeaves (place : Place) (left : List ℕ) (entry : Record) (behind : Place) (used : ℕ) : Type 0 where
+record NextLeaves (place : Place) (left : List ℕ) (entry : Record) (behind : Place) (used : ℕ) : Type 0 where
   pub writable : IsWritable entry
   pub text : left ≡ record_line entry ++ drop used left
   pub place_is : place_behind place entry ≡ Some behind
 
-abbrev Leaves : Place → List ℕ → Step → Type 0
+abbrev Leaves : Place → List ℕ → NextRecord → Type 0
 Leaves place left Wait = Unit {0}
-Leaves place left (Read entry behind used) = StepLeaves place left entry behind used
+Leaves place left (Read entry behind used) = NextLeaves place left entry behind used
 Leaves place left (Refuse wrong) = Unit {0}
 
-leaves : (place : Place) (left : List ℕ) (step : Step) → position_or_len is_line_feed left < length left → StepSays place (before_first is_line_feed left) step → Leaves place left step
+leaves : (place : Place) (left : List ℕ) (next : NextRecord) → position_or_len is_line_feed left < length left → NextSays place (before_first is_line_feed left) next → Leaves place left next
 leaves place left Wait below said = tt
 leaves place left (Refuse wrong) below said = tt
 leaves place left (Read entry behind used) below said =
@@ -241,10 +241,10 @@ leaves place left (Read entry behind used) below said =
       place_is = said.1;
     }
 
-step_leaves : (place : Place) (left : List ℕ) (finished : Bool) → Leaves place left (step_of left finished place)
-step_leaves place left finished = by (has_line left) refl
+next_leaves : (place : Place) (left : List ℕ) (finished : Bool) → Leaves place left (next_of left finished place)
+next_leaves place left finished = by (has_line left) refl
   where
-    ended : (p : Place) (l : List ℕ) → Leaves p l (step_at_end p l)
+    ended : (p : Place) (l : List ℕ) → Leaves p l (next_at_end p l)
     ended Start l = tt
     ended Headed l = tt
     ended FactLog l = tt
@@ -252,12 +252,12 @@ step_leaves place left finished = by (has_line left) refl
     ended Ended [] = tt
     ended Ended (byte ∷ l) = tt
 
-    at_end : (f : Bool) → Leaves place left (cond f (step_at_end place left) Wait)
+    at_end : (f : Bool) → Leaves place left (cond f (next_at_end place left) Wait)
     at_end true = ended place left
     at_end false = tt
 
-    by : (b : Bool) → has_line left ≡ b → Leaves place left (cond b (step_at_line place (before_first is_line_feed left)) (cond finished (step_at_end place left) Wait))
-    by true there = leaves place left (step_at_line place (before_first is_line_feed left)) (line_below left there) (step_says place (before_first is_line_feed left))
+    by : (b : Bool) → has_line left ≡ b → Leaves place left (cond b (next_at_line place (before_first is_line_feed left)) (cond finished (next_at_end place left) Wait))
+    by true there = leaves place left (next_at_line place (before_first is_line_feed left)) (line_below left there) (next_at_line_says place (before_first is_line_feed left))
     by false missing = at_end finished
 
 without_fault : (given : Option RecordFault) → given ≡ None → faults_given given ≡ 0
@@ -267,10 +267,10 @@ module _ (reading : Reading) (bytes : List ℕ) (records : List Record) (has : H
   reads_nothing : HasRead reading bytes (records ++ [])
   reads_nothing = subst (λ l. HasRead reading bytes l) (sym (append-nil records)) has
 
-  reads_step : (step : Step) → reading.fault ≡ None → Leaves reading.place reading.left step → SaysNext bytes reading.finished records (answer_by step)
-      → HasRead (reading_behind reading step) bytes (records ++ given_by (answer_by step))
-  reads_step Wait none left' said = reads_nothing
-  reads_step (Read entry behind used) none left' said = record {
+  reads_next : (next : NextRecord) → reading.fault ≡ None → Leaves reading.place reading.left next → SaysNext bytes reading.finished records (answer_by next)
+      → HasRead (reading_behind reading next) bytes (records ++ given_by (answer_by next))
+  reads_next Wait none left' said = reads_nothing
+  reads_next (Read entry behind used) none left' said = record {
     text = has.text ∙ ap (λ l. flat_map record_line records ++ l) left'.text ∙ sym (append_assoc (flat_map record_line records) (record_line entry) (drop used reading.left))
         ∙ ap (λ l. l ++ drop used reading.left) (ap (λ l. flat_map record_line records ++ l) (sym (append-nil (record_line entry))) ∙ sym (flat_map-append record_line records (entry ∷ [])));
     writable = All-push IsWritable records entry has.writable left'.writable;
@@ -279,7 +279,7 @@ module _ (reading : Reading) (bytes : List ℕ) (records : List Record) (has : H
     total = has.total;
     fault = subst (λ o. IfSome o (λ wrong. SaysNext bytes reading.finished (records ++ entry ∷ []) (Err wrong))) (sym none) tt;
   }
-  reads_step (Refuse wrong) none left' said = record {
+  reads_next (Refuse wrong) none left' said = record {
     text = has.text ∙ ap (λ l. flat_map record_line l ++ reading.left) (sym (append-nil records));
     writable = subst (All IsWritable) (sym (append-nil records)) has.writable;
     place = ap place_after (append-nil records) ∙ has.place;
@@ -293,11 +293,11 @@ module _ (reading : Reading) (bytes : List ℕ) (records : List Record) (has : H
     where
       by : (given : Option RecordFault) → reading.fault ≡ given → HasRead (next_reading given reading) bytes (records ++ given_by (next_answer given reading))
       by None none =
-          reads_step (step_of reading.left reading.finished reading.place) none (step_leaves reading.place reading.left reading.finished)
-          (step_of_says bytes reading.left records reading.place reading.finished has.text has.writable has.place)
+          reads_next (next_of reading.left reading.finished reading.place) none (next_leaves reading.place reading.left reading.finished)
+          (next_of_says bytes reading.left records reading.place reading.finished has.text has.writable has.place)
       by (Some wrong) given = reads_nothing
 
--- where an answer is what the step says, or memory ran out
+-- where an answer is what the next record says, or memory ran out
 
 pub answer_says : (result : Result (Option Record) FileStop) (meant : Result (Option Record) RecordFault) (P : Result (Option Record) RecordFault → Type 0) → Answers (λ found. found) result meant → P meant → Says result P
 answer_says (Ok found) meant P is h = subst P is h

@@ -14,7 +14,7 @@ use Rattle.circuits.specs.declared.port.PortKind.TheVariants.{Input, Output}
 use Rattle.cnf_core.specs.declared.literal.SatLit.{SatLit}
 use Rattle.account_file.specs.declared.fault.RecordFault.{RecordFault}
 use Rattle.account_file.specs.declared.fault.RecordFault.TheVariants.{Word, Number}
-use Rattle.account_file.specs.Forms.{number_below, bad_number, or_fault, number_of, port_of, mapped, literal_with, literal_of, numbered, reference_of, kind_of_letter, flip_of_sign, pair_by, pair_behind, pair_in, pair_of, is_separator}
+use Rattle.account_file.specs.Forms.{number_below, bad_number, or_fault, number_of, port_of, mapped, literal_with, literal_of, numbered, reference_of, kind_of_letter, flip_of_sign, pair_by, pair_after, pair_in, pair_of, is_separator}
 use Rattle.account_file.specs.Spelling.{kind_letter, sign_of, pair_word, reference_word, IsPort, IsNumber, HasPorts, IsReference}
 use Rattle.account_file.proofs.NumberLemmas.{decimal_digits, decimal_numeral, number_read, number_written}
 use Rattle.account_file.proofs.ReadLemmas.{IsWord, IsWordOrNumber, Wrote, digits_no_separator}
@@ -254,12 +254,12 @@ pair_read pair ports =
     let from = decimal pair.from in
     let behind : List ℕ = sign_of pair.flip ∷ decimal pair.to in
     let digits = digits_front from (sign_of pair.flip) (decimal pair.to) (decimal_digits pair.from (omega (arith, ports.from))) (sign_ends pair.flip) in
-    let cut : ℕ → Option Pair = λ n. pair_behind (kind_of_letter (kind_letter pair.kind)) (take n (from ++ behind)) (drop n (from ++ behind)) in
+    let cut : ℕ → Option Pair = λ n. pair_after (kind_of_letter (kind_letter pair.kind)) (take n (from ++ behind)) (drop n (from ++ behind)) in
     let first = number_read (2 ^ 32) pair.from ports.from (omega arith) in
     let second = number_read (2 ^ 32) pair.to ports.to (omega arith) in
     ap cut digits
-    ∙ ap (λ l. pair_behind (kind_of_letter (kind_letter pair.kind)) l (drop (length from) (from ++ behind))) (take_at from behind (length from) refl)
-    ∙ ap (λ l. pair_behind (kind_of_letter (kind_letter pair.kind)) from l) (drop_at from behind (length from) refl)
+    ∙ ap (λ l. pair_after (kind_of_letter (kind_letter pair.kind)) l (drop (length from) (from ++ behind))) (take_at from behind (length from) refl)
+    ∙ ap (λ l. pair_after (kind_of_letter (kind_letter pair.kind)) from l) (drop_at from behind (length from) refl)
     ∙ ap (λ k. pair_by k (number_below (2 ^ 32) from) (flip_of_sign (sign_of pair.flip)) (number_below (2 ^ 32) (decimal pair.to))) (kind_read pair.kind)
     ∙ ap (λ n. pair_by (Some pair.kind) n (flip_of_sign (sign_of pair.flip)) (number_below (2 ^ 32) (decimal pair.to))) first
     ∙ ap (λ f. pair_by (Some pair.kind) (Some pair.from) f (number_below (2 ^ 32) (decimal pair.to))) (flip_read pair.flip)
@@ -301,7 +301,7 @@ by_fields letter front sign back (Some kind) None f n pair ek em ef en e = cc
 by_fields letter front sign back (Some kind) (Some from) None n pair ek em ef en e = cc
 by_fields letter front sign back (Some kind) (Some from) (Some flip) None pair ek em ef en e = cc
 
-by_parts : (letter : ℕ) (front behind : List ℕ) (pair : Pair) → pair_behind (kind_of_letter letter) front behind ≡ Some pair → IsPairWord (letter ∷ front ++ behind) pair
+by_parts : (letter : ℕ) (front behind : List ℕ) (pair : Pair) → pair_after (kind_of_letter letter) front behind ≡ Some pair → IsPairWord (letter ∷ front ++ behind) pair
 by_parts letter front [] pair e = cc
 by_parts letter front (sign ∷ back) pair e =
     by_fields letter front sign back (kind_of_letter letter) (number_below (2 ^ 32) front) (flip_of_sign sign) (number_below (2 ^ 32) back) pair refl refl refl refl e

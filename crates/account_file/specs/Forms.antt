@@ -91,15 +91,15 @@ pair_by (Some kind) (Some from) (Some flip) (Some to) = Some (record { kind = ki
 pair_by kind from flip to = None
 
 -- by the digits in front, and by what stands after them: the sign, and the second number
-abbrev pub pair_behind : Option PortKind → List ℕ → List ℕ → Option Pair
-pair_behind kind from [] = None
-pair_behind kind from (sign ∷ to) =
+abbrev pub pair_after : Option PortKind → List ℕ → List ℕ → Option Pair
+pair_after kind from [] = None
+pair_after kind from (sign ∷ to) =
     pair_by kind (number_below (2 ^ 32) from) (flip_of_sign sign) (number_below (2 ^ 32) to)
 
 abbrev pub pair_in : List ℕ → Option Pair
 pair_in [] = None
 pair_in (letter ∷ rest) =
-    let n = prefix_len is_ascii_digit rest in pair_behind (kind_of_letter letter) (take n rest) (drop n rest)
+    let n = prefix_len is_ascii_digit rest in pair_after (kind_of_letter letter) (take n rest) (drop n rest)
 
 abbrev pub pair_of : List ℕ → Result Pair RecordFault
 pair_of word = or_fault (pair_in word) fault.Word

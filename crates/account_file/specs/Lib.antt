@@ -5,5 +5,5 @@ pub mod Lines
 pub mod Order
 pub mod Accounts
 pub mod Reading
-pub mod Steps
+pub mod NextRecords
 pub mod Texts

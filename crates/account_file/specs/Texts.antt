@@ -2,7 +2,7 @@
 use Rattle.std.specs.Prelude.{◌≡◌, ℕ, ◌<◌, List, [], ◌++◌, length, Option, None, Some, Result, Ok, Err}
 use Rattle.std.specs.Borrow.{Bor}
 use Rattle.account_file.specs.declared.fault.RecordFault.{RecordFault}
-use Rattle.account_file.specs.declared.step.Step.{Step}
+use Rattle.account_file.specs.declared.next_record.NextRecord.{NextRecord}
 use Rattle.account_file.specs.declared.fault.FileStop.{FileStop}
 use Rattle.account_file.specs.declared.fault.FileStop.TheVariants.{Fault, Memory}
 use Rattle.account_file.specs.Forms.{Parsed, digits_behind, list_by, with_item}
@@ -42,11 +42,11 @@ abbrev pub in_front : {X : Type 0} → List X → Parsed (List X) → Parsed (Li
 in_front {X} front (Ok rest) = Ok (front ++ rest.0, rest.1)
 in_front {X} front (Err fault) = Err fault
 
--- the step is what is meant, or memory ran out
-abbrev pub AnswersStep : Result Step FileStop → Step → Type 0
-AnswersStep (Ok step) meant = step ≡ meant
-AnswersStep (Err (Fault fault)) meant = ⊥
-AnswersStep (Err Memory) meant = Unit {0}
+-- the next record is what is meant, or memory ran out
+abbrev pub AnswersNext : Result NextRecord FileStop → NextRecord → Type 0
+AnswersNext (Ok next) meant = next ≡ meant
+AnswersNext (Err (Fault fault)) meant = ⊥
+AnswersNext (Err Memory) meant = Unit {0}
 
 -- the answer is what is said, or memory ran out
 abbrev pub Says : {X : Type 0} → Result X FileStop → (Result X RecordFault → Type 0) → Type 0

@@ -24,7 +24,7 @@ pub enum RecordFault {
     #[error("the file ends before the line `end`")]
     Truncated,
     /// Something stands after `end`.
-    #[error("something stands behind the line `end`")]
+    #[error("something stands after the line `end`")]
     Trailing,
 }
 

@@ -5,11 +5,11 @@ mod fault;
 mod forms;
 mod laws;
 mod names;
+mod next_record;
 mod place;
 mod reader;
 mod record;
 mod spelling;
-mod step;
 mod values;
 mod words;
 

@@ -5,13 +5,13 @@ ghost use Rattle.account_file.specs.declared.record.Record.{Record as Entry};
 ghost use Rattle.account_file.specs.declared.fault.RecordFault.{RecordFault as AnyFault};
 ghost use Rattle.account_file.specs.Accounts.{SaysNext};
 ghost use Rattle.account_file.specs.Reading.{HasRead, given_by};
-ghost use Rattle.account_file.specs.Steps.{next_answer, next_reading};
+ghost use Rattle.account_file.specs.NextRecords.{next_answer, next_reading};
 ghost use Rattle.account_file.specs.Texts.{Answers, Says};
 
 use crate::fault::{FileStop, RecordFault};
+use crate::next_record::{NextRecord, next_of};
 use crate::place::Place;
 use crate::record::Record;
-use crate::step::{Step, step_of};
 use std::alloc::{AllocError, Global};
 use std::marker::Model;
 
@@ -116,11 +116,11 @@ impl Reader {
         ensures finished { self.new.finished ≡ self.old.finished }
         ensures total { self.new.total ≡ self.old.total }
     {
-        self.step(alloc)
+        self.take_next(alloc)
     }
 
-    // The next record, by one step.
-    fn step(&mut self, alloc: Global) -> Result<Option<Record>, FileStop>
+    // The next record, or the first fault, by the bytes that are left.
+    fn take_next(&mut self, alloc: Global) -> Result<Option<Record>, FileStop>
         ensures answer { Answers (λ found. found) result (next_answer self.old.fault self.old) }
         ensures reading { result ≢ Err FileStop.Memory → self.new ≡ next_reading self.old.fault self.old }
         ensures refused { result ≡ Err FileStop.Memory → self.new ≡ self.old }
@@ -135,19 +135,19 @@ impl Reader {
         }
         let left = &self.bytes[self.start..];
         let count = left.len();
-        match step_of(alloc, left, self.looked, self.finished, self.place)? {
-            Step::Wait => {
+        match next_of(alloc, left, self.looked, self.finished, self.place)? {
+            NextRecord::Wait => {
                 self.looked = count;
                 Ok(None)
             }
-            Step::Read { entry, place, used } => {
+            NextRecord::Read { entry, place, used } => {
                 self.start += used;
                 self.looked = 0;
                 self.line += 1;
                 self.place = place;
                 Ok(Some(entry))
             }
-            Step::Refuse(fault) => {
+            NextRecord::Refuse(fault) => {
                 self.line += 1;
                 self.fault = Some(fault);
                 Err(FileStop::Fault(fault))

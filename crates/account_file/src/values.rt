@@ -1,7 +1,7 @@
 //! The words of an account's lines that are numbers, pairs of ports or bits.
 
 ghost use Rattle.std.specs.Prelude.{◌≡◌, ◌^◌};
-ghost use Rattle.account_file.specs.Forms.{bad_number, bit_of, bits_of, flip_of_sign, is_plain, kind_of_letter, literal_of, number_below, number_of, pair_behind, pair_in, pair_of, port_of, reference_of, tri_of, tris_of, two_bits_of};
+ghost use Rattle.account_file.specs.Forms.{bad_number, bit_of, bits_of, flip_of_sign, is_plain, kind_of_letter, literal_of, number_below, number_of, pair_after, pair_in, pair_of, port_of, reference_of, tri_of, tris_of, two_bits_of};
 ghost use Rattle.account_file.specs.Texts.{Answers, GivesDigits};
 
 use crate::fault::{FileStop, RecordFault};
@@ -111,14 +111,14 @@ fn pair_in(word: &[u8]) -> Option<Pair>
         return None;
     };
     let count = digits_in_front(rest);
-    pair_behind(kind_of_letter(*letter), &rest[..count], &rest[count..])
+    pair_after(kind_of_letter(*letter), &rest[..count], &rest[count..])
 }
 
 // The pair of a kind and a first number, by what stands after the number.
-fn pair_behind(kind: Option<PortKind>, from: &[u8], behind: &[u8]) -> Option<Pair>
-    ensures { result ≡ pair_behind kind from.now behind.now }
+fn pair_after(kind: Option<PortKind>, from: &[u8], rest: &[u8]) -> Option<Pair>
+    ensures { result ≡ pair_after kind from.now rest.now }
 {
-    let [sign, to @ ..] = behind else {
+    let [sign, to @ ..] = rest else {
         return None;
     };
     match (kind, plain_port(from), flip_of_sign(*sign), plain_port(to)) {

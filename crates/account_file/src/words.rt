@@ -55,8 +55,8 @@ impl<'a> Words<'a> {
     {
         let rest = self.rest?;
         match cut(rest) {
-            Some((word, behind)) => {
-                self.rest = Some(behind);
+            Some((word, left)) => {
+                self.rest = Some(left);
                 Some(word)
             }
             None => {

@@ -11,10 +11,10 @@ use Rattle.circuits.proofs.LevelLaws.{no_level, HasLevel-above, HaveLevel-none, 
 use Rattle.net_core.specs.declared.levels.Frame.{Frame}
 use Rattle.net_core.specs.declared.levels.Visit.{Visit}
 use Rattle.net_core.specs.declared.levels.Visit.TheVariants.{New, Open, Level}
-use Rattle.net_core.specs.declared.levels.Step.TheVariants.{Enter, Close, Loop}
+use Rattle.net_core.specs.declared.levels.SearchEvent.TheVariants.{Enter, Close, Loop}
 use Rattle.net_core.specs.declared.order_fault.OrderFault.{OrderFault}
 use Rattle.net_core.specs.declared.order_fault.OrderFault.TheVariants.{Cycle, TooManyGates, Memory}
-use Rattle.net_core.specs.Search.{visit_of, is_new, left, positions, IsFound, IsLooked, Knows, AreMet, IsPath, IsUnderWay, IsReady, IsAt, IsStep, IsFaultAt, IsFaultOf}
+use Rattle.net_core.specs.Search.{visit_of, is_new, left, positions, IsFound, IsLooked, Knows, AreMet, IsPath, IsUnderWay, IsReady, IsAt, IsNextEvent, IsFaultAt, IsFaultOf}
 
 abbrev pub weight : Visit → ℕ
 weight v = cond (is_new v) 1 0
@@ -176,16 +176,16 @@ pub Names-at : (circuit : Circuit) (d k s : ℕ) → d < length circuit.defs →
 Names-at circuit d k s h k_in same = record { place = d; there = h; at = refl; named = (k, k_in, sym same) }
 
 -- what is to be done where a name was new, is on the stack, or where all names have levels
-pub step_enter : (circuit : Circuit) (visits : List Visit) (stack : List ℕ) (d e s : ℕ) (looked : Frame) → Names circuit (signal_at circuit d) s → IsAt circuit visits New s e → IsLooked circuit (left visits stack) looked → looked.position ≡ d → IsStep circuit visits stack d (Enter e looked)
-step_enter circuit visits stack d e s looked names at is same =
+pub event_enter : (circuit : Circuit) (visits : List Visit) (stack : List ℕ) (d e s : ℕ) (looked : Frame) → Names circuit (signal_at circuit d) s → IsAt circuit visits New s e → IsLooked circuit (left visits stack) looked → looked.position ≡ d → IsNextEvent circuit visits stack d (Enter e looked)
+event_enter circuit visits stack d e s looked names at is same =
     (at.there, at.is, subst (Names circuit (signal_at circuit d)) at.at names, is, same)
 
-pub step_loop : (circuit : Circuit) (visits : List Visit) (stack : List ℕ) (d s : ℕ) → Names circuit (signal_at circuit d) s → ((e : ℕ) × IsAt circuit visits Open s e) → IsStep circuit visits stack d Loop
-step_loop circuit visits stack d s names seen =
+pub event_loop : (circuit : Circuit) (visits : List Visit) (stack : List ℕ) (d s : ℕ) → Names circuit (signal_at circuit d) s → ((e : ℕ) × IsAt circuit visits Open s e) → IsNextEvent circuit visits stack d Loop
+event_loop circuit visits stack d s names seen =
     (seen.0, seen.1.is, subst (Names circuit (signal_at circuit d)) seen.1.at names)
 
-pub step_close : (circuit : Circuit) (visits : List Visit) (stack : List ℕ) (d n highest level : ℕ) → level ≡ highest + 1 → d < length circuit.defs → length (names_of circuit d) ≤ n → HaveLevel circuit (take n (names_of circuit d)) highest → highest + left visits stack ≤ 2 * length circuit.defs → IsStep circuit visits stack d (Close level)
-step_close circuit visits stack d n highest level is h past have few =
+pub event_close : (circuit : Circuit) (visits : List Visit) (stack : List ℕ) (d n highest level : ℕ) → level ≡ highest + 1 → d < length circuit.defs → length (names_of circuit d) ≤ n → HaveLevel circuit (take n (names_of circuit d)) highest → highest + left visits stack ≤ 2 * length circuit.defs → IsNextEvent circuit visits stack d (Close level)
+event_close circuit visits stack d n highest level is h past have few =
     let e : suc highest ≡ level = omega (arith, is) in
     let all = subst (λ xs. HaveLevel circuit xs highest) (take_all n (names_of circuit d) past) have in
     (subst (HasLevel circuit (signal_at circuit d)) e (HasLevel-above circuit d highest h all), omega (arith, few, is))
@@ -221,7 +221,7 @@ pub positions-set_top : (stack : List Frame) (i : ℕ) (frame looked : Frame) �
 positions-set_top stack i frame looked top same =
     map-set_same (λ (f : Frame). f.position) stack i looked frame (same ∙ ap (λ (f : Frame). f.position) top)
 
-pub IsUnderWay-enter : (circuit : Circuit) (root : ℕ) (visits : List Visit) (stack : List Frame) (frame looked : Frame) (e : ℕ) → 0 < length stack → frame ≡ get_or stack (length stack - 1) frame → IsStep circuit visits (positions stack) frame.position (Enter e looked) → IsUnderWay circuit root visits stack → IsUnderWay circuit root (set visits e Open) (set stack (length stack - 1) looked ++ fresh e ∷ [])
+pub IsUnderWay-enter : (circuit : Circuit) (root : ℕ) (visits : List Visit) (stack : List Frame) (frame looked : Frame) (e : ℕ) → 0 < length stack → frame ≡ get_or stack (length stack - 1) frame → IsNextEvent circuit visits (positions stack) frame.position (Enter e looked) → IsUnderWay circuit root visits stack → IsUnderWay circuit root (set visits e Open) (set stack (length stack - 1) looked ++ fresh e ∷ [])
 IsUnderWay-enter circuit root visits stack frame looked e more top step way = record {
   knows = subst (Knows circuit (set visits e Open)) (sym same) (Knows-enter circuit visits (positions stack) e h step.1 way.knows);
   path = subst (IsPath circuit root) (sym same) (IsPath-enter circuit root (positions stack) frame.position e (omega (arith, length-map stack (λ (f : Frame). f.position))) (top-position stack frame more top) step.0 step.2 way.path);
@@ -248,7 +248,7 @@ IsUnderWay-enter circuit root visits stack frame looked e more top step way = re
         IsLooked-later circuit (left visits (positions stack)) (left (set visits e Open) (positions (set stack (length stack - 1) looked ++ fresh e ∷ []))) f (omega (arith, less)) is
 
 -- what is left where one was entered
-pub left-entered : (circuit : Circuit) (root : ℕ) (visits : List Visit) (stack : List Frame) (frame looked : Frame) (e : ℕ) → frame ≡ get_or stack (length stack - 1) frame → IsStep circuit visits (positions stack) frame.position (Enter e looked) → IsUnderWay circuit root visits stack → left (set visits e Open) (positions (set stack (length stack - 1) looked ++ fresh e ∷ [])) < left visits (positions stack)
+pub left-entered : (circuit : Circuit) (root : ℕ) (visits : List Visit) (stack : List Frame) (frame looked : Frame) (e : ℕ) → frame ≡ get_or stack (length stack - 1) frame → IsNextEvent circuit visits (positions stack) frame.position (Enter e looked) → IsUnderWay circuit root visits stack → left (set visits e Open) (positions (set stack (length stack - 1) looked ++ fresh e ∷ [])) < left visits (positions stack)
 left-entered circuit root visits stack frame looked e top step way =
     let h : e < length visits = omega (arith, step.0, way.knows.entries) in
     let same = positions-push (set stack (length stack - 1) looked) (fresh e) ∙ ap (λ xs. xs ++ e ∷ []) (positions-set_top stack (length stack - 1) frame looked top step.4) in
@@ -266,7 +266,7 @@ left-closed visits stack d level h more =
     let shorter : length (positions (take (length stack - 1) stack)) + 1 ≡ length (positions stack) = omega (arith, length-map (take (length stack - 1) stack) (λ (f : Frame). f.position), length-map stack (λ (f : Frame). f.position), length-take-le (length stack - 1) stack (omega arith)) in
     omega (arith, left-close visits (positions stack) (positions (take (length stack - 1) stack)) d level h shorter)
 
-pub IsUnderWay-close : (circuit : Circuit) (root : ℕ) (visits : List Visit) (stack : List Frame) (frame : Frame) (level : ℕ) → frame.position < length visits → 0 < length stack → frame ≡ get_or stack (length stack - 1) frame → IsStep circuit visits (positions stack) frame.position (Close level) → IsUnderWay circuit root visits stack → IsUnderWay circuit root (set visits frame.position (Level level)) (take (length stack - 1) stack)
+pub IsUnderWay-close : (circuit : Circuit) (root : ℕ) (visits : List Visit) (stack : List Frame) (frame : Frame) (level : ℕ) → frame.position < length visits → 0 < length stack → frame ≡ get_or stack (length stack - 1) frame → IsNextEvent circuit visits (positions stack) frame.position (Close level) → IsUnderWay circuit root visits stack → IsUnderWay circuit root (set visits frame.position (Level level)) (take (length stack - 1) stack)
 IsUnderWay-close circuit root visits stack frame level h more top step way = record {
   knows = subst (Knows circuit (set visits frame.position (Level level))) (sym same) (Knows-close circuit visits (positions stack) frame.position level h (omega (arith, len)) (top-position stack frame more top) step.0 step.1 way.knows);
   path = subst (IsPath circuit root) (sym same) (IsPath-take circuit root (length (positions stack) - 1) (positions stack) (omega arith) way.path);
@@ -280,7 +280,7 @@ IsUnderWay-close circuit root visits stack frame level h more top step way = rec
     same : positions (take (length stack - 1) stack) ≡ take (length (positions stack) - 1) (positions stack)
     same = positions-pop stack
 
-pub IsUnderWay-loop : (circuit : Circuit) (root : ℕ) (visits : List Visit) (stack : List Frame) (frame : Frame) → 0 < length stack → frame ≡ get_or stack (length stack - 1) frame → IsStep circuit visits (positions stack) frame.position Loop → IsUnderWay circuit root visits stack → HasNoLevel circuit (signal_at circuit root)
+pub IsUnderWay-loop : (circuit : Circuit) (root : ℕ) (visits : List Visit) (stack : List Frame) (frame : Frame) → 0 < length stack → frame ≡ get_or stack (length stack - 1) frame → IsNextEvent circuit visits (positions stack) frame.position Loop → IsUnderWay circuit root visits stack → HasNoLevel circuit (signal_at circuit root)
 IsUnderWay-loop circuit root visits stack frame more top step way =
     no_level-stack circuit root (positions stack) frame.position step.0 (omega (arith, length-map stack (λ (f : Frame). f.position))) (top-position stack frame more top) (way.knows.opens step.0 step.1) step.2 way.path
 

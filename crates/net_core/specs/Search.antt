@@ -8,8 +8,8 @@ use Rattle.net_core.specs.declared.levels.Visit.{Visit}
 use Rattle.net_core.specs.declared.levels.Visit.TheVariants.{New, Open, Level}
 use Rattle.net_core.specs.declared.levels.Seen.{Seen}
 use Rattle.net_core.specs.declared.levels.Seen.TheVariants.{Below, Fresh, Above}
-use Rattle.net_core.specs.declared.levels.Step.{Step}
-use Rattle.net_core.specs.declared.levels.Step.TheVariants.{Enter, Close, Loop}
+use Rattle.net_core.specs.declared.levels.SearchEvent.{SearchEvent}
+use Rattle.net_core.specs.declared.levels.SearchEvent.TheVariants.{Enter, Close, Loop}
 use Rattle.net_core.specs.declared.order_fault.OrderFault.{OrderFault}
 use Rattle.net_core.specs.declared.order_fault.OrderFault.TheVariants.{Cycle, TooManyGates, Memory}
 
@@ -90,16 +90,16 @@ IsSeen circuit visits stack s Above = (e : ℕ) × IsAt circuit visits Open s e
 IsSeen circuit visits stack s (Below level) = IsFound circuit (left visits stack) s level
 
 -- what is to be done at a definition on the stack
-abbrev pub IsStep : Circuit → List Visit → List ℕ → ℕ → Step → Type 0
-IsStep circuit visits stack d (Enter e looked) = (e < length circuit.defs)
+abbrev pub IsNextEvent : Circuit → List Visit → List ℕ → ℕ → SearchEvent → Type 0
+IsNextEvent circuit visits stack d (Enter e looked) = (e < length circuit.defs)
     × (visit_of visits e ≡ New)
     × Names circuit (signal_at circuit d) (signal_at circuit e)
     × IsLooked circuit (left visits stack) looked
     × (looked.position ≡ d)
-IsStep circuit visits stack d Loop = (e : ℕ)
+IsNextEvent circuit visits stack d Loop = (e : ℕ)
     × (visit_of visits e ≡ Open)
     × Names circuit (signal_at circuit d) (signal_at circuit e)
-IsStep circuit visits stack d (Close level) = HasLevel circuit (signal_at circuit d) level
+IsNextEvent circuit visits stack d (Close level) = HasLevel circuit (signal_at circuit d) level
     × (level + left visits stack ≤ 2 * length circuit.defs + 1)
 
 -- what each fault says

@@ -3,7 +3,7 @@
 
 ghost use Rattle.std.specs.Prelude.{◌≡◌, ◌+◌, ◌-◌, ◌<◌, [], ◌∷◌, ◌++◌, length, take, vec_len, slice_set, IfOk, IfErr};
 ghost use Rattle.circuits.specs.Circuits.{signals_in};
-ghost use Rattle.net_core.specs.Search.{IsUnderWay, IsReady, IsLooked, Knows, IsSeen, IsStep, IsFaultAt, IsFaultOf, AreAllFound, left, positions};
+ghost use Rattle.net_core.specs.Search.{IsUnderWay, IsReady, IsLooked, Knows, IsSeen, IsNextEvent, IsFaultAt, IsFaultOf, AreAllFound, left, positions};
 ghost use Rattle.net_core.specs.Orders.{AreLevels};
 
 use crate::order_fault::OrderFault;
@@ -41,13 +41,13 @@ enum Seen {
     Above,
 }
 
-/// What is to be done next at a definition.
-enum Step {
-    /// To look at the definition at this place first, and to go on here where the frame says.
+/// What the search meets next at a definition on the stack.
+enum SearchEvent {
+    /// A name that leads on: the definition at this place is looked at first, and then this one from where the frame says.
     Enter { place: usize, looked: Frame },
-    /// To leave the definition, which has this level.
+    /// The end of its names: the definition has this level, and is left.
     Close(u32),
-    /// To give up: the definition names one that is on the stack.
+    /// A name that leads back to a definition on the stack.
     Loop,
 }
 
@@ -79,11 +79,11 @@ impl Search {
 
     /// What is to be done next at a definition on the stack. Its names are looked at from where the frame
     /// says, so that each is looked at twice at most.
-    fn next_step(&self, net: &PlainNet, frame: Frame) -> Step
+    fn next_event(&self, net: &PlainNet, frame: Frame) -> SearchEvent
         requires there { frame.position < length net.now.defs }
         requires looked { IsLooked net.now (left self.now.visits.items (positions self.now.stack.items)) frame }
         requires knows { Knows net.now self.now.visits.items (positions self.now.stack.items) }
-        ensures { IsStep net.now self.now.visits.items (positions self.now.stack.items) frame.position result }
+        ensures { IsNextEvent net.now self.now.visits.items (positions self.now.stack.items) frame.position result }
     {
         let def = net.def_at(frame.position);
         let mut highest = frame.highest;
@@ -96,13 +96,13 @@ impl Search {
                         next,
                         highest,
                     };
-                    return Step::Enter { place, looked };
+                    return SearchEvent::Enter { place, looked };
                 }
-                Seen::Above => return Step::Loop,
+                Seen::Above => return SearchEvent::Loop,
             };
             highest = highest.max(level);
         }
-        Step::Close(highest + 1)
+        SearchEvent::Close(highest + 1)
     }
 
     /// Puts a definition that was not met yet on the stack.
@@ -164,10 +164,10 @@ impl Search {
         ensures fault { IfErr result (IsFaultAt net.now root) }
     {
         let frame = self.stack[self.stack.len() - 1];
-        match self.next_step(net, frame) {
-            Step::Enter { place, looked } => self.descend(looked, place)?,
-            Step::Close(level) => self.close(frame.position, level),
-            Step::Loop => return Err(OrderFault::Cycle(root)),
+        match self.next_event(net, frame) {
+            SearchEvent::Enter { place, looked } => self.descend(looked, place)?,
+            SearchEvent::Close(level) => self.close(frame.position, level),
+            SearchEvent::Loop => return Err(OrderFault::Cycle(root)),
         }
         Ok(())
     }

@@ -2,7 +2,7 @@ use Rattle.std.proofs.Common.{◌+◌, ◌++◌, length, drop, sym, ap, subst, �
 use Rattle.std.proofs.lemmas.List.{drop-append-le}
 use Rattle.account_file.specs.Reading.{Reading, IsReader, HasRead}
 use Rattle.account_file.proofs.ReadingLemmas.{read_feed}
-use Rattle.account_file.proofs.StepLemmas.{reader_fed}
+use Rattle.account_file.proofs.NextLemmas.{reader_fed}
 use Rattle.account_file.proofs.reader.Reader.feed.Goals as goal
 
 pub invariant_of-self-2 : goal.invariant_of-self-2

@@ -3,15 +3,15 @@ use Rattle.std.proofs.Common.{◌≡◌, ◌-◌, ◌<◌, ◌∙◌, ap, refl, 
 use Rattle.net_core.proofs.SearchLaws.{IsUnderWay-enter, IsUnderWay-close, IsUnderWay-loop, top-there, top-looked}
 use Rattle.net_core.proofs.levels.Search.advance.Goals as goal
 
-pub next_step-requires-clause-there : goal.next_step-requires-clause-there
-next_step-requires-clause-there c =
+pub next_event-requires-clause-there : goal.next_event-requires-clause-there
+next_event-requires-clause-there c =
     let stack = c.args.self.now.stack.items in
     let frame = c.index-frame.result.now in
     let at : c.len.result - 1 ≡ length stack - 1 = omega arith in
     top-there c.args.net.now c.args.root c.args.self.now.visits.items stack frame (omega arith) (c.index-frame.ensures ∙ ap (λ n. get_or stack n frame) at) c.requires.under_way
 
-pub next_step-requires-clause-looked : goal.next_step-requires-clause-looked
-next_step-requires-clause-looked c =
+pub next_event-requires-clause-looked : goal.next_event-requires-clause-looked
+next_event-requires-clause-looked c =
     let stack = c.args.self.now.stack.items in
     let frame = c.index-frame.result.now in
     let at : c.len.result - 1 ≡ length stack - 1 = omega arith in

@@ -1,11 +1,11 @@
-//! One step of reading an account's text.
+//! The next record of an account's text.
 
 ghost use Rattle.std.specs.Prelude.{◌≡◌, ◌≤◌, length, count_by};
 ghost use Rattle.std.specs.List.{position_or_len};
 ghost use Rattle.text_core.specs.Bytes.{is_line_feed};
 ghost use Rattle.account_file.specs.Order.{is_output, logs_asked, place_behind, place_in_log};
-ghost use Rattle.account_file.specs.Steps.{line_at, placed, step_of, step_at_end, step_at_line};
-ghost use Rattle.account_file.specs.Texts.{Answers, AnswersStep};
+ghost use Rattle.account_file.specs.NextRecords.{line_at, placed, next_of, next_at_end, next_at_line};
+ghost use Rattle.account_file.specs.Texts.{Answers, AnswersNext};
 
 use crate::fault::{FileStop, RecordFault};
 use crate::forms::read_line;
@@ -19,7 +19,7 @@ use text_core::line_length;
 
 /// What is done with the bytes that are left.
 #[derive(Drop)]
-pub enum Step {
+pub enum NextRecord {
     /// Nothing.
     Wait,
     /// A record is read: n bytes are used, and the account stands there.
@@ -33,24 +33,24 @@ pub enum Step {
 }
 
 /// What is done with the bytes that are left, where the account stands there. No line feed is among the first `looked`.
-pub(crate) fn step_of(
+pub(crate) fn next_of(
     alloc: Global,
     left: &[u8],
     looked: usize,
     finished: bool,
     place: Place,
-) -> Result<Step, FileStop>
+) -> Result<NextRecord, FileStop>
     requires { looked ≤ position_or_len is_line_feed left.now }
-    ensures { AnswersStep result (step_of left.now finished place) }
+    ensures { AnswersNext result (next_of left.now finished place) }
 {
     let end = line_end_behind(left, looked);
     if end < left.len() {
-        return step_at_line(alloc, place, &left[..end]);
+        return next_at_line(alloc, place, &left[..end]);
     }
     if finished {
-        return Ok(step_at_end(place, left));
+        return Ok(next_at_end(place, left));
     }
-    Ok(Step::Wait)
+    Ok(NextRecord::Wait)
 }
 
 // How many bytes stand before the first line feed, where none is among the first `looked`.
@@ -66,35 +66,35 @@ fn line_end_behind(bytes: &[u8], looked: usize) -> usize
 }
 
 // What is done where the bytes end.
-fn step_at_end(place: Place, left: &[u8]) -> Step
-    ensures { result ≡ step_at_end place left.now }
+fn next_at_end(place: Place, left: &[u8]) -> NextRecord
+    ensures { result ≡ next_at_end place left.now }
 {
     match place {
         Place::Ended => {
             if left.is_empty() {
-                Step::Wait
+                NextRecord::Wait
             } else {
-                Step::Refuse(RecordFault::Trailing)
+                NextRecord::Refuse(RecordFault::Trailing)
             }
         }
-        _ => Step::Refuse(RecordFault::Truncated),
+        _ => NextRecord::Refuse(RecordFault::Truncated),
     }
 }
 
 // What is done at a whole line.
-fn step_at_line(alloc: Global, place: Place, line: &[u8]) -> Result<Step, FileStop>
-    ensures { AnswersStep result (step_at_line place line.now) }
+fn next_at_line(alloc: Global, place: Place, line: &[u8]) -> Result<NextRecord, FileStop>
+    ensures { AnswersNext result (next_at_line place line.now) }
 {
     if let Place::Ended = place {
-        return Ok(Step::Refuse(RecordFault::Trailing));
+        return Ok(NextRecord::Refuse(RecordFault::Trailing));
     }
     match line_at(alloc, place, line) {
-        Ok((entry, place)) => Ok(Step::Read {
+        Ok((entry, place)) => Ok(NextRecord::Read {
             entry,
             place,
             used: line.len() + 1,
         }),
-        Err(FileStop::Fault(fault)) => Ok(Step::Refuse(fault)),
+        Err(FileStop::Fault(fault)) => Ok(NextRecord::Refuse(fault)),
         Err(FileStop::Memory) => Err(FileStop::Memory),
     }
 }

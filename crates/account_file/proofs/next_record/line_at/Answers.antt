@@ -1,10 +1,10 @@
 use Rattle.std.proofs.Common.{sym, ap, subst, ◌∙◌}
 use Rattle.account_file.specs.Forms.{record_in}
-use Rattle.account_file.specs.Steps.{in_place}
+use Rattle.account_file.specs.NextRecords.{in_place}
 use Rattle.account_file.specs.Texts.{Answers}
 use Rattle.account_file.specs.Words.{words_of}
-use Rattle.account_file.proofs.StepLemmas.{later_line}
-use Rattle.account_file.proofs.step.line_at.Goals as goal
+use Rattle.account_file.proofs.NextLemmas.{later_line}
+use Rattle.account_file.proofs.next_record.line_at.Goals as goal
 
 pub returns : goal.returns
 returns c =

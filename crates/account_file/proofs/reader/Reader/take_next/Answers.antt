@@ -5,15 +5,15 @@ use Rattle.std.proofs.Math.Seq.{take-length}
 use Rattle.text_core.specs.Bytes.{is_line_feed}
 use Rattle.account_file.specs.Reading.{IsCounted}
 use Rattle.account_file.proofs.ReadingLemmas.{waits}
-use Rattle.account_file.proofs.StepLemmas.{used_within, counted_more}
-use Rattle.account_file.proofs.reader.Reader.step.Goals as goal
+use Rattle.account_file.proofs.NextLemmas.{used_within, counted_more}
+use Rattle.account_file.proofs.reader.Reader.take_next.Goals as goal
 
 pub overflow_add-self : goal.overflow_add-self
 overflow_add-self c =
     let inside = c.self.inside in
     let all = c.deref.result.now in
     let left = take (length all - inside.start) (drop inside.start all) in
-    let used = used_within left inside.finished inside.place c.in-Read.entry c.in-Read.place c.in-Read.used (sym c.in_ok-step_of.ensures ∙ c.in-Read.is) in
+    let used = used_within left inside.finished inside.place c.in-Read.entry c.in-Read.place c.in-Read.used (sym c.in_ok-next_of.ensures ∙ c.in-Read.is) in
     omega (arith, used.1, length-take (length all - inside.start) (drop inside.start all), length-drop inside.start all, c.deref.type_inv.0, c.self.invariant.within, ap length c.deref.ensures.value)
 
 pub invariant_of-self : goal.invariant_of-self
@@ -23,7 +23,7 @@ invariant_of-self c =
     let left = take (length all - inside.start) (drop inside.start all) in
     let held : left ≡ drop inside.start inside.bytes.items =
     ap (λ n. take n (drop inside.start all)) (sym (length-drop inside.start all)) ∙ take-length (drop inside.start all) ∙ ap (drop inside.start) c.deref.ensures.value in
-    let none = waits left inside.finished inside.place (sym c.in_ok-step_of.ensures ∙ c.in-Wait.is) in
+    let none = waits left inside.finished inside.place (sym c.in_ok-next_of.ensures ∙ c.in-Wait.is) in
     record {
       within = c.self.invariant.within;
       no_line_feed = subst (λ l. length left ≤ position_or_len is_line_feed l) held none;
@@ -35,7 +35,7 @@ invariant_of-self-in-Read c =
     let inside = c.self.inside in
     let all = c.deref.result.now in
     let left = take (length all - inside.start) (drop inside.start all) in
-    let used = used_within left inside.finished inside.place c.in-Read.entry c.in-Read.place c.in-Read.used (sym c.in_ok-step_of.ensures ∙ c.in-Read.is) in
+    let used = used_within left inside.finished inside.place c.in-Read.entry c.in-Read.place c.in-Read.used (sym c.in_ok-next_of.ensures ∙ c.in-Read.is) in
     let within : c.in-Read.used ≤ length inside.bytes.items - inside.start = omega (arith, used.1, length-take (length all - inside.start) (drop inside.start all), length-drop inside.start all, ap length c.deref.ensures.value) in
     let rest : length inside.bytes.items - inside.start - c.in-Read.used ≡ length inside.bytes.items - (inside.start + c.in-Read.used) = omega arith in
     record {
@@ -49,6 +49,6 @@ returns-in-Read-clause-shrinks c = λ entry given.
     let inside = c.self.inside in
     let all = c.deref.result.now in
     let left = take (length all - inside.start) (drop inside.start all) in
-    let used = used_within left inside.finished inside.place c.in-Read.entry c.in-Read.place c.in-Read.used (sym c.in_ok-step_of.ensures ∙ c.in-Read.is) in
+    let used = used_within left inside.finished inside.place c.in-Read.entry c.in-Read.place c.in-Read.used (sym c.in_ok-next_of.ensures ∙ c.in-Read.is) in
     let within : c.in-Read.used ≤ length inside.bytes.items - inside.start = omega (arith, used.1, length-take (length all - inside.start) (drop inside.start all), length-drop inside.start all, ap length c.deref.ensures.value) in
     omega (arith, used.0, within, length-drop inside.start inside.bytes.items, length-drop (inside.start + c.in-Read.used) inside.bytes.items, ap (λ reading. length reading.left) c.self.view_is)

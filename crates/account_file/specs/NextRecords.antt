@@ -1,4 +1,4 @@
--- The steps of the reader's code, which contracts of private functions cite; what they come to is said in `Accounts`.
+-- What the reader makes of the bytes that are left, for contracts of private functions; what it comes to is said in `Accounts`.
 use Rattle.std.specs.Prelude.{ℕ, ◌+◌, Bool, List, [], ◌∷◌, codes, length, drop, Option, None, Some, Result, Ok, Err, nat_lt, if◌then◌else◌}
 use Rattle.std.specs.List.{before_first, position_or_len}
 use Rattle.std.specs.Str.{bytes_eq}
@@ -9,8 +9,8 @@ use Rattle.account_file.specs.declared.fault.RecordFault.{RecordFault}
 use Rattle.account_file.specs.declared.fault.RecordFault.TheVariants as fault
 use Rattle.account_file.specs.declared.place.Place.{Place}
 use Rattle.account_file.specs.declared.place.Place.TheVariants.{Start, Headed, Ended}
-use Rattle.account_file.specs.declared.step.Step.{Step}
-use Rattle.account_file.specs.declared.step.Step.TheVariants.{Wait, Read, Refuse}
+use Rattle.account_file.specs.declared.next_record.NextRecord.{NextRecord}
+use Rattle.account_file.specs.declared.next_record.NextRecord.TheVariants.{Wait, Read, Refuse}
 use Rattle.account_file.specs.Forms.{record_in}
 use Rattle.account_file.specs.Words.{words_of}
 use Rattle.account_file.specs.Order.{place_behind}
@@ -33,32 +33,32 @@ line_at place line = in_place place (record_in (words_of line))
 abbrev pub has_line : List ℕ → Bool
 has_line left = nat_lt (position_or_len is_line_feed left) (length left)
 
-abbrev pub step_by : ℕ → Result (Record × Place) RecordFault → Step
-step_by used (Ok found) = Read found.0 found.1 used
-step_by used (Err fault) = Refuse fault
+abbrev pub next_from : ℕ → Result (Record × Place) RecordFault → NextRecord
+next_from used (Ok found) = Read found.0 found.1 used
+next_from used (Err fault) = Refuse fault
 
 -- what is done at a whole line, and where the bytes end
-abbrev pub step_at_line : Place → List ℕ → Step
-step_at_line Ended line = Refuse fault.Trailing
-step_at_line place line = step_by (length line + 1) (line_at place line)
+abbrev pub next_at_line : Place → List ℕ → NextRecord
+next_at_line Ended line = Refuse fault.Trailing
+next_at_line place line = next_from (length line + 1) (line_at place line)
 
-abbrev pub step_at_end : Place → List ℕ → Step
-step_at_end Ended [] = Wait
-step_at_end Ended (byte ∷ left) = Refuse fault.Trailing
-step_at_end place left = Refuse fault.Truncated
+abbrev pub next_at_end : Place → List ℕ → NextRecord
+next_at_end Ended [] = Wait
+next_at_end Ended (byte ∷ left) = Refuse fault.Trailing
+next_at_end place left = Refuse fault.Truncated
 
-abbrev pub step_of : List ℕ → Bool → Place → Step
-step_of left finished place =
-    if has_line left then step_at_line place (before_first is_line_feed left)
-    else if finished then step_at_end place left else Wait
+abbrev pub next_of : List ℕ → Bool → Place → NextRecord
+next_of left finished place =
+    if has_line left then next_at_line place (before_first is_line_feed left)
+    else if finished then next_at_end place left else Wait
 
--- what a step answers, and leaves
-abbrev pub answer_by : Step → Result (Option Record) RecordFault
+-- what it answers, and leaves
+abbrev pub answer_by : NextRecord → Result (Option Record) RecordFault
 answer_by Wait = Ok None
 answer_by (Read entry place used) = Ok (Some entry)
 answer_by (Refuse fault) = Err fault
 
-abbrev pub reading_behind : Reading → Step → Reading
+abbrev pub reading_behind : Reading → NextRecord → Reading
 reading_behind reading Wait = reading
 reading_behind reading (Read entry place used) =
     record reading { left = drop used reading.left; line = reading.line + 1; place = place }
@@ -66,9 +66,9 @@ reading_behind reading (Refuse fault) = record reading { line = reading.line + 1
 
 -- after a fault it is given again
 abbrev pub next_answer : Option RecordFault → Reading → Result (Option Record) RecordFault
-next_answer None reading = answer_by (step_of reading.left reading.finished reading.place)
+next_answer None reading = answer_by (next_of reading.left reading.finished reading.place)
 next_answer (Some fault) reading = Err fault
 
 abbrev pub next_reading : Option RecordFault → Reading → Reading
-next_reading None reading = reading_behind reading (step_of reading.left reading.finished reading.place)
+next_reading None reading = reading_behind reading (next_of reading.left reading.finished reading.place)
 next_reading (Some fault) reading = reading

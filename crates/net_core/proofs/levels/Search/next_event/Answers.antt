@@ -3,9 +3,9 @@ use Rattle.std.proofs.Common.{ℕ, ◌≡◌, ◌+◌, ◌<◌, ◌∙◌, max, 
 use Rattle.circuits.specs.declared.definition.Def.{Def}
 use Rattle.circuits.specs.Circuits.{Circuit, def_at, names_of, named_by}
 use Rattle.circuits.specs.Levels.{HaveLevel}
-use Rattle.net_core.proofs.SearchLaws.{step_close, HaveLevel-next}
+use Rattle.net_core.proofs.SearchLaws.{event_close, HaveLevel-next}
 use Rattle.net_core.specs.Search.{IsFound, left, positions}
-use Rattle.net_core.proofs.levels.Search.next_step.Goals as goal
+use Rattle.net_core.proofs.levels.Search.next_event.Goals as goal
 
 -- what was looked at, with the name at the next place
 looked_more : (circuit : Circuit) (def : Def) (steps d n s l m level : ℕ) → def ≡ def_at circuit d → n < length (named_by def) → s ≡ get_or (named_by def) n s → HaveLevel circuit (take n (names_of circuit d)) l → IsFound circuit steps s m → level ≡ max l m → HaveLevel circuit (take (n + 1) (names_of circuit d)) level
@@ -22,4 +22,4 @@ loop-next-preserved c =
 
 pub returns : goal.returns
 returns c =
-    step_close c.args.net.now c.args.self.now.visits.items (positions c.args.self.now.stack.items) c.args.frame.position c.loop-next.next c.loop-next.highest (c.loop-next.highest + 1) (omega arith) c.requires.there (omega (arith, ap (λ (x : Def). length (named_by x)) c.def_at-def.ensures.value)) c.loop-next.invariant.have c.loop-next.invariant.few
+    event_close c.args.net.now c.args.self.now.visits.items (positions c.args.self.now.stack.items) c.args.frame.position c.loop-next.next c.loop-next.highest (c.loop-next.highest + 1) (omega arith) c.requires.there (omega (arith, ap (λ (x : Def). length (named_by x)) c.def_at-def.ensures.value)) c.loop-next.invariant.have c.loop-next.invariant.few
