@@ -1,12 +1,8 @@
 -- Report texts: where each port of a circuit goes, and which line of an account is rejected (this project's own texts).
-use Rattle.std.specs.Prelude.{◌≡◌, ℕ, ◌+◌, Bool, List, [], ◌∷◌, ◌++◌, length, take, codes, if◌then◌else◌, slice_index_or}
+use Rattle.std.specs.Prelude.{◌≡◌, ℕ, ◌+◌, Bool, List, [], ◌∷◌, ◌++◌, codes, if◌then◌else◌, slice_index_or}
 use Rattle.std.specs.Fmt.{decimal}
 use Rattle.net_file.specs.declared.named.Named.{Named}
 use Rattle.net_core.specs.declared.matching.Matching.{Matching}
-
--- what stood there stands in front of what stands there now
-abbrev pub Extends : List ℕ → List ℕ → Type 0
-Extends old new = take (length old) new ≡ old
 
 -- a port by its kind, its number and its name: `input 0 a`
 abbrev pub port_text : List ℕ → ℕ → List ℕ → List ℕ
@@ -18,12 +14,14 @@ port_among kind names port = port_text kind port (slice_index_or names port [])
 
 -- where a port of the first circuit goes: `input 0 a = not input 1 b`, on a line of its own
 abbrev pub entry_line : List ℕ → List (List ℕ) → List (List ℕ) → ℕ → ℕ × Bool → List ℕ
-entry_line kind firsts seconds port entry = port_among kind firsts port ++ codes " = " ++ (if entry.1 then codes "not " else []) ++ port_among kind seconds entry.0 ++ 10 ∷ []
+entry_line kind firsts seconds port entry =
+    port_among kind firsts port ++ codes " = " ++ (if entry.1 then codes "not " else []) ++ port_among kind seconds entry.0 ++ 10 ∷ []
 
 -- the lines of the ports from `port` on
 abbrev pub entry_lines : List ℕ → List (List ℕ) → List (List ℕ) → ℕ → List (ℕ × Bool) → List ℕ
 entry_lines kind firsts seconds port [] = []
-entry_lines kind firsts seconds port (entry ∷ entries) = entry_line kind firsts seconds port entry ++ entry_lines kind firsts seconds (port + 1) entries
+entry_lines kind firsts seconds port (entry ∷ entries) =
+    entry_line kind firsts seconds port entry ++ entry_lines kind firsts seconds (port + 1) entries
 
 -- the names of a circuit's ports, in their order
 pub record PortNames : Type 0 where

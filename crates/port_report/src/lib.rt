@@ -2,7 +2,6 @@
 #![tactic(auto)]
 
 mod info;
-mod pieces;
 mod rejected;
 mod table;
 

@@ -1,9 +1,10 @@
 ghost use Rattle.std.specs.Prelude.{◌≡◌, [], ◌∷◌, ◌++◌, OnOk, OnErr};
 ghost use Rattle.std.specs.Fmt.{decimal};
-ghost use Rattle.port_report.specs.Reports.{Extends, rejected_text};
+ghost use Rattle.port_report.specs.Reports.{rejected_text};
+ghost use Rattle.text_out.specs.Extends.{Extends};
 
-use crate::pieces::{put_last_word, put_number, put_text};
 use std::alloc::AllocError;
+use text_out::{put_last_word, put_number, put_text};
 
 /// Writes at the end of `out` that an account is rejected: the number of its first line that is wrong, counted from 1,
 /// and the word for what is wrong there. When out of memory,
@@ -16,7 +17,7 @@ pub fn put_rejected(line: u64, word: &str, out: &mut Vec<u8>) -> Result<(), Allo
 }
 
 // Writes a line of a text, a number and a word.
-#[tactic(auto, using(crate::proofs::Extending::extends_same, crate::proofs::Extending::extends_twice))]
+#[tactic(auto, using(text_out::proofs::Extending::extends_same, text_out::proofs::Extending::extends_twice))]
 fn put_line(text: &[u8], number: u64, word: &[u8], out: &mut Vec<u8>) -> Result<(), AllocError>
     ensures ok { OnOk result (out.new.items ≡ out.old.items ++ (text.now ++ decimal number ++ 32 ∷ word.now ++ 10 ∷ [])) }
     ensures kept { Extends out.old.items out.new.items }

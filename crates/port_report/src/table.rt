@@ -1,16 +1,17 @@
 ghost use Rattle.std.specs.Prelude.{◌≡◌, ◌<◌, ◌≤◌, [], ◌∷◌, ◌++◌, length, codes, if◌then◌else◌, All, OnOk, OnErr};
 ghost use Rattle.circuits.specs.Bijections.{IsSignedBijection};
-ghost use Rattle.port_report.specs.Reports.{Extends, port_among, entry_line, entry_lines, match_text, names_of};
+ghost use Rattle.port_report.specs.Reports.{port_among, entry_line, entry_lines, match_text, names_of};
+ghost use Rattle.text_out.specs.Extends.{Extends};
 
-use crate::pieces::{put_number, put_text, put_word};
 use net_core::Matching;
 use net_file::{Name, Named};
 use std::alloc::AllocError;
+use text_out::{put_number, put_text, put_word};
 
 /// Writes at the end of `out` where each port of the first circuit goes: a line for each input in order, then one for
 /// each output, as `input 0 a = not input 1 b`. Names are written byte for byte.
 /// When out of memory, a first part of the lines may stand after what stood in `out`.
-#[tactic(auto, using(crate::proofs::Extending::extends_same, crate::proofs::Extending::extends_twice))]
+#[tactic(auto, using(text_out::proofs::Extending::extends_same, text_out::proofs::Extending::extends_twice))]
 pub fn put_match(
     first: &Named,
     second: &Named,
@@ -41,7 +42,7 @@ pub fn put_match(
 }
 
 // Writes where each port of a kind goes, on a line of its own.
-#[tactic(auto, using(crate::proofs::Extending::extends_same, crate::proofs::Extending::extends_twice))]
+#[tactic(auto, using(text_out::proofs::Extending::extends_same, text_out::proofs::Extending::extends_twice))]
 fn put_entries(
     kind: &[u8],
     firsts: &[Name],
@@ -60,7 +61,7 @@ fn put_entries(
     Ok(())
 }
 
-#[tactic(auto, using(crate::proofs::Extending::extends_same, crate::proofs::Extending::extends_twice))]
+#[tactic(auto, using(text_out::proofs::Extending::extends_same, text_out::proofs::Extending::extends_twice))]
 fn put_entry(
     kind: &[u8],
     firsts: &[Name],
@@ -80,7 +81,7 @@ fn put_entry(
 }
 
 // Writes where a port goes, to the end of its line.
-#[tactic(auto, using(crate::proofs::Extending::extends_same, crate::proofs::Extending::extends_twice))]
+#[tactic(auto, using(text_out::proofs::Extending::extends_same, text_out::proofs::Extending::extends_twice))]
 fn put_place(
     kind: &[u8],
     seconds: &[Name],
@@ -104,7 +105,7 @@ fn sign(inverted: bool) -> &'static [u8]
 }
 
 // Writes a port by its kind, its number and its name.
-#[tactic(auto, using(crate::proofs::Extending::extends_same, crate::proofs::Extending::extends_twice))]
+#[tactic(auto, using(text_out::proofs::Extending::extends_same, text_out::proofs::Extending::extends_twice))]
 pub(crate) fn put_port(
     kind: &[u8],
     names: &[Name],

@@ -1,7 +1,8 @@
 -- What is written and the rows that are left make the whole, and what stood there stays.
 use Rattle.std.proofs.Common.{◌≡◌, ◌++◌, drop}
 use Rattle.port_report.specs.Infos.{output_texts}
-use Rattle.port_report.specs.Reports.{Extends, names_of}
+use Rattle.port_report.specs.Reports.{names_of}
+use Rattle.text_out.specs.Extends.{Extends}
 use Rattle.port_report.proofs.info.put_outputs.Given as goal
 
 abbrev pub invariant-loop-port : goal.invariant-loop-port
