@@ -26,14 +26,16 @@ IsReference given pairs pair (Some ban) =
     (IsImpossible pairs pair → ⊥) × All (Contains (pair ∷ pairs)) (ban_at given ban)
 
 -- The ports exist, and the bans were given.
-pub record AreCoverNames (graphs : Graphs) (given : Given) (kind : PortKind) (from to : List ℕ) (refs : List (Option ℕ)) : Type 0 where
+pub record AreCoverNames (graphs : Graphs) (given : Given) (kind : PortKind)
+    (from to : List ℕ) (refs : List (Option ℕ)) : Type 0 where
   pub first_ports : All (λ port. port < ports_in graphs.first kind) from
   pub second_ports : All (λ port. port < ports_in graphs.second kind) to
   pub given_bans : (ban : ℕ) → Contains refs (Some ban) → IsBanGiven given ban
 
 -- Both lists ascend, they have more ports than there are of the kind, so that some port of `from` goes to one of `to`; and there
 -- is a reference for each way.
-pub record IsCover (graphs : Graphs) (given : Given) (pairs : List Pair) (kind : PortKind) (from to : List ℕ) (refs : List (Option ℕ)) : Type 0 where
+pub record IsCover (graphs : Graphs) (given : Given) (pairs : List Pair) (kind : PortKind)
+    (from to : List ℕ) (refs : List (Option ℕ)) : Type 0 where
   pub from_ascends : Ascend from
   pub to_ascends : Ascend to
   pub too_many : ports_in graphs.first kind < length from + length to

@@ -188,8 +188,8 @@ front_two (x ∷ []) long = absurd (omega (arith, long))
 front_two (x ∷ y ∷ xs) long = refl
 
 -- what is left after the first two
-pub behind_two : (xs : List ℕ) → take (length xs - 2) (drop 2 xs) ≡ drop 2 xs
-behind_two xs = take_all (length xs - 2) (drop 2 xs) (omega (arith, length-drop 2 xs))
+pub after_two : (xs : List ℕ) → take (length xs - 2) (drop 2 xs) ≡ drop 2 xs
+after_two xs = take_all (length xs - 2) (drop 2 xs) (omega (arith, length-drop 2 xs))
 
 -- fewer than two are left
 pub twos_end : (P : Type 0) (given : Given) (least : ℕ) (left : List ℕ) (none : Bool) → length left < 2 → none ≡ (length left == 0) → (GoOverTwice least (shapes_of given left) ↔ P) → IsTrue none ↔ P

@@ -85,16 +85,16 @@ fn are_referred(
 {
     let mut left = refs;
     for port in from.iter() {
-        let Some(behind) = behind_row(given, pairs, kind, *port, to, left) else {
+        let Some(rest) = after_row(given, pairs, kind, *port, to, left) else {
             return false;
         };
-        left = behind;
+        left = rest;
     }
     left.is_empty()
 }
 
 // What is left of references after those for one port of `from`, if these are there.
-fn behind_row<'a>(
+fn after_row<'a>(
     given: &Given,
     pairs: &[Pair],
     kind: PortKind,
@@ -108,7 +108,7 @@ fn behind_row<'a>(
 {
     let mut left = refs;
     for other in to.iter() {
-        let [plain, negated, behind @ ..] = left else {
+        let [plain, negated, rest @ ..] = left else {
             return None;
         };
         let fit = is_reference(given, pairs, way(kind, port, *other, false), *plain)
@@ -116,7 +116,7 @@ fn behind_row<'a>(
         if !fit {
             return None;
         }
-        left = behind;
+        left = rest;
     }
     Some(left)
 }

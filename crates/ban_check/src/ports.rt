@@ -2,7 +2,6 @@
 
 ghost use Rattle.std.specs.Prelude.{◌≡◌, ◌↔◌, All, IsTrue};
 ghost use Rattle.account_core.specs.Ports.{ports_in, AreOrdered, HaveAsMany, IsKnown, StandInOrder};
-ghost use Rattle.query_core.specs.Images.{is_of, pair_of};
 
 use circuits::{Pair, PortKind};
 use net_core::{Graph, Graphs};
@@ -45,7 +44,7 @@ pub fn are_ordered(pairs: &[Pair]) -> bool
     ensures { IsTrue result ↔ AreOrdered pairs.now }
 {
     for k in 0..pairs.len() {
-        if !stands_behind(&pairs[..k], pairs[k]) {
+        if !stands_after(&pairs[..k], pairs[k]) {
             return false;
         }
     }
@@ -53,7 +52,7 @@ pub fn are_ordered(pairs: &[Pair]) -> bool
 }
 
 // Whether a pair may stand after others.
-fn stands_behind(before: &[Pair], pair: Pair) -> bool
+fn stands_after(before: &[Pair], pair: Pair) -> bool
     ensures { IsTrue result ↔ All (λ other. StandInOrder other pair) before.now }
 {
     before.iter().all(|other| stand_in_order(*other, pair))
@@ -67,25 +66,6 @@ fn stand_in_order(one: Pair, other: Pair) -> bool
         return one.kind == PortKind::Input;
     }
     (one.from < other.from) & (one.to != other.to)
-}
-
-/// The first pair of a port of the first circuit.
-pub(crate) fn pair_of(pairs: &[Pair], kind: PortKind, port: u32) -> Option<Pair>
-    ensures { result ≡ pair_of pairs.now kind port }
-{
-    for pair in pairs.iter() {
-        if is_of(*pair, kind, port) {
-            return Some(*pair);
-        }
-    }
-    None
-}
-
-// Whether a pair is of a port of the first circuit.
-fn is_of(pair: Pair, kind: PortKind, port: u32) -> bool
-    ensures { result ≡ is_of kind port pair }
-{
-    (pair.kind == kind) & (pair.from == port)
 }
 
 /// Whether two pairs are the same.

@@ -8,12 +8,12 @@ ghost use Rattle.account_core.specs.Steps.{AreNamesKnown, HasShown, KeepsRule};
 use crate::covers::{are_cover_names, is_cover};
 use crate::given::Given;
 use crate::mismatches::is_mismatch;
-use crate::ports::pair_of;
 use crate::tallies::is_tally;
 use crate::vectors::shows_difference;
 use account_core::Step;
 use circuits::{Pair, PortKind};
 use net_core::Graphs;
+use query_core::pair_of;
 use std::alloc::{AllocError, Global};
 
 /// Whether the output, the ports, the facts and the bans are there that a step names.

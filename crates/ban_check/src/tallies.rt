@@ -122,7 +122,7 @@ fn go_over_twice(given: &Given, numbers: &[u64]) -> bool
 {
     let mut least = 0;
     let mut left = numbers;
-    while let [up, down, behind @ ..] = left {
+    while let [up, down, rest @ ..] = left {
         let one = given.fact(*up).claim.shape;
         let other = given.fact(*down).claim.shape;
         let Some(twin) = twin_input(one, other) else {
@@ -132,7 +132,7 @@ fn go_over_twice(given: &Given, numbers: &[u64]) -> bool
             return false;
         }
         least = u64::from(twin) + 1;
-        left = behind;
+        left = rest;
     }
     left.is_empty()
 }

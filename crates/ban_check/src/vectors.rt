@@ -6,10 +6,10 @@ ghost use Rattle.word_sim.specs.ThreeValues.{tri_outputs};
 ghost use Rattle.account_core.specs.Ports.{IsKnown};
 ghost use Rattle.account_core.specs.Vectors.{signed, value_at, value_sent, values_sent, ShowsDifference};
 
-use crate::ports::pair_of;
 use circuits::{Pair, PortKind};
 use items::Items;
 use net_core::{Graph, Graphs};
+use query_core::pair_of;
 use std::alloc::{AllocError, Global};
 use word_sim::{Tri, tri_eval};
 

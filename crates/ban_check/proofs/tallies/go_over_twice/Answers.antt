@@ -5,7 +5,7 @@ use Rattle.account_core.specs.Given.{fact_at}
 use Rattle.account_core.specs.Tallies.{shapes_of}
 use Rattle.ban_check.specs.Counted.{twin_input, GoOverTwice}
 use Rattle.ban_check.proofs.BoolLemmas.{refused}
-use Rattle.ban_check.proofs.CountLemmas.{behind_two, front_two, twos_below, twos_end, twos_step, twos_stop}
+use Rattle.ban_check.proofs.CountLemmas.{after_two, front_two, twos_below, twos_end, twos_step, twos_stop}
 use Rattle.ban_check.proofs.tallies.go_over_twice.Goals as goal
 
 pub returns-in_default-twin_input : goal.returns-in_default-twin_input
@@ -39,7 +39,7 @@ loop-left-preserved c =
     let step = twos_step (GoOverTwice 0 (shapes_of given c.args.numbers.now)) c.loop-left.least c.in-Some.twin one other (shapes_of given (drop 2 left)) (shapes_of given left) is told (omega (arith, c.if-from-least.false, c.from.ensures)) c.loop-left.invariant in
     let goal_at = λ (n : ℕ). GoOverTwice (n + 1) (shapes_of given (drop 2 left)) ↔ GoOverTwice 0 (shapes_of given c.args.numbers.now) in
     let done = subst goal_at (sym c.from-least.ensures) step in
-    subst (λ l. GoOverTwice (c.from-least.result + 1) (shapes_of given l) ↔ GoOverTwice 0 (shapes_of given c.args.numbers.now)) (sym (behind_two left)) done
+    subst (λ l. GoOverTwice (c.from-least.result + 1) (shapes_of given l) ↔ GoOverTwice 0 (shapes_of given c.args.numbers.now)) (sym (after_two left)) done
 
 pub returns : goal.returns
 returns c = twos_end (GoOverTwice 0 (shapes_of c.args.given.now c.args.numbers.now)) c.args.given.now c.loop-left.least c.loop-left.left.now c.is_empty.result c.in_default.len_below c.is_empty.ensures c.loop-left.invariant

@@ -3,7 +3,7 @@ use Rattle.std.proofs.Common.{◌+◌, drop}
 use Rattle.account_core.specs.Covers.{IsReference}
 use Rattle.ban_check.proofs.BoolLemmas.{front}
 use Rattle.ban_check.proofs.CoverLemmas.{references_short}
-use Rattle.ban_check.proofs.covers.behind_row.Goals as goal
+use Rattle.ban_check.proofs.covers.after_row.Goals as goal
 
 pub returns-in_default : goal.returns-in_default
 returns-in_default c more =
