@@ -29,7 +29,7 @@ pub fn add(needed: &mut Vec<Pair>, pair: Pair) -> Result<(), AllocError>
 fn place_of(pairs: &[Pair], pair: Pair) -> usize
     ensures within { result ≤ length pairs.now }
     ensures before { All (λ other. StandsBefore other pair) (take result pairs.now) }
-    ensures behind { (d : AnyPair) → result < length pairs.now
+    ensures after { (d : AnyPair) → result < length pairs.now
         → StandsBefore (slice_index_or pairs.now result d) pair → ⊥ }
 {
     for (place, other) in pairs.iter().enumerate() {

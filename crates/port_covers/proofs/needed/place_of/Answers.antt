@@ -6,8 +6,8 @@ use Rattle.circuits.specs.declared.port.Pair.{Pair}
 use Rattle.port_covers.specs.Held.{StandsBefore}
 use Rattle.port_covers.proofs.needed.place_of.Goals as goal
 
-pub returns-then-not-stands_before-clause-behind : goal.returns-then-not-stands_before-clause-behind
-returns-then-not-stands_before-clause-behind c =
+pub returns-then-not-stands_before-clause-after : goal.returns-then-not-stands_before-clause-after
+returns-then-not-stands_before-clause-after c =
     λ d below before. false≢true (sym c.if-not-stands_before.true ∙ c.stands_before.ensures.1 (subst (λ (p : Pair). StandsBefore p c.args.pair) (get_or_default c.args.pairs.now c.loop-place.place d _ below) before))
 
 pub loop-place-preserved : goal.loop-place-preserved
