@@ -19,6 +19,9 @@ pub enum Reason {
     Clash(Pair),
     /// The ban of this number has no other pairs than this one and held ones.
     Ban(u64),
+    /// The held pair is of the other kind, and two facts tell the two apart: the one says that a claim fails, the other one that
+    /// the claim which the pairs carry it to holds, or which they carry to it. The facts are named by their numbers.
+    Mismatch { with: Pair, fails: u64, holds: u64 },
 }
 
 /// What became of a pair.

@@ -101,6 +101,7 @@ held_before es place index e apart below is held within there =
 pub named_later : (before added after : List Ban) (pairs : List Pair) (pair : Pair) (why : Reason) → after ≡ before ++ added → AreNamed before pairs pair why → AreNamed after pairs pair why
 named_later before added after pairs pair (reason.Clash with) more is = is
 named_later before added after pairs pair (reason.Ban number) more is = covers_later before added after (pair ∷ pairs) number more is
+named_later before added after pairs pair (reason.Mismatch with fails holds) more is = is
 
 fate_later : (n m : ℕ) (before added after : List Ban) (es : List Entry) (pair : Pair) (fate : Fate) → after ≡ before ++ added → IsJustified n m before es pair fate → IsJustified n m after es pair fate
 fate_later n m before added after es pair (Held Choice) more is = is

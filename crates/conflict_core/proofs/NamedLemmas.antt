@@ -29,6 +29,7 @@ within_more few more way ban stays is = record { among = All-weaker (Contains (w
 pub named_more : (bans : List Ban) (few more : List Pair) (way : Pair) (why : Reason) → All (Contains more) few → AreNamed bans few way why → AreNamed bans more way why
 named_more bans few more way (reason.Clash with) stays is = (All-contains (Contains more) few with stays is.0, is.1)
 named_more bans few more way (reason.Ban number) stays is = record { held = is.held; within = λ d. within_more few more way _ stays (is.within d) }
+named_more bans few more way (reason.Mismatch with fails holds) stays is = All-contains (Contains more) few with stays is
 
 pub gathered_more : (bans : List Ban) (entries : List Entry) (few more : List Pair) (way : Pair) → All (Contains more) few → IsGathered bans entries few way → IsGathered bans entries more way
 gathered_more bans entries few more way stays (inl impossible) = inl (any_more (λ (x : Pair). Clash x way) few more stays impossible)

@@ -10,8 +10,8 @@ use Rattle.class_refine.specs.declared.entry.Entry.{Entry}
 use Rattle.class_refine.specs.Trails.{held_in}
 use Rattle.conflict_core.specs.declared.conflict.Conflict.{Conflict}
 use Rattle.conflict_core.specs.Conflicts.{IsConflict, IsLastOf}
-use Rattle.port_covers.specs.Levels.{HoldsMore}
-use Rattle.port_covers.proofs.BookLemmas.{holds_none, holds_twice}
+use Rattle.conflict_core.specs.Grounded.{LearnsMore}
+use Rattle.conflict_core.proofs.GroundedLemmas.{learns_none, learns_twice}
 
 -- none of the held pairs from a place on, of the first ones, is one of some
 pub record ArePassed (held pairs : List Pair) (left limit : ℕ) : Type 0 where
@@ -44,13 +44,13 @@ passed_all held pairs left limit all few are k d below there =
 pub record IsResolving (graphs : Graphs) (entries : List Entry) (before now : List Ban) (conflict : Conflict) (limit : ℕ) : Type 0 where
   pub within : limit ≤ length (held_in entries)
   pub conflict_is : IsConflict now (take limit (held_in entries)) conflict
-  pub more : HoldsMore graphs before now
+  pub more : LearnsMore graphs entries before now
 
 pub resolving_start : (graphs : Graphs) (entries : List Entry) (bans : List Ban) (conflict : Conflict) (limit : ℕ) → limit ≡ length (held_in entries) → IsConflict bans (held_in entries) conflict → IsResolving graphs entries bans bans conflict limit
 resolving_start graphs entries bans conflict limit all is = record {
   within = omega (arith, all);
   conflict_is = subst (λ (l : List Pair). IsConflict bans l conflict) (sym (take_all limit (held_in entries) (omega (arith, all)))) is;
-  more = holds_none graphs bans;
+  more = learns_none graphs entries bans;
 }
 
 in_front : (held : List Pair) (limit : ℕ) (pair : Pair) → Contains (take limit held) pair → Contains held pair
@@ -87,11 +87,11 @@ resolving_at graphs entries before now conflict limit last is last_is = record {
   covers = is.conflict_is.covers;
 }
 
-pub resolving_on : (graphs : Graphs) (entries : List Entry) (before now next : List Ban) (conflict other : Conflict) (limit last : ℕ) → IsResolving graphs entries before now conflict limit → last < limit → HoldsMore graphs now next → IsConflict next (take last (held_in entries)) other → IsResolving graphs entries before next other last
+pub resolving_on : (graphs : Graphs) (entries : List Entry) (before now next : List Ban) (conflict other : Conflict) (limit last : ℕ) → IsResolving graphs entries before now conflict limit → last < limit → LearnsMore graphs entries now next → IsConflict next (take last (held_in entries)) other → IsResolving graphs entries before next other last
 resolving_on graphs entries before now next conflict other limit last is less more there = record {
   within = omega (arith, less, is.within);
   conflict_is = there;
-  more = holds_twice graphs before now next is.more more;
+  more = learns_twice graphs entries before now next is.more more;
 }
 
 -- what is left of a conflict without its latest pair

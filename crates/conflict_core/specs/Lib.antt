@@ -2,6 +2,7 @@ pub mod Named
 pub mod Resolutions
 pub mod Conflicts
 pub mod Justified
+pub mod Grounded
 pub mod Pivots
 pub use Rattle.class_refine.specs.Trails
 pub use Rattle.port_covers.specs.Held

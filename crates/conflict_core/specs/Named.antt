@@ -16,6 +16,7 @@ use Rattle.conflict_core.specs.declared.port.Port.{Port}
 abbrev pub AreNamed : List Ban → List Pair → Pair → Reason → Type 0
 AreNamed bans pairs pair (reason.Clash with) = Contains pairs with × Clash with pair
 AreNamed bans pairs pair (reason.Ban number) = Covers bans (pair ∷ pairs) number
+AreNamed bans pairs pair (reason.Mismatch with fails holds) = Contains pairs with
 
 abbrev pub deleted : Pair → Reason → Entry
 deleted pair why = record { pair = pair; fate = Deleted why }

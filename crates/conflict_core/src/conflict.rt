@@ -3,13 +3,14 @@
 ghost use Rattle.std.specs.Prelude.{◌≡◌, ◌<◌, ◌∷◌, All, AllPairs, Contains, IfOk, IfSome, OnOk};
 ghost use Rattle.ban_book.specs.Covering.{Covers};
 ghost use Rattle.port_covers.specs.Held.{AreApart, AreHeld, IsPart};
-ghost use Rattle.port_covers.specs.Levels.{HoldsMore};
 ghost use Rattle.class_refine.specs.Trails.{ports_of};
 ghost use Rattle.conflict_core.specs.Conflicts.{FitPorts, IsConflict};
+ghost use Rattle.conflict_core.specs.Grounded.{LearnsMore};
 ghost use Rattle.conflict_core.specs.Named.{EachWay, IsLeftOutOr, IsNamedIn};
 ghost use Rattle.conflict_core.specs.Resolutions.{left_out};
 
 use crate::gather::gather;
+use crate::mismatch::Mismatches;
 use crate::port::{Port, Resolved};
 use crate::refer::refer;
 use account_core::Ban;
@@ -38,6 +39,7 @@ pub fn cover_port(
     port: Port,
     resolved: Option<Resolved>,
     pairs: Vec<Pair>,
+    made: &mut Mismatches,
     book: &mut BanBook,
 ) -> Result<Conflict, AllocError>
     requires fit { FitPorts graphs.now domains.now.inputs domains.now.outputs }
@@ -47,7 +49,7 @@ pub fn cover_port(
         (λ way. IsLeftOutOr (left_out resolved) way (IsNamedIn book.old domains.now.entries held.now way)) }
     requires part { IsPart held.now pairs.items }
     requires resolved { IfSome resolved (λ it. Covers book.old (it.way ∷ pairs.items) it.ban) }
-    ensures more { HoldsMore graphs.now book.old book.new }
+    ensures more { LearnsMore graphs.now domains.now.entries book.old book.new }
     ensures conflict { IfOk result (IsConflict book.new held.now) }
 {
     let mut pairs = pairs;
@@ -59,7 +61,7 @@ pub fn cover_port(
         way_of(resolved),
         &mut pairs,
     )?;
-    let level = refer(alloc, domains, book.bans(), port, &pairs, resolved)?;
+    let level = refer(alloc, graphs, domains, port, &pairs, resolved, made, book)?;
     let ban = hold_cover(alloc, graphs, &pairs, level, book)?;
     Ok(Conflict { pairs, ban })
 }

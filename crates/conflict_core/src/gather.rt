@@ -114,5 +114,6 @@ fn add_named(
     match reason {
         Reason::Clash(with) => add_one(conflict, held, with),
         Reason::Ban(ban) => add_others(conflict, held, way, &bans[ban as usize].pairs),
+        Reason::Mismatch { with, .. } => add_one(conflict, held, with),
     }
 }

@@ -4,11 +4,13 @@
 mod conflict;
 mod gather;
 mod learned;
+mod mismatch;
 mod port;
 mod refer;
 mod resolution;
 
 pub use conflict::{Conflict, conflict_of_ban, cover_port};
 pub use learned::{Back, Learned};
+pub use mismatch::Mismatches;
 pub use port::{Port, Resolved};
 pub use resolution::resolve;

@@ -5,41 +5,48 @@ ghost use Rattle.account_core.specs.Covers.{IsImpossible};
 ghost use Rattle.ban_book.specs.Covering.{Covers};
 ghost use Rattle.port_covers.specs.Levels.{AreClosed, IsClosed};
 ghost use Rattle.class_refine.specs.Trails.{IsPairOf, ports_of};
+ghost use Rattle.conflict_core.specs.Grounded.{LearnsMore};
 ghost use Rattle.conflict_core.specs.Named.{EachWay, IsGathered, IsLeftOutOr, IsNamedIn};
 ghost use Rattle.conflict_core.specs.Resolutions.{IsLevelOf, left_out};
 
 use crate::gather::is_impossible;
+use crate::mismatch::{Mismatches, hold_mismatch};
 use crate::port::{Port, Resolved};
-use account_core::Ban;
+use ban_book::BanBook;
 use circuits::Pair;
 use class_refine::{Domains, Reason};
 use port_covers::level::{Level, nth_way};
+use port_sides::PairableGraphs;
 use std::alloc::{AllocError, Global};
 
 /// The references of all ways of a port in a cover whose ban has a conflict's pairs. Each way is impossible beside
-/// them, or was deleted for a reason that names none but them, or was held and leads into a ban of them and it.
+/// them, or was deleted for a reason that names none but them, or was held and leads into a ban of them and it. The bans of ways
+/// that were deleted by mismatches are held now, if they weren't.
 pub(crate) fn refer(
     alloc: Global,
+    graphs: &PairableGraphs<'_>,
     domains: &Domains,
-    bans: &[Ban],
     port: Port,
     conflict: &[Pair],
     resolved: Option<Resolved>,
+    made: &mut Mismatches,
+    book: &mut BanBook,
 ) -> Result<Level, AllocError>
     requires there { port.number < ports_of domains.now.inputs domains.now.outputs port.kind }
-    requires resolved { IfSome resolved (λ it. Covers bans.now (it.way ∷ conflict.now) it.ban) }
+    requires resolved { IfSome resolved (λ it. Covers book.old (it.way ∷ conflict.now) it.ban) }
     requires gathered { EachWay port (ports_of domains.now.inputs domains.now.outputs port.kind)
-        (λ way. IsLeftOutOr (left_out resolved) way (IsGathered bans.now domains.now.entries conflict.now way)) }
+        (λ way. IsLeftOutOr (left_out resolved) way (IsGathered book.old domains.now.entries conflict.now way)) }
+    ensures more { LearnsMore graphs.now domains.now.entries book.old book.new }
     ensures port { IfOk result (IsLevelOf port) }
     ensures all { IfOk result (λ level.
         length level.refs ≡ 2 * ports_of domains.now.inputs domains.now.outputs port.kind) }
-    ensures closed { IfOk result (AreClosed bans.now conflict.now) }
+    ensures closed { IfOk result (AreClosed book.new conflict.now) }
 {
     let count = domains.ports(port.kind);
     let mut level = Level::new(alloc, port.side, port.kind, port.number);
     for number in 0..2 * count as u64 {
         let way = nth_way(port.side, port.kind, port.number, number);
-        let reference = reference(domains, bans, way, conflict, resolved);
+        let reference = reference(alloc, graphs, domains, way, conflict, resolved, made, book)?;
         level.refs.push(reference)?;
     }
     Ok(level)
@@ -47,25 +54,30 @@ pub(crate) fn refer(
 
 // What stands for a way.
 fn reference(
+    alloc: Global,
+    graphs: &PairableGraphs<'_>,
     domains: &Domains,
-    bans: &[Ban],
     way: Pair,
     conflict: &[Pair],
     resolved: Option<Resolved>,
-) -> Option<u64>
+    made: &mut Mismatches,
+    book: &mut BanBook,
+) -> Result<Option<u64>, AllocError>
     requires known { IsPairOf domains.now.inputs domains.now.outputs way }
-    requires resolved { IfSome resolved (λ it. Covers bans.now (it.way ∷ conflict.now) it.ban) }
+    requires resolved { IfSome resolved (λ it. Covers book.old (it.way ∷ conflict.now) it.ban) }
     requires gathered { IsLeftOutOr (left_out resolved) way
-        (IsGathered bans.now domains.now.entries conflict.now way) }
-    ensures { IsClosed bans.now conflict.now way result }
+        (IsGathered book.old domains.now.entries conflict.now way) }
+    ensures more { LearnsMore graphs.now domains.now.entries book.old book.new }
+    ensures closed { IfOk result (IsClosed book.new conflict.now way) }
 {
     if is_impossible(conflict, way) {
-        return None;
+        return Ok(None);
     }
     if let Some(ban) = ban_of_resolved(resolved, way) {
-        return Some(ban);
+        return Ok(Some(ban));
     }
-    Some(ban_of_deleted(domains, bans, way, conflict))
+    let ban = ban_of_deleted(alloc, graphs, domains, way, conflict, made, book)?;
+    Ok(Some(ban))
 }
 
 // The ban that a way leads into, if it is the resolved one.
@@ -80,18 +92,30 @@ fn ban_of_resolved(resolved: Option<Resolved>, way: Pair) -> Option<u64>
     None
 }
 
-// The ban by which a way was deleted.
-fn ban_of_deleted(domains: &Domains, bans: &[Ban], way: Pair, conflict: &[Pair]) -> u64
+// The ban by which a way was deleted, or that of the mismatch by which it was.
+fn ban_of_deleted(
+    alloc: Global,
+    graphs: &PairableGraphs<'_>,
+    domains: &Domains,
+    way: Pair,
+    conflict: &[Pair],
+    made: &mut Mismatches,
+    book: &mut BanBook,
+) -> Result<u64, AllocError>
     requires known { IsPairOf domains.now.inputs domains.now.outputs way }
     requires possible { IsImpossible conflict.now way → ⊥ }
-    requires named { IsNamedIn bans.now domains.now.entries conflict.now way }
-    ensures { Covers bans.now (way ∷ conflict.now) result }
+    requires named { IsNamedIn book.old domains.now.entries conflict.now way }
+    ensures more { LearnsMore graphs.now domains.now.entries book.old book.new }
+    ensures covers { IfOk result (Covers book.new (way ∷ conflict.now)) }
 {
     let _lawful = domains.entries();
-    let _ = bans;
+    let _ = graphs;
     let _ = conflict;
     match domains.reason(way) {
-        Some(Reason::Ban(number)) => number,
+        Some(Reason::Ban(number)) => Ok(number),
+        Some(Reason::Mismatch { with, fails, holds }) => {
+            hold_mismatch(alloc, way, with, fails, holds, made, book)
+        }
         Some(Reason::Clash(_)) => unreachable!(),
         None => unreachable!(),
     }

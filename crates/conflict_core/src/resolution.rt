@@ -3,18 +3,19 @@
 ghost use Rattle.std.specs.Prelude.{◌≡◌, ◌≢◌, ◌+◌, ◌<◌, ◌≤◌, ◌∷◌, ◌↔◌, All, Contains, IfNone, IfOk, IfSome, IsTrue, length, slice_index_or, false, take, true};
 ghost use Rattle.circuits.specs.declared.port.Pair.{Pair as AnyPair};
 ghost use Rattle.account_core.specs.Ports.{AreOrdered};
-ghost use Rattle.port_covers.specs.Levels.{HoldsMore};
 ghost use Rattle.class_refine.specs.declared.entry.Entry.{Entry as AnyEntry};
 ghost use Rattle.class_refine.specs.declared.entry.Cause.TheVariants.{Choice, LastWay};
 ghost use Rattle.class_refine.specs.declared.entry.Fate.TheVariants.{Held};
 ghost use Rattle.class_refine.specs.Trails.{IsPairOf, held_in, is_held};
 ghost use Rattle.conflict_core.specs.Conflicts.{FitPorts, IsChoiceAt, IsConflict, IsLastOf, IsLearned};
+ghost use Rattle.conflict_core.specs.Grounded.{LearnsMore};
 ghost use Rattle.conflict_core.specs.Justified.{AreJustified};
 ghost use Rattle.conflict_core.specs.declared.learned.Learned.TheVariants as learned;
 ghost use Rattle.conflict_core.specs.Pivots.{IsPivot};
 
 use crate::conflict::{Conflict, cover_port};
 use crate::learned::{Back, Learned};
+use crate::mismatch::Mismatches;
 use crate::port::{Port, Resolved};
 use ban_book::BanBook;
 use circuits::Pair;
@@ -38,12 +39,13 @@ pub fn resolve(
     graphs: &PairableGraphs<'_>,
     domains: &Domains,
     conflict: Conflict,
+    made: &mut Mismatches,
     book: &mut BanBook,
 ) -> Result<Learned, AllocError>
     requires fit { FitPorts graphs.now domains.now.inputs domains.now.outputs }
     requires justified { AreJustified domains.now.inputs domains.now.outputs book.old domains.now.entries }
     requires conflict { IsConflict book.old (held_in domains.now.entries) conflict }
-    ensures more { HoldsMore graphs.now book.old book.new }
+    ensures more { LearnsMore graphs.now domains.now.entries book.old book.new }
     ensures learned { IfOk result (IsLearned domains.now.inputs domains.now.outputs book.new domains.now.entries) }
 {
     let _lawful = domains.entries();
@@ -53,7 +55,7 @@ pub fn resolve(
         match pivot_at(domains, last, &conflict.pairs) {
             Pivot::Choice(place) => return Ok(back_to(domains, last, place, conflict.ban)),
             Pivot::Forced(side) => {
-                conflict = resolve_on(alloc, graphs, domains, last, side, conflict, book)?;
+                conflict = resolve_on(alloc, graphs, domains, last, side, conflict, made, book)?;
                 limit = last;
             }
         }
@@ -212,6 +214,7 @@ fn resolve_on(
     place: usize,
     side: Side,
     conflict: Conflict,
+    made: &mut Mismatches,
     book: &mut BanBook,
 ) -> Result<Conflict, AllocError>
     requires fit { FitPorts graphs.now domains.now.inputs domains.now.outputs }
@@ -220,7 +223,7 @@ fn resolve_on(
     requires forced { (d : AnyPair) → Contains domains.now.entries
         (record { pair = slice_index_or (held_in domains.now.entries) place d; fate = Held (LastWay side) }) }
     requires conflict { IsConflict book.old (take (place + 1) (held_in domains.now.entries)) conflict }
-    ensures more { HoldsMore graphs.now book.old book.new }
+    ensures more { LearnsMore graphs.now domains.now.entries book.old book.new }
     ensures conflict { IfOk result (IsConflict book.new (take place (held_in domains.now.entries))) }
 {
     let _lawful = domains.entries();
@@ -242,6 +245,7 @@ fn resolve_on(
         port,
         Some(resolved),
         pairs,
+        made,
         book,
     )?;
     Ok(conflict)

@@ -16,7 +16,8 @@ mod tallies;
 mod told;
 
 pub use exchanges::swap_mismatch;
-pub use mismatches::mismatch;
+pub use mismatched::Unlike;
+pub use mismatches::{mismatch, tell_apart};
 pub use refusal::refuse;
 pub use seen::Seen;
 pub use tallies::tally;

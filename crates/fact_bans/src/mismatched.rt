@@ -8,7 +8,7 @@ ghost use Rattle.account_core.specs.Mismatches.{IsImage};
 ghost use Rattle.account_core.specs.Ports.{AreOrdered, IsKnown};
 ghost use Rattle.ban_book.specs.Covering.{Covers};
 ghost use Rattle.oracle_core.specs.Oracles.{Serves, Suits};
-ghost use Rattle.fact_bans.specs.Mismatched.{IsBanBy, mismatch_of};
+ghost use Rattle.fact_bans.specs.Mismatched.{IsBanBy, mismatch_of, unlike_of};
 ghost use Rattle.fact_bans.specs.Serving.{HoldsBans, MayHold};
 
 use crate::seen::Seen;
@@ -28,6 +28,14 @@ use std::alloc::{AllocError, Global};
 pub(crate) struct Carried {
     pub(crate) claim: Claim,
     pub(crate) image: Claim,
+}
+
+/// The numbers of two facts that tell pairs apart: a claim fails, and the one that the pairs carry it to holds, or that they carry
+/// to it.
+#[derive(Clone, Copy, Debug, Drop, PartialEq, Eq)]
+pub struct Unlike {
+    pub fails: u64,
+    pub holds: u64,
 }
 
 /// Has both claims decided, and holds the ban of the pairs where one fails and the other one holds. Answers its number; None
@@ -78,25 +86,65 @@ fn ban_by<O: Oracle>(
     ensures ban { IfOk result (λ found. IfSome found
         (IsBanBy (O.known oracle.old).graphs (map decided_by (O.known oracle.new).facts) pairs.now)) }
 {
+    let Some(unlike) = unlike_by(alloc, oracle, pairs, carried, seen, ledger)? else {
+        return Ok(None);
+    };
+    let ban = mismatch_ban(alloc, pairs, unlike)?;
+    Ok(Some(ban))
+}
+
+/// Has both claims decided. Answers the facts where one fails and the other one holds, and None where both fail, or both hold.
+pub(crate) fn unlike_by<O: Oracle>(
+    alloc: Global,
+    oracle: &mut O,
+    pairs: &[Pair],
+    carried: Carried,
+    seen: &mut Seen,
+    ledger: &mut Ledger,
+) -> Result<Option<Unlike>, Stop>
+    requires lawful { AreFacts (O.known oracle.old).graphs (O.known oracle.old).facts }
+    requires known { All (IsKnown (O.known oracle.old).graphs) pairs.now }
+    requires ordered { AreOrdered pairs.now }
+    requires image { IsImage pairs.now carried.claim carried.image }
+    requires claim_placed { IsClaim (O.known oracle.old).graphs carried.claim }
+    requires image_placed { IsClaim (O.known oracle.old).graphs carried.image }
+    requires suits { Suits (O.known oracle.old) ledger.old }
+    ensures serves { Serves (O.known oracle.old) (O.known oracle.new) ledger.old ledger.new result }
+    ensures shown { IfOk result (λ found. IfSome found (λ unlike.
+        IsBanBy (O.known oracle.old).graphs (map decided_by (O.known oracle.new).facts) pairs.now (mismatch_of pairs.now unlike))) }
+{
+    let _ = pairs;
     let one = decide(alloc, oracle, carried.claim, seen, ledger)?;
     let other = decide(alloc, oracle, carried.image, seen, ledger)?;
     if one.holds == other.holds {
         return Ok(None);
     }
-    let ban = mismatch_ban(alloc, pairs, one, other)?;
-    Ok(Some(ban))
+    Ok(Some(unlike_of(one, other)))
 }
 
-// The ban of the pairs by two facts, of which one holds.
-fn mismatch_ban(alloc: Global, pairs: &[Pair], one: Told, other: Told) -> Result<Ban, AllocError>
-    ensures { IfOk result (λ ban. ban ≡ mismatch_of pairs.now one.holds one.number other.number) }
+// Which of two facts fails, and which one holds.
+fn unlike_of(one: Told, other: Told) -> Unlike
+    ensures { result ≡ unlike_of one.holds one.number other.number }
+{
+    if one.holds {
+        Unlike {
+            fails: other.number,
+            holds: one.number,
+        }
+    } else {
+        Unlike {
+            fails: one.number,
+            holds: other.number,
+        }
+    }
+}
+
+// The ban of the pairs by two facts.
+fn mismatch_ban(alloc: Global, pairs: &[Pair], unlike: Unlike) -> Result<Ban, AllocError>
+    ensures { IfOk result (λ ban. ban ≡ mismatch_of pairs.now unlike) }
 {
     let pairs = Few::from_slice(alloc, pairs)?;
-    let (fails, holds) = if one.holds {
-        (other.number, one.number)
-    } else {
-        (one.number, other.number)
-    };
+    let Unlike { fails, holds } = unlike;
     Ok(Ban {
         pairs,
         step: Step::Mismatch { fails, holds },

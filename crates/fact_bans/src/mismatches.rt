@@ -1,14 +1,17 @@
 //! Bans of an output's pair and an input's, by a claim of one input that fails where its image holds.
 
-ghost use Rattle.std.specs.Prelude.{◌≡◌, ◌∷◌, [], IfOk, IfSome};
+ghost use Rattle.std.specs.Prelude.{◌≡◌, ◌∷◌, [], IfOk, IfSome, map};
 ghost use Rattle.circuits.specs.declared.port.PortKind.TheVariants.{Input, Output};
 ghost use Rattle.net_core.specs.declared.graphs.Side.TheVariants as AnySide;
+ghost use Rattle.account_core.specs.Given.{decided_by};
 ghost use Rattle.account_core.specs.Ports.{IsKnown};
 ghost use Rattle.ban_book.specs.Covering.{Covers};
 ghost use Rattle.query_core.specs.Images.{moved_value, one_input};
+ghost use Rattle.oracle_core.specs.Oracles.{Serves, Suits};
+ghost use Rattle.fact_bans.specs.Mismatched.{IsBanBy, mismatch_of};
 ghost use Rattle.fact_bans.specs.Serving.{HoldsBans, MayHold};
 
-use crate::mismatched::{Carried, hold_by};
+use crate::mismatched::{Carried, Unlike, hold_by, unlike_by};
 use crate::ports::{moved_value, one_input};
 use crate::seen::Seen;
 use ban_book::BanBook;
@@ -58,6 +61,40 @@ pub fn mismatch<O: Oracle>(
         book,
         ledger,
     )
+}
+
+/// The facts by which the pairs of an input and an output have a ban, where a claim of the one circuit fails that holds for the
+/// other one; None where none was shown. Only claims are asked of which vectors break one and not the other. No ban is held.
+///
+/// # Errors
+///
+/// As for `mismatch`.
+pub fn tell_apart<O: Oracle>(
+    alloc: Global,
+    graphs: &PairableGraphs<'_>,
+    oracle: &mut O,
+    input: Pair,
+    output: Pair,
+    seen: &mut Seen,
+    ledger: &mut Ledger,
+) -> Result<Option<Unlike>, Stop>
+    requires graphs { graphs.now ≡ (O.known oracle.old).graphs }
+    requires suits { Suits (O.known oracle.old) ledger.old }
+    requires input { input.kind ≡ Input }
+    requires output { output.kind ≡ Output }
+    requires input_known { IsKnown graphs.now input }
+    requires output_known { IsKnown graphs.now output }
+    ensures serves { Serves (O.known oracle.old) (O.known oracle.new) ledger.old ledger.new result }
+    ensures shown { IfOk result (λ found. IfSome found (λ unlike. IsBanBy graphs.now
+        (map decided_by (O.known oracle.new).facts) (input ∷ output ∷ []) (mismatch_of (input ∷ output ∷ []) unlike))) }
+{
+    let _ = graphs;
+    let _facts = oracle.facts();
+    let Some(value) = value_to_ask(input, output, seen) else {
+        return Ok(None);
+    };
+    let carried = carried(input, output, value);
+    unlike_by(alloc, oracle, &[input, output], carried, seen, ledger)
 }
 
 // The value for which vectors break the claim of one circuit, and not that of the other one.

@@ -40,6 +40,13 @@ impl Flips {
         }
     }
 
+    /// Bit 0 says that a vector breaks the claim that the input goes up, bit 1 that one breaks that it goes down.
+    pub(crate) fn broken(self) -> u8 {
+        let up = if self.breaks_up { 1 } else { 0 };
+        let down = if self.breaks_down { 2 } else { 0 };
+        up | down
+    }
+
     /// Whether the output is known to depend on the input, or to be binate in it.
     pub(crate) fn is_of(self, kind: Tallied) -> bool {
         match kind {

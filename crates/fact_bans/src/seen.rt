@@ -8,6 +8,9 @@ use port_sides::PairableGraphs;
 use query_core::{Claim, Shape};
 use std::alloc::{AllocError, Global};
 
+/// No number was noted.
+const NOT_NOTED: u32 = u32::MAX;
+
 /// What vectors showed of two circuits: which claims of one input they break, and once these are looked for, which of two.
 /// Nothing rests on it: it says which claims are worth to be decided.
 #[derive(Debug, Drop)]
@@ -16,6 +19,11 @@ pub struct Seen {
     second: Vec<Vec<Flips>>,
     swaps: Option<TwoSwaps>,
     seed: u64,
+    /// The numbers of the facts of claims of one input, by circuit, output, input and value: an array, since the same two are compared
+    /// again and again.
+    numbers: Vec<u32>,
+    inputs: usize,
+    outputs: usize,
 }
 
 /// What vectors showed of claims of two inputs.
@@ -32,11 +40,17 @@ impl Seen {
     ///
     /// Only when out of memory.
     pub fn new(alloc: Global, graphs: &PairableGraphs<'_>, seed: u64) -> Result<Seen, AllocError> {
+        let inputs = graphs.first().inputs() as usize;
+        let outputs = graphs.first().outputs().len();
+        let claims = inputs.saturating_mul(outputs).saturating_mul(4);
         Ok(Seen {
             first: sampled(alloc, graphs.first(), seed)?,
             second: sampled(alloc, graphs.second(), seed)?,
             swaps: None,
             seed,
+            numbers: vec![in alloc; NOT_NOTED; claims]?,
+            inputs,
+            outputs,
         })
     }
 
@@ -61,6 +75,15 @@ impl Seen {
         match rows.get(output as usize) {
             Some(row) => row.as_slice(),
             None => &[],
+        }
+    }
+
+    /// What vectors show of an input and an output of a circuit: bit 0 says that one breaks the claim that the output never falls
+    /// where the input goes up, bit 1 that one breaks the claim of the input going down.
+    pub fn broken(&self, side: Side, output: u32, input: u32) -> u8 {
+        match self.row(side, output).get(input as usize) {
+            Some(flips) => flips.broken(),
+            None => 0,
         }
     }
 
@@ -103,8 +126,37 @@ impl Seen {
         count
     }
 
-    /// Notes what was decided of a claim: vectors break it where it fails.
-    pub(crate) fn note(&mut self, claim: Claim, holds: bool) {
+    /// The number that was noted of a claim's fact.
+    pub(crate) fn number(&self, claim: Claim) -> Option<u64> {
+        let number = *self.numbers.get(self.place(claim)?)?;
+        if number == NOT_NOTED {
+            return None;
+        }
+        Some(number as u64)
+    }
+
+    // The place of a claim of one input among the numbers.
+    fn place(&self, claim: Claim) -> Option<usize> {
+        let (input, value) = input_of(claim.shape)?;
+        let side = match claim.side {
+            Side::First => 0,
+            Side::Second => self.outputs,
+        };
+        let row = side.saturating_add(claim.output as usize);
+        let claim = row
+            .saturating_mul(self.inputs)
+            .saturating_add(input as usize);
+        let falls = if value { 1 } else { 0 };
+        Some(claim.saturating_mul(2).saturating_add(falls))
+    }
+
+    /// Notes what was decided of a claim, by the number of its fact: vectors break it where it fails.
+    pub(crate) fn note(&mut self, claim: Claim, number: u64, holds: bool) {
+        if let Some(place) = self.place(claim) {
+            if (place < self.numbers.len()) & (number < NOT_NOTED as u64) {
+                self.numbers[place] = number as u32;
+            }
+        }
         if holds {
             return;
         }
@@ -121,12 +173,19 @@ impl Seen {
     }
 }
 
+// The input of a shape that has one, and its value.
+fn input_of(shape: Shape) -> Option<(u32, bool)> {
+    match shape {
+        Shape::Up(input) => Some((input, false)),
+        Shape::Down(input) => Some((input, true)),
+        Shape::Swap { .. } => None,
+    }
+}
+
 // Notes that the claim of a shape fails.
 fn note_in(row: &mut [Flips], shape: Shape) {
-    let (input, value) = match shape {
-        Shape::Up(input) => (input, false),
-        Shape::Down(input) => (input, true),
-        Shape::Swap { .. } => return,
+    let Some((input, value)) = input_of(shape) else {
+        return;
     };
     if (input as usize) < row.len() {
         row[input as usize].break_claim(value);

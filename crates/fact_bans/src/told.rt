@@ -1,13 +1,13 @@
 //! What an oracle says of a claim.
 
-ghost use Rattle.std.specs.Prelude.{◌≡◌, ◌++◌, ◌∷◌, [], IfOk, IsTrue, map};
+ghost use Rattle.std.specs.Prelude.{◌≡◌, ◌++◌, ◌∷◌, [], IfOk, IfSome, IsTrue, map};
 ghost use Rattle.query_core.specs.Claims.{IsClaim};
 ghost use Rattle.account_core.specs.Given.{decided_by};
-ghost use Rattle.oracle_core.specs.Oracles.{Serves, Suits};
+ghost use Rattle.oracle_core.specs.Oracles.{IsNumberOf, Serves, Suits};
 ghost use Rattle.fact_bans.specs.Listed.{holds_by, AddsFact, IsToldAs};
 
 use crate::seen::Seen;
-use account_core::Evidence;
+use account_core::{Evidence, Fact};
 use cnf_core::Stop;
 use items::Items;
 use oracle_core::Oracle;
@@ -34,11 +34,51 @@ pub(crate) fn decide<O: Oracle>(
     ensures serves { Serves (O.known oracle.old) (O.known oracle.new) ledger.old ledger.new result }
     ensures told { IfOk result (λ told. IsToldAs (map decided_by (O.known oracle.new).facts) claim told.holds told.number) }
 {
-    let number = oracle.claim(alloc, claim, ledger)?;
+    let number = number_of(alloc, oracle, claim, seen, ledger)?;
     let fact = &oracle.facts()[number as usize];
     let holds = holds_by(&fact.evidence);
-    seen.note(claim, holds);
+    seen.note(claim, number, holds);
     Ok(Told { number, holds })
+}
+
+// The number of a claim's fact. One that was noted is found without asking.
+fn number_of<O: Oracle>(
+    alloc: Global,
+    oracle: &mut O,
+    claim: Claim,
+    seen: &Seen,
+    ledger: &mut Ledger,
+) -> Result<u64, Stop>
+    requires placed { IsClaim (O.known oracle.old).graphs claim }
+    requires suits { Suits (O.known oracle.old) ledger.old }
+    ensures serves { Serves (O.known oracle.old) (O.known oracle.new) ledger.old ledger.new result }
+    ensures number { IfOk result (IsNumberOf (O.known oracle.new).facts claim) }
+{
+    if let Some(number) = noted(oracle.facts(), claim, seen) {
+        return Ok(number);
+    }
+    oracle.claim(alloc, claim, ledger)
+}
+
+// The number that was noted of a claim's fact, if the fact is of the claim.
+fn noted(facts: &[Fact], claim: Claim, seen: &Seen) -> Option<u64>
+    ensures { IfSome result (IsNumberOf facts.now claim) }
+{
+    let number = seen.number(claim)?;
+    if is_of(facts, number, claim) {
+        return Some(number);
+    }
+    None
+}
+
+// Whether a fact is of a claim.
+fn is_of(facts: &[Fact], number: u64, claim: Claim) -> bool
+    ensures { IsTrue result → IsNumberOf facts.now claim number }
+{
+    match facts.get(number as usize) {
+        Some(fact) => fact.claim == claim,
+        None => false,
+    }
 }
 
 // Whether evidence is for its claim.

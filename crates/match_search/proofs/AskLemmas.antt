@@ -1,6 +1,8 @@
 -- Calls that have claims decided and hold bans while pairs are held and deleted.
-use Rattle.std.proofs.Common.{◌≡◌, ◌≤◌, ◌<◌, ℕ, Bool, List, Result, subst, arith}
-use Rattle.std.specs.Prelude.{IfOk}
+use Rattle.std.proofs.Common.{◌≡◌, ◌≤◌, ◌<◌, ℕ, Bool, List, [], ◌∷◌, ◌++◌, map, Option, None, Some, Result, Ok, Err, refl, sym, ap, subst, ◌∙◌, arith}
+use Rattle.std.specs.Prelude.{Contains, IfOk, IfSome}
+use Rattle.std.proofs.lemmas.List.{map-append}
+use Rattle.std.proofs.lemmas.List.Elements.{Contains-append_left}
 use Rattle.std.proofs.lemmas.Result.{IfOk-weaker}
 use Rattle.cnf_core.specs.declared.stop.Stop.{Stop}
 use Rattle.circuits.specs.declared.port.Pair.{Pair}
@@ -10,21 +12,33 @@ use Rattle.net_core.specs.Sides.{Graphs}
 use Rattle.query_core.specs.Ledgers.{Ledgered}
 use Rattle.account_core.specs.declared.step.Ban.{Ban}
 use Rattle.account_core.specs.Ports.{IsKnown}
-use Rattle.oracle_core.specs.Oracles.{Known}
+use Rattle.account_core.specs.Given.{Decided, decided_by, given_of}
+use Rattle.account_core.specs.Steps.{IsValidBan}
+use Rattle.account_core.specs.declared.step.Step.TheVariants as step
+use Rattle.fact_bans.specs.declared.mismatched.Unlike.{Unlike}
+use Rattle.fact_bans.specs.Mismatched.{IsBanBy, mismatch_of}
+use Rattle.oracle_core.specs.Oracles.{Grows, Known}
 use Rattle.table_guess.specs.declared.trials.Trials.{Trials}
 use Rattle.table_guess.specs.Trials.{AreTrials}
 use Rattle.port_covers.specs.Levels.{HoldsMore}
-use Rattle.fact_bans.specs.Serving.{OnlyAdds}
+use Rattle.fact_bans.specs.Serving.{HasServed, OnlyAdds}
+use Rattle.fact_bans.proofs.ServeLemmas.{served_then}
 use Rattle.fact_bans.proofs.HoldingLemmas.{HasHeld, adds_then}
-use Rattle.class_refine.specs.Trails.{Domained, IsPairOf, ports_of}
+use Rattle.class_refine.specs.declared.entry.Entry.{Entry}
+use Rattle.class_refine.specs.declared.entry.Fate.TheVariants.{Deleted}
+use Rattle.class_refine.specs.declared.entry.Reason.TheVariants.{Mismatch}
+use Rattle.class_refine.specs.Trails.{AreEntries, Domained, IsOpen, IsPairOf, held_in, ports_of}
+use Rattle.conflict_core.specs.Grounded.{AreGrounded, IsGrounded, LearnsMore, StayGrounded, in_order}
+use Rattle.conflict_core.specs.Named.{deleted}
+use Rattle.conflict_core.proofs.GroundedLemmas.{grounded_later, grounded_push}
 use Rattle.conflict_core.specs.Conflicts.{FitPorts}
 use Rattle.conflict_core.specs.Justified.{AreJustified}
-use Rattle.conflict_core.proofs.JustifiedLemmas.{justified_later}
+use Rattle.conflict_core.proofs.JustifiedLemmas.{held_append, justified_later}
 use Rattle.pair_search.specs.Progress.{IsTrail, Propagates, left}
-use Rattle.pair_search.proofs.StepLemmas.{trail_on}
+use Rattle.pair_search.proofs.StepLemmas.{HasOneMore, justified_one, less_one, one_more_of, trail_on}
 use Rattle.match_search.specs.declared.ahead.Ahead.{Ahead}
 use Rattle.match_search.specs.declared.ahead.Ahead.TheVariants as ahead
-use Rattle.match_search.specs.States.{IsAhead}
+use Rattle.match_search.specs.States.{Deletes, IsAhead, IsShownTrail}
 use Rattle.match_search.proofs.ServeLemmas.{valid_holds}
 
 -- bans come that are valid whatever the facts are
@@ -50,6 +64,95 @@ trail_beside graphs bans lent before after same is inputs outputs are =
 pub trail_follows : (graphs : Graphs) (bans lent : List Ban) (before after : Domained) → lent ≡ bans → IsTrail graphs bans before → Propagates lent before after → IsTrail graphs bans after
 trail_follows graphs bans lent before after same is follows = trail_beside graphs bans lent before after same is follows.inputs follows.outputs follows.justified
 
+-- bans that are valid whatever the facts are change nothing of what follows
+pub trail_holds : (graphs : Graphs) (before after : List Ban) (d : Domained) → HoldsMore graphs before after → IsTrail graphs before d → IsTrail graphs after d
+trail_holds graphs before after d more is = trail_adds graphs before after d (record { added = more.added; more = more.more }) is
+
+-- facts that come after show what was shown
+pub shown_grows : (graphs : Graphs) (old new : Known) (es : List Entry) → Grows old new → AreGrounded graphs (map decided_by old.facts) es → AreGrounded graphs (map decided_by new.facts) es
+shown_grows graphs old new es grows is =
+    grounded_later graphs (map decided_by old.facts) (map decided_by grows.added) (map decided_by new.facts) es (ap (map decided_by) grows.facts ∙ map-append decided_by old.facts grows.added) is
+
+-- a trail that is shown, after facts and bans came
+pub shown_adds : (graphs : Graphs) (old new : Known) (before after : List Ban) (d : Domained) → Grows old new → OnlyAdds before after → IsShownTrail graphs old before d → IsShownTrail graphs new after d
+shown_adds graphs old new before after d grows adds is = record {
+  trail = trail_adds graphs before after d adds is.trail;
+  shown = shown_grows graphs old new d.entries grows is.shown;
+}
+
+pub shown_holds : (graphs : Graphs) (known : Known) (before after : List Ban) (d : Domained) → HoldsMore graphs before after → IsShownTrail graphs known before d → IsShownTrail graphs known after d
+shown_holds graphs known before after d more is = record { trail = trail_holds graphs before after d more is.trail; shown = is.shown }
+
+-- after pairs were held and deleted in view of the bans as they were lent
+pub shown_beside : (graphs : Graphs) (known : Known) (bans lent : List Ban) (before after : Domained) → lent ≡ bans → IsShownTrail graphs known bans before → after.inputs ≡ before.inputs → after.outputs ≡ before.outputs → AreJustified after.inputs after.outputs lent after.entries → StayGrounded before.entries after.entries → IsShownTrail graphs known bans after
+shown_beside graphs known bans lent before after same is inputs outputs are stay = record {
+  trail = trail_beside graphs bans lent before after same is.trail inputs outputs are;
+  shown = stay.stay graphs (map decided_by known.facts) is.shown;
+}
+
+pub shown_follows : (graphs : Graphs) (known : Known) (bans lent : List Ban) (before after : Domained) → lent ≡ bans → IsShownTrail graphs known bans before → Propagates lent before after → IsShownTrail graphs known bans after
+shown_follows graphs known bans lent before after same is follows = shown_beside graphs known bans lent before after same is follows.inputs follows.outputs follows.justified follows.grounded
+
+-- bans come that are learned from a trail that is shown
+pub held_learned : (graphs : Graphs) (old new : Known) (a b : Ledgered) (first second third : List Ban) (es : List Entry) → HasHeld graphs old new a b first second → AreGrounded graphs (map decided_by new.facts) es → LearnsMore graphs es second third → HasHeld graphs old new a b first third
+held_learned graphs old new a b first second third es held shown more = record {
+  served = held.served;
+  valid = record { each = more.valid (map decided_by new.facts) shown held.valid.each };
+  adds = adds_then first second third held.adds (record { added = more.added; more = more.more });
+}
+
+-- one way is deleted by a mismatch with a held pair, or none
+pub deletes_none : (graphs : Graphs) (old new : Known) (bans : List Ban) (pair : Pair) (d : Domained) → Grows old new → IsShownTrail graphs old bans d → Contains (held_in d.entries) pair → Deletes graphs new bans pair d d
+deletes_none graphs old new bans pair d grows is there = record {
+  trail = record { trail = is.trail; shown = shown_grows graphs old new d.entries grows is.shown };
+  held = there;
+  less = omega arith;
+}
+
+pub deletes_one : (graphs : Graphs) (old new : Known) (bans : List Ban) (pair : Pair) (before after : Domained) (way : Pair) (fails holds : ℕ) → after ≡ record before { entries = before.entries ++ deleted way (Mismatch pair fails holds) ∷ [] } → Grows old new → IsShownTrail graphs old bans before → Contains (held_in before.entries) pair → AreEntries before.inputs before.outputs before.entries → IsPairOf before.inputs before.outputs way → IsOpen before.entries way → IsGrounded graphs (map decided_by new.facts) way (Deleted (Mismatch pair fails holds)) → Deletes graphs new bans pair before after
+deletes_one graphs old new bans pair before after way fails holds after_is grows is there lawful known open' shown =
+    let e : Entry = deleted way (Mismatch pair fails holds) in
+    let more : HasOneMore before after e = one_more_of before after e after_is in
+    let less = less_one before after e more lawful known open' refl in
+    record {
+      trail = record {
+        trail = trail_on graphs bans before after is.trail more.inputs more.outputs (justified_one bans before after e more is.trail.justified there);
+        shown = subst (AreGrounded graphs (map decided_by new.facts)) (sym more.entries) (grounded_push graphs (map decided_by new.facts) before.entries e (shown_grows graphs old new before.entries grows is.shown) shown);
+      };
+      held = subst (λ (l : List Pair). Contains l pair) (sym (ap held_in more.entries ∙ held_append before.entries (e ∷ []))) (Contains-append_left (held_in before.entries) (held_in (e ∷ [])) pair there);
+      less = omega (arith, less);
+    }
+
+-- facts that tell a pair and a way apart, of which the way is an output's, or an input's
+unlike_of_output : (graphs : Graphs) (facts : List Decided) (pair way : Pair) (unlike : Unlike) → way.kind ≡ Output → IsBanBy graphs facts (pair ∷ way ∷ []) (mismatch_of (pair ∷ way ∷ []) unlike) → IsGrounded graphs facts way (Deleted (Mismatch pair unlike.fails unlike.holds))
+unlike_of_output graphs facts pair way unlike kind by = λ bans.
+    subst (λ (k : PortKind). IsValidBan graphs (given_of facts bans) (record { pairs = in_order k way pair; step = step.Mismatch unlike.fails unlike.holds })) (sym kind) (by.valid bans)
+
+unlike_of_input : (graphs : Graphs) (facts : List Decided) (pair way : Pair) (unlike : Unlike) → way.kind ≡ Input → IsBanBy graphs facts (way ∷ pair ∷ []) (mismatch_of (way ∷ pair ∷ []) unlike) → IsGrounded graphs facts way (Deleted (Mismatch pair unlike.fails unlike.holds))
+unlike_of_input graphs facts pair way unlike kind by = λ bans.
+    subst (λ (k : PortKind). IsValidBan graphs (given_of facts bans) (record { pairs = in_order k way pair; step = step.Mismatch unlike.fails unlike.holds })) (sym kind) (by.valid bans)
+
+pub shown_of_output : (graphs : Graphs) (facts : List Decided) (pair way : Pair) (result : Result (Option Unlike) Stop) → way.kind ≡ Output → IfOk result (λ found. IfSome found (λ unlike. IsBanBy graphs facts (pair ∷ way ∷ []) (mismatch_of (pair ∷ way ∷ []) unlike))) → IfOk result (λ found. IfSome found (λ unlike. IsGrounded graphs facts way (Deleted (Mismatch pair unlike.fails unlike.holds))))
+shown_of_output graphs facts pair way (Ok None) kind is = is
+shown_of_output graphs facts pair way (Ok (Some unlike)) kind is = unlike_of_output graphs facts pair way unlike kind is
+shown_of_output graphs facts pair way (Err stop) kind is = is
+
+pub shown_of_input : (graphs : Graphs) (facts : List Decided) (pair way : Pair) (result : Result (Option Unlike) Stop) → way.kind ≡ Input → IfOk result (λ found. IfSome found (λ unlike. IsBanBy graphs facts (way ∷ pair ∷ []) (mismatch_of (way ∷ pair ∷ []) unlike))) → IfOk result (λ found. IfSome found (λ unlike. IsGrounded graphs facts way (Deleted (Mismatch pair unlike.fails unlike.holds))))
+shown_of_input graphs facts pair way (Ok None) kind is = is
+shown_of_input graphs facts pair way (Ok (Some unlike)) kind is = unlike_of_input graphs facts pair way unlike kind is
+shown_of_input graphs facts pair way (Err stop) kind is = is
+
+-- Ways are deleted one after the other.
+pub record IsDeleting (graphs : Graphs) (old now : Known) (a b : Ledgered) (bans : List Ban) (pair : Pair) (start domains : Domained) : Type 0 where
+  pub served : HasServed old now a b
+  pub deletes : Deletes graphs now bans pair start domains
+
+pub deleting_then : (graphs : Graphs) (old mid now : Known) (a b c : Ledgered) (bans : List Ban) (pair : Pair) (start before after : Domained) → IsDeleting graphs old mid a b bans pair start before → HasServed mid now b c → Deletes graphs now bans pair before after → IsDeleting graphs old now a c bans pair start after
+deleting_then graphs old mid now a b c bans pair start before after one served deletes = record {
+  served = served_then old mid now a b c one.served served;
+  deletes = record { trail = deletes.trail; held = deletes.held; less = omega (arith, one.deletes.less, deletes.less) };
+}
+
 known_at : (graphs : Graphs) (n m : ℕ) (kind : PortKind) (from to : ℕ) (flip : Bool) → FitPorts graphs n m → from < ports_of n m kind → to < ports_of n m kind → IsKnown graphs (record { kind = kind; from = from; to = to; flip = flip })
 known_at graphs n m Input from to flip fit first second = record { from = omega (arith, first, fit.inputs_are); to = omega (arith, second, fit.inputs_are, fit.many.inputs) }
 known_at graphs n m Output from to flip fit first second = record { from = omega (arith, first, fit.outputs_are); to = omega (arith, second, fit.outputs_are, fit.many.outputs) }
@@ -61,7 +164,7 @@ known_of graphs n m pair fit is = known_at graphs n m pair.kind pair.from pair.t
 -- Bans were held, while pairs were held and deleted as it follows.
 pub record IsUnderWay (graphs : Graphs) (old now : Known) (a b : Ledgered) (bans more : List Ban) (domains : Domained) (vectors : Trials) : Type 0 where
   pub held : HasHeld graphs old now a b bans more
-  pub trail : IsTrail graphs more domains
+  pub trail : IsShownTrail graphs now more domains
   pub trials : AreTrials graphs.first vectors
 
 -- and no more is left than at first

@@ -6,6 +6,7 @@ pub use Rattle.port_covers.specs.Levels
 pub use Rattle.pair_search.specs.Progress
 pub use Rattle.pair_search.specs.Impasses
 pub use Rattle.conflict_core.specs.Conflicts
+pub use Rattle.conflict_core.specs.Grounded
 pub use Rattle.table_guess.specs.Trials
 pub use Rattle.account_core.specs.Facts
 pub use Rattle.account_core.specs.Shown

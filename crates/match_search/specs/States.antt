@@ -1,19 +1,33 @@
 -- What a step of a search leaves.
-use Rattle.std.specs.Prelude.{◌<◌, ◌≤◌, List}
+use Rattle.std.specs.Prelude.{◌<◌, ◌≤◌, List, map, Contains}
 use Rattle.circuits.specs.declared.port.Pair.{Pair}
 use Rattle.net_core.specs.Sides.{Graphs}
 use Rattle.account_core.specs.declared.step.Ban.{Ban}
+use Rattle.account_core.specs.Given.{decided_by}
 use Rattle.account_core.specs.Shown.{IsShownMatch}
 use Rattle.ban_book.specs.Covering.{Covers}
-use Rattle.class_refine.specs.Trails.{Domained}
+use Rattle.class_refine.specs.Trails.{Domained, held_in}
+use Rattle.conflict_core.specs.Grounded.{AreGrounded}
+use Rattle.oracle_core.specs.Oracles.{Known}
 use Rattle.pair_search.specs.declared.impasse.Impasse.{Impasse}
 use Rattle.pair_search.specs.Impasses.{IsImpasse}
-use Rattle.pair_search.specs.Progress.{left}
+use Rattle.pair_search.specs.Progress.{IsTrail, left}
 use Rattle.match_search.specs.declared.ahead.Ahead.{Ahead}
 use Rattle.match_search.specs.declared.ahead.Ahead.TheVariants as ahead
 use Rattle.match_search.specs.declared.ahead.Settled.{Settled}
 use Rattle.match_search.specs.declared.ahead.Settled.TheVariants as settled
 pub use Rattle.fact_bans.specs.Serving.{AreValid, HasServed}
+
+-- A trail, and facts that show its deletions by mismatches.
+pub record IsShownTrail (graphs : Graphs) (known : Known) (bans : List Ban) (domains : Domained) : Type 0 where
+  pub trail : IsTrail graphs bans domains
+  pub shown : AreGrounded graphs (map decided_by known.facts) domains.entries
+
+-- More pairs may be deleted by mismatches beside one that stays held, no more is left than before, and facts show the trail.
+pub record Deletes (graphs : Graphs) (known : Known) (bans : List Ban) (pair : Pair) (before after : Domained) : Type 0 where
+  pub trail : IsShownTrail graphs known bans after
+  pub held : Contains (held_in after.entries) pair
+  pub less : left after ≤ left before
 
 -- It doesn't go on, and no more is left than before.
 pub record IsStuck (bans : List Ban) (before after : Domained) (impasse : Impasse) : Type 0 where

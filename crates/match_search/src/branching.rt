@@ -1,6 +1,6 @@
 //! The search, step by step.
 
-ghost use Rattle.std.specs.Prelude.{◌<◌, ◌≤◌, List, IfNone, IfOk, IfSome, OnOk};
+ghost use Rattle.std.specs.Prelude.{◌≡◌, ◌<◌, ◌≤◌, [], List, IfNone, IfOk, IfSome, OnOk};
 ghost use Rattle.account_core.specs.declared.step.Ban.{Ban as AnyBan};
 ghost use Rattle.oracle_core.specs.Oracles.{Serves};
 ghost use Rattle.fact_bans.specs.Serving.{HoldsBans, MayHold};
@@ -8,7 +8,7 @@ ghost use Rattle.match_search.specs.Founds.{IsFound};
 ghost use Rattle.port_covers.specs.Held.{IsWhole};
 ghost use Rattle.class_refine.specs.Trails.{held_in};
 ghost use Rattle.pair_search.specs.Progress.{IsTrail, left};
-ghost use Rattle.match_search.specs.States.{AreValid, IsAhead};
+ghost use Rattle.match_search.specs.States.{AreValid, IsAhead, IsShownTrail};
 ghost use Rattle.table_guess.specs.Trials.{AreTrials};
 
 use crate::ahead::{Ahead, Settled};
@@ -73,7 +73,8 @@ pub(crate) fn explore<O: Oracle>(
 
 // All pairs of two circuits are open.
 fn open_domains(alloc: Global, graphs: &PairableGraphs<'_>) -> Result<Domains, AllocError>
-    ensures { IfOk result (λ domains. (bans : List AnyBan) → IsTrail graphs.now bans domains) }
+    ensures trail { IfOk result (λ domains. (bans : List AnyBan) → IsTrail graphs.now bans domains) }
+    ensures none { IfOk result (λ domains. domains.entries ≡ []) }
 {
     let _ports = graphs.graphs();
     Domains::new(
@@ -95,11 +96,11 @@ fn turn<O: Oracle>(
     ledger: &mut Ledger,
 ) -> Result<Option<Found>, Stop>
     requires may { MayHold graphs.now (O.known oracle.old) ledger.old book.old }
-    requires trail { IsTrail graphs.now book.old domains.old }
+    requires trail { IsShownTrail graphs.now (O.known oracle.old) book.old domains.old }
     requires trials { AreTrials graphs.now.first guide.old.trials }
     ensures holds { HoldsBans graphs.now (O.known oracle.old) (O.known oracle.new) ledger.old ledger.new book.old book.new result }
     ensures trials { OnOk result (AreTrials graphs.now.first guide.new.trials) }
-    ensures trail { OnOk result (IsTrail graphs.now book.new domains.new) }
+    ensures trail { OnOk result (IsShownTrail graphs.now (O.known oracle.new) book.new domains.new) }
     ensures less { IfOk result (λ found. IfNone found (left domains.new < left domains.old)) }
     ensures found { IfOk result (λ found. IfSome found (IsFound graphs.now book.new)) }
 {
@@ -133,11 +134,11 @@ fn ahead<O: Oracle>(
     ledger: &mut Ledger,
 ) -> Result<Ahead, Stop>
     requires may { MayHold graphs.now (O.known oracle.old) ledger.old book.old }
-    requires trail { IsTrail graphs.now book.old domains.old }
+    requires trail { IsShownTrail graphs.now (O.known oracle.old) book.old domains.old }
     requires trials { AreTrials graphs.now.first guide.old.trials }
     ensures holds { HoldsBans graphs.now (O.known oracle.old) (O.known oracle.new) ledger.old ledger.new book.old book.new result }
     ensures trials { OnOk result (AreTrials graphs.now.first guide.new.trials) }
-    ensures trail { OnOk result (IsTrail graphs.now book.new domains.new) }
+    ensures trail { OnOk result (IsShownTrail graphs.now (O.known oracle.new) book.new domains.new) }
     ensures ahead { IfOk result (IsAhead graphs.now book.new domains.old domains.new) }
 {
     if let Some(impasse) = follow(alloc, graphs, oracle, guide, domains, queue, book, ledger)? {
@@ -157,11 +158,11 @@ fn go_on<O: Oracle>(
     ledger: &mut Ledger,
 ) -> Result<Ahead, Stop>
     requires may { MayHold graphs.now (O.known oracle.old) ledger.old book.old }
-    requires trail { IsTrail graphs.now book.old domains.old }
+    requires trail { IsShownTrail graphs.now (O.known oracle.old) book.old domains.old }
     requires trials { AreTrials graphs.now.first guide.old.trials }
     ensures holds { HoldsBans graphs.now (O.known oracle.old) (O.known oracle.new) ledger.old ledger.new book.old book.new result }
     ensures trials { OnOk result (AreTrials graphs.now.first guide.new.trials) }
-    ensures trail { OnOk result (IsTrail graphs.now book.new domains.new) }
+    ensures trail { OnOk result (IsShownTrail graphs.now (O.known oracle.new) book.new domains.new) }
     ensures ahead { IfOk result (IsAhead graphs.now book.new domains.old domains.new) }
 {
     let Some(port) = next_port(alloc, graphs, &guide.reads, &guide.weights, domains)? else {

@@ -1,18 +1,23 @@
 //! What follows of the pairs that are held, by bans, by decided claims and by vectors.
 
-ghost use Rattle.std.specs.Prelude.{◌≡◌, ◌≤◌, IfOk, IfSome, OnOk};
+ghost use Rattle.std.specs.Prelude.{◌≡◌, ◌≤◌, Contains, IfOk, IfSome, OnOk};
 ghost use Rattle.port_covers.specs.Levels.{HoldsMore};
 ghost use Rattle.fact_bans.specs.Serving.{HoldsBans, MayHold};
 ghost use Rattle.pair_search.specs.Impasses.{IsImpasse};
+ghost use Rattle.oracle_core.specs.Oracles.{Serves, Suits};
+ghost use Rattle.class_refine.specs.Trails.{held_in};
 ghost use Rattle.pair_search.specs.Progress.{IsTrail, left};
+ghost use Rattle.match_search.specs.States.{Deletes, IsShownTrail};
 ghost use Rattle.table_guess.specs.Trials.{AreTrials};
 
-use crate::asking::{ask_of, ask_output};
+use crate::asking::{ask_held, ask_output};
 use crate::exchanged::exclude_by_swaps;
 use crate::foresight::foresee;
 use crate::guide::Guide;
+use crate::unlike::{delete_unlike, list_unlike};
+use account_core::Ban;
 use ban_book::BanBook;
-use circuits::PortKind;
+use circuits::{Pair, PortKind};
 use class_refine::Domains;
 use cnf_core::Stop;
 use oracle_core::Oracle;
@@ -34,11 +39,11 @@ pub(crate) fn follow<O: Oracle>(
     ledger: &mut Ledger,
 ) -> Result<Option<Impasse>, Stop>
     requires may { MayHold graphs.now (O.known oracle.old) ledger.old book.old }
-    requires trail { IsTrail graphs.now book.old domains.old }
+    requires trail { IsShownTrail graphs.now (O.known oracle.old) book.old domains.old }
     requires trials { AreTrials graphs.now.first guide.old.trials }
     ensures holds { HoldsBans graphs.now (O.known oracle.old) (O.known oracle.new) ledger.old ledger.new book.old book.new result }
     ensures trials { OnOk result (AreTrials graphs.now.first guide.new.trials) }
-    ensures trail { OnOk result (IsTrail graphs.now book.new domains.new) }
+    ensures trail { OnOk result (IsShownTrail graphs.now (O.known oracle.new) book.new domains.new) }
     ensures less { OnOk result (left domains.new ≤ left domains.old) }
     ensures impasse { IfOk result (λ found. IfSome found
         (IsImpasse domains.new.inputs domains.new.outputs book.new domains.new.entries)) }
@@ -62,11 +67,11 @@ fn settle_all<O: Oracle>(
     ledger: &mut Ledger,
 ) -> Result<Option<Impasse>, Stop>
     requires may { MayHold graphs.now (O.known oracle.old) ledger.old book.old }
-    requires trail { IsTrail graphs.now book.old domains.old }
+    requires trail { IsShownTrail graphs.now (O.known oracle.old) book.old domains.old }
     requires trials { AreTrials graphs.now.first guide.old.trials }
     ensures holds { HoldsBans graphs.now (O.known oracle.old) (O.known oracle.new) ledger.old ledger.new book.old book.new result }
     ensures trials { OnOk result (AreTrials graphs.now.first guide.new.trials) }
-    ensures trail { OnOk result (IsTrail graphs.now book.new domains.new) }
+    ensures trail { OnOk result (IsShownTrail graphs.now (O.known oracle.new) book.new domains.new) }
     ensures less { OnOk result (left domains.new ≤ left domains.old) }
     ensures impasse { IfOk result (λ found. IfSome found
         (IsImpasse domains.new.inputs domains.new.outputs book.new domains.new.entries)) }
@@ -124,11 +129,11 @@ fn settle<O: Oracle>(
     ledger: &mut Ledger,
 ) -> Result<Option<Impasse>, Stop>
     requires may { MayHold graphs.now (O.known oracle.old) ledger.old book.old }
-    requires trail { IsTrail graphs.now book.old domains.old }
+    requires trail { IsShownTrail graphs.now (O.known oracle.old) book.old domains.old }
     requires trials { AreTrials graphs.now.first guide.old.trials }
     ensures holds { HoldsBans graphs.now (O.known oracle.old) (O.known oracle.new) ledger.old ledger.new book.old book.new result }
     ensures trials { OnOk result (AreTrials graphs.now.first guide.new.trials) }
-    ensures trail { OnOk result (IsTrail graphs.now book.new domains.new) }
+    ensures trail { OnOk result (IsShownTrail graphs.now (O.known oracle.new) book.new domains.new) }
     ensures less { OnOk result (left domains.new ≤ left domains.old) }
     ensures impasse { IfOk result (λ found. IfSome found
         (IsImpasse domains.new.inputs domains.new.outputs book.new domains.new.entries)) }
@@ -147,20 +152,23 @@ fn settle<O: Oracle>(
     Ok(None)
 }
 
-// Holds the bans that decided claims show of the next output, or else of the next held pair. Answers whether there is one.
+// Holds the bans that decided claims show of the next output, or else of the next held pair, and deletes the ways that they tell
+// from it. Answers whether there is one.
 fn ask_next<O: Oracle>(
     alloc: Global,
     graphs: &PairableGraphs<'_>,
     oracle: &mut O,
     guide: &mut Guide,
-    domains: &Domains,
+    domains: &mut Domains,
     book: &mut BanBook,
     ledger: &mut Ledger,
 ) -> Result<bool, Stop>
     requires may { MayHold graphs.now (O.known oracle.old) ledger.old book.old }
-    requires trail { IsTrail graphs.now book.old domains.now }
+    requires trail { IsShownTrail graphs.now (O.known oracle.old) book.old domains.old }
     ensures holds { HoldsBans graphs.now (O.known oracle.old) (O.known oracle.new) ledger.old ledger.new book.old book.new result }
     ensures trials { OnOk result (guide.new.trials ≡ guide.old.trials) }
+    ensures trail { OnOk result (IsShownTrail graphs.now (O.known oracle.new) book.new domains.new) }
+    ensures less { OnOk result (left domains.new ≤ left domains.old) }
 {
     let asked = ask_next_output(alloc, graphs, oracle, guide, domains, book, ledger)?;
     if asked {
@@ -192,31 +200,111 @@ fn ask_next_output<O: Oracle>(
     Ok(true)
 }
 
-// Holds the bans that decided claims show of the next held pair that wasn't held against any. Answers whether there is one.
+// Holds the bans that decided claims show of the next held pair that wasn't compared with any, and deletes the ways that they tell
+// from it. Where there are such bans, what follows of them comes first, and the pair is compared again. Answers whether there is
+// such a pair.
 fn ask_next_pair<O: Oracle>(
     alloc: Global,
     graphs: &PairableGraphs<'_>,
     oracle: &mut O,
     guide: &mut Guide,
+    domains: &mut Domains,
+    book: &mut BanBook,
+    ledger: &mut Ledger,
+) -> Result<bool, Stop>
+    requires may { MayHold graphs.now (O.known oracle.old) ledger.old book.old }
+    requires trail { IsShownTrail graphs.now (O.known oracle.old) book.old domains.old }
+    ensures holds { HoldsBans graphs.now (O.known oracle.old) (O.known oracle.new) ledger.old ledger.new book.old book.new result }
+    ensures trials { OnOk result (guide.new.trials ≡ guide.old.trials) }
+    ensures trail { OnOk result (IsShownTrail graphs.now (O.known oracle.new) book.new domains.new) }
+    ensures less { OnOk result (left domains.new ≤ left domains.old) }
+{
+    let Some(pair) = next_held(domains, guide.asked) else {
+        return Ok(false);
+    };
+    let more = ask_bans(alloc, graphs, oracle, guide, domains, pair, book, ledger)?;
+    if more {
+        return Ok(true);
+    }
+    guide.asked = guide.asked.saturating_add(1);
+    delete_beside(
+        alloc,
+        graphs,
+        oracle,
+        guide,
+        domains,
+        book.bans(),
+        pair,
+        ledger,
+    )?;
+    Ok(true)
+}
+
+// The held pair of a place.
+fn next_held(domains: &Domains, place: usize) -> Option<Pair>
+    ensures { IfSome result (Contains (held_in domains.now.entries)) }
+{
+    domains.pairs().get(place).copied()
+}
+
+// Holds the bans that decided claims show of a held pair and others. Answers whether there are any.
+fn ask_bans<O: Oracle>(
+    alloc: Global,
+    graphs: &PairableGraphs<'_>,
+    oracle: &mut O,
+    guide: &mut Guide,
     domains: &Domains,
+    pair: Pair,
     book: &mut BanBook,
     ledger: &mut Ledger,
 ) -> Result<bool, Stop>
     requires may { MayHold graphs.now (O.known oracle.old) ledger.old book.old }
     requires trail { IsTrail graphs.now book.old domains.now }
+    requires held { Contains (held_in domains.now.entries) pair }
     ensures holds { HoldsBans graphs.now (O.known oracle.old) (O.known oracle.new) ledger.old ledger.new book.old book.new result }
-    ensures trials { OnOk result (guide.new.trials ≡ guide.old.trials) }
+    ensures trials { guide.new.trials ≡ guide.old.trials }
 {
     let _lawful = domains.entries();
-    let place = guide.asked;
-    if place >= domains.pairs().len() {
-        return Ok(false);
-    }
-    let pair = domains.pairs()[place];
-    guide.asked = place + 1;
+    let count = book.bans().len();
+    let held = domains.pairs();
     let seen = &mut guide.seen;
-    ask_of(alloc, graphs, oracle, domains, pair, seen, book, ledger)?;
-    Ok(true)
+    ask_held(alloc, graphs, oracle, held, pair, seen, book, ledger)?;
+    Ok(book.bans().len() > count)
+}
+
+// Deletes the ways that decided claims tell from a held pair.
+fn delete_beside<O: Oracle>(
+    alloc: Global,
+    graphs: &PairableGraphs<'_>,
+    oracle: &mut O,
+    guide: &mut Guide,
+    domains: &mut Domains,
+    bans: &[Ban],
+    pair: Pair,
+    ledger: &mut Ledger,
+) -> Result<(), Stop>
+    requires graphs { graphs.now ≡ (O.known oracle.old).graphs }
+    requires suits { Suits (O.known oracle.old) ledger.old }
+    requires trail { IsShownTrail graphs.now (O.known oracle.old) bans.now domains.old }
+    requires held { Contains (held_in domains.old.entries) pair }
+    ensures serves { Serves (O.known oracle.old) (O.known oracle.new) ledger.old ledger.new result }
+    ensures trials { guide.new.trials ≡ guide.old.trials }
+    ensures deletes { OnOk result (Deletes graphs.now (O.known oracle.new) bans.now pair domains.old domains.new) }
+{
+    let _facts = oracle.facts();
+    let _lawful = domains.entries();
+    list_unlike(domains, &guide.seen, pair, &mut guide.ways)?;
+    delete_unlike(
+        alloc,
+        graphs,
+        oracle,
+        domains,
+        bans,
+        pair,
+        &guide.ways,
+        &mut guide.seen,
+        ledger,
+    )
 }
 
 // Tries the pairs that are held on vectors.

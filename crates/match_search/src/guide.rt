@@ -6,6 +6,7 @@ ghost use Rattle.table_guess.specs.Trials.{AreTrials};
 use crate::reads::{Reads, by_count};
 use crate::weights::Weights;
 use account_core::Ban;
+use circuits::Pair;
 use fact_bans::Seen;
 use pair_search::Impasse;
 use port_sides::PairableGraphs;
@@ -30,6 +31,8 @@ pub(crate) struct Guide {
     /// How many of the held pairs were held against claims of one input, and how many against claims of two.
     pub(crate) asked: usize,
     pub(crate) exchanged: usize,
+    /// Ways that are to be compared with a held pair: kept for its memory alone.
+    pub(crate) ways: Vec<Pair>,
 }
 
 impl Guide {
@@ -56,6 +59,7 @@ impl Guide {
             tallied: 0,
             asked: 0,
             exchanged: 0,
+            ways: Vec::new(alloc),
         })
     }
 

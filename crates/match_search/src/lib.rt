@@ -18,6 +18,7 @@ mod next_port;
 mod reads;
 mod searching;
 mod table;
+mod unlike;
 mod weights;
 
 pub use deciding::decide;

@@ -11,6 +11,7 @@ use Rattle.net_core.specs.declared.graphs.Side.{Side}
 use Rattle.net_core.specs.declared.graphs.Side.TheVariants.{First, Second}
 use Rattle.account_core.specs.Tallies.{port_on}
 use Rattle.account_core.specs.declared.step.Ban.{Ban}
+use Rattle.account_core.specs.Given.{Decided}
 use Rattle.account_core.specs.Ports.{Clash}
 use Rattle.account_core.specs.Shown.{IsEmptyBan}
 use Rattle.class_refine.specs.declared.entry.Entry.{Entry}
@@ -20,9 +21,10 @@ use Rattle.class_refine.specs.declared.entry.Reason.TheVariants as reason
 use Rattle.class_refine.specs.Numbers.{pairs_of_ports}
 use Rattle.class_refine.specs.Trails.{AreEntries, Domained, IsOpen, IsPairOf, held_in, ports_of}
 use Rattle.ban_book.specs.Covering.{Covers}
-use Rattle.port_covers.specs.Levels.{HoldsMore}
 use Rattle.conflict_core.specs.Conflicts.{FitPorts, IsChoiceAt}
+use Rattle.conflict_core.specs.Grounded.{IsGrounded, LearnsMore, StayGrounded}
 use Rattle.conflict_core.specs.Justified.{AreJustified, IsJustified}
+use Rattle.conflict_core.proofs.GroundedLemmas.{stay_front, stay_none, stay_push, stay_twice}
 use Rattle.conflict_core.proofs.JustifiedLemmas.{held_append, justified_front, justified_later, justified_push}
 use Rattle.conflict_core.proofs.PivotLemmas.{held_not_open}
 use Rattle.pair_search.specs.Progress.{IsTrail, Propagates, is_choice, left, left_of}
@@ -41,6 +43,7 @@ propagates_none bans d are = record {
   added = [];
   more = sym (append-nil d.entries);
   justified = are;
+  grounded = stay_none d.entries;
   less = omega arith;
 }
 
@@ -51,6 +54,7 @@ propagates_two bans one two three first second = record {
   added = first.added ++ second.added;
   more = second.more ∙ (ap (λ l. l ++ second.added) first.more ∙ append_assoc one.entries first.added second.added);
   justified = second.justified;
+  grounded = stay_twice one.entries two.entries three.entries first.grounded second.grounded;
   less = omega (arith, first.less, second.less);
 }
 
@@ -85,8 +89,8 @@ pub less_chosen : (before after : Domained) (e : Entry) → HasOneMore before af
 less_chosen before after e more are known is kind =
     left_as after (left before) before.inputs before.outputs (before.entries ++ e ∷ []) after.entries more.inputs more.outputs more.entries refl (less_choice (pairs_of_ports before.inputs before.outputs) before.entries e (room_for before e are known is) kind)
 
-pub propagates_one : (bans : List Ban) (before after : Domained) (e : Entry) → HasOneMore before after e → AreEntries before.inputs before.outputs before.entries → IsPairOf before.inputs before.outputs e.pair → IsOpen before.entries e.pair → is_choice e.fate ≡ false → AreJustified before.inputs before.outputs bans before.entries → IsJustified before.inputs before.outputs bans before.entries e.pair e.fate → Propagates bans before after
-propagates_one bans before after e more lawful known is kind are follows =
+pub propagates_one : (bans : List Ban) (before after : Domained) (e : Entry) → HasOneMore before after e → AreEntries before.inputs before.outputs before.entries → IsPairOf before.inputs before.outputs e.pair → IsOpen before.entries e.pair → is_choice e.fate ≡ false → AreJustified before.inputs before.outputs bans before.entries → IsJustified before.inputs before.outputs bans before.entries e.pair e.fate → ((graphs : Graphs) (facts : List Decided) → IsGrounded graphs facts e.pair e.fate) → Propagates bans before after
+propagates_one bans before after e more lawful known is kind are follows shown =
     let less = less_one before after e more lawful known is kind in
     record {
       inputs = more.inputs;
@@ -94,6 +98,7 @@ propagates_one bans before after e more lawful known is kind are follows =
       added = e ∷ [];
       more = more.entries;
       justified = justified_one bans before after e more are follows;
+      grounded = stay_push before.entries after.entries e more.entries shown;
       less = omega (arith, less);
     }
 
@@ -131,6 +136,10 @@ back_less before after place p why at lawful choice =
     let e : Entry = record { pair = p; fate = Deleted why } in
     left_as after (left before) before.inputs before.outputs (take place before.entries ++ e ∷ []) after.entries at.inputs at.outputs at.entries refl (less_back (pairs_of_ports before.inputs before.outputs) place before.entries e e choice.within (few_entries before.inputs before.outputs before.entries lawful.known lawful.distinct) (ap is_choice (choice.chosen e)) refl)
 
+pub back_grounded : (before after : Domained) (place number : ℕ) (p : Pair) → IsBackAt before after place (record { pair = p; fate = Deleted (reason.Ban number) }) → StayGrounded before.entries after.entries
+back_grounded before after place number p at =
+    stay_front before.entries after.entries place (record { pair = p; fate = Deleted (reason.Ban number) }) at.entries (λ graphs facts. tt)
+
 pub back_justified : (bans : List Ban) (before after : Domained) (place number : ℕ) (p : Pair) → IsBackAt before after place (record { pair = p; fate = Deleted (reason.Ban number) }) → AreJustified before.inputs before.outputs bans before.entries → place < length before.entries → Covers bans (p ∷ held_in (take place before.entries)) number → AreJustified after.inputs after.outputs bans after.entries
 back_justified bans before after place number p at are below covers =
     let e : Entry = record { pair = p; fate = Deleted (reason.Ban number) } in
@@ -148,7 +157,7 @@ empty_ban bans ban covers = record {
     no_pairs (x ∷ pairs) all = let there = all 0 x (omega arith) in absurd (omega (arith, there.1))
 
 -- more bans change nothing of what follows
-pub trail_later : (graphs : Graphs) (before after : List Ban) (d : Domained) → HoldsMore graphs before after → IsTrail graphs before d → IsTrail graphs after d
+pub trail_later : (graphs : Graphs) (before after : List Ban) (d : Domained) → LearnsMore graphs d.entries before after → IsTrail graphs before d → IsTrail graphs after d
 trail_later graphs before after d more is = record {
   fit = is.fit;
   justified = justified_later d.inputs d.outputs before more.added after d.entries more.more is.justified;

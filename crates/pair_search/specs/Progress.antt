@@ -10,6 +10,7 @@ use Rattle.class_refine.specs.declared.entry.Fate.TheVariants.{Held, Deleted}
 use Rattle.class_refine.specs.Numbers.{pairs_of_ports}
 use Rattle.class_refine.specs.Trails.{Domained}
 use Rattle.conflict_core.specs.Conflicts.{FitPorts}
+use Rattle.conflict_core.specs.Grounded.{StayGrounded}
 use Rattle.conflict_core.specs.Justified.{AreJustified}
 
 -- a pair was chosen, so that a level begins with it
@@ -50,6 +51,7 @@ pub record Propagates (bans : List Ban) (before after : Domained) : Type 0 where
   pub added : List Entry
   pub more : after.entries ≡ before.entries ++ added
   pub justified : AreJustified after.inputs after.outputs bans after.entries
+  pub grounded : StayGrounded before.entries after.entries
   pub less : left after ≤ left before
 
 -- The pairs are those of two circuits, and what became of each follows from what stands before it.

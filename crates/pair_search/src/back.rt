@@ -2,8 +2,8 @@
 
 ghost use Rattle.std.specs.Prelude.{◌≡◌, ◌<◌, IfNone, IfOk, IfSome, OnOk};
 ghost use Rattle.account_core.specs.Shown.{IsEmptyBan};
-ghost use Rattle.port_covers.specs.Levels.{HoldsMore};
 ghost use Rattle.conflict_core.specs.Conflicts.{IsBack, IsLearned};
+ghost use Rattle.conflict_core.specs.Grounded.{LearnsMore, StayGrounded};
 ghost use Rattle.conflict_core.specs.Justified.{AreJustified};
 ghost use Rattle.pair_search.specs.Impasses.{IsImpasse};
 ghost use Rattle.pair_search.specs.Progress.{IsTrail, left};
@@ -13,7 +13,7 @@ use crate::queue::Queue;
 use account_core::Ban;
 use ban_book::BanBook;
 use class_refine::{Domains, Reason};
-use conflict_core::{Back, Learned, resolve};
+use conflict_core::{Back, Learned, Mismatches, resolve};
 use port_sides::PairableGraphs;
 use std::alloc::{AllocError, Global};
 
@@ -29,13 +29,14 @@ pub fn turn_back(
 ) -> Result<Option<u64>, AllocError>
     requires trail { IsTrail graphs.now book.old domains.old }
     requires impasse { IsImpasse domains.old.inputs domains.old.outputs book.old domains.old.entries impasse }
-    ensures more { HoldsMore graphs.now book.old book.new }
+    ensures more { LearnsMore graphs.now domains.old.entries book.old book.new }
     ensures trail { OnOk result (IsTrail graphs.now book.new domains.new) }
+    ensures grounded { OnOk result (StayGrounded domains.old.entries domains.new.entries) }
     ensures less { IfOk result (λ refusal. IfNone refusal (left domains.new < left domains.old)) }
     ensures refusal { IfOk result (λ refusal. IfSome refusal (IsEmptyBan book.new)) }
 {
     queue.add_new(domains, book.bans())?;
-    match learn(alloc, graphs, domains, impasse, book)? {
+    match learn(alloc, graphs, domains, impasse, &mut queue.made, book)? {
         Learned::Refusal(ban) => Ok(Some(ban)),
         Learned::Back(back) => {
             queue.add_learned(domains, book.bans(), back.ban)?;
@@ -51,16 +52,17 @@ fn learn(
     graphs: &PairableGraphs<'_>,
     domains: &Domains,
     impasse: Impasse,
+    made: &mut Mismatches,
     book: &mut BanBook,
 ) -> Result<Learned, AllocError>
     requires trail { IsTrail graphs.now book.old domains.now }
     requires impasse { IsImpasse domains.now.inputs domains.now.outputs book.old domains.now.entries impasse }
-    ensures more { HoldsMore graphs.now book.old book.new }
+    ensures more { LearnsMore graphs.now domains.now.entries book.old book.new }
     ensures trail { IsTrail graphs.now book.new domains.now }
     ensures learned { IfOk result (IsLearned domains.now.inputs domains.now.outputs book.new domains.now.entries) }
 {
-    let conflict = conflict_of(alloc, graphs, domains, impasse, book)?;
-    let learned = resolve(alloc, graphs, domains, conflict, book)?;
+    let conflict = conflict_of(alloc, graphs, domains, impasse, made, book)?;
+    let learned = resolve(alloc, graphs, domains, conflict, made, book)?;
     Ok(learned)
 }
 
@@ -76,6 +78,7 @@ fn go_back(
     ensures justified { OnOk result (AreJustified domains.new.inputs domains.new.outputs bans.now domains.new.entries) }
     ensures inputs { OnOk result (domains.new.inputs ≡ domains.old.inputs) }
     ensures outputs { OnOk result (domains.new.outputs ≡ domains.old.outputs) }
+    ensures grounded { OnOk result (StayGrounded domains.old.entries domains.new.entries) }
     ensures less { OnOk result (left domains.new < left domains.old) }
 {
     let _ = bans;

@@ -1,15 +1,15 @@
 //! Where it doesn't go on.
 
 ghost use Rattle.std.specs.Prelude.{◌≡◌, IfOk};
-ghost use Rattle.port_covers.specs.Levels.{HoldsMore};
 ghost use Rattle.class_refine.specs.Trails.{held_in};
 ghost use Rattle.conflict_core.specs.Conflicts.{FitPorts, IsConflict};
+ghost use Rattle.conflict_core.specs.Grounded.{LearnsMore};
 ghost use Rattle.conflict_core.specs.Justified.{AreJustified};
 ghost use Rattle.pair_search.specs.Impasses.{IsImpasse};
 
 use ban_book::BanBook;
 use class_refine::Domains;
-use conflict_core::{Conflict, Port, conflict_of_ban, cover_port};
+use conflict_core::{Conflict, Mismatches, Port, conflict_of_ban, cover_port};
 use port_sides::PairableGraphs;
 use std::alloc::{AllocError, Global};
 
@@ -28,17 +28,18 @@ pub(crate) fn conflict_of(
     graphs: &PairableGraphs<'_>,
     domains: &Domains,
     impasse: Impasse,
+    made: &mut Mismatches,
     book: &mut BanBook,
 ) -> Result<Conflict, AllocError>
     requires fit { FitPorts graphs.now domains.now.inputs domains.now.outputs }
     requires justified { AreJustified domains.now.inputs domains.now.outputs book.old domains.now.entries }
     requires impasse { IsImpasse domains.now.inputs domains.now.outputs book.old domains.now.entries impasse }
-    ensures more { HoldsMore graphs.now book.old book.new }
+    ensures more { LearnsMore graphs.now domains.now.entries book.old book.new }
     ensures conflict { IfOk result (IsConflict book.new (held_in domains.now.entries)) }
 {
     match impasse {
         Impasse::Ban(number) => conflict_of_ban(alloc, domains.pairs(), book.bans(), number),
-        Impasse::Port(port) => conflict_of_port(alloc, graphs, domains, port, book),
+        Impasse::Port(port) => conflict_of_port(alloc, graphs, domains, port, made, book),
     }
 }
 
@@ -48,12 +49,13 @@ fn conflict_of_port(
     graphs: &PairableGraphs<'_>,
     domains: &Domains,
     port: Port,
+    made: &mut Mismatches,
     book: &mut BanBook,
 ) -> Result<Conflict, AllocError>
     requires fit { FitPorts graphs.now domains.now.inputs domains.now.outputs }
     requires justified { AreJustified domains.now.inputs domains.now.outputs book.old domains.now.entries }
     requires impasse { IsImpasse domains.now.inputs domains.now.outputs book.old domains.now.entries (Impasse.Port port) }
-    ensures more { HoldsMore graphs.now book.old book.new }
+    ensures more { LearnsMore graphs.now domains.now.entries book.old book.new }
     ensures conflict { IfOk result (IsConflict book.new (held_in domains.now.entries)) }
 {
     let _lawful = domains.entries();
@@ -65,6 +67,7 @@ fn conflict_of_port(
         port,
         None,
         Vec::new(alloc),
+        made,
         book,
     )
 }

@@ -14,3 +14,4 @@ pub use impasse::Impasse;
 pub use ports::{branch, way_of};
 pub use propagation::propagate;
 pub use queue::Queue;
+pub use units::is_open;

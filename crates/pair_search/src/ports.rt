@@ -5,6 +5,7 @@ ghost use Rattle.net_core.specs.declared.graphs.Side.TheVariants.{First, Second}
 ghost use Rattle.port_covers.specs.Levels.{nth_way};
 ghost use Rattle.account_core.specs.Tallies.{port_on};
 ghost use Rattle.class_refine.specs.Trails.{IsDeleted, IsFreePort, IsOpen, IsPairOf, held_in, ports_of};
+ghost use Rattle.conflict_core.specs.Grounded.{StayGrounded};
 ghost use Rattle.conflict_core.specs.Justified.{AreJustified};
 ghost use Rattle.pair_search.specs.Impasses.{HasNoWay, IsImpasse};
 ghost use Rattle.pair_search.specs.Progress.{Propagates, left};
@@ -58,6 +59,7 @@ pub fn branch(
     ensures justified { OnOk result (AreJustified domains.new.inputs domains.new.outputs bans.now domains.new.entries) }
     ensures inputs { OnOk result (domains.new.inputs ≡ domains.old.inputs) }
     ensures outputs { OnOk result (domains.new.outputs ≡ domains.old.outputs) }
+    ensures grounded { OnOk result (StayGrounded domains.old.entries domains.new.entries) }
     ensures less { IfOk result (λ found. IfNone found (left domains.new < left domains.old)) }
     ensures stuck { IfOk result (λ found. IfSome found (λ impasse. domains.new ≡ domains.old)) }
     ensures impasse { IfOk result (λ found. IfSome found

@@ -4,6 +4,7 @@ use crate::units::is_held;
 use account_core::Ban;
 use circuits::{Pair, PortKind};
 use class_refine::Domains;
+use conflict_core::Mismatches;
 use std::alloc::{AllocError, Global};
 
 /// No link.
@@ -32,6 +33,8 @@ pub struct Queue {
     /// The last link of each pair, by its number.
     lasts: Vec<usize>,
     links: Vec<Link>,
+    /// The bans that were made of mismatches.
+    pub(crate) made: Mismatches,
 }
 
 impl Queue {
@@ -50,6 +53,7 @@ impl Queue {
             outputs,
             lasts,
             links: Vec::new(alloc),
+            made: Mismatches::new(alloc),
         })
     }
 

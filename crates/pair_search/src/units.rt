@@ -86,7 +86,7 @@ pub(crate) fn is_held(domains: &Domains, pair: Pair) -> bool
 }
 
 /// Whether a pair is of ports that exist, and neither held nor deleted.
-pub(crate) fn is_open(domains: &Domains, pair: Pair) -> bool
+pub fn is_open(domains: &Domains, pair: Pair) -> bool
     ensures known { IsTrue result → IsPairOf domains.now.inputs domains.now.outputs pair }
     ensures is { IsTrue result → IsOpen domains.now.entries pair }
 {

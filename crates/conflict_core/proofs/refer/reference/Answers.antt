@@ -4,15 +4,22 @@ use Rattle.conflict_core.specs.Named.{IsGathered}
 use Rattle.conflict_core.specs.Resolutions.{left_out}
 use Rattle.port_covers.proofs.ClosedLemmas.{closed_by_clash}
 use Rattle.conflict_core.proofs.ConflictLemmas.{not_left_out, not_resolved}
+use Rattle.conflict_core.proofs.GroundedLemmas.{learns_none}
 use Rattle.conflict_core.proofs.ReferLemmas.{closed_by_covers, named_of_gathered}
 use Rattle.conflict_core.proofs.refer.reference.Goals as goal
 
-pub returns-then-is_impossible : goal.returns-then-is_impossible
-returns-then-is_impossible c = closed_by_clash c.args.bans.now c.args.conflict.now c.args.way (c.is_impossible.ensures.0 c.if-is_impossible.true)
+pub returns-then-is_impossible-clause-more : goal.returns-then-is_impossible-clause-more
+returns-then-is_impossible-clause-more c = learns_none c.args.graphs.now c.args.domains.now.entries c.args.book.now
 
-pub returns-in-Some : goal.returns-in-Some
-returns-in-Some c =
-    closed_by_covers c.args.bans.now c.args.conflict.now c.args.way c.in-Some.ban (λ imp. false≢true (sym c.if-is_impossible.false ∙ c.is_impossible.ensures.1 imp)) (rw c.in-Some.ensures.found at c.requires.resolved)
+pub returns-then-is_impossible-clause-closed : goal.returns-then-is_impossible-clause-closed
+returns-then-is_impossible-clause-closed c = closed_by_clash c.args.book.now c.args.conflict.now c.args.way (c.is_impossible.ensures.0 c.if-is_impossible.true)
+
+pub returns-in-Some-clause-more : goal.returns-in-Some-clause-more
+returns-in-Some-clause-more c = learns_none c.args.graphs.now c.args.domains.now.entries c.args.book.now
+
+pub returns-in-Some-clause-closed : goal.returns-in-Some-clause-closed
+returns-in-Some-clause-closed c =
+    closed_by_covers c.args.book.now c.args.conflict.now c.args.way c.in-Some.ban (λ imp. false≢true (sym c.if-is_impossible.false ∙ c.is_impossible.ensures.1 imp)) (rw c.in-Some.ensures.found at c.requires.resolved)
 
 pub ban_of_deleted-requires-clause-possible : goal.ban_of_deleted-requires-clause-possible
 ban_of_deleted-requires-clause-possible c = λ imp. false≢true (sym c.if-is_impossible.false ∙ c.is_impossible.ensures.1 imp)
@@ -20,8 +27,8 @@ ban_of_deleted-requires-clause-possible c = λ imp. false≢true (sym c.if-is_im
 pub ban_of_deleted-requires-clause-named : goal.ban_of_deleted-requires-clause-named
 ban_of_deleted-requires-clause-named c =
     let es = c.args.domains.now.entries in
-    named_of_gathered c.args.bans.now es c.args.conflict.now c.args.way (λ imp. false≢true (sym c.if-is_impossible.false ∙ c.is_impossible.ensures.1 imp)) (not_left_out (left_out c.args.resolved) c.args.way (IsGathered c.args.bans.now es c.args.conflict.now c.args.way) (not_resolved c.args.resolved c.args.way c.in_default.ensures.none) c.requires.gathered)
+    named_of_gathered c.args.book.now es c.args.conflict.now c.args.way (λ imp. false≢true (sym c.if-is_impossible.false ∙ c.is_impossible.ensures.1 imp)) (not_left_out (left_out c.args.resolved) c.args.way (IsGathered c.args.book.now es c.args.conflict.now c.args.way) (not_resolved c.args.resolved c.args.way c.in_default.ensures.none) c.requires.gathered)
 
-pub returns : goal.returns
-returns c =
-    closed_by_covers c.args.bans.now c.args.conflict.now c.args.way c.ban_of_deleted.result (λ imp. false≢true (sym c.if-is_impossible.false ∙ c.is_impossible.ensures.1 imp)) c.ban_of_deleted.ensures
+pub returns-clause-closed : goal.returns-clause-closed
+returns-clause-closed c =
+    closed_by_covers c.ban_of_deleted.new.book c.args.conflict.now c.args.way c.in_ok-ban.ban (λ imp. false≢true (sym c.if-is_impossible.false ∙ c.is_impossible.ensures.1 imp)) c.in_ok-ban.ensures.covers

@@ -2,7 +2,7 @@ use Rattle.std.proofs.Common.{◌<◌, ◌+◌, List, length, take, All, Contain
 use Rattle.circuits.specs.declared.port.Pair.{Pair}
 use Rattle.class_refine.specs.Trails.{held_in}
 use Rattle.ban_book.specs.Covering.{Covers}
-use Rattle.port_covers.proofs.BookLemmas.{holds_twice}
+use Rattle.conflict_core.proofs.GroundedLemmas.{learns_twice}
 use Rattle.conflict_core.proofs.JustifiedLemmas.{justified_later}
 use Rattle.conflict_core.proofs.PivotLemmas.{back_is}
 use Rattle.conflict_core.proofs.ResolveLemmas.{last_lent, none_left, resolving_at, resolving_on}
@@ -40,7 +40,7 @@ resolve_on-requires-clause-conflict c =
 
 pub returns-in_err-conflict-in-Forced-clause-more : goal.returns-in_err-conflict-in-Forced-clause-more
 returns-in_err-conflict-in-Forced-clause-more c =
-    holds_twice c.args.graphs.now c.args.book.now c.loop-last.book c.resolve_on.new.book c.loop-last.invariant.more c.in_err-conflict-in-Forced.ensures.more
+    learns_twice c.args.graphs.now c.args.domains.now.entries c.args.book.now c.loop-last.book c.resolve_on.new.book c.loop-last.invariant.more c.in_err-conflict-in-Forced.ensures.more
 
 pub loop-last-preserved : goal.loop-last-preserved
 loop-last-preserved c =

@@ -3,19 +3,19 @@ use Rattle.std.proofs.lemmas.Result.{err_from_is_err_and}
 use Rattle.fact_bans.proofs.HoldingLemmas.{held_one, held_same, held_then, holds_err, holds_ok, may_later}
 use Rattle.match_search.proofs.asking.ask_beside.Goals as goal
 
-pub loop-number-init : goal.loop-number-init
-loop-number-init g c = held_same _ _ _ _ c.requires.may
+pub loop-other-init : goal.loop-other-init
+loop-other-init g c = held_same _ _ _ _ c.requires.may
 
-pub ask_port-requires-clause-may : goal.ask_port-requires-clause-may
-ask_port-requires-clause-may g c = may_later _ _ _ _ _ _ _ c.requires.may c.loop-number.invariant
+pub ask_two-requires-clause-may : goal.ask_two-requires-clause-may
+ask_two-requires-clause-may g c = may_later _ _ _ _ _ _ _ c.requires.may c.loop-other.invariant
 
-pub loop-number-preserved : goal.loop-number-preserved
-loop-number-preserved g c = held_then _ _ _ _ _ _ _ _ _ _ c.loop-number.invariant (held_one _ _ _ _ _ _ _ _ c.in_ok-ask_port.ensures)
+pub loop-other-preserved : goal.loop-other-preserved
+loop-other-preserved g c = held_then _ _ _ _ _ _ _ _ _ _ c.loop-other.invariant (held_one _ _ _ _ _ _ _ _ c.in_ok-ask_two.ensures)
 
-pub returns-in_err-ask_port : goal.returns-in_err-ask_port
-returns-in_err-ask_port g c =
+pub returns-in_err-ask_two : goal.returns-in_err-ask_two
+returns-in_err-ask_two g c =
     let p = err_from_is_err_and c.from_residual.result c.from_residual.ensures.1 in
-    holds_err _ _ _ _ _ _ _ _ _ _ _ c.in_err-ask_port.field-0.0 (cc (p.1, p.2)) c.loop-number.invariant c.in_err-ask_port.ensures
+    holds_err _ _ _ _ _ _ _ _ _ _ _ c.in_err-ask_two.field-0.0 (cc (p.1, p.2)) c.loop-other.invariant c.in_err-ask_two.ensures
 
 pub returns : goal.returns
-returns g c = holds_ok _ _ _ _ _ _ _ _ _ refl c.loop-number.invariant
+returns g c = holds_ok _ _ _ _ _ _ _ _ _ refl c.loop-other.invariant

@@ -1,12 +1,13 @@
 use Rattle.std.proofs.Common.{refl}
 use Rattle.std.proofs.lemmas.Result.{err_from_is_err_and}
 use Rattle.fact_bans.proofs.HoldingLemmas.{held_one, held_same, held_then, holds_err, holds_ok, may_later}
+use Rattle.conflict_core.proofs.GroundedLemmas.{grounded_none}
 use Rattle.match_search.proofs.branching.explore.Goals as goal
 
 pub loop-queue-init : goal.loop-queue-init
 loop-queue-init g c = record {
   held = held_same _ _ _ _ c.requires.may;
-  trail = c.in_ok-domains.ensures c.args.book.now;
+  trail = record { trail = c.in_ok-domains.ensures.trail c.args.book.now; shown = grounded_none _ _ _ c.in_ok-domains.ensures.none };
   trials = c.requires.trials;
 }
 

@@ -1,7 +1,7 @@
 use Rattle.std.proofs.Common.{refl, arith}
 use Rattle.std.proofs.lemmas.Result.{err_from_is_err_and}
 use Rattle.fact_bans.proofs.HoldingLemmas.{held_one, held_same, holds_err, holds_ok, holds_stop}
-use Rattle.match_search.proofs.AskLemmas.{held_more}
+use Rattle.match_search.proofs.AskLemmas.{held_learned}
 use Rattle.match_search.proofs.branching.turn.Goals as goal
 
 pub returns-in_err-ahead-clause-holds : goal.returns-in_err-ahead-clause-holds
@@ -24,11 +24,11 @@ turn_back-requires-clause-impasse g c = (rw c.in-Impasse.is at c.in_ok-ahead.ens
 pub returns-in_err-refusal-clause-holds : goal.returns-in_err-refusal-clause-holds
 returns-in_err-refusal-clause-holds g c =
     let p = err_from_is_err_and c.from_residual-in_err-refusal.result c.from_residual-in_err-refusal.ensures.1 in
-    holds_stop _ _ _ _ _ _ _ _ (cc (p.1, p.2)) (held_more _ _ _ _ _ _ _ _ (held_one _ _ _ _ _ _ _ _ c.in_ok-ahead.ensures.holds) c.in_err-refusal.ensures.more)
+    holds_stop _ _ _ _ _ _ _ _ (cc (p.1, p.2)) (held_learned _ _ _ _ _ _ _ _ _ (held_one _ _ _ _ _ _ _ _ c.in_ok-ahead.ensures.holds) c.in_ok-ahead.ensures.trail.shown c.in_err-refusal.ensures.more)
 
 pub returns-in-None-clause-holds : goal.returns-in-None-clause-holds
 returns-in-None-clause-holds g c =
-    holds_ok _ _ _ _ _ _ _ _ _ refl (held_more _ _ _ _ _ _ _ _ (held_one _ _ _ _ _ _ _ _ c.in_ok-ahead.ensures.holds) c.in_ok-refusal.ensures.more)
+    holds_ok _ _ _ _ _ _ _ _ _ refl (held_learned _ _ _ _ _ _ _ _ _ (held_one _ _ _ _ _ _ _ _ c.in_ok-ahead.ensures.holds) c.in_ok-ahead.ensures.trail.shown c.in_ok-refusal.ensures.more)
 
 pub returns-in-None-clause-less : goal.returns-in-None-clause-less
 returns-in-None-clause-less g c =
@@ -36,4 +36,19 @@ returns-in-None-clause-less g c =
 
 pub returns-in-Some-clause-holds : goal.returns-in-Some-clause-holds
 returns-in-Some-clause-holds g c =
-    holds_ok _ _ _ _ _ _ _ _ _ refl (held_more _ _ _ _ _ _ _ _ (held_one _ _ _ _ _ _ _ _ c.in_ok-ahead.ensures.holds) c.in_ok-refusal.ensures.more)
+    holds_ok _ _ _ _ _ _ _ _ _ refl (held_learned _ _ _ _ _ _ _ _ _ (held_one _ _ _ _ _ _ _ _ c.in_ok-ahead.ensures.holds) c.in_ok-ahead.ensures.trail.shown c.in_ok-refusal.ensures.more)
+
+pub turn_back-requires-clause-trail : goal.turn_back-requires-clause-trail
+turn_back-requires-clause-trail g c = c.in_ok-ahead.ensures.trail.trail
+
+pub returns-in-None-clause-trail : goal.returns-in-None-clause-trail
+returns-in-None-clause-trail g c = record {
+  trail = c.in_ok-refusal.ensures.trail;
+  shown = c.in_ok-refusal.ensures.grounded.stay _ _ c.in_ok-ahead.ensures.trail.shown;
+}
+
+pub returns-in-Some-clause-trail : goal.returns-in-Some-clause-trail
+returns-in-Some-clause-trail g c = record {
+  trail = c.in_ok-refusal.ensures.trail;
+  shown = c.in_ok-refusal.ensures.grounded.stay _ _ c.in_ok-ahead.ensures.trail.shown;
+}

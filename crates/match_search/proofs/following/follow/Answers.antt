@@ -1,7 +1,7 @@
 use Rattle.std.proofs.Common.{refl}
 use Rattle.std.proofs.lemmas.Result.{err_from_is_err_and}
 use Rattle.fact_bans.proofs.HoldingLemmas.{held_one, held_same, holds_err, holds_ok, holds_stop}
-use Rattle.match_search.proofs.AskLemmas.{held_more}
+use Rattle.match_search.proofs.AskLemmas.{held_more, shown_holds}
 use Rattle.match_search.proofs.following.follow.Goals as goal
 
 pub returns-in_err-impasse-clause-holds : goal.returns-in_err-impasse-clause-holds
@@ -20,3 +20,9 @@ returns-in_err-found-clause-holds g c =
 pub returns-clause-holds : goal.returns-clause-holds
 returns-clause-holds g c =
     holds_ok _ _ _ _ _ _ _ _ _ refl (held_more _ _ _ _ _ _ _ _ (held_one _ _ _ _ _ _ _ _ c.in_ok-impasse.ensures.holds) c.in_ok-found.ensures.more)
+
+pub foresee_held-requires-clause-trail : goal.foresee_held-requires-clause-trail
+foresee_held-requires-clause-trail g c = c.in_ok-impasse.ensures.trail.trail
+
+pub returns-clause-trail : goal.returns-clause-trail
+returns-clause-trail g c = shown_holds _ _ _ _ _ c.in_ok-found.ensures.more c.in_ok-impasse.ensures.trail

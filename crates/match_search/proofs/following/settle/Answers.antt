@@ -2,7 +2,7 @@ use Rattle.std.proofs.Common.{refl, sym, subst, arith}
 use Rattle.table_guess.specs.Trials.{AreTrials}
 use Rattle.std.proofs.lemmas.Result.{err_from_is_err_and}
 use Rattle.fact_bans.proofs.HoldingLemmas.{held_one, held_same, held_then, holds_err, holds_ok, holds_stop, may_later}
-use Rattle.match_search.proofs.AskLemmas.{trail_adds, trail_follows}
+use Rattle.match_search.proofs.AskLemmas.{shown_follows}
 use Rattle.match_search.proofs.following.settle.Goals as goal
 
 pub loop-turn-init : goal.loop-turn-init
@@ -23,7 +23,7 @@ pub returns-in-Some-clause-trials : goal.returns-in-Some-clause-trials
 returns-in-Some-clause-trials g c = c.loop-turn.invariant.way.trials
 
 pub returns-in-Some-clause-trail : goal.returns-in-Some-clause-trail
-returns-in-Some-clause-trail g c = trail_follows _ _ _ _ _ c.bans.ensures c.loop-turn.invariant.way.trail c.in_ok-impasse.ensures.propagates
+returns-in-Some-clause-trail g c = shown_follows _ _ _ _ _ _ c.bans.ensures c.loop-turn.invariant.way.trail c.in_ok-impasse.ensures.propagates
 
 pub returns-in-Some-clause-less : goal.returns-in-Some-clause-less
 returns-in-Some-clause-less g c = omega (arith, c.loop-turn.invariant.less, c.in_ok-impasse.ensures.propagates.less)
@@ -32,7 +32,7 @@ pub ask_next-requires-clause-may : goal.ask_next-requires-clause-may
 ask_next-requires-clause-may g c = may_later _ _ _ _ _ _ _ c.requires.may c.loop-turn.invariant.way.held
 
 pub ask_next-requires-clause-trail : goal.ask_next-requires-clause-trail
-ask_next-requires-clause-trail g c = trail_follows _ _ _ _ _ c.bans.ensures c.loop-turn.invariant.way.trail c.in_ok-impasse.ensures.propagates
+ask_next-requires-clause-trail g c = shown_follows _ _ _ _ _ _ c.bans.ensures c.loop-turn.invariant.way.trail c.in_ok-impasse.ensures.propagates
 
 pub returns-in_err-more-clause-holds : goal.returns-in_err-more-clause-holds
 returns-in_err-more-clause-holds g c =
@@ -45,19 +45,19 @@ returns-then-not-more-clause-holds g c =
 
 pub returns-then-not-more-clause-trail : goal.returns-then-not-more-clause-trail
 returns-then-not-more-clause-trail g c =
-    trail_adds _ _ _ _ c.in_ok-more.ensures.holds.adds (trail_follows _ _ _ _ _ c.bans.ensures c.loop-turn.invariant.way.trail c.in_ok-impasse.ensures.propagates)
+    c.in_ok-more.ensures.trail
 
 pub returns-then-not-more-clause-less : goal.returns-then-not-more-clause-less
-returns-then-not-more-clause-less g c = omega (arith, c.loop-turn.invariant.less, c.in_ok-impasse.ensures.propagates.less)
+returns-then-not-more-clause-less g c = omega (arith, c.loop-turn.invariant.less, c.in_ok-impasse.ensures.propagates.less, c.in_ok-more.ensures.less)
 
 pub loop-turn-preserved : goal.loop-turn-preserved
 loop-turn-preserved g c = record {
   way = record {
     held = held_then _ _ _ _ _ _ _ _ _ _ c.loop-turn.invariant.way.held (held_one _ _ _ _ _ _ _ _ c.in_ok-more.ensures.holds);
-    trail = trail_adds _ _ _ _ c.in_ok-more.ensures.holds.adds (trail_follows _ _ _ _ _ c.bans.ensures c.loop-turn.invariant.way.trail c.in_ok-impasse.ensures.propagates);
+    trail = c.in_ok-more.ensures.trail;
     trials = subst (AreTrials c.args.graphs.now.first) (sym c.in_ok-more.ensures.trials) c.loop-turn.invariant.way.trials;
   };
-  less = omega (arith, c.loop-turn.invariant.less, c.in_ok-impasse.ensures.propagates.less);
+  less = omega (arith, c.loop-turn.invariant.less, c.in_ok-impasse.ensures.propagates.less, c.in_ok-more.ensures.less);
 }
 
 pub returns-clause-holds : goal.returns-clause-holds

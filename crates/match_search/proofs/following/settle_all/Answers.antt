@@ -1,7 +1,7 @@
 use Rattle.std.proofs.Common.{refl}
 use Rattle.std.proofs.lemmas.Result.{err_from_is_err_and}
 use Rattle.fact_bans.proofs.HoldingLemmas.{held_one, held_same, held_then, holds_err, holds_ok, may_later}
-use Rattle.match_search.proofs.AskLemmas.{trail_adds}
+use Rattle.match_search.proofs.AskLemmas.{shown_adds}
 use Rattle.match_search.proofs.following.settle_all.Goals as goal
 
 pub returns-in_err-impasse-clause-holds : goal.returns-in_err-impasse-clause-holds
@@ -25,4 +25,7 @@ returns-clause-holds g c =
     holds_ok _ _ _ _ _ _ _ _ _ refl (held_then _ _ _ _ _ _ _ _ _ _ (held_one _ _ _ _ _ _ _ _ c.in_ok-impasse.ensures.holds) (held_one _ _ _ _ _ _ _ _ c.in_ok-found.ensures.holds))
 
 pub returns-clause-trail : goal.returns-clause-trail
-returns-clause-trail g c = trail_adds _ _ _ _ c.in_ok-found.ensures.holds.adds c.in_ok-impasse.ensures.trail
+returns-clause-trail g c = shown_adds _ _ _ _ _ _ c.in_ok-found.ensures.holds.serves.grows c.in_ok-found.ensures.holds.adds c.in_ok-impasse.ensures.trail
+
+pub exchange_held-requires-clause-trail : goal.exchange_held-requires-clause-trail
+exchange_held-requires-clause-trail g c = c.in_ok-impasse.ensures.trail.trail

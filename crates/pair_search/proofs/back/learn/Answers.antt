@@ -1,4 +1,4 @@
-use Rattle.port_covers.proofs.BookLemmas.{holds_twice}
+use Rattle.conflict_core.proofs.GroundedLemmas.{learns_twice}
 use Rattle.pair_search.proofs.StepLemmas.{trail_later}
 use Rattle.pair_search.proofs.back.learn.Goals as goal
 
@@ -12,7 +12,7 @@ resolve-requires-clause-justified c =
 
 pub returns-in_err-learned-clause-more : goal.returns-in_err-learned-clause-more
 returns-in_err-learned-clause-more c =
-    holds_twice c.args.graphs.now c.args.book.now c.conflict_of.new.book c.resolve.new.book c.in_ok-conflict.ensures.more c.in_err-learned.ensures.more
+    learns_twice c.args.graphs.now c.args.domains.now.entries c.args.book.now c.conflict_of.new.book c.resolve.new.book c.in_ok-conflict.ensures.more c.in_err-learned.ensures.more
 
 pub returns-in_err-learned-clause-trail : goal.returns-in_err-learned-clause-trail
 returns-in_err-learned-clause-trail c =
@@ -20,7 +20,7 @@ returns-in_err-learned-clause-trail c =
 
 pub returns-clause-more : goal.returns-clause-more
 returns-clause-more c =
-    holds_twice c.args.graphs.now c.args.book.now c.conflict_of.new.book c.resolve.new.book c.in_ok-conflict.ensures.more c.in_ok-learned.ensures.more
+    learns_twice c.args.graphs.now c.args.domains.now.entries c.args.book.now c.conflict_of.new.book c.resolve.new.book c.in_ok-conflict.ensures.more c.in_ok-learned.ensures.more
 
 pub returns-clause-trail : goal.returns-clause-trail
 returns-clause-trail c =

@@ -4,6 +4,7 @@ use Rattle.class_refine.specs.declared.entry.Fate.TheVariants.{Held, Deleted}
 use Rattle.class_refine.specs.declared.entry.Cause.TheVariants.{Choice}
 use Rattle.class_refine.specs.declared.entry.Reason.TheVariants as reason
 use Rattle.class_refine.specs.Trails.{IsDeleted}
+use Rattle.conflict_core.proofs.GroundedLemmas.{stay_none, stay_push}
 use Rattle.pair_search.proofs.PortLemmas.{open_of_free}
 use Rattle.pair_search.proofs.StepLemmas.{clash_of, justified_one, less_chosen, less_one, one_more_of}
 use Rattle.pair_search.proofs.ports.branch.Goals as goal
@@ -47,3 +48,18 @@ returns-in_ok-delete-in-Some-holder-clause-less c =
     let e : Entry = record { pair = way; fate = Deleted (reason.Clash c.in-Some-holder.held) } in
     let is = open_of_free d.entries port.side port.kind port.number way c.requires.free c.way_of-way.ensures.kind c.way_of-way.ensures.port (λ gone. c.in-Some.ensures.is (subst (IsDeleted d.entries) c.way_of-way.ensures.value gone)) in
     less_one d c.delete.new.self e (one_more_of d c.delete.new.self e c.in_ok-delete-in-Some-holder.ensures.deleted) c.entries-lawful.ensures.lawful c.way_of-way.ensures.known is refl
+
+pub returns-in_default-clause-grounded : goal.returns-in_default-clause-grounded
+returns-in_default-clause-grounded c = stay_none c.args.domains.now.entries
+
+pub returns-in_ok-hold-in-None-clause-grounded : goal.returns-in_ok-hold-in-None-clause-grounded
+returns-in_ok-hold-in-None-clause-grounded c =
+    let d = c.args.domains.now in
+    let e : Entry = record { pair = c.way_of-way.result; fate = Held Choice } in
+    stay_push d.entries c.hold.new.self.entries e (one_more_of d c.hold.new.self e c.in_ok-hold-in-None.ensures.held).entries (λ graphs facts. tt)
+
+pub returns-in_ok-delete-in-Some-holder-clause-grounded : goal.returns-in_ok-delete-in-Some-holder-clause-grounded
+returns-in_ok-delete-in-Some-holder-clause-grounded c =
+    let d = c.args.domains.now in
+    let e : Entry = record { pair = c.way_of-way.result; fate = Deleted (reason.Clash c.in-Some-holder.held) } in
+    stay_push d.entries c.delete.new.self.entries e (one_more_of d c.delete.new.self e c.in_ok-delete-in-Some-holder.ensures.deleted).entries (λ graphs facts. tt)

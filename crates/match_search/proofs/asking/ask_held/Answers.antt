@@ -1,6 +1,6 @@
 use Rattle.std.proofs.lemmas.Result.{err_from_is_err_and}
 use Rattle.fact_bans.proofs.HoldingLemmas.{held_one, held_same, holds_err, holds_last, may_later}
-use Rattle.match_search.proofs.asking.ask_of.Goals as goal
+use Rattle.match_search.proofs.asking.ask_held.Goals as goal
 
 pub returns-in_err-ask_alone : goal.returns-in_err-ask_alone
 returns-in_err-ask_alone g c =

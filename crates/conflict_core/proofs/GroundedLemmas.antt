@@ -1,0 +1,166 @@
+-- Deletions that facts show, and bans that are made of them.
+use Rattle.std.proofs.Common.{◌≡◌, ℕ, ◌<◌, List, [], ◌∷◌, ◌++◌, length, get_or, take, All, Contains, Option, None, Some, IfSome, refl, sym, ap, subst, ◌∙◌, inl, inr, append_assoc, append-nil, arith}
+use Rattle.std.proofs.lemmas.List.{get_or_append_left, length-append}
+use Rattle.std.proofs.lemmas.List.Elements.{All-contains, All-contains_itself, All-cons, All-nil, All-push, All-take}
+use Rattle.circuits.specs.declared.port.Pair.{Pair}
+use Rattle.circuits.specs.declared.port.PortKind.{PortKind}
+use Rattle.circuits.specs.declared.port.PortKind.TheVariants.{Input, Output}
+use Rattle.net_core.specs.Sides.{Graphs}
+use Rattle.account_core.specs.declared.step.Ban.{Ban}
+use Rattle.account_core.specs.declared.step.Step.TheVariants as step
+use Rattle.account_core.specs.Given.{Decided, ban_at, given_of, pairs_of}
+use Rattle.account_core.specs.Steps.{AreValidBans, IsValidBan}
+use Rattle.account_core.proofs.Growing.{ban_stays_valid}
+use Rattle.ban_book.specs.Covering.{Covers}
+use Rattle.ban_book.proofs.BookLemmas.{covers_last, covers_later, valid_push}
+use Rattle.port_covers.specs.Levels.{HoldsMore, IsClosed}
+use Rattle.port_covers.proofs.ClosedLemmas.{ban_pairs}
+use Rattle.class_refine.specs.declared.entry.Entry.{Entry}
+use Rattle.class_refine.specs.declared.entry.Fate.{Fate}
+use Rattle.class_refine.specs.declared.entry.Fate.TheVariants.{Held, Deleted}
+use Rattle.class_refine.specs.declared.entry.Reason.TheVariants as reason
+use Rattle.conflict_core.specs.declared.port.Port.{Port}
+use Rattle.conflict_core.specs.declared.port.Resolved.{Resolved}
+use Rattle.conflict_core.specs.Named.{IsGathered, IsLeftOutOr, deleted}
+use Rattle.conflict_core.specs.Grounded.{AreGrounded, IsGrounded, LearnsMore, MayAdd, StayGrounded, in_order, mismatch_ban}
+use Rattle.conflict_core.proofs.ConflictLemmas.{covers_among}
+use Rattle.conflict_core.proofs.JustifiedLemmas.{named_later}
+use Rattle.conflict_core.proofs.ReferLemmas.{IsReferring}
+
+pub learns_none : (graphs : Graphs) (es : List Entry) (bans : List Ban) → LearnsMore graphs es bans bans
+learns_none graphs es bans = record { added = []; more = sym (append-nil bans); valid = λ facts grounded valid. valid }
+
+pub learns_twice : (graphs : Graphs) (es : List Entry) (first second third : List Ban) → LearnsMore graphs es first second → LearnsMore graphs es second third → LearnsMore graphs es first third
+learns_twice graphs es first second third one other = record {
+  added = one.added ++ other.added;
+  more = other.more ∙ (ap (λ l. l ++ other.added) one.more ∙ append_assoc first one.added other.added);
+  valid = λ facts grounded valid. other.valid facts grounded (one.valid facts grounded valid);
+}
+
+-- bans that are valid whatever was deleted
+pub learns_holds : (graphs : Graphs) (es : List Entry) (before after : List Ban) → HoldsMore graphs before after → LearnsMore graphs es before after
+learns_holds graphs es before after more = record {
+  added = more.added;
+  more = more.more;
+  valid = λ facts grounded valid. more.valid facts valid;
+}
+
+-- the ban of a pair that was deleted by a mismatch
+shown_at : (graphs : Graphs) (facts : List Decided) (es : List Entry) (way with : Pair) (fails holds : ℕ) → Contains es (deleted way (reason.Mismatch with fails holds)) → AreGrounded graphs facts es → (bans : List Ban) → IsValidBan graphs (given_of facts bans) (mismatch_ban way with fails holds)
+shown_at graphs facts es way with fails holds there grounded =
+    All-contains (λ (e : Entry). IsGrounded graphs facts e.pair e.fate) es (deleted way (reason.Mismatch with fails holds)) grounded.each there
+
+pub learns_mismatch : (graphs : Graphs) (es : List Entry) (before after : List Ban) (way with : Pair) (fails holds : ℕ) → Contains es (deleted way (reason.Mismatch with fails holds)) → MayAdd before (mismatch_ban way with fails holds) after → LearnsMore graphs es before after
+learns_mismatch graphs es before after way with fails holds there (inl same) =
+    subst (LearnsMore graphs es before) (sym same) (learns_none graphs es before)
+learns_mismatch graphs es before after way with fails holds there (inr more) = record {
+  added = mismatch_ban way with fails holds ∷ [];
+  more = more;
+  valid = λ facts grounded valid. subst (AreValidBans graphs facts) (sym more) (valid_push graphs facts before (mismatch_ban way with fails holds) valid (shown_at graphs facts es way with fails holds there grounded before));
+}
+
+-- what stands for a way stands for it beside more bans
+any_ban : Ban
+any_ban = record { pairs = []; step = step.Mismatch 0 0 }
+
+ban_later : (before added : List Ban) (b : ℕ) → b < length before → ban_at (given_of [] (before ++ added)) b ≡ ban_at (given_of [] before) b
+ban_later before added b below =
+    ban_pairs (before ++ added) b any_ban (omega (arith, below, length-append before added))
+    ∙ (ap (λ (x : Ban). x.pairs) (get_or_append_left before added any_ban b below) ∙ sym (ban_pairs before b any_ban below))
+
+closed_beside : (before added : List Ban) (pairs : List Pair) (way : Pair) (ref : Option ℕ) → IsClosed before pairs way ref → IsClosed (before ++ added) pairs way ref
+closed_beside before added pairs way None is = record {
+  refers = is.refers;
+  held = λ ban same. omega (arith, is.held ban same, length-append before added);
+}
+closed_beside before added pairs way (Some b) is = record {
+  refers = (is.refers.0, subst (All (Contains (way ∷ pairs))) (sym (ban_later before added b (is.held b refl))) is.refers.1);
+  held = λ ban same. omega (arith, is.held ban same, length-append before added);
+}
+
+pub referring_later : (port : Port) (conflict : List Pair) (before added after : List Ban) (level : _) (number : ℕ) → after ≡ before ++ added → IsReferring port conflict before level number → IsReferring port conflict after level number
+referring_later port conflict before added after level number more is =
+    subst (λ bs. IsReferring port conflict bs level number) (sym more) (record {
+      of_port = is.of_port;
+      size = is.size;
+      closed = λ k d below. closed_beside before added conflict _ (get_or level.refs k d) (is.closed k d below);
+    })
+
+-- what is gathered is so beside more bans
+pub gathered_later : (before added after : List Ban) (es : List Entry) (pairs : List Pair) (skipped : Option Pair) (way : Pair) → after ≡ before ++ added → IsLeftOutOr skipped way (IsGathered before es pairs way) → IsLeftOutOr skipped way (IsGathered after es pairs way)
+gathered_later before added after es pairs skipped way more (inl same) = inl same
+gathered_later before added after es pairs skipped way more (inr (inl impossible)) = inr (inl impossible)
+gathered_later before added after es pairs skipped way more (inr (inr is)) =
+    inr (inr (is.0, is.1, named_later before added after pairs way is.0 more is.2))
+
+pub resolved_later : (before added after : List Ban) (pairs : List Pair) (resolved : Option Resolved) → after ≡ before ++ added → IfSome resolved (λ it. Covers before (it.way ∷ pairs) it.ban) → IfSome resolved (λ it. Covers after (it.way ∷ pairs) it.ban)
+resolved_later before added after pairs None more is = is
+resolved_later before added after pairs (Some it) more is = covers_later before added after (it.way ∷ pairs) it.ban more is
+
+-- one more entry, and the first ones
+pub grounded_push : (graphs : Graphs) (facts : List Decided) (es : List Entry) (e : Entry) → AreGrounded graphs facts es → IsGrounded graphs facts e.pair e.fate → AreGrounded graphs facts (es ++ e ∷ [])
+grounded_push graphs facts es e are is = record {
+  each = All-push (λ (x : Entry). IsGrounded graphs facts x.pair x.fate) es e are.each is;
+}
+
+pub grounded_front : (graphs : Graphs) (facts : List Decided) (es : List Entry) (place : ℕ) → AreGrounded graphs facts es → AreGrounded graphs facts (take place es)
+grounded_front graphs facts es place are = record {
+  each = All-take (λ (x : Entry). IsGrounded graphs facts x.pair x.fate) place es are.each;
+}
+
+pub grounded_none : (graphs : Graphs) (facts : List Decided) (es : List Entry) → es ≡ [] → AreGrounded graphs facts es
+grounded_none graphs facts es none = subst (AreGrounded graphs facts) (sym none) (record {
+  each = All-nil (λ (x : Entry). IsGrounded graphs facts x.pair x.fate);
+})
+
+-- entries that stay grounded
+pub stay_none : (es : List Entry) → StayGrounded es es
+stay_none es = record { stay = λ graphs facts are. are }
+
+pub stay_twice : (first second third : List Entry) → StayGrounded first second → StayGrounded second third → StayGrounded first third
+stay_twice first second third one other = record { stay = λ graphs facts are. other.stay graphs facts (one.stay graphs facts are) }
+
+pub stay_push : (es after : List Entry) (e : Entry) → after ≡ es ++ e ∷ [] → ((graphs : Graphs) (facts : List Decided) → IsGrounded graphs facts e.pair e.fate) → StayGrounded es after
+stay_push es after e is shown = record {
+  stay = λ graphs facts are. subst (AreGrounded graphs facts) (sym is) (grounded_push graphs facts es e are (shown graphs facts));
+}
+
+pub stay_front : (es after : List Entry) (place : ℕ) (e : Entry) → after ≡ take place es ++ e ∷ [] → ((graphs : Graphs) (facts : List Decided) → IsGrounded graphs facts e.pair e.fate) → StayGrounded es after
+stay_front es after place e is shown = record {
+  stay = λ graphs facts are. subst (AreGrounded graphs facts) (sym is) (grounded_push graphs facts (take place es) e (grounded_front graphs facts es place are) (shown graphs facts));
+}
+
+-- facts that come after leave what was shown
+ban_valid_later : (graphs : Graphs) (facts added : List Decided) (bans : List Ban) (ban : Ban) → IsValidBan graphs (given_of facts bans) ban → IsValidBan graphs (given_of (facts ++ added) bans) ban
+ban_valid_later graphs facts added bans ban valid =
+    subst (λ (l : List (List Pair)). IsValidBan graphs (record { facts = facts ++ added; bans = l }) ban) (append-nil (pairs_of bans)) (ban_stays_valid (given_of facts bans) added [] graphs ban valid)
+
+fate_later : (graphs : Graphs) (facts added : List Decided) (pair : Pair) (fate : Fate) → IsGrounded graphs facts pair fate → IsGrounded graphs (facts ++ added) pair fate
+fate_later graphs facts added pair (Held cause) is = tt
+fate_later graphs facts added pair (Deleted (reason.Clash with)) is = tt
+fate_later graphs facts added pair (Deleted (reason.Ban number)) is = tt
+fate_later graphs facts added pair (Deleted (reason.Mismatch with fails holds)) is =
+    λ bans. ban_valid_later graphs facts added bans (mismatch_ban pair with fails holds) (is bans)
+
+pub grounded_later : (graphs : Graphs) (facts added after : List Decided) (es : List Entry) → after ≡ facts ++ added → AreGrounded graphs facts es → AreGrounded graphs after es
+grounded_later graphs facts added after es more are =
+    subst (λ fs. AreGrounded graphs fs es) (sym more) (record {
+      each = λ k d below. fate_later graphs facts added (get_or es k d).pair (get_or es k d).fate (are.each k d below);
+    })
+
+-- a ban of a way and one of some pairs leads into them
+pub covers_two : (bans : List Ban) (way with : Pair) (pairs : List Pair) (number : ℕ) → Contains pairs with → Covers bans (way ∷ with ∷ []) number → Covers bans (way ∷ pairs) number
+covers_two bans way with pairs number there covers =
+    covers_among bans way (with ∷ []) pairs number (All-cons (Contains pairs) with [] there (All-nil (Contains pairs))) covers
+
+-- the ban of a mismatch has no other pairs than these two
+order_within : (kind : PortKind) (way with : Pair) → All (Contains (way ∷ with ∷ [])) (in_order kind way with)
+order_within Input way with = All-contains_itself (way ∷ with ∷ [])
+order_within Output way with =
+    All-cons (Contains (way ∷ with ∷ [])) with (way ∷ []) (1, omega arith, refl) (All-cons (Contains (way ∷ with ∷ [])) way [] (0, omega arith, refl) (All-nil (Contains (way ∷ with ∷ []))))
+
+pub covers_mismatch : (bans after : List Ban) (ban : Ban) (way with : Pair) (fails holds number : ℕ) → ban ≡ mismatch_ban way with fails holds → after ≡ bans ++ ban ∷ [] → number ≡ length bans → Covers after (way ∷ with ∷ []) number
+covers_mismatch bans after ban way with fails holds number same more last =
+    covers_last bans after ban (way ∷ with ∷ []) number more last (record {
+      among = subst (All (Contains (way ∷ with ∷ []))) (sym (ap (λ (b : Ban). b.pairs) same)) (order_within way.kind way with);
+    })

@@ -1,0 +1,34 @@
+use Rattle.std.proofs.Common.{refl, sym, subst, map}
+use Rattle.std.proofs.lemmas.Result.{err_from_is_err_and}
+use Rattle.account_core.specs.Given.{decided_by}
+use Rattle.fact_bans.specs.declared.mismatched.Unlike.{Unlike}
+use Rattle.fact_bans.specs.Mismatched.{IsBanBy, mismatch_of}
+use Rattle.fact_bans.proofs.ServeLemmas.{served_one, served_then, serves_err, serves_ok}
+use Rattle.fact_bans.proofs.FactLemmas.{told_grows}
+use Rattle.fact_bans.proofs.MismatchedLemmas.{mismatch_valid, unlike}
+use Rattle.fact_bans.proofs.mismatched.unlike_by.Goals as goal
+
+pub returns-in_err-other-clause-serves : goal.returns-in_err-other-clause-serves
+returns-in_err-other-clause-serves g c =
+    let p = err_from_is_err_and c.from_residual-in_err-other.result c.from_residual-in_err-other.ensures.1 in
+    serves_err _ _ _ _ _ _ _ c.in_err-other.field-0.0 (cc (p.1, p.2)) (served_one _ _ _ _ _ c.in_ok-one.ensures.serves) c.in_err-other.ensures.serves
+
+pub returns-then-one-other-clause-serves : goal.returns-then-one-other-clause-serves
+returns-then-one-other-clause-serves g c =
+    serves_ok _ _ _ _ _ _ refl (served_then _ _ _ _ _ _ (served_one _ _ _ _ _ c.in_ok-one.ensures.serves) (served_one _ _ _ _ _ c.in_ok-other.ensures.serves))
+
+pub returns-clause-serves : goal.returns-clause-serves
+returns-clause-serves g c =
+    serves_ok _ _ _ _ _ _ refl (served_then _ _ _ _ _ _ (served_one _ _ _ _ _ c.in_ok-one.ensures.serves) (served_one _ _ _ _ _ c.in_ok-other.ensures.serves))
+
+pub returns-clause-shown : goal.returns-clause-shown
+returns-clause-shown g c =
+    let pairs = c.args.pairs.now in
+    let claim = c.args.carried.claim in
+    let image = c.args.carried.image in
+    let mid = g.O.Oracle.known c.decide.new.oracle in
+    let new = g.O.Oracle.known c.decide-2.new.oracle in
+    let graphs = (g.O.Oracle.known c.args.oracle.now).graphs in
+    let told = told_grows mid new claim c.in_ok-one.one.holds c.in_ok-one.one.number c.in_ok-other.ensures.serves.grows c.in_ok-one.ensures.told in
+    subst (λ (unlike : Unlike). IsBanBy graphs (map decided_by new.facts) pairs (mismatch_of pairs unlike)) (sym c.unlike_of.ensures)
+    (mismatch_valid graphs (map decided_by new.facts) pairs claim image c.in_ok-one.one.holds c.in_ok-other.other.holds c.in_ok-one.one.number c.in_ok-other.other.number c.requires.known c.requires.ordered c.requires.image told c.in_ok-other.ensures.told (unlike c.in_ok-one.one.holds c.in_ok-other.other.holds c.if-one-other.false))
