@@ -13,7 +13,7 @@ CHANGES = [  # what is changed, and where: the first of these crates that there 
     ("a new kind of AIGER fault", ["net_file", "net_core"]),
     ("a new step of an account", ["account_core"]),
     ("another choice of the next port", ["match_search"]),
-    ("a new command", ["npnp"]),
+    ("a new command", ["command_words", "npnp"]),
 ]
 
 

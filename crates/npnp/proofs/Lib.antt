@@ -1,14 +1,2 @@
-pub mod AnswerLemmas
-pub mod CheckLemmas
-pub mod CircuitLemmas
-pub mod FindLemmas
 pub mod InfoLemmas
-pub mod JudgingLemmas
-pub mod MakingLemmas
-pub mod MatchLemmas
-pub mod PairLemmas
-pub mod Reading
-pub mod Soundness
-pub mod TryingLemmas
-pub mod WordLemmas
-pub mod WritingLemmas
+pub mod SearchLemmas

@@ -3,15 +3,8 @@
 //! outputs of a netlist depend on, and how; and makes pairs of netlists that match, and tries them.
 #![tactic(auto)]
 
-mod files;
 mod info;
-mod judging;
-mod making;
 mod matching;
-mod netlists;
 pub mod outcome;
-mod report;
 pub mod run;
 mod trying;
-mod words;
-mod writing;

@@ -9,22 +9,18 @@ ghost use Rattle.account_core.specs.Steps.{AreValidBans};
 ghost use Rattle.account_core.specs.Shown.{IsEmptyBan, IsShownMatch};
 ghost use Rattle.match_search.specs.Founds.{IsFound};
 ghost use Rattle.shelf_core.specs.State.{Closed};
-ghost use Rattle.npnp.specs.Info.{IsSpentOf};
-ghost use Rattle.npnp.specs.Stops.{unwritten};
+ghost use Rattle.npnp.specs.Solving.{Solves};
+ghost use Rattle.run_steps.specs.Info.{IsSpentOf};
 ghost use Rattle.account_write.specs.Records.{account_of, records_of};
-ghost use Rattle.npnp.specs.Steps.{Concludes, Decides, Finds, IsAnswered, IsNew, Solves, asked_match};
+ghost use Rattle.run_steps.specs.Steps.{Decides, Finds, IsAnswered, IsNew};
+ghost use Rattle.command_words.specs.Commands.{asked_match};
 
-use crate::netlists::read_netlist;
-use crate::outcome::{Outcome, Which};
-use crate::report::report_named;
-use crate::run::Ending;
-use crate::words::Match;
-use crate::writing::write_account;
 use account_core::{Ban, Fact};
 use account_trim::{Core, trim};
 use account_write::Account;
 use ban_book::BanBook;
 use cnf_core::{Log, Stop};
+use command_words::Match;
 use fact_tests::FactBook;
 use items::Items;
 use match_search::{Found, decide};
@@ -32,7 +28,8 @@ use net_core::{Graphs, Matching};
 use net_file::Named;
 use port_sides::PairableGraphs;
 use query_core::Ledger;
-use shelf_core::{Shelf, ShelfStop};
+use run_steps::{Ending, Outcome, Which, conclude, read_netlist, report_named};
+use shelf_core::Shelf;
 use std::alloc::{AllocError, Global};
 use watch_core::Watch;
 
@@ -83,34 +80,6 @@ fn find_of<S: Shelf, W: Watch>(
         &account,
         Ending { outcome, report },
     )
-}
-
-/// Writes an account, and ends the run by its answer where it was written.
-fn conclude<S: Shelf>(
-    alloc: Global,
-    shelf: &mut S,
-    name: &str,
-    account: &Account,
-    ending: Ending,
-) -> Result<Ending, Outcome>
-    requires { (S.state shelf.old).mode ≡ Closed }
-    ensures { Concludes S.tells name.now (account_of (records_of account.now)) ending
-        (S.state shelf.old) (S.state shelf.new) result }
-{
-    match write_account(alloc, shelf, name, account) {
-        Ok(()) => Ok(ending),
-        Err(stop) => Err(unwritten(stop)),
-    }
-}
-
-/// What a refusal of a write ends the run with.
-pub(crate) fn unwritten(stop: ShelfStop) -> Outcome
-    ensures { result ≡ unwritten stop }
-{
-    match stop {
-        ShelfStop::Failed => Outcome::WriteFault,
-        ShelfStop::Memory => Outcome::Memory,
-    }
 }
 
 /// Looks for a match of two graphs. Where they have other numbers of ports there is nothing to search.

@@ -6,42 +6,32 @@ ghost use Rattle.net_file.specs.declared.fault.NetKind.{NetKind};
 ghost use Rattle.shelf_core.specs.Fault.{Rose};
 ghost use Rattle.shelf_core.specs.State.{Closed};
 ghost use Rattle.account_check.specs.declared.verdict.Why.{Why as Reason};
-ghost use Rattle.npnp.specs.declared.outcome.Outcome.{Outcome as AnyOutcome};
-ghost use Rattle.npnp.specs.declared.outcome.Which.{Which as AnyFile};
-ghost use Rattle.npnp.specs.Words.{AskForPair, AskNothing, AsksTrial, ReadFiles};
+ghost use Rattle.run_steps.specs.declared.outcome.Outcome.{Outcome as AnyOutcome};
+ghost use Rattle.run_steps.specs.declared.outcome.Which.{Which as AnyFile};
+ghost use Rattle.command_words.specs.Words.{AskForPair, AskNothing, AsksTrial, ReadFiles};
 ghost use Rattle.query_core.specs.Ledgers.{Ledgered};
-ghost use Rattle.npnp.specs.Check.{IsAccepted, IsRejected, IsMatchOfFiles, LacksMatch};
-ghost use Rattle.npnp.specs.Make.{HoldsPair, NamesPair, WriteFiles};
-ghost use Rattle.npnp.specs.Match.{HasNoMatch, IsAskedToMatch, IsMatchFound, IsProved, IsSpentOnTwo, NamesAccount};
-ghost use Rattle.npnp.specs.Outcomes.{EndsEarly, FollowsWords, IsAbsent, IsAskedOf, IsDecided, IsOfMatch, IsOfTrial, IsRight, IsSettled, IsSound, IsSpentOn, IsTold, Leaves, LeavesFiles, MayBeCut};
-ghost use Rattle.npnp.specs.Report.{IsReport, line_of};
-ghost use Rattle.npnp.specs.Steps.{Decides, IsTrialCommand, asked_check, TellsLine, PutsText, WritesPart};
-ghost use Rattle.npnp.specs.Trial.{IsSpentOnPair, IsTried};
+ghost use Rattle.run_steps.specs.Check.{IsAccepted, IsRejected, IsMatchOfFiles, LacksMatch};
+ghost use Rattle.run_steps.specs.Make.{HoldsPair, NamesPair, WriteFiles};
+ghost use Rattle.run_steps.specs.Match.{HasNoMatch, IsAskedToMatch, IsMatchFound, IsProved, IsSpentOnTwo, NamesAccount};
+ghost use Rattle.run_steps.specs.Outcomes.{EndsEarly, FollowsWords, IsAbsent, IsAskedOf, IsDecided, IsOfMatch, IsOfTrial, IsRight, IsSettled, IsSound, IsSpentOn, IsTold, Leaves, LeavesFiles, MayBeCut};
+ghost use Rattle.run_steps.specs.Report.{IsReport, line_of};
+ghost use Rattle.run_steps.specs.Steps.{Decides, TellsLine, PutsText, WritesPart};
+ghost use Rattle.command_words.specs.Commands.{IsTrialCommand, asked_check};
+ghost use Rattle.run_steps.specs.Trial.{IsSpentOnPair, IsTried};
 
 use crate::info::inform;
-use crate::judging::judge;
-use crate::making::make_files;
 use crate::matching::find;
-use crate::netlists::read_netlist;
-use crate::outcome::{Outcome, Which};
-use crate::report::{report_line, report_named};
 use crate::trying::try_pair;
-use crate::words::{Check, Command, command_asked};
 use account_check::Verdict;
+use command_words::{Command, command_asked};
+pub use run_steps::Ending;
+use run_steps::{Outcome, check_files, make_files, report_line};
 use shelf_core::{Shelf, ShelfStop, Sink};
 use std::alloc::Global;
 use watch_core::Watch;
 
 /// What is printed where there is no memory.
 const OUT_OF_MEMORY: &[u8] = b"out of memory\n";
-
-/// How a run ends, and the report that says so. Where there is no memory the report is nothing, and is written from
-/// a constant.
-#[derive(Debug, Drop)]
-pub struct Ending {
-    pub outcome: Outcome,
-    pub report: Vec<u8>,
-}
 
 /// Runs the program on the words of its command line: reads the files that they name, decides, and puts one
 /// report. It knows these words, where each netlist is in BLIF or in the AIGER format:
@@ -242,7 +232,7 @@ fn follow<S: Shelf, W: Watch>(
     ensures no_call { IsTrialCommand command.now → shelf.new ≡ shelf.old }
 {
     match command {
-        Command::Check(check) => decide(alloc, check, shelf, watch),
+        Command::Check(check) => check_files(alloc, check, shelf, watch),
         Command::Match(asked) => find(alloc, asked, shelf, watch),
         Command::Info(info) => inform(alloc, info, shelf, watch),
         Command::Make(asked) => make_files(alloc, asked, shelf),
@@ -261,24 +251,6 @@ fn end_by_line(alloc: Global, outcome: Outcome) -> Ending
             report: Vec::new(alloc),
         },
     }
-}
-
-/// How the files that a check names end the run. The error is an outcome that came before both netlists were read, or
-/// a fault.
-fn decide<S: Shelf, W: Watch>(
-    alloc: Global,
-    check: &Check<'_>,
-    shelf: &mut S,
-    watch: &W,
-) -> Result<Ending, Outcome>
-    requires { (S.state shelf.old).mode ≡ Closed }
-    ensures { Decides S.tells (asked_check check.now) (S.state shelf.old) (S.state shelf.new) result }
-{
-    let first = read_netlist(alloc, shelf, Which::First, check.first, watch)?;
-    let second = read_netlist(alloc, shelf, Which::Second, check.second, watch)?;
-    let outcome = judge(alloc, &first, &second, shelf, check.account, watch)?;
-    let report = report_named(alloc, &first, &second, &outcome)?;
-    Ok(Ending { outcome, report })
 }
 
 /// Puts the report of an ending, and answers how the run ends with that. After a failed write of a file nothing is put.

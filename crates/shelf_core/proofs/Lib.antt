@@ -1,3 +1,4 @@
 pub mod Files
 pub mod Pieces
 pub mod Failures
+pub mod FaultLemmas

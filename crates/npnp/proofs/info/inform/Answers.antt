@@ -1,7 +1,7 @@
 -- What is known of the file that was read, or what ends the run at it.
 use Rattle.std.proofs.lemmas.Result.{err_from_is_err_and}
-use Rattle.npnp.proofs.CheckLemmas.{right_at_only, stopped}
-use Rattle.npnp.proofs.InfoLemmas.{informs}
+use Rattle.run_steps.proofs.CheckLemmas.{right_at_only, stopped}
+use Rattle.run_steps.proofs.InfoLemmas.{informs}
 use Rattle.npnp.proofs.info.inform.Goals as goal
 
 pub returns-in_err-named : goal.returns-in_err-named

@@ -2,7 +2,7 @@
 use Rattle.std.proofs.Common.{subst, IfErr}
 use Rattle.std.proofs.lemmas.Result.{err_from_is_err_and}
 use Rattle.oracle_core.specs.Oracles.{IsStopped}
-use Rattle.npnp.specs.Info.{with_itself}
+use Rattle.run_steps.specs.Info.{with_itself}
 use Rattle.npnp.proofs.InfoLemmas.{memory_stops, spent_is, suits_first}
 use Rattle.npnp.proofs.info.rows_of.Goals as goal
 

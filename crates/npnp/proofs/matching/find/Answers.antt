@@ -1,12 +1,13 @@
 -- The netlists were read, and a match of them was sought.
 use Rattle.std.proofs.Common.{ℕ, List, inr, ◌∙◌, subst, arith}
 use Rattle.std.proofs.lemmas.Result.{err_from_is_err_and}
-use Rattle.npnp.specs.Outcomes.{EndsAt}
-use Rattle.npnp.specs.Steps.{IsReadFrom, netlist_of}
-use Rattle.npnp.specs.declared.outcome.Which.TheVariants.{Second}
-use Rattle.npnp.proofs.CheckLemmas.{right_at_first, right_at_second, rose_later, stopped}
-use Rattle.npnp.proofs.FindLemmas.{finds_from}
-use Rattle.npnp.proofs.MatchLemmas.{finds}
+use Rattle.run_steps.specs.Outcomes.{EndsAt}
+use Rattle.run_steps.specs.Steps.{IsReadFrom, netlist_of}
+use Rattle.run_steps.specs.declared.outcome.Which.TheVariants.{Second}
+use Rattle.run_steps.proofs.CheckLemmas.{right_at_first, right_at_second, stopped}
+use Rattle.shelf_core.proofs.FaultLemmas.{rose_later}
+use Rattle.run_steps.proofs.FindLemmas.{finds_from}
+use Rattle.run_steps.proofs.MatchLemmas.{finds}
 use Rattle.npnp.proofs.matching.find.Goals as goal
 
 pub returns-in_err-first : goal.returns-in_err-first

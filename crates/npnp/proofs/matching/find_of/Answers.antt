@@ -2,9 +2,9 @@
 use Rattle.std.proofs.Common.{inr, refl, subst}
 use Rattle.std.proofs.lemmas.Result.{err_from_is_err_and}
 use Rattle.account_write.specs.Records.{account_of, records_of}
-use Rattle.npnp.specs.Steps.{IsAnswered, IsStopWithin, graphs_of}
-use Rattle.npnp.specs.declared.outcome.Outcome.TheVariants.{Memory}
-use Rattle.npnp.proofs.FindLemmas.{not_solved, solved, table_of_answer}
+use Rattle.run_steps.specs.Steps.{IsAnswered, IsStopWithin, graphs_of}
+use Rattle.run_steps.specs.declared.outcome.Outcome.TheVariants.{Memory}
+use Rattle.run_steps.proofs.FindLemmas.{not_solved, solved, table_of_answer}
 use Rattle.npnp.proofs.matching.find_of.Goals as goal
 
 pub returns-in_err-solved : goal.returns-in_err-solved

@@ -1,6 +1,6 @@
 -- A graph's ports are numbers of 32 bits; the account is accepted.
 use Rattle.std.proofs.Common.{arith}
-use Rattle.npnp.proofs.AnswerLemmas.{answer_matched}
+use Rattle.run_steps.proofs.AnswerLemmas.{answer_matched}
 use Rattle.npnp.proofs.matching.matched.Goals as goal
 
 pub of_match-requires-clause-inputs : goal.of_match-requires-clause-inputs

@@ -1,5 +1,5 @@
 -- The account that the numbers of ports differ is accepted, so there is no match.
-use Rattle.npnp.proofs.AnswerLemmas.{answer_other_ports}
+use Rattle.run_steps.proofs.AnswerLemmas.{answer_other_ports}
 use Rattle.npnp.proofs.matching.other_ports.Goals as goal
 
 pub returns : goal.returns

@@ -3,7 +3,7 @@ use Rattle.std.proofs.Common.{ap, sym, subst, ◌∙◌}
 use Rattle.std.proofs.lemmas.Result.{err_from_is_err_and}
 use Rattle.oracle_core.specs.Oracles.{IsStopped, Known}
 use Rattle.match_search.specs.Founds.{IsFound}
-use Rattle.npnp.proofs.FindLemmas.{bans_for, facts_for}
+use Rattle.npnp.proofs.SearchLemmas.{bans_for, facts_for}
 use Rattle.npnp.proofs.InfoLemmas.{memory_stops, spent_is, spent_says, suits_first}
 use Rattle.npnp.proofs.matching.search_in.Goals as goal
 

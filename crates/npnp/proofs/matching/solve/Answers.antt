@@ -3,8 +3,8 @@ use Rattle.std.proofs.lemmas.Result.{err_from_is_err_and}
 use Rattle.std.proofs.lemmas.Bool.{false≢true}
 use Rattle.std.proofs.Common.{sym, ap, subst, ◌∙◌}
 use Rattle.std.specs.Prelude.{is_some}
-use Rattle.npnp.specs.Steps.{Solves}
-use Rattle.npnp.proofs.FindLemmas.{no_room}
+use Rattle.npnp.specs.Solving.{Solves}
+use Rattle.npnp.proofs.SearchLemmas.{no_room}
 use Rattle.npnp.proofs.matching.solve.Goals as goal
 
 pub other_ports-requires : goal.other_ports-requires

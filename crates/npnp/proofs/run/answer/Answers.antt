@@ -1,8 +1,9 @@
 -- The words name the files that were read.
 use Rattle.std.proofs.Common.{inl, inr, Err, ap, sym, subst, ◌∙◌}
-use Rattle.npnp.specs.Outcomes.{FollowsWords, IsRight, Leaves}
-use Rattle.npnp.proofs.MatchLemmas.{may_be_cut, not_written, writes_of}
-use Rattle.npnp.proofs.CheckLemmas.{follows_memory, follows_nothing, known_form, trial_command}
+use Rattle.run_steps.specs.Outcomes.{FollowsWords, IsRight, Leaves}
+use Rattle.run_steps.proofs.MatchLemmas.{may_be_cut, not_written, writes_of}
+use Rattle.run_steps.proofs.CheckLemmas.{follows_memory, follows_nothing}
+use Rattle.command_words.proofs.FormLemmas.{known_form, trial_command}
 use Rattle.npnp.proofs.run.answer.Goals as goal
 
 pub returns-in-Ok-clause-right : goal.returns-in-Ok-clause-right

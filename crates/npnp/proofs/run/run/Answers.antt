@@ -1,10 +1,10 @@
 -- What is told is what was answered.
 use Rattle.std.proofs.Common.{inl, inr, ℕ, List, Option, refl, sym, subst, ◌∙◌}
-use Rattle.npnp.specs.Outcomes.{IsOfTrial, IsRight, IsSound, IsTold, Leaves}
-use Rattle.npnp.specs.Report.{line_of}
-use Rattle.npnp.specs.declared.outcome.Outcome.TheVariants.{AcceptedMatch, AcceptedRefusal, Rejected, Absent, TooLarge, Malformed, Memory}
-use Rattle.npnp.proofs.MatchLemmas.{kept, may_be_cut}
-use Rattle.npnp.proofs.CheckLemmas.{exactly, exactly_informed, exactly_none, of_match, decided_matched, decided_made, decided_none, decided_tried, told_read, decided_spent, report_of_same, decided_accepted, decided_refusal, decided_rejected, decided_absent, decided_too_large, decided_malformed}
+use Rattle.run_steps.specs.Outcomes.{IsOfTrial, IsRight, IsSound, IsTold, Leaves}
+use Rattle.run_steps.specs.Report.{line_of}
+use Rattle.run_steps.specs.declared.outcome.Outcome.TheVariants.{AcceptedMatch, AcceptedRefusal, Rejected, Absent, TooLarge, Malformed, Memory}
+use Rattle.run_steps.proofs.MatchLemmas.{kept, may_be_cut}
+use Rattle.run_steps.proofs.CheckLemmas.{exactly, exactly_informed, exactly_none, of_match, decided_matched, decided_made, decided_none, decided_tried, told_read, decided_spent, report_of_same, decided_accepted, decided_refusal, decided_rejected, decided_absent, decided_too_large, decided_malformed}
 use Rattle.npnp.proofs.run.run.Goals as goal
 
 pub returns-clause-accepted : goal.returns-clause-accepted

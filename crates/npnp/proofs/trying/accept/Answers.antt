@@ -1,6 +1,6 @@
 -- A check says nothing else of an account that is accepted.
 use Rattle.std.proofs.Common.{ap, ◌∙◌, Ok, Err}
-use Rattle.npnp.proofs.TryingLemmas.{no_refusal_told, no_rejection_told}
+use Rattle.run_steps.proofs.TryingLemmas.{no_refusal_told, no_rejection_told}
 use Rattle.npnp.proofs.trying.accept.Goals as goal
 
 pub unreachable-requires : goal.unreachable-requires

@@ -2,8 +2,8 @@
 use Rattle.std.proofs.Common.{◌∙◌, subst, sym}
 use Rattle.std.proofs.lemmas.Result.{err_from_is_err_and}
 use Rattle.account_write.specs.Records.{account_of, records_of}
-use Rattle.npnp.specs.Steps.{IsProvedMatch}
-use Rattle.npnp.proofs.TryingLemmas.{ends_as, proved_match}
+use Rattle.run_steps.specs.Steps.{IsProvedMatch}
+use Rattle.run_steps.proofs.TryingLemmas.{ends_as, proved_match}
 use Rattle.npnp.proofs.trying.prove_match.Goals as goal
 
 pub returns-in_err-solved-clause-stopped : goal.returns-in_err-solved-clause-stopped

@@ -4,8 +4,8 @@ use Rattle.std.proofs.lemmas.Result.{err_from_is_err_and}
 use Rattle.circuits.specs.Matches.{HaveNpnpEqualFunctions}
 use Rattle.account_core.specs.Ports.{HaveAsMany}
 use Rattle.net_core.specs.Sides.{Graphs}
-use Rattle.npnp.specs.Steps.{IsProvedMatch, IsStopWithin, graphs_of}
-use Rattle.npnp.proofs.TryingLemmas.{as_many, equal, no_room, none_some, stopped, tried}
+use Rattle.run_steps.specs.Steps.{IsProvedMatch, IsStopWithin, graphs_of}
+use Rattle.run_steps.proofs.TryingLemmas.{as_many, equal, no_room, none_some, stopped, tried}
 use Rattle.npnp.proofs.trying.try_of.Goals as goal
 
 pub unreachable-requires : goal.unreachable-requires

@@ -1,6 +1,6 @@
 -- The pair was made, and tried.
 use Rattle.std.proofs.lemmas.Result.{err_from_is_err_and}
-use Rattle.npnp.proofs.TryingLemmas.{no_room}
+use Rattle.run_steps.proofs.TryingLemmas.{no_room}
 use Rattle.npnp.proofs.trying.try_pair.Goals as goal
 
 pub returns-in_err-pair : goal.returns-in_err-pair

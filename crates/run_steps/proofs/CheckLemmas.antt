@@ -1,0 +1,756 @@
+-- The words and the files determine what is answered.
+use Rattle.std.proofs.Common.{◌≡◌, ◌≢◌, ℕ, ◌<◌, ◌≤◌, ◌↔◌, ◌⊎◌, inl, inr, Bool, IsTrue, List, length, Option, None, Some, Result, Ok, Err, IfOk, IfErr, refl, sym, ◌∙◌, ap, subst, arith}
+use Rattle.shelf_core.specs.Fault.{Rose}
+use Rattle.circuits.specs.Levels.{IsOrderOf}
+use Rattle.circuits.specs.Netlists.{Net}
+use Rattle.circuits.proofs.OneOrder.{one_order}
+use Rattle.net_core.specs.Sides.{Graphs}
+use Rattle.net_core.specs.declared.matching.Matching.{Matching}
+use Rattle.net_file.specs.declared.fault.NetKind.{NetKind}
+use Rattle.account_check.specs.Verdicts.{IsAccepted as Proves, IsRejected as IsBadAt}
+use Rattle.account_check.specs.declared.verdict.Verdict.{Verdict}
+use Rattle.account_check.specs.declared.verdict.Verdict.TheVariants as verdict
+use Rattle.account_check.specs.declared.verdict.Why.{Why}
+use Rattle.account_check.proofs.VerdictLemmas.{one_rejection, one_proved, never_both}
+use Rattle.run_steps.specs.Circuits.{IsCircuit, IsCircuitFault}
+use Rattle.query_core.specs.Ledgers.{Ledgered}
+use Rattle.command_words.specs.Words.{AsksCheck, AsksInfo, AsksMatch, AskNothing, NameThree, ReadFiles, Sought}
+use Rattle.run_steps.specs.Match.{HasNoMatch, IsAskedToMatch, IsMatchFound, IsSought, IsSpentOnTwo}
+use Rattle.circuits.specs.Matches.{AreNpnpEqual}
+use Rattle.run_steps.specs.Check.{IsAsked, HasAccount, LacksAccount}
+use Rattle.run_steps.specs.Held.{Netlist, HoldsNetlist, HoldsGraph, HoldsFault, HoldsTooMuch}
+use Rattle.run_steps.specs.Outcomes.{EndsAt, EndsEarly, FollowsWords, IsAskedOf, IsSpentOn, IsOfOne, IsOfMatch, IsRight, IsDecided, IsTold, Leaves}
+use Rattle.net_file.specs.declared.named.Named.{Named}
+use Rattle.shelf_core.specs.State.{ShelfState, Closed}
+use Rattle.run_steps.specs.Report.{IsReport}
+use Rattle.run_steps.specs.Steps.{ReadAs, IsVerdict, IsEarly, IsOfReading, IsStopOf, ReadsNetlist, Decides}
+use Rattle.command_words.specs.declared.words.Command.{Command}
+use Rattle.run_steps.specs.Stops.{outcome_of}
+use Rattle.run_steps.specs.declared.outcome.Ending.{Ending}
+use Rattle.shelf_files.specs.declared.files.Stop.{Stop}
+use Rattle.shelf_files.specs.declared.files.Stop.TheVariants as stop
+use Rattle.shelf_files.specs.Files.{Tells}
+use Rattle.shelf_files.specs.declared.files.File.{File}
+use Rattle.shelf_files.specs.declared.files.File.TheVariants.{Absent as NoFile, TooLong, Bytes}
+use Rattle.run_steps.proofs.CircuitLemmas.{one_circuit, circuit_or_fault, one_circuit_fault, few_ports, circuit_acyclic}
+use Rattle.run_steps.specs.declared.outcome.Which.{Which}
+use Rattle.run_steps.specs.declared.outcome.Which.TheVariants.{First, Second, Account}
+use Rattle.run_steps.specs.declared.outcome.Outcome.{Outcome}
+use Rattle.run_steps.specs.declared.outcome.Outcome.TheVariants.{AcceptedMatch, AcceptedRefusal, Rejected, Matched, NoMatching, Spent, Usage, Absent, TooLarge, Malformed, Informed, Made, Tried, ReadFault, WriteFault, Memory}
+use Rattle.command_words.proofs.FormLemmas.{names_one, file_named, sought_one, check_or_info, match_or_info, check_or_match, read_or_make, read_or_trial, reads_of}
+use Rattle.command_words.specs.Commands.{Ask, IsReadingCommand}
+
+-- what a file that is too long says
+pub at_too_long : (limit : ℕ) (held : Option (List ℕ)) (file : File) → file ≡ TooLong → Tells limit held file → (bytes : List ℕ) × (held ≡ Some bytes) × (limit < length bytes)
+at_too_long limit held NoFile e fact = cc
+at_too_long limit held TooLong e fact = fact
+at_too_long limit held (Bytes bytes) e fact = cc
+
+-- one name holds one netlist, or one thing that ends the check
+
+netlist_one : (content : Option (List ℕ)) (a b : Netlist) → HoldsNetlist content a → HoldsNetlist content b → a.circuit ≡ b.circuit
+netlist_one content a b one other =
+    let same : other.bytes ≡ one.bytes = let e = one.there in let e' = other.there in cc in
+    one_circuit one.bytes a.circuit b.circuit a.input_names a.output_names b.input_names b.output_names one.is (subst (λ bytes. IsCircuit bytes b.circuit b.input_names b.output_names) same other.is)
+
+fault_one : (content : Option (List ℕ)) (kind other_kind : NetKind) (at place : ℕ) → HoldsFault content kind at → HoldsFault content other_kind place → (kind ≡ other_kind) × (at ≡ place)
+fault_one content kind other_kind at place one other =
+    let same : other.bytes ≡ one.bytes = let e = one.there in let e' = other.there in cc in
+    one_circuit_fault one.bytes kind other_kind at place one.is (subst (λ bytes. IsCircuitFault bytes other_kind place) same other.is)
+
+-- what ends the check at a file, one of three
+abbrev pub IsEnd : Which → Option (List ℕ) → Outcome → Type 0
+IsEnd file content o = ((o ≡ Absent file) × (content ≡ None)) ⊎ ((o ≡ TooLarge file) × HoldsTooMuch content) ⊎ ((kind : NetKind) × (at : ℕ) × (o ≡ Malformed file kind at) × HoldsFault content kind at)
+
+end_of : (file : Which) (content : Option (List ℕ)) (o : Outcome) → IsDecided o → EndsAt file content o → IsEnd file content o
+end_of file content (AcceptedMatch table) decided fact = absurd fact
+end_of file content AcceptedRefusal decided fact = absurd fact
+end_of file content (Rejected line why) decided fact = absurd fact
+end_of file content (Matched table) decided fact = absurd fact
+end_of file content NoMatching decided fact = absurd fact
+end_of file content (Spent ledger) decided fact = absurd fact
+end_of file content Informed decided fact = absurd fact
+end_of file content Made decided fact = absurd fact
+end_of file content (Tried number account) decided fact = absurd fact
+end_of file content Usage decided fact = absurd fact
+end_of file content (Absent which) decided fact = inl (ap Absent fact.0, fact.1)
+end_of file content (TooLarge which) decided fact = inr (inl (ap TooLarge fact.0, fact.1))
+end_of file content (Malformed which kind at) decided fact = inr (inr (kind, at, ap (λ w. Malformed w kind at) fact.0, fact.1))
+end_of file content ReadFault decided fact = absurd (decided.read refl)
+end_of file content WriteFault decided fact = absurd fact
+end_of file content Memory decided fact = absurd (decided.told.room refl)
+
+-- no name holds two of them
+too_much_or_fault : (content : Option (List ℕ)) (kind : NetKind) (at : ℕ) → HoldsTooMuch content → HoldsFault content kind at → ⊥
+too_much_or_fault content kind at much fault =
+    let same : fault.bytes ≡ much.bytes = let e = much.there in let e' = fault.there in cc in
+    absurd (omega (arith, much.long, fault.short, ap length same))
+
+end_one : (file : Which) (content : Option (List ℕ)) (a b : Outcome) → IsEnd file content a → IsEnd file content b → a ≡ b
+end_one file content a b one other =
+    elim one [
+      | inl (e, none) ↦ elim other [
+        | inl (e', none') ↦ e ∙ sym e'
+        | inr (inl (e', much)) ↦ let there = much.there in cc
+        | inr (inr (kind, at, e', fault)) ↦ let there = fault.there in cc
+      ]
+      | inr (inl (e, much)) ↦ elim other [
+        | inl (e', none) ↦ let there = much.there in cc
+        | inr (inl (e', much')) ↦ e ∙ sym e'
+        | inr (inr (kind, at, e', fault)) ↦ absurd (too_much_or_fault content kind at much fault)
+      ]
+      | inr (inr (kind, at, e, fault)) ↦ elim other [
+        | inl (e', none) ↦ let there = fault.there in cc
+        | inr (inl (e', much)) ↦ absurd (too_much_or_fault content kind at much fault)
+        | inr (inr (kind', at', e', fault')) ↦ let same = fault_one content kind kind' at at' fault fault' in let k = same.0 in let p = same.1 in cc
+      ]
+    ]
+
+end_or_netlist : (file : Which) (content : Option (List ℕ)) (o : Outcome) (f : Netlist) → IsEnd file content o → HoldsNetlist content f → ⊥
+end_or_netlist file content o f end net =
+    let there = net.there in
+    elim end [
+      | inl (e, none) ↦ cc
+      | inr (inl (e, much)) ↦
+          let same : net.bytes ≡ much.bytes = let e' = much.there in cc in
+          absurd (omega (arith, much.long, net.short, ap length same))
+      | inr (inr (kind, at, e, fault)) ↦
+          let same : fault.bytes ≡ net.bytes = let e' = fault.there in cc in
+          circuit_or_fault net.bytes f.circuit f.input_names f.output_names kind at net.is (subst (λ bytes. IsCircuitFault bytes kind at) same fault.is)
+    ]
+
+-- one name holds one graph
+
+graph_one : (content : Option (List ℕ)) (a b : Net) → HoldsGraph content a → HoldsGraph content b → a ≡ b
+graph_one content a b one other =
+    let e = netlist_one content one.netlist other.netlist one.holds other.holds in
+    let bytes = one.holds.bytes in
+    let acyclic = circuit_acyclic bytes one.netlist.circuit one.netlist.input_names one.netlist.output_names one.holds.is in
+    one_order one.netlist.circuit a b acyclic one.numbered (subst (λ circuit. IsOrderOf circuit b) (sym e) other.numbered)
+
+-- how the check of an account ends that proves this
+abbrev pub accepted_as : Verdict → Outcome
+accepted_as (verdict.Match table) = AcceptedMatch table
+accepted_as verdict.None = AcceptedRefusal
+
+-- what the account's bytes answer
+abbrev pub IsAnswer : Graphs → List ℕ → Outcome → Type 0
+IsAnswer graphs account o =
+    ((proved : Verdict) × (o ≡ accepted_as proved) × Proves graphs account proved)
+    ⊎ ((line : ℕ) × (why : Why) × (o ≡ Rejected line why) × IsBadAt graphs account line why)
+
+answer_one : (graphs : Graphs) (account : List ℕ) (a b : Outcome) → IsAnswer graphs account a → IsAnswer graphs account b → a ≡ b
+answer_one graphs account a b one other =
+    elim one [
+      | inl (proved, e, proves) ↦ elim other [
+        | inl (proved', e', proves') ↦ e ∙ ap accepted_as (one_proved graphs account proved proved' proves proves') ∙ sym e'
+        | inr (line, why, e', bad) ↦ absurd (never_both graphs account proved line why proves bad)
+      ]
+      | inr (line, why, e, bad) ↦ elim other [
+        | inl (proved, e', proves) ↦ absurd (never_both graphs account proved line why proves bad)
+        | inr (line', why', e', bad') ↦ let same = one_rejection graphs account line line' why why' bad bad' in let l = same.0 in let w = same.1 in cc
+      ]
+    ]
+
+-- the outcome is what the words say, or what the files under their names say
+
+abbrev pub SaysAccount : (List ℕ → Option (List ℕ)) → List ℕ → List ℕ → List ℕ → Outcome → Type 0
+SaysAccount held first second account o =
+    ((o ≡ Absent Account) × (held account ≡ None))
+    ⊎ ((graphs : Graphs) × HoldsGraph (held first) graphs.first × HoldsGraph (held second) graphs.second × (bytes : List ℕ) × (held account ≡ Some bytes) × IsAnswer graphs bytes o)
+
+abbrev pub SaysTwo : (List ℕ → Option (List ℕ)) → List ℕ → List ℕ → (Outcome → Type 0) → Outcome → Type 0
+SaysTwo held first second says o =
+    IsEnd First (held first) o
+    ⊎ ((f : Netlist) × HoldsNetlist (held first) f × (IsEnd Second (held second) o ⊎ ((g : Netlist) × HoldsNetlist (held second) g × says o)))
+
+abbrev pub SaysOnly : (List ℕ → Option (List ℕ)) → List ℕ → Outcome → Type 0
+SaysOnly held file o = IsEnd First (held file) o ⊎ ((f : Netlist) × HoldsNetlist (held file) f × IsOfOne o)
+
+abbrev pub SaysCheck : (List ℕ → Option (List ℕ)) → List (List ℕ) → Outcome → Type 0
+SaysCheck held words o =
+    (first : List ℕ) × (second : List ℕ) × (account : List ℕ) × AsksCheck words first second account × SaysTwo held first second (SaysAccount held first second account) o
+
+abbrev pub SaysMatch : (List ℕ → Option (List ℕ)) → List (List ℕ) → Outcome → Type 0
+SaysMatch held words o = (sought : Sought) × AsksMatch words sought × SaysTwo held sought.first sought.second IsOfMatch o
+
+abbrev pub SaysInfo : (List ℕ → Option (List ℕ)) → List (List ℕ) → Outcome → Type 0
+SaysInfo held words o = (file : List ℕ) × (budget : ℕ) × AsksInfo words file budget × SaysOnly held file o
+
+abbrev pub Says : (List ℕ → Option (List ℕ)) → List (List ℕ) → Outcome → Type 0
+Says held words o =
+    ((o ≡ Usage) × AskNothing words) ⊎ SaysCheck held words o ⊎ SaysMatch held words o ⊎ SaysInfo held words o
+
+-- one outcome, or both are of one netlist, or of two of which a match is sought
+abbrev pub AreAlike : Outcome → Outcome → Type 0
+AreAlike a b = (a ≡ b) ⊎ (IsOfOne a × IsOfOne b) ⊎ (IsOfMatch a × IsOfMatch b)
+
+graphs_same : (a b : Graphs) → a.first ≡ b.first → a.second ≡ b.second → a ≡ b
+graphs_same a b e f = λ i. record { first = e i; second = f i }
+
+account_one : (held : List ℕ → Option (List ℕ)) (first second account : List ℕ) (a b : Outcome) → SaysAccount held first second account a → SaysAccount held first second account b → a ≡ b
+account_one held first second account a b one other =
+    elim one [
+      | inl (e, none) ↦ elim other [
+        | inl (e', none') ↦ e ∙ sym e'
+        | inr (graphs, f, g, bytes, there, answer) ↦ cc
+      ]
+      | inr (graphs, f, g, bytes, there, answer) ↦ elim other [
+        | inl (e, none) ↦ cc
+        | inr (graphs', f', g', bytes', there', answer') ↦
+            let same = graphs_same graphs' graphs (graph_one (held first) graphs'.first graphs.first f' f) (graph_one (held second) graphs'.second graphs.second g' g) in
+            let text : bytes' ≡ bytes = cc in
+            answer_one graphs bytes a b answer (subst (λ t. IsAnswer graphs t b) text (subst (λ two. IsAnswer two bytes' b) same answer'))
+      ]
+    ]
+
+two_one : (held : List ℕ → Option (List ℕ)) (first second : List ℕ) (says : Outcome → Type 0) (a b : Outcome) → SaysTwo held first second says a → SaysTwo held first second says b → (a ≡ b) ⊎ (says a × says b)
+two_one held first second says a b one other =
+    elim one [
+      | inl end ↦ elim other [
+        | inl end' ↦ inl (end_one First (held first) a b end end')
+        | inr (f, there, fact) ↦ absurd (end_or_netlist First (held first) a f end there)
+      ]
+      | inr (f, there, fact) ↦ elim other [
+        | inl end' ↦ absurd (end_or_netlist First (held first) b f end' there)
+        | inr (f', there', fact') ↦ elim fact [
+          | inl end ↦ elim fact' [
+            | inl end' ↦ inl (end_one Second (held second) a b end end')
+            | inr (g, held', fact'') ↦ absurd (end_or_netlist Second (held second) a g end held')
+          ]
+          | inr (g, held', says_a) ↦ elim fact' [
+            | inl end' ↦ absurd (end_or_netlist Second (held second) b g end' held')
+            | inr (g', held'', says_b) ↦ inr (says_a, says_b)
+          ]
+        ]
+      ]
+    ]
+
+only_one : (held : List ℕ → Option (List ℕ)) (file : List ℕ) (a b : Outcome) → SaysOnly held file a → SaysOnly held file b → (a ≡ b) ⊎ (IsOfOne a × IsOfOne b)
+only_one held file a b one other =
+    elim one [
+      | inl end ↦ elim other [
+        | inl end' ↦ inl (end_one First (held file) a b end end')
+        | inr (f, there, fact) ↦ absurd (end_or_netlist First (held file) a f end there)
+      ]
+      | inr (f, there, fact) ↦ elim other [
+        | inl end' ↦ absurd (end_or_netlist First (held file) b f end' there)
+        | inr (f', there', fact') ↦ inr (fact, fact')
+      ]
+    ]
+
+-- what the words alone say of an outcome of files
+pub follows_files : (words : List (List ℕ)) (o : Outcome) → ReadFiles words → o ≢ Made → ((number : ℕ) (account : List ℕ) → o ≢ Tried number account) → FollowsWords words o
+follows_files words o reads no_pair no_trial = record {
+  made = λ e. absurd (no_pair e);
+  pair = λ asks told. absurd (read_or_make words reads asks);
+  tried = λ number account e. absurd (no_trial number account e);
+  trial = λ number asks told. absurd (read_or_trial words number reads asks);
+  read = λ e. reads;
+}
+
+-- and where memory ran out
+pub follows_memory : (words : List (List ℕ)) → FollowsWords words Memory
+follows_memory words = record {
+  made = λ e. cc;
+  pair = λ asks told. absurd (told.room refl);
+  tried = λ number account e. cc;
+  trial = λ number asks told. absurd (told.room refl);
+  read = λ e. cc;
+}
+
+-- and where the words ask for nothing
+pub follows_nothing : (words : List (List ℕ)) → AskNothing words → FollowsWords words Usage
+follows_nothing words nothing = record {
+  made = λ e. cc;
+  pair = λ asks told. absurd (nothing.no_make asks.0 asks.1);
+  tried = λ number account e. cc;
+  trial = λ number asks told. absurd (nothing.no_trial number asks);
+  read = λ e. cc;
+}
+
+check_one : (held : List ℕ → Option (List ℕ)) (words : List (List ℕ)) (a b : Outcome) → SaysCheck held words a → SaysCheck held words b → a ≡ b
+check_one held words a b (f, g, t, asks, says) (f', g', t', asks', says') =
+    let e = names_one words f g t f' g' t' asks asks' in
+    let says'' : SaysTwo held f g (SaysAccount held f g t) b = subst (λ n. SaysTwo held n g (SaysAccount held n g t) b) e.0 (subst (λ n. SaysTwo held f' n (SaysAccount held f' n t) b) e.1 (subst (λ n. SaysTwo held f' g' (SaysAccount held f' g' n) b) e.2 says')) in
+    elim (two_one held f g (SaysAccount held f g t) a b says says'') [
+      | inl same ↦ same
+      | inr (one, other) ↦ account_one held f g t a b one other
+    ]
+
+match_one : (held : List ℕ → Option (List ℕ)) (words : List (List ℕ)) (a b : Outcome) → SaysMatch held words a → SaysMatch held words b → (a ≡ b) ⊎ (IsOfMatch a × IsOfMatch b)
+match_one held words a b (sought, asks, says) (other, asks', says') =
+    let e = sought_one words sought other asks asks' in
+    two_one held sought.first sought.second IsOfMatch a b says (subst (λ n. SaysTwo held n sought.second IsOfMatch b) e.0 (subst (λ n. SaysTwo held other.first n IsOfMatch b) e.1 says'))
+
+info_one : (held : List ℕ → Option (List ℕ)) (words : List (List ℕ)) (a b : Outcome) → SaysInfo held words a → SaysInfo held words b → (a ≡ b) ⊎ (IsOfOne a × IsOfOne b)
+info_one held words a b (file, budget, asks, says) (file', budget', asks', says') =
+    let e = sym (file_named words file' budget' asks') ∙ file_named words file budget asks in
+    only_one held file a b says (subst (λ n. SaysOnly held n b) e says')
+
+says_one : (held : List ℕ → Option (List ℕ)) (words : List (List ℕ)) (a b : Outcome) → Says held words a → Says held words b → AreAlike a b
+says_one held words a b one other =
+    elim one [
+      | inl (e, nothing) ↦ elim other [
+        | inl (e', nothing') ↦ inl (e ∙ sym e')
+        | inr (inl (f, g, t, asks, says)) ↦ absurd (nothing.no_check f g t asks)
+        | inr (inr (inl (sought, asks, says))) ↦ absurd (nothing.no_match sought asks)
+        | inr (inr (inr (file, budget, asks, says))) ↦ absurd (nothing.no_info file budget asks)
+      ]
+      | inr (inl (f, g, t, asks, says)) ↦ elim other [
+        | inl (e', nothing) ↦ absurd (nothing.no_check f g t asks)
+        | inr (inl other') ↦ inl (check_one held words a b (f, g, t, asks, says) other')
+        | inr (inr (inl (sought, asks', says'))) ↦ absurd (check_or_match words f g t sought asks asks')
+        | inr (inr (inr (file, budget, asks', says'))) ↦ absurd (check_or_info words f g t file budget asks asks')
+      ]
+      | inr (inr (inl (sought, asks, says))) ↦ elim other [
+        | inl (e', nothing) ↦ absurd (nothing.no_match sought asks)
+        | inr (inl (f, g, t, asks', says')) ↦ absurd (check_or_match words f g t sought asks' asks)
+        | inr (inr (inl other')) ↦ elim (match_one held words a b (sought, asks, says) other') [ inl same ↦ inl same | inr both ↦ inr (inr both) ]
+        | inr (inr (inr (file, budget, asks', says'))) ↦ absurd (match_or_info words sought file budget asks asks')
+      ]
+      | inr (inr (inr (file, budget, asks, says))) ↦ elim other [
+        | inl (e', nothing) ↦ absurd (nothing.no_info file budget asks)
+        | inr (inl (f, g, t, asks', says')) ↦ absurd (check_or_info words f g t file budget asks' asks)
+        | inr (inr (inl (sought, asks', says'))) ↦ absurd (match_or_info words sought file budget asks' asks)
+        | inr (inr (inr other')) ↦ elim (info_one held words a b (file, budget, asks, says) other') [ inl same ↦ inl same | inr both ↦ inr (inl both) ]
+      ]
+    ]
+
+-- what is right is said so
+
+abbrev pub named : List ℕ → List ℕ → List ℕ → ℕ → ℕ → Sought
+named first second account budget seed = record { first = first; second = second; account = account; budget = budget; seed = seed }
+
+says_early : (held : List ℕ → Option (List ℕ)) (words : List (List ℕ)) (o : Outcome) → IsDecided o → EndsEarly held words o → Says held words o
+says_early held words o decided early =
+    elim early [
+      | inl at ↦
+          let end = end_of First (held at.first_name) o decided at.ends in
+          elim at.asks [
+            | inl asks ↦ inr (inl (at.first_name, at.second_name, at.account_name, asks, inl end))
+            | inr (budget, seed, asks) ↦ inr (inr (inl (named at.first_name at.second_name at.account_name budget seed, asks, inl end)))
+          ]
+      | inr (inl at) ↦
+          let end = end_of Second (held at.second_name) o decided at.ends in
+          elim at.asks [
+            | inl asks ↦ inr (inl (at.first_name, at.second_name, at.account_name, asks, inr (at.first, at.first_held, inl end)))
+            | inr (budget, seed, asks) ↦ inr (inr (inl (named at.first_name at.second_name at.account_name budget seed, asks, inr (at.first, at.first_held, inl end))))
+          ]
+      | inr (inr at) ↦ inr (inr (inr (at.file_name, at.budget, at.asks, inl (end_of First (held at.file_name) o decided at.ends))))
+    ]
+
+says_answer : (held : List ℕ → Option (List ℕ)) (words : List (List ℕ)) (graphs : Graphs) (bytes : List ℕ) (o : Outcome) → HasAccount held words graphs bytes → IsAnswer graphs bytes o → Says held words o
+says_answer held words graphs bytes o has answer =
+    inr (inl (has.first_name, has.second_name, has.account_name, has.asks, inr (has.first_held.netlist, has.first_held.holds, inr (has.second_held.netlist, has.second_held.holds, inr (graphs, has.first_held, has.second_held, bytes, has.there, answer)))))
+
+says_absent : (held : List ℕ → Option (List ℕ)) (words : List (List ℕ)) (which : Which) → which ≡ Account → LacksAccount held words → Says held words (Absent which)
+says_absent held words which e lacks =
+    inr (inl (lacks.asked.first_name, lacks.asked.second_name, lacks.account_name, lacks.asked.asks, inr (lacks.first, lacks.asked.first_held, inr (lacks.second, lacks.asked.second_held, inl (ap Absent e, lacks.absent)))))
+
+says_of : (held : List ℕ → Option (List ℕ)) (words : List (List ℕ)) (o : Outcome) → IsAskedOf held words → IsOfOne o → Says held words o
+says_of held words o asked one = inr (inr (inr (asked.file_name, asked.budget, asked.asks, inr (asked.netlist, asked.there, one))))
+
+says_match : (held : List ℕ → Option (List ℕ)) (words : List (List ℕ)) (first second : Netlist) (o : Outcome) → IsSought held words first second → IsOfMatch o → Says held words o
+says_match held words first second o is of_match =
+    inr (inr (inl (is.sought, is.asks, inr (first, is.first_held, inr (second, is.second_held, of_match)))))
+
+-- a budget is spent on a file that is a netlist, or on two
+asked_of_spent : (held : List ℕ → Option (List ℕ)) (words : List (List ℕ)) (ledger : Ledgered) → IsSpentOn held words ledger → IsAskedOf held words
+asked_of_spent held words ledger spent = record {
+  file_name = spent.file_name;
+  budget = spent.budget;
+  asks = spent.asks;
+  netlist = spent.there.netlist;
+  there = spent.there.holds;
+}
+
+sought_of_spent : (held : List ℕ → Option (List ℕ)) (words : List (List ℕ)) (ledger : Ledgered) → (spent : IsSpentOnTwo held words ledger) → IsSought held words spent.first_held.netlist spent.second_held.netlist
+sought_of_spent held words ledger spent = record {
+  sought = spent.sought;
+  asks = spent.asks;
+  first_held = spent.first_held.holds;
+  second_held = spent.second_held.holds;
+}
+
+says : (held : List ℕ → Option (List ℕ)) (words : List (List ℕ)) (o : Outcome) → ReadFiles words → IsDecided o → IsRight held words o → Says held words o
+says held words (AcceptedMatch table) reads decided right = says_answer held words right.graphs right.account (AcceptedMatch table) right.has (inl (verdict.Match table, refl, right.accepted))
+says held words AcceptedRefusal reads decided right = says_answer held words right.graphs right.account AcceptedRefusal right.has (inl (verdict.None, refl, right.accepted))
+says held words (Rejected line why) reads decided right = says_answer held words right.graphs right.account (Rejected line why) right.has (inr (line, why, refl, right.rejected))
+says held words (Matched table) reads decided right = says_match held words right.first right.second (Matched table) right.files (inl (table, refl))
+says held words NoMatching reads decided right = says_match held words right.first right.second NoMatching right.files (inr (inl refl))
+says held words (Spent ledger) reads decided right =
+    elim right [
+      | inl one ↦ says_of held words (Spent ledger) (asked_of_spent held words ledger one) (inr (ledger, refl))
+      | inr (inl two) ↦ says_match held words two.first_held.netlist two.second_held.netlist (Spent ledger) (sought_of_spent held words ledger two) (inr (inr (ledger, refl)))
+      | inr (inr pair) ↦ absurd (read_or_trial words pair.number reads pair.asks)
+    ]
+says held words Informed reads decided right = says_of held words Informed right (inl refl)
+says held words Made reads decided right = absurd (read_or_make words reads right)
+says held words (Tried number account) reads decided right = absurd (read_or_trial words number reads right.asks)
+says held words Usage reads decided right = inl (refl, right)
+says held words (Absent which) reads decided right = elim right [ inl early ↦ says_early held words (Absent which) decided early | inr (e, lacks) ↦ says_absent held words which e lacks ]
+says held words (TooLarge which) reads decided right = says_early held words (TooLarge which) decided right
+says held words (Malformed which kind at) reads decided right = says_early held words (Malformed which kind at) decided right
+says held words ReadFault reads decided right = absurd (decided.read refl)
+says held words WriteFault reads decided right = absurd (decided.told.written refl)
+says held words Memory reads decided right = absurd (decided.told.room refl)
+
+-- what one file, or the verdict of all, makes right
+
+pub right_at_first : (held : List ℕ → Option (List ℕ)) (words : List (List ℕ)) (f g t : List ℕ) → NameThree words f g t → (o : Outcome) → EndsAt First (held f) o → IsRight held words o
+right_at_first held words f g t asks (AcceptedMatch table) ends = absurd ends
+right_at_first held words f g t asks AcceptedRefusal ends = absurd ends
+right_at_first held words f g t asks (Rejected line why) ends = absurd ends
+right_at_first held words f g t asks (Matched table) ends = absurd ends
+right_at_first held words f g t asks NoMatching ends = absurd ends
+right_at_first held words f g t asks (Spent ledger) ends = absurd ends
+right_at_first held words f g t asks Informed ends = absurd ends
+right_at_first held words f g t asks Made ends = absurd ends
+right_at_first held words f g t asks (Tried number account) ends = absurd ends
+right_at_first held words f g t asks Usage ends = absurd ends
+right_at_first held words f g t asks (Absent which) ends = inl (inl (record { first_name = f; second_name = g; account_name = t; asks = asks; ends = ends }))
+right_at_first held words f g t asks (TooLarge which) ends = inl (record { first_name = f; second_name = g; account_name = t; asks = asks; ends = ends })
+right_at_first held words f g t asks (Malformed which kind at) ends = inl (record { first_name = f; second_name = g; account_name = t; asks = asks; ends = ends })
+right_at_first held words f g t asks ReadFault ends = tt
+right_at_first held words f g t asks WriteFault ends = absurd ends
+right_at_first held words f g t asks Memory ends = tt
+
+pub right_at_second : (held : List ℕ → Option (List ℕ)) (words : List (List ℕ)) (f g t : List ℕ) (first : Netlist) → NameThree words f g t → HoldsNetlist (held f) first → (o : Outcome) → EndsAt Second (held g) o → IsRight held words o
+right_at_second held words f g t first asks there (AcceptedMatch table) ends = absurd ends
+right_at_second held words f g t first asks there AcceptedRefusal ends = absurd ends
+right_at_second held words f g t first asks there (Rejected line why) ends = absurd ends
+right_at_second held words f g t first asks there (Matched table) ends = absurd ends
+right_at_second held words f g t first asks there NoMatching ends = absurd ends
+right_at_second held words f g t first asks there (Spent ledger) ends = absurd ends
+right_at_second held words f g t first asks there Informed ends = absurd ends
+right_at_second held words f g t first asks there Made ends = absurd ends
+right_at_second held words f g t first asks there (Tried number account) ends = absurd ends
+right_at_second held words f g t first asks there Usage ends = absurd ends
+right_at_second held words f g t first asks there (Absent which) ends = inl (inr (inl (record { first_name = f; second_name = g; account_name = t; asks = asks; first = first; first_held = there; ends = ends })))
+right_at_second held words f g t first asks there (TooLarge which) ends = inr (inl (record { first_name = f; second_name = g; account_name = t; asks = asks; first = first; first_held = there; ends = ends }))
+right_at_second held words f g t first asks there (Malformed which kind at) ends = inr (inl (record { first_name = f; second_name = g; account_name = t; asks = asks; first = first; first_held = there; ends = ends }))
+right_at_second held words f g t first asks there ReadFault ends = tt
+right_at_second held words f g t first asks there WriteFault ends = absurd ends
+right_at_second held words f g t first asks there Memory ends = tt
+
+pub right_at_only : (held : List ℕ → Option (List ℕ)) (words : List (List ℕ)) (file : List ℕ) (budget : ℕ) → AsksInfo words file budget → (o : Outcome) → EndsAt First (held file) o → IsRight held words o
+right_at_only held words file budget asks (AcceptedMatch table) ends = absurd ends
+right_at_only held words file budget asks AcceptedRefusal ends = absurd ends
+right_at_only held words file budget asks (Rejected line why) ends = absurd ends
+right_at_only held words file budget asks (Matched table) ends = absurd ends
+right_at_only held words file budget asks NoMatching ends = absurd ends
+right_at_only held words file budget asks (Spent ledger) ends = absurd ends
+right_at_only held words file budget asks Informed ends = absurd ends
+right_at_only held words file budget asks Made ends = absurd ends
+right_at_only held words file budget asks (Tried number account) ends = absurd ends
+right_at_only held words file budget asks Usage ends = absurd ends
+right_at_only held words file budget asks (Absent which) ends = inl (inr (inr (record { file_name = file; budget = budget; asks = asks; ends = ends })))
+right_at_only held words file budget asks (TooLarge which) ends = inr (inr (record { file_name = file; budget = budget; asks = asks; ends = ends }))
+right_at_only held words file budget asks (Malformed which kind at) ends = inr (inr (record { file_name = file; budget = budget; asks = asks; ends = ends }))
+right_at_only held words file budget asks ReadFault ends = tt
+right_at_only held words file budget asks WriteFault ends = absurd ends
+right_at_only held words file budget asks Memory ends = tt
+
+pub right_by_verdict : (held : List ℕ → Option (List ℕ)) (words : List (List ℕ)) (f g t : List ℕ) (graphs : Graphs) → AsksCheck words f g t → HoldsGraph (held f) graphs.first → HoldsGraph (held g) graphs.second → (o : Outcome) → IsVerdict graphs (held t) o → IsRight held words o
+right_by_verdict held words f g t graphs asks first second (AcceptedMatch table) fact = record { graphs = graphs; account = fact.0; has = record { first_name = f; second_name = g; account_name = t; asks = asks; first_held = first; second_held = second; there = fact.1 }; accepted = fact.2 }
+right_by_verdict held words f g t graphs asks first second AcceptedRefusal fact = record { graphs = graphs; account = fact.0; has = record { first_name = f; second_name = g; account_name = t; asks = asks; first_held = first; second_held = second; there = fact.1 }; accepted = fact.2 }
+right_by_verdict held words f g t graphs asks first second (Rejected line why) fact = record { graphs = graphs; account = fact.0; has = record { first_name = f; second_name = g; account_name = t; asks = asks; first_held = first; second_held = second; there = fact.1 }; rejected = fact.2 }
+right_by_verdict held words f g t graphs asks first second (Matched table) fact = absurd fact
+right_by_verdict held words f g t graphs asks first second NoMatching fact = absurd fact
+right_by_verdict held words f g t graphs asks first second (Spent ledger) fact = absurd fact
+right_by_verdict held words f g t graphs asks first second Informed fact = absurd fact
+right_by_verdict held words f g t graphs asks first second Made fact = absurd fact
+right_by_verdict held words f g t graphs asks first second (Tried number account) fact = absurd fact
+right_by_verdict held words f g t graphs asks first second Usage fact = absurd fact
+right_by_verdict held words f g t graphs asks first second (Absent which) fact = inr (fact.0, record { first = first.netlist; second = second.netlist; account_name = t; asked = record { first_name = f; second_name = g; asks = asks; first_held = first.holds; second_held = second.holds }; absent = fact.1 })
+right_by_verdict held words f g t graphs asks first second (TooLarge which) fact = absurd fact
+right_by_verdict held words f g t graphs asks first second (Malformed which kind at) fact = absurd fact
+right_by_verdict held words f g t graphs asks first second ReadFault fact = absurd fact
+right_by_verdict held words f g t graphs asks first second WriteFault fact = absurd fact
+right_by_verdict held words f g t graphs asks first second Memory fact = absurd fact
+
+informed_of_match : IsOfMatch Informed → ⊥
+informed_of_match is = elim is [ inl (table, e) ↦ cc | inr (inl e) ↦ cc | inr (inr (ledger, e)) ↦ cc ]
+
+none_of_one : IsOfOne NoMatching → ⊥
+none_of_one is = elim is [ inl e ↦ cc | inr (ledger, e) ↦ cc ]
+
+-- a match of two files is one of the circuits of which there is none
+found_or_none : (held : List ℕ → Option (List ℕ)) (words : List (List ℕ)) (table : Matching) → IsMatchFound held words table → HasNoMatch held words → ⊥
+found_or_none held words table found none =
+    let e = sought_one words none.files.sought found.files.sought none.files.asks found.files.asks in
+    let f = netlist_one (held none.files.sought.first) found.first none.first (subst (λ n. HoldsNetlist (held n) found.first) e.0 found.files.first_held) none.files.first_held in
+    let g = netlist_one (held none.files.sought.second) found.second none.second (subst (λ n. HoldsNetlist (held n) found.second) e.1 found.files.second_held) none.files.second_held in
+    none.unequal (subst (AreNpnpEqual none.first.circuit) g (subst (λ circuit. AreNpnpEqual circuit found.second.circuit) f (table.inputs, table.outputs, found.matches)))
+
+-- an outcome that is determined by files
+abbrev pub IsExact : Outcome → Type 0
+IsExact (AcceptedMatch table) = Unit {0}
+IsExact AcceptedRefusal = Unit {0}
+IsExact (Rejected line why) = Unit {0}
+IsExact (Absent which) = Unit {0}
+IsExact (TooLarge which) = Unit {0}
+IsExact (Malformed which kind at) = Unit {0}
+IsExact other = ⊥
+
+exact_of_one : (o : Outcome) → IsExact o → IsOfOne o → ⊥
+exact_of_one o exact one = elim one [ inl e ↦ subst IsExact e exact | inr (ledger, e) ↦ subst IsExact e exact ]
+
+exact_of_match : (o : Outcome) → IsExact o → IsOfMatch o → ⊥
+exact_of_match o exact two = elim two [ inl (table, e) ↦ subst IsExact e exact | inr (inl e) ↦ subst IsExact e exact | inr (inr (ledger, e)) ↦ subst IsExact e exact ]
+
+early_reads : (held : List ℕ → Option (List ℕ)) (words : List (List ℕ)) (o : Outcome) → EndsEarly held words o → ReadFiles words
+early_reads held words o early =
+    elim early [
+      | inl at ↦ inl (at.first_name, at.second_name, at.account_name, at.asks)
+      | inr (inl at) ↦ inl (at.first_name, at.second_name, at.account_name, at.asks)
+      | inr (inr at) ↦ inr (at.file_name, at.budget, at.asks)
+    ]
+
+account_reads : (held : List ℕ → Option (List ℕ)) (words : List (List ℕ)) (graphs : Graphs) (account : List ℕ) → HasAccount held words graphs account → ReadFiles words
+account_reads held words graphs account has = inl (has.first_name, has.second_name, has.account_name, inl has.asks)
+
+-- where such an outcome is right the words name files
+exact_reads : (held : List ℕ → Option (List ℕ)) (words : List (List ℕ)) (o : Outcome) → IsExact o → IsRight held words o → ReadFiles words
+exact_reads held words (AcceptedMatch table) exact right = account_reads held words right.graphs right.account right.has
+exact_reads held words AcceptedRefusal exact right = account_reads held words right.graphs right.account right.has
+exact_reads held words (Rejected line why) exact right = account_reads held words right.graphs right.account right.has
+exact_reads held words (Matched table) exact right = absurd exact
+exact_reads held words NoMatching exact right = absurd exact
+exact_reads held words (Spent ledger) exact right = absurd exact
+exact_reads held words Informed exact right = absurd exact
+exact_reads held words Made exact right = absurd exact
+exact_reads held words (Tried number account) exact right = absurd exact
+exact_reads held words Usage exact right = absurd exact
+exact_reads held words (Absent which) exact right = elim right [
+  | inl early ↦ early_reads held words (Absent which) early
+  | inr (e, lacks) ↦ inl (lacks.asked.first_name, lacks.asked.second_name, lacks.account_name, inl lacks.asked.asks)
+]
+exact_reads held words (TooLarge which) exact right = early_reads held words (TooLarge which) right
+exact_reads held words (Malformed which kind at) exact right = early_reads held words (Malformed which kind at) right
+exact_reads held words ReadFault exact right = absurd exact
+exact_reads held words WriteFault exact right = absurd exact
+exact_reads held words Memory exact right = absurd exact
+
+sought_reads : (held : List ℕ → Option (List ℕ)) (words : List (List ℕ)) (first second : Netlist) → IsSought held words first second → ReadFiles words
+sought_reads held words first second is = inl (is.sought.first, is.sought.second, is.sought.account, inr (is.sought.budget, is.sought.seed, is.asks))
+
+-- The outcome of a run that was asked to tell a right one is exactly what the words and the files say.
+module _ (held : List ℕ → Option (List ℕ)) (words : List (List ℕ)) (asked answer : Outcome) (right : IsRight held words asked) (same : IsTold answer → answer ≡ asked) (decided : IsDecided answer) where
+  stays_right : IsRight held words answer
+  stays_right = subst (IsRight held words) (sym (same decided.told)) right
+
+  stays_said : ReadFiles words → Says held words answer
+  stays_said reads = says held words answer reads decided stays_right
+
+  pub exactly : (o : Outcome) → IsDecided o → IsExact o → (answer ≡ o) ↔ IsRight held words o
+  exactly o known exact = (
+    λ is. subst (IsRight held words) is stays_right,
+    λ fact.
+        let reads = exact_reads held words o exact fact in
+        elim (says_one held words answer o (stays_said reads) (says held words o reads known fact)) [
+          | inl same ↦ same
+          | inr (inl both) ↦ absurd (exact_of_one o exact both.1)
+          | inr (inr both) ↦ absurd (exact_of_match o exact both.1)
+        ],
+  )
+
+  pub exactly_informed : ((ledger : Ledgered) → answer ≢ Spent ledger) → (answer ≡ Informed) ↔ IsAskedOf held words
+  exactly_informed unspent = (
+    λ is. subst (IsRight held words) is stays_right,
+    λ asked. elim (says_one held words answer Informed (stays_said (inr (asked.file_name, asked.budget, asked.asks))) (says_of held words Informed asked (inl refl))) [
+      | inl same ↦ same
+      | inr (inl both) ↦ elim both.0 [ inl same ↦ same | inr (ledger, same) ↦ absurd (unspent ledger same) ]
+      | inr (inr both) ↦ absurd (informed_of_match both.1)
+    ],
+  )
+
+  pub of_match : IsAskedToMatch held words → IsOfMatch answer
+  of_match asked = elim (says_one held words answer NoMatching (stays_said (sought_reads held words asked.first asked.second asked.files)) (says_match held words asked.first asked.second NoMatching asked.files (inr (inl refl)))) [
+    | inl same ↦ inr (inl same)
+    | inr (inl both) ↦ absurd (none_of_one both.1)
+    | inr (inr both) ↦ both.0
+  ]
+
+  pub exactly_none : ((ledger : Ledgered) → answer ≢ Spent ledger) → (answer ≡ NoMatching) ↔ HasNoMatch held words
+  exactly_none unspent = (
+    λ is. subst (IsRight held words) is stays_right,
+    λ none. elim (of_match (record { first = none.first; second = none.second; files = none.files })) [
+      | inl (table, same) ↦ absurd (found_or_none held words table (subst (IsRight held words) same stays_right) none)
+      | inr (inl same) ↦ same
+      | inr (inr (ledger, same)) ↦ absurd (unspent ledger same)
+    ],
+  )
+
+-- outcomes between which and the words no fault came and memory did not run out
+
+pub decided_accepted : (table : Matching) → IsDecided (AcceptedMatch table)
+decided_accepted table = record { read = λ e. cc; told = record { written = λ e. cc; room = λ e. cc } }
+
+pub decided_refusal : IsDecided AcceptedRefusal
+decided_refusal = record { read = λ e. cc; told = record { written = λ e. cc; room = λ e. cc } }
+
+pub decided_rejected : (line : ℕ) (why : Why) → IsDecided (Rejected line why)
+decided_rejected line why = record { read = λ e. cc; told = record { written = λ e. cc; room = λ e. cc } }
+
+pub decided_spent : (ledger : Ledgered) → IsDecided (Spent ledger)
+decided_spent ledger = record { read = λ e. cc; told = record { written = λ e. cc; room = λ e. cc } }
+
+pub decided_matched : (table : Matching) → IsDecided (Matched table)
+decided_matched table = record { read = λ e. cc; told = record { written = λ e. cc; room = λ e. cc } }
+
+pub told_read : IsTold ReadFault
+told_read = record { written = λ e. cc; room = λ e. cc }
+
+pub decided_made : IsDecided Made
+decided_made = record { read = λ e. cc; told = record { written = λ e. cc; room = λ e. cc } }
+
+pub decided_tried : (number : ℕ) (account : List ℕ) → IsDecided (Tried number account)
+decided_tried number account = record { read = λ e. cc; told = record { written = λ e. cc; room = λ e. cc } }
+
+pub decided_none : IsDecided NoMatching
+decided_none = record { read = λ e. cc; told = record { written = λ e. cc; room = λ e. cc } }
+
+pub decided_absent : (which : Which) → IsDecided (Absent which)
+decided_absent which = record { read = λ e. cc; told = record { written = λ e. cc; room = λ e. cc } }
+
+pub decided_too_large : (which : Which) → IsDecided (TooLarge which)
+decided_too_large which = record { read = λ e. cc; told = record { written = λ e. cc; room = λ e. cc } }
+
+pub decided_malformed : (which : Which) (kind : NetKind) (at : ℕ) → IsDecided (Malformed which kind at)
+decided_malformed which kind at = record { read = λ e. cc; told = record { written = λ e. cc; room = λ e. cc } }
+
+-- what a refusal of a read ends the run with
+
+pub stop_right : (held : List ℕ → Option (List ℕ)) (words : List (List ℕ)) (s : Stop) → IsRight held words (outcome_of s)
+stop_right held words stop.ReadFault = tt
+stop_right held words stop.Memory = tt
+
+pub stop_reading : (s : Stop) → IsOfReading (outcome_of s)
+stop_reading stop.ReadFault = record { early = record { line = record { no_table = λ table e. elim e [ inl e ↦ cc | inr e ↦ cc ]; no_rows = λ e. cc }; no_refusal = λ e. cc; no_match = λ e. cc; no_pair = λ e. cc; no_trial = λ number account e. cc; asked = λ e. cc }; unwritten = λ e. cc }
+stop_reading stop.Memory = record { early = record { line = record { no_table = λ table e. elim e [ inl e ↦ cc | inr e ↦ cc ]; no_rows = λ e. cc }; no_refusal = λ e. cc; no_match = λ e. cc; no_pair = λ e. cc; no_trial = λ number account e. cc; asked = λ e. cc }; unwritten = λ e. cc }
+
+pub stop_is : (s : Stop) → outcome_of s ≡ ReadFault → s ≡ stop.ReadFault
+stop_is stop.ReadFault e = refl
+stop_is stop.Memory e = cc
+
+-- where no file changes, each outcome that is neither of a match nor a pair leaves what it says
+pub leaves : (before after : List ℕ → Option (List ℕ)) (words : List (List ℕ)) (o : Outcome) → ((table : Matching) → o ≢ Matched table) → o ≢ NoMatching → o ≢ Made → ((n : List ℕ) → after n ≡ before n) → Leaves before after words o
+leaves before after words (AcceptedMatch table) no_table no_match no_pair same = same
+leaves before after words AcceptedRefusal no_table no_match no_pair same = same
+leaves before after words (Rejected line why) no_table no_match no_pair same = same
+leaves before after words (Matched table) no_table no_match no_pair same = absurd (no_table table refl)
+leaves before after words NoMatching no_table no_match no_pair same = absurd (no_match refl)
+leaves before after words (Spent ledger) no_table no_match no_pair same = same
+leaves before after words Informed no_table no_match no_pair same = same
+leaves before after words Made no_table no_match no_pair same = absurd (no_pair refl)
+leaves before after words (Tried number account) no_table no_match no_pair same = same
+leaves before after words Usage no_table no_match no_pair same = same
+leaves before after words (Absent which) no_table no_match no_pair same = same
+leaves before after words (TooLarge which) no_table no_match no_pair same = same
+leaves before after words (Malformed which kind at) no_table no_match no_pair same = same
+leaves before after words ReadFault no_table no_match no_pair same = same
+leaves before after words WriteFault no_table no_match no_pair same = inl same
+leaves before after words Memory no_table no_match no_pair same = inl same
+
+pub leaves_early : (before after : List ℕ → Option (List ℕ)) (words : List (List ℕ)) (o : Outcome) → IsEarly o → ((n : List ℕ) → after n ≡ before n) → Leaves before after words o
+leaves_early before after words o early same = leaves before after words o (λ table e. early.line.no_table table (inr e)) early.no_match early.no_pair same
+
+-- the files were read up to an outcome that ends the run
+pub stopped : (tells : Bool) (command : Command) (old new : ShelfState) (result : Result Ending Outcome) (o : Outcome) → IsReadingCommand command → result ≡ Err o → ((n : List ℕ) → new.held n ≡ old.held n) → (IsTrue tells → (words : List (List ℕ)) → Ask words command → IsRight old.held words o) → IsOfReading o → (o ≡ ReadFault → Rose old.faults new.faults) → Decides tells command old new result
+stopped tells command old new result o reader same files right reading failed =
+    subst (λ r. Decides tells command old new r) (sym same) (record {
+      files = λ t n other. files n;
+      left = λ t words asks. leaves_early old.held new.held words o reading.early files;
+      right = right;
+      by_words = λ words asks. follows_files words o (reads_of words command reader asks) reading.early.no_pair reading.early.no_trial;
+      sound = λ t words asks. tt;
+      report = λ words asks. tt;
+      ending = tt;
+      early = reading.early;
+      failed = λ e. failed (cc e);
+      unwritten = λ e. absurd (reading.unwritten (cc e));
+    })
+
+pub report_of_same : (tells : Bool) (held : List ℕ → Option (List ℕ)) (words : List (List ℕ)) (told asked : Outcome) (text : List ℕ) → told ≡ asked → IsReport tells held words asked text → IsReport tells held words told text
+report_of_same tells held words told asked text same report = subst (λ o. IsReport tells held words o text) (sym same) report
+
+-- the words ask for a check of two files that were read
+pub asks_both : (held : List ℕ → Option (List ℕ)) (content : Option (List ℕ)) (words : List (List ℕ)) (f g t : List ℕ) (first second : Netlist) → content ≡ held g → AsksCheck words f g t → HoldsNetlist (held f) first → HoldsNetlist content second → IsAsked held words first second t
+asks_both held content words f g t first second same asks holds other = record {
+  first_name = f;
+  second_name = g;
+  asks = asks;
+  first_held = holds;
+  second_held = subst (λ content. HoldsNetlist content second) same other;
+}
+
+-- what the bytes of a file that is no netlist end the run with
+stop_ends : (file : Which) (content : Option (List ℕ)) (bytes : List ℕ) → content ≡ Some bytes → length bytes ≤ 67108864 → (o : Outcome) → IsStopOf file bytes o → EndsAt file content o
+stop_ends file content bytes there short (AcceptedMatch table) fact = absurd fact
+stop_ends file content bytes there short AcceptedRefusal fact = absurd fact
+stop_ends file content bytes there short (Rejected line why) fact = absurd fact
+stop_ends file content bytes there short (Matched table) fact = absurd fact
+stop_ends file content bytes there short NoMatching fact = absurd fact
+stop_ends file content bytes there short (Spent ledger) fact = absurd fact
+stop_ends file content bytes there short Informed fact = absurd fact
+stop_ends file content bytes there short Made fact = absurd fact
+stop_ends file content bytes there short (Tried number account) fact = absurd fact
+stop_ends file content bytes there short Usage fact = absurd fact
+stop_ends file content bytes there short (Absent which) fact = absurd fact
+stop_ends file content bytes there short (TooLarge which) fact = absurd fact
+stop_ends file content bytes there short (Malformed which kind at) fact = (fact.0, record { bytes = bytes; there = there; short = short; is = fact.1 })
+stop_ends file content bytes there short ReadFault fact = absurd fact
+stop_ends file content bytes there short WriteFault fact = absurd fact
+stop_ends file content bytes there short Memory fact = tt
+
+stop_is_of_reading : (file : Which) (bytes : List ℕ) (o : Outcome) → IsStopOf file bytes o → IsOfReading o
+stop_is_of_reading file bytes (AcceptedMatch table) fact = absurd fact
+stop_is_of_reading file bytes AcceptedRefusal fact = absurd fact
+stop_is_of_reading file bytes (Rejected line why) fact = absurd fact
+stop_is_of_reading file bytes (Matched table) fact = absurd fact
+stop_is_of_reading file bytes NoMatching fact = absurd fact
+stop_is_of_reading file bytes (Spent ledger) fact = absurd fact
+stop_is_of_reading file bytes Informed fact = absurd fact
+stop_is_of_reading file bytes Made fact = absurd fact
+stop_is_of_reading file bytes (Tried number account) fact = absurd fact
+stop_is_of_reading file bytes Usage fact = absurd fact
+stop_is_of_reading file bytes (Absent which) fact = absurd fact
+stop_is_of_reading file bytes (TooLarge which) fact = absurd fact
+stop_is_of_reading file bytes (Malformed which kind at) fact = record { early = record { line = record { no_table = λ table e. elim e [ inl e ↦ cc | inr e ↦ cc ]; no_rows = λ e. cc }; no_refusal = λ e. cc; no_match = λ e. cc; no_pair = λ e. cc; no_trial = λ number account e. cc; asked = λ e. cc }; unwritten = λ e. cc }
+stop_is_of_reading file bytes ReadFault fact = absurd fact
+stop_is_of_reading file bytes WriteFault fact = absurd fact
+stop_is_of_reading file bytes Memory fact = record { early = record { line = record { no_table = λ table e. elim e [ inl e ↦ cc | inr e ↦ cc ]; no_rows = λ e. cc }; no_refusal = λ e. cc; no_match = λ e. cc; no_pair = λ e. cc; no_trial = λ number account e. cc; asked = λ e. cc }; unwritten = λ e. cc }
+
+-- a file of few bytes was read
+reads_same : (tells : Bool) (file : Which) (name : List ℕ) (old new : ShelfState) (bytes : List ℕ) (result : Result Named Outcome) → ((n : List ℕ) → new.held n ≡ old.held n) → new.mode ≡ Closed → old.faults ≤ new.faults → (IsTrue tells → (old.held name ≡ Some bytes) × (length bytes ≤ 67108864)) → IfOk result (λ named. ReadAs bytes named.graph named.input_names named.output_names) → IfErr result (IsStopOf file bytes) → ReadsNetlist tells file name old new result
+reads_same tells file name old new bytes (Ok named) files closed faults found is stop = record {
+  files = files;
+  closed = closed;
+  found = record {
+    circuit = is.circuit;
+    held = λ t. record { bytes = bytes; there = (found t).0; short = (found t).1; is = is.is };
+    acyclic = circuit_acyclic bytes is.circuit named.input_names named.output_names is.is;
+    few = (few_ports bytes is.circuit named.input_names named.output_names is.is).1;
+    computes = is.computes;
+    numbered = is.numbered;
+  };
+  ended = λ t. tt;
+  reading = tt;
+  faults = faults;
+  failed = λ e. cc;
+}
+reads_same tells file name old new bytes (Err o) files closed faults found is stop = record {
+  files = files;
+  closed = tt;
+  found = tt;
+  ended = λ t. stop_ends file (old.held name) bytes (found t).0 (found t).1 o stop;
+  reading = stop_is_of_reading file bytes o stop;
+  faults = faults;
+  failed = λ e. let same : o ≡ ReadFault = cc in absurd (subst (IsStopOf file bytes) same stop);
+}
+
+pub reads_bytes : (tells : Bool) (file : Which) (name : List ℕ) (old new : ShelfState) (bytes read : List ℕ) (result : Result Named Outcome) → read ≡ bytes → ((n : List ℕ) → new.held n ≡ old.held n) → new.mode ≡ Closed → old.faults ≤ new.faults → (IsTrue tells → (old.held name ≡ Some bytes) × (length bytes ≤ 67108864)) → IfOk result (λ named. ReadAs read named.graph named.input_names named.output_names) → IfErr result (IsStopOf file read) → ReadsNetlist tells file name old new result
+reads_bytes tells file name old new bytes read result same files closed faults found is stop =
+    reads_same tells file name old new read result files closed faults (λ t. subst (λ b. (old.held name ≡ Some b) × (length b ≤ 67108864)) (sym same) (found t)) is stop

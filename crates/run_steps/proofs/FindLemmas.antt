@@ -1,0 +1,128 @@
+-- What was found for two netlists, and whether its account was written.
+use Rattle.std.proofs.Common.{◌≡◌, ◌⊎◌, ℕ, ◌≤◌, inl, inr, Bool, List, Option, Result, Ok, Err, IfErr, refl, sym, ◌∙◌, ap, subst, arith}
+use Rattle.net_core.specs.Sides.{Graphs}
+use Rattle.circuits.specs.Matches.{IsMatchOfFunctions}
+use Rattle.net_core.specs.declared.matching.Matching.{Matching}
+use Rattle.net_file.specs.declared.named.Named.{Named}
+use Rattle.port_report.specs.Reports.{names_of}
+use Rattle.shelf_core.specs.State.{ShelfState}
+use Rattle.shelf_core.specs.declared.outside.ShelfStop.{ShelfStop}
+use Rattle.shelf_core.specs.declared.outside.ShelfStop.TheVariants.{Failed, Memory}
+use Rattle.account_check.specs.declared.verdict.Verdict.TheVariants as verdict
+use Rattle.shelf_files.specs.Files.{HoldsFirst, WritesFile}
+use Rattle.run_steps.specs.Report.{HasTable, report_on}
+use Rattle.run_steps.specs.Stops.{unwritten}
+use Rattle.run_steps.specs.Steps.{Concludes, Finds, IsAnswered, IsCutOf, IsMatchIfTable, IsStopOfMatch, IsStopWithin, IsUnwritten, graphs_of}
+use Rattle.run_steps.specs.declared.outcome.Ending.{Ending}
+use Rattle.run_steps.specs.declared.outcome.Outcome.{Outcome}
+use Rattle.run_steps.specs.declared.outcome.Outcome.TheVariants as outcome
+use Rattle.shelf_core.proofs.FaultLemmas.{rose_later}
+
+err_same : (o p : Outcome) (r : Result Ending Outcome) → r ≡ Err o → r ≡ Err p → o ≡ p
+err_same o p r one other = cc
+
+failed_is : (stop : ShelfStop) → unwritten stop ≡ outcome.WriteFault → stop ≡ Failed
+failed_is Failed e = refl
+failed_is Memory e = cc
+
+is_unwritten : (stop : ShelfStop) → IsUnwritten (unwritten stop)
+is_unwritten Failed = inl refl
+is_unwritten Memory = inr refl
+
+same_table : (o : Outcome) (found table : Matching) → o ≡ outcome.Matched found → HasTable o table → found ≡ table
+same_table o found table is has = elim has [ inl e ↦ cc | inr e ↦ cc ]
+
+no_table : (o : Outcome) (table : Matching) → o ≡ outcome.NoMatching → HasTable o table → ⊥
+no_table o table is has = elim has [ inl e ↦ cc | inr e ↦ cc ]
+
+-- the account wasn't written
+pub not_concluded : (tells : Bool) (name text : List ℕ) (ending : Ending) (old new : ShelfState) (stop : ShelfStop) (o : Outcome) → o ≡ unwritten stop → WritesFile tells name text old new (Err stop) → Concludes tells name text ending old new (Err o)
+not_concluded tells name text ending old new stop o is writes = record {
+  others = writes.others;
+  same = tt;
+  whole = λ t. tt;
+  stopped = subst IsUnwritten (sym is) (is_unwritten stop);
+  part = writes.part;
+  faults = writes.faults;
+  failed = λ e. writes.failed (ap Err (failed_is stop (sym is ∙ err_same o outcome.WriteFault (Err o) refl e)));
+}
+
+-- it was written
+pub concluded : (tells : Bool) (name text : List ℕ) (ending : Ending) (old new : ShelfState) → WritesFile tells name text old new (Ok tt) → Concludes tells name text ending old new (Ok ending)
+concluded tells name text ending old new writes = record {
+  others = writes.others;
+  same = refl;
+  whole = writes.whole;
+  stopped = tt;
+  part = λ t. tt;
+  faults = writes.faults;
+  failed = λ e. cc;
+}
+
+stop_unwritten : (graphs : Graphs) (budget : ℕ) (o : Outcome) → IsStopWithin graphs budget o → o ≡ outcome.WriteFault → ⊥
+stop_unwritten graphs budget o stop e = elim stop [ inl (ledger, is, spent) ↦ cc | inr is ↦ cc ]
+
+-- the search came to no answer, and nothing was written
+pub not_solved : (tells : Bool) (first second : Named) (name : List ℕ) (budget : ℕ) (state : ShelfState) (o : Outcome) (result : Result Ending Outcome) → result ≡ Err o → IsStopWithin (graphs_of first second) budget o → Finds tells first second name budget state state result
+not_solved tells first second name budget state o result is stop =
+    subst (λ r. Finds tells first second name budget state state r) (sym is) (record {
+      others = λ t n other. refl;
+      answer = tt;
+      report = tt;
+      stopped = inl (stop, λ t. refl);
+      faults = omega arith;
+      failed = λ e. absurd (stop_unwritten (graphs_of first second) budget o stop (err_same o outcome.WriteFault (Err o) refl e));
+    })
+
+-- a first part of an account of an answer
+cut_of : (graphs : Graphs) (account : List ℕ) (o : Outcome) (before after : Option (List ℕ)) → IsAnswered graphs account o → (after ≡ before) ⊎ HoldsFirst account after → IsCutOf graphs before after
+cut_of graphs account o before after answer part =
+    elim part [
+      | inl same ↦ inl same
+      | inr first ↦ elim answer [
+        | inl (table, is, proves, matches) ↦ inr (account, verdict.Match table, proves, first)
+        | inr (is, proves, unequal) ↦ inr (account, verdict.None, proves, first)
+      ]
+    ]
+
+-- the table of an answer is a match
+pub table_of_answer : (graphs : Graphs) (account : List ℕ) (o : Outcome) → IsAnswered graphs account o → IsMatchIfTable graphs.first graphs.second o
+table_of_answer graphs account o answer table has =
+    elim answer [
+      | inl (found, is, proves, matches) ↦ subst (λ (t : Matching). IsMatchOfFunctions graphs.first graphs.second t.inputs t.outputs) (same_table o found table is has) matches
+      | inr (is, proves, unequal) ↦ absurd (no_table o table is has)
+    ]
+
+-- the search came to an answer, and its account was written or cut off
+pub solved : (tells : Bool) (first second : Named) (name account : List ℕ) (budget : ℕ) (ending : Ending) (old new : ShelfState) (result : Result Ending Outcome)
+    → IsAnswered (graphs_of first second) account ending.outcome
+    → ending.report.items ≡ report_on (names_of first) (names_of second) ending.outcome
+    → Concludes tells name account ending old new result
+    → Finds tells first second name budget old new result
+solved tells first second name account budget ending old new (Ok other) answer report concludes = record {
+  others = concludes.others;
+  answer = (account, subst (λ (e : Ending). IsAnswered (graphs_of first second) account e.outcome) (sym concludes.same) answer, concludes.whole);
+  report = subst (λ (e : Ending). e.report.items ≡ report_on (names_of first) (names_of second) e.outcome) (sym concludes.same) report;
+  stopped = tt;
+  faults = concludes.faults;
+  failed = λ e. cc;
+}
+solved tells first second name account budget ending old new (Err o) answer report concludes = record {
+  others = concludes.others;
+  answer = tt;
+  report = tt;
+  stopped = inr (concludes.stopped, λ t. cut_of (graphs_of first second) account ending.outcome (old.held name) (new.held name) answer (concludes.part t));
+  faults = concludes.faults;
+  failed = concludes.failed;
+}
+
+-- files that were read before don't change what is found
+pub finds_from : (tells : Bool) (first second : Named) (name : List ℕ) (budget : ℕ) (old middle new : ShelfState) (result : Result Ending Outcome) → ((n : List ℕ) → middle.held n ≡ old.held n) → old.faults ≤ middle.faults → Finds tells first second name budget middle new result → Finds tells first second name budget old new result
+finds_from tells first second name budget old middle new result same faults found = record {
+  others = λ t n other. found.others t n other ∙ same n;
+  answer = found.answer;
+  report = found.report;
+  stopped = subst (λ content. IfErr result (IsStopOfMatch tells (graphs_of first second) budget content (new.held name))) (same name) found.stopped;
+  faults = omega (arith, faults, found.faults);
+  failed = λ e. rose_later old.faults middle.faults new.faults faults found.faults (found.failed e);
+}

@@ -1,0 +1,11 @@
+pub mod AnswerLemmas
+pub mod CheckLemmas
+pub mod CircuitLemmas
+pub mod FindLemmas
+pub mod InfoLemmas
+pub mod JudgingLemmas
+pub mod MakingLemmas
+pub mod MatchLemmas
+pub mod PairLemmas
+pub mod Soundness
+pub mod TryingLemmas

@@ -1,0 +1,249 @@
+-- Two texts written one after the other, and what a pair says of the words and the files.
+use Rattle.std.proofs.Common.{◌≡◌, ℕ, inl, inr, Bool, IsTrue, List, Option, Some, Result, Ok, Err, refl, sym, ◌∙◌, ap, subst, arith}
+use Rattle.circuits.proofs.MatchLaws.{match_from_functions}
+use Rattle.net_core.specs.declared.matching.Matching.{Matching}
+use Rattle.shelf_core.specs.State.{ShelfState, Closed}
+use Rattle.shelf_core.specs.declared.outside.ShelfStop.{ShelfStop}
+use Rattle.shelf_core.specs.declared.outside.ShelfStop.TheVariants.{Failed, Memory as NoRoom}
+use Rattle.shelf_files.specs.Files.{WritesFile}
+use Rattle.run_steps.specs.Make.{HoldsPair, HoldsPartOfPair}
+use Rattle.run_steps.specs.Outcomes.{FollowsWords, IsRight, IsTold, Leaves}
+use Rattle.run_steps.specs.Report.{line_of}
+use Rattle.run_steps.specs.Steps.{Decides, IsEarly, IsEnding, IsUnwritten, PrintsPair, WritesPair, WritesText}
+use Rattle.command_words.specs.Commands.{asked_make, wanted_by}
+use Rattle.run_steps.specs.Stops.{unwritten}
+use Rattle.command_words.specs.Words.{AsksMake}
+use Rattle.command_words.specs.declared.words.Make.{Make as MakeWords}
+use Rattle.run_steps.specs.declared.outcome.Ending.{Ending}
+use Rattle.run_steps.specs.declared.outcome.Outcome.{Outcome}
+use Rattle.run_steps.specs.declared.outcome.Outcome.TheVariants.{AcceptedMatch, AcceptedRefusal, Matched, Informed, Made, Tried, ReadFault, WriteFault, Memory}
+use Rattle.command_words.proofs.FormLemmas.{make_or_trial}
+use Rattle.shelf_core.proofs.FaultLemmas.{rose_later}
+use Rattle.run_steps.proofs.PairLemmas.{first_read, second_read}
+
+unwritten_is : (stop : ShelfStop) → IsUnwritten (unwritten stop)
+unwritten_is Failed = inl refl
+unwritten_is NoRoom = inr refl
+
+failed_is : (stop : ShelfStop) → unwritten stop ≡ WriteFault → stop ≡ Failed
+failed_is Failed e = refl
+failed_is NoRoom e = cc
+
+err_same : {X : Type 0} (o p : Outcome) (r : Result X Outcome) → r ≡ Err o → r ≡ Err p → o ≡ p
+err_same o p r one other = cc
+
+-- a text was written
+pub text_written : (tells : Bool) (name text : List ℕ) (old new : ShelfState) → new.mode ≡ Closed → WritesFile tells name text old new (Ok tt) → WritesText tells name text old new (Ok tt)
+text_written tells name text old new closed writes = record {
+  closed = closed;
+  others = writes.others;
+  whole = writes.whole;
+  stopped = tt;
+  part = λ t. tt;
+  faults = writes.faults;
+  failed = λ e. cc;
+}
+
+-- or it wasn't
+pub text_refused : (tells : Bool) (name text : List ℕ) (old new : ShelfState) (stop : ShelfStop) (o : Outcome) → o ≡ unwritten stop → WritesFile tells name text old new (Err stop) → WritesText tells name text old new (Err o)
+text_refused tells name text old new stop o is writes = record {
+  closed = tt;
+  others = writes.others;
+  whole = λ t. tt;
+  stopped = subst IsUnwritten (sym is) (unwritten_is stop);
+  part = writes.part;
+  faults = writes.faults;
+  failed = λ e. writes.failed (ap Err (failed_is stop (sym is ∙ err_same o WriteFault (Err o) refl e)));
+}
+
+-- the first of two texts wasn't written
+pub first_refused : (tells : Bool) (a b first second : List ℕ) (old new : ShelfState) (o : Outcome) (result : Result (Unit {0}) Outcome) → result ≡ Err o → WritesText tells a first old new (Err o) → WritesPair tells a b first second old new result
+first_refused tells a b first second old new o result is one =
+    subst (λ r. WritesPair tells a b first second old new r) (sym is) (record {
+      others = λ t n not_a not_b. one.others t n not_a;
+      whole = λ t apart. tt;
+      stopped = one.stopped;
+      part = λ t apart. inl (one.part t, one.others t b apart);
+      faults = one.faults;
+      failed = one.failed;
+    })
+
+-- it was, and then the second one or not
+pub second_after : (tells : Bool) (a b first second : List ℕ) (old between new : ShelfState) (result : Result (Unit {0}) Outcome) → WritesText tells a first old between (Ok tt) → WritesText tells b second between new result → WritesPair tells a b first second old new result
+second_after tells a b first second old between new (Ok x) one other = record {
+  others = λ t n not_a not_b. other.others t n not_b ∙ one.others t n not_a;
+  whole = λ t apart. (other.others t a (λ e. apart (sym e)) ∙ one.whole t, other.whole t);
+  stopped = tt;
+  part = λ t apart. tt;
+  faults = omega (arith, one.faults, other.faults);
+  failed = λ e. cc;
+}
+second_after tells a b first second old between new (Err o) one other = record {
+  others = λ t n not_a not_b. other.others t n not_b ∙ one.others t n not_a;
+  whole = λ t apart. tt;
+  stopped = other.stopped;
+  -- what the second name held before is what it held between
+  part = λ t apart. inr (
+    other.others t a (λ e. apart (sym e)) ∙ one.whole t,
+    elim (other.part t) [ inl same ↦ inl (same ∙ one.others t b apart) | inr cut ↦ inr cut ],
+  );
+  faults = omega (arith, one.faults, other.faults);
+  failed = λ e. rose_later old.faults between.faults new.faults one.faults other.faults (other.failed e);
+}
+
+-- what an outcome of a pair says by the words alone
+
+follows_made : (words : List (List ℕ)) (asked : MakeWords) → AsksMake words (wanted_by asked) → FollowsWords words Made
+follows_made words asked asks = record {
+  made = λ e. (wanted_by asked, asks);
+  pair = λ all told. refl;
+  tried = λ number account e. cc;
+  trial = λ number trial told. absurd (make_or_trial words number (wanted_by asked, asks) trial);
+  read = λ e. cc;
+}
+
+untold : (o : Outcome) → IsUnwritten o → IsTold o → ⊥
+untold o is told = elim is [ inl e ↦ told.written e | inr e ↦ told.room e ]
+
+not_made : (o : Outcome) → IsUnwritten o → o ≡ Made → ⊥
+not_made o is e = elim is [ inl e' ↦ cc | inr e' ↦ cc ]
+
+not_tried : (o : Outcome) → IsUnwritten o → (number : ℕ) (account : List ℕ) → o ≡ Tried number account → ⊥
+not_tried o is number account e = elim is [ inl e' ↦ cc | inr e' ↦ cc ]
+
+not_read : (o : Outcome) → IsUnwritten o → o ≡ ReadFault → ⊥
+not_read o is e = elim is [ inl e' ↦ cc | inr e' ↦ cc ]
+
+pub follows_unwritten : (words : List (List ℕ)) (o : Outcome) → IsUnwritten o → FollowsWords words o
+follows_unwritten words o is = record {
+  made = λ e. absurd (not_made o is e);
+  pair = λ all told. absurd (untold o is told);
+  tried = λ number account e. absurd (not_tried o is number account e);
+  trial = λ number trial told. absurd (untold o is told);
+  read = λ e. absurd (not_read o is e);
+}
+
+-- a refused write, and want of memory, say nothing of the files
+right_unwritten : (held : List ℕ → Option (List ℕ)) (words : List (List ℕ)) (o : Outcome) → IsUnwritten o → IsRight held words o
+right_unwritten held words o is = elim is [ inl e ↦ subst (IsRight held words) (sym e) tt | inr e ↦ subst (IsRight held words) (sym e) tt ]
+
+early_of : (o : Outcome) → IsUnwritten o → IsEarly o
+early_of o is = record {
+  line = record {
+    no_table = λ table has. elim is [ inl e ↦ elim has [ inl e' ↦ cc | inr e' ↦ cc ] | inr e ↦ elim has [ inl e' ↦ cc | inr e' ↦ cc ] ];
+    no_rows = λ e'. elim is [ inl e ↦ cc | inr e ↦ cc ];
+  };
+  no_refusal = λ e'. elim is [ inl e ↦ cc | inr e ↦ cc ];
+  no_match = λ e'. elim is [ inl e ↦ cc | inr e ↦ cc ];
+  no_pair = not_made o is;
+  no_trial = not_tried o is;
+  asked = λ e'. elim is [ inl e ↦ cc | inr e ↦ cc ];
+}
+
+no_table : (o : Outcome) {table : Matching} → o ≡ Made → o ≡ AcceptedMatch table → ⊥
+no_table o is e = cc
+
+no_found : (o : Outcome) {table : Matching} → o ≡ Made → o ≡ Matched table → ⊥
+no_found o is e = cc
+
+no_refusal : (o : Outcome) → o ≡ Made → o ≡ AcceptedRefusal → ⊥
+no_refusal o is e = cc
+
+no_rows : (o : Outcome) → o ≡ Made → o ≡ Informed → ⊥
+no_rows o is e = cc
+
+made_ends : (o : Outcome) → o ≡ Made → IsEnding o
+made_ends o is = record { asked = λ e. cc; read = λ e. cc; unwritten = λ e. cc }
+
+-- a pair was printed for the words, and both files written or not
+module _ (tells : Bool) (asked : MakeWords) (first_text second_text : List ℕ) (prints : PrintsPair asked.number first_text second_text) (old new : ShelfState) where
+  holds : (words : List (List ℕ)) → AsksMake words (wanted_by asked) → new.held asked.first.now ≡ Some first_text → new.held asked.second.now ≡ Some second_text → HoldsPair new.held words
+  holds words asks first_there second_there =
+      let first = first_read asked.number first_text second_text prints (new.held asked.first.now) first_there in
+      let second = second_read asked.number first_text second_text prints (new.held asked.second.now) second_there in
+      let table = prints.table in
+      record {
+        wanted = wanted_by asked;
+        asks = asks;
+        first = prints.first;
+        second = prints.second;
+        table = table;
+        first_text = first_text;
+        second_text = second_text;
+        printed = prints.printed;
+        first_there = first_there;
+        second_there = second_there;
+        first_file = first.0;
+        second_file = second.0;
+        first_read = first.1;
+        second_read = second.1;
+        matches = match_from_functions first.0.circuit second.0.circuit prints.first.graph prints.second.graph table.inputs table.outputs first.1.computes second.1.computes prints.printed.pair.matches;
+      }
+
+  cut : (words : List (List ℕ)) → AsksMake words (wanted_by asked) → (o : Outcome) → WritesPair tells asked.first.now asked.second.now first_text second_text old new (Err o) → IsTrue tells → HoldsPartOfPair old.held new.held words
+  cut words asks o writes t = record {
+    wanted = wanted_by asked;
+    asks = asks;
+    first = prints.first;
+    second = prints.second;
+    table = prints.table;
+    first_text = first_text;
+    second_text = second_text;
+    printed = prints.printed;
+    part = writes.part t asks.names.apart;
+  }
+
+  left_unwritten : (words : List (List ℕ)) → AsksMake words (wanted_by asked) → (o : Outcome) → WritesPair tells asked.first.now asked.second.now first_text second_text old new (Err o) → IsTrue tells → Leaves old.held new.held words o
+  left_unwritten words asks o writes t =
+      elim writes.stopped [
+        | inl e ↦ subst (Leaves old.held new.held words) (sym e) (inr (inr (cut words asks o writes t)))
+        | inr e ↦ subst (Leaves old.held new.held words) (sym e) (inr (inr (cut words asks o writes t)))
+      ]
+
+  pub pair_made : (ending : Ending) → ending.outcome ≡ Made → ending.report.items ≡ line_of Made → WritesPair tells asked.first.now asked.second.now first_text second_text old new (Ok tt) → Decides tells (asked_make asked) old new (Ok ending)
+  pair_made ending is report writes = record {
+    files = λ t n other. writes.others t n other.0 other.1;
+    left = λ t words asks. subst (Leaves old.held new.held words) (sym is) (holds words asks (writes.whole t asks.names.apart).0 (writes.whole t asks.names.apart).1);
+    right = λ t words asks. subst (IsRight old.held words) (sym is) (wanted_by asked, asks);
+    by_words = λ words asks. subst (FollowsWords words) (sym is) (follows_made words asked asks);
+    sound = λ t words asks. record { matches = λ table e. absurd (no_table ending.outcome is e); refuses = λ e. absurd (no_refusal ending.outcome is e) };
+    report = λ words asks. inl (
+      record { no_table = λ table has. absurd (elim has [ inl e ↦ no_table ending.outcome is e | inr e ↦ no_found ending.outcome is e ]); no_rows = λ e. absurd (no_rows ending.outcome is e) },
+      report ∙ ap line_of (sym is),
+    );
+    ending = made_ends ending.outcome is;
+    early = tt;
+    failed = λ e. cc;
+    unwritten = λ e. cc;
+  }
+
+  pub pair_refused : (result : Result Ending Outcome) (o : Outcome) → result ≡ Err o → WritesPair tells asked.first.now asked.second.now first_text second_text old new (Err o) → Decides tells (asked_make asked) old new result
+  pair_refused result o is writes =
+      subst (λ r. Decides tells (asked_make asked) old new r) (sym is) (record {
+        files = λ t n other. writes.others t n other.0 other.1;
+        left = λ t words asks. left_unwritten words asks o writes t;
+        right = λ t words asks. right_unwritten old.held words o writes.stopped;
+        by_words = λ words asks. follows_unwritten words o writes.stopped;
+        sound = λ t words asks. tt;
+        report = λ words asks. tt;
+        ending = tt;
+        early = early_of o writes.stopped;
+        failed = λ e. absurd (not_read o writes.stopped (cc e));
+        unwritten = λ e. (tt, writes.failed (ap Err (cc e)));
+      })
+
+-- there was no memory for a pair
+pub no_pair : (tells : Bool) (asked : MakeWords) (state : ShelfState) (result : Result Ending Outcome) → result ≡ Err Memory → Decides tells (asked_make asked) state state result
+no_pair tells asked state result is =
+    subst (λ r. Decides tells (asked_make asked) state state r) (sym is) (record {
+      files = λ t n other. refl;
+      left = λ t words asks. inl (λ n. refl);
+      right = λ t words asks. tt;
+      by_words = λ words asks. follows_unwritten words Memory (inr refl);
+      sound = λ t words asks. tt;
+      report = λ words asks. tt;
+      ending = tt;
+      early = early_of Memory (inr refl);
+      failed = λ e. cc;
+      unwritten = λ e. cc;
+    })

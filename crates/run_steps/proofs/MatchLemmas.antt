@@ -1,0 +1,324 @@
+-- What a match says of the words and the files, and what it leaves.
+use Rattle.std.proofs.Common.{◌≡◌, ◌≢◌, ℕ, inl, inr, Bool, true, false, IsTrue, List, length, Option, Some, Result, Ok, Err, refl, sym, ◌∙◌, ap, subst, arith}
+use Rattle.std.proofs.lemmas.Bool.{false≢true}
+use Rattle.std.proofs.lemmas.List.{take_all}
+use Rattle.std.proofs.lemmas.Slice.Eq.{bytes_eq-Decides}
+use Rattle.std.specs.Str.{bytes_eq}
+use Rattle.circuits.proofs.MatchLaws.{match_from_functions, functions_from_equal}
+use Rattle.net_file.specs.declared.named.Named.{Named}
+use Rattle.shelf_core.specs.State.{ShelfState}
+use Rattle.account_check.specs.Verdicts.{IsAccepted as Proves}
+use Rattle.account_check.specs.declared.verdict.Verdict.{Verdict}
+use Rattle.account_check.specs.declared.verdict.Verdict.TheVariants as verdict
+use Rattle.run_steps.specs.Held.{HoldsGraph}
+use Rattle.run_steps.specs.Match.{HoldsPart, IsProved, IsSought, NamesAccount}
+use Rattle.run_steps.specs.Make.{HoldsPair, HoldsPartOfPair, NamesPair, WriteFiles}
+use Rattle.run_steps.specs.Outcomes.{FollowsWords, IsRight, IsSound, Leaves, LeavesFiles, MayBeCut}
+use Rattle.command_words.specs.Commands.{Ask, IsWritingCommand, IsNotWritten, asked_match, sought_by, wanted_by}
+use Rattle.run_steps.specs.Steps.{Decides, Finds, IsAnswered, IsCutOf, IsEarly, IsEnding, IsReadFrom, IsStopOfMatch, IsStopWithin, graphs_of, netlist_of}
+use Rattle.command_words.specs.Words.{AsksMatch, ReadFiles, check_words}
+use Rattle.command_words.specs.declared.words.Match.{Match as MatchWords}
+use Rattle.command_words.specs.declared.words.Command.{Command}
+use Rattle.command_words.specs.declared.words.Command.TheVariants.{Check, Match, Info, Make, Trial}
+use Rattle.run_steps.specs.declared.outcome.Ending.{Ending}
+use Rattle.run_steps.specs.declared.outcome.Outcome.{Outcome}
+use Rattle.run_steps.specs.declared.outcome.Outcome.TheVariants.{AcceptedMatch, AcceptedRefusal, Rejected, Matched, NoMatching, Spent, Usage, Absent, TooLarge, Malformed, Informed, Made, Tried, ReadFault, WriteFault, Memory}
+use Rattle.run_steps.proofs.CheckLemmas.{follows_files, leaves_early}
+use Rattle.run_steps.proofs.InfoLemmas.{not_read, stop_line}
+use Rattle.command_words.proofs.FormLemmas.{names_one, reads_of, check_of}
+
+-- a whole account is its first part
+part_of : (held : List ℕ → Option (List ℕ)) (words : List (List ℕ)) (proved : Verdict) → IsProved held words proved → HoldsPart held words
+part_of held words proved is =
+    let sought = is.sought in
+    let has = is.accepted.has in
+    let graphs = is.accepted.graphs in
+    let account = is.accepted.account in
+    let named = names_one (check_words sought.first sought.second sought.account) sought.first sought.second sought.account has.first_name has.second_name has.account_name (check_of words sought is.asks) has.asks in
+    record {
+      sought = sought;
+      asks = is.asks;
+      graphs = graphs;
+      first_held = subst (λ name. HoldsGraph (held name) graphs.first) named.0 has.first_held;
+      second_held = subst (λ name. HoldsGraph (held name) graphs.second) named.1 has.second_held;
+      account = account;
+      proved = proved;
+      accepted = is.accepted.accepted;
+      count = length account;
+      part = ap held (sym named.2) ∙ (has.there ∙ ap Some (sym (take_all (length account) account (omega arith))));
+    }
+
+-- a whole pair is its first part
+part_of_pair : (before after : List ℕ → Option (List ℕ)) (words : List (List ℕ)) → HoldsPair after words → HoldsPartOfPair before after words
+part_of_pair before after words is =
+    let text = is.second_text in
+    record {
+      wanted = is.wanted;
+      asks = is.asks;
+      first = is.first;
+      second = is.second;
+      table = is.table;
+      first_text = is.first_text;
+      second_text = text;
+      printed = is.printed;
+      part = inr (is.first_there, inr (length text, is.second_there ∙ ap Some (sym (take_all (length text) text (omega arith)))));
+    }
+
+pub may_be_cut : (before after : List ℕ → Option (List ℕ)) (words : List (List ℕ)) (o : Outcome) → Leaves before after words o → MayBeCut before after words
+may_be_cut before after words (AcceptedMatch table) left = inl left
+may_be_cut before after words AcceptedRefusal left = inl left
+may_be_cut before after words (Rejected line why) left = inl left
+may_be_cut before after words (Matched table) left = inr (inl (part_of after words (verdict.Match table) left))
+may_be_cut before after words NoMatching left = inr (inl (part_of after words verdict.None left))
+may_be_cut before after words (Spent ledger) left = inl left
+may_be_cut before after words Informed left = inl left
+may_be_cut before after words (Tried number account) left = inl left
+may_be_cut before after words Made left = inr (inr (part_of_pair before after words left))
+may_be_cut before after words Usage left = inl left
+may_be_cut before after words (Absent which) left = inl left
+may_be_cut before after words (TooLarge which) left = inl left
+may_be_cut before after words (Malformed which kind at) left = inl left
+may_be_cut before after words ReadFault left = inl left
+may_be_cut before after words WriteFault left = left
+may_be_cut before after words Memory left = left
+
+pub kept : (before after : List ℕ → Option (List ℕ)) (words : List (List ℕ)) (o : Outcome) → LeavesFiles o → Leaves before after words o → (name : List ℕ) → after name ≡ before name
+kept before after words (AcceptedMatch table) none left = left
+kept before after words AcceptedRefusal none left = left
+kept before after words (Rejected line why) none left = left
+kept before after words (Matched table) none left = absurd (none.no_table table refl)
+kept before after words NoMatching none left = absurd (none.no_refusal refl)
+kept before after words (Spent ledger) none left = left
+kept before after words Informed none left = left
+kept before after words (Tried number account) none left = left
+kept before after words Made none left = absurd (none.no_pair refl)
+kept before after words Usage none left = left
+kept before after words (Absent which) none left = left
+kept before after words (TooLarge which) none left = left
+kept before after words (Malformed which kind at) none left = left
+kept before after words ReadFault none left = left
+kept before after words WriteFault none left = absurd (none.told.written refl)
+kept before after words Memory none left = absurd (none.told.room refl)
+
+-- a name that is neither the account of a match nor a file of a pair isn't written
+pub not_written : (words : List (List ℕ)) (command : Command) (name : List ℕ) → Ask words command → (NamesAccount words name → ⊥) → (NamesPair words name → ⊥) → IsNotWritten command name
+not_written words (Check check) name asks other apart = tt
+not_written words (Match asked) name asks other apart = λ same. other (sought_by asked, asks, same)
+not_written words (Info info) name asks other apart = tt
+not_written words (Trial trial) name asks other apart = tt
+not_written words (Make asked) name asks other apart = (λ same. apart (wanted_by asked, asks, inl same), λ same. apart (wanted_by asked, asks, inr same))
+
+pub writes_of : (words : List (List ℕ)) (command : Command) → Ask words command → IsWritingCommand command → WriteFiles words
+writes_of words (Check check) asks is = absurd is
+writes_of words (Match asked) asks is = inl (sought_by asked, asks)
+writes_of words (Info info) asks is = absurd is
+writes_of words (Trial trial) asks is = absurd is
+writes_of words (Make asked) asks is = inr (wanted_by asked, asks)
+
+-- where one name holds what it held, and so do all others, nothing changed
+everywhere : (before after : List ℕ → Option (List ℕ)) (name : List ℕ) → ((n : List ℕ) → n ≢ name → after n ≡ before n) → after name ≡ before name → (n : List ℕ) (same : Bool) → bytes_eq n name ≡ same → after n ≡ before n
+everywhere before after name others here n true is = let e = (bytes_eq-Decides n name).0 is in ap after e ∙ (here ∙ ap before (sym e))
+everywhere before after name others here n false is = others n (λ e. false≢true (sym is ∙ (bytes_eq-Decides n name).1 e))
+
+early_unwritten : IsEarly WriteFault
+early_unwritten = record { line = record { no_table = λ table e. elim e [ inl e ↦ cc | inr e ↦ cc ]; no_rows = λ e. cc }; no_refusal = λ e. cc; no_match = λ e. cc; no_pair = λ e. cc; no_trial = λ number account e. cc; asked = λ e. cc }
+
+early_memory : IsEarly Memory
+early_memory = record { line = record { no_table = λ table e. elim e [ inl e ↦ cc | inr e ↦ cc ]; no_rows = λ e. cc }; no_refusal = λ e. cc; no_match = λ e. cc; no_pair = λ e. cc; no_trial = λ number account e. cc; asked = λ e. cc }
+
+-- What was found for two netlists that were read, where the account was written under its name.
+module _ (tells : Bool) (asked : MatchWords) (old new : ShelfState) (first second : Named)
+    (first_read : IsReadFrom tells (old.held asked.first.now) first) (second_read : IsReadFrom tells (old.held asked.second.now) second)
+    (others : IsTrue tells → (n : List ℕ) → n ≢ asked.account.now → new.held n ≡ old.held n) where
+  first_graph : IsTrue tells → HoldsGraph (old.held asked.first.now) first.graph
+  first_graph t = record { netlist = netlist_of first_read.circuit first; holds = first_read.held t; numbered = first_read.numbered }
+
+  second_graph : IsTrue tells → HoldsGraph (old.held asked.second.now) second.graph
+  second_graph t = record { netlist = netlist_of second_read.circuit second; holds = second_read.held t; numbered = second_read.numbered }
+
+  -- the netlists' files stay
+  first_after : IsTrue tells → (words : List (List ℕ)) → AsksMatch words (sought_by asked) → HoldsGraph (new.held asked.first.now) first.graph
+  first_after t words asks = subst (λ content. HoldsGraph content first.graph) (sym (others t asked.first.now (λ same. asks.names.not_first (sym same)))) (first_graph t)
+
+  second_after : IsTrue tells → (words : List (List ℕ)) → AsksMatch words (sought_by asked) → HoldsGraph (new.held asked.second.now) second.graph
+  second_after t words asks = subst (λ content. HoldsGraph content second.graph) (sym (others t asked.second.now (λ same. asks.names.not_second (sym same)))) (second_graph t)
+
+  files : IsTrue tells → (words : List (List ℕ)) → AsksMatch words (sought_by asked) → IsSought old.held words (netlist_of first_read.circuit first) (netlist_of second_read.circuit second)
+  files t words asks = record { sought = (sought_by asked); asks = asks; first_held = first_read.held t; second_held = second_read.held t }
+
+  proved_by : IsTrue tells → (words : List (List ℕ)) → AsksMatch words (sought_by asked) → (account : List ℕ) (proved : Verdict) → Proves (graphs_of first second) account proved → new.held asked.account.now ≡ Some account → IsProved new.held words proved
+  proved_by t words asks account proved proves there = record {
+    sought = (sought_by asked);
+    asks = asks;
+    accepted = record {
+      graphs = (graphs_of first second);
+      account = account;
+      has = record {
+        first_name = asked.first.now;
+        second_name = asked.second.now;
+        account_name = asked.account.now;
+        asks = check_of words (sought_by asked) asks;
+        first_held = first_after t words asks;
+        second_held = second_after t words asks;
+        there = there;
+      };
+      accepted = proves;
+    };
+  }
+
+  reads : (words : List (List ℕ)) → AsksMatch words (sought_by asked) → ReadFiles words
+  reads words asks = reads_of words (asked_match asked) tt asks
+
+  -- an answer is right, and its account is left
+
+  answer_right : (account : List ℕ) (o : Outcome) → IsAnswered (graphs_of first second) account o → IsTrue tells → (words : List (List ℕ)) → AsksMatch words (sought_by asked) → IsRight old.held words o
+  answer_right account o answer t words asks =
+      elim answer [
+        | inl (table, is, proves, matches) ↦ subst (IsRight old.held words) (sym is) (record {
+          first = netlist_of first_read.circuit first;
+          second = netlist_of second_read.circuit second;
+          files = files t words asks;
+          matches = match_from_functions first_read.circuit second_read.circuit first.graph second.graph table.inputs table.outputs first_read.computes second_read.computes matches;
+        })
+        | inr (is, proves, unequal) ↦ subst (IsRight old.held words) (sym is) (record {
+          first = netlist_of first_read.circuit first;
+          second = netlist_of second_read.circuit second;
+          files = files t words asks;
+          unequal = λ equal. unequal (functions_from_equal first_read.circuit second_read.circuit first.graph second.graph first_read.acyclic second_read.acyclic first_read.computes second_read.computes equal);
+        })
+      ]
+
+  answer_leaves : (account : List ℕ) (o : Outcome) → IsAnswered (graphs_of first second) account o → IsTrue tells → new.held asked.account.now ≡ Some account → (words : List (List ℕ)) → AsksMatch words (sought_by asked) → Leaves old.held new.held words o
+  answer_leaves account o answer t there words asks =
+      elim answer [
+        | inl (table, is, proves, matches) ↦ subst (Leaves old.held new.held words) (sym is) (proved_by t words asks account (verdict.Match table) proves there)
+        | inr (is, proves, unequal) ↦ subst (Leaves old.held new.held words) (sym is) (proved_by t words asks account verdict.None proves there)
+      ]
+
+  answer_sound : (account : List ℕ) (o : Outcome) → IsAnswered (graphs_of first second) account o → (words : List (List ℕ)) → IsSound old.held words o
+  answer_sound account o answer words = elim answer [
+    | inl (table, is, proves, matches) ↦ record { matches = λ other e. cc; refuses = λ e. cc }
+    | inr (is, proves, unequal) ↦ record { matches = λ other e. cc; refuses = λ e. cc }
+  ]
+
+  answer_ends : (account : List ℕ) (o : Outcome) → IsAnswered (graphs_of first second) account o → IsEnding o
+  answer_ends account o answer = elim answer [
+    | inl (table, is, proves, matches) ↦ record { asked = λ e. cc; read = λ e. cc; unwritten = λ e. cc }
+    | inr (is, proves, unequal) ↦ record { asked = λ e. cc; read = λ e. cc; unwritten = λ e. cc }
+  ]
+
+  answer_no_rows : (account : List ℕ) (o : Outcome) → IsAnswered (graphs_of first second) account o → o ≢ Informed
+  answer_no_rows account o answer e = elim answer [ inl (table, is, proves, matches) ↦ cc | inr (is, proves, unequal) ↦ cc ]
+
+  answer_follows : (account : List ℕ) (o : Outcome) → IsAnswered (graphs_of first second) account o → (words : List (List ℕ)) → AsksMatch words (sought_by asked) → FollowsWords words o
+  answer_follows account o answer words asks =
+      follows_files words o (reads words asks)
+      (λ e. elim answer [ inl (table, is, proves, matches) ↦ cc | inr (is, proves, unequal) ↦ cc ])
+      (λ number text e. elim answer [ inl (table, is, proves, matches) ↦ cc | inr (is, proves, unequal) ↦ cc ])
+
+  -- where nothing changed at the account's name, no file changed
+  unchanged : IsTrue tells → new.held asked.account.now ≡ old.held asked.account.now → (n : List ℕ) → new.held n ≡ old.held n
+  unchanged t same n = everywhere old.held new.held asked.account.now (others t) same n (bytes_eq n asked.account.now) refl
+
+  -- a budget that was spent, or running out of memory, is right
+
+  stop_right : (o : Outcome) → IsStopWithin (graphs_of first second) asked.budget o → IsTrue tells → (words : List (List ℕ)) → AsksMatch words (sought_by asked) → IsRight old.held words o
+  stop_right o stop t words asks =
+      elim stop [
+        | inl (ledger, is, spent) ↦ subst (IsRight old.held words) (sym is) (inr (inl (record {
+          sought = (sought_by asked);
+          asks = asks;
+          graphs = (graphs_of first second);
+          first_held = first_graph t;
+          second_held = second_graph t;
+          spent = spent;
+        })))
+        | inr is ↦ subst (IsRight old.held words) (sym is) tt
+      ]
+
+  -- and a write that was refused leaves a first part
+
+  cut : IsTrue tells → (words : List (List ℕ)) → AsksMatch words (sought_by asked) → IsCutOf (graphs_of first second) (old.held asked.account.now) (new.held asked.account.now) → MayBeCut old.held new.held words
+  cut t words asks is =
+      elim is [
+        | inl same ↦ inl (unchanged t same)
+        | inr (account, proved, proves, first_part) ↦ inr (inl (record {
+          sought = (sought_by asked);
+          asks = asks;
+          graphs = (graphs_of first second);
+          first_held = first_after t words asks;
+          second_held = second_after t words asks;
+          account = account;
+          proved = proved;
+          accepted = proves;
+          count = first_part.0;
+          part = first_part.1;
+        }))
+      ]
+
+  end_right : (o : Outcome) → IsStopOfMatch tells (graphs_of first second) asked.budget (old.held asked.account.now) (new.held asked.account.now) o → IsTrue tells → (words : List (List ℕ)) → AsksMatch words (sought_by asked) → IsRight old.held words o
+  end_right o end t words asks =
+      elim end [
+        | inl (stop, same) ↦ stop_right o stop t words asks
+        | inr (inl is, part) ↦ subst (IsRight old.held words) (sym is) tt
+        | inr (inr is, part) ↦ subst (IsRight old.held words) (sym is) tt
+      ]
+
+  end_leaves : (o : Outcome) → IsStopOfMatch tells (graphs_of first second) asked.budget (old.held asked.account.now) (new.held asked.account.now) o → IsTrue tells → (words : List (List ℕ)) → AsksMatch words (sought_by asked) → Leaves old.held new.held words o
+  end_leaves o end t words asks =
+      elim end [
+        | inl (stop, same) ↦ leaves_early old.held new.held words o (stop_line (graphs_of first second) asked.budget o stop).early (unchanged t (same t))
+        | inr (inl is, part) ↦ subst (Leaves old.held new.held words) (sym is) (cut t words asks (part t))
+        | inr (inr is, part) ↦ subst (Leaves old.held new.held words) (sym is) (cut t words asks (part t))
+      ]
+
+  end_early : (o : Outcome) → IsStopOfMatch tells (graphs_of first second) asked.budget (old.held asked.account.now) (new.held asked.account.now) o → IsEarly o
+  end_early o end =
+      elim end [
+        | inl (stop, same) ↦ (stop_line (graphs_of first second) asked.budget o stop).early
+        | inr (inl is, part) ↦ subst IsEarly (sym is) early_unwritten
+        | inr (inr is, part) ↦ subst IsEarly (sym is) early_memory
+      ]
+
+  end_unread : (o : Outcome) → o ≡ ReadFault → IsStopOfMatch tells (graphs_of first second) asked.budget (old.held asked.account.now) (new.held asked.account.now) o → ⊥
+  end_unread o e end =
+      elim end [
+        | inl (stop, same) ↦ not_read (graphs_of first second) asked.budget o e stop
+        | inr (inl is, part) ↦ cc
+        | inr (inr is, part) ↦ cc
+      ]
+
+  pub finds : (result : Result Ending Outcome) → Finds tells first second asked.account.now asked.budget old new result → Decides tells (asked_match asked) old new result
+  finds (Ok ending) found =
+      let account = found.answer.0 in
+      let answer = found.answer.1 in
+      record {
+        files = others;
+        left = λ t words asks. answer_leaves account ending.outcome answer t (found.answer.2 t) words asks;
+        right = answer_right account ending.outcome answer;
+        by_words = answer_follows account ending.outcome answer;
+        sound = λ t words asks. answer_sound account ending.outcome answer words;
+        report = λ words asks. inr (inl (record {
+          first = netlist_of first_read.circuit first;
+          second = netlist_of second_read.circuit second;
+          no_rows = answer_no_rows account ending.outcome answer;
+          of_files = λ t. inr (files t words asks);
+          same = found.report;
+        }));
+        ending = answer_ends account ending.outcome answer;
+        early = tt;
+        failed = λ e. cc;
+        unwritten = λ e. cc;
+      }
+  finds (Err o) found = record {
+    files = others;
+    left = end_leaves o found.stopped;
+    right = end_right o found.stopped;
+    by_words = λ words asks. let early = end_early o found.stopped in follows_files words o (reads words asks) early.no_pair early.no_trial;
+    sound = λ t words asks. tt;
+    report = λ words asks. tt;
+    ending = tt;
+    early = end_early o found.stopped;
+    failed = λ e. absurd (end_unread o (cc e) found.stopped);
+    unwritten = λ e. (tt, found.failed (cc e));
+  }

@@ -1,0 +1,71 @@
+-- What a match says of the words and of the files, which are held before the run and afterwards.
+use Rattle.std.specs.Prelude.{◌≡◌, ℕ, List, take, Option, Some}
+use Rattle.circuits.specs.Matches.{IsMatch, AreNpnpEqual}
+use Rattle.account_check.specs.Verdicts.{IsAccepted as Proves}
+use Rattle.account_check.specs.declared.verdict.Verdict.{Verdict}
+use Rattle.net_core.specs.Sides.{Graphs}
+use Rattle.net_core.specs.declared.matching.Matching.{Matching}
+use Rattle.query_core.specs.Ledgers.{Ledgered}
+use Rattle.run_steps.specs.Check.{IsAccepted}
+use Rattle.run_steps.specs.Held.{Netlist, HoldsNetlist, HoldsGraph}
+use Rattle.run_steps.specs.Info.{IsSpentOf}
+use Rattle.command_words.specs.Words.{AsksMatch, Sought, check_words}
+
+-- The words ask for a match of two files that are these netlists.
+pub record IsSought (held : List ℕ → Option (List ℕ)) (words : List (List ℕ)) (first second : Netlist) : Type 0 where
+  pub sought : Sought
+  pub asks : AsksMatch words sought
+  pub first_held : HoldsNetlist (held sought.first) first
+  pub second_held : HoldsNetlist (held sought.second) second
+
+-- The words ask for a match of two files that are netlists.
+pub record IsAskedToMatch (held : List ℕ → Option (List ℕ)) (words : List (List ℕ)) : Type 0 where
+  pub first : Netlist
+  pub second : Netlist
+  pub files : IsSought held words first second
+
+-- The words ask for a match of two files that are netlists, and the table is one.
+pub record IsMatchFound (held : List ℕ → Option (List ℕ)) (words : List (List ℕ)) (table : Matching) : Type 0 where
+  pub first : Netlist
+  pub second : Netlist
+  pub files : IsSought held words first second
+  pub matches : IsMatch first.circuit second.circuit table.inputs table.outputs
+
+-- The words ask for a match of two files that are netlists, and no signed bijections make the two circuits equal.
+pub record HasNoMatch (held : List ℕ → Option (List ℕ)) (words : List (List ℕ)) : Type 0 where
+  pub first : Netlist
+  pub second : Netlist
+  pub files : IsSought held words first second
+  pub unequal : AreNpnpEqual first.circuit second.circuit → ⊥
+
+-- The words ask for a match of two files, within a budget that was spent on the graphs by which accounts number them.
+pub record IsSpentOnTwo (held : List ℕ → Option (List ℕ)) (words : List (List ℕ)) (ledger : Ledgered) : Type 0 where
+  pub sought : Sought
+  pub asks : AsksMatch words sought
+  pub graphs : Graphs
+  pub first_held : HoldsGraph (held sought.first) graphs.first
+  pub second_held : HoldsGraph (held sought.second) graphs.second
+  pub spent : IsSpentOf graphs sought.budget ledger
+
+-- The words ask for a match, and a check by the same three names accepts the account: it proves this.
+pub record IsProved (held : List ℕ → Option (List ℕ)) (words : List (List ℕ)) (proved : Verdict) : Type 0 where
+  pub sought : Sought
+  pub asks : AsksMatch words sought
+  pub accepted : IsAccepted held (check_words sought.first sought.second sought.account) proved
+
+-- The words ask for a match, and the account's name holds the first bytes of an account of the two files that is accepted.
+pub record HoldsPart (held : List ℕ → Option (List ℕ)) (words : List (List ℕ)) : Type 0 where
+  pub sought : Sought
+  pub asks : AsksMatch words sought
+  pub graphs : Graphs
+  pub first_held : HoldsGraph (held sought.first) graphs.first
+  pub second_held : HoldsGraph (held sought.second) graphs.second
+  pub account : List ℕ
+  pub proved : Verdict
+  pub accepted : Proves graphs account proved
+  pub count : ℕ
+  pub part : held sought.account ≡ Some (take count account)
+
+-- the words ask for a match whose account has this name
+abbrev pub NamesAccount : List (List ℕ) → List ℕ → Type 0
+NamesAccount words name = (sought : Sought) × AsksMatch words sought × (name ≡ sought.account)

@@ -1,0 +1,159 @@
+-- What the program answers, said of the words and of the files that are held.
+use Rattle.std.specs.Prelude.{◌≡◌, ◌≢◌, ℕ, ◌⊎◌, List, Option, None}
+use Rattle.circuits.specs.Netlists.{Net}
+use Rattle.account_check.specs.declared.verdict.Verdict.TheVariants as verdict
+use Rattle.net_core.specs.declared.matching.Matching.{Matching}
+use Rattle.query_core.specs.Ledgers.{Ledgered}
+use Rattle.run_steps.specs.Check.{IsAccepted, IsRejected, IsMatchOfFiles, LacksAccount, LacksMatch}
+use Rattle.run_steps.specs.Held.{Netlist, HoldsNetlist, HoldsGraph, HoldsFault, HoldsTooMuch}
+use Rattle.run_steps.specs.Info.{IsSpentOf, with_itself}
+use Rattle.run_steps.specs.Match.{HasNoMatch, HoldsPart, IsMatchFound, IsProved, IsSpentOnTwo}
+use Rattle.run_steps.specs.Make.{HoldsPair, HoldsPartOfPair}
+use Rattle.run_steps.specs.Trial.{IsSpentOnPair, IsSpentOnPairOf, IsTried}
+use Rattle.command_words.specs.Words.{AskForPair, AsksInfo, AskNothing, AsksTrial, NameThree, ReadFiles}
+use Rattle.run_steps.specs.declared.outcome.Which.{Which}
+use Rattle.run_steps.specs.declared.outcome.Which.TheVariants.{First, Second, Account}
+use Rattle.run_steps.specs.declared.outcome.Outcome.{Outcome}
+use Rattle.run_steps.specs.declared.outcome.Outcome.TheVariants.{AcceptedMatch, AcceptedRefusal, Rejected, Matched, NoMatching, Spent, Usage, Absent, TooLarge, Malformed, Informed, Made, Tried, ReadFault, WriteFault, Memory}
+
+-- What a file that is no netlist ends the run with, where a name holds it: `file` says which one it is. Faults of the
+-- outside and running out of memory say nothing of it.
+abbrev pub EndsAt : Which → Option (List ℕ) → Outcome → Type 0
+EndsAt file content (Absent which) = (which ≡ file) × (content ≡ None)
+EndsAt file content (TooLarge which) = (which ≡ file) × HoldsTooMuch content
+EndsAt file content (Malformed which kind at) = (which ≡ file) × HoldsFault content kind at
+EndsAt file content ReadFault = Unit {0}
+EndsAt file content Memory = Unit {0}
+EndsAt file content other = ⊥
+
+-- The words ask for a check or a match, and its first file ends it.
+pub record EndsAtFirst (held : List ℕ → Option (List ℕ)) (words : List (List ℕ)) (outcome : Outcome) : Type 0 where
+  pub first_name : List ℕ
+  pub second_name : List ℕ
+  pub account_name : List ℕ
+  pub asks : NameThree words first_name second_name account_name
+  pub ends : EndsAt First (held first_name) outcome
+
+-- The words ask for a check or a match, its first file is a netlist, and its second one ends it.
+pub record EndsAtSecond (held : List ℕ → Option (List ℕ)) (words : List (List ℕ)) (outcome : Outcome) : Type 0 where
+  pub first_name : List ℕ
+  pub second_name : List ℕ
+  pub account_name : List ℕ
+  pub asks : NameThree words first_name second_name account_name
+  pub first : Netlist
+  pub first_held : HoldsNetlist (held first_name) first
+  pub ends : EndsAt Second (held second_name) outcome
+
+-- The words ask for what is known of a file, which ends the run.
+pub record EndsAtOnly (held : List ℕ → Option (List ℕ)) (words : List (List ℕ)) (outcome : Outcome) : Type 0 where
+  pub file_name : List ℕ
+  pub budget : ℕ
+  pub asks : AsksInfo words file_name budget
+  pub ends : EndsAt First (held file_name) outcome
+
+abbrev pub EndsEarly : (List ℕ → Option (List ℕ)) → List (List ℕ) → Outcome → Type 0
+EndsEarly held words outcome = EndsAtFirst held words outcome ⊎ EndsAtSecond held words outcome ⊎ EndsAtOnly held words outcome
+
+-- The words ask for what is known of a file that is a netlist.
+pub record IsAskedOf (held : List ℕ → Option (List ℕ)) (words : List (List ℕ)) : Type 0 where
+  pub file_name : List ℕ
+  pub budget : ℕ
+  pub asks : AsksInfo words file_name budget
+  pub netlist : Netlist
+  pub there : HoldsNetlist (held file_name) netlist
+
+-- The words ask for what is known of a file, within a budget that was spent on its graph.
+pub record IsSpentOn (held : List ℕ → Option (List ℕ)) (words : List (List ℕ)) (ledger : Ledgered) : Type 0 where
+  pub file_name : List ℕ
+  pub budget : ℕ
+  pub asks : AsksInfo words file_name budget
+  pub graph : Net
+  pub there : HoldsGraph (held file_name) graph
+  pub spent : IsSpentOf (with_itself graph) budget ledger
+
+-- the outcome is one of a netlist by itself
+abbrev pub IsOfOne : Outcome → Type 0
+IsOfOne outcome = (outcome ≡ Informed) ⊎ ((ledger : Ledgered) × (outcome ≡ Spent ledger))
+
+-- the outcome is one of two netlists of which a match is sought
+abbrev pub IsOfMatch : Outcome → Type 0
+IsOfMatch outcome =
+    ((table : Matching) × (outcome ≡ Matched table))
+    ⊎ (outcome ≡ NoMatching)
+    ⊎ ((ledger : Ledgered) × (outcome ≡ Spent ledger))
+
+-- the outcome is one of the pair of a number: it was tried, or the budget was spent on it
+abbrev pub IsOfTrial : ℕ → Outcome → Type 0
+IsOfTrial number outcome =
+    ((account : List ℕ) × (outcome ≡ Tried number account))
+    ⊎ ((ledger : Ledgered) × (outcome ≡ Spent ledger) × IsSpentOnPairOf number ledger)
+
+-- there is no such file when its turn comes
+abbrev pub IsAbsent : (List ℕ → Option (List ℕ)) → List (List ℕ) → Which → Type 0
+IsAbsent held words which = EndsEarly held words (Absent which) ⊎ ((which ≡ Account) × LacksAccount held words)
+
+-- what an outcome says of the words and the files; the faults and the running out of memory say nothing of them
+abbrev pub IsRight : (List ℕ → Option (List ℕ)) → List (List ℕ) → Outcome → Type 0
+IsRight held words (Matched table) = IsMatchFound held words table
+IsRight held words NoMatching = HasNoMatch held words
+IsRight held words (AcceptedMatch table) = IsAccepted held words (verdict.Match table)
+IsRight held words AcceptedRefusal = IsAccepted held words verdict.None
+IsRight held words (Rejected line why) = IsRejected held words line why
+IsRight held words Informed = IsAskedOf held words
+IsRight held words (Spent ledger) = IsSpentOn held words ledger ⊎ IsSpentOnTwo held words ledger ⊎ IsSpentOnPair words ledger
+IsRight held words Made = AskForPair words
+IsRight held words (Tried number account) = IsTried words number account
+IsRight held words Usage = AskNothing words
+IsRight held words (Absent which) = IsAbsent held words which
+IsRight held words (TooLarge which) = EndsEarly held words (TooLarge which)
+IsRight held words (Malformed which kind at) = EndsEarly held words (Malformed which kind at)
+IsRight held words other = Unit {0}
+
+-- Whoever wrote the account, a table that is accepted is a match of the files' netlists, and where a refusal is accepted
+-- they have no match.
+pub record IsSound (held : List ℕ → Option (List ℕ)) (words : List (List ℕ)) (outcome : Outcome) : Type 0 where
+  pub matches : (table : Matching) → outcome ≡ AcceptedMatch table → IsMatchOfFiles held words table
+  pub refuses : outcome ≡ AcceptedRefusal → LacksMatch held words
+
+-- the report was put whole
+pub record IsTold (outcome : Outcome) : Type 0 where
+  pub written : outcome ≢ WriteFault
+  pub room : outcome ≢ Memory
+
+-- no fault came between and memory did not run out
+pub record IsDecided (outcome : Outcome) : Type 0 where
+  pub read : outcome ≢ ReadFault
+  pub told : IsTold outcome
+
+-- no fault came between, memory did not run out and no budget was spent
+pub record IsSettled (outcome : Outcome) : Type 0 where
+  pub decided : IsDecided outcome
+  pub unspent : (ledger : Ledgered) → outcome ≢ Spent ledger
+
+-- the outcome is one that writes no file
+pub record LeavesFiles (outcome : Outcome) : Type 0 where
+  pub no_table : (table : Matching) → outcome ≢ Matched table
+  pub no_refusal : outcome ≢ NoMatching
+  pub no_pair : outcome ≢ Made
+  pub told : IsTold outcome
+
+-- What the words alone say of an outcome, whatever the files hold.
+pub record FollowsWords (words : List (List ℕ)) (outcome : Outcome) : Type 0 where
+  pub made : outcome ≡ Made → AskForPair words
+  pub pair : AskForPair words → IsTold outcome → outcome ≡ Made
+  pub tried : (number : ℕ) (account : List ℕ) → outcome ≡ Tried number account → IsTried words number account
+  pub trial : (number : ℕ) → AsksTrial words number → IsTold outcome → IsOfTrial number outcome
+  pub read : outcome ≡ ReadFault → ReadFiles words
+
+-- a fault came or memory ran out, which leaves no file changed, or a first part of the account or of a pair
+abbrev pub MayBeCut : (List ℕ → Option (List ℕ)) → (List ℕ → Option (List ℕ)) → List (List ℕ) → Type 0
+MayBeCut before after words = ((name : List ℕ) → after name ≡ before name) ⊎ HoldsPart after words ⊎ HoldsPartOfPair before after words
+
+-- what an outcome says of the files that are held before and afterwards
+abbrev pub Leaves : (List ℕ → Option (List ℕ)) → (List ℕ → Option (List ℕ)) → List (List ℕ) → Outcome → Type 0
+Leaves before after words (Matched table) = IsProved after words (verdict.Match table)
+Leaves before after words NoMatching = IsProved after words verdict.None
+Leaves before after words Made = HoldsPair after words
+Leaves before after words WriteFault = MayBeCut before after words
+Leaves before after words Memory = MayBeCut before after words
+Leaves before after words other = (name : List ℕ) → after name ≡ before name

@@ -1,0 +1,100 @@
+-- What the program prints.
+use Rattle.std.specs.Prelude.{◌≡◌, ◌≢◌, ℕ, ◌⊎◌, Bool, IsTrue, List, [], ◌∷◌, ◌++◌, codes, Option}
+use Rattle.circuits.specs.Circuits.{Circuit}
+use Rattle.std.specs.Fmt.{decimal}
+use Rattle.net_file.specs.Kinds.{kind_number}
+use Rattle.net_core.specs.declared.matching.Matching.{Matching}
+use Rattle.net_file.specs.declared.named.Named.{Named}
+use Rattle.query_core.specs.Ledgers.{learned_in}
+use Rattle.port_report.specs.Reports.{PortNames, match_text, rejected_text}
+use Rattle.account_check.specs.Words.{word_of}
+use Rattle.run_steps.specs.Check.{IsAsked}
+use Rattle.run_steps.specs.Held.{Netlist, HoldsNetlist}
+use Rattle.run_steps.specs.Match.{IsSought}
+use Rattle.run_steps.specs.Info.{IsInfoText}
+use Rattle.command_words.specs.Words.{AsksInfo}
+use Rattle.run_steps.specs.declared.outcome.Which.{Which}
+use Rattle.run_steps.specs.declared.outcome.Which.TheVariants.{First, Second, Account}
+use Rattle.run_steps.specs.declared.outcome.Outcome.{Outcome}
+use Rattle.run_steps.specs.declared.outcome.Outcome.TheVariants.{AcceptedMatch, AcceptedRefusal, Rejected, Matched, NoMatching, Spent, Usage, Absent, TooLarge, Malformed, Informed, Made, Tried, ReadFault, WriteFault, Memory}
+
+-- the word for a file
+abbrev pub file_word : Which → List ℕ
+file_word First = codes "first"
+file_word Second = codes "second"
+file_word Account = codes "account"
+
+-- the line of a pair that was tried: its number, that it is matched and the account accepted, and its numbers of inputs, outputs and
+-- gates
+abbrev pub tried_line : ℕ → List ℕ
+tried_line number = codes "trial " ++ decimal number ++ codes " matched accepted 64 32 2000" ++ 10 ∷ []
+
+-- the line that names an outcome; a failed write has none, and what is known of a netlist is more than a line
+abbrev pub line_of : Outcome → List ℕ
+line_of (AcceptedMatch table) = codes "accepted match" ++ 10 ∷ []
+line_of AcceptedRefusal = codes "accepted refusal" ++ 10 ∷ []
+line_of (Rejected line why) = rejected_text line (word_of why)
+line_of (Matched table) = codes "matched" ++ 10 ∷ []
+line_of NoMatching = codes "no matching" ++ 10 ∷ []
+line_of (Spent ledger) = codes "spent " ++ decimal (learned_in ledger) ++ 10 ∷ []
+line_of Informed = []
+line_of Made = codes "made 64 32 2000" ++ 10 ∷ []
+line_of (Tried number account) = tried_line number
+line_of Usage = codes "usage" ++ 10 ∷ []
+line_of (Absent file) = codes "absent " ++ file_word file ++ 10 ∷ []
+line_of (TooLarge file) = codes "too large " ++ file_word file ++ 10 ∷ []
+line_of (Malformed file kind at) = codes "malformed " ++ file_word file ++ 32 ∷ decimal (kind_number kind) ++ 32 ∷ decimal at ++ 10 ∷ []
+line_of ReadFault = codes "read fault" ++ 10 ∷ []
+line_of WriteFault = []
+line_of Memory = codes "out of memory" ++ 10 ∷ []
+
+-- the outcome has this port table
+abbrev pub HasTable : Outcome → Matching → Type 0
+HasTable outcome table = (outcome ≡ AcceptedMatch table) ⊎ (outcome ≡ Matched table)
+
+-- The report of the outcome is its line.
+pub record IsOneLine (outcome : Outcome) : Type 0 where
+  pub no_table : (table : Matching) → HasTable outcome table → ⊥
+  pub no_rows : outcome ≢ Informed
+
+-- the report of an outcome of two netlists: its line, and after that of a match the port table
+abbrev pub report_on : PortNames → PortNames → Outcome → List ℕ
+report_on first second (AcceptedMatch table) = line_of (AcceptedMatch table) ++ match_text first second table
+report_on first second (Matched table) = line_of (Matched table) ++ match_text first second table
+report_on first second other = line_of other
+
+abbrev pub port_names : Netlist → PortNames
+port_names netlist = record { inputs = netlist.input_names; outputs = netlist.output_names }
+
+-- the words ask for a check or a match of two files that are these netlists
+abbrev pub NameNetlists : (List ℕ → Option (List ℕ)) → List (List ℕ) → Netlist → Netlist → Type 0
+NameNetlists held words first second =
+    ((account_name : List ℕ) × IsAsked held words first second account_name) ⊎ IsSought held words first second
+
+-- The text is the report of an outcome of the two files that the words name, with the names of their ports.
+pub record IsNamedReport (tells : Bool) (held : List ℕ → Option (List ℕ)) (words : List (List ℕ)) (outcome : Outcome) (text : List ℕ) : Type 0 where
+  pub first : Netlist
+  pub second : Netlist
+  pub no_rows : outcome ≢ Informed
+  pub of_files : IsTrue tells → NameNetlists held words first second
+  pub same : text ≡ report_on (port_names first) (port_names second) outcome
+
+-- The text is what is known of the file that the words name.
+pub record IsInfoReport (tells : Bool) (held : List ℕ → Option (List ℕ)) (words : List (List ℕ)) (text : List ℕ) : Type 0 where
+  pub file_name : List ℕ
+  pub budget : ℕ
+  pub asks : AsksInfo words file_name budget
+  pub circuit : Circuit
+  pub named : Named
+  pub there : IsTrue tells
+      → HoldsNetlist (held file_name)
+      (record { circuit = circuit; input_names = named.input_names; output_names = named.output_names })
+  pub is : IsInfoText circuit named text
+
+-- The text is the report of an outcome: the line of one that has no more, a report with the names of two files, or what is
+-- known of one file.
+abbrev pub IsReport : Bool → (List ℕ → Option (List ℕ)) → List (List ℕ) → Outcome → List ℕ → Type 0
+IsReport tells held words outcome text =
+    (IsOneLine outcome × (text ≡ line_of outcome))
+    ⊎ IsNamedReport tells held words outcome text
+    ⊎ ((outcome ≡ Informed) × IsInfoReport tells held words text)

@@ -1,0 +1,305 @@
+-- What the steps of a run do.
+use Rattle.std.specs.Prelude.{◌≡◌, ◌≢◌, ℕ, ◌⊎◌, ◌≤◌, Bool, false, IsTrue, List, [], ◌++◌, length, take, Option, None, Some, Result, Ok, Err, IfOk, IfErr, OnOk, OnErr}
+use Rattle.circuits.specs.Circuits.{Circuit}
+use Rattle.circuits.specs.Functions.{Computes}
+use Rattle.circuits.specs.Levels.{IsAcyclic, IsOrderOf}
+use Rattle.circuits.specs.Matches.{IsMatchOfFunctions, HaveNpnpEqualFunctions}
+use Rattle.circuits.specs.Netlists.{Net, IsOrdered}
+use Rattle.shelf_core.specs.Fault.{Rose}
+use Rattle.shelf_core.specs.State.{ShelfState, SinkState, Closed}
+use Rattle.net_core.specs.Sides.{Graphs}
+use Rattle.net_core.specs.declared.matching.Matching.{Matching}
+use Rattle.net_file.specs.declared.named.Named.{Named}
+use Rattle.query_core.specs.Ledgers.{Ledgered}
+use Rattle.account_check.specs.Verdicts.{IsAccepted as Proves, IsRejected as IsBadAt}
+use Rattle.account_check.specs.declared.verdict.Verdict.{Verdict}
+use Rattle.account_check.specs.declared.verdict.Verdict.TheVariants as verdict
+use Rattle.port_report.specs.Reports.{names_of}
+use Rattle.run_steps.specs.Circuits.{IsCircuit, IsCircuitFault}
+use Rattle.shelf_files.specs.Files.{HoldsFirst}
+use Rattle.run_steps.specs.Info.{IsInfoText, IsSpentOf, with_itself}
+use Rattle.run_steps.specs.Held.{Netlist, HoldsNetlist}
+use Rattle.run_steps.specs.Make.{IsCutFrom, IsPrintedPair}
+use Rattle.run_steps.specs.Trial.{IsSpentOnPairOf, IsTrialOf}
+use Rattle.run_steps.specs.Outcomes.{EndsAt, FollowsWords, IsRight, IsSound, IsTold, Leaves}
+use Rattle.run_steps.specs.Report.{HasTable, IsOneLine, IsReport, line_of, report_on}
+use Rattle.run_steps.specs.declared.outcome.Which.{Which}
+use Rattle.run_steps.specs.declared.outcome.Which.TheVariants.{Account}
+use Rattle.run_steps.specs.declared.outcome.Outcome.{Outcome}
+use Rattle.run_steps.specs.declared.outcome.Outcome.TheVariants.{AcceptedMatch, AcceptedRefusal, Rejected, Matched, NoMatching, Spent, Usage, Absent, Malformed, Informed, Made, Tried, ReadFault, WriteFault, Memory}
+use Rattle.command_words.specs.declared.words.Command.{Command}
+use Rattle.shelf_files.specs.declared.files.Stop.{Stop}
+use Rattle.shelf_files.specs.declared.files.Stop.TheVariants as stop
+use Rattle.run_steps.specs.declared.outcome.Ending.{Ending}
+use Rattle.command_words.specs.Commands.{Ask, IsNotWritten, IsWritingCommand}
+
+-- an outcome that ends a run early: it has a line, and is no answer and none of the words alone
+pub record IsEarly (outcome : Outcome) : Type 0 where
+  pub line : IsOneLine outcome
+  pub no_refusal : outcome ≢ AcceptedRefusal
+  pub no_match : outcome ≢ NoMatching
+  pub no_pair : outcome ≢ Made
+  pub no_trial : (number : ℕ) (account : List ℕ) → outcome ≢ Tried number account
+  pub asked : outcome ≢ Usage
+
+-- an outcome that comes of the words alone, or of a write, is none of a netlist that is read
+pub record IsOfReading (outcome : Outcome) : Type 0 where
+  pub early : IsEarly outcome
+  pub unwritten : outcome ≢ WriteFault
+
+-- what an outcome says of the bytes of a file that is no netlist
+abbrev pub IsStopOf : Which → List ℕ → Outcome → Type 0
+IsStopOf file bytes (Malformed which kind at) = (which ≡ file) × IsCircuitFault bytes kind at
+IsStopOf file bytes Memory = Unit {0}
+IsStopOf file bytes other = ⊥
+
+-- The bytes were read as this graph with these names of its ports: the graph computes the netlist that the file is.
+pub record ReadAs (bytes : List ℕ) (graph : Net) (input_names output_names : List (List ℕ)) : Type 0 where
+  pub circuit : Circuit
+  pub is : IsCircuit bytes circuit input_names output_names
+  pub computes : Computes graph circuit
+  pub numbered : IsOrderOf circuit graph
+
+-- a circuit with the names that its graph was read with
+abbrev pub netlist_of : Circuit → Named → Netlist
+netlist_of circuit named = record { circuit = circuit; input_names = named.input_names; output_names = named.output_names }
+
+-- What a name holds was read as this graph with these names.
+pub record IsReadFrom (tells : Bool) (content : Option (List ℕ)) (named : Named) : Type 0 where
+  pub circuit : Circuit
+  pub held : IsTrue tells → HoldsNetlist content (netlist_of circuit named)
+  pub acyclic : IsAcyclic circuit
+  pub few : length circuit.outputs ≤ 1024
+  pub computes : Computes named.graph circuit
+  pub numbered : IsOrderOf circuit named.graph
+
+-- Reading the netlist under a name, or ending the run where none stands there.
+pub record ReadsNetlist (tells : Bool) (file : Which) (name : List ℕ) (old new : ShelfState) (result : Result Named Outcome) : Type 0 where
+  -- no file changes, and none is open after an answer
+  pub files : (n : List ℕ) → new.held n ≡ old.held n
+  pub closed : OnOk result (new.mode ≡ Closed)
+  pub found : IfOk result (IsReadFrom tells (old.held name))
+  pub ended : IsTrue tells → IfErr result (EndsAt file (old.held name))
+  pub reading : IfErr result IsOfReading
+  pub faults : old.faults ≤ new.faults
+  pub failed : result ≡ Err ReadFault → Rose old.faults new.faults
+
+-- what ends a run that asks about two graphs: the budget is spent on them, or memory ran out
+abbrev pub IsStopWithin : Graphs → ℕ → Outcome → Type 0
+IsStopWithin graphs budget outcome =
+    ((ledger : Ledgered) × (outcome ≡ Spent ledger) × IsSpentOf graphs budget ledger) ⊎ (outcome ≡ Memory)
+
+-- An ending of one netlist: its report, within the budget.
+pub record InformsOf (named : Named) (budget : ℕ) (result : Result Ending Outcome) : Type 0 where
+  pub rows : IfOk result (λ ending. (ending.outcome ≡ Informed)
+      × ((circuit : Circuit)
+      → Computes named.graph circuit
+      → IsOrderOf circuit named.graph
+      → IsInfoText circuit named ending.report.items))
+  pub stopped : IfErr result (IsStopWithin (with_itself named.graph) budget)
+
+-- the graphs of two netlists
+abbrev pub graphs_of : Named → Named → Graphs
+graphs_of first second = record { first = first.graph; second = second.graph }
+
+-- what an outcome says of two graphs and of what the account's name holds
+abbrev pub IsVerdict : Graphs → Option (List ℕ) → Outcome → Type 0
+IsVerdict graphs content (AcceptedMatch table) =
+    (account : List ℕ) × (content ≡ Some account) × Proves graphs account (verdict.Match table)
+IsVerdict graphs content AcceptedRefusal =
+    (account : List ℕ) × (content ≡ Some account) × Proves graphs account verdict.None
+IsVerdict graphs content (Rejected line why) =
+    (account : List ℕ) × (content ≡ Some account) × IsBadAt graphs account line why
+IsVerdict graphs content (Absent file) = (file ≡ Account) × (content ≡ None)
+IsVerdict graphs content other = ⊥
+
+-- a table that is accepted or found is a match of the graphs
+abbrev pub IsMatchIfTable : Net → Net → Outcome → Type 0
+IsMatchIfTable f g outcome =
+    (table : Matching) → HasTable outcome table → IsMatchOfFunctions f g table.inputs table.outputs
+
+-- where a refusal is accepted, no signed bijections make the graphs' functions equal
+abbrev pub IsUnequalIfRefused : Net → Net → Outcome → Type 0
+IsUnequalIfRefused f g outcome = outcome ≡ AcceptedRefusal → HaveNpnpEqualFunctions f g → ⊥
+
+-- an outcome that two netlists and an account were judged by
+pub record IsJudged (outcome : Outcome) : Type 0 where
+  pub asked : outcome ≢ Usage
+  pub no_rows : outcome ≢ Informed
+  pub read : outcome ≢ ReadFault
+  pub unwritten : outcome ≢ WriteFault
+  pub no_match : outcome ≢ NoMatching
+  pub no_pair : outcome ≢ Made
+  pub no_trial : (number : ℕ) (account : List ℕ) → outcome ≢ Tried number account
+  pub no_table : (table : Matching) → outcome ≢ Matched table
+
+-- Judging two graphs by what the account's name holds.
+pub record Judges (tells : Bool) (graphs : Graphs) (content : Option (List ℕ)) (old new : ShelfState) (result : Result Outcome Stop) : Type 0 where
+  pub files : (n : List ℕ) → new.held n ≡ old.held n
+  pub right : IsTrue tells → IfOk result (IsVerdict graphs content)
+  pub matches : IfOk result (IsMatchIfTable graphs.first graphs.second)
+  pub refuses : IfOk result (IsUnequalIfRefused graphs.first graphs.second)
+  pub judged : IfOk result IsJudged
+  pub faults : old.faults ≤ new.faults
+  pub failed : result ≡ Err stop.ReadFault → Rose old.faults new.faults
+
+-- an answer for two graphs, with an account that is accepted: a match, or that there is none
+abbrev pub IsAnswered : Graphs → List ℕ → Outcome → Type 0
+IsAnswered graphs account outcome =
+    ((table : Matching) × (outcome ≡ Matched table)
+    × Proves graphs account (verdict.Match table)
+    × IsMatchOfFunctions graphs.first graphs.second table.inputs table.outputs)
+    ⊎ ((outcome ≡ NoMatching)
+    × Proves graphs account verdict.None
+    × (HaveNpnpEqualFunctions graphs.first graphs.second → ⊥))
+
+-- an account of a match of two graphs that is accepted
+pub record IsProvedMatch (graphs : Graphs) (account : List ℕ) : Type 0 where
+  pub table : Matching
+  pub accepted : Proves graphs account (verdict.Match table)
+  pub matches : IsMatchOfFunctions graphs.first graphs.second table.inputs table.outputs
+
+-- Nothing was asked in a ledger.
+abbrev pub IsNew : Ledgered → Type 0
+IsNew ledger = ledger ≡ record { budget = ledger.budget; asked = []; spent = false }
+
+-- a write was refused
+abbrev pub IsUnwritten : Outcome → Type 0
+IsUnwritten outcome = (outcome ≡ WriteFault) ⊎ (outcome ≡ Memory)
+
+-- Writing an account under a name, and ending a run where it was written.
+pub record Concludes (tells : Bool) (name text : List ℕ) (ending : Ending) (old new : ShelfState)
+    (result : Result Ending Outcome) : Type 0 where
+  pub others : IsTrue tells → (n : List ℕ) → n ≢ name → new.held n ≡ old.held n
+  pub same : IfOk result (λ answer. answer ≡ ending)
+  pub whole : IsTrue tells → OnOk result (new.held name ≡ Some text)
+  pub stopped : IfErr result IsUnwritten
+  pub part : IsTrue tells → OnErr result ((new.held name ≡ old.held name) ⊎ HoldsFirst text (new.held name))
+  pub faults : old.faults ≤ new.faults
+  pub failed : result ≡ Err WriteFault → Rose old.faults new.faults
+
+-- what the account's name holds is as before, or the first bytes of an account of two graphs that is accepted
+abbrev pub IsCutOf : Graphs → Option (List ℕ) → Option (List ℕ) → Type 0
+IsCutOf graphs before after =
+    (after ≡ before) ⊎ ((account : List ℕ) × (proved : Verdict) × Proves graphs account proved × HoldsFirst account after)
+
+-- what ends a search for a match without an answer, by what the account's name holds before and afterwards: the budget is spent
+-- and nothing was written, or a write was refused
+abbrev pub IsStopOfMatch : Bool → Graphs → ℕ → Option (List ℕ) → Option (List ℕ) → Outcome → Type 0
+IsStopOfMatch tells graphs budget before after outcome =
+    (IsStopWithin graphs budget outcome × (IsTrue tells → after ≡ before))
+    ⊎ (IsUnwritten outcome × (IsTrue tells → IsCutOf graphs before after))
+
+-- Searching two netlists for a match, and writing the account of the answer under a name.
+pub record Finds (tells : Bool) (first second : Named) (account_name : List ℕ) (budget : ℕ) (old new : ShelfState)
+    (result : Result Ending Outcome) : Type 0 where
+  pub others : IsTrue tells → (n : List ℕ) → n ≢ account_name → new.held n ≡ old.held n
+  pub answer : IfOk result (λ ending. (account : List ℕ)
+      × IsAnswered (graphs_of first second) account ending.outcome
+      × (IsTrue tells → new.held account_name ≡ Some account))
+  pub report : IfOk result (λ ending. ending.report.items ≡ report_on (names_of first) (names_of second) ending.outcome)
+  pub stopped : IfErr result
+      (IsStopOfMatch tells (graphs_of first second) budget (old.held account_name) (new.held account_name))
+  pub faults : old.faults ≤ new.faults
+  pub failed : result ≡ Err WriteFault → Rose old.faults new.faults
+
+-- Writing a text under a name, or ending the run where it wasn't written.
+pub record WritesText (tells : Bool) (name text : List ℕ) (old new : ShelfState) (result : Result (Unit {0}) Outcome) : Type 0 where
+  pub closed : OnOk result (new.mode ≡ Closed)
+  pub others : IsTrue tells → (n : List ℕ) → n ≢ name → new.held n ≡ old.held n
+  pub whole : IsTrue tells → OnOk result (new.held name ≡ Some text)
+  pub stopped : IfErr result IsUnwritten
+  pub part : IsTrue tells → OnErr result (IsCutFrom text (old.held name) (new.held name))
+  pub faults : old.faults ≤ new.faults
+  pub failed : result ≡ Err WriteFault → Rose old.faults new.faults
+
+-- Writing two texts under two names, one after the other.
+pub record WritesPair (tells : Bool) (first_name second_name first second : List ℕ) (old new : ShelfState) (result : Result (Unit {0}) Outcome) : Type 0 where
+  pub others : IsTrue tells → (n : List ℕ) → n ≢ first_name → n ≢ second_name → new.held n ≡ old.held n
+  pub whole : IsTrue tells
+      → second_name ≢ first_name
+      → OnOk result ((new.held first_name ≡ Some first) × (new.held second_name ≡ Some second))
+  pub stopped : IfErr result IsUnwritten
+  -- after a refusal in the first file the second is as it was; after one in the second the first is whole
+  pub part : IsTrue tells → second_name ≢ first_name → OnErr result
+      ((IsCutFrom first (old.held first_name) (new.held first_name) × (new.held second_name ≡ old.held second_name))
+      ⊎ ((new.held first_name ≡ Some first) × IsCutFrom second (old.held second_name) (new.held second_name)))
+  pub faults : old.faults ≤ new.faults
+  pub failed : result ≡ Err WriteFault → Rose old.faults new.faults
+
+-- Printing the pair of a number.
+pub record PrintsPair (number : ℕ) (first_text second_text : List ℕ) : Type 0 where
+  pub first : Named
+  pub second : Named
+  pub table : Matching
+  pub printed : IsPrintedPair number first second table first_text second_text
+  pub first_ordered : IsOrdered first.graph
+  pub second_ordered : IsOrdered second.graph
+
+-- what ends the trial of a pair: the budget is spent on it, or memory ran out
+abbrev pub IsStopOfTrial : ℕ → Outcome → Type 0
+IsStopOfTrial number outcome =
+    ((ledger : Ledgered) × (outcome ≡ Spent ledger) × IsSpentOnPairOf number ledger) ⊎ (outcome ≡ Memory)
+
+-- Trying the pair of a number: an account that is accepted for it, or nothing.
+pub record Tries (number : ℕ) (result : Result Ending Outcome) : Type 0 where
+  pub answer : IfOk result (λ ending. (account : List ℕ)
+      × (ending.outcome ≡ Tried number account)
+      × IsTrialOf number account
+      × (ending.report.items ≡ line_of ending.outcome))
+  pub stopped : IfErr result (IsStopOfTrial number)
+
+-- an ending that is of what was judged, sought, or of one netlist
+pub record IsEnding (outcome : Outcome) : Type 0 where
+  pub asked : outcome ≢ Usage
+  pub read : outcome ≢ ReadFault
+  pub unwritten : outcome ≢ WriteFault
+
+-- how a run ends
+abbrev pub ended : Result Ending Outcome → Outcome
+ended (Ok ending) = ending.outcome
+ended (Err outcome) = outcome
+
+-- Deciding by the files that a command names.
+pub record Decides (tells : Bool) (command : Command) (old new : ShelfState) (result : Result Ending Outcome) : Type 0 where
+  -- no file changes but the account of a match, and the two of a pair
+  pub files : IsTrue tells → (n : List ℕ) → IsNotWritten command n → new.held n ≡ old.held n
+  pub left : IsTrue tells
+      → (words : List (List ℕ))
+      → Ask words command
+      → Leaves old.held new.held words (ended result)
+  -- what is decided is what the files say, for words that name them
+  pub right : IsTrue tells
+      → (words : List (List ℕ))
+      → Ask words command
+      → IsRight old.held words (ended result)
+  -- and what the words alone say
+  pub by_words : (words : List (List ℕ)) → Ask words command → FollowsWords words (ended result)
+  -- an accepted table is a match of the files' netlists, and an accepted refusal is right
+  pub sound : IsTrue tells
+      → (words : List (List ℕ))
+      → Ask words command
+      → IfOk result (λ ending. IsSound old.held words ending.outcome)
+  pub report : (words : List (List ℕ))
+      → Ask words command
+      → IfOk result (λ ending. IsReport tells old.held words ending.outcome ending.report.items)
+  pub ending : IfOk result (λ ending. IsEnding ending.outcome)
+  pub early : IfErr result IsEarly
+  -- a fault has its cause outside
+  pub failed : result ≡ Err ReadFault → Rose old.faults new.faults
+  pub unwritten : result ≡ Err WriteFault → IsWritingCommand command × Rose old.faults new.faults
+
+-- the ending tells an outcome by its line, or there was no memory for the line
+abbrev pub TellsLine : Outcome → Ending → Type 0
+TellsLine outcome ending = ((ending.outcome ≡ outcome) × (ending.report.items ≡ line_of outcome)) ⊎ (ending.outcome ≡ Memory)
+
+-- the first bytes of a text were written
+abbrev pub WritesPart : SinkState → SinkState → List ℕ → Type 0
+WritesPart old new text = (count : ℕ) × (new.written ≡ old.written ++ take count text)
+
+-- Putting a text for an outcome: the run ends with the outcome, or the sink refused it.
+pub record PutsText (tells : Bool) (text : List ℕ) (asked : Outcome) (old new : SinkState) (result : Outcome) : Type 0 where
+  pub whole : IsTrue tells → IsTold result → new.written ≡ old.written ++ text
+  pub part : IsTrue tells → WritesPart old new text
+  pub same : IsTold result → result ≡ asked
+  pub failed : result ≡ WriteFault → Rose old.faults new.faults

@@ -1,0 +1,8 @@
+//! Files of a shelf: read whole, and written in pieces.
+#![tactic(auto)]
+
+mod files;
+mod writing;
+
+pub use files::{File, PIECE, Stop, read_file, zeros};
+pub use writing::{write_account, write_text};
