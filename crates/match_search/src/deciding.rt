@@ -2,22 +2,29 @@
 
 ghost use Rattle.std.specs.Prelude.{◌≡◌, [], IfOk, map};
 ghost use Rattle.account_core.specs.Given.{decided_by};
-ghost use Rattle.oracle_core.specs.Oracles.{Serves, Suits};
 ghost use Rattle.account_core.specs.Steps.{AreValidBans};
+ghost use Rattle.fact_bans.specs.Serving.{MayHold};
 ghost use Rattle.match_search.specs.Founds.{IsFound};
+ghost use Rattle.match_search.specs.States.{AreValid};
+ghost use Rattle.oracle_core.specs.Oracles.{Serves, Suits};
+ghost use Rattle.table_guess.specs.Trials.{AreTrials};
 
+use crate::branching::explore;
 use crate::found::Found;
 use crate::guessed::compare_guesses;
-use crate::searching::search;
+use crate::guide::Guide;
 use ban_book::BanBook;
 use cnf_core::Stop;
+use fact_bans::refuse;
 use oracle_core::Oracle;
 use port_sides::PairableGraphs;
 use query_core::Ledger;
 use std::alloc::Global;
+use table_guess::{Effort, Guesser};
 
-/// Decides whether two circuits with as many ports match. Tables that are guessed are compared first; where none of them is
-/// a match, `search` decides. Both draw by the seed.
+/// Decides whether two circuits with as many ports match. Tables that are guessed with little effort are compared first: most matches
+/// are found so. Then counts may refuse a match, which takes little where there is none and they show it. Else more is
+/// spent on guesses, and then the search decides. All draw by the seed.
 ///
 /// The book's bans are valid in view of the oracle's facts, whatever is answered.
 ///
@@ -40,8 +47,70 @@ pub fn decide<O: Oracle>(
     ensures found { IfOk result (IsFound graphs.now book.new) }
 {
     let _facts = oracle.facts();
-    if let Some((table, logs)) = compare_guesses(alloc, graphs, oracle, seed, ledger)? {
+    let mut guesser = Guesser::new(alloc, graphs, seed)?;
+    if let Some((table, logs)) = compare_guesses(
+        alloc,
+        graphs,
+        oracle,
+        &mut guesser,
+        Effort::Little,
+        ledger,
+    )? {
         return Ok(Found::Match(table, logs));
     }
-    search(alloc, graphs, oracle, book, seed, ledger)
+    refuse_or_find(alloc, graphs, oracle, &mut guesser, book, seed, ledger)
+}
+
+// Decides where little effort found no match: by counts, by more guesses, and then by searching.
+fn refuse_or_find<O: Oracle>(
+    alloc: Global,
+    graphs: &PairableGraphs<'_>,
+    oracle: &mut O,
+    guesser: &mut Guesser<'_>,
+    book: &mut BanBook,
+    seed: u64,
+    ledger: &mut Ledger,
+) -> Result<Found, Stop>
+    requires graphs { graphs.now ≡ (O.known oracle.old).graphs }
+    requires book { book.old ≡ [] }
+    requires suits { Suits (O.known oracle.old) ledger.old }
+    ensures serves { Serves (O.known oracle.old) (O.known oracle.new) ledger.old ledger.new result }
+    ensures bans { AreValidBans graphs.now (map decided_by (O.known oracle.new).facts) book.new }
+    ensures found { IfOk result (IsFound graphs.now book.new) }
+{
+    let _facts = oracle.facts();
+    let mut guide = Guide::new(alloc, graphs, seed)?;
+    if let Some(ban) = refuse(alloc, graphs, oracle, &mut guide.seen, book, ledger)? {
+        return Ok(Found::None(ban));
+    }
+    guess_or_explore(alloc, graphs, oracle, guesser, &mut guide, book, ledger)
+}
+
+// Compares more tables, and where none of them is a match searches.
+fn guess_or_explore<O: Oracle>(
+    alloc: Global,
+    graphs: &PairableGraphs<'_>,
+    oracle: &mut O,
+    guesser: &mut Guesser<'_>,
+    guide: &mut Guide,
+    book: &mut BanBook,
+    ledger: &mut Ledger,
+) -> Result<Found, Stop>
+    requires may { MayHold graphs.now (O.known oracle.old) ledger.old book.old }
+    requires trials { AreTrials graphs.now.first guide.old.trials }
+    ensures serves { Serves (O.known oracle.old) (O.known oracle.new) ledger.old ledger.new result }
+    ensures valid { AreValid graphs.now (O.known oracle.new) book.new }
+    ensures found { IfOk result (IsFound graphs.now book.new) }
+{
+    if let Some((table, logs)) = compare_guesses(
+        alloc,
+        graphs,
+        oracle,
+        guesser,
+        Effort::Whole,
+        ledger,
+    )? {
+        return Ok(Found::Match(table, logs));
+    }
+    explore(alloc, graphs, oracle, guide, book, ledger)
 }

@@ -14,7 +14,7 @@ use oracle_core::Oracle;
 use port_sides::PairableGraphs;
 use query_core::Ledger;
 use std::alloc::Global;
-use table_guess::Guesser;
+use table_guess::{Effort, Guesser};
 use watch_core::Stage;
 
 /// How many guessed tables are compared.
@@ -31,31 +31,14 @@ pub(crate) enum Guessed {
     Nothing,
 }
 
-/// Compares tables that are guessed, a bounded number of them, and answers one that is a match, with its logs. None says
-/// nothing of whether there is a match. Another seed draws other vectors.
+/// Compares tables that are guessed with so much effort, a bounded number of them, and answers one that is a match, with its logs. None
+/// says nothing of whether there is a match.
 pub(crate) fn compare_guesses<O: Oracle>(
     alloc: Global,
     graphs: &PairableGraphs<'_>,
     oracle: &mut O,
-    seed: u64,
-    ledger: &mut Ledger,
-) -> Result<Option<(Matching, Items<Log>)>, Stop>
-    requires graphs { graphs.now ≡ (O.known oracle.old).graphs }
-    requires lawful { AreFacts graphs.now (O.known oracle.old).facts }
-    requires suits { Suits (O.known oracle.old) ledger.old }
-    ensures serves { Serves (O.known oracle.old) (O.known oracle.new) ledger.old ledger.new result }
-    ensures shown { IfOk result (λ found. IfSome found (λ shown. IsShownMatch graphs.now shown.0 shown.1)) }
-{
-    let mut guesser = Guesser::new(alloc, graphs, seed)?;
-    compare_by(alloc, graphs, oracle, &mut guesser, ledger)
-}
-
-// Compares what a guesser finds.
-fn compare_by<O: Oracle>(
-    alloc: Global,
-    graphs: &PairableGraphs<'_>,
-    oracle: &mut O,
     guesser: &mut Guesser<'_>,
+    effort: Effort,
     ledger: &mut Ledger,
 ) -> Result<Option<(Matching, Items<Log>)>, Stop>
     requires graphs { graphs.now ≡ (O.known oracle.old).graphs }
@@ -66,7 +49,7 @@ fn compare_by<O: Oracle>(
 {
     for guesses in 0..MOST_GUESSES {
         oracle.at(Stage::Guessing { guesses });
-        match compare_guess(alloc, graphs, oracle, guesser, ledger)? {
+        match compare_guess(alloc, graphs, oracle, guesser, effort, ledger)? {
             Guessed::Match(table, logs) => return Ok(Some((table, logs))),
             Guessed::Fails => {}
             Guessed::Nothing => return Ok(None),
@@ -82,6 +65,7 @@ fn compare_guess<O: Oracle>(
     graphs: &PairableGraphs<'_>,
     oracle: &mut O,
     guesser: &mut Guesser<'_>,
+    effort: Effort,
     ledger: &mut Ledger,
 ) -> Result<Guessed, Stop>
     requires graphs { graphs.now ≡ (O.known oracle.old).graphs }
@@ -92,7 +76,7 @@ fn compare_guess<O: Oracle>(
 {
     let _first = graphs.first();
     let _second = graphs.second();
-    let Some(table) = guesser.guess(alloc, graphs)? else {
+    let Some(table) = guesser.guess(alloc, graphs, effort)? else {
         return Ok(Guessed::Nothing);
     };
     let mut logs = Items::new(alloc);

@@ -8,12 +8,12 @@ use net_core::{Graphs, Matching};
 use port_sides::PairableGraphs;
 use std::alloc::{AllocError, Global};
 use std::test::Fail;
-use table_guess::{Guesser, Trials};
+use table_guess::{Effort, Guesser, Trials};
 
 /// What is guessed of two small circuits.
 fn guessed(alloc: Global, graphs: &Graphs<'_>, seed: u64) -> Result<Option<Matching>, AllocError> {
     match PairableGraphs::new(graphs) {
-        Some(graphs) => Guesser::new(alloc, &graphs, seed)?.guess(alloc, &graphs),
+        Some(graphs) => Guesser::new(alloc, &graphs, seed)?.guess(alloc, &graphs, Effort::Whole),
         None => Ok(None),
     }
 }

@@ -25,6 +25,10 @@ use std::alloc::{AllocError, Global};
 /// How many words of gates may be computed, about a second's.
 const MOST_WORDS: u64 = 1 << 28;
 
+/// Which part of its words a guess of little effort may compute. Most tables that are found are found by then, and of circuits without a
+/// match counts show it in most cases once that much was tried.
+const LITTLE_SHARE: u64 = 8;
+
 /// On how many blocks of 256 vectors a circuit may be run with each input inverted where that takes longer. A search of large
 /// circuits needs some ten of them.
 const MOST_RUNS: u64 = 128;
@@ -70,6 +74,15 @@ const MOST_INPUTS: u32 = 1 << 10;
 /// How many literals are tried as the one whose sign is to decide all others.
 const FEW_TRIED: u32 = 4;
 
+/// How much a guess may take.
+#[derive(Clone, Copy, Debug, PartialEq, Eq)]
+pub enum Effort {
+    /// About an eighth of a second, or an eighth of what a large circuit takes.
+    Little,
+    /// About a second, or what a large circuit takes.
+    Whole,
+}
+
 /// What a state comes to.
 #[derive(Drop)]
 enum Visit {
@@ -109,8 +122,10 @@ pub struct Guesser<'a> {
     are_signs_linked: bool,
     /// Whether all that was counted was counted on all vectors. Then a search that is exhausted has missed no table.
     is_exact: bool,
-    /// How many words of gates may be computed, with those for the first counts.
+    /// How many words of gates were computed for the first counts, and how many more may be.
+    counted: u64,
     most_words: u64,
+    effort: Effort,
 }
 
 impl<'a> Guesser<'a> {
@@ -147,10 +162,9 @@ impl<'a> Guesser<'a> {
             responses: MOST_RESPONSES,
             are_signs_linked: false,
             is_exact: sample.is_all,
-            most_words: words
-                .saturating_mul(MOST_RUNS)
-                .max(MOST_WORDS)
-                .saturating_add(counted),
+            counted,
+            most_words: words.saturating_mul(MOST_RUNS).max(MOST_WORDS),
+            effort: Effort::Whole,
         })
     }
 
@@ -159,7 +173,8 @@ impl<'a> Guesser<'a> {
         self.kept.keep(vector);
     }
 
-    /// A table whose outputs agree on all vectors that were tried. None where none is found within a bounded effort.
+    /// A table whose outputs agree on all vectors that were tried. None where none is found within this effort, which bounds what all
+    /// guesses take together.
     ///
     /// # Errors
     ///
@@ -168,10 +183,12 @@ impl<'a> Guesser<'a> {
         &mut self,
         alloc: Global,
         graphs: &PairableGraphs<'_>,
+        effort: Effort,
     ) -> Result<Option<Matching>, AllocError>
         ensures { IfOk result (λ found. IfSome found
             (λ table. HavePorts graphs.now.first graphs.now.second table.inputs table.outputs)) }
     {
+        self.effort = effort;
         let root = State::new(alloc, self.first.graph())?;
         match self.find(alloc, root)? {
             Some(state) => matching_of(alloc, graphs, &state),
@@ -183,6 +200,9 @@ impl<'a> Guesser<'a> {
     fn find(&mut self, alloc: Global, root: State) -> Result<Option<State>, AllocError> {
         let mut failures = FIRST_FAILURES;
         for round in 0..ROUNDS {
+            if self.is_spent() {
+                return Ok(None);
+            }
             self.round = round;
             match self.search_round(alloc, root.copy()?, failures)? {
                 Attempt::Paired(state) => return Ok(Some(state)),
@@ -292,7 +312,16 @@ impl<'a> Guesser<'a> {
 
     fn is_spent(&self) -> bool {
         let words = self.first.simulator.words();
-        words.saturating_add(self.second.simulator.words()) > self.most_words
+        let words = words.saturating_add(self.second.simulator.words());
+        words.saturating_sub(self.counted) > self.words_of_effort()
+    }
+
+    // How many words of gates may be computed beside the first counts.
+    fn words_of_effort(&self) -> u64 {
+        match self.effort {
+            Effort::Little => self.most_words / LITTLE_SHARE,
+            Effort::Whole => self.most_words,
+        }
     }
 
     // Refines a state, and chooses what is guessed next.

@@ -13,5 +13,5 @@ mod signs;
 mod trials;
 mod vectors;
 
-pub use guesser::Guesser;
+pub use guesser::{Effort, Guesser};
 pub use trials::{Suspect, Trials};

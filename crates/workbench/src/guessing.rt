@@ -4,7 +4,7 @@ use anyhow::{Result, bail};
 use net_core::Graphs;
 use port_sides::PairableGraphs;
 use std::alloc::{AllocError, Global};
-use table_guess::Guesser;
+use table_guess::{Effort, Guesser};
 
 /// Prints whether a table of the two circuits is found that may be a match. It isn't proved to be one.
 pub(crate) fn run<R: Print + AllocGlobal>(rt: &R, graphs: &Graphs<'_>, seed: u64) -> Result<()> {
@@ -21,5 +21,5 @@ pub(crate) fn run<R: Print + AllocGlobal>(rt: &R, graphs: &Graphs<'_>, seed: u64
 
 fn is_found(alloc: Global, graphs: &PairableGraphs<'_>, seed: u64) -> Result<bool, AllocError> {
     let mut guesser = Guesser::new(alloc, graphs, seed)?;
-    Ok(guesser.guess(alloc, graphs)?.is_some())
+    Ok(guesser.guess(alloc, graphs, Effort::Whole)?.is_some())
 }

@@ -5,7 +5,7 @@ use Rattle.net_core.specs.Sides.{Graphs}
 use Rattle.account_core.specs.Facts.{AreFacts}
 use Rattle.match_search.proofs.SearchLemmas.{guessing_start}
 use Rattle.match_search.proofs.ServeLemmas.{served_one, served_then, serves_ok, serves_err}
-use Rattle.match_search.proofs.guessed.compare_by.Goals as goal
+use Rattle.match_search.proofs.guessed.compare_guesses.Goals as goal
 
 pub loop-guesses-init : goal.loop-guesses-init
 loop-guesses-init g c = guessing_start c.args.graphs.now (g.O.Oracle.known c.args.oracle.now) c.args.ledger.now c.requires.graphs c.requires.lawful c.requires.suits
