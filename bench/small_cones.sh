@@ -2,7 +2,9 @@
 # Prints what a question of a small cone costs by the size of the netlist round it: `npnp info` of 250 outputs of ten gates each
 # and four inputs, beside more and more gates that no output reaches. Each output is the AND of one input and the majority of
 # three, with exclusive ors between, so that neither simulation nor structure decides its ten claims that hold (four of
-# inputs, two of each of three pairs), which are asked one by one. Not part of the gate.
+# inputs, two of each of three pairs), which are asked one by one. Then what 10,000 questions of such cones cost without simulation:
+# `workbench claims` reads the netlist and asks for each output and each of its inputs whether the output may fall where the input goes
+# up, in ten rounds, each time anew. Not part of the gate.
 set -eu
 top=$(cd "$(dirname "${BASH_SOURCE[0]}")/.." && pwd)
 work=$(mktemp -d)
@@ -10,6 +12,7 @@ trap 'rm -rf "$work"' EXIT
 outputs=250
 questions=$((10 * outputs))
 "$top/npnp" --help >/dev/null
+program=$("$top/bench/build_workbench.sh")
 
 # writes such a netlist with n gates that no output reaches
 blocks() {
@@ -47,4 +50,11 @@ for beside in 0 10000 20000 50000 100000; do
   blocks "$beside" >"$work/blocks.aag"
   seconds=$(/usr/bin/time -f '%U' "$top/npnp" info "$work/blocks.aag" 2>&1 >"$work/report" | tail -1)
   awk -v g="$((10 * outputs + beside))" -v s="$seconds" -v q="$questions" 'BEGIN { printf "%7d %8.2f   %.3f\n", g, s, 1000 * s / q }'
+done
+echo "  gates  seconds of 10,000 questions: user, system"
+for beside in 0 10000 20000 50000 100000; do
+  blocks "$beside" >"$work/blocks.aag"
+  read -r user system < <(/usr/bin/time -f '%U %S' "$program" claims "$work/blocks.aag" 10 2>&1 >"$work/report" | tail -1)
+  [ "$(cat "$work/report")" = "asked $((40 * outputs)) hold $((40 * outputs))" ] || { cat "$work/report" >&2 && exit 1; }
+  printf '%7d %8.2f %8.2f\n' "$((10 * outputs + beside))" "$user" "$system"
 done

@@ -3,6 +3,7 @@
 #![tactic(auto)]
 
 mod asking;
+mod claiming;
 mod guessing;
 mod hunting;
 mod netlist;
@@ -45,6 +46,10 @@ fn run<R: Print + Files + AllocGlobal>(rt: &R, words: &[String]) -> Result<ExitC
             let graph = netlist::read(rt, file.as_str())?;
             simulating::run(rt, &graph, words.parse()?, rounds.parse()?)?;
         }
+        [command, file, rounds] if command.as_str() == "claims" => {
+            let graph = netlist::read(rt, file.as_str())?;
+            claiming::run(rt, &graph, rounds.parse()?)?;
+        }
         [command, file, rounds] if command.as_str() == "hunt" => {
             let graph = netlist::read(rt, file.as_str())?;
             hunting::run(rt, &graph, rounds.parse()?)?;
@@ -69,6 +74,7 @@ fn bit(word: &str) -> Result<bool> {
 fn print_usage<R: Print>(rt: &R) -> io::Result<()> {
     println!(rt; "usage: workbench ask FIRST SECOND OUTPUT VALUE BUDGET")?;
     println!(rt; "       workbench guess FIRST SECOND SEED")?;
+    println!(rt; "       workbench claims FILE ROUNDS")?;
     println!(rt; "       workbench simulate FILE WORDS ROUNDS")?;
     println!(rt; "       workbench hunt FILE ROUNDS")
 }
