@@ -97,9 +97,9 @@ fn next_pair(cursor: &mut Cursor<'_>, literal: u32) -> Result<(u32, u32), u64>
     let Some(first) = next_first(cursor, literal) else {
         return Err(at);
     };
-    let behind = cursor.at();
+    let second_at = cursor.at();
     let Some(second) = next_second(cursor, first) else {
-        return Err(behind);
+        return Err(second_at);
     };
     Ok((first, second))
 }

@@ -38,7 +38,8 @@ pub record AreCounts (inputs outputs : ℕ) (entries : List Entry) (gone : List 
       → port < ports_of inputs outputs kind
       → slice_index_or gone (port_number inputs outputs side kind port) 0 ≡ gone_in entries side kind port
 
-pub record IsKept (inputs outputs : ℕ) (entries : List Entry) (pairs : List Pair) (places : List (Option ℕ)) (holders : List (Option Pair)) (gone : List ℕ) : Type 0 where
+pub record IsKept (inputs outputs : ℕ) (entries : List Entry) (pairs : List Pair) (places : List (Option ℕ))
+    (holders : List (Option Pair)) (gone : List ℕ) : Type 0 where
   pub entries_are : AreEntries inputs outputs entries
   pub pairs_are : pairs ≡ held_in entries
   pub places_are : ArePlaces inputs outputs entries places

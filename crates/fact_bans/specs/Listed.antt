@@ -31,7 +31,8 @@ pub record AddsFact (facts : List Decided) (claim : Claim) (holds : Bool) (befor
   pub more : after ≡ before ++ number ∷ []
 
 -- Facts of claims of an output, that hold or fail, of shapes that belong to inputs below a number, ascending.
-pub record ListsOf (shaped : List ℕ → List Shape → Type 0) (facts : List Decided) (holds : Bool) (side : Side) (output below : ℕ) (numbers : List ℕ) : Type 0 where
+pub record ListsOf (shaped : List ℕ → List Shape → Type 0) (facts : List Decided) (holds : Bool) (side : Side)
+    (output below : ℕ) (numbers : List ℕ) : Type 0 where
   pub inputs : List ℕ
   pub ascends : Ascend inputs
   pub less : All (λ i. i < below) inputs

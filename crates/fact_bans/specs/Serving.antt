@@ -32,7 +32,8 @@ pub record MayHold (graphs : Graphs) (known : Known) (ledger : Ledgered) (bans :
   pub valid : AreValid graphs known bans
 
 -- What a call does that has claims decided and holds bans by their facts, whatever it answers.
-pub record HoldsBans {X : Type 0} (graphs : Graphs) (old new : Known) (before after : Ledgered) (bans more : List Ban) (result : Result X Stop) : Type 0 where
+pub record HoldsBans {X : Type 0} (graphs : Graphs) (old new : Known) (before after : Ledgered) (bans more : List Ban)
+    (result : Result X Stop) : Type 0 where
   pub serves : Serves old new before after result
   pub valid : AreValid graphs new more
   pub adds : OnlyAdds bans more

@@ -3,7 +3,6 @@ use Rattle.std.specs.Prelude.{◌≡◌, ◌≢◌, ◌⊎◌, ℕ, ◌+◌, ◌
 use Rattle.circuits.specs.Literals.{bit, differ}
 use Rattle.circuits.specs.Netlists.{function_of}
 use Rattle.circuits.specs.Bijections.{moved, place_of, sign_of}
-use Rattle.cnf_core.specs.declared.log.Log.{Log}
 use Rattle.cnf_core.specs.declared.stop.Stop.{Stop}
 use Rattle.cnf_core.specs.declared.stop.Stop.TheVariants.{Spent, Memory}
 use Rattle.net_core.specs.Sides.{Graphs}

@@ -1,6 +1,6 @@
 -- What the entries of a ledger are worth: lines that were derived for queries of two circuits, each query asked once, and no
 -- line that says less than what was known (this project's; derivations are those of hinted unit propagation).
-use Rattle.std.specs.Prelude.{◌≡◌, ◌≢◌, ◌⊎◌, ℕ, ◌<◌, ◌≤◌, Bool, true, false, List, None, length, take, All, AllPairs}
+use Rattle.std.specs.Prelude.{◌≡◌, ◌≢◌, ◌⊎◌, ℕ, ◌<◌, ◌≤◌, Bool, false, List, None, length, take, All, AllPairs}
 use Rattle.std.specs.List.{list_all}
 use Rattle.circuits.specs.Literals.{EachAt}
 use Rattle.circuits.specs.Matches.{HavePorts}

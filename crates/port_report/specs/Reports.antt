@@ -1,5 +1,5 @@
 -- Report texts: where each port of a circuit goes, and which line of an account is rejected (this project's own texts).
-use Rattle.std.specs.Prelude.{◌≡◌, ℕ, ◌+◌, Bool, List, [], ◌∷◌, ◌++◌, codes, if◌then◌else◌, slice_index_or}
+use Rattle.std.specs.Prelude.{ℕ, ◌+◌, Bool, List, [], ◌∷◌, ◌++◌, codes, if◌then◌else◌, slice_index_or}
 use Rattle.std.specs.Fmt.{decimal}
 use Rattle.net_file.specs.declared.named.Named.{Named}
 use Rattle.net_core.specs.declared.matching.Matching.{Matching}

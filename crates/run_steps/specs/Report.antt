@@ -72,7 +72,8 @@ NameNetlists held words first second =
     ((account_name : List ℕ) × IsAsked held words first second account_name) ⊎ IsSought held words first second
 
 -- The text is the report of an outcome of the two files that the words name, with the names of their ports.
-pub record IsNamedReport (tells : Bool) (held : List ℕ → Option (List ℕ)) (words : List (List ℕ)) (outcome : Outcome) (text : List ℕ) : Type 0 where
+pub record IsNamedReport (tells : Bool) (held : List ℕ → Option (List ℕ)) (words : List (List ℕ)) (outcome : Outcome)
+    (text : List ℕ) : Type 0 where
   pub first : Netlist
   pub second : Netlist
   pub no_rows : outcome ≢ Informed

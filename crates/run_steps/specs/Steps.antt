@@ -214,7 +214,8 @@ pub record WritesText (tells : Bool) (name text : List ℕ) (old new : ShelfStat
   pub failed : result ≡ Err WriteFault → Rose old.faults new.faults
 
 -- Writing two texts under two names, one after the other.
-pub record WritesPair (tells : Bool) (first_name second_name first second : List ℕ) (old new : ShelfState) (result : Result (Unit {0}) Outcome) : Type 0 where
+pub record WritesPair (tells : Bool) (first_name second_name first second : List ℕ) (old new : ShelfState)
+    (result : Result (Unit {0}) Outcome) : Type 0 where
   pub others : IsTrue tells → (n : List ℕ) → n ≢ first_name → n ≢ second_name → new.held n ≡ old.held n
   pub whole : IsTrue tells
       → second_name ≢ first_name

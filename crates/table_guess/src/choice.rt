@@ -1,6 +1,6 @@
 //! Which literal is tried next.
 
-use crate::level::Level;
+use crate::choice_point::ChoicePoint;
 use cell_splits::{Draws, Likeness, State};
 use net_core::Side;
 use port_cells::{Cells, Counts};
@@ -22,7 +22,7 @@ struct Rank {
 #[derive(Drop)]
 pub(crate) enum Next {
     /// An input is guessed.
-    Guess(Level),
+    Guess(ChoicePoint),
     /// Each literal of an input is alone in its cell.
     Paired(State),
 }
@@ -98,10 +98,10 @@ fn better(best: Option<(Rank, usize)>, rank: Option<Rank>, cell: usize) -> Optio
     }
 }
 
-/// The next level: a literal of the first circuit, and those that it may correspond to, if one isn't alone. By likeness, where
+/// The next choice point: a literal of the first circuit, and those that it may correspond to, if one isn't alone. By likeness, where
 /// that is known, those that are most alike come first. Else, in later rounds, the literal and the order of the others are
 /// drawn. Small cells come first in every other round.
-pub(crate) fn next_level(
+pub(crate) fn next_point(
     alloc: Global,
     state: State,
     counts: &Counts,
@@ -113,13 +113,13 @@ pub(crate) fn next_level(
         return Ok(Next::Paired(state));
     };
     match likeness {
-        Some(likeness) => likest_level(alloc, state, cell, likeness),
-        None => level_of(alloc, state, cell, round, draws),
+        Some(likeness) => likest_point(alloc, state, cell, likeness),
+        None => point_of(alloc, state, cell, round, draws),
     }
 }
 
 // A literal of a cell, the first one or a drawn one.
-fn level_of(
+fn point_of(
     alloc: Global,
     state: State,
     cell: usize,
@@ -136,7 +136,7 @@ fn level_of(
     let Some(literal) = mine.get(place) else {
         return Ok(Next::Paired(state));
     };
-    Ok(Next::Guess(Level {
+    Ok(Next::Guess(ChoicePoint {
         state,
         literal: *literal,
         candidates,
@@ -144,7 +144,7 @@ fn level_of(
 }
 
 // The literal that is most like one that it may correspond to. While signs are open, one of the cell: a guess there decides most.
-fn likest_level(
+fn likest_point(
     alloc: Global,
     state: State,
     cell: usize,
@@ -159,7 +159,7 @@ fn likest_level(
         return Ok(Next::Paired(state));
     };
     let candidates = candidates_of(alloc, &state.inputs, literal, likeness)?;
-    Ok(Next::Guess(Level {
+    Ok(Next::Guess(ChoicePoint {
         state,
         literal,
         candidates,

@@ -3,11 +3,11 @@
 ghost use Rattle.std.specs.Prelude.{◌≡◌, IfOk, IfSome, length};
 ghost use Rattle.circuits.specs.Matches.{HavePorts};
 
-use crate::choice::{Next, next_level};
+use crate::choice::{Next, next_point};
+use crate::choice_point::{ChoicePoint, next_state};
 use crate::circuit::{Circuit, Sample};
 use crate::kept::Kept;
 use crate::leaf::with_paired_outputs;
-use crate::level::{Level, next_state};
 use crate::matching::matching_of;
 use crate::patience::Patience;
 use crate::signs::{has_known_sign, has_one_open_cell, with_plain_signs};
@@ -89,7 +89,7 @@ enum Visit {
     /// The inputs are paired, and the outputs by vectors.
     Paired(State),
     /// An input is guessed.
-    Guess(Level),
+    Guess(ChoicePoint),
     /// There is no match in it, or none that vectors allow.
     Fails,
 }
@@ -270,13 +270,13 @@ impl<'a> Guesser<'a> {
 
     // Whether a guess decides nearly all open signs.
     fn are_linked(&mut self, alloc: Global, root: State) -> Result<bool, AllocError> {
-        let Next::Guess(level) = self.next_level(alloc, root)? else {
+        let Next::Guess(point) = self.next_point(alloc, root)? else {
             return Ok(false);
         };
-        let mut levels = Vec::new(alloc);
-        levels.push(level)?;
+        let mut points = Vec::new(alloc);
+        points.push(point)?;
         for _ in 0..FEW_TRIED {
-            let Some(state) = next_state(alloc, &mut levels)? else {
+            let Some(state) = next_state(alloc, &mut points)? else {
                 return Ok(false);
             };
             if let Some(state) = self.refined(alloc, state)? {
@@ -288,23 +288,23 @@ impl<'a> Guesser<'a> {
 
     // Searches depth first until so many guesses have failed.
     fn search(&mut self, alloc: Global, root: State, failures: u32) -> Result<Attempt, AllocError> {
-        let mut levels = Vec::new(alloc);
+        let mut points = Vec::new(alloc);
         let mut patience = Patience::of_round(self.round, failures);
         let mut visit = self.visit(alloc, root)?;
         for _ in 0..MOST_STATES {
             match visit {
                 Visit::Paired(state) => return Ok(Attempt::Paired(state)),
-                Visit::Guess(level) => levels.push(level)?,
+                Visit::Guess(point) => points.push(point)?,
                 Visit::Fails => patience.fail(),
             }
             if patience.is_over() || self.is_spent() {
                 return Ok(Attempt::Stopped);
             }
-            let before = levels.len();
-            let Some(state) = next_state(alloc, &mut levels)? else {
+            let before = points.len();
+            let Some(state) = next_state(alloc, &mut points)? else {
                 return Ok(Attempt::Exhausted);
             };
-            patience.leave(before.saturating_sub(levels.len()));
+            patience.leave(before.saturating_sub(points.len()));
             visit = self.visit(alloc, state)?;
         }
         Ok(Attempt::Stopped)
@@ -329,16 +329,16 @@ impl<'a> Guesser<'a> {
         let Some(state) = self.refined(alloc, state)? else {
             return Ok(Visit::Fails);
         };
-        match self.next_level(alloc, state)? {
-            Next::Guess(level) => Ok(Visit::Guess(level)),
+        match self.next_point(alloc, state)? {
+            Next::Guess(point) => Ok(Visit::Guess(point)),
             Next::Paired(state) => self.paired(alloc, state),
         }
     }
 
     // Chooses what is guessed next.
-    fn next_level(&mut self, alloc: Global, state: State) -> Result<Next, AllocError> {
+    fn next_point(&mut self, alloc: Global, state: State) -> Result<Next, AllocError> {
         let likeness = self.likeness(alloc, &state)?;
-        next_level(
+        next_point(
             alloc,
             state,
             &self.first.counts,

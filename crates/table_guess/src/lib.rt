@@ -2,11 +2,11 @@
 #![tactic(auto)]
 
 mod choice;
+mod choice_point;
 mod circuit;
 mod guesser;
 mod kept;
 mod leaf;
-mod level;
 mod matching;
 mod patience;
 mod signs;

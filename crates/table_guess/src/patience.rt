@@ -7,25 +7,25 @@ const SHARE: u32 = 8;
 #[derive(Clone, Copy, Debug, Drop)]
 pub(crate) struct Patience {
     left: u32,
-    /// What a level adds that is left, since all of its guesses failed.
-    of_level: u32,
+    /// What it counts that a choice point is left, since all of its guesses failed.
+    of_point: u32,
 }
 
 impl Patience {
-    /// So many guesses may fail. In every other round that is said of levels all of whose guesses failed, and of guesses that fail at once
-    /// eight count as such a level: where each sign has to be guessed by itself, as of two numbers that are added or subtracted,
-    /// every other guess fails at once and the next one is right. The other rounds begin anew the sooner, which serves where
-    /// the first guess is wrong.
+    /// That many guesses may fail. In every other round that is said of choice points all of whose guesses failed, and eight
+    /// guesses that fail at once count as such a point: where each sign has to be guessed by itself, as of two numbers that
+    /// are added or subtracted, every other guess fails at once and the next one is right. The other rounds begin anew the
+    /// sooner, which serves where the first guess is wrong.
     pub(crate) fn of_round(round: u32, failures: u32) -> Patience {
         if round % 2 == 1 {
             return Patience {
                 left: failures,
-                of_level: 0,
+                of_point: 0,
             };
         }
         Patience {
             left: failures.saturating_mul(SHARE),
-            of_level: SHARE,
+            of_point: SHARE,
         }
     }
 
@@ -34,12 +34,12 @@ impl Patience {
         self.left = self.left.saturating_sub(1);
     }
 
-    /// So many levels were left.
-    pub(crate) fn leave(&mut self, levels: usize) {
-        let shares = (levels % (1 << 32)) as u32;
+    /// That many choice points were left.
+    pub(crate) fn leave(&mut self, points: usize) {
+        let shares = (points % (1 << 32)) as u32;
         self.left = self
             .left
-            .saturating_sub(shares.saturating_mul(self.of_level));
+            .saturating_sub(shares.saturating_mul(self.of_point));
     }
 
     /// Whether no more may fail.

@@ -11,7 +11,7 @@ use Rattle.circuits.specs.Literals.{bit}
 use Rattle.cnf_core.specs.declared.literal.SatLit.{SatLit}
 use Rattle.cnf_core.specs.Clauses.{literal_of, opposite, variable_of}
 use Rattle.cnf_core.specs.Derivations.{is_false, is_same, is_true, repeats_variable}
-use Rattle.watch_lists.proofs.EffectLemmas.{same_itself, same_literal}
+use Rattle.cnf_core.proofs.LiteralLemmas.{same_itself, same_literal}
 use Rattle.table_oracle.specs.Splits.{excluding}
 use Rattle.table_oracle.proofs.KnownLemmas.{AreApart, IsKnown}
 

@@ -16,8 +16,9 @@ use Rattle.net_core.specs.Graph.{IsGraph}
 use Rattle.query_core.specs.declared.query.Query.{Query}
 use Rattle.query_core.specs.Queries.{IsQuery, bits_in}
 use Rattle.query_core.specs.Formulas.{query_clauses}
-use Rattle.watch_lists.proofs.EffectLemmas.{conflict_from, makes_from, makes_says, same_itself, same_literal}
-use Rattle.learn_solver.proofs.PlaceLemmas.{opposite_twice}
+use Rattle.cnf_core.proofs.LiteralLemmas.{same_itself, same_literal}
+use Rattle.cnf_core.proofs.EffectLemmas.{conflict_from, makes_from, makes_says}
+use Rattle.cnf_core.proofs.LiteralLemmas.{opposite_twice}
 use Rattle.learn_solver.proofs.KeptLemmas.{opposite_there}
 use Rattle.learn_solver.proofs.DeriveLemmas.{step_conflict, step_makes}
 use Rattle.table_oracle.specs.Splits.{excluding}

@@ -8,8 +8,9 @@ use Rattle.cnf_core.specs.declared.effect.Effect.TheVariants.{Neither}
 use Rattle.cnf_core.specs.Clauses.{clause_at, opposite}
 use Rattle.cnf_core.specs.Derivations.{effect_of, is_false, is_same, is_true}
 use Rattle.query_core.specs.Formulas.{and_clauses}
-use Rattle.watch_lists.proofs.EffectLemmas.{not_neither, same_itself, same_literal}
-use Rattle.learn_solver.proofs.PlaceLemmas.{opposite_twice}
+use Rattle.cnf_core.proofs.LiteralLemmas.{same_itself, same_literal}
+use Rattle.cnf_core.proofs.EffectLemmas.{not_neither}
+use Rattle.cnf_core.proofs.LiteralLemmas.{opposite_twice}
 
 abbrev pub IsKnown : List SatLit → SatLit → Type 0
 IsKnown made l = (is_true made l || is_false made l) ≡ true

@@ -5,4 +5,3 @@ pub mod ExcludingLemmas
 pub mod HintLemmas
 pub mod SplitLemmas
 pub mod TableLemmas
-pub mod LookLemmas

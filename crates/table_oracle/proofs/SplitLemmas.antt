@@ -25,9 +25,10 @@ use Rattle.learn_solver.specs.Analyses.{has_all}
 use Rattle.learn_solver.specs.Searches.{last_line}
 use Rattle.learn_solver.specs.Solvers.{IsAdded, IsAsking, IsExtended, active}
 use Rattle.learn_solver.specs.Solvers.{IsStopped as IsHalted}
-use Rattle.watch_lists.proofs.EffectLemmas.{same_itself}
+use Rattle.cnf_core.proofs.LiteralLemmas.{same_itself}
 use Rattle.learn_solver.proofs.AdvanceLemmas.{derived_after}
-use Rattle.learn_solver.proofs.SolverLemmas.{clauses_more, line_from}
+use Rattle.cnf_core.proofs.LineLemmas.{clauses_more}
+use Rattle.learn_solver.proofs.SolverLemmas.{line_from}
 use Rattle.learn_solver.proofs.StepLemmas.{asking_charged, extended_charged, last_added, stopped_one}
 use Rattle.ask_core.proofs.AskLemmas.{IsOfCones}
 use Rattle.joint_hash.proofs.LineLemmas.{no_lemmas}

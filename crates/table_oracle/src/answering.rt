@@ -94,10 +94,8 @@ fn answer_to(
     if let Some(vector) = meeting_vector(alloc, graphs, query)? {
         return Ok(Answer::Vector(vector));
     }
-    match refute(alloc, graphs, query, ledger) {
-        Ok(log) => Ok(Answer::Refuted(log)),
-        Err(stop) => Err(stop),
-    }
+    let log = refute(alloc, graphs, query, ledger)?;
+    Ok(Answer::Refuted(log))
 }
 
 /// Decides a claim by its query.
@@ -117,8 +115,6 @@ fn decide(
     ensures stop { IfErr result (IsHalted graphs.now (claim_query graphs.now claim.now) ledger.old ledger.new) }
 {
     let query = of_claim(alloc, graphs, claim)?;
-    match answer_to(alloc, graphs, &query, ledger) {
-        Ok(answer) => Ok(evidence_of(alloc, graphs, claim, answer)?),
-        Err(stop) => Err(stop),
-    }
+    let answer = answer_to(alloc, graphs, &query, ledger)?;
+    Ok(evidence_of(alloc, graphs, claim, answer)?)
 }

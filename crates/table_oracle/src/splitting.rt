@@ -15,9 +15,9 @@ ghost use Rattle.learn_solver.specs.Solvers.{IsAsking, IsExtended, IsStopped as 
 ghost use Rattle.ask_core.specs.Answers.{IsAskedIn, IsStopped};
 ghost use Rattle.table_oracle.specs.Splits.{AllExcluded, IsBeginning, IsClosed, IsCovering, IsExcluded, IsNew, IsSplitting, clauses_in, excluding, solving_of};
 
-use crate::clauses::{effect, has_all, opposites};
+use crate::clauses::has_all;
 use crate::vectors::vector_of;
-use cnf_core::{Base, Charge, Effect, Log, LogLine, SatLit, Stop};
+use cnf_core::{Base, Charge, Effect, Log, LogLine, SatLit, ShortAssignment, Stop, effect_of};
 use items::Items;
 use net_core::Graphs;
 use query_core::{Ledger, Query, QueryBase};
@@ -210,16 +210,16 @@ impl<'a> Splitting<'a> {
             (map opposite (excluding bits.now)) hints ≡ None) }
     {
         let clause = excluding(alloc, bits)?;
-        let mut made = opposites(alloc, &clause)?;
+        let mut made = ShortAssignment::against(alloc, &clause)?;
         let mut hints = Items::new(alloc);
         for id in 0..self.base.count() {
-            match effect(&made, self.base.clause(id).literals()) {
+            match effect_of(&made, self.base.clause(id).literals()) {
                 Effect::Conflict => {
                     hints.push(id)?;
                     return Ok(hints);
                 }
                 Effect::Makes(literal) => {
-                    made.push(literal)?;
+                    made.make(literal)?;
                     hints.push(id)?;
                 }
                 Effect::Neither => {}

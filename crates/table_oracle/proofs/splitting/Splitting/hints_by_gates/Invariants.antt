@@ -3,4 +3,4 @@ use Rattle.table_oracle.proofs.HintLemmas.{IsUnderWay}
 use Rattle.table_oracle.proofs.splitting.Splitting.hints_by_gates.Given as goal
 
 abbrev pub invariant-loop-id : goal.invariant-loop-id
-invariant-loop-id l = IsUnderWay (query_clauses l.self.base.graphs l.self.base.query) l.bits l.made.items l.hints l.id
+invariant-loop-id l = IsUnderWay (query_clauses l.self.base.graphs l.self.base.query) l.bits l.made l.hints l.id

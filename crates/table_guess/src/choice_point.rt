@@ -1,4 +1,4 @@
-//! The depth-first search's stack.
+//! The choice points of the depth-first search, which are its stack.
 
 use cell_splits::State;
 use net_core::Side;
@@ -7,14 +7,14 @@ use std::alloc::{AllocError, Global};
 
 /// A literal of an input of the first circuit, and the literals of the second circuit that it is still to be tried with.
 #[derive(Drop)]
-pub(crate) struct Level {
+pub(crate) struct ChoicePoint {
     pub(crate) state: State,
     pub(crate) literal: usize,
     /// The last one is tried next.
     pub(crate) candidates: Vec<usize>,
 }
 
-impl Level {
+impl ChoicePoint {
     // The state in which the literal goes to the next candidate, or None where none is left.
     fn next(&mut self, alloc: Global) -> Result<Option<State>, AllocError> {
         let Some(candidate) = self.candidates.pop() else {
@@ -55,11 +55,11 @@ fn put_mark(literal: usize, mark: u64, keys: &mut [u64]) {
 /// The next state that is to be tried, or None where all were.
 pub(crate) fn next_state(
     alloc: Global,
-    levels: &mut Vec<Level>,
+    points: &mut Vec<ChoicePoint>,
 ) -> Result<Option<State>, AllocError> {
-    while let Some(mut level) = levels.pop() {
-        if let Some(state) = level.next(alloc)? {
-            levels.push(level)?;
+    while let Some(mut point) = points.pop() {
+        if let Some(state) = point.next(alloc)? {
+            points.push(point)?;
             return Ok(Some(state));
         }
     }

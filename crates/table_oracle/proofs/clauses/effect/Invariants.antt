@@ -1,8 +1,0 @@
-use Rattle.std.proofs.Common.{◌≡◌, drop}
-use Rattle.cnf_core.specs.Derivations.{effect_of}
-use Rattle.watch_lists.proofs.EffectLemmas.{open_ones}
-use Rattle.table_oracle.proofs.LookLemmas.{effect_with}
-use Rattle.table_oracle.proofs.clauses.effect.Given as goal
-
-abbrev pub invariant-loop-literal : goal.invariant-loop-literal
-invariant-loop-literal l = effect_with l.made l.left (open_ones l.made (drop l.literal-index l.clause)) ≡ effect_of l.made l.clause
