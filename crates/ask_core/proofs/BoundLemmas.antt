@@ -14,7 +14,8 @@ use Rattle.query_core.specs.declared.ledger.Asked.{Asked}
 use Rattle.query_core.specs.Formulas.{formula_of}
 use Rattle.query_core.specs.Ledgers.{Ledgered, charged_front, charged_in, entry_of, last_asked, nothing_asked, opened, with_lines}
 use Rattle.ask_core.specs.declared.question.Answer.{Answer}
-use Rattle.ask_core.specs.Answers.{IsAskedIn, IsBounded, IsBoundedStop, IsStopped}
+use Rattle.ask_core.proofs.AskLemmas.{whole_of}
+use Rattle.ask_core.specs.Answers.{IsAskedIn, IsAskedWith, IsBounded, IsBoundedStop, IsStopped, IsStoppedWith}
 
 -- the last entry of a query that was opened, with lines in place of its lemmas
 last_with : (query : Query) (lemmas lines : List LogLine) (asked : List Asked) → last_asked (with_lines lines (opened query lemmas asked)) ≡ record (entry_of query lemmas) { lines = lines }
@@ -27,16 +28,20 @@ last_with query lemmas lines asked =
     let there = get_or-set_same xs (length xs - 1) e nothing_asked (omega (arith, size)) in
     ap (λ k. slice_index_or (slice_set xs (length xs - 1) e) (k - 1) nothing_asked) (length-set xs (length xs - 1) e) ∙ (there ∙ ap (λ (a : Asked). record a { lines = lines }) last)
 
-pub bounded_in : (graphs : Graphs) (query : Query) (old new : Ledgered) → IsAskedIn graphs query old new → IsBounded graphs query new
-bounded_in graphs query old new is =
+pub bounded_with : (graphs : Graphs) (query : Query) (lemmas : List LogLine) (old new : Ledgered) → IsAskedWith graphs query lemmas old new → IsBounded graphs query new
+bounded_with graphs query lemmas old new is =
     let f = formula_of graphs query in
-    let first = length is.lemmas in
+    let first = length lemmas in
     let unlike : AreUnlike f.variables first is.lines = record {
       known = λ k late within. line_known f (clauses_of (take k is.lines)) (line_at is.lines k) (is.learned k no_line late within).derived;
       once = λ k late within. (line_says f (clauses_of (take k is.lines)) (line_at is.lines k) (is.learned k no_line late within).derived).once;
       unlike = λ j k early order within. unlike_at is.lines (line_at is.lines k).clause k j order within (is.learned k no_line (omega (arith, early, order)) within).unlike_earlier;
     } in
-    omega (arith, few_lines f.variables first is.lines unlike, ap charged_in (ap last_asked is.asked ∙ last_with query is.lemmas is.lines old.asked))
+    omega (arith, few_lines f.variables first is.lines unlike, ap charged_in (ap last_asked is.asked ∙ last_with query lemmas is.lines old.asked))
+
+pub bounded_in : (graphs : Graphs) (query : Query) (old new : Ledgered) → IsAskedIn graphs query old new → IsBounded graphs query new
+bounded_in graphs query old new is =
+    bounded_with graphs query is.lemmas old new (whole_of graphs query old new is)
 
 bounded_at : (graphs : Graphs) (query : Query) (old new : Ledgered) (stop : Stop) → IsStopped graphs query old new stop → IsBoundedStop graphs query new stop
 bounded_at graphs query old new Memory stopped = tt
@@ -50,3 +55,16 @@ bounded_answer graphs query old new (Err stop) asked = tt
 pub bounded_stops : (graphs : Graphs) (query : Query) (old new : Ledgered) (result : Result Answer Stop) → IfErr result (IsStopped graphs query old new) → IfErr result (IsBoundedStop graphs query new)
 bounded_stops graphs query old new (Ok answer) stopped = tt
 bounded_stops graphs query old new (Err stop) stopped = bounded_at graphs query old new stop stopped
+
+bounded_with_at : (graphs : Graphs) (query : Query) (lemmas : List LogLine) (old new : Ledgered) (stop : Stop) → IsStoppedWith graphs query lemmas old new stop → IsBoundedStop graphs query new stop
+bounded_with_at graphs query lemmas old new Memory stopped = tt
+bounded_with_at graphs query lemmas old new (Spent learned) stopped = bounded_with graphs query lemmas old new stopped.asked_with
+
+-- so it is of each answer by lemmas
+pub bounded_answer_with : (graphs : Graphs) (query : Query) (lemmas : List LogLine) (old new : Ledgered) (result : Result Answer Stop) → IfOk result (λ _. IsAskedWith graphs query lemmas old new) → IfOk result (λ _. IsBounded graphs query new)
+bounded_answer_with graphs query lemmas old new (Ok answer) asked = bounded_with graphs query lemmas old new asked
+bounded_answer_with graphs query lemmas old new (Err stop) asked = tt
+
+pub bounded_stops_with : (graphs : Graphs) (query : Query) (lemmas : List LogLine) (old new : Ledgered) (result : Result Answer Stop) → IfErr result (IsStoppedWith graphs query lemmas old new) → IfErr result (IsBoundedStop graphs query new)
+bounded_stops_with graphs query lemmas old new (Ok answer) stopped = tt
+bounded_stops_with graphs query lemmas old new (Err stop) stopped = bounded_with_at graphs query lemmas old new stop stopped

@@ -42,6 +42,32 @@ pub record IsLearnedLine (graphs : Graphs) (query : Query) (earlier : List LogLi
   pub fresh : AllOfCones graphs query (λ clause. has_all line.clause clause ≡ false)
   pub unlike_earlier : All (λ clause. has_all line.clause clause ≡ false) (clauses_of earlier)
 
+-- A query was asked by these lemmas: it stands last in the ledger, with them and then with lines that were learned for it. The
+-- entries before stay.
+pub record IsAskedWith (graphs : Graphs) (query : Query) (lemmas : List LogLine) (old new : Ledgered) : Type 0 where
+  pub lines : List LogLine
+  pub begin : take (length lemmas) lines ≡ lemmas
+  pub derived : AreDerived (formula_of graphs query) lines
+  pub learned : (k : ℕ) (d : LogLine)
+      → length lemmas ≤ k
+      → k < length lines
+      → IsLearnedLine graphs query (take k lines) (slice_index_or lines k d)
+  pub budget : new.budget ≡ old.budget
+  pub asked : new.asked ≡ with_lines lines (opened query lemmas old.asked)
+
+-- The budget is spent, and the query's last line is the refused one.
+pub record IsSpentWith (graphs : Graphs) (query : Query) (lemmas : List LogLine) (old new : Ledgered) (learned : ℕ) : Type 0 where
+  pub asked_with : IsAskedWith graphs query lemmas old new
+  pub learned_is : learned ≡ old.budget
+  pub used : learned_in new ≡ old.budget
+  pub made : lines_in new ≡ old.budget + 1
+  pub spent : new.spent ≡ true
+
+-- no answer: the budget is spent, or memory ran out
+abbrev pub IsStoppedWith : Graphs → Query → List LogLine → Ledgered → Ledgered → Stop → Type 0
+IsStoppedWith graphs query lemmas old new (Spent learned) = IsSpentWith graphs query lemmas old new learned
+IsStoppedWith graphs query lemmas old new Memory = Unit {0}
+
 -- A query was asked: it stands last in the ledger, with lemmas and then with lines that were learned for it. The entries
 -- before stay.
 pub record IsAskedIn (graphs : Graphs) (query : Query) (old new : Ledgered) : Type 0 where

@@ -1,7 +1,7 @@
 //! What the solver looks at first.
 
 use crate::base::DenseBase;
-use cnf_core::SatLit;
+use cnf_core::{Base, SatLit};
 use gate_pairs::{Gate, Pair, gates_of, pairs_of};
 use learn_solver::{Agenda, Candidate, Guide, Operands};
 use std::alloc::{AllocError, Global};
@@ -9,7 +9,7 @@ use std::alloc::{AllocError, Global};
 /// The number that vectors are drawn from. Each question of a run draws the same ones.
 const SEED: u64 = 1;
 
-/// The pairs of a query's gates that seem to be equal. Each is two candidates: that the one is true and the other isn't.
+/// The pairs of a query's gates that seem to be equal.
 #[derive(Drop)]
 pub(crate) struct GatePairs<'a> {
     pub(crate) base: &'a DenseBase,
@@ -18,12 +18,27 @@ pub(crate) struct GatePairs<'a> {
 }
 
 impl<'a> Guide for GatePairs<'a> {
-    fn agenda(&self, alloc: Global) -> Result<Agenda, AllocError> {
-        let gates = gates_of(alloc, self.base, self.ids)?;
-        let candidates = candidates_of(alloc, &gates)?;
-        let gates = operands_of(alloc, &gates)?;
-        Ok(Agenda { gates, candidates })
+    fn agenda(&mut self, alloc: Global) -> Result<Agenda, AllocError> {
+        agenda_of(alloc, self.base, self.ids)
     }
+
+    fn done_with(&mut self, candidate: Candidate, lines: u64) -> Result<(), AllocError> {
+        let _ = (candidate, lines);
+        Ok(())
+    }
+}
+
+/// The gates of a query's cones, and two candidates for each pair of them that seem to be equal: that the one is true and the other
+/// isn't. The numbers are those of the cones' clauses: after the first clause three for each gate.
+///
+/// # Errors
+///
+/// Only when out of memory.
+pub fn agenda_of<B: Base>(alloc: Global, base: &B, ids: &[u64]) -> Result<Agenda, AllocError> {
+    let gates = gates_of(alloc, base, ids)?;
+    let candidates = candidates_of(alloc, &gates)?;
+    let gates = operands_of(alloc, &gates)?;
+    Ok(Agenda { gates, candidates })
 }
 
 // Two candidates for each pair.

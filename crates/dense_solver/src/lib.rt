@@ -15,6 +15,7 @@ mod tab;
 mod telling;
 
 pub use base::DenseBase;
+pub use guiding::agenda_of;
 pub use lines::translated;
 pub use solving::solve_dense;
 pub use tab::Tab;

@@ -29,11 +29,11 @@ pub(crate) fn solve_small<W: Watch>(
     let numbers = places(alloc, dense.count())?;
     let mut solver = Solver::new(alloc, dense, &numbers, &[])?;
     let gates = gates.min(numbers.len());
-    let guide = GatePairs {
+    let mut guide = GatePairs {
         base: dense,
         ids: &numbers[..gates],
     };
-    solve_guided(alloc, &mut solver, &guide, tab)
+    solve_guided(alloc, &mut solver, &mut guide, tab)
 }
 
 // The numbers from 0 on.

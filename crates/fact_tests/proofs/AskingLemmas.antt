@@ -1,6 +1,6 @@
 -- What an answered query, and one refuted by its outputs, make of a ledger.
 use Rattle.std.proofs.lemmas.List.{length-take}
-use Rattle.std.proofs.Common.{◌≡◌, ℕ, zero, suc, ◌<◌, ◌≤◌, length, [], ◌∷◌, take, slice_index_or, ap, ◌∙◌, arith, ◌+◌}
+use Rattle.std.proofs.Common.{◌≡◌, ℕ, zero, suc, ◌<◌, ◌≤◌, length, [], ◌∷◌, take, slice_index_or, List, ap, ◌∙◌, arith, ◌+◌}
 use Rattle.circuits.specs.Netlists.{signals_of}
 use Rattle.cnf_core.specs.declared.log.LogLine.{LogLine}
 use Rattle.cnf_core.specs.declared.stop.Stop.{Stop}
@@ -19,24 +19,23 @@ use Rattle.query_core.specs.Ledgers.{Ledgered, opened, with_line, IsRefused}
 use Rattle.query_core.specs.Queries.{IsQuery}
 use Rattle.query_core.proofs.ClaimQueryLemmas.{claim_query_fits}
 use Rattle.oracle_core.specs.Work.{IsLearned, IsWorkOn}
-use Rattle.ask_core.specs.Answers.{IsAskedIn, IsStopped}
+use Rattle.ask_core.specs.Answers.{IsAskedIn, IsAskedWith, IsStopped, IsStoppedWith}
+use Rattle.ask_core.proofs.AskLemmas.{whole_of}
 use Rattle.fact_tests.specs.Asking.{IsAsked, IsHalted, entry_with}
 use Rattle.fact_tests.specs.Supports.{IsOutside, closing_line}
 use Rattle.fact_tests.proofs.ConeLemmas.{empty_is_new, graph_is}
 use Rattle.fact_tests.proofs.StructureLemmas.{outside_refuted}
 use Rattle.fact_tests.proofs.WorkLemmas.{asked_last, line_last}
 
-pub asked_of : (graphs : Graphs) (query : Query) (before after : Ledgered) → IsQuery graphs query → IsAskedIn graphs query before after → IsAsked graphs query before after
-asked_of graphs query before after fits is = record {
-  lemmas = length is.lemmas;
+pub asked_with_of : (graphs : Graphs) (query : Query) (lemmas : List LogLine) (before after : Ledgered) → IsQuery graphs query → IsAskedWith graphs query lemmas before after → IsAsked graphs query before after
+asked_with_of graphs query lemmas before after fits is = record {
+  lemmas = length lemmas;
   lines = is.lines;
   work = record {
     fits = fits;
     lemmas = within;
     derived = is.derived;
     learned = λ k d below behind.
-        let line = slice_index_or is.lines k d in
-        let earlier = clauses_of (take k is.lines) in
         let learned = is.learned k d behind below in
         record {
           derived = learned.derived;
@@ -45,11 +44,24 @@ asked_of graphs query before after fits is = record {
         };
   };
   budget = is.budget;
-  asked = is.asked ∙ asked_last query is.lemmas is.lines before.asked;
+  asked = is.asked ∙ asked_last query lemmas is.lines before.asked;
 }
   where
-    within : length is.lemmas ≤ length is.lines
-    within = omega (arith, ap length is.begin, length-take (length is.lemmas) is.lines)
+    within : length lemmas ≤ length is.lines
+    within = omega (arith, ap length is.begin, length-take (length lemmas) is.lines)
+
+pub halted_with_of : (graphs : Graphs) (query : Query) (lemmas : List LogLine) (before after : Ledgered) (stop : Stop) → IsQuery graphs query → IsStoppedWith graphs query lemmas before after stop → IsHalted graphs query before after stop
+halted_with_of graphs query lemmas before after Memory fits stopped = tt
+halted_with_of graphs query lemmas before after (Spent learned) fits stopped = record {
+  asked = asked_with_of graphs query lemmas before after fits stopped.asked_with;
+  learned_is = stopped.learned_is;
+  used = stopped.used;
+  made = stopped.made;
+  refused = stopped.spent;
+}
+
+pub asked_of : (graphs : Graphs) (query : Query) (before after : Ledgered) → IsQuery graphs query → IsAskedIn graphs query before after → IsAsked graphs query before after
+asked_of graphs query before after fits is = asked_with_of graphs query is.lemmas before after fits (whole_of graphs query before after is)
 
 pub halted_of : (graphs : Graphs) (query : Query) (before after : Ledgered) (stop : Stop) → IsQuery graphs query → IsStopped graphs query before after stop → IsHalted graphs query before after stop
 halted_of graphs query before after Memory fits stopped = tt

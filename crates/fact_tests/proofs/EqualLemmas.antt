@@ -17,20 +17,9 @@ use Rattle.query_core.specs.contracts.query.FeedPartialEq.TheImpl.{eq-value as f
 use Rattle.query_core.specs.contracts.query.ConePartialEq.TheImpl.{eq-value as cone_eq}
 use Rattle.query_core.specs.contracts.query.QueryPartialEq.TheImpl.{eq-value as query_eq}
 use Rattle.net_core.specs.contracts.graphs.SidePartialEq.TheImpl.{eq-value as side_eq}
+use Rattle.shared_lemmas.proofs.EqualLemmas.{bool_decides, feed_decides, feeds_decide, side_decides}
 use Rattle.query_core.specs.contracts.claims.ShapePartialEq.TheImpl.{eq-value as shape_eq}
 use Rattle.query_core.specs.contracts.claims.ClaimPartialEq.TheImpl.{eq-value as claim_eq}
-
-side_decides : (x y : Side) → Decides (side_eq.it x y) (x ≡ y)
-side_decides First First = (λ e. refl, λ e. refl)
-side_decides First Second = (λ e. cc, λ e. cc)
-side_decides Second First = (λ e. cc, λ e. cc)
-side_decides Second Second = (λ e. refl, λ e. refl)
-
-bool_decides : (x y : Bool) → Decides (beq x y) (x ≡ y)
-bool_decides true true = (λ e. refl, λ e. refl)
-bool_decides true false = (λ e. cc, λ e. cc)
-bool_decides false true = (λ e. cc, λ e. cc)
-bool_decides false false = (λ e. refl, λ e. refl)
 
 pub shape_decides : (x y : Shape) → Decides (shape_eq.it x y) (x ≡ y)
 shape_decides (Up i) (Up j) = Decides-like (eqb i j) (λ e. ap Up e) (λ e. cc) (Decides-eqb i j)
@@ -47,16 +36,6 @@ shape_decides (Swap i j a b) (Swap k l c d) =
 pub claim_decides : (x y : Claim) → Decides (claim_eq.it x y) (x ≡ y)
 claim_decides x y =
     Decides-like (claim_eq.it x y) (λ e i. record { side = e.0 i; output = e.1.0 i; shape = e.1.1 i }) (λ e. (ap (λ (c : Claim). c.side) e, (ap (λ (c : Claim). c.output) e, ap (λ (c : Claim). c.shape) e))) (Decides-and (side_eq.it x.side y.side) (eqb x.output y.output && shape_eq.it x.shape y.shape) (side_decides x.side y.side) (Decides-and (eqb x.output y.output) (shape_eq.it x.shape y.shape) (Decides-eqb x.output y.output) (shape_decides x.shape y.shape)))
-
-feed_decides : (x y : Feed) → Decides (feed_eq.it x y) (x ≡ y)
-feed_decides (Fixed b) (Fixed c) = Decides-like (beq b c) (λ e. ap Fixed e) (λ e. cc) (bool_decides b c)
-feed_decides (Fixed b) (Wire place flip) = (λ e. cc, λ e. cc)
-feed_decides (Wire place flip) (Fixed b) = (λ e. cc, λ e. cc)
-feed_decides (Wire place flip) (Wire other sign) =
-    Decides-like (eqb place other && beq flip sign) (λ e. let p = e.0 in let q = e.1 in cc) (λ e. (cc, cc)) (Decides-and (eqb place other) (beq flip sign) (Decides-eqb place other) (bool_decides flip sign))
-
-feeds_decide : (xs ys : List Feed) → Decides (pointwise feed_eq.it xs ys) (xs ≡ ys)
-feeds_decide xs ys = slice_eq-Decides feed_decides xs ys (pointwise feed_eq.it xs ys) refl
 
 cone_decides : (x y : Cone) → Decides (cone_eq.it x y) (x ≡ y)
 cone_decides x y =

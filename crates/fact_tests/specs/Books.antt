@@ -33,7 +33,8 @@ pub record IsBook (graphs : Graphs) (facts : List Fact) (kept : List Kept) : Typ
   pub facts_are : AreFacts graphs facts
   pub kept_are : All (IsKept graphs) kept
 
--- What is known without asking is of either circuit.
-pub record AreSources (graphs : Graphs) (first second : Source) : Type 0 where
+-- What is known without asking is of either circuit, and what questions share of both.
+pub record AreSources (graphs : Graphs) (first second : Source) (shared : Graphs) : Type 0 where
   pub first_is : IsSource graphs.first first
   pub second_is : IsSource graphs.second second
+  pub shared_is : shared ≡ graphs

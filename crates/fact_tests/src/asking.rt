@@ -16,6 +16,7 @@ use cnf_core::{Log, LogLine, Stop};
 use items::Items;
 use net_core::Graphs;
 use query_core::{Claim, Ledger, Query, of_claim};
+use shared_lemmas::SharedLemmas;
 use std::alloc::{AllocError, Global};
 use watch_core::Watch;
 
@@ -35,6 +36,25 @@ pub(crate) fn answer_to<W: Watch>(
     ensures stop { IfErr result (IsHalted graphs.now query.now ledger.old ledger.new) }
 {
     ask_watched(alloc, graphs, query, ledger, watch)
+}
+
+/// Finds a vector that meets a query, or a log that refutes it, by what earlier queries under the same feeds have learned.
+pub(crate) fn shared_answer_to<W: Watch>(
+    alloc: Global,
+    shared: &mut SharedLemmas<'_>,
+    query: &Query,
+    ledger: &mut Ledger,
+    watch: &W,
+) -> Result<Answer, Stop>
+    requires fits { IsQuery shared.old query.now }
+    requires unspent { ledger.old.spent ≡ false }
+    ensures same { shared.new ≡ shared.old }
+    ensures answer { IfOk result (IsAnswer shared.old query.now) }
+    ensures asked { IfOk result (λ _. IsAsked shared.old query.now ledger.old ledger.new) }
+    ensures unspent { IfOk result (λ _. ledger.new.spent ≡ false) }
+    ensures stop { IfErr result (IsHalted shared.old query.now ledger.old ledger.new) }
+{
+    shared.ask(alloc, query, ledger, watch)
 }
 
 /// Refutes a claim whose output reaches none of the shape's inputs. The clauses of the query's two outputs are

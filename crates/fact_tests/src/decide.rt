@@ -18,7 +18,7 @@ use query_core::{Claim, Ledger, Query};
 use std::alloc::Global;
 use watch_core::Stage;
 
-/// Decides claims about two circuits, and answers queries of matchings of theirs. It keeps nothing of what it decided;
+/// Decides claims about two circuits, and answers queries of matchings of theirs. It keeps no fact and no answer;
 /// what has to be refuted is asked in a ledger.
 pub trait Decide {
     /// The two circuits.
@@ -55,14 +55,20 @@ pub trait Decide {
     /// # Errors
     ///
     /// As for `evidence`.
-    fn answer_to(&self, alloc: Global, query: &Query, ledger: &mut Ledger) -> Result<Answer, Stop>
-        requires fits { IsQuery (circuits self.now) query.now }
-        requires of_match { IsOfMatch (circuits self.now) query.now }
+    fn answer_to(
+        &mut self,
+        alloc: Global,
+        query: &Query,
+        ledger: &mut Ledger,
+    ) -> Result<Answer, Stop>
+        requires fits { IsQuery (circuits self.old) query.now }
+        requires of_match { IsOfMatch (circuits self.old) query.now }
         requires unspent { ledger.old.spent ≡ false }
-        ensures answer { IfOk result (IsAnswer (circuits self.now) query.now) }
-        ensures decided { IfOk result (λ _. IsDecided (circuits self.now) query.now ledger.old ledger.new) }
+        ensures same { circuits self.new ≡ circuits self.old }
+        ensures answer { IfOk result (IsAnswer (circuits self.old) query.now) }
+        ensures decided { IfOk result (λ _. IsDecided (circuits self.old) query.now ledger.old ledger.new) }
         ensures unspent { IfOk result (λ _. ledger.new.spent ≡ false) }
-        ensures stop { IfErr result (IsHalted (circuits self.now) query.now ledger.old ledger.new) };
+        ensures stop { IfErr result (IsHalted (circuits self.old) query.now ledger.old ledger.new) };
 
     /// Whoever watches is told what the run is at. No answer depends on it.
     fn at(&self, stage: Stage);

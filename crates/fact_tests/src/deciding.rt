@@ -10,7 +10,7 @@ ghost use Rattle.fact_tests.specs.Asking.{IsDecided, IsHalted};
 ghost use Rattle.fact_tests.specs.Books.{IsSource};
 ghost use Rattle.fact_tests.specs.Supports.{IsOutside};
 
-use crate::asking::{answer_to, refute_outside};
+use crate::asking::{answer_to, refute_outside, shared_answer_to};
 use crate::decide::Decide;
 use crate::nearby::Nearby;
 use crate::sightings::Sightings;
@@ -22,6 +22,7 @@ use items::Items;
 use net_core::{Graph, Graphs, Side};
 use net_supports::Supports;
 use query_core::{Claim, Ledger, Query, Shape, of_claim};
+use shared_lemmas::SharedLemmas;
 use std::alloc::{AllocError, Global};
 use std::marker::Model;
 use watch_core::{Stage, Watch};
@@ -55,6 +56,8 @@ pub struct Sources<'a, W: Watch> {
     graphs: &'a Graphs<'a>,
     first: Source<'a>,
     second: Source<'a>,
+    /// What queries of the last matching have learned.
+    shared: SharedLemmas<'a>,
     /// Is told what the run is at.
     watch: &'a W,
 }
@@ -67,7 +70,7 @@ impl<'a, W: Watch> Model for Sources<'a, W> {
 
     ghost view = { λ a. a.graphs.now };
 
-    ghost invariant = { λ a. AreSources a.graphs.now a.first a.second };
+    ghost invariant = { λ a. AreSources a.graphs.now a.first a.second a.shared };
 }
 
 impl<'a, W: Watch> Sources<'a, W> {
@@ -84,6 +87,7 @@ impl<'a, W: Watch> Sources<'a, W> {
             graphs,
             first: Source::new(alloc, graphs.first(), seed)?,
             second: Source::new(alloc, graphs.second(), seed)?,
+            shared: SharedLemmas::new(alloc, graphs),
             watch,
         })
     }
@@ -110,8 +114,14 @@ impl<'a, W: Watch> Decide for Sources<'a, W> {
         }
     }
 
-    fn answer_to(&self, alloc: Global, query: &Query, ledger: &mut Ledger) -> Result<Answer, Stop> {
-        answer_to(alloc, self.graphs, query, ledger, self.watch)
+    fn answer_to(
+        &mut self,
+        alloc: Global,
+        query: &Query,
+        ledger: &mut Ledger,
+    ) -> Result<Answer, Stop> {
+        let watch = self.watch;
+        shared_answer_to(alloc, &mut self.shared, query, ledger, watch)
     }
 
     fn at(&self, stage: Stage) {

@@ -40,7 +40,14 @@ pub trait Guide {
     /// # Errors
     ///
     /// Only when out of memory.
-    fn agenda(&self, alloc: Global) -> Result<Agenda, AllocError>;
+    fn agenda(&mut self, alloc: Global) -> Result<Agenda, AllocError>;
+
+    /// The search is done with a candidate of the agenda, and has so many lines now, lemmas among them.
+    ///
+    /// # Errors
+    ///
+    /// Only when out of memory.
+    fn done_with(&mut self, candidate: Candidate, lines: u64) -> Result<(), AllocError>;
 }
 
 /// Nothing on the agenda.
@@ -48,11 +55,16 @@ pub trait Guide {
 pub struct Unguided;
 
 impl Guide for Unguided {
-    fn agenda(&self, alloc: Global) -> Result<Agenda, AllocError> {
+    fn agenda(&mut self, alloc: Global) -> Result<Agenda, AllocError> {
         Ok(Agenda {
             gates: Vec::new(alloc),
             candidates: Vec::new(alloc),
         })
+    }
+
+    fn done_with(&mut self, candidate: Candidate, lines: u64) -> Result<(), AllocError> {
+        let _ = (candidate, lines);
+        Ok(())
     }
 }
 

@@ -25,7 +25,7 @@ impl<'a, B: Base> Solver<'a, B> {
         &mut self,
         alloc: Global,
         search: &mut Search,
-        guide: &G,
+        guide: &mut G,
         ledger: &mut L,
     ) -> Result<Option<Verdict>, Stop>
         requires running { IsRunning self.old search.old.trail search.old.watches search.old.tools }
@@ -42,18 +42,19 @@ impl<'a, B: Base> Solver<'a, B> {
             return Ok(Some(soon));
         }
         let agenda = guide.agenda(alloc)?;
-        if let Some(verdict) = self.follow(alloc, search, &agenda, ledger)? {
+        if let Some(verdict) = self.follow(alloc, search, guide, &agenda, ledger)? {
             return Ok(Some(verdict));
         }
         search.widen();
         Ok(None)
     }
 
-    // Looks at each candidate.
-    fn follow<L: Charge>(
+    // Looks at each candidate, and tells the guide.
+    fn follow<G: Guide, L: Charge>(
         &mut self,
         alloc: Global,
         search: &mut Search,
+        guide: &mut G,
         agenda: &Agenda,
         ledger: &mut L,
     ) -> Result<Option<Verdict>, Stop>
@@ -71,6 +72,7 @@ impl<'a, B: Base> Solver<'a, B> {
             if let Some(verdict) = self.look_at(alloc, search, *candidate, &agenda.gates, ledger)? {
                 return Ok(Some(verdict));
             }
+            guide.done_with(*candidate, self.count())?;
         }
         Ok(None)
     }

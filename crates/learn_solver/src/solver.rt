@@ -282,7 +282,7 @@ pub fn solve<B: Base, L: Charge>(
     ensures bounded_stop { IfErr result
         (IsBoundedStop solver.old.formula.variables (L.charging ledger.old) (L.charging ledger.new)) }
 {
-    solve_guided(alloc, solver, &Unguided, ledger)
+    solve_guided(alloc, solver, &mut Unguided, ledger)
 }
 
 /// The same, where parts of the question are searched first (explicit learning: Lu, Wang, Cheng, Moon and Hanna, DATE 2003):
@@ -291,7 +291,7 @@ pub fn solve<B: Base, L: Charge>(
 pub fn solve_guided<B: Base, G: Guide, L: Charge>(
     alloc: Global,
     solver: &mut Solver<'_, B>,
-    guide: &G,
+    guide: &mut G,
     ledger: &mut L,
 ) -> Result<Verdict, Stop>
     requires unrefuted { list_any is_empty (clauses_of solver.old.lines) ≡ false }
@@ -312,7 +312,7 @@ pub fn solve_guided<B: Base, G: Guide, L: Charge>(
 fn searched<B: Base, G: Guide, L: Charge>(
     alloc: Global,
     solver: &mut Solver<'_, B>,
-    guide: &G,
+    guide: &mut G,
     ledger: &mut L,
 ) -> Result<Verdict, Stop>
     requires unrefuted { list_any is_empty (clauses_of solver.old.lines) ≡ false }

@@ -3,7 +3,7 @@
 ghost use Rattle.std.specs.Prelude.{◌≡◌, IsTrue, length};
 ghost use Rattle.circuits.specs.Matches.{HavePorts};
 
-use crate::sample_circuits::{AND, OR, pair};
+use crate::sample_circuits::{AND, OR, Sample, pair};
 use cnf_core::Stop;
 use fact_tests::FactBook;
 use net_core::{Graphs, Matching};
@@ -32,16 +32,18 @@ fn told(answer: &Result<Compared, Stop>) -> Comparison {
     }
 }
 
-/// Whether a matching is of the ports of two circuits of one output each.
-fn are_ports(graphs: &Graphs<'_>, matching: &Matching) -> bool
+/// Whether a matching is of the ports of two circuits of so many outputs each.
+fn are_ports(graphs: &Graphs<'_>, matching: &Matching, outputs: u32) -> bool
     ensures ports { IsTrue result
         → HavePorts graphs.now.first graphs.now.second matching.now.inputs matching.now.outputs }
-    ensures output { IsTrue result → length graphs.now.first.outputs ≡ 1 }
+    ensures outputs { IsTrue result → length graphs.now.first.outputs ≡ outputs }
 {
     let inputs = graphs.first().inputs();
     let alike = inputs == graphs.second().inputs();
-    let single = (graphs.first().outputs().len() == 1) & (graphs.second().outputs().len() == 1);
-    alike & single & matching.check_shape(inputs, 1)
+    let count = outputs as usize;
+    let all = (graphs.first().outputs().len() == count)
+        & (graphs.second().outputs().len() == count);
+    alike & all & matching.check_shape(inputs, outputs)
 }
 
 /// What a new book says of output 0 and its partner.
@@ -51,7 +53,7 @@ fn compared(
     matching: &Matching,
     budget: u64,
 ) -> Result<Comparison, AllocError> {
-    if !are_ports(graphs, matching) {
+    if !are_ports(graphs, matching, 1) {
         return Ok(Comparison::Unfit);
     }
     let mut book = FactBook::new(alloc, graphs, 1)?;
@@ -89,5 +91,61 @@ fn compares_an_and_with_an_or(rt: HostRuntime) -> Result<(), Fail> {
     for (flip, budget, comparison) in COMPARED.iter() {
         assert_eq!(rt; and_with_or(rt.alloc(), *flip, *budget)?, *comparison);
     }
+    Ok(())
+}
+
+/// The exclusive or and the AND of two inputs, and the same by other gates.
+const HALF_ADDER: Sample = Sample {
+    inputs: 2,
+    gates: &[(4, 2), (5, 3), (9, 7)],
+    outputs: &[10, 6],
+};
+
+const OTHER_HALF_ADDER: Sample = Sample {
+    inputs: 2,
+    gates: &[(5, 2), (4, 3), (9, 7), (4, 2)],
+    outputs: &[11, 12],
+};
+
+/// What one book says of output 0, and then of output 1.
+fn compared_in_turn(
+    alloc: Global,
+    graphs: &Graphs<'_>,
+    matching: &Matching,
+) -> Result<(Comparison, Comparison), AllocError> {
+    if !are_ports(graphs, matching, 2) {
+        return Ok((Comparison::Unfit, Comparison::Unfit));
+    }
+    let mut book = FactBook::new(alloc, graphs, 1)?;
+    let mut ledger = Ledger::new(alloc, 99);
+    let first = book.compare(alloc, matching, 0, &mut ledger);
+    if first.is_err() {
+        return Ok((told(&first), Comparison::Unfit));
+    }
+    let second = book.compare(alloc, matching, 1, &mut ledger);
+    Ok((told(&first), told(&second)))
+}
+
+/// Whether what one book says of both outputs, the second by what it learned of the first, is what is expected.
+fn are_compared(
+    alloc: Global,
+    outputs: &[(u32, bool); 2],
+    expected: (Comparison, Comparison),
+) -> Result<bool, Fail> {
+    let both = pair(alloc, HALF_ADDER, OTHER_HALF_ADDER)?;
+    let graphs = both.graphs();
+    let matching = matching(alloc, &[(0, false), (1, false)], outputs)?;
+    let told = compared_in_turn(alloc, &graphs, &matching)?;
+    Ok(told == expected)
+}
+
+#[test]
+fn compares_the_outputs_of_one_table(rt: HostRuntime) -> Result<(), Fail> {
+    let alloc = rt.alloc();
+    let same = (Comparison::Same, Comparison::Same);
+    let differ = (Comparison::Differs, Comparison::Differs);
+    let both = are_compared(alloc, &[(0, false), (1, false)], same)?;
+    let exchanged = are_compared(alloc, &[(1, false), (0, false)], differ)?;
+    assert!(rt; both & exchanged);
     Ok(())
 }

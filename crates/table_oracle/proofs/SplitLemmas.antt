@@ -196,7 +196,7 @@ of_cones graphs query asking lines is none first second fits = record {
       let below = cone_id_below graphs query id first second fits cone in
       subst (λ (a : Asking). Contains (range_with_len 0 (length (query_clauses a.graphs a.query))) id) (sym is) (id, omega (arith, below, length-range_with_len 0 count), get_or-range_with_len 0 count id id below ∙ own id);
   lines = none;
-  are = no_lemmas (formula_of graphs query) [] refl;
+  derived = (no_lemmas (formula_of graphs query) [] refl).derived;
 }
   where
     own : (n : ℕ) → 0 + n ≡ n

@@ -66,7 +66,12 @@ impl<'a> Decide for AllVectors<'a> {
         decide(alloc, self.graphs, claim, ledger)
     }
 
-    fn answer_to(&self, alloc: Global, query: &Query, ledger: &mut Ledger) -> Result<Answer, Stop> {
+    fn answer_to(
+        &mut self,
+        alloc: Global,
+        query: &Query,
+        ledger: &mut Ledger,
+    ) -> Result<Answer, Stop> {
         answer_to(alloc, self.graphs, query, ledger)
     }
 

@@ -12,7 +12,7 @@ use Rattle.query_core.specs.Ledgers.{Ledgered, charging_of, one_if}
 use Rattle.query_core.specs.declared.ledger.Asked.{Asked}
 use Rattle.query_core.proofs.ChargingLemmas.{is_opened}
 use Rattle.ask_core.specs.Answers.{IsStopped}
-use Rattle.ask_core.proofs.AskLemmas.{asked_in, joined_in, made_of_cones, meets_cones, stopped_in}
+use Rattle.ask_core.proofs.AskLemmas.{are_own, asked_with, joined_in, made_of_cones, meets_cones, short_asked, short_stopped, stopped_with}
 use Rattle.ask_core.proofs.ShortLemmas.{short_from}
 use Rattle.ask_core.proofs.question.ask_cones.Goals as goal
 
@@ -22,9 +22,9 @@ returns-in_err-values-clause-stop g c =
     let query = c.args.query.now in
     let s = start_of (formula_of c.args.cones.now.graphs c.args.cones.now.query) c.args.cones.now.ids c.args.lemmas.now in
     let new = with_lines_of s (charging_of c.solve_dense.new.ledger) in
-    let of = made_of_cones graphs query c.args.lemmas.now c.args.cones.now s c.requires.of_graphs c.requires.of_query c.ids-ids.ensures.are c.requires.lemmas refl in
+    let of = made_of_cones graphs query c.args.lemmas.now c.args.cones.now s c.requires.of_graphs c.requires.of_query c.ids-ids.ensures.are c.requires.lemmas.derived refl in
     let stop = c.in_err-values.field-0.0 in
-    passed_on c.from_residual-in_err-values.result stop (IsStopped graphs query c.args.ledger.now c.solve_dense.new.ledger) c.from_residual-in_err-values.ensures.1 (stopped_in graphs query c.args.lemmas.now s new c.args.ledger.now c.open.new.self c.solve_dense.new.ledger stop of c.in_ok-open.ensures.some c.in_ok-open.ensures.opened c.in_err-values.ensures.stop)
+    passed_on c.from_residual-in_err-values.result stop (IsStopped graphs query c.args.ledger.now c.solve_dense.new.ledger) c.from_residual-in_err-values.ensures.1 (short_stopped graphs query c.args.lemmas.now c.args.ledger.now c.solve_dense.new.ledger stop (are_own c.args.cones.now graphs query c.args.lemmas.now c.requires.of_graphs c.requires.of_query c.requires.lemmas) (stopped_with graphs query c.args.lemmas.now s new c.args.ledger.now c.open.new.self c.solve_dense.new.ledger stop of c.in_ok-open.ensures.some c.in_ok-open.ensures.opened c.in_err-values.ensures.stop))
 
 pub vector_of-requires-clause-meets : goal.vector_of-requires-clause-meets
 vector_of-requires-clause-meets g c =
@@ -32,7 +32,7 @@ vector_of-requires-clause-meets g c =
     let query = c.args.query.now in
     let s = start_of (formula_of c.args.cones.now.graphs c.args.cones.now.query) c.args.cones.now.ids c.args.lemmas.now in
     let new = with_lines_of s (charging_of c.solve_dense.new.ledger) in
-    let of = made_of_cones graphs query c.args.lemmas.now c.args.cones.now s c.requires.of_graphs c.requires.of_query c.ids-ids.ensures.are c.requires.lemmas refl in
+    let of = made_of_cones graphs query c.args.lemmas.now c.args.cones.now s c.requires.of_graphs c.requires.of_query c.ids-ids.ensures.are c.requires.lemmas.derived refl in
     let model = subst (λ (v : Verdict). IsVerdict new v) c.in-Model.is c.in_ok-values.ensures.verdict in
     subst (λ (bs : List Bool). MeetsCones graphs query bs) (sym c.deref.ensures.value) (meets_cones graphs query c.args.lemmas.now s new (charging_of c.open.new.self) (charging_of c.solve_dense.new.ledger) c.in-Model.values of c.in_ok-values.ensures.lines model.meets)
 
@@ -42,8 +42,8 @@ returns-in_ok-vector-in-Model-clause-asked g c =
     let query = c.args.query.now in
     let s = start_of (formula_of c.args.cones.now.graphs c.args.cones.now.query) c.args.cones.now.ids c.args.lemmas.now in
     let new = with_lines_of s (charging_of c.solve_dense.new.ledger) in
-    let of = made_of_cones graphs query c.args.lemmas.now c.args.cones.now s c.requires.of_graphs c.requires.of_query c.ids-ids.ensures.are c.requires.lemmas refl in
-    asked_in graphs query c.args.lemmas.now s new c.args.ledger.now c.open.new.self c.solve_dense.new.ledger of c.in_ok-open.ensures.some c.in_ok-open.ensures.opened c.in_ok-values.ensures.lines
+    let of = made_of_cones graphs query c.args.lemmas.now c.args.cones.now s c.requires.of_graphs c.requires.of_query c.ids-ids.ensures.are c.requires.lemmas.derived refl in
+    short_asked graphs query c.args.lemmas.now c.args.ledger.now c.solve_dense.new.ledger (are_own c.args.cones.now graphs query c.args.lemmas.now c.requires.of_graphs c.requires.of_query c.requires.lemmas) (asked_with graphs query c.args.lemmas.now s new c.args.ledger.now c.open.new.self c.solve_dense.new.ledger of c.in_ok-open.ensures.some c.in_ok-open.ensures.opened c.in_ok-values.ensures.lines)
 
 pub returns-in-Refuted-clause-asked : goal.returns-in-Refuted-clause-asked
 returns-in-Refuted-clause-asked g c =
@@ -51,8 +51,8 @@ returns-in-Refuted-clause-asked g c =
     let query = c.args.query.now in
     let s = start_of (formula_of c.args.cones.now.graphs c.args.cones.now.query) c.args.cones.now.ids c.args.lemmas.now in
     let new = with_lines_of s (charging_of c.solve_dense.new.ledger) in
-    let of = made_of_cones graphs query c.args.lemmas.now c.args.cones.now s c.requires.of_graphs c.requires.of_query c.ids-ids.ensures.are c.requires.lemmas refl in
-    asked_in graphs query c.args.lemmas.now s new c.args.ledger.now c.open.new.self c.solve_dense.new.ledger of c.in_ok-open.ensures.some c.in_ok-open.ensures.opened c.in_ok-values.ensures.lines
+    let of = made_of_cones graphs query c.args.lemmas.now c.args.cones.now s c.requires.of_graphs c.requires.of_query c.ids-ids.ensures.are c.requires.lemmas.derived refl in
+    short_asked graphs query c.args.lemmas.now c.args.ledger.now c.solve_dense.new.ledger (are_own c.args.cones.now graphs query c.args.lemmas.now c.requires.of_graphs c.requires.of_query c.requires.lemmas) (asked_with graphs query c.args.lemmas.now s new c.args.ledger.now c.open.new.self c.solve_dense.new.ledger of c.in_ok-open.ensures.some c.in_ok-open.ensures.opened c.in_ok-values.ensures.lines)
 
 pub solve_dense-requires-clause-asking : goal.solve_dense-requires-clause-asking
 solve_dense-requires-clause-asking g c = record {
@@ -86,6 +86,6 @@ returns-in-Refuted-clause-joined g c =
     let query = c.args.query.now in
     let s = start_of (formula_of c.args.cones.now.graphs c.args.cones.now.query) c.args.cones.now.ids c.args.lemmas.now in
     let new = with_lines_of s (charging_of c.solve_dense.new.ledger) in
-    let of = made_of_cones graphs query c.args.lemmas.now c.args.cones.now s c.requires.of_graphs c.requires.of_query c.ids-ids.ensures.are c.requires.lemmas refl in
+    let of = made_of_cones graphs query c.args.lemmas.now c.args.cones.now s c.requires.of_graphs c.requires.of_query c.ids-ids.ensures.are c.requires.lemmas.derived refl in
     let refuted = subst (λ (v : Verdict). IsVerdict new v) c.in-Refuted.is c.in_ok-values.ensures.verdict in
     joined_in graphs query c.args.lemmas.now c.in-Refuted.log.lines c.args.cones.now s new (charging_of c.open.new.self) (charging_of c.solve_dense.new.ledger) c.requires.of_graphs c.requires.of_query of c.requires.joined c.in_ok-values.ensures.lines refuted.lines_are

@@ -1,20 +1,39 @@
+use Rattle.std.proofs.Common.{Err, Ok, sym, subst, All, List}
+use Rattle.net_core.specs.Sides.{Graphs}
+use Rattle.account_core.specs.Facts.{AreFacts}
+use Rattle.oracle_core.specs.Oracles.{Known, Serves}
 use Rattle.ask_core.specs.declared.question.Answer.{Answer}
+use Rattle.fact_tests.specs.Books.{IsKept, known_by}
 use Rattle.fact_tests.proofs.BookLemmas.{answer_ok, answer_stopped, kept_more, missing_kept}
 use Rattle.fact_tests.proofs.book.Book.ask_anew.Goals as goal
+use Rattle.fact_tests.proofs.book.Book.ask_anew.Goals.{in-Listed-4, in-Straight-4}
 
 pub invariant_of-self-in-Ok : goal.invariant_of-self-in-Ok
 invariant_of-self-in-Ok g c = record {
-  facts_are = c.self.invariant.facts_are;
-  kept_are = kept_more (g.D.Decide.circuits c.self.inside.decider) c.self.inside.facts c.self.inside.kept c.args.query c.args.self.now c.self.view_is c.self.invariant.facts_are c.requires.of_match c.requires.missing c.in-Ok.answer c.add.new.self c.self.invariant.kept_are c.in-Ok.ensures.answer c.in_ok-add-in-Ok.ensures.added;
+  facts_are = subst (λ (graphs : Graphs). AreFacts graphs c.self.inside.facts) (sym c.answer_to.ensures.same) c.self.invariant.facts_are;
+  kept_are = subst (λ (graphs : Graphs). All (IsKept graphs) c.add.new.self) (sym c.answer_to.ensures.same) (kept_more (g.D.Decide.circuits c.self.inside.decider) c.self.inside.facts c.self.inside.kept c.args.query c.args.self.now c.self.view_is c.self.invariant.facts_are c.requires.of_match c.requires.missing c.in-Ok.answer c.add.new.self c.self.invariant.kept_are c.in-Ok.ensures.answer c.in_ok-add-in-Ok.ensures.added);
 }
 
 pub returns-in_ok-add-in-Ok-clause-serves : goal.returns-in_ok-add-in-Ok-clause-serves
 returns-in_ok-add-in-Ok-clause-serves g c =
-    answer_ok (g.D.Decide.circuits c.self.inside.decider) c.self.inside.facts c.self.inside.kept c.args.query c.args.self.now c.self.view_is c.self.invariant.facts_are c.requires.of_match c.requires.missing {X = Answer} c.args.ledger.now c.answer_to.new.ledger c.in-Ok.answer c.add.new.self c.in_ok-copy-in-Ok.copy c.in-Ok.ensures.decided c.in-Ok.ensures.unspent c.requires.suits c.in_ok-add-in-Ok.ensures.added
+    subst (λ (graphs : Graphs). Serves {X = Answer} c.args.self.now (known_by graphs c.self.inside.facts c.add.new.self) c.args.ledger.now c.answer_to.new.ledger (Ok c.in_ok-copy-in-Ok.copy)) (sym c.answer_to.ensures.same)
+    (answer_ok (g.D.Decide.circuits c.self.inside.decider) c.self.inside.facts c.self.inside.kept c.args.query c.args.self.now c.self.view_is c.self.invariant.facts_are c.requires.of_match c.requires.missing {X = Answer} c.args.ledger.now c.answer_to.new.ledger c.in-Ok.answer c.add.new.self c.in_ok-copy-in-Ok.copy c.in-Ok.ensures.decided c.in-Ok.ensures.unspent c.requires.suits c.in_ok-add-in-Ok.ensures.added)
 
 pub returns-in-Err-clause-serves : goal.returns-in-Err-clause-serves
 returns-in-Err-clause-serves g c =
-    answer_stopped (g.D.Decide.circuits c.self.inside.decider) c.self.inside.facts c.self.inside.kept c.args.query c.args.self.now c.self.view_is c.self.invariant.facts_are c.requires.of_match c.requires.missing {X = Answer} c.args.ledger.now c.answer_to.new.ledger c.in-Err.stop c.requires.suits c.in-Err.ensures.stop
+    let graphs = g.D.Decide.circuits c.self.inside.decider in
+    let facts = c.self.inside.facts in
+    let kept = c.self.inside.kept in
+    let before = c.args.ledger.now in
+    let after = c.answer_to.new.ledger in
+    let stop = c.in-Err.stop in
+    let same : Serves {X = Answer} c.args.self.now c.args.self.now before after (Err stop) = answer_stopped graphs facts kept c.args.query c.args.self.now c.self.view_is c.self.invariant.facts_are c.requires.of_match c.requires.missing {X = Answer} before after stop c.requires.suits c.in-Err.ensures.stop in
+    let own : Serves {X = Answer} c.args.self.now (known_by (g.D.Decide.circuits c.answer_to.new.self) facts kept) before after (Err stop) =
+    subst (λ (now : Graphs). Serves {X = Answer} c.args.self.now (known_by now facts kept) before after (Err stop)) (sym c.answer_to.ensures.same) (subst (λ (k : Known). Serves {X = Answer} c.args.self.now k before after (Err stop)) (sym c.self.view_is) same) in
+    elim c.match-query-4.branch [
+      | in-Listed-4 w ↦ subst (λ (k : Known). Serves {X = Answer} c.args.self.now k before after (Err stop)) (sym w.self-is) own
+      | in-Straight-4 w ↦ subst (λ (k : Known). Serves {X = Answer} c.args.self.now k before after (Err stop)) (sym w.self-is) own
+    ]
 
 pub add-requires : goal.add-requires
 add-requires g c =

@@ -1,0 +1,83 @@
+//! One question, asked with lemmas of any length.
+
+ghost use Rattle.std.specs.Prelude.{◌≡◌, false, IfOk, IfErr};
+ghost use Rattle.std.specs.List.{list_any};
+ghost use Rattle.cnf_core.specs.Derivations.{AreDerived, clauses_of, is_empty};
+ghost use Rattle.query_core.specs.Formulas.{formula_of};
+ghost use Rattle.query_core.specs.Queries.{IsQuery};
+ghost use Rattle.ask_core.specs.Answers.{IsAnswer, IsAskedWith, IsBounded, IsBoundedStop, IsStoppedWith};
+
+use crate::question::Answer;
+use crate::vector::vector_of;
+use cnf_core::{LogLine, Stop};
+use learn_solver::{Guide, Solver, Verdict, solve_guided};
+use net_core::Graphs;
+use query_core::{ConeClauses, Ledger, Query, QueryBase};
+use std::alloc::Global;
+
+/// Answers a query that fits two circuits by the clauses of its cones and by lemmas that are derived in order from its formula,
+/// none of them empty. The search is over the formula's variables, so it costs by the circuits; a guide says what is looked at
+/// first. The ledger gets an entry for it, in place of a last one for which nothing was learned: the lemmas, which cost nothing,
+/// then one line for each conflict. One call learns at most 3^n lines over the n variables of the query's clauses.
+///
+/// # Errors
+///
+/// `Spent` at a conflict that is met with the budget spent; its line is kept as the refused one. When out of memory, nothing is
+/// said of the last entry.
+pub fn ask_guided<G: Guide>(
+    alloc: Global,
+    graphs: &Graphs<'_>,
+    query: &Query,
+    cones: &ConeClauses<'_>,
+    lemmas: &[LogLine],
+    guide: &mut G,
+    ledger: &mut Ledger,
+) -> Result<Answer, Stop>
+    requires fits { IsQuery graphs.now query.now }
+    requires of_graphs { cones.now.graphs ≡ graphs.now }
+    requires of_query { cones.now.query ≡ query.now }
+    requires derived { AreDerived (formula_of graphs.now query.now) lemmas.now }
+    requires unclosed { list_any is_empty (clauses_of lemmas.now) ≡ false }
+    requires not_spent { ledger.old.spent ≡ false }
+    ensures answer { IfOk result (IsAnswer graphs.now query.now) }
+    ensures asked { IfOk result (λ _. IsAskedWith graphs.now query.now lemmas.now ledger.old ledger.new) }
+    ensures not_spent { IfOk result (λ _. ledger.new.spent ≡ false) }
+    ensures stop { IfErr result (IsStoppedWith graphs.now query.now lemmas.now ledger.old ledger.new) }
+    ensures bounded { IfOk result (λ _. IsBounded graphs.now query.now ledger.new) }
+    ensures bounded_stop { IfErr result (IsBoundedStop graphs.now query.now ledger.new) }
+{
+    search(alloc, graphs, query, cones, lemmas, guide, ledger)
+}
+
+// The same, without the bound.
+fn search<G: Guide>(
+    alloc: Global,
+    graphs: &Graphs<'_>,
+    query: &Query,
+    cones: &ConeClauses<'_>,
+    lemmas: &[LogLine],
+    guide: &mut G,
+    ledger: &mut Ledger,
+) -> Result<Answer, Stop>
+    requires fits { IsQuery graphs.now query.now }
+    requires of_graphs { cones.now.graphs ≡ graphs.now }
+    requires of_query { cones.now.query ≡ query.now }
+    requires derived { AreDerived (formula_of graphs.now query.now) lemmas.now }
+    requires unclosed { list_any is_empty (clauses_of lemmas.now) ≡ false }
+    requires not_spent { ledger.old.spent ≡ false }
+    ensures answer { IfOk result (IsAnswer graphs.now query.now) }
+    ensures asked { IfOk result (λ _. IsAskedWith graphs.now query.now lemmas.now ledger.old ledger.new) }
+    ensures not_spent { IfOk result (λ _. ledger.new.spent ≡ false) }
+    ensures stop { IfErr result (IsStoppedWith graphs.now query.now lemmas.now ledger.old ledger.new) }
+{
+    ledger.open(alloc, query, lemmas)?;
+    let base = QueryBase::new(alloc, graphs, query)?;
+    let mut solver = Solver::new(alloc, &base, cones.ids(), lemmas)?;
+    match solve_guided(alloc, &mut solver, guide, ledger)? {
+        Verdict::Model(values) => {
+            let vector = vector_of(alloc, graphs, query, &values)?;
+            Ok(Answer::Vector(vector))
+        }
+        Verdict::Refuted(log) => Ok(Answer::Refuted(log)),
+    }
+}

@@ -1,0 +1,142 @@
+-- A line is derived wherever the clauses at its hints stand.
+use Rattle.std.proofs.Common.{◌≡◌, ℕ, ◌-◌, ◌<◌, ◌≤◌, ◌==◌, ◌||◌, cond, Bool, true, false, List, [], ◌∷◌, ◌++◌, length, map, take, drop, Option, None, Some, nat_lt, slice_index_or, inl, inr, refl, sym, ◌∙◌, ap, arith}
+use Rattle.std.specs.List.{list_any, list_all}
+use Rattle.std.proofs.lemmas.Bool.{cases_lt, eq-eqb, eqb-true, false≢true, le-ltb, lt-ltb}
+use Rattle.std.proofs.lemmas.List.{get_or_append_left, get_or-append_right, get_or-take, length-append, length-map, length-take, map-append, nil_from_length, take-map}
+use Rattle.std.proofs.lemmas.List.Folds.{list_any-append}
+use Rattle.cnf_core.specs.declared.literal.SatLit.{SatLit}
+use Rattle.cnf_core.specs.declared.log.LogLine.{LogLine}
+use Rattle.cnf_core.specs.declared.effect.Effect.{Effect}
+use Rattle.cnf_core.specs.declared.effect.Effect.TheVariants.{Conflict, Makes, Neither}
+use Rattle.cnf_core.specs.declared.fault.LineFault.TheVariants as fault
+use Rattle.cnf_core.specs.Clauses.{Formula, clause_at, opposite, variable_of}
+use Rattle.cnf_core.specs.Derivations.{AreDerived, IsRefutation, clauses_of, effect_of, fault_behind, hint_fault, is_empty, line_fault, repeats_variable}
+use Rattle.learn_solver.proofs.SolverLemmas.{derived_more, line_from, line_says}
+use Rattle.log_parts.specs.declared.common.Common.{Common}
+use Rattle.log_parts.specs.Parts.{ArePlaced, GoesOn, HaveCommon, IsLastOf, IsRenumbered, MayGoOn, Trims, number_in}
+
+-- hints lead to a conflict wherever their clauses stand
+hints_carried : (clauses all : List (List SatLit)) (number : ℕ → Option ℕ) → ((h n : ℕ) → h < length clauses → number h ≡ Some n → (n < length all) × (clause_at all n ≡ clause_at clauses h)) → (made : List SatLit) (hints own : List ℕ) → map number hints ≡ map Some own → hint_fault clauses made hints ≡ None → hint_fault all made own ≡ None
+hints_carried clauses all number each made [] [] same e = absurd (let x : Some fault.NoConflict ≡ None = e in cc)
+hints_carried clauses all number each made [] (n ∷ own) same e = absurd (let x : Some fault.NoConflict ≡ None = e in cc)
+hints_carried clauses all number each made (h ∷ hints) [] same e = absurd (let x : number h ∷ map number hints ≡ [] = same in cc)
+hints_carried clauses all number each made (h ∷ hints) (n ∷ own) same e =
+    elim (cases_lt h (length clauses)) [
+      | inr late ↦
+          let found = le-ltb h (length clauses) late in
+          absurd (let x : Some fault.UnknownHint ≡ None = sym (ap (λ b. cond b (fault_behind (effect_of made (clause_at clauses h)) hints (λ m. hint_fault clauses (made ++ m ∷ []) hints)) (Some fault.UnknownHint)) found) ∙ e in cc)
+      | inl low ↦
+          let found = lt-ltb h (length clauses) low in
+          let head : number h ≡ Some n = cc in
+          let rest : map number hints ≡ map Some own = ap (drop 1) same in
+          let there = each h n low head in
+          let after = sym (ap (λ b. cond b (fault_behind (effect_of made (clause_at clauses h)) hints (λ m. hint_fault clauses (made ++ m ∷ []) hints)) (Some fault.UnknownHint)) found) ∙ e in
+          ap (λ b. cond b (fault_behind (effect_of made (clause_at all n)) own (λ m. hint_fault all (made ++ m ∷ []) own)) (Some fault.UnknownHint)) (lt-ltb n (length all) there.0)
+          ∙ (ap (λ c. fault_behind (effect_of made c) own (λ m. hint_fault all (made ++ m ∷ []) own)) there.1
+          ∙ by_effect (effect_of made (clause_at clauses h)) hints own rest (λ m left. hints_carried clauses all number each (made ++ m ∷ []) hints own rest left) after)
+    ]
+  where
+    by_effect : (effect : Effect) (left mine : List ℕ) → map number left ≡ map Some mine → ((m : SatLit) → hint_fault clauses (made ++ m ∷ []) hints ≡ None → hint_fault all (made ++ m ∷ []) own ≡ None) → fault_behind effect left (λ m. hint_fault clauses (made ++ m ∷ []) hints) ≡ None → fault_behind effect mine (λ m. hint_fault all (made ++ m ∷ []) own) ≡ None
+    by_effect Conflict [] [] same rest goes = refl
+    by_effect Conflict [] (y ∷ mine) same rest goes = absurd (let x : [] ≡ Some y ∷ map Some mine = same in cc)
+    by_effect Conflict (x ∷ left) mine same rest goes = absurd (let y : Some fault.AfterConflict ≡ None = goes in cc)
+    by_effect (Makes m) left mine same rest goes = rest m goes
+    by_effect Neither left mine same rest goes = absurd (let y : Some fault.NotUnit ≡ None = goes in cc)
+
+module _ (common : Common) (one other : Formula) (source target : List LogLine) (numbers : List (Option ℕ)) (have : HaveCommon common one other) (placed : ArePlaced common.count source target numbers) where
+  -- a clause that has a number in the other log stands there
+  stands : (place h n : ℕ) → h < length (one.clauses ++ clauses_of (take place source)) → number_in common numbers h ≡ Some n → (n < length (other.clauses ++ clauses_of target)) × (clause_at (other.clauses ++ clauses_of target) n ≡ clause_at (one.clauses ++ clauses_of (take place source)) h)
+  stands place h n within number =
+      let mine = clauses_of target in
+      let theirs = clauses_of (take place source) in
+      let mine_size = length-append other.clauses mine in
+      let their_size = length-append one.clauses theirs in
+      elim (cases_lt h common.same) [
+        | inl low ↦
+            let found : Some h ≡ Some n = sym (ap (λ b. cond b (Some h) (cond (nat_lt h common.count) None (slice_index_or numbers (h - common.count) None))) (lt-ltb h common.same low)) ∙ number in
+            let is : n ≡ h = cc in
+            let there = get_or_append_left other.clauses mine [] h (omega (arith, low, have.within, have.other_count)) in
+            let here = get_or_append_left one.clauses theirs [] h (omega (arith, low, have.within, have.count)) in
+            (omega (arith, is, low, have.within, have.other_count, mine_size), ap (clause_at (other.clauses ++ mine)) is ∙ (there ∙ (have.same h low ∙ sym here)))
+        | inr late ↦ elim (cases_lt h common.count) [
+          | inl early ↦
+              let found : None ≡ Some n = sym (ap (λ b. cond b (Some h) (cond (nat_lt h common.count) None (slice_index_or numbers (h - common.count) None))) (le-ltb h common.same late) ∙ ap (λ b. cond b None (slice_index_or numbers (h - common.count) None)) (lt-ltb h common.count early)) ∙ number in
+              absurd (let x : None ≡ Some n = found in cc)
+          | inr past ↦
+              let found : slice_index_or numbers (h - common.count) None ≡ Some n = sym (ap (λ b. cond b (Some h) (cond (nat_lt h common.count) None (slice_index_or numbers (h - common.count) None))) (le-ltb h common.same late) ∙ ap (λ b. cond b None (slice_index_or numbers (h - common.count) None)) (le-ltb h common.count past)) ∙ number in
+              let is = placed (h - common.count) n found in
+              let there = get_or-append_right other.clauses mine (length other.clauses) n [] refl (omega (arith, is.late, have.other_count)) in
+              let here = get_or-append_right one.clauses theirs (length one.clauses) h [] refl (omega (arith, past, have.count)) in
+              let own_place : n - length other.clauses ≡ n - common.count = omega (arith, have.other_count) in
+              let their_place : h - length one.clauses ≡ h - common.count = omega (arith, have.count) in
+              let sizes = length-map target (λ (l : LogLine). l.clause) in
+              let front : clause_at theirs (h - common.count) ≡ clause_at (clauses_of source) (h - common.count) =
+              ap (λ cs. clause_at cs (h - common.count)) (sym (take-map (λ (l : LogLine). l.clause) place source))
+              ∙ get_or-take place (clauses_of source) (h - common.count) [] (omega (arith, past, within, their_size, have.count, length-map (take place source) (λ (l : LogLine). l.clause), shorter place source)) in
+              (omega (arith, is.late, is.there, have.other_count, mine_size, sizes), there ∙ (ap (clause_at mine) own_place ∙ (is.same ∙ (sym front ∙ (sym (ap (clause_at theirs) their_place) ∙ sym here)))))
+        ]
+      ]
+    where
+      shorter : (n : ℕ) (xs : List LogLine) → length (take n xs) ≤ n
+      shorter n xs = omega (arith, length-take n xs)
+
+  -- a line with other numbers is derived where it is written
+  pub line_carried : (place : ℕ) (d line own : LogLine) → AreDerived one source → MayGoOn other target → place < length source → slice_index_or source place d ≡ line → IsRenumbered common numbers line own → line_fault other (clauses_of target) own ≡ None
+  line_carried place d line own derived goes within at renumbered =
+      let taken = clauses_of (take place source) in
+      let good : line_fault one taken line ≡ None = ap (line_fault one taken) (sym at) ∙ derived place d within in
+      let said = line_says one taken line good in
+      line_from other (clauses_of target) own (record {
+        unclosed = goes.unclosed;
+        known =
+            ap (λ v. list_all (λ l. nat_lt (variable_of l) v) own.clause) have.variables
+            ∙ (ap (λ c. list_all (λ l. nat_lt (variable_of l) one.variables) c) renumbered.clause ∙ said.known);
+        once = ap repeats_variable renumbered.clause ∙ said.once;
+        hints =
+            ap (λ c. hint_fault (other.clauses ++ clauses_of target) (map opposite c) own.hints) renumbered.clause
+            ∙ hints_carried (one.clauses ++ taken) (other.clauses ++ clauses_of target) (number_in common numbers) (stands place) (map opposite line.clause) line.hints own.hints renumbered.hints said.hints;
+      })
+
+-- a log goes on by a line that isn't empty
+pub one_more : (formula : Formula) (lines : List LogLine) (line : LogLine) → MayGoOn formula lines → line_fault formula (clauses_of lines) line ≡ None → is_empty line.clause ≡ false → MayGoOn formula (lines ++ line ∷ [])
+one_more formula lines line goes good filled = record {
+  derived = derived_more formula lines line goes.derived good;
+  unclosed =
+      ap (list_any is_empty) (map-append (λ (l : LogLine). l.clause) lines (line ∷ []))
+      ∙ (list_any-append is_empty (clauses_of lines) (line.clause ∷ [])
+      ∙ (ap (λ b. b || (is_empty line.clause || false)) goes.unclosed ∙ ap (λ b. b || false) filled));
+}
+
+pub nothing_goes_on : (formula : Formula) → MayGoOn formula []
+nothing_goes_on formula = record { derived = λ k d within. absurd (omega (arith, within)); unclosed = refl }
+
+-- an empty line closes a log
+pub closed_by : (formula : Formula) (lines : List LogLine) (line : LogLine) → MayGoOn formula lines → line_fault formula (clauses_of lines) line ≡ None → is_empty line.clause ≡ true → IsRefutation formula (lines ++ line ∷ [])
+closed_by formula lines line goes good empty = record {
+  derived = derived_more formula lines line goes.derived good;
+  closed =
+      ap (list_any is_empty) (map-append (λ (l : LogLine). l.clause) lines (line ∷ []))
+      ∙ (list_any-append is_empty (clauses_of lines) (line.clause ∷ [])
+      ∙ (ap (λ b. b || (is_empty line.clause || false)) goes.unclosed ∙ ap (λ b. b || false) empty));
+}
+
+-- whether a clause is empty, by its length
+pub filled_by : (clause : List SatLit) (b : Bool) → b ≡ (length clause == 0) → b ≡ false → is_empty clause ≡ false
+filled_by [] b told no_ = absurd (false≢true (sym no_ ∙ (told ∙ eq-eqb 0 0 refl)))
+filled_by (l ∷ clause) b told no_ = refl
+
+pub empty_by : (clause : List SatLit) (b : Bool) → b ≡ (length clause == 0) → b ≡ true → is_empty clause ≡ true
+empty_by clause b told yes_ = ap is_empty (nil_from_length clause (eqb-true (length clause) 0 (sym told ∙ yes_)))
+
+-- the part of a refutation on which its last line rests refutes too
+pub trimmed : (common : Common) (lines part : List LogLine) (numbers : List (Option ℕ)) (last own : LogLine) → common.same ≡ common.count → IsLastOf lines last → ArePlaced common.count lines part numbers → GoesOn common lines [] part → IsRenumbered common numbers last own → is_empty own.clause ≡ true → Trims common.count lines (part ++ own ∷ [])
+trimmed common lines part numbers last own whole is_last placed goes_on renumbered empty formula count refutes =
+    let have : HaveCommon common formula formula = record {
+      variables = refl;
+      count = count;
+      other_count = count;
+      within = omega (arith, whole);
+      same = λ id low. refl;
+    } in
+    let goes = goes_on formula formula have refutes.derived (nothing_goes_on formula) in
+    closed_by formula part own goes (line_carried common formula formula lines part numbers have placed (length lines - 1) last last own refutes.derived goes (omega (arith, is_last.some)) (is_last.is last) renumbered) empty

@@ -1,0 +1,4 @@
+pub mod EqualLemmas
+pub mod FormulaLemmas
+pub mod SharedLaws
+pub mod AloneLemmas

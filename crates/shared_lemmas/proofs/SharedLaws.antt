@@ -1,0 +1,50 @@
+-- Lines that hold under the feeds of one query hold under those of another with the same ones.
+use Rattle.std.proofs.Common.{◌≡◌, ℕ, ◌-◌, List, [], length, Option, None, Some, refl, sym, ◌∙◌, subst, arith}
+use Rattle.cnf_core.specs.declared.log.LogLine.{LogLine}
+use Rattle.cnf_core.specs.Clauses.{Formula}
+use Rattle.cnf_core.specs.Derivations.{AreDerived}
+use Rattle.net_core.specs.Sides.{Graphs}
+use Rattle.query_core.specs.declared.query.Query.{Query}
+use Rattle.query_core.specs.Formulas.{formula_of, query_clauses}
+use Rattle.log_parts.specs.Parts.{GoesOn, HaveCommon, MayGoOn}
+use Rattle.log_parts.proofs.PartLemmas.{nothing_goes_on}
+use Rattle.shared_lemmas.specs.Shared.{AreShared, HaveSameFeeds, HoldUnder, IsUnder}
+use Rattle.shared_lemmas.proofs.FormulaLemmas.{feeds_common}
+
+-- no lines hold under any feeds
+pub none_hold : (graphs : Graphs) (query : Query) (lines : List LogLine) → lines ≡ [] → HoldUnder graphs query lines
+none_hold graphs query lines none other same = subst (MayGoOn (formula_of graphs other)) (sym none) (nothing_goes_on (formula_of graphs other))
+
+-- a query has its own feeds
+pub own_feeds : (query : Query) → HaveSameFeeds query query
+own_feeds query = record { left_side = refl; left_feed = refl; right_side = refl; right_feed = refl }
+
+-- what holds under the feeds of the query that is held holds under those of one with the same feeds
+pub turned : (graphs : Graphs) (query : Query) (held : Option Query) (lines : List LogLine) → AreShared graphs held lines → IsUnder query held → HoldUnder graphs query lines
+turned graphs query None lines shared under = absurd under
+turned graphs query (Some own) lines shared under = λ other same. shared other (record {
+  left_side = same.left_side ∙ under.left_side;
+  left_feed = same.left_feed ∙ under.left_feed;
+  right_side = same.right_side ∙ under.right_side;
+  right_feed = same.right_feed ∙ under.right_feed;
+})
+
+-- lines that don't rest on the outputs are added
+pub kept_hold : (graphs : Graphs) (query : Query) (count : ℕ) (lines old new : List LogLine) → count ≡ length (query_clauses graphs query) → AreDerived (formula_of graphs query) lines → HoldUnder graphs query old → GoesOn (record { count = count; same = count - 2 }) lines old new → HoldUnder graphs query new
+kept_hold graphs query count lines old new count_is derived hold goes_on other same =
+    goes_on (formula_of graphs query) (formula_of graphs other) (feeds_common graphs query other count same count_is) derived (hold other same)
+
+-- a formula has all its clauses in common with itself
+pub own_common : (formula : Formula) (count : ℕ) → length formula.clauses ≡ count → HaveCommon (record { count = count; same = count }) formula formula
+own_common formula count is = record {
+  variables = refl;
+  count = is;
+  other_count = is;
+  within = omega arith;
+  same = λ id low. refl;
+}
+
+-- the same of equal circuits and queries
+pub hold_of : (graphs g : Graphs) (query q : Query) (lines : List LogLine) → g ≡ graphs → q ≡ query → HoldUnder graphs query lines → HoldUnder g q lines
+hold_of graphs g query q lines graphs_are query_is hold =
+    subst (λ x. HoldUnder g x lines) (sym query_is) (subst (λ x. HoldUnder x query lines) (sym graphs_are) hold)

@@ -1,0 +1,53 @@
+//! What the solver looks at first.
+
+use crate::stock::Tried;
+use dense_solver::agenda_of;
+use learn_solver::{Agenda, Candidate, Guide};
+use query_core::QueryBase;
+use std::alloc::{AllocError, Global};
+use watch_core::{Stage, Watch};
+
+/// The pairs of a question's gates that seem to be equal and that no question before looked at. Each is two candidates.
+#[derive(Drop)]
+pub(crate) struct NewPairs<'a, W: Watch> {
+    pub(crate) base: &'a QueryBase<'a>,
+    /// The numbers of the clauses that say what the gates are: after the first clause three for each.
+    pub(crate) ids: &'a [u64],
+    pub(crate) tried: Tried,
+    pub(crate) progress: Progress<'a, W>,
+}
+
+/// What a watcher is told of a question.
+#[derive(Drop)]
+pub(crate) struct Progress<'a, W: Watch> {
+    pub(crate) watch: &'a W,
+    pub(crate) budget: u64,
+    /// How many lines were learned before the question.
+    pub(crate) learned: u64,
+    /// How many of the question's lines were learned before it.
+    pub(crate) lemmas: u64,
+}
+
+impl<'a, W: Watch> Progress<'a, W> {
+    // Tells how many lines were learned, where the question has so many.
+    fn tell(&self, lines: u64) {
+        let own = lines.saturating_sub(self.lemmas);
+        self.watch.at(Stage::Learning {
+            learned: self.learned.saturating_add(own),
+            budget: self.budget,
+        });
+    }
+}
+
+impl<'a, W: Watch> Guide for NewPairs<'a, W> {
+    fn agenda(&mut self, alloc: Global) -> Result<Agenda, AllocError> {
+        let Agenda { gates, candidates } = agenda_of(alloc, self.base, self.ids)?;
+        let candidates = self.tried.untried(alloc, &candidates)?;
+        Ok(Agenda { gates, candidates })
+    }
+
+    fn done_with(&mut self, candidate: Candidate, lines: u64) -> Result<(), AllocError> {
+        self.progress.tell(lines);
+        self.tried.add(candidate)
+    }
+}

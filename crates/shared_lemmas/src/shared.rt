@@ -1,0 +1,307 @@
+//! Questions that share what they learn.
+
+ghost use Rattle.std.specs.Prelude.{◌≡◌, false, Some, IsTrue, IfOk, IfErr, OnOk};
+ghost use Rattle.query_core.specs.Formulas.{formula_of};
+ghost use Rattle.query_core.specs.Queries.{IsQuery};
+ghost use Rattle.ask_core.specs.Answers.{IsAnswer, IsBounded, IsBoundedStop};
+ghost use Rattle.log_parts.specs.Parts.{MayGoOn};
+ghost use Rattle.shared_lemmas.specs.Shared.{AreShared, HoldUnder, IsAskedBy, IsStoppedBy, IsUnder};
+
+use crate::feeds::have_same_feeds;
+use crate::guiding::{NewPairs, Progress};
+use crate::keeping::keep;
+use crate::lemmas::{Lemmas, lemmas_for};
+use crate::stock::{Stock, Tried};
+use ask_core::{Answer, ask_guided, ask_watched};
+use cnf_core::{LogLine, Stop};
+use log_parts::trim;
+use net_core::Graphs;
+use query_core::{ConeClauses, Ledger, Query, QueryBase};
+use std::alloc::{AllocError, Global};
+use std::marker::Model;
+use std::mem;
+use watch_core::Watch;
+
+/// A search over the formula's variables costs by the circuits. From this many clauses on, some 10,000 gates in either circuit, that
+/// is more than a question of small cones takes by itself.
+const LARGE: u64 = 60_000;
+
+/// Cones are small that have at most one of so many clauses.
+const PART: u64 = 8;
+
+/// What questions about two circuits have learned, for later ones under the same feeds: as those about the outputs of one
+/// matching. Contracts see it as the circuits.
+#[derive(Drop)]
+pub struct SharedLemmas<'a> {
+    graphs: &'a Graphs<'a>,
+    stock: Stock,
+}
+
+impl<'a> Model for SharedLemmas<'a> {
+    ghost use Rattle.net_core.specs.Sides.{Graphs as AnyGraphs};
+    ghost use Rattle.shared_lemmas.specs.Shared.{AreShared as AreKept};
+
+    ghost Value = { AnyGraphs };
+
+    ghost view = { λ a. a.graphs.now };
+
+    ghost invariant = { λ a. AreKept a.graphs.now a.stock.query a.stock.lines.items };
+}
+
+impl<'a> SharedLemmas<'a> {
+    /// Nothing was learned.
+    pub fn new(alloc: Global, graphs: &'a Graphs<'a>) -> SharedLemmas<'a>
+        ensures { result ≡ graphs.now }
+    {
+        SharedLemmas {
+            graphs,
+            stock: Stock::new(alloc),
+        }
+    }
+
+    /// Answers a query that fits the circuits, by what was learned under its feeds too, which are the first lemmas of its entry in
+    /// the ledger. The log of a refutation has what its last line rests on, and no more.
+    ///
+    /// # Errors
+    ///
+    /// As for `ask_guided`.
+    pub fn ask<W: Watch>(
+        &mut self,
+        alloc: Global,
+        query: &Query,
+        ledger: &mut Ledger,
+        watch: &W,
+    ) -> Result<Answer, Stop>
+        requires fits { IsQuery self.old query.now }
+        requires not_spent { ledger.old.spent ≡ false }
+        ensures same { self.new ≡ self.old }
+        ensures answer { IfOk result (IsAnswer self.old query.now) }
+        ensures asked { IfOk result (λ _. IsAskedBy self.old query.now ledger.old ledger.new) }
+        ensures not_spent { IfOk result (λ _. ledger.new.spent ≡ false) }
+        ensures stop { IfErr result (IsStoppedBy self.old query.now ledger.old ledger.new) }
+        ensures bounded { IfOk result (λ _. IsBounded self.old query.now ledger.new) }
+        ensures bounded_stop { IfErr result (IsBoundedStop self.old query.now ledger.new) }
+    {
+        ask_sharing(alloc, self.graphs, query, &mut self.stock, ledger, watch)
+    }
+}
+
+// Answers a query, by the lines of a stock that hold under its feeds, and adds to these.
+fn ask_sharing<W: Watch>(
+    alloc: Global,
+    graphs: &Graphs<'_>,
+    query: &Query,
+    stock: &mut Stock,
+    ledger: &mut Ledger,
+    watch: &W,
+) -> Result<Answer, Stop>
+    requires fits { IsQuery graphs.now query.now }
+    requires shared { AreShared graphs.now stock.old.query stock.old.lines.items }
+    requires not_spent { ledger.old.spent ≡ false }
+    ensures shared { AreShared graphs.now stock.new.query stock.new.lines.items }
+    ensures answer { IfOk result (IsAnswer graphs.now query.now) }
+    ensures asked { IfOk result (λ _. IsAskedBy graphs.now query.now ledger.old ledger.new) }
+    ensures not_spent { IfOk result (λ _. ledger.new.spent ≡ false) }
+    ensures stop { IfErr result (IsStoppedBy graphs.now query.now ledger.old ledger.new) }
+    ensures bounded { IfOk result (λ _. IsBounded graphs.now query.now ledger.new) }
+    ensures bounded_stop { IfErr result (IsBoundedStop graphs.now query.now ledger.new) }
+{
+    turn_to(alloc, graphs, query, stock)?;
+    let cones = ConeClauses::new(alloc, graphs, query)?;
+    if are_small(&cones) {
+        return ask_alone(alloc, graphs, query, ledger, watch);
+    }
+    ask_cones(alloc, graphs, query, &cones, stock, ledger, watch)
+}
+
+// Whether the clauses of cones are few beside those of large circuits.
+fn are_small(cones: &ConeClauses<'_>) -> bool {
+    let count = cones.count();
+    (count >= LARGE) & (cones.ids().len() as u64 <= count / PART)
+}
+
+// Answers a query by itself.
+fn ask_alone<W: Watch>(
+    alloc: Global,
+    graphs: &Graphs<'_>,
+    query: &Query,
+    ledger: &mut Ledger,
+    watch: &W,
+) -> Result<Answer, Stop>
+    requires fits { IsQuery graphs.now query.now }
+    requires not_spent { ledger.old.spent ≡ false }
+    ensures answer { IfOk result (IsAnswer graphs.now query.now) }
+    ensures asked { IfOk result (λ _. IsAskedBy graphs.now query.now ledger.old ledger.new) }
+    ensures not_spent { IfOk result (λ _. ledger.new.spent ≡ false) }
+    ensures stop { IfErr result (IsStoppedBy graphs.now query.now ledger.old ledger.new) }
+    ensures bounded { IfOk result (λ _. IsBounded graphs.now query.now ledger.new) }
+    ensures bounded_stop { IfErr result (IsBoundedStop graphs.now query.now ledger.new) }
+{
+    ask_watched(alloc, graphs, query, ledger, watch)
+}
+
+// The same, of a stock that holds under the query's feeds.
+fn ask_cones<W: Watch>(
+    alloc: Global,
+    graphs: &Graphs<'_>,
+    query: &Query,
+    cones: &ConeClauses<'_>,
+    stock: &mut Stock,
+    ledger: &mut Ledger,
+    watch: &W,
+) -> Result<Answer, Stop>
+    requires fits { IsQuery graphs.now query.now }
+    requires of_graphs { cones.now.graphs ≡ graphs.now }
+    requires of_query { cones.now.query ≡ query.now }
+    requires own { stock.old.query ≡ Some query.now }
+    requires hold { HoldUnder graphs.now query.now stock.old.lines.items }
+    requires not_spent { ledger.old.spent ≡ false }
+    ensures own { stock.new.query ≡ Some query.now }
+    ensures hold { HoldUnder graphs.now query.now stock.new.lines.items }
+    ensures answer { IfOk result (IsAnswer graphs.now query.now) }
+    ensures asked { IfOk result (λ _. IsAskedBy graphs.now query.now ledger.old ledger.new) }
+    ensures not_spent { IfOk result (λ _. ledger.new.spent ≡ false) }
+    ensures stop { IfErr result (IsStoppedBy graphs.now query.now ledger.old ledger.new) }
+    ensures bounded { IfOk result (λ _. IsBounded graphs.now query.now ledger.new) }
+    ensures bounded_stop { IfErr result (IsBoundedStop graphs.now query.now ledger.new) }
+{
+    let base = QueryBase::new(alloc, graphs, query)?;
+    let lemmas = lemmas_for(alloc, cones, &base, stock)?;
+    ask_by(
+        alloc, graphs, query, cones, &base, &lemmas, stock, ledger, watch,
+    )
+}
+
+// The same, by these lemmas.
+fn ask_by<W: Watch>(
+    alloc: Global,
+    graphs: &Graphs<'_>,
+    query: &Query,
+    cones: &ConeClauses<'_>,
+    base: &QueryBase<'_>,
+    lemmas: &Lemmas,
+    stock: &mut Stock,
+    ledger: &mut Ledger,
+    watch: &W,
+) -> Result<Answer, Stop>
+    requires fits { IsQuery graphs.now query.now }
+    requires of_graphs { cones.now.graphs ≡ graphs.now }
+    requires of_query { cones.now.query ≡ query.now }
+    requires lemmas { MayGoOn (formula_of graphs.now query.now) lemmas.now.lines.items }
+    requires own { stock.old.query ≡ Some query.now }
+    requires hold { HoldUnder graphs.now query.now stock.old.lines.items }
+    requires not_spent { ledger.old.spent ≡ false }
+    ensures own { stock.new.query ≡ Some query.now }
+    ensures hold { HoldUnder graphs.now query.now stock.new.lines.items }
+    ensures answer { IfOk result (IsAnswer graphs.now query.now) }
+    ensures asked { IfOk result (λ _. IsAskedBy graphs.now query.now ledger.old ledger.new) }
+    ensures not_spent { IfOk result (λ _. ledger.new.spent ≡ false) }
+    ensures stop { IfErr result (IsStoppedBy graphs.now query.now ledger.old ledger.new) }
+    ensures bounded { IfOk result (λ _. IsBounded graphs.now query.now ledger.new) }
+    ensures bounded_stop { IfErr result (IsBoundedStop graphs.now query.now ledger.new) }
+{
+    let progress = Progress {
+        watch,
+        budget: ledger.budget(),
+        learned: ledger.learned(),
+        lemmas: lemmas.lines.len() as u64,
+    };
+    let tried = &mut stock.tried;
+    let lines = &lemmas.lines;
+    match ask_new_pairs(
+        alloc, graphs, query, cones, base, lines, tried, progress, ledger,
+    ) {
+        Ok(answer) => Ok(finish(alloc, cones, answer, &lemmas.numbers, stock)?),
+        Err(stop) => Err(stop),
+    }
+}
+
+// Answers a query by lemmas, and looks at the pairs of gates that weren't looked at.
+fn ask_new_pairs<W: Watch>(
+    alloc: Global,
+    graphs: &Graphs<'_>,
+    query: &Query,
+    cones: &ConeClauses<'_>,
+    base: &QueryBase<'_>,
+    lemmas: &[LogLine],
+    tried: &mut Tried,
+    progress: Progress<'_, W>,
+    ledger: &mut Ledger,
+) -> Result<Answer, Stop>
+    requires fits { IsQuery graphs.now query.now }
+    requires of_graphs { cones.now.graphs ≡ graphs.now }
+    requires of_query { cones.now.query ≡ query.now }
+    requires lemmas { MayGoOn (formula_of graphs.now query.now) lemmas.now }
+    requires not_spent { ledger.old.spent ≡ false }
+    ensures answer { IfOk result (IsAnswer graphs.now query.now) }
+    ensures asked { IfOk result (λ _. IsAskedBy graphs.now query.now ledger.old ledger.new) }
+    ensures not_spent { IfOk result (λ _. ledger.new.spent ≡ false) }
+    ensures stop { IfErr result (IsStoppedBy graphs.now query.now ledger.old ledger.new) }
+    ensures bounded { IfOk result (λ _. IsBounded graphs.now query.now ledger.new) }
+    ensures bounded_stop { IfErr result (IsBoundedStop graphs.now query.now ledger.new) }
+{
+    let mut guide = NewPairs {
+        base,
+        ids: cones.ids(),
+        tried: mem::replace(tried, Tried::new(alloc)),
+        progress,
+    };
+    let answer = ask_guided(alloc, graphs, query, cones, lemmas, &mut guide, ledger);
+    *tried = guide.tried;
+    answer
+}
+
+// What is answered: of a refutation what its last line rests on. Lines of it that hold for other outputs too are kept.
+fn finish(
+    alloc: Global,
+    cones: &ConeClauses<'_>,
+    answer: Answer,
+    listed: &[Option<u64>],
+    stock: &mut Stock,
+) -> Result<Answer, AllocError>
+    requires answer { IsAnswer cones.now.graphs cones.now.query answer }
+    requires hold { HoldUnder cones.now.graphs cones.now.query stock.old.lines.items }
+    ensures query { stock.new.query ≡ stock.old.query }
+    ensures hold { HoldUnder cones.now.graphs cones.now.query stock.new.lines.items }
+    ensures answer { IfOk result (IsAnswer cones.now.graphs cones.now.query) }
+{
+    match answer {
+        Answer::Vector(vector) => Ok(Answer::Vector(vector)),
+        Answer::Refuted(log) => {
+            keep(alloc, cones, &log.lines, listed, stock)?;
+            let part = trim(alloc, cones.count(), &log.lines)?;
+            Ok(Answer::Refuted(part))
+        }
+    }
+}
+
+// Lets the lines go where they hold under other feeds than a query's.
+fn turn_to(
+    alloc: Global,
+    graphs: &Graphs<'_>,
+    query: &Query,
+    stock: &mut Stock,
+) -> Result<(), AllocError>
+    requires shared { AreShared graphs.now stock.old.query stock.old.lines.items }
+    ensures shared { AreShared graphs.now stock.new.query stock.new.lines.items }
+    ensures own { OnOk result (stock.new.query ≡ Some query.now) }
+{
+    let own = query.copy()?;
+    if is_under(query, &stock.query) {
+        stock.query = Some(own);
+        return Ok(());
+    }
+    *stock = Stock::new(alloc);
+    stock.query = Some(own);
+    Ok(())
+}
+
+// Whether a query has the feeds of the one that is held.
+fn is_under(query: &Query, held: &Option<Query>) -> bool
+    ensures { IsTrue result → IsUnder query.now held.now }
+{
+    match held {
+        Some(own) => have_same_feeds(own, query),
+        None => false,
+    }
+}

@@ -1,0 +1,119 @@
+//! Lines, and what was looked at.
+
+ghost use Rattle.std.specs.Prelude.{◌≡◌, [], None};
+
+use cnf_core::{LogLine, SatLit};
+use indexmap::IndexMap;
+use learn_solver::Candidate;
+use query_core::Query;
+use std::alloc::{AllocError, Global};
+
+/// Candidates that were looked at.
+#[derive(Drop)]
+pub(crate) struct Tried {
+    pairs: IndexMap<(SatLit, SatLit), bool>,
+}
+
+impl Tried {
+    /// None.
+    pub(crate) fn new(alloc: Global) -> Tried {
+        Tried {
+            pairs: IndexMap::new(alloc),
+        }
+    }
+
+    /// A candidate was looked at.
+    pub(crate) fn add(&mut self, candidate: Candidate) -> Result<(), AllocError> {
+        self.pairs.insert((candidate.one, candidate.other), true)?;
+        Ok(())
+    }
+
+    /// Those that weren't looked at.
+    pub(crate) fn untried(
+        &self,
+        alloc: Global,
+        candidates: &[Candidate],
+    ) -> Result<Vec<Candidate>, AllocError> {
+        let mut left = Vec::new(alloc);
+        for candidate in candidates.iter() {
+            self.push_untried(*candidate, &mut left)?;
+        }
+        Ok(left)
+    }
+
+    fn push_untried(
+        &self,
+        candidate: Candidate,
+        left: &mut Vec<Candidate>,
+    ) -> Result<(), AllocError> {
+        let pair = (candidate.one, candidate.other);
+        if self.pairs.get(&pair).is_none() {
+            left.push(candidate)?;
+        }
+        Ok(())
+    }
+}
+
+/// Lines that hold under the feeds of a query, whatever is asked of the outputs.
+#[derive(Drop)]
+pub(crate) struct Stock {
+    /// A query with these feeds. None: there are no lines.
+    pub(crate) query: Option<Query>,
+    pub(crate) lines: Vec<LogLine>,
+    pub(crate) twins: Twins,
+    pub(crate) tried: Tried,
+}
+
+impl Stock {
+    /// No lines.
+    pub(crate) fn new(alloc: Global) -> Stock
+        ensures query { result.query ≡ None }
+        ensures lines { result.lines.items ≡ [] }
+    {
+        Stock {
+            query: None,
+            lines: Vec::new(alloc),
+            twins: Twins::new(alloc),
+            tried: Tried::new(alloc),
+        }
+    }
+}
+
+/// The places of lines of two literals. They are found by these: the lemmas by which two gates are one come anew with each
+/// question.
+#[derive(Drop)]
+pub(crate) struct Twins {
+    places: IndexMap<(SatLit, SatLit), usize>,
+}
+
+impl Twins {
+    /// No lines.
+    pub(crate) fn new(alloc: Global) -> Twins {
+        Twins {
+            places: IndexMap::new(alloc),
+        }
+    }
+
+    /// The place of a line with this clause, if it has two literals and was added.
+    pub(crate) fn place_of(&self, clause: &[SatLit]) -> Option<usize> {
+        let [one, other] = clause else {
+            return None;
+        };
+        self.places.get(&(*one, *other)).copied()
+    }
+
+    /// Adds the lines from a place on that have two literals.
+    pub(crate) fn add_all(&mut self, lines: &[LogLine], from: usize) -> Result<(), AllocError> {
+        for (place, line) in lines.iter().enumerate().skip(from) {
+            self.add(&line.clause, place)?;
+        }
+        Ok(())
+    }
+
+    fn add(&mut self, clause: &[SatLit], place: usize) -> Result<(), AllocError> {
+        if let [one, other] = clause {
+            self.places.insert((*one, *other), place)?;
+        }
+        Ok(())
+    }
+}
