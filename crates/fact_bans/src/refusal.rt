@@ -25,15 +25,14 @@ use port_sides::PairableGraphs;
 use query_core::Ledger;
 use std::alloc::{AllocError, Global};
 
-/// How often it is tried. A try fails only where a claim is decided otherwise than vectors let expect, which is noted, so that
-/// the next one goes by other counts; vectors that err more often say little of these circuits.
-const MOST_TRIES: u32 = 32;
-
 /// Where one of two circuits with as many ports has more outputs that depend on so many inputs and are binate in so many:
 /// holds a ban without pairs, and answers its number. None where none was shown.
 ///
 /// Outputs of the one circuit that are alike in this would have to go to as many of the other one, so that one of them goes to
 /// an output that isn't. Each of these ways has a tally, and one cover refers to them.
+///
+/// It is tried n times at most. A try fails only where a claim is decided otherwise than vectors let expect, which is noted, so that
+/// the next one goes by other counts.
 ///
 /// # Errors
 ///
@@ -42,6 +41,7 @@ pub fn refuse<O: Oracle>(
     alloc: Global,
     graphs: &PairableGraphs<'_>,
     oracle: &mut O,
+    tries: u32,
     seen: &mut Seen,
     book: &mut BanBook,
     ledger: &mut Ledger,
@@ -50,7 +50,7 @@ pub fn refuse<O: Oracle>(
     ensures holds { HoldsBans graphs.now (O.known oracle.old) (O.known oracle.new) ledger.old ledger.new book.old book.new result }
     ensures empty { IfOk result (λ found. IfSome found (IsEmptyBan book.new)) }
 {
-    for _try in 0..MOST_TRIES {
+    for _try in 0..tries {
         let outputs = graphs.ports(PortKind::Output);
         let Some(classes) = Classes::new(alloc, outputs, seen)? else {
             return Ok(None);

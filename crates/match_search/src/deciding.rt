@@ -9,10 +9,10 @@ ghost use Rattle.match_search.specs.States.{AreValid};
 ghost use Rattle.oracle_core.specs.Oracles.{Serves, Suits};
 ghost use Rattle.table_guess.specs.Trials.{AreTrials};
 
-use crate::branching::explore;
 use crate::found::Found;
 use crate::guessed::compare_guesses;
 use crate::guide::Guide;
+use crate::searching::refuse_or_explore;
 use ban_book::BanBook;
 use cnf_core::Stop;
 use fact_bans::refuse;
@@ -21,6 +21,10 @@ use port_sides::PairableGraphs;
 use query_core::Ledger;
 use std::alloc::Global;
 use table_guess::{Effort, Guesser};
+
+/// How often a refusal by counts is tried before more tables are guessed: once, since vectors that err there say little, and of circuits that
+/// match each further try is lost.
+const FEW_TRIES: u32 = 1;
 
 /// Decides whether two circuits with as many ports match. Tables that are guessed with little effort are compared first: most matches
 /// are found so. Then counts may refuse a match, which takes little where there is none and they show it. Else more is
@@ -80,7 +84,15 @@ fn refuse_or_find<O: Oracle>(
 {
     let _facts = oracle.facts();
     let mut guide = Guide::new(alloc, graphs, seed)?;
-    if let Some(ban) = refuse(alloc, graphs, oracle, &mut guide.seen, book, ledger)? {
+    if let Some(ban) = refuse(
+        alloc,
+        graphs,
+        oracle,
+        FEW_TRIES,
+        &mut guide.seen,
+        book,
+        ledger,
+    )? {
         return Ok(Found::None(ban));
     }
     guess_or_explore(alloc, graphs, oracle, guesser, &mut guide, book, ledger)
@@ -112,5 +124,5 @@ fn guess_or_explore<O: Oracle>(
     )? {
         return Ok(Found::Match(table, logs));
     }
-    explore(alloc, graphs, oracle, guide, book, ledger)
+    refuse_or_explore(alloc, graphs, oracle, guide, book, ledger)
 }

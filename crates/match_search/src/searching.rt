@@ -4,7 +4,10 @@ ghost use Rattle.std.specs.Prelude.{◌≡◌, [], IfOk, map};
 ghost use Rattle.account_core.specs.Given.{decided_by};
 ghost use Rattle.account_core.specs.Steps.{AreValidBans};
 ghost use Rattle.oracle_core.specs.Oracles.{Serves, Suits};
+ghost use Rattle.fact_bans.specs.Serving.{MayHold};
 ghost use Rattle.match_search.specs.Founds.{IsFound};
+ghost use Rattle.match_search.specs.States.{AreValid};
+ghost use Rattle.table_guess.specs.Trials.{AreTrials};
 
 use crate::branching::explore;
 use crate::found::Found;
@@ -16,6 +19,9 @@ use oracle_core::Oracle;
 use port_sides::PairableGraphs;
 use query_core::Ledger;
 use std::alloc::Global;
+
+/// How often a refusal by counts is tried. Vectors that err more often say little of the circuits.
+const MOST_TRIES: u32 = 32;
 
 /// Looks for a match of two circuits with as many ports, as conflict-driven solvers look for models, unless counts of inputs
 /// refuse one at once. Ports are decided one by one, and what follows of bans and of ports with one way left is held and deleted.
@@ -44,8 +50,27 @@ pub fn search<O: Oracle>(
 {
     let _facts = oracle.facts();
     let mut guide = Guide::new(alloc, graphs, seed)?;
-    if let Some(ban) = refuse(alloc, graphs, oracle, &mut guide.seen, book, ledger)? {
+    refuse_or_explore(alloc, graphs, oracle, &mut guide, book, ledger)
+}
+
+/// Searches unless counts of inputs refuse a match. What the search goes by comes from the caller, and bans may be held.
+pub(crate) fn refuse_or_explore<O: Oracle>(
+    alloc: Global,
+    graphs: &PairableGraphs<'_>,
+    oracle: &mut O,
+    guide: &mut Guide,
+    book: &mut BanBook,
+    ledger: &mut Ledger,
+) -> Result<Found, Stop>
+    requires may { MayHold graphs.now (O.known oracle.old) ledger.old book.old }
+    requires trials { AreTrials graphs.now.first guide.old.trials }
+    ensures serves { Serves (O.known oracle.old) (O.known oracle.new) ledger.old ledger.new result }
+    ensures valid { AreValid graphs.now (O.known oracle.new) book.new }
+    ensures found { IfOk result (IsFound graphs.now book.new) }
+{
+    let seen = &mut guide.seen;
+    if let Some(ban) = refuse(alloc, graphs, oracle, MOST_TRIES, seen, book, ledger)? {
         return Ok(Found::None(ban));
     }
-    explore(alloc, graphs, oracle, &mut guide, book, ledger)
+    explore(alloc, graphs, oracle, guide, book, ledger)
 }

@@ -10,9 +10,9 @@ returns-in_err-table-clause-valid g c = valid_grows _ _ _ _ c.in_err-table.ensur
 pub returns-in-Some-clause-valid : goal.returns-in-Some-clause-valid
 returns-in-Some-clause-valid g c = valid_grows _ _ _ _ c.in_ok-table.ensures.serves.grows c.requires.may.valid
 
-pub explore-requires-clause-may : goal.explore-requires-clause-may
-explore-requires-clause-may g c =
+pub refuse_or_explore-requires-clause-may : goal.refuse_or_explore-requires-clause-may
+refuse_or_explore-requires-clause-may g c =
     may_later _ _ _ _ _ _ _ c.requires.may (held_kept _ _ _ _ _ _ _ c.requires.may.valid (served_one _ _ _ _ _ c.in_ok-table.ensures.serves) refl)
 
 pub returns-clause-serves : goal.returns-clause-serves
-returns-clause-serves g c = serves_last _ _ _ _ _ _ _ (served_one _ _ _ _ _ c.in_ok-table.ensures.serves) c.explore.ensures.serves
+returns-clause-serves g c = serves_last _ _ _ _ _ _ _ (served_one _ _ _ _ _ c.in_ok-table.ensures.serves) c.refuse_or_explore.ensures.serves

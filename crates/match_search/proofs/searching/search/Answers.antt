@@ -1,34 +1,8 @@
-use Rattle.std.proofs.Common.{refl}
-use Rattle.std.proofs.lemmas.Result.{err_from_is_err_and}
-use Rattle.fact_bans.proofs.HoldingLemmas.{held_one, held_same, may_later}
 use Rattle.match_search.proofs.SearchLemmas.{may_start}
-use Rattle.match_search.proofs.ServeLemmas.{served_one, serves_err, serves_last, serves_ok}
 use Rattle.match_search.proofs.searching.search.Goals as goal
 
-pub refuse-requires : goal.refuse-requires
-refuse-requires g c = record { may = may_start _ _ _ _ c.requires.graphs c.facts-facts.ensures.lawful c.requires.suits c.requires.book }
-
-pub returns-in_err-ban-clause-serves : goal.returns-in_err-ban-clause-serves
-returns-in_err-ban-clause-serves g c =
-    let p = err_from_is_err_and c.from_residual-in_err-ban.result c.from_residual-in_err-ban.ensures.1 in
-    let may = may_start _ _ _ _ c.requires.graphs c.facts-facts.ensures.lawful c.requires.suits c.requires.book in
-    serves_err _ _ _ _ _ _ _ c.in_err-ban.field-0.0 (cc (p.1, p.2)) (held_same _ _ _ _ may).served c.in_err-ban.ensures.holds.serves
-
-pub returns-in_err-ban-clause-bans : goal.returns-in_err-ban-clause-bans
-returns-in_err-ban-clause-bans g c = c.in_err-ban.ensures.holds.valid.each
-
-pub returns-in-Some-clause-serves : goal.returns-in-Some-clause-serves
-returns-in-Some-clause-serves g c = serves_ok _ _ _ _ _ _ refl (served_one _ _ _ _ _ c.in_ok-ban.ensures.holds.serves)
-
-pub returns-in-Some-clause-bans : goal.returns-in-Some-clause-bans
-returns-in-Some-clause-bans g c = c.in_ok-ban.ensures.holds.valid.each
-
-pub explore-requires-clause-may : goal.explore-requires-clause-may
-explore-requires-clause-may g c =
-    may_later _ _ _ _ _ _ _ (may_start _ _ _ _ c.requires.graphs c.facts-facts.ensures.lawful c.requires.suits c.requires.book) (held_one _ _ _ _ _ _ _ _ c.in_ok-ban.ensures.holds)
-
-pub returns-clause-serves : goal.returns-clause-serves
-returns-clause-serves g c = serves_last _ _ _ _ _ _ _ (served_one _ _ _ _ _ c.in_ok-ban.ensures.holds.serves) c.explore.ensures.serves
+pub refuse_or_explore-requires-clause-may : goal.refuse_or_explore-requires-clause-may
+refuse_or_explore-requires-clause-may g c = may_start _ _ _ _ c.requires.graphs c.facts-facts.ensures.lawful c.requires.suits c.requires.book
 
 pub returns-clause-bans : goal.returns-clause-bans
-returns-clause-bans g c = c.explore.ensures.valid.each
+returns-clause-bans g c = c.refuse_or_explore.ensures.valid.each
