@@ -268,3 +268,24 @@ covered_some clauses bits clause (Some id) is some covering = covered clauses bi
 pub not_covered : (clauses : List (List SatLit)) (clause : List SatLit) (found : Option ℕ) → is_some found ≡ false → IfNone found (IsNew clauses clause) → IsNew clauses clause
 not_covered clauses clause None none new = new
 not_covered clauses clause (Some id) none new = absurd (false≢true (sym none))
+
+-- a line that excludes these bits, which no clause covers, may be added; what was asked of is what was lent
+pub may_be_added : (splitting : Splitting) (lines looked read : List LogLine) (bits : List Bool) (line : LogLine) (clause : List SatLit) (found : Option ℕ)
+    → IsSplitting splitting
+    → length bits ≤ splitting.inputs
+    → line.clause ≡ excluding bits
+    → looked ≡ lines
+    → read ≡ lines
+    → clause ≡ line.clause
+    → is_some found ≡ false
+    → IfNone found (IsNew (clauses_in splitting.base looked) clause)
+    → hint_fault (clauses_in splitting.base read) (map opposite (excluding bits)) line.hints ≡ None
+    → IsAdded (solving_of splitting.base lines).formula (solving_of splitting.base lines).ids lines line
+may_be_added splitting lines looked read bits line clause found is within clause_is looked_is read_is own none covered derived =
+    let base = splitting.base in
+    let uncovered = subst (λ (ls : List LogLine). IfNone found (IsNew (clauses_in base ls) clause)) looked_is covered in
+    let fresh = subst (IsNew (clauses_in base lines)) own (not_covered (clauses_in base lines) clause found none uncovered) in
+    let hints =
+        ap (λ (cl : List SatLit). hint_fault (clauses_in base lines) (map opposite cl) line.hints) clause_is
+        ∙ (ap (λ (ls : List LogLine). hint_fault (clauses_in base ls) (map opposite (excluding bits)) line.hints) (sym read_is) ∙ derived) in
+    line_added splitting lines bits line is within clause_is fresh hints

@@ -1,13 +1,10 @@
-use Rattle.std.proofs.Common.{List, OnOk, IfErr, IfSome, IfNone, map, sym, ap, subst, ◌∙◌}
-use Rattle.cnf_core.specs.declared.literal.SatLit.{SatLit}
+use Rattle.std.proofs.Common.{List, OnOk, IfErr, IfSome, sym, subst, ◌∙◌}
 use Rattle.cnf_core.specs.declared.log.LogLine.{LogLine}
-use Rattle.cnf_core.specs.Clauses.{opposite}
-use Rattle.cnf_core.specs.Derivations.{hint_fault}
 use Rattle.cnf_core.specs.Charges.{IsCharged, IsRefused}
 use Rattle.query_core.specs.Ledgers.{charging_of}
 use Rattle.learn_solver.specs.Searches.{last_line}
-use Rattle.table_oracle.specs.Splits.{IsCovering, IsExcluded, IsNew, clauses_in, excluding}
-use Rattle.table_oracle.proofs.SplitLemmas.{covered_some, excluded_by, line_added, line_asked, line_charged, line_stopped, not_covered, on_ok}
+use Rattle.table_oracle.specs.Splits.{IsCovering, IsExcluded, clauses_in}
+use Rattle.table_oracle.proofs.SplitLemmas.{covered_some, excluded_by, line_asked, line_charged, line_stopped, may_be_added, on_ok}
 use Rattle.table_oracle.proofs.splitting.Splitting.exclude.Goals as goal
 
 pub returns-then-is_some-clause-excluded : goal.returns-then-is_some-clause-excluded
@@ -21,12 +18,9 @@ returns-clause-extended c =
     let base = c.args.self.now.base in
     let lines = c.args.lines.now.items in
     let new = c.push.new.self.items in
-    let clause = c.in_ok-clause.clause in
-    let line : LogLine = record { clause = clause; hints = c.in_ok-hints.hints } in
-    let none = subst (λ (ls : List LogLine). IfNone c.covering.result (IsNew (clauses_in base ls) c.deref-2.result.now)) c.deref.ensures.value c.covering.ensures.none in
-    let fresh = subst (IsNew (clauses_in base lines)) c.deref-2.ensures.value (not_covered (clauses_in base lines) c.deref-2.result.now c.covering.result (sym c.is_some.ensures ∙ c.if-is_some.false) none) in
-    let hints = ap (λ (cl : List SatLit). hint_fault (clauses_in base lines) (map opposite cl) c.in_ok-hints.hints) c.in_ok-clause.ensures ∙ (ap (λ (ls : List LogLine). hint_fault (clauses_in base ls) (map opposite (excluding c.args.bits.now)) c.in_ok-hints.hints) (sym c.deref-3.ensures.value) ∙ c.in_ok-hints.ensures) in
-    let added = line_added c.args.self.now lines c.args.bits.now line c.requires.splitting c.requires.beginning.within c.in_ok-clause.ensures fresh hints in
+    let line : LogLine = record { clause = c.in_ok-clause.clause; hints = c.in_ok-hints.hints } in
+    let none = sym c.is_some.ensures ∙ c.if-is_some.false in
+    let added = may_be_added c.args.self.now lines c.deref.result.now c.deref-3.result.now c.args.bits.now line c.deref-2.result.now c.covering.result c.requires.splitting c.requires.beginning.within c.in_ok-clause.ensures c.deref.ensures.value c.deref-3.ensures.value c.deref-2.ensures.value none c.covering.ensures.none c.in_ok-hints.ensures in
     let charged = subst (λ (ls : List LogLine). OnOk c.charge_last.result (IsCharged (charging_of c.args.ledger.now) (last_line ls) (charging_of c.charge_last.new.ledger))) c.deref-4.ensures.value c.charge_last.ensures.charged in
     line_charged base lines new line (charging_of c.args.ledger.now) (charging_of c.charge_last.new.ledger) c.charge_last.result c.requires.asking c.in_ok-push.ensures.items added charged
 
@@ -42,12 +36,9 @@ returns-clause-stop c =
     let base = c.args.self.now.base in
     let lines = c.args.lines.now.items in
     let new = c.push.new.self.items in
-    let clause = c.in_ok-clause.clause in
-    let line : LogLine = record { clause = clause; hints = c.in_ok-hints.hints } in
-    let none = subst (λ (ls : List LogLine). IfNone c.covering.result (IsNew (clauses_in base ls) c.deref-2.result.now)) c.deref.ensures.value c.covering.ensures.none in
-    let fresh = subst (IsNew (clauses_in base lines)) c.deref-2.ensures.value (not_covered (clauses_in base lines) c.deref-2.result.now c.covering.result (sym c.is_some.ensures ∙ c.if-is_some.false) none) in
-    let hints = ap (λ (cl : List SatLit). hint_fault (clauses_in base lines) (map opposite cl) c.in_ok-hints.hints) c.in_ok-clause.ensures ∙ (ap (λ (ls : List LogLine). hint_fault (clauses_in base ls) (map opposite (excluding c.args.bits.now)) c.in_ok-hints.hints) (sym c.deref-3.ensures.value) ∙ c.in_ok-hints.ensures) in
-    let added = line_added c.args.self.now lines c.args.bits.now line c.requires.splitting c.requires.beginning.within c.in_ok-clause.ensures fresh hints in
+    let line : LogLine = record { clause = c.in_ok-clause.clause; hints = c.in_ok-hints.hints } in
+    let none = sym c.is_some.ensures ∙ c.if-is_some.false in
+    let added = may_be_added c.args.self.now lines c.deref.result.now c.deref-3.result.now c.args.bits.now line c.deref-2.result.now c.covering.result c.requires.splitting c.requires.beginning.within c.in_ok-clause.ensures c.deref.ensures.value c.deref-3.ensures.value c.deref-2.ensures.value none c.covering.ensures.none c.in_ok-hints.ensures in
     let refused = subst (λ (ls : List LogLine). IfErr c.charge_last.result (IsRefused (charging_of c.args.ledger.now) (last_line ls) (charging_of c.charge_last.new.ledger))) c.deref-4.ensures.value c.charge_last.ensures.refused in
     line_stopped base lines new line (charging_of c.args.ledger.now) (charging_of c.charge_last.new.ledger) c.charge_last.result c.requires.asking c.in_ok-push.ensures.items added refused
 
