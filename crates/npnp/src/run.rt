@@ -1,6 +1,6 @@
 //! One run of the program: words in, files read, one report out.
 
-ghost use Rattle.std.specs.Prelude.{◌≡◌, ◌≢◌, ℕ, ◌++◌, ◌↔◌, ◌⊎◌, List, IsTrue, IfOk, Some, Err, map, string_bytes};
+ghost use Rattle.std.specs.Prelude.{◌≡◌, ◌≢◌, ℕ, ◌++◌, ◌↔◌, ◌⊎◌, List, IsTrue, Some, Err, map, string_bytes};
 ghost use Rattle.net_core.specs.declared.matching.Matching.{Matching as Table};
 ghost use Rattle.net_file.specs.declared.fault.NetKind.{NetKind};
 ghost use Rattle.shelf_core.specs.Fault.{Rose};
@@ -16,7 +16,7 @@ ghost use Rattle.run_steps.specs.Match.{HasNoMatch, IsAskedToMatch, IsMatchFound
 ghost use Rattle.run_steps.specs.Outcomes.{EndsEarly, FollowsWords, IsAbsent, IsAskedOf, IsDecided, IsOfMatch, IsOfTrial, IsRight, IsSettled, IsSound, IsSpentOn, IsTold, Leaves, LeavesFiles, MayBeCut};
 ghost use Rattle.run_steps.specs.Report.{IsReport, line_of};
 ghost use Rattle.run_steps.specs.Steps.{Decides, TellsLine, PutsText, WritesPart};
-ghost use Rattle.command_words.specs.Commands.{IsTrialCommand, asked_check};
+ghost use Rattle.command_words.specs.Commands.{IsTrialCommand};
 ghost use Rattle.run_steps.specs.Trial.{IsSpentOnPair, IsTried};
 
 use crate::info::inform;
