@@ -1,6 +1,8 @@
 -- The book knows nothing and the ledger is new: rows are right, or the budget was spent.
-use Rattle.std.proofs.Common.{subst, IfErr}
+use Rattle.std.proofs.Common.{subst, IfErr, IfOk}
 use Rattle.std.proofs.lemmas.Result.{err_from_is_err_and}
+use Rattle.net_core.specs.Sides.{Graphs}
+use Rattle.fact_tests.specs.Rows.{AreRows}
 use Rattle.oracle_core.specs.Oracles.{IsStopped}
 use Rattle.run_steps.specs.Info.{with_itself}
 use Rattle.npnp.proofs.InfoLemmas.{memory_stops, spent_is, suits_first}
@@ -14,6 +16,10 @@ returns-in_err-book-clause-spent g c =
 pub info-requires-clause-suits : goal.info-requires-clause-suits
 info-requires-clause-suits g c =
     suits_first c.new-graphs.result c.in_ok-book.book c.args.ledger.now c.args.ledger.now.budget c.in_ok-book.ensures.empty c.requires
+
+pub returns-clause-rows : goal.returns-clause-rows
+returns-clause-rows g c =
+    subst (λ (graphs : Graphs). IfOk c.info.result (λ rows. AreRows graphs.first rows.items)) c.new-graphs.ensures c.info.ensures.rows
 
 pub returns-clause-spent : goal.returns-clause-spent
 returns-clause-spent g c = λ learned is.
