@@ -32,6 +32,9 @@ struct Beside {
 /// Lists the ways of the other kind that vectors tell from a held pair and that aren't deleted: a vector breaks a claim of one input
 /// of the one circuit, and none does that which the pair and the way carry it to. Ports of which a pair is held are passed over:
 /// their other ways are deleted, and held pairs are compared for themselves.
+///
+/// The last ports come first. A port's first way is held when it is decided, so what follows of the last ones is followed before it. In the
+/// other order a near miss of 16 copies of a circuit of five inputs took more than 20 s instead of one.
 pub(crate) fn list_unlike(
     alloc: Global,
     domains: &Domains,
@@ -42,7 +45,7 @@ pub(crate) fn list_unlike(
     ways.truncate(0);
     let first = free_ports(alloc, domains, seen, pair, Side::First)?;
     let second = free_ports(alloc, domains, seen, pair, Side::Second)?;
-    for one in first.iter() {
+    for one in first.iter().rev() {
         list_port(domains, pair, *one, &second, ways)?;
     }
     Ok(())
@@ -91,12 +94,12 @@ fn list_port(
     second: &[Beside],
     ways: &mut Vec<Pair>,
 ) -> Result<(), AllocError> {
-    for other in second.iter() {
-        if one.broken != other.broken {
-            list_way(domains, pair, one.port, other.port, false, ways)?;
-        }
+    for other in second.iter().rev() {
         if one.broken != exchanged(other.broken) {
             list_way(domains, pair, one.port, other.port, true, ways)?;
+        }
+        if one.broken != other.broken {
+            list_way(domains, pair, one.port, other.port, false, ways)?;
         }
     }
     Ok(())
