@@ -152,6 +152,9 @@ impl Seen {
 
     /// Notes what was decided of a claim, by the number of its fact: vectors break it where it fails.
     pub(crate) fn note(&mut self, claim: Claim, number: u64, holds: bool) {
+        if self.number(claim) == Some(number) {
+            return;
+        }
         if let Some(place) = self.place(claim) {
             if (place < self.numbers.len()) & (number < NOT_NOTED as u64) {
                 self.numbers[place] = number as u32;

@@ -293,7 +293,7 @@ fn delete_beside<O: Oracle>(
 {
     let _facts = oracle.facts();
     let _lawful = domains.entries();
-    list_unlike(domains, &guide.seen, pair, &mut guide.ways)?;
+    list_unlike(alloc, domains, &guide.seen, pair, &mut guide.ways)?;
     delete_unlike(
         alloc,
         graphs,

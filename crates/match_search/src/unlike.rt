@@ -1,11 +1,11 @@
 //! Ways that claims of one input tell from a held pair.
 
-ghost use Rattle.std.specs.Prelude.{◌≡◌, ◌<◌, Contains, IfOk, IfSome, OnOk, map};
+ghost use Rattle.std.specs.Prelude.{◌≡◌, Contains, IfOk, IfSome, OnOk, map};
 ghost use Rattle.account_core.specs.Given.{decided_by};
 ghost use Rattle.account_core.specs.Ports.{IsKnown};
 ghost use Rattle.class_refine.specs.declared.entry.Fate.TheVariants.{Deleted};
 ghost use Rattle.class_refine.specs.declared.entry.Reason.TheVariants.{Mismatch};
-ghost use Rattle.class_refine.specs.Trails.{held_in, ports_of};
+ghost use Rattle.class_refine.specs.Trails.{held_in};
 ghost use Rattle.conflict_core.specs.Grounded.{IsGrounded};
 ghost use Rattle.oracle_core.specs.Oracles.{Serves, Suits};
 ghost use Rattle.match_search.specs.States.{Deletes, IsShownTrail};
@@ -18,25 +18,56 @@ use fact_bans::{Seen, Unlike, tell_apart};
 use net_core::Side;
 use oracle_core::Oracle;
 use pair_search::is_open;
-use port_sides::PairableGraphs;
+use port_sides::{PairableGraphs, port_on};
 use query_core::Ledger;
 use std::alloc::{AllocError, Global};
+
+/// A port of the other kind, and what vectors break of the claims of it and a held pair's port (`Seen::broken`).
+#[derive(Clone, Copy, Debug)]
+struct Beside {
+    port: u32,
+    broken: u8,
+}
 
 /// Lists the ways of the other kind that vectors tell from a held pair and that aren't deleted: a vector breaks a claim of one input
 /// of the one circuit, and none does that which the pair and the way carry it to. Ports of which a pair is held are passed over:
 /// their other ways are deleted, and held pairs are compared for themselves.
+///
+/// The last ports come first. A port's first way is held when it is decided, so what follows of the last ones is followed before it. In the
+/// other order a near miss of 16 copies of a circuit of five inputs took more than 20 s instead of one.
 pub(crate) fn list_unlike(
+    alloc: Global,
     domains: &Domains,
     seen: &Seen,
     pair: Pair,
     ways: &mut Vec<Pair>,
 ) -> Result<(), AllocError> {
     ways.truncate(0);
-    let kind = other_kind(pair.kind);
-    for port in 0..domains.ports(kind) {
-        list_port(domains, seen, pair, kind, port, ways)?;
+    let first = free_ports(alloc, domains, seen, pair, Side::First)?;
+    let second = free_ports(alloc, domains, seen, pair, Side::Second)?;
+    for one in first.iter().rev() {
+        list_port(domains, pair, *one, &second, ways)?;
     }
     Ok(())
+}
+
+// The ports of a circuit, of the other kind than a pair, of which no pair is held.
+fn free_ports(
+    alloc: Global,
+    domains: &Domains,
+    seen: &Seen,
+    pair: Pair,
+    side: Side,
+) -> Result<Vec<Beside>, AllocError> {
+    let kind = other_kind(pair.kind);
+    let mut ports = Vec::new(alloc);
+    for port in 0..domains.ports(kind) {
+        if domains.held(side, kind, port).is_none() {
+            let broken = broken_beside(seen, pair, side, port);
+            ports.push(Beside { port, broken })?;
+        }
+    }
+    Ok(ports)
 }
 
 fn other_kind(kind: PortKind) -> PortKind {
@@ -46,53 +77,32 @@ fn other_kind(kind: PortKind) -> PortKind {
     }
 }
 
-// Lists those of a port of the first circuit.
+// What vectors break of the claims of a pair's port of a circuit and a port of the other kind.
+fn broken_beside(seen: &Seen, pair: Pair, side: Side, port: u32) -> u8 {
+    let own = port_on(side, pair);
+    match pair.kind {
+        PortKind::Output => seen.broken(side, own, port),
+        PortKind::Input => seen.broken(side, port, own),
+    }
+}
+
+// Lists those of a port of the first circuit and each of some of the second.
 fn list_port(
     domains: &Domains,
-    seen: &Seen,
     pair: Pair,
-    kind: PortKind,
-    from: u32,
+    one: Beside,
+    second: &[Beside],
     ways: &mut Vec<Pair>,
-) -> Result<(), AllocError>
-    requires there { from < ports_of domains.now.inputs domains.now.outputs kind }
-{
-    if domains.held(Side::First, kind, from).is_some() {
-        return Ok(());
-    }
-    let (output, input) = either(pair.kind, pair.from, from);
-    let broken = seen.broken(Side::First, output, input);
-    for to in 0..domains.ports(kind) {
-        let (output, input) = either(pair.kind, pair.to, to);
-        let image = seen.broken(Side::Second, output, input);
-        if broken != image {
-            let way = Pair {
-                kind,
-                from,
-                to,
-                flip: pair.flip,
-            };
-            list_way(domains, way, ways)?;
+) -> Result<(), AllocError> {
+    for other in second.iter().rev() {
+        if one.broken != exchanged(other.broken) {
+            list_way(domains, pair, one.port, other.port, true, ways)?;
         }
-        if broken != exchanged(image) {
-            let way = Pair {
-                kind,
-                from,
-                to,
-                flip: !pair.flip,
-            };
-            list_way(domains, way, ways)?;
+        if one.broken != other.broken {
+            list_way(domains, pair, one.port, other.port, false, ways)?;
         }
     }
     Ok(())
-}
-
-// Of a port of this kind and one of the other kind, the output and the input.
-fn either(kind: PortKind, port: u32, other: u32) -> (u32, u32) {
-    match kind {
-        PortKind::Output => (port, other),
-        PortKind::Input => (other, port),
-    }
 }
 
 // What is broken where up and down are exchanged, as a sign does.
@@ -104,7 +114,21 @@ fn exchanged(broken: u8) -> u8 {
     }
 }
 
-fn list_way(domains: &Domains, way: Pair, ways: &mut Vec<Pair>) -> Result<(), AllocError> {
+// Lists the way of two ports whose sign, with that of a held pair, is such, if it is open.
+fn list_way(
+    domains: &Domains,
+    pair: Pair,
+    from: u32,
+    to: u32,
+    sign: bool,
+    ways: &mut Vec<Pair>,
+) -> Result<(), AllocError> {
+    let way = Pair {
+        kind: other_kind(pair.kind),
+        from,
+        to,
+        flip: pair.flip != sign,
+    };
     if is_open(domains, way) {
         ways.push(way)?;
     }

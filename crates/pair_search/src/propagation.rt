@@ -261,7 +261,7 @@ fn follow_port(
         kind: pair.kind,
         number: port_on(side, pair),
     };
-    if has_two(domains, port) {
+    if is_settled(domains, port) {
         return Ok(None);
     }
     if apply_port(domains, bans, port)? {
@@ -270,10 +270,14 @@ fn follow_port(
     Ok(None)
 }
 
-// Whether a port has two ways left at least, by the count of those that are deleted.
-fn has_two(domains: &Domains, port: Port) -> bool
+// Whether nothing follows at a port: a pair of it is held, so that its other ways are deleted one after the other; or two ways at
+// least are left, by the count of those that are deleted.
+fn is_settled(domains: &Domains, port: Port) -> bool
     requires { port.number < ports_of domains.now.inputs domains.now.outputs port.kind }
 {
+    if domains.held(port.side, port.kind, port.number).is_some() {
+        return true;
+    }
     let gone = domains.gone(port.side, port.kind, port.number);
     let count = domains.ports(port.kind) as usize;
     gone.saturating_add(1) < count.saturating_mul(2)
