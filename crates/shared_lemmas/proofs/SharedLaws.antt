@@ -1,5 +1,6 @@
 -- Lines that hold under the feeds of one query hold under those of another with the same ones.
-use Rattle.std.proofs.Common.{◌≡◌, ℕ, ◌-◌, List, [], length, Option, None, Some, refl, sym, ◌∙◌, subst, arith}
+use Rattle.std.proofs.Common.{◌≡◌, ℕ, ◌-◌, List, [], ◌∷◌, length, refl, sym, ◌∙◌, subst, arith}
+use Rattle.std.proofs.lemmas.List.Elements.{All-push}
 use Rattle.cnf_core.specs.declared.log.LogLine.{LogLine}
 use Rattle.cnf_core.specs.Clauses.{Formula}
 use Rattle.cnf_core.specs.Derivations.{AreDerived}
@@ -20,14 +21,20 @@ pub own_feeds : (query : Query) → HaveSameFeeds query query
 own_feeds query = record { left_side = refl; left_feed = refl; right_side = refl; right_feed = refl }
 
 -- what holds under the feeds of the query that is held holds under those of one with the same feeds
-pub turned : (graphs : Graphs) (query : Query) (held : Option Query) (lines : List LogLine) → AreShared graphs held lines → IsUnder query held → HoldUnder graphs query lines
-turned graphs query None lines shared under = absurd under
-turned graphs query (Some own) lines shared under = λ other same. shared other (record {
-  left_side = same.left_side ∙ under.left_side;
-  left_feed = same.left_feed ∙ under.left_feed;
-  right_side = same.right_side ∙ under.right_side;
-  right_feed = same.right_feed ∙ under.right_feed;
-})
+pub turned : (graphs : Graphs) (query : Query) (held : List Query) (lines : List LogLine) → AreShared graphs held lines → IsUnder query held → HoldUnder graphs query lines
+turned graphs query held lines shared under other same =
+    let own = subst (λ q. HoldUnder graphs q lines) under.is (shared 0 under.own under.some) in
+    own other (record {
+      left_side = same.left_side ∙ under.same.left_side;
+      left_feed = same.left_feed ∙ under.same.left_feed;
+      right_side = same.right_side ∙ under.same.right_side;
+      right_feed = same.right_feed ∙ under.same.right_feed;
+    })
+
+-- lines that hold under the feeds of one query
+pub of_one : (graphs : Graphs) (query : Query) (held : List Query) (lines : List LogLine) → held ≡ query ∷ [] → HoldUnder graphs query lines → AreShared graphs held lines
+of_one graphs query held lines is hold =
+    subst (λ qs. AreShared graphs qs lines) (sym is) (All-push (λ q. HoldUnder graphs q lines) [] query (λ k d within. absurd (omega (arith, within))) hold)
 
 -- lines that don't rest on the outputs are added
 pub kept_hold : (graphs : Graphs) (query : Query) (count : ℕ) (lines old new : List LogLine) → count ≡ length (query_clauses graphs query) → AreDerived (formula_of graphs query) lines → HoldUnder graphs query old → GoesOn (record { count = count; same = count - 2 }) lines old new → HoldUnder graphs query new

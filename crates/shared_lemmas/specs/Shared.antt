@@ -1,5 +1,5 @@
 -- Lines that hold of two circuits under the feeds of a query.
-use Rattle.std.specs.Prelude.{◌≡◌, List, [], Option, None, Some}
+use Rattle.std.specs.Prelude.{◌≡◌, ◌<◌, List, length, All, slice_index_or}
 use Rattle.cnf_core.specs.declared.log.LogLine.{LogLine}
 use Rattle.cnf_core.specs.declared.stop.Stop.{Stop}
 use Rattle.net_core.specs.Sides.{Graphs}
@@ -20,15 +20,16 @@ pub record HaveSameFeeds (one other : Query) : Type 0 where
 abbrev pub HoldUnder : Graphs → Query → List LogLine → Type 0
 HoldUnder graphs query lines = (other : Query) → HaveSameFeeds query other → MayGoOn (formula_of graphs other) lines
 
--- what is kept of lines: they hold under the feeds of this query, or there are none
-abbrev pub AreShared : Graphs → Option Query → List LogLine → Type 0
-AreShared graphs None lines = lines ≡ []
-AreShared graphs (Some query) lines = HoldUnder graphs query lines
+-- lines hold under the feeds of each of these queries
+abbrev pub AreShared : Graphs → List Query → List LogLine → Type 0
+AreShared graphs held lines = All (λ query. HoldUnder graphs query lines) held
 
--- a query has the feeds of this one
-abbrev pub IsUnder : Query → Option Query → Type 0
-IsUnder query None = ⊥
-IsUnder query (Some own) = HaveSameFeeds own query
+-- A query has the feeds of the first of these.
+pub record IsUnder (query : Query) (held : List Query) : Type 0 where
+  pub own : Query
+  pub some : 0 < length held
+  pub is : slice_index_or held 0 own ≡ own
+  pub same : HaveSameFeeds own query
 
 -- A query was asked, by some lemmas.
 pub record IsAskedBy (graphs : Graphs) (query : Query) (old new : Ledgered) : Type 0 where

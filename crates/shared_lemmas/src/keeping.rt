@@ -24,7 +24,7 @@ pub(crate) fn keep(
 ) -> Result<(), AllocError>
     requires derived { AreDerived (formula_of cones.now.graphs cones.now.query) lines.now }
     requires hold { HoldUnder cones.now.graphs cones.now.query stock.old.lines.items }
-    ensures query { stock.new.query ≡ stock.old.query }
+    ensures held { stock.new.held ≡ stock.old.held }
     ensures hold { HoldUnder cones.now.graphs cones.now.query stock.new.lines.items }
 {
     let mut kept = mem::replace(&mut stock.lines, Vec::new(alloc));

@@ -1,6 +1,6 @@
 //! Questions that share what they learn.
 
-ghost use Rattle.std.specs.Prelude.{◌≡◌, false, Some, IsTrue, IfOk, IfErr, OnOk};
+ghost use Rattle.std.specs.Prelude.{◌≡◌, ◌∷◌, [], false, IsTrue, IfOk, IfErr, OnOk};
 ghost use Rattle.query_core.specs.Formulas.{formula_of};
 ghost use Rattle.query_core.specs.Queries.{IsQuery};
 ghost use Rattle.ask_core.specs.Answers.{IsAnswer, IsBounded, IsBoundedStop};
@@ -45,7 +45,7 @@ impl<'a> Model for SharedLemmas<'a> {
 
     ghost view = { λ a. a.graphs.now };
 
-    ghost invariant = { λ a. AreKept a.graphs.now a.stock.query a.stock.lines.items };
+    ghost invariant = { λ a. AreKept a.graphs.now a.stock.held.items a.stock.lines.items };
 }
 
 impl<'a> SharedLemmas<'a> {
@@ -96,9 +96,9 @@ fn ask_sharing<W: Watch>(
     watch: &W,
 ) -> Result<Answer, Stop>
     requires fits { IsQuery graphs.now query.now }
-    requires shared { AreShared graphs.now stock.old.query stock.old.lines.items }
+    requires shared { AreShared graphs.now stock.old.held.items stock.old.lines.items }
     requires not_spent { ledger.old.spent ≡ false }
-    ensures shared { AreShared graphs.now stock.new.query stock.new.lines.items }
+    ensures shared { AreShared graphs.now stock.new.held.items stock.new.lines.items }
     ensures answer { IfOk result (IsAnswer graphs.now query.now) }
     ensures asked { IfOk result (λ _. IsAskedBy graphs.now query.now ledger.old ledger.new) }
     ensures not_spent { IfOk result (λ _. ledger.new.spent ≡ false) }
@@ -153,10 +153,10 @@ fn ask_cones<W: Watch>(
     requires fits { IsQuery graphs.now query.now }
     requires of_graphs { cones.now.graphs ≡ graphs.now }
     requires of_query { cones.now.query ≡ query.now }
-    requires own { stock.old.query ≡ Some query.now }
+    requires own { stock.old.held.items ≡ query.now ∷ [] }
     requires hold { HoldUnder graphs.now query.now stock.old.lines.items }
     requires not_spent { ledger.old.spent ≡ false }
-    ensures own { stock.new.query ≡ Some query.now }
+    ensures own { stock.new.held.items ≡ query.now ∷ [] }
     ensures hold { HoldUnder graphs.now query.now stock.new.lines.items }
     ensures answer { IfOk result (IsAnswer graphs.now query.now) }
     ensures asked { IfOk result (λ _. IsAskedBy graphs.now query.now ledger.old ledger.new) }
@@ -188,10 +188,10 @@ fn ask_by<W: Watch>(
     requires of_graphs { cones.now.graphs ≡ graphs.now }
     requires of_query { cones.now.query ≡ query.now }
     requires lemmas { MayGoOn (formula_of graphs.now query.now) lemmas.now.lines.items }
-    requires own { stock.old.query ≡ Some query.now }
+    requires own { stock.old.held.items ≡ query.now ∷ [] }
     requires hold { HoldUnder graphs.now query.now stock.old.lines.items }
     requires not_spent { ledger.old.spent ≡ false }
-    ensures own { stock.new.query ≡ Some query.now }
+    ensures own { stock.new.held.items ≡ query.now ∷ [] }
     ensures hold { HoldUnder graphs.now query.now stock.new.lines.items }
     ensures answer { IfOk result (IsAnswer graphs.now query.now) }
     ensures asked { IfOk result (λ _. IsAskedBy graphs.now query.now ledger.old ledger.new) }
@@ -261,7 +261,7 @@ fn finish(
 ) -> Result<Answer, AllocError>
     requires answer { IsAnswer cones.now.graphs cones.now.query answer }
     requires hold { HoldUnder cones.now.graphs cones.now.query stock.old.lines.items }
-    ensures query { stock.new.query ≡ stock.old.query }
+    ensures held { stock.new.held ≡ stock.old.held }
     ensures hold { HoldUnder cones.now.graphs cones.now.query stock.new.lines.items }
     ensures answer { IfOk result (IsAnswer cones.now.graphs cones.now.query) }
 {
@@ -282,26 +282,36 @@ fn turn_to(
     query: &Query,
     stock: &mut Stock,
 ) -> Result<(), AllocError>
-    requires shared { AreShared graphs.now stock.old.query stock.old.lines.items }
-    ensures shared { AreShared graphs.now stock.new.query stock.new.lines.items }
-    ensures own { OnOk result (stock.new.query ≡ Some query.now) }
+    requires shared { AreShared graphs.now stock.old.held.items stock.old.lines.items }
+    ensures shared { AreShared graphs.now stock.new.held.items stock.new.lines.items }
+    ensures own { OnOk result (stock.new.held.items ≡ query.now ∷ []) }
+    ensures hold { OnOk result (HoldUnder graphs.now query.now stock.new.lines.items) }
 {
-    let own = query.copy()?;
-    if is_under(query, &stock.query) {
-        stock.query = Some(own);
+    let held = only(alloc, query)?;
+    if is_under(query, &stock.held) {
+        stock.held = held;
         return Ok(());
     }
     *stock = Stock::new(alloc);
-    stock.query = Some(own);
+    stock.held = held;
     Ok(())
 }
 
-// Whether a query has the feeds of the one that is held.
-fn is_under(query: &Query, held: &Option<Query>) -> bool
+// A query alone.
+fn only(alloc: Global, query: &Query) -> Result<Vec<Query>, AllocError>
+    ensures { IfOk result (λ held. held.items ≡ query.now ∷ []) }
+{
+    let mut held = Vec::new(alloc);
+    held.push(query.copy()?)?;
+    Ok(held)
+}
+
+// Whether a query has the feeds of the first that is held.
+fn is_under(query: &Query, held: &[Query]) -> bool
     ensures { IsTrue result → IsUnder query.now held.now }
 {
-    match held {
-        Some(own) => have_same_feeds(own, query),
-        None => false,
+    if held.is_empty() {
+        return false;
     }
+    have_same_feeds(&held[0], query)
 }

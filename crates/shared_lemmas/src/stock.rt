@@ -1,6 +1,6 @@
 //! Lines, and what was looked at.
 
-ghost use Rattle.std.specs.Prelude.{◌≡◌, [], None};
+ghost use Rattle.std.specs.Prelude.{◌≡◌, []};
 
 use cnf_core::{LogLine, SatLit};
 use indexmap::IndexMap;
@@ -54,11 +54,12 @@ impl Tried {
     }
 }
 
-/// Lines that hold under the feeds of a query, whatever is asked of the outputs.
+/// Lines that hold under the feeds of a query, whatever is asked of the outputs. It has lists and maps alone, and no enum: whoever owns
+/// a stock drops each of these in one step.
 #[derive(Drop)]
 pub(crate) struct Stock {
-    /// A query with these feeds. None: there are no lines.
-    pub(crate) query: Option<Query>,
+    /// The query that was asked last, if one was: under its feeds the lines hold.
+    pub(crate) held: Vec<Query>,
     pub(crate) lines: Vec<LogLine>,
     pub(crate) twins: Twins,
     pub(crate) tried: Tried,
@@ -67,11 +68,11 @@ pub(crate) struct Stock {
 impl Stock {
     /// No lines.
     pub(crate) fn new(alloc: Global) -> Stock
-        ensures query { result.query ≡ None }
+        ensures held { result.held.items ≡ [] }
         ensures lines { result.lines.items ≡ [] }
     {
         Stock {
-            query: None,
+            held: Vec::new(alloc),
             lines: Vec::new(alloc),
             twins: Twins::new(alloc),
             tried: Tried::new(alloc),
