@@ -2,12 +2,16 @@
 
 use crate::base::DenseBase;
 use cnf_core::{Base, SatLit};
-use gate_pairs::{Gate, Pair, gates_of, pairs_of};
+use gate_pairs::{Gate, Pair, gates_of, inputs_of, pairs_of};
 use learn_solver::{Agenda, Candidate, Guide, Operands};
 use std::alloc::{AllocError, Global};
 
 /// The number that vectors are drawn from. Each question of a run draws the same ones.
 const SEED: u64 = 1;
+
+/// Up to how many inputs are decided first. Then a question learns about as many lines at most as the inputs have vectors, where an S-box
+/// of 8 inputs and two thousand gates took up to 28,000 by candidates, and 90 times as long as minisat.
+const FEW_INPUTS: usize = 10;
 
 /// The pairs of a query's gates that seem to be equal.
 #[derive(Drop)]
@@ -29,16 +33,34 @@ impl<'a> Guide for GatePairs<'a> {
 }
 
 /// The gates of a query's cones, and two candidates for each pair of them that seem to be equal: that the one is true and the other
-/// isn't. The numbers are those of the cones' clauses: after the first clause three for each gate.
+/// isn't. Where the cones have few inputs, these alone, to be decided first. The numbers are those of the cones' clauses: after the
+/// first clause three for each gate.
 ///
 /// # Errors
 ///
 /// Only when out of memory.
 pub fn agenda_of<B: Base>(alloc: Global, base: &B, ids: &[u64]) -> Result<Agenda, AllocError> {
     let gates = gates_of(alloc, base, ids)?;
+    let inputs = inputs_of(alloc, &gates)?;
+    if inputs.len() <= FEW_INPUTS {
+        return Ok(inputs_first(alloc, inputs));
+    }
     let candidates = candidates_of(alloc, &gates)?;
     let gates = operands_of(alloc, &gates)?;
-    Ok(Agenda { gates, candidates })
+    Ok(Agenda {
+        gates,
+        candidates,
+        leading: Vec::new(alloc),
+    })
+}
+
+// Nothing is looked at before the question, and inputs are decided first in it.
+fn inputs_first(alloc: Global, inputs: Vec<SatLit>) -> Agenda {
+    Agenda {
+        gates: Vec::new(alloc),
+        candidates: Vec::new(alloc),
+        leading: inputs,
+    }
 }
 
 // Two candidates for each pair.

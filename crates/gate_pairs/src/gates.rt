@@ -3,6 +3,7 @@
 ghost use Rattle.std.specs.Prelude.{◌*◌, ◌<◌, length};
 
 use cnf_core::{Base, SatLit};
+use indexmap::IndexSet;
 use std::alloc::{AllocError, Global};
 
 /// A gate: the literal of its variable, and its operands.
@@ -46,4 +47,41 @@ fn gate_at<B: Base>(base: &B, ids: &[u64], k: usize) -> Option<Gate>
         first: first.opposite(),
         second: second.opposite(),
     })
+}
+
+/// The inputs of gates each of which stands after its operands: what is read and is no gate's output, as literals without complement, in
+/// the order in which they are read first. The constant is none.
+///
+/// # Errors
+///
+/// Only when out of memory.
+pub fn inputs_of(alloc: Global, gates: &[Gate]) -> Result<Vec<SatLit>, AllocError> {
+    let mut met: IndexSet<u64> = IndexSet::new(alloc);
+    met.insert(0)?;
+    let mut inputs = Vec::new(alloc);
+    for gate in gates.iter() {
+        meet(&mut met, &mut inputs, gate.first)?;
+        meet(&mut met, &mut inputs, gate.second)?;
+        met.insert(gate.output.variable())?;
+    }
+    Ok(inputs)
+}
+
+// Adds an operand that wasn't met before.
+fn meet(
+    met: &mut IndexSet<u64>,
+    inputs: &mut Vec<SatLit>,
+    operand: SatLit,
+) -> Result<(), AllocError> {
+    if met.contains(&operand.variable()) {
+        return Ok(());
+    }
+    met.insert(operand.variable())?;
+    let plain = if operand.is_negated() {
+        operand.opposite()
+    } else {
+        operand
+    };
+    inputs.push(plain)?;
+    Ok(())
 }

@@ -8,5 +8,5 @@ mod gates;
 mod pairs;
 mod simulation;
 
-pub use gates::{Gate, gates_of};
+pub use gates::{Gate, gates_of, inputs_of};
 pub use pairs::{Pair, pairs_of};

@@ -30,6 +30,8 @@ pub struct Agenda {
     pub gates: Vec<Operands>,
     /// In the order in which they are looked at: best those first on which others rest.
     pub candidates: Vec<Candidate>,
+    /// What is decided before all other variables, once the candidates were looked at: each of these literals is to be true first.
+    pub leading: Vec<SatLit>,
 }
 
 /// Who has an agenda for a question. It is asked for once the question has taken some lines, so that an easy one costs
@@ -59,6 +61,7 @@ impl Guide for Unguided {
         Ok(Agenda {
             gates: Vec::new(alloc),
             candidates: Vec::new(alloc),
+            leading: Vec::new(alloc),
         })
     }
 
@@ -97,8 +100,8 @@ fn is_false(trail: &Trail, literal: SatLit) -> bool {
     matches!(trail.value(literal), Some(false))
 }
 
-// Whether a literal is over an unassigned variable.
-fn is_free(trail: &Trail, variables: usize, literal: SatLit) -> bool
+/// Whether a literal is over an unassigned variable.
+pub(crate) fn is_free(trail: &Trail, variables: usize, literal: SatLit) -> bool
     requires { variables ≡ trail.now.variables }
     ensures { IsTrue result → IsFree trail.now literal }
 {

@@ -1,7 +1,12 @@
 //! The part of a question that a search is after.
 
-use crate::candidate::{Candidate, Operands};
+ghost use Rattle.std.specs.Prelude.{◌≡◌, IfSome};
+ghost use Rattle.trail_core.specs.Trails.{IsFree};
+
+use crate::candidate::{Candidate, Operands, is_free};
+use cnf_core::SatLit;
 use std::alloc::{AllocError, Global};
+use trail_core::Trail;
 
 /// The part of a question that a search is after: whether the two literals of a candidate can be true together. Only what
 /// they are computed from is decided then: the checksum of 32 bits takes a tenth of the lines that it takes where all
@@ -15,6 +20,8 @@ pub(crate) struct Focus {
     /// The last turn in which each variable was one of those from which the literals are computed.
     turns: Vec<u64>,
     turn: u64,
+    /// What is decided before all other variables.
+    leading: Vec<SatLit>,
 }
 
 impl Focus {
@@ -25,12 +32,28 @@ impl Focus {
             exhausted: false,
             turns: vec![in alloc; 0; variables]?,
             turn: 0,
+            leading: Vec::new(alloc),
         })
     }
 
-    /// Turns to the whole question.
-    pub(crate) fn widen(&mut self) {
+    /// Turns to the whole question, in which these literals are decided before all other variables.
+    pub(crate) fn widen(&mut self, leading: Vec<SatLit>) {
         self.candidate = None;
+        self.leading = leading;
+    }
+
+    /// The first of the literals that are decided before all other variables which isn't assigned. A literal over no variable of the
+    /// trail is passed over.
+    pub(crate) fn next_leading(&self, trail: &Trail, variables: usize) -> Option<SatLit>
+        requires { variables ≡ trail.now.variables }
+        ensures { IfSome result (IsFree trail.now) }
+    {
+        for literal in self.leading.iter() {
+            if is_free(trail, variables, *literal) {
+                return Some(*literal);
+            }
+        }
+        None
     }
 
     /// Turns to a candidate over these gates, each of which stands after its operands.

@@ -41,11 +41,15 @@ impl<'a, B: Base> Solver<'a, B> {
         if let Some(soon) = self.pursue(alloc, search, FIRST, ledger)? {
             return Ok(Some(soon));
         }
-        let agenda = guide.agenda(alloc)?;
-        if let Some(verdict) = self.follow(alloc, search, guide, &agenda, ledger)? {
+        let Agenda {
+            gates,
+            candidates,
+            leading,
+        } = guide.agenda(alloc)?;
+        if let Some(verdict) = self.follow(alloc, search, guide, &gates, &candidates, ledger)? {
             return Ok(Some(verdict));
         }
-        search.widen();
+        search.widen(leading);
         Ok(None)
     }
 
@@ -55,7 +59,8 @@ impl<'a, B: Base> Solver<'a, B> {
         alloc: Global,
         search: &mut Search,
         guide: &mut G,
-        agenda: &Agenda,
+        gates: &[Operands],
+        candidates: &[Candidate],
         ledger: &mut L,
     ) -> Result<Option<Verdict>, Stop>
         requires running { IsRunning self.old search.old.trail search.old.watches search.old.tools }
@@ -68,8 +73,8 @@ impl<'a, B: Base> Solver<'a, B> {
         ensures stop { IfErr result
             (IsStopped self.old self.new (L.charging ledger.old) (L.charging ledger.new)) }
     {
-        for candidate in agenda.candidates.iter() {
-            if let Some(verdict) = self.look_at(alloc, search, *candidate, &agenda.gates, ledger)? {
+        for candidate in candidates.iter() {
+            if let Some(verdict) = self.look_at(alloc, search, *candidate, gates, ledger)? {
                 return Ok(Some(verdict));
             }
             guide.done_with(*candidate, self.count())?;

@@ -64,12 +64,16 @@ impl Tools {
         next_decision(trail, &self.occurring)
     }
 
-    // The next literal to decide for the candidate that the search is after, if it is after one: its own ones are to be true,
-    // and then comes what they are computed from.
+    // The next literal to decide before all others, or for the candidate that the search is after, if it is after one: its own ones are to
+    // be true, and then comes what they are computed from.
     fn wanted(&self, trail: &Trail) -> Option<SatLit>
         requires { IsOrder trail.now.variables self.now.order }
         ensures { IfSome result (IsFree trail.now) }
     {
+        let literal = self.focus.next_leading(trail, self.order.end);
+        if literal.is_some() {
+            return literal;
+        }
         let candidate = self.focus.candidate?;
         let literal = candidate.next(trail, self.order.end);
         if literal.is_some() {
@@ -190,8 +194,8 @@ impl Search {
         self.begin_anew();
     }
 
-    /// Turns to the whole question, from level 0 on.
-    pub(crate) fn widen(&mut self)
+    /// Turns to the whole question, from level 0 on, in which these literals are decided before all other variables.
+    pub(crate) fn widen(&mut self, leading: Vec<SatLit>)
         requires fitting { IsFitting self.old.watches self.old.trail }
         requires order { IsOrder self.old.trail.variables self.old.tools.order }
         ensures fitting { IsFitting self.new.watches self.new.trail }
@@ -199,7 +203,7 @@ impl Search {
         ensures variables { self.new.trail.variables ≡ self.old.trail.variables }
         ensures tools { StayTools self.old.tools self.new.tools }
     {
-        self.tools.focus.widen();
+        self.tools.focus.widen(leading);
         self.begin_anew();
     }
 

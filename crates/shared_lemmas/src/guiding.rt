@@ -41,9 +41,17 @@ impl<'a, W: Watch> Progress<'a, W> {
 
 impl<'a, W: Watch> Guide for NewPairs<'a, W> {
     fn agenda(&mut self, alloc: Global) -> Result<Agenda, AllocError> {
-        let Agenda { gates, candidates } = agenda_of(alloc, self.base, self.ids)?;
+        let Agenda {
+            gates,
+            candidates,
+            leading,
+        } = agenda_of(alloc, self.base, self.ids)?;
         let candidates = self.tried.untried(alloc, &candidates)?;
-        Ok(Agenda { gates, candidates })
+        Ok(Agenda {
+            gates,
+            candidates,
+            leading,
+        })
     }
 
     fn done_with(&mut self, candidate: Candidate, lines: u64) -> Result<(), AllocError> {
