@@ -293,7 +293,8 @@ fn delete_beside<O: Oracle>(
 {
     let _facts = oracle.facts();
     let _lawful = domains.entries();
-    list_unlike(alloc, domains, &guide.seen, pair, &mut guide.ways)?;
+    let again = guide.compared.mark(pair);
+    list_unlike(alloc, domains, &guide.seen, pair, again, &mut guide.ways)?;
     delete_unlike(
         alloc,
         graphs,

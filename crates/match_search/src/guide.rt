@@ -3,6 +3,7 @@
 ghost use Rattle.std.specs.Prelude.{◌≡◌, ◌<◌, IfOk, IfSome};
 ghost use Rattle.table_guess.specs.Trials.{AreTrials};
 
+use crate::compared::Compared;
 use crate::reads::{Reads, by_count};
 use crate::weights::Weights;
 use account_core::Ban;
@@ -33,6 +34,7 @@ pub(crate) struct Guide {
     pub(crate) exchanged: usize,
     /// Ways that are to be compared with a held pair: kept for its memory alone.
     pub(crate) ways: Vec<Pair>,
+    pub(crate) compared: Compared,
 }
 
 impl Guide {
@@ -50,6 +52,7 @@ impl Guide {
         let first = graphs.first();
         let weights = Weights::new(alloc, first.inputs(), first.outputs().len() as u32)?;
         let order = order_of(alloc, &reads, graphs)?;
+        let compared = Compared::new(alloc, first.inputs(), first.outputs().len() as u32)?;
         Ok(Guide {
             trials,
             seen,
@@ -60,6 +63,7 @@ impl Guide {
             asked: 0,
             exchanged: 0,
             ways: Vec::new(alloc),
+            compared,
         })
     }
 

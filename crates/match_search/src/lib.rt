@@ -5,6 +5,7 @@ mod ahead;
 mod asking;
 mod branching;
 mod candidate;
+mod compared;
 mod deciding;
 mod difference;
 mod exchanged;
