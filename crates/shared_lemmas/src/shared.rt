@@ -29,6 +29,10 @@ const LARGE: u64 = 60_000;
 /// Cones are small that have at most one of so many clauses.
 const PART: u64 = 8;
 
+/// How many lines questions may get as lemmas in a run. The ledger keeps those of each question, 250 bytes for a line or so. A sorter of 64
+/// numbers gets 400,000; of a code of 57 bits that is corrected a run would take gigabytes.
+const MOST_GIVEN: u64 = 1 << 21;
+
 /// What questions about two circuits have learned, for later ones under the same feeds: as those about the outputs of one
 /// matching. Contracts see it as the circuits.
 #[derive(Drop)]
@@ -55,7 +59,7 @@ impl<'a> SharedLemmas<'a> {
     {
         SharedLemmas {
             graphs,
-            stock: Stock::new(alloc),
+            stock: Stock::new(alloc, 0),
         }
     }
 
@@ -108,7 +112,7 @@ fn ask_sharing<W: Watch>(
 {
     turn_to(alloc, graphs, query, stock)?;
     let cones = ConeClauses::new(alloc, graphs, query)?;
-    if are_small(&cones) {
+    if are_small(&cones) | (stock.given > MOST_GIVEN) {
         return ask_alone(alloc, graphs, query, ledger, watch);
     }
     ask_cones(alloc, graphs, query, &cones, stock, ledger, watch)
@@ -167,6 +171,7 @@ fn ask_cones<W: Watch>(
 {
     let base = QueryBase::new(alloc, graphs, query)?;
     let lemmas = lemmas_for(alloc, cones, &base, stock)?;
+    stock.given = stock.given.saturating_add(lemmas.lines.len() as u64);
     ask_by(
         alloc, graphs, query, cones, &base, &lemmas, stock, ledger, watch,
     )
@@ -292,7 +297,7 @@ fn turn_to(
         stock.held = held;
         return Ok(());
     }
-    *stock = Stock::new(alloc);
+    *stock = Stock::new(alloc, stock.given);
     stock.held = held;
     Ok(())
 }

@@ -63,11 +63,13 @@ pub(crate) struct Stock {
     pub(crate) lines: Vec<LogLine>,
     pub(crate) twins: Twins,
     pub(crate) tried: Tried,
+    /// How many lines questions got as lemmas, also of feeds that were left.
+    pub(crate) given: u64,
 }
 
 impl Stock {
-    /// No lines.
-    pub(crate) fn new(alloc: Global) -> Stock
+    /// No lines, where questions got so many before.
+    pub(crate) fn new(alloc: Global, given: u64) -> Stock
         ensures held { result.held.items ≡ [] }
         ensures lines { result.lines.items ≡ [] }
     {
@@ -76,6 +78,7 @@ impl Stock {
             lines: Vec::new(alloc),
             twins: Twins::new(alloc),
             tried: Tried::new(alloc),
+            given,
         }
     }
 }
