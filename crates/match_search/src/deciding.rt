@@ -12,8 +12,9 @@ ghost use Rattle.table_guess.specs.Trials.{AreTrials};
 use crate::found::Found;
 use crate::guessed::compare_guesses;
 use crate::guide::Guide;
-use crate::searching::refuse_or_explore;
+use crate::searching::{refuse_or_explore, search};
 use ban_book::BanBook;
+use circuits::PortKind;
 use cnf_core::Stop;
 use fact_bans::refuse;
 use oracle_core::Oracle;
@@ -22,13 +23,17 @@ use query_core::Ledger;
 use std::alloc::Global;
 use table_guess::{Effort, Guesser};
 
+/// Up to how many inputs times outputs counts are looked at before all guesses: two words of 32 bits that are compared have 128. An adder of
+/// 128 bits has 33,024, and asks for seconds there, though its table is guessed in one.
+const FEW_FLIPS: u64 = 256;
+
 /// How often a refusal by counts is tried before more tables are guessed: once, since vectors that err there say little, and of circuits that
 /// match each further try is lost.
 const FEW_TRIES: u32 = 1;
 
-/// Decides whether two circuits with as many ports match. Tables that are guessed with little effort are compared first: most matches
-/// are found so. Then counts may refuse a match, which takes little where there is none and they show it. Else more is
-/// spent on guesses, and then the search decides. All draw by the seed.
+/// Decides whether two circuits with as many ports match. Tables that are guessed are compared first; where none of them is a match,
+/// `search` decides. Of circuits with few claims, tables of little effort come first, then a refusal by counts, which takes little
+/// there, and then all guesses and the search. All draw by the seed.
 ///
 /// The book's bans are valid in view of the oracle's facts, whatever is answered.
 ///
@@ -52,17 +57,33 @@ pub fn decide<O: Oracle>(
 {
     let _facts = oracle.facts();
     let mut guesser = Guesser::new(alloc, graphs, seed)?;
+    let effort = first_effort(graphs);
     if let Some((table, logs)) = compare_guesses(
         alloc,
         graphs,
         oracle,
         &mut guesser,
-        Effort::Little,
+        effort,
         ledger,
     )? {
         return Ok(Found::Match(table, logs));
     }
-    refuse_or_find(alloc, graphs, oracle, &mut guesser, book, seed, ledger)
+    match effort {
+        Effort::Little => refuse_or_find(alloc, graphs, oracle, &mut guesser, book, seed, ledger),
+        Effort::Whole => search(alloc, graphs, oracle, book, seed, ledger),
+    }
+}
+
+// With how much effort tables are guessed at first: little where there are few claims of one input, so that counts may refuse a match
+// before all guesses failed.
+fn first_effort(graphs: &PairableGraphs<'_>) -> Effort {
+    let inputs = graphs.ports(PortKind::Input) as u64;
+    let outputs = graphs.ports(PortKind::Output) as u64;
+    if inputs.saturating_mul(outputs) <= FEW_FLIPS {
+        Effort::Little
+    } else {
+        Effort::Whole
+    }
 }
 
 // Decides where little effort found no match: by counts, by more guesses, and then by searching.
