@@ -118,12 +118,11 @@ fn compared_in_turn(
     }
     let mut book = FactBook::new(alloc, graphs, 1)?;
     let mut ledger = Ledger::new(alloc, 99);
-    let first = book.compare(alloc, matching, 0, &mut ledger);
-    if first.is_err() {
-        return Ok((told(&first), Comparison::Unfit));
-    }
+    let Ok(first) = book.compare(alloc, matching, 0, &mut ledger) else {
+        return Ok((Comparison::Unfit, Comparison::Unfit));
+    };
     let second = book.compare(alloc, matching, 1, &mut ledger);
-    Ok((told(&first), told(&second)))
+    Ok((told(&Ok(first)), told(&second)))
 }
 
 /// Whether what one book says of both outputs, the second by what it learned of the first, is what is expected.
