@@ -27,7 +27,7 @@ wanted_of literal = if is_negated literal then Zero else One
 abbrev pub gate_cover : ℕ → Gate → Def
 gate_cover inputs gate =
     Cover (printed_signal inputs (signal_of gate.a) ∷ printed_signal inputs (signal_of gate.b) ∷ [])
-      ((wanted_of gate.a ∷ wanted_of gate.b ∷ []) ∷ []) true
+    ((wanted_of gate.a ∷ wanted_of gate.b ∷ []) ∷ []) true
 
 abbrev pub output_cover : ℕ → Lit → Def
 output_cover inputs output = Cover (printed_signal inputs (signal_of output) ∷ []) ((wanted_of output ∷ []) ∷ []) true

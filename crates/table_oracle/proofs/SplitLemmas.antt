@@ -286,6 +286,6 @@ may_be_added splitting lines looked read bits line clause found is within clause
     let uncovered = subst (λ (ls : List LogLine). IfNone found (IsNew (clauses_in base ls) clause)) looked_is covered in
     let fresh = subst (IsNew (clauses_in base lines)) own (not_covered (clauses_in base lines) clause found none uncovered) in
     let hints =
-        ap (λ (cl : List SatLit). hint_fault (clauses_in base lines) (map opposite cl) line.hints) clause_is
-        ∙ (ap (λ (ls : List LogLine). hint_fault (clauses_in base ls) (map opposite (excluding bits)) line.hints) (sym read_is) ∙ derived) in
+    ap (λ (cl : List SatLit). hint_fault (clauses_in base lines) (map opposite cl) line.hints) clause_is
+    ∙ (ap (λ (ls : List LogLine). hint_fault (clauses_in base ls) (map opposite (excluding bits)) line.hints) (sym read_is) ∙ derived) in
     line_added splitting lines bits line is within clause_is fresh hints
