@@ -8,4 +8,4 @@
 #     bench/all_tables.sh [--pairs N] [--seed SEED] [--program PATH] [--limit SECONDS] [--late FOLDER]
 set -eu
 top=$(cd "$(dirname "${BASH_SOURCE[0]}")/.." && pwd)
-exec python3 "$top/bench/all_tables.py" "$top/release/npnp-x86_64-linux" "$@"
+exec python3 "$top/bench/all_tables.py" "$("$top/bench/program.sh")" "$@"

@@ -17,7 +17,7 @@ declare -A verilog=(
   [multiply6]='module m(input [5:0] a, input [5:0] b, output [11:0] y); assign y = a * b; endmodule'
   [multiply7]='module m(input [6:0] a, input [6:0] b, output [13:0] y); assign y = a * b; endmodule'
 )
-"$top/npnp" >/dev/null 2>&1 || true
+program=$("$top/bench/program.sh")
 for name in adder96 compare48 alu16 multiply6 multiply7; do
   base=$work/$name
   if [ ! -e "$base.account" ]; then
@@ -29,7 +29,7 @@ for name in adder96 compare48 alu16 multiply6 multiply7; do
   fi
   lines=$(wc -l <"$base.account")
   printf '%s, %d lines, %d bytes: ' "$name" "$lines" "$(stat -c %s "$base.account")"
-  python3 "$top/bench/measure.py" "$top/crates/npnp_cli/out/npnp_cli" check "$base.aig" "$base.again.aig" "$base.account" |
+  python3 "$top/bench/measure.py" "$program" check "$base.aig" "$base.again.aig" "$base.account" |
     awk -v lines="$lines" '{ printf "%s (%d lines a second)\n", $0, lines / ($1 > 0 ? $1 : 0.01) }'
   printf '  beside cec: '
   python3 "$top/bench/measure.py" berkeley-abc -q "cec -n $base.aig $base.again.aig"
@@ -39,5 +39,5 @@ for kind in fails holds; do
   base=$work/many_$kind
   [ -e "$base.account" ] || python3 "$top/bench/many_facts.py" "$kind" 100000 "$base.aag" "$base.account"
   printf '100000 facts, %s, %d bytes: ' "$kind" "$(stat -c %s "$base.account")"
-  python3 "$top/bench/measure.py" "$top/crates/npnp_cli/out/npnp_cli" check "$base.aag" "$base.aag" "$base.account"
+  python3 "$top/bench/measure.py" "$program" check "$base.aag" "$base.aag" "$base.account"
 done

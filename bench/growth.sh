@@ -10,6 +10,5 @@
 #     bench/growth.sh [LIMIT [SEED]]      LIMIT: the seconds of a pair, 60
 set -eu
 top=$(cd "$(dirname "${BASH_SOURCE[0]}")/.." && pwd)
-program=${NPNP_PROGRAM-$top/crates/npnp_cli/out/npnp_cli}
-[ -x "$program" ] || "$top/npnp" --prove
+program=$("$top/bench/program.sh")
 exec python3 "$top/bench/growth.py" "$program" "$top/docs" "$@"

@@ -19,4 +19,4 @@
 #                               [--results FILE] [--nets FOLDER] [--no-bm] [--report] [--markdown] [--write FOLDER] [CIRCUIT or FAMILY ..]
 set -eu
 top=$(cd "$(dirname "${BASH_SOURCE[0]}")/.." && pwd)
-exec python3 "$top/bench/match_beside_abc.py" "$top/release/npnp-x86_64-linux" "$@"
+exec python3 "$top/bench/match_beside_abc.py" "$("$top/bench/program.sh")" "$@"

@@ -2,10 +2,10 @@
 # Prints what memory `match` takes at most, beside the bytes of the account that it writes: for circuits that Yosys makes of
 # Verilog, each beside a copy that ABC resynthesized. Needs Debian's yosys and berkeley-abc. Not part of the gate.
 #
-#     bench/match_memory.sh [NPNP [NAME ..]]      by default the program that lies in crates/npnp_cli/out, and all circuits
+#     bench/match_memory.sh [NPNP [NAME ..]]      by default that of bench/program.sh, and all circuits
 set -eu
 top=$(cd "$(dirname "${BASH_SOURCE[0]}")/.." && pwd)
-npnp=${1-$top/crates/npnp_cli/out/npnp_cli}
+npnp=${1-$("$top/bench/program.sh")}
 [ $# -eq 0 ] || shift
 work=$(mktemp -d)
 trap 'rm -rf "$work"' EXIT

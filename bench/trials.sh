@@ -8,8 +8,7 @@ set -eu
 [ $# -ge 2 ] || { sed -n '2,/^set/{/^#/s/^# \{0,1\}//p}' "$0" >&2 && exit 2; }
 top=$(cd "$(dirname "${BASH_SOURCE[0]}")/.." && pwd)
 from=$1 to=$2 processes=${3-$(nproc)}
-program=${NPNP_PROGRAM-$top/crates/npnp_cli/out/npnp_cli}
-[ -x "$program" ] || "$top/npnp" --prove
+program=$("$top/bench/program.sh")
 export program
 
 # the trial of one number. Status 255 has xargs start no further one.
