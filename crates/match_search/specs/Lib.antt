@@ -1,6 +1,5 @@
 pub mod States
 pub mod Founds
-pub mod Differences
 pub use Rattle.port_covers.specs.Held
 pub use Rattle.port_covers.specs.Levels
 pub use Rattle.pair_search.specs.Progress
@@ -13,3 +12,4 @@ pub use Rattle.account_core.specs.Shown
 pub use Rattle.oracle_core.specs.Oracles
 pub use Rattle.account_core.specs.Steps
 pub use Rattle.ban_book.specs.Covering
+pub use Rattle.ban_book.specs.Vectors

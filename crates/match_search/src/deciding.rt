@@ -3,6 +3,7 @@
 ghost use Rattle.std.specs.Prelude.{◌≡◌, [], IfOk, map};
 ghost use Rattle.account_core.specs.Given.{decided_by};
 ghost use Rattle.account_core.specs.Steps.{AreValidBans};
+ghost use Rattle.ban_book.specs.Vectors.{AreLastResorts};
 ghost use Rattle.fact_bans.specs.Serving.{MayHold};
 ghost use Rattle.match_search.specs.Founds.{IsFound};
 ghost use Rattle.match_search.specs.States.{AreValid};
@@ -35,7 +36,8 @@ const FEW_TRIES: u32 = 1;
 /// `search` decides. Of circuits with few claims, tables of little effort come first, then a refusal by counts, which takes little
 /// there, and then all guesses and the search. All draw by the seed.
 ///
-/// The book's bans are valid in view of the oracle's facts, whatever is answered.
+/// The book's bans are valid in view of the oracle's facts, and each ban by a vector is a last resort, as `search` says, whatever is
+/// answered. Of a match that is guessed no claim is decided.
 ///
 /// # Errors
 ///
@@ -53,6 +55,7 @@ pub fn decide<O: Oracle>(
     requires suits { Suits (O.known oracle.old) ledger.old }
     ensures serves { Serves (O.known oracle.old) (O.known oracle.new) ledger.old ledger.new result }
     ensures bans { AreValidBans graphs.now (map decided_by (O.known oracle.new).facts) book.new }
+    ensures last_resorts { AreLastResorts graphs.now (map decided_by (O.known oracle.new).facts) book.new }
     ensures found { IfOk result (IsFound graphs.now book.new) }
 {
     let _facts = oracle.facts();
@@ -100,7 +103,7 @@ fn refuse_or_find<O: Oracle>(
     requires book { book.old ≡ [] }
     requires suits { Suits (O.known oracle.old) ledger.old }
     ensures serves { Serves (O.known oracle.old) (O.known oracle.new) ledger.old ledger.new result }
-    ensures bans { AreValidBans graphs.now (map decided_by (O.known oracle.new).facts) book.new }
+    ensures valid { AreValid graphs.now (O.known oracle.new) book.new }
     ensures found { IfOk result (IsFound graphs.now book.new) }
 {
     let _facts = oracle.facts();
