@@ -7,3 +7,4 @@ pub use Rattle.account_core.specs.Shown
 pub use Rattle.account_core.specs.Facts
 pub use Rattle.oracle_core.specs.Oracles
 pub use Rattle.ban_book.specs.Covering
+pub use Rattle.ban_book.specs.Vectors

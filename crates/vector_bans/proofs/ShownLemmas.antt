@@ -80,3 +80,12 @@ shown_itself graphs whole pair values pairs shown = record {
   definite = shown.definite;
   wrong = shown.wrong;
 }
+
+-- what is made of them shows the same
+pub shown_made : (graphs : Graphs) (whole pairs made : List Pair) (pair : Pair) (values taken : List Tri) → made ≡ pairs → values ≡ taken → IsShown graphs whole pair values pairs → IsShown graphs made pair taken made
+shown_made graphs whole pairs made pair values taken made_is values_is shown =
+    subst (λ (v : List Tri). IsShown graphs made pair v made) values_is (subst (λ (l : List Pair). IsShown graphs l pair values l) (sym made_is) (shown_itself graphs whole pair values pairs shown))
+
+pub shown_made_among : (graphs : Graphs) (held whole pairs made : List Pair) (pair : Pair) (values taken : List Tri) → made ≡ pairs → values ≡ taken → All (Contains held) whole → IsShown graphs whole pair values pairs → IsShown graphs held pair taken made
+shown_made_among graphs held whole pairs made pair values taken made_is values_is among shown =
+    subst (λ (v : List Tri). IsShown graphs held pair v made) values_is (subst (IsShown graphs held pair values) (sym made_is) (shown_among graphs whole held pair values pairs among shown))

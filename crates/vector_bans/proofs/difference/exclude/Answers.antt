@@ -1,31 +1,15 @@
-use Rattle.std.proofs.Common.{◌∙◌, ◌++◌, ◌∷◌, [], All, map, sym, subst, ap}
-use Rattle.std.specs.Prelude.{Contains}
-use Rattle.circuits.specs.declared.port.Pair.{Pair}
-use Rattle.circuits.specs.declared.port.PortKind.TheVariants.{Input, Output}
-use Rattle.account_core.specs.declared.step.Step.TheVariants as step
-use Rattle.account_core.specs.Given.{given_of}
-use Rattle.account_core.specs.Ports.{IsKnown}
-use Rattle.vector_bans.specs.Differences.{of_bit, pair_from, pairs_from}
-use Rattle.port_covers.proofs.ListLemmas.{among_more}
-use Rattle.port_covers.proofs.BookLemmas.{holds_one, covers_last}
-use Rattle.vector_bans.proofs.DifferLemmas.{pair_known, shown_whole, shown_as, among_held, vector_valid_of}
+use Rattle.std.proofs.Common.{ℕ}
+use Rattle.std.proofs.lemmas.Result.{err_from_is_err_and, IfOk-weaker}
+use Rattle.ban_book.specs.Covering.{Covers}
+use Rattle.fact_bans.proofs.HoldingLemmas.{held_same, holds_stop}
+use Rattle.fact_bans.proofs.WiderLemmas.{covers_wider}
 use Rattle.vector_bans.proofs.difference.exclude.Goals as goal
 
-pub leave_out-requires-clause-known : goal.leave_out-requires-clause-known
-leave_out-requires-clause-known c =
-    subst (IsKnown c.args.graphs.now) (sym (c.pair_from-pair.ensures ∙ ap (λ e. pair_from Output e c.args.output) c.deref.ensures.value)) (pair_known c.args.graphs.now c.args.matching.now c.args.output c.requires.ports c.requires.output)
-
-pub leave_out-requires-clause-shown : goal.leave_out-requires-clause-shown
-leave_out-requires-clause-shown c =
-    shown_as c.args.graphs.now (pairs_from Input c.args.matching.now.inputs) c.in_ok-whole.whole.items c.pair_from-pair.result (pair_from Output c.args.matching.now.outputs c.args.output) c.deref-2.result.now (map of_bit c.args.vector.now) (c.pair_from-pair.ensures ∙ ap (λ e. pair_from Output e c.args.output) c.deref.ensures.value) (c.deref-2.ensures.value ∙ c.in_ok-values.ensures) c.in_ok-whole.ensures (shown_whole c.args.graphs.now c.args.matching.now c.args.output c.requires.ports c.requires.output c.args.vector.now c.requires.differs c.first-first.ensures.sound c.second-second.ensures.sound)
-
-pub returns-clause-more : goal.returns-clause-more
-returns-clause-more c =
-    let from_is = ap (λ (p : Pair). p.from) (c.pair_from-pair.ensures ∙ ap (λ e. pair_from Output e c.args.output) c.deref.ensures.value) in
-    holds_one c.args.graphs.now c.args.book.now c.hold.new.self (record { pairs = c.in_ok-pairs-2.pairs; step = step.Vector c.args.output c.in_ok-values.values }) c.in_ok-number.ensures.held (λ facts. vector_valid_of c.args.graphs.now (given_of facts c.args.book.now) c.in_ok-whole.whole.items c.in_ok-pairs.pairs.items c.pair_from-pair.result c.deref-2.result.now c.in_ok-pairs-2.pairs c.in_ok-values.values c.args.output (c.in_ok-pairs-2.ensures ∙ c.deref-3.ensures.value) (sym c.deref-2.ensures.value) from_is c.requires.output c.in_ok-pairs.ensures)
+pub returns-in_err-shown-clause-holds : goal.returns-in_err-shown-clause-holds
+returns-in_err-shown-clause-holds g c =
+    let p = err_from_is_err_and c.from_residual.result c.from_residual.ensures.1 in
+    holds_stop _ _ _ _ _ _ _ _ (cc (p.1, p.2)) (held_same _ _ _ _ c.requires.may)
 
 pub returns-clause-covers : goal.returns-clause-covers
-returns-clause-covers c = λ held all extends.
-    let whole_is = c.in_ok-whole.ensures ∙ ap (λ p. pairs_from Input c.args.matching.now.inputs ++ p ∷ []) (c.pair_from-pair.ensures ∙ ap (λ e. pair_from Output e c.args.output) c.deref.ensures.value) in
-    let among = among_more c.in_ok-pairs.pairs.items c.in_ok-whole.whole.items held c.in_ok-pairs.ensures.among (subst (All (Contains held)) (sym whole_is) (among_held c.args.graphs.now c.args.matching.now c.args.output c.requires.ports c.requires.output held all extends)) in
-    covers_last c.args.book.now c.hold.new.self (record { pairs = c.in_ok-pairs-2.pairs; step = step.Vector c.args.output c.in_ok-values.values }) held c.in_ok-number.number c.in_ok-number.ensures.held c.in_ok-number.ensures.number (record { among = subst (All (Contains held)) (sym (c.in_ok-pairs-2.ensures ∙ c.deref-3.ensures.value)) among })
+returns-clause-covers g c = λ held all extends.
+    IfOk-weaker c.hold_shown.result (Covers c.hold_shown.new.book c.in_ok-shown.shown.pairs) (Covers c.hold_shown.new.book held) (λ (number : ℕ). covers_wider c.hold_shown.new.book c.in_ok-shown.shown.pairs held number (c.in_ok-shown.ensures.held held all extends)) c.hold_shown.ensures.covers
