@@ -30,13 +30,8 @@ use Rattle.account_core.specs.Given.{Decided, Given, decided, decided_by, fact_a
 use Rattle.account_core.specs.Mismatches.{IsImage}
 use Rattle.account_core.specs.Tallies.{other_side, port_on, shapes_of, AreBothOfEach, AreOfEach, HaveShapes, LackShapes, SayOf}
 use Rattle.account_core.proofs.Matched.{pair_of-held}
-use Rattle.ban_book.specs.Vectors.{AddsNoVector, AreEndsDecided, AreInputsDecided, AreLastResorts, HasOneInput, HaveNoFacts, IsDecided, IsLastResort, IsShownBy, IsVector}
+use Rattle.ban_book.specs.Vectors.{AddsNoVector, AreDecided, AreEndsDecided, AreInputsDecided, AreLastResorts, HasOneInput, HaveNoFacts, IsDecided, IsLastResort, IsShownBy, IsVector}
 use Rattle.ban_book.proofs.ShownLemmas.{IsSame, mismatch_in, tally_in}
-
--- The claims of facts are well placed, and no two facts are of one claim.
-pub record AreDecided (graphs : Graphs) (facts : List Decided) : Type 0 where
-  pub placed : All (λ fact. IsClaim graphs fact.claim) facts
-  pub distinct : AllPairs (λ one other. one.claim ≢ other.claim) facts
 
 -- facts decide claims that are apart
 claim_shown : (claim : Claim) (e : Evidence) → (shown_by claim e).claim ≡ claim

@@ -7,7 +7,6 @@ mod lists;
 mod mismatched;
 mod mismatches;
 mod plan;
-mod ports;
 mod refusal;
 mod sampling;
 mod seen;
@@ -15,8 +14,8 @@ mod swaps;
 mod tallies;
 mod told;
 
+pub use claim_rows::Unlike;
 pub use exchanges::swap_mismatch;
-pub use mismatched::Unlike;
 pub use mismatches::{mismatch, tell_apart};
 pub use refusal::refuse;
 pub use seen::Seen;

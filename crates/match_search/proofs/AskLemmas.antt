@@ -15,8 +15,8 @@ use Rattle.account_core.specs.Ports.{IsKnown}
 use Rattle.account_core.specs.Given.{Decided, decided_by, given_of}
 use Rattle.account_core.specs.Steps.{IsValidBan}
 use Rattle.account_core.specs.declared.step.Step.TheVariants as step
-use Rattle.fact_bans.specs.declared.mismatched.Unlike.{Unlike}
-use Rattle.fact_bans.specs.Mismatched.{IsBanBy, mismatch_of}
+use Rattle.claim_rows.specs.declared.mismatched.Unlike.{Unlike}
+use Rattle.claim_rows.specs.Mismatched.{IsBanBy, mismatch_of}
 use Rattle.oracle_core.specs.Oracles.{Grows, Known}
 use Rattle.table_guess.specs.declared.trials.Trials.{Trials}
 use Rattle.table_guess.specs.Trials.{AreTrials}

@@ -1,7 +1,7 @@
 use Rattle.std.proofs.Common.{refl, sym, subst, map}
 use Rattle.std.proofs.lemmas.Result.{err_from_is_err_and}
 use Rattle.account_core.specs.Given.{decided_by}
-use Rattle.fact_bans.specs.Mismatched.{IsBanBy}
+use Rattle.claim_rows.specs.Mismatched.{IsBanBy}
 use Rattle.fact_bans.proofs.ServeLemmas.{served_one, serves_memory, serves_ok}
 use Rattle.fact_bans.proofs.mismatched.ban_by.Goals as goal
 

@@ -1,6 +1,6 @@
 use Rattle.std.proofs.Common.{◌∷◌, [], refl}
 use Rattle.fact_bans.proofs.HoldingLemmas.{held_same, holds_ok}
-use Rattle.fact_bans.proofs.MismatchLemmas.{first_placed, input_before, input_from, input_image, input_to, is_image, one_placed, second_placed, two_known, two_ordered}
+use Rattle.claim_rows.proofs.MismatchLemmas.{first_placed, input_before, input_from, input_image, input_to, is_image, one_placed, second_placed, two_known, two_ordered}
 use Rattle.fact_bans.proofs.mismatches.mismatch.Goals as goal
 
 pub returns-in_default-clause-holds : goal.returns-in_default-clause-holds

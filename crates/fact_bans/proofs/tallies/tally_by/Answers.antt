@@ -7,7 +7,7 @@ use Rattle.account_core.specs.Steps.{IsValidBan}
 use Rattle.fact_bans.proofs.ServeLemmas.{served_one}
 use Rattle.ban_book.proofs.BookLemmas.{covers_own}
 use Rattle.fact_bans.proofs.HoldingLemmas.{held_ban, held_kept, holds_fail, holds_ok, holds_stop}
-use Rattle.fact_bans.proofs.TallyLemmas.{tally_valid}
+use Rattle.claim_rows.proofs.TallyLemmas.{tally_valid}
 use Rattle.fact_bans.proofs.tallies.tally_by.Goals as goal
 
 pub returns-in_err-lists-clause-holds : goal.returns-in_err-lists-clause-holds

@@ -1,34 +1,15 @@
 -- Facts of an output's inputs, in the order of the inputs (support and unateness, as in textbooks of logic synthesis).
-use Rattle.std.specs.Prelude.{◌≡◌, ℕ, ◌<◌, Bool, true, false, not, List, [], ◌∷◌, ◌++◌, length, All}
+use Rattle.std.specs.Prelude.{◌<◌, ℕ, Bool, true, false, not, List, [], ◌∷◌, All}
 use Rattle.circuits.specs.declared.port.Pair.{Pair}
 use Rattle.net_core.specs.declared.graphs.Side.{Side}
-use Rattle.query_core.specs.declared.claims.Claim.{Claim}
 use Rattle.query_core.specs.declared.claims.Shape.{Shape}
-use Rattle.account_core.specs.declared.fact.Evidence.{Evidence}
-use Rattle.account_core.specs.declared.fact.Evidence.TheVariants.{Fails, Holds}
 use Rattle.account_core.specs.declared.step.Ban.{Ban}
 use Rattle.account_core.specs.declared.step.Step.{Step}
 use Rattle.account_core.specs.declared.step.Step.TheVariants as step
 use Rattle.account_core.specs.declared.step.Tallied.TheVariants.{Support, Binate}
-use Rattle.account_core.specs.Given.{Decided, decided, fact_at, given_of, IsFactGiven}
+use Rattle.account_core.specs.Given.{Decided, given_of, IsFactGiven}
 use Rattle.account_core.specs.Tallies.{other_side, port_on, shapes_of, AreBothOfEach, AreOfEach, Ascend, SayOf}
-use Rattle.fact_bans.specs.declared.tallies.Lists.{Lists}
-
--- evidence is for its claim
-abbrev pub holds_by : Evidence → Bool
-holds_by (Fails vector) = false
-holds_by (Holds log) = true
-
--- The fact of a number says of a claim that it holds, or that it fails.
-pub record IsToldAs (facts : List Decided) (claim : Claim) (holds : Bool) (number : ℕ) : Type 0 where
-  pub within : number < length facts
-  pub says : fact_at (given_of facts []) number ≡ decided claim holds
-
--- The number of such a fact came after others.
-pub record AddsFact (facts : List Decided) (claim : Claim) (holds : Bool) (before after : List ℕ) : Type 0 where
-  pub number : ℕ
-  pub told : IsToldAs facts claim holds number
-  pub more : after ≡ before ++ number ∷ []
+use Rattle.claim_rows.specs.declared.tallies.Lists.{Lists}
 
 -- Facts of claims of an output, that hold or fail, of shapes that belong to inputs below a number, ascending.
 pub record ListsOf (shaped : List ℕ → List Shape → Type 0) (facts : List Decided) (holds : Bool) (side : Side)

@@ -9,8 +9,8 @@ use Rattle.account_core.specs.Given.{Decided, fact_at, given_of}
 use Rattle.account_core.specs.Mismatches.{IsImage}
 use Rattle.account_core.specs.Ports.{AreOrdered, IsKnown}
 use Rattle.account_core.specs.Steps.{IsValidBan}
-use Rattle.fact_bans.specs.Listed.{IsToldAs}
-use Rattle.fact_bans.specs.Mismatched.{IsBanBy, mismatch_of, unlike_of}
+use Rattle.claim_rows.specs.Told.{IsToldAs}
+use Rattle.claim_rows.specs.Mismatched.{IsBanBy, mismatch_of, unlike_of}
 
 -- two facts of which one holds, of a claim and its image under pairs
 pub mismatch_valid : (graphs : Graphs) (facts : List Decided) (pairs : List Pair) (claim image : Claim) (one_holds other_holds : Bool) (one other : ℕ) → All (IsKnown graphs) pairs → AreOrdered pairs → IsImage pairs claim image → IsToldAs facts claim one_holds one → IsToldAs facts image other_holds other → one_holds ≢ other_holds → IsBanBy graphs facts pairs (mismatch_of pairs (unlike_of one_holds one other))

@@ -11,9 +11,9 @@ use Rattle.account_core.specs.Given.{Decided, given_of}
 use Rattle.account_core.specs.Ports.{AreOrdered, IsKnown}
 use Rattle.account_core.specs.Steps.{IsValidBan}
 use Rattle.account_core.specs.Tallies.{other_side, port_on, SayOf}
-use Rattle.fact_bans.specs.declared.tallies.Lists.{Lists}
-use Rattle.fact_bans.specs.Listed.{tally_of, AreLists}
-use Rattle.fact_bans.proofs.FactLemmas.{both_count, one_count}
+use Rattle.claim_rows.specs.declared.tallies.Lists.{Lists}
+use Rattle.claim_rows.specs.Listed.{tally_of, AreLists}
+use Rattle.claim_rows.proofs.ListedLemmas.{both_count, one_count}
 
 one_ordered : (pair : Pair) → AreOrdered (pair ∷ [])
 one_ordered pair i j d less below = absurd (omega (arith, less, below))

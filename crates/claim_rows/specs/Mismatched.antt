@@ -6,7 +6,7 @@ use Rattle.account_core.specs.declared.step.Ban.{Ban}
 use Rattle.account_core.specs.declared.step.Step.TheVariants as step
 use Rattle.account_core.specs.Given.{Decided, given_of}
 use Rattle.account_core.specs.Steps.{IsValidBan}
-use Rattle.fact_bans.specs.declared.mismatched.Unlike.{Unlike}
+use Rattle.claim_rows.specs.declared.mismatched.Unlike.{Unlike}
 
 -- A ban of these pairs that is valid in view of facts.
 pub record IsBanBy (graphs : Graphs) (facts : List Decided) (pairs : List Pair) (ban : Ban) : Type 0 where

@@ -7,7 +7,7 @@ use circuits::Pair;
 use query_core::Shape;
 
 /// The shape of one input with a value.
-pub(crate) fn one_input(input: u32, value: bool) -> Shape
+pub fn one_input(input: u32, value: bool) -> Shape
     ensures { result ≡ one_input input value }
 {
     if value {
@@ -18,7 +18,7 @@ pub(crate) fn one_input(input: u32, value: bool) -> Shape
 }
 
 /// The shape of two inputs with values, the lesser one first.
-pub(crate) fn two_inputs(one: u32, one_value: bool, other: u32, other_value: bool) -> Shape
+pub fn two_inputs(one: u32, one_value: bool, other: u32, other_value: bool) -> Shape
     ensures { result ≡ two_inputs one one_value other other_value }
 {
     if one < other {
@@ -39,7 +39,7 @@ pub(crate) fn two_inputs(one: u32, one_value: bool, other: u32, other_value: boo
 }
 
 /// The value that an input has at its place, of the opposite ones where values are exchanged, as an inverted output does.
-pub(crate) fn moved_value(exchanged: bool, input: Pair, value: bool) -> bool
+pub fn moved_value(exchanged: bool, input: Pair, value: bool) -> bool
     ensures { result ≡ moved_value exchanged input value }
 {
     (value != input.flip) != exchanged

@@ -1,0 +1,5 @@
+pub mod ListLemmas
+pub mod ListedLemmas
+pub mod TallyLemmas
+pub mod MismatchLemmas
+pub mod MismatchedLemmas
