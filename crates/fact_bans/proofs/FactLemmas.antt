@@ -1,6 +1,6 @@
 -- Facts that were decided, and lists of their numbers.
 use Rattle.std.proofs.Common.{◌≡◌, ℕ, zero, suc, ◌+◌, ◌<◌, Bool, List, [], ◌∷◌, ◌++◌, length, map, get_or, refl, sym, ap, subst, ◌∙◌, arith}
-use Rattle.std.proofs.lemmas.List.{map-append, length-map}
+use Rattle.std.proofs.lemmas.List.{length-append, length-map, map-append}
 use Rattle.net_core.specs.declared.graphs.Side.{Side}
 use Rattle.query_core.specs.declared.claims.Claim.{Claim}
 use Rattle.query_core.specs.declared.claims.Shape.{Shape}
@@ -16,12 +16,15 @@ use Rattle.query_core.specs.Ledgers.{Ledgered}
 use Rattle.oracle_core.specs.Oracles.{Grows, IsNumberOf, Known, Suits}
 use Rattle.account_core.specs.Facts.{AreFacts}
 use Rattle.std.proofs.lemmas.Result.{IfOk-weaker}
+use Rattle.claim_rows.specs.declared.told.InputTold.{InputTold}
+use Rattle.claim_rows.specs.Rows.{IsRow, IsTold}
 use Rattle.claim_rows.specs.Told.{AddsFact, IsToldAs}
 use Rattle.claim_rows.specs.Listed.{ListsBoth, ListsOf, ListsOne}
 use Rattle.claim_rows.proofs.ListedLemmas.{lists_both, lists_none, lists_one, lists_stay, told_stays}
+use Rattle.claim_rows.proofs.RowLemmas.{row_none, row_push, row_stays}
 use Rattle.fact_bans.specs.Serving.{HasServed}
 use Rattle.fact_bans.specs.Evidence.{holds_by}
-use Rattle.fact_bans.proofs.ServeLemmas.{served_same}
+use Rattle.fact_bans.proofs.ServeLemmas.{served_same, served_then}
 
 -- what evidence decides
 by_evidence : (claim : Claim) (e : Evidence) → shown_by claim e ≡ decided claim (holds_by e)
@@ -55,6 +58,10 @@ pub told_grows : (old new : Known) (claim : Claim) (holds : Bool) (number : ℕ)
 told_grows old new claim holds number grows is =
     grown old new grows (λ facts. IsToldAs facts claim holds number) (λ added. told_stays (map decided_by old.facts) added claim holds number is)
 
+pub row_grows : (old new : Known) (side : Side) (output : ℕ) (row : List InputTold) → Grows old new → IsRow (map decided_by old.facts) side output row → IsRow (map decided_by new.facts) side output row
+row_grows old new side output row grows is =
+    grown old new grows (λ facts. IsRow facts side output row) (λ added. row_stays (map decided_by old.facts) added side output row is)
+
 -- one fact was added, if it is said so
 pub one_added : (facts : List Decided) (holds : Bool) (side : Side) (output input : ℕ) (value : Bool) (shape : Shape) (claim : Claim) (before after : List ℕ) (result : Result Bool Stop) → claim ≡ record { side = side; output = output; shape = one_input input value } → ListsOne facts holds side output input before → IfOk result (λ added. IsTrue added → AddsFact facts claim holds before after) → IfOk result (λ added. IsTrue added → ListsOne facts holds side output (input + 1) after)
 one_added facts holds side output input value shape claim before after result is lists added =
@@ -80,4 +87,24 @@ pub listing_start : (shaped : List ℕ → List Shape → Type 0) (known : Known
 listing_start shaped known ledger holds side output numbers is lawful suits none = record {
   served = served_same known ledger lawful suits;
   lists = lists_none shaped (map decided_by known.facts) holds side output numbers none is;
+}
+
+-- The calls so far were answered, and the claims of the inputs before the next one are told.
+pub record IsTelling (old now : Known) (before after : Ledgered) (side : Side) (output input : ℕ) (row : List InputTold) : Type 0 where
+  pub served : HasServed old now before after
+  pub told : IsRow (map decided_by now.facts) side output row
+  pub size : length row ≡ input
+
+pub telling_start : (known : Known) (ledger : Ledgered) (side : Side) (output : ℕ) (row : List InputTold) → AreFacts known.graphs known.facts → Suits known ledger → row ≡ [] → IsTelling known known ledger ledger side output 0 row
+telling_start known ledger side output row lawful suits none = record {
+  served = served_same known ledger lawful suits;
+  told = subst (IsRow (map decided_by known.facts) side output) (sym none) (row_none (map decided_by known.facts) side output);
+  size = ap length none;
+}
+
+pub telling_more : (old mid new : Known) (a b c : Ledgered) (side : Side) (output input : ℕ) (row after : List InputTold) (told : InputTold) → IsTelling old mid a b side output input row → HasServed mid new b c → IsTold (map decided_by new.facts) side output input told → after ≡ row ++ told ∷ [] → IsTelling old new a c side output (input + 1) after
+telling_more old mid new a b c side output input row after told telling served is after_is = record {
+  served = served_then old mid new a b c telling.served served;
+  told = subst (IsRow (map decided_by new.facts) side output) (sym after_is) (row_push (map decided_by new.facts) side output row told (row_grows mid new side output row served.grows telling.told) (subst (λ (i : ℕ). IsTold (map decided_by new.facts) side output i told) (sym telling.size) is));
+  size = omega (arith, ap length after_is, length-append row (told ∷ []), telling.size);
 }

@@ -1,8 +1,9 @@
 -- Calls that have claims decided and hold bans, one after the other.
-use Rattle.std.proofs.Common.{◌≡◌, List, [], ◌∷◌, ◌++◌, map, Result, Ok, Err, sym, ap, subst, ◌∙◌, append_assoc, append-nil}
+use Rattle.std.proofs.Common.{◌≡◌, Bool, true, false, List, [], ◌∷◌, ◌++◌, map, Result, Ok, Err, sym, ap, subst, ◌∙◌, append_assoc, append-nil}
 use Rattle.std.proofs.lemmas.List.Elements.{All-push}
 use Rattle.cnf_core.specs.declared.stop.Stop.{Stop}
 use Rattle.cnf_core.specs.declared.stop.Stop.TheVariants.{Memory}
+use Rattle.circuits.specs.declared.port.Pair.{Pair}
 use Rattle.net_core.specs.Sides.{Graphs}
 use Rattle.query_core.specs.Ledgers.{Ledgered}
 use Rattle.account_core.specs.declared.step.Ban.{Ban}
@@ -12,6 +13,8 @@ use Rattle.account_core.specs.Steps.{AreValidBans, IsValidBan}
 use Rattle.oracle_core.specs.Oracles.{Known, Serves}
 use Rattle.ban_book.specs.Vectors.{AreLastResorts, IsLastResort, IsVector}
 use Rattle.ban_book.proofs.BookLemmas.{valid_push}
+use Rattle.claim_rows.specs.declared.tallies.Lists.{Lists}
+use Rattle.claim_rows.specs.Listed.{tally_of}
 use Rattle.fact_bans.specs.Serving.{AreValid, HasServed, HoldsBans, MayHold, OnlyAdds}
 use Rattle.fact_bans.proofs.ServeLemmas.{served_one, served_same, served_then, serves_err, serves_ok, serves_last, serves_memory, valid_grows}
 
@@ -139,3 +142,8 @@ holds_fail graphs old new a b bans result stop is may serves = record {
   valid = valid_grows old new graphs bans serves.grows may.valid;
   adds = adds_none bans;
 }
+
+-- no vector shows a tally's ban
+pub tally_no_vector : (pair : Pair) (holds : Bool) (lists : Lists) → IsVector (tally_of pair holds lists).step → ⊥
+tally_no_vector pair true lists vector = vector
+tally_no_vector pair false lists vector = vector

@@ -7,6 +7,7 @@ ghost use Rattle.account_core.specs.Given.{decided_by};
 ghost use Rattle.account_core.specs.Mismatches.{IsImage};
 ghost use Rattle.account_core.specs.Ports.{AreOrdered, IsKnown};
 ghost use Rattle.ban_book.specs.Covering.{Covers};
+ghost use Rattle.ban_book.specs.Vectors.{IsVector};
 ghost use Rattle.oracle_core.specs.Oracles.{Serves, Suits};
 ghost use Rattle.claim_rows.specs.Mismatched.{IsBanBy, mismatch_of};
 ghost use Rattle.fact_bans.specs.Serving.{HoldsBans, MayHold};
@@ -70,6 +71,7 @@ fn ban_by<O: Oracle>(
     ensures serves { Serves (O.known oracle.old) (O.known oracle.new) ledger.old ledger.new result }
     ensures ban { IfOk result (λ found. IfSome found
         (IsBanBy (O.known oracle.old).graphs (map decided_by (O.known oracle.new).facts) pairs.now)) }
+    ensures no_vector { IfOk result (λ found. IfSome found (λ ban. IsVector ban.step → ⊥)) }
 {
     let Some(unlike) = unlike_by(alloc, oracle, pairs, carried, seen, ledger)? else {
         return Ok(None);

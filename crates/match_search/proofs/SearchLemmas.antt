@@ -4,7 +4,8 @@ use Rattle.net_core.specs.Sides.{Graphs}
 use Rattle.query_core.specs.Ledgers.{Ledgered}
 use Rattle.account_core.specs.declared.step.Ban.{Ban}
 use Rattle.account_core.specs.Facts.{AreFacts}
-use Rattle.account_core.specs.Given.{decided_by}
+use Rattle.account_core.specs.Given.{Decided, decided_by}
+use Rattle.ban_book.specs.Vectors.{AreLastResorts}
 use Rattle.ban_book.proofs.VectorLemmas.{last_resorts_none}
 use Rattle.oracle_core.specs.Oracles.{Known, Suits}
 use Rattle.fact_bans.specs.Serving.{MayHold}
@@ -32,3 +33,7 @@ may_start graphs known ledger bans are lawful suits none = record {
   suits = suits;
   valid = none_valid graphs known bans are none;
 }
+
+-- no ban is by a vector where there is none
+pub none_last : (graphs : Graphs) (facts : List Decided) (bans : List Ban) → bans ≡ [] → AreLastResorts graphs facts bans
+none_last graphs facts bans none = subst (AreLastResorts graphs facts) (sym none) (last_resorts_none graphs facts)

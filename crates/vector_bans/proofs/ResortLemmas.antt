@@ -15,8 +15,10 @@ use Rattle.account_core.specs.Ports.{ports_in, IsKnown}
 use Rattle.oracle_core.specs.Oracles.{Grows, Known}
 use Rattle.ban_book.specs.Vectors.{AreEndsDecided}
 use Rattle.claim_rows.specs.declared.told.InputTold.{InputTold}
-use Rattle.claim_rows.specs.Rows.{AreRows, HasOneOutput, HaveNothing, IsRow, IsShownBan, IsShownByRows}
-use Rattle.claim_rows.proofs.RowLemmas.{claims_of_facts, ends_decided}
+use Rattle.claim_rows.specs.Rows.{AreRows, HasOneOutput, IsRow}
+use Rattle.claim_rows.specs.Shown.{HaveNothing, IsShownBan, IsShownByRows}
+use Rattle.ban_book.proofs.VectorLemmas.{facts_decided}
+use Rattle.claim_rows.proofs.RowLemmas.{ends_decided}
 use Rattle.fact_bans.proofs.FactLemmas.{row_grows}
 use Rattle.vector_bans.specs.Differences.{IsShown}
 use Rattle.vector_bans.specs.Resorts.{IsBanWithin, ShowNothing}
@@ -45,7 +47,7 @@ shown_by_rows graphs facts pairs pair one other (Some ban) rows is = is.each fac
 pub nothing_by_rows : (graphs : Graphs) (known : Known) (pairs : List Pair) (pair : Pair) (one other : List InputTold) (found : Option Ban) → AreFacts graphs known.facts → length one ≡ graphs.first.inputs → length other ≡ graphs.second.inputs → AreRows (map decided_by known.facts) pair one other → IfNone found (HaveNothing graphs pairs pair one other) → IfNone found (ShowNothing graphs (map decided_by known.facts) pair pairs)
 nothing_by_rows graphs known pairs pair one other None lawful first second rows is = record {
   decided = ends_decided graphs (map decided_by known.facts) pair one other first second rows;
-  no_facts = is.each (map decided_by known.facts) rows (claims_of_facts graphs known.facts lawful);
+  no_facts = is.each (map decided_by known.facts) rows (facts_decided graphs known.facts lawful);
 }
 nothing_by_rows graphs known pairs pair one other (Some ban) lawful first second rows is = is
 

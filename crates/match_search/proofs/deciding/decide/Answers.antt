@@ -1,5 +1,6 @@
 -- Guesses are compared, and then counts, more guesses and the search decide.
 use Rattle.std.proofs.Common.{◌∙◌, sym}
+use Rattle.match_search.proofs.SearchLemmas.{none_last}
 use Rattle.match_search.proofs.ServeLemmas.{served_one, serves_after}
 use Rattle.match_search.proofs.deciding.decide.Goals as goal
 

@@ -1,5 +1,6 @@
-use Rattle.std.proofs.Common.{◌∙◌, ◌<◌, length, ap, refl, sym, subst}
+use Rattle.std.proofs.Common.{◌∙◌, ◌≡◌, List, ap, length, refl, sym, subst}
 use Rattle.std.proofs.lemmas.Result.{err_from_is_err_and}
+use Rattle.claim_rows.specs.declared.told.InputTold.{InputTold}
 use Rattle.fact_bans.proofs.ServeLemmas.{served_one, served_then, serves_err, serves_memory, serves_ok}
 use Rattle.vector_bans.proofs.ResortLemmas.{both_rows, first_there, nothing_by_rows, second_there, shown_by_rows}
 use Rattle.vector_bans.proofs.last_resort.told_apart.Goals as goal
@@ -12,3 +13,29 @@ claims_of-requires-2-clause-graphs g c = c.requires.graphs ∙ sym c.in_ok-first
 
 pub claims_of-requires-2-clause-output : goal.claims_of-requires-2-clause-output
 claims_of-requires-2-clause-output g c = second_there c.args.graphs.now c.args.pairs.now c.args.pair c.requires.known c.requires.output
+
+pub ban_by_facts-requires-clause-first : goal.ban_by_facts-requires-clause-first
+ban_by_facts-requires-clause-first g c = ap length c.deref.ensures.value ∙ c.in_ok-first.ensures.whole
+
+pub ban_by_facts-requires-clause-second : goal.ban_by_facts-requires-clause-second
+ban_by_facts-requires-clause-second g c = ap length c.deref-2.ensures.value ∙ c.in_ok-second.ensures.whole
+
+pub returns-in_err-second-clause-serves : goal.returns-in_err-second-clause-serves
+returns-in_err-second-clause-serves g c =
+    let p = err_from_is_err_and c.from_residual-in_err-second.result c.from_residual-in_err-second.ensures.1 in
+    serves_err _ _ _ _ _ _ _ c.in_err-second.field-0.0 (cc (p.1, p.2)) (served_one _ _ _ _ _ c.in_ok-first.ensures.serves) c.in_err-second.ensures.serves
+
+pub returns-in_err-ban_by_facts-clause-serves : goal.returns-in_err-ban_by_facts-clause-serves
+returns-in_err-ban_by_facts-clause-serves g c =
+    let p = err_from_is_err_and c.from_residual-in_err-ban_by_facts.result c.from_residual-in_err-ban_by_facts.ensures.1 in
+    serves_memory _ _ _ _ _ (cc (p.1, p.2)) (served_then _ _ _ _ _ _ (served_one _ _ _ _ _ c.in_ok-first.ensures.serves) (served_one _ _ _ _ _ c.in_ok-second.ensures.serves))
+
+pub returns-clause-serves : goal.returns-clause-serves
+returns-clause-serves g c =
+    serves_ok _ _ _ _ _ _ refl (served_then _ _ _ _ _ _ (served_one _ _ _ _ _ c.in_ok-first.ensures.serves) (served_one _ _ _ _ _ c.in_ok-second.ensures.serves))
+
+pub returns-clause-shown : goal.returns-clause-shown
+returns-clause-shown g c = ?
+
+pub returns-clause-none : goal.returns-clause-none
+returns-clause-none g c = ?
