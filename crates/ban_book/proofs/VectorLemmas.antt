@@ -113,7 +113,7 @@ two_moved pairs exchanged a b i j moved is one =
     let w = moved_value exchanged second.0 b in
     two_are_two (nat_lt x y) x y y x v w w v (subst HasOneInput (sym second.2) one)
 
-shape_moved : (pairs : List Pair) (exchanged : Bool) (shape moved : Shape) → moved_shape pairs exchanged shape ≡ Some moved → (HasOneInput shape → HasOneInput moved) × (HasOneInput moved → HasOneInput shape)
+pub shape_moved : (pairs : List Pair) (exchanged : Bool) (shape moved : Shape) → moved_shape pairs exchanged shape ≡ Some moved → (HasOneInput shape → HasOneInput moved) × (HasOneInput moved → HasOneInput shape)
 shape_moved pairs exchanged (Up i) moved is = (λ one. one_moved pairs exchanged false i moved is, λ one. tt)
 shape_moved pairs exchanged (Down i) moved is = (λ one. one_moved pairs exchanged true i moved is, λ one. tt)
 shape_moved pairs exchanged (Swap i j a b) moved is = (λ one. absurd one, λ one. two_moved pairs exchanged a b i j moved is one)

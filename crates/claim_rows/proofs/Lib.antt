@@ -3,3 +3,8 @@ pub mod ListedLemmas
 pub mod TallyLemmas
 pub mod MismatchLemmas
 pub mod MismatchedLemmas
+pub mod PlaceLemmas
+pub mod RowLemmas
+pub mod UnevenLemmas
+pub mod EvenLemmas
+pub mod AlikeLemmas
