@@ -16,8 +16,8 @@ pub record HasServed (old new : Known) (before after : Ledgered) : Type 0 where
   pub suits : Suits new after
   pub keeps : Keeps old before after
 
--- What is known is of these circuits. Each ban is valid in view of the facts, and of the bans before it, and is by a vector only as a
--- last resort.
+-- What is known is of these circuits. Each ban is valid in view of the facts, and of the bans before it, and is by a vector
+-- only as a last resort.
 pub record AreValid (graphs : Graphs) (known : Known) (bans : List Ban) : Type 0 where
   pub graphs_are : graphs ≡ known.graphs
   pub each : AreValidBans graphs (map decided_by known.facts) bans

@@ -14,8 +14,8 @@ use port_sides::PairableGraphs;
 use query_core::Ledger;
 use std::alloc::Global;
 
-/// Has the claims of one input of all outputs decided, where a match was found: how each output hangs on each input is then among the
-/// facts.
+/// Has the claims of one input of all outputs decided, where a match was found: how each output hangs on each input is then
+/// among the facts.
 pub(crate) fn decide_found<O: Oracle>(
     alloc: Global,
     graphs: &PairableGraphs<'_>,

@@ -24,20 +24,20 @@ use query_core::Ledger;
 use std::alloc::Global;
 use table_guess::{Effort, Guesser};
 
-/// Up to how many inputs times outputs counts are looked at before all guesses: two words of 32 bits that are compared have 128. An adder of
-/// 128 bits has 33,024, and asks for seconds there, though its table is guessed in one.
+/// Up to how many inputs times outputs counts are looked at before all guesses: two words of 32 bits that are compared have
+/// 128. An adder of 128 bits has 33,024, and asks for seconds there, though its table is guessed in one.
 const FEW_FLIPS: u64 = 256;
 
-/// How often a refusal by counts is tried before more tables are guessed: once, since vectors that err there say little, and of circuits that
-/// match each further try is lost.
+/// How often a refusal by counts is tried before more tables are guessed: once, since vectors that err there say little, and of
+/// circuits that match each further try is lost.
 const FEW_TRIES: u32 = 1;
 
-/// Decides whether two circuits with as many ports match. Tables that are guessed are compared first; where none of them is a match,
-/// `search` decides. Of circuits with few claims, tables of little effort come first, then a refusal by counts, which takes little
-/// there, and then all guesses and the search. All draw by the seed.
+/// Decides whether two circuits with as many ports match. Tables that are guessed are compared first; where none of them is a
+/// match, `search` decides. Of circuits with few claims, tables of little effort come first, then a refusal by counts, which
+/// takes little there, and then all guesses and the search. All draw by the seed.
 ///
-/// The book's bans are valid in view of the oracle's facts, and each ban by a vector is a last resort, as `search` says, whatever is
-/// answered. Of a match that is guessed no claim is decided.
+/// The book's bans are valid in view of the oracle's facts, and each ban by a vector is a last resort, as `search` says,
+/// whatever is answered. Of a match that is guessed no claim is decided.
 ///
 /// # Errors
 ///
@@ -77,8 +77,8 @@ pub fn decide<O: Oracle>(
     }
 }
 
-// With how much effort tables are guessed at first: little where there are few claims of one input, so that counts may refuse a match
-// before all guesses failed.
+// With how much effort tables are guessed at first: little where there are few claims of one input, so that counts may refuse a
+// match before all guesses failed.
 fn first_effort(graphs: &PairableGraphs<'_>) -> Effort {
     let inputs = graphs.ports(PortKind::Input) as u64;
     let outputs = graphs.ports(PortKind::Output) as u64;

@@ -30,9 +30,9 @@ const MOST_TRIES: u32 = 32;
 /// From an impasse a ban is learned that leads as far back as it can, and the outputs of whole tables are compared. Pairs are
 /// tried on vectors; another seed draws other ones. `docs/SEARCH.md` tells how, and why it ends.
 ///
-/// The book's bans are valid in view of the oracle's facts, whatever is answered. A ban by a vector is a last resort: the claims of one
-/// input of its two outputs are decided, and neither a mismatch of these nor a tally is valid for its pairs. Where a match is
-/// found, the claims of one input of all outputs are decided after it.
+/// The book's bans are valid in view of the oracle's facts, whatever is answered. A ban by a vector is a last resort: the
+/// claims of one input of its two outputs are decided, and neither a mismatch of these nor a tally is valid for its pairs.
+/// Where a match is found, the claims of one input of all outputs are decided after it.
 ///
 /// # Errors
 ///

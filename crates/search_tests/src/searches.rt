@@ -169,11 +169,7 @@ fn by_both(alloc: Global, graphs: &Graphs<'_>) -> Result<(Answer, Answer), Alloc
     }
 }
 
-fn found(
-    alloc: Global,
-    first: Sample,
-    second: Sample,
-) -> Result<(Answer, Answer), Fail> {
+fn found(alloc: Global, first: Sample, second: Sample) -> Result<(Answer, Answer), Fail> {
     let both = pair(alloc, first, second)?;
     let graphs = both.graphs();
     Ok(by_both(alloc, &graphs)?)
@@ -203,10 +199,7 @@ const SEARCHES: &[(&str, Sample, Sample, Answer)] = &[
 fn both_oracles_find_the_same(rt: HostRuntime) -> Result<(), Fail> {
     for (name, first, second, answer) in SEARCHES.iter() {
         let (by_table, by_book) = found(rt.alloc(), *first, *second)?;
-        assert_eq!(rt;
-            (*name, by_table, by_book),
-            (*name, *answer, *answer)
-        );
+        assert_eq!(rt; (*name, by_table, by_book), (*name, *answer, *answer));
     }
     Ok(())
 }

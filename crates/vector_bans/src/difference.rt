@@ -38,9 +38,9 @@ pub(crate) struct Shown {
     pub(crate) values: Items<Tri>,
 }
 
-/// Holds a ban of pairs that a matching has, an output's and some of inputs', where the output differs from its partner on a vector of
-/// the first circuit's inputs, and answers its number. The claims of one input of both outputs are decided. Where these show a ban of
-/// such pairs, that is held, and else the vector's.
+/// Holds a ban of pairs that a matching has, an output's and some of inputs', where the output differs from its partner on a
+/// vector of the first circuit's inputs, and answers its number. The claims of one input of both outputs are decided. Where
+/// these show a ban of such pairs, that is held, and else the vector's.
 ///
 /// # Errors
 ///

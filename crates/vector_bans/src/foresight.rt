@@ -23,9 +23,10 @@ use query_core::Ledger;
 use std::alloc::{AllocError, Global};
 use table_guess::{Suspect, Trials};
 
-/// Where a held output's partner is wrong on one of the vectors that pairs are tried on, whatever the inputs have that aren't paired:
-/// holds a ban of held pairs, and answers its number. The claims of one input of both outputs are decided. Where these show a ban of the
-/// pairs on which the partner is wrong, that is held, and else the vector's. None where no vector shows that a partner is wrong.
+/// Where a held output's partner is wrong on one of the vectors that pairs are tried on, whatever the inputs have that aren't
+/// paired: holds a ban of held pairs, and answers its number. The claims of one input of both outputs are decided. Where these
+/// show a ban of the pairs on which the partner is wrong, that is held, and else the vector's. None where no vector shows that
+/// a partner is wrong.
 ///
 /// # Errors
 ///
@@ -70,8 +71,8 @@ fn suspected(
     }
 }
 
-// The held pairs on which a vector shows that a held output's partner is wrong, if it is. The pairs of inputs that this doesn't need are
-// left out.
+// The held pairs on which a vector shows that a held output's partner is wrong, if it is. The pairs of inputs that this doesn't
+// need are left out.
 fn wrong_pairs(
     alloc: Global,
     graphs: &PairableGraphs<'_>,
