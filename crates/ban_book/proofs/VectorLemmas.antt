@@ -1,11 +1,10 @@
 -- Bans that vectors show as a last resort: they stay so as facts and bans come.
-use Rattle.std.proofs.Common.{◌≡◌, ◌≢◌, ◌⊎◌, ℕ, ◌<◌, Bool, true, false, List, [], ◌∷◌, ◌++◌, length, map, get_or, All, AllPairs, Option, None, Some, refl, sym, ap, subst, ◌∙◌, inl, inr, arith, length-append}
+use Rattle.std.proofs.Common.{◌≡◌, ◌⊎◌, ℕ, ◌<◌, Bool, true, false, List, [], ◌∷◌, ◌++◌, length, map, get_or, All, Some, refl, sym, ap, subst, ◌∙◌, inl, inr, arith}
 use Rattle.std.specs.Prelude.{Contains, nat_lt, option_map, if◌then◌else◌}
-use Rattle.std.specs.List.{AllZip, flat_map}
+use Rattle.std.specs.List.{flat_map}
 use Rattle.std.proofs.lemmas.Bool.{cases_lt}
-use Rattle.std.proofs.lemmas.Option.{same_Some}
 use Rattle.std.proofs.lemmas.List.{get_or_append_left, get_or_default, get_or-map, length-map, map-append}
-use Rattle.std.proofs.lemmas.List.Elements.{All-append, All-cons, All-contains, All-nil, All-push, Contains-append_left, Contains-get_or}
+use Rattle.std.proofs.lemmas.List.Elements.{All-append, All-cons, All-contains, All-nil, All-push, Contains-append_left}
 use Rattle.circuits.specs.declared.port.Pair.{Pair}
 use Rattle.circuits.specs.declared.port.PortKind.TheVariants.{Input, Output}
 use Rattle.net_core.specs.Sides.{Graphs}
@@ -16,7 +15,7 @@ use Rattle.query_core.specs.declared.claims.Claim.{Claim}
 use Rattle.query_core.specs.declared.claims.Shape.{Shape}
 use Rattle.query_core.specs.declared.claims.Shape.TheVariants.{Up, Down, Swap}
 use Rattle.query_core.specs.Claims.{IsClaim, IsPlaced}
-use Rattle.query_core.specs.Images.{claim_of_second, image_of, moved_one, moved_shape, moved_two, moved_value, one_input, pair_of}
+use Rattle.query_core.specs.Images.{claim_of_second, moved_one, moved_shape, moved_two, moved_value, one_input, pair_of}
 use Rattle.query_core.proofs.ImageLemmas.{chained, mapped}
 use Rattle.account_core.specs.declared.fact.Evidence.{Evidence}
 use Rattle.account_core.specs.declared.fact.Evidence.TheVariants as evidence
@@ -28,7 +27,7 @@ use Rattle.account_core.specs.declared.step.Tallied.TheVariants.{Support, Binate
 use Rattle.account_core.specs.Facts.{AreFacts}
 use Rattle.account_core.specs.Given.{Decided, Given, decided, decided_by, fact_at, given_of, no_fact, shown_by, IsFactGiven}
 use Rattle.account_core.specs.Mismatches.{IsImage}
-use Rattle.account_core.specs.Tallies.{other_side, port_on, shapes_of, AreBothOfEach, AreOfEach, HaveShapes, LackShapes, SayOf}
+use Rattle.account_core.specs.Tallies.{other_side, port_on, shapes_of, AreOfEach, HaveShapes, LackShapes, SayOf}
 use Rattle.account_core.proofs.Matched.{pair_of-held}
 use Rattle.ban_book.specs.Vectors.{AddsNoVector, AreDecided, AreEndsDecided, AreInputsDecided, AreLastResorts, HasOneInput, HaveNoFacts, IsDecided, IsLastResort, IsShownBy, IsVector}
 use Rattle.ban_book.proofs.ShownLemmas.{IsSame, mismatch_in, tally_in}
@@ -154,11 +153,15 @@ each_is_one [] [] zip = All-nil HasOneInput
 each_is_one [] (shape ∷ shapes) zip = absurd zip
 each_is_one (i ∷ inputs) [] zip = absurd zip
 each_is_one (i ∷ inputs) (shape ∷ shapes) zip =
-    All-cons HasOneInput shape shapes (elim zip.0 [inl is ↦ subst HasOneInput (sym is) tt | inr is ↦ subst HasOneInput (sym is) tt]) (each_is_one inputs shapes zip.1)
+    All-cons HasOneInput shape shapes (elim zip.0 [ inl is ↦ subst HasOneInput (sym is) tt | inr is ↦ subst HasOneInput (sym is) tt ]) (each_is_one inputs shapes zip.1)
 
-both_are_one : (inputs : List ℕ) → All HasOneInput (flat_map (λ i. Up i ∷ Down i ∷ []) inputs)
+abbrev both : ℕ → List Shape
+both i = Up i ∷ Down i ∷ []
+
+both_are_one : (inputs : List ℕ) → All HasOneInput (flat_map both inputs)
 both_are_one [] = All-nil HasOneInput
-both_are_one (i ∷ inputs) = All-cons HasOneInput (Up i) _ tt (All-cons HasOneInput (Down i) _ tt (both_are_one inputs))
+both_are_one (i ∷ inputs) =
+    All-cons HasOneInput (Up i) (Down i ∷ flat_map both inputs) tt (All-cons HasOneInput (Down i) (flat_map both inputs) tt (both_are_one inputs))
 
 have_one : (kind : Tallied) (inputs : List ℕ) (shapes : List Shape) → HaveShapes kind inputs shapes → All HasOneInput shapes
 have_one Support inputs shapes are = each_is_one inputs shapes are
