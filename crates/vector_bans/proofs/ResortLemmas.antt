@@ -1,5 +1,5 @@
 -- Rows of claims of one input show a ban, or the vector's is a last resort.
-use Rattle.std.proofs.Common.{◌≡◌, ◌<◌, List, length, map, Option, None, Some, sym, subst}
+use Rattle.std.proofs.Common.{◌≡◌, ◌<◌, All, List, length, map, Option, None, Some, sym, subst}
 use Rattle.std.specs.Prelude.{IfNone, IfSome}
 use Rattle.std.proofs.lemmas.List.Elements.{All-contains, All-contains_itself}
 use Rattle.circuits.specs.declared.port.Pair.{Pair}

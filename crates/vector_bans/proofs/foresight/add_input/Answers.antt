@@ -1,4 +1,4 @@
-use Rattle.std.proofs.Common.{get_or}
+use Rattle.std.proofs.Common.{rules, get_or}
 use Rattle.port_covers.proofs.OrderLemmas.{held_apart}
 use Rattle.vector_bans.proofs.ForesightLemmas.{inputs_more}
 use Rattle.vector_bans.proofs.foresight.add_input.Goals as goal
@@ -9,4 +9,4 @@ add-requires-clause-apart c =
 
 pub returns : goal.returns
 returns c =
-    inputs_more c.args.held.now c.args.pairs.now.items c.add.new.needed.items c.args.pair c.requires.inputs c.requires.held ? c.in_ok-add.ensures.ordered c.in_ok-add.ensures.only
+    inputs_more c.args.held.now c.args.pairs.now.items c.add.new.needed.items c.args.pair c.requires.inputs c.requires.held (search rules) c.in_ok-add.ensures.ordered c.in_ok-add.ensures.only

@@ -6,7 +6,7 @@ use Rattle.vector_bans.proofs.ForesightLemmas.{inputs_none, output_one, output_p
 use Rattle.vector_bans.proofs.foresight.inputs_and.Goals as goal
 
 pub loop-other-init : goal.loop-other-init
-loop-other-init c = subst (AreHeldInputs c.args.held.now) (sym c.new-pairs.ensures) (inputs_none c.args.held.now)
+loop-other-init c = subst (AreHeldInputs c.args.held.now) (sym c.new-pairs.ensures.items) (inputs_none c.args.held.now)
 
 pub returns-clause-part : goal.returns-clause-part
 returns-clause-part c =

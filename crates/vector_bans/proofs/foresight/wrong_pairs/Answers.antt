@@ -19,4 +19,4 @@ leave_out_latest-requires-clause-shown c =
 
 pub returns : goal.returns
 returns c =
-    shown_made_among c.args.graphs.now c.args.held.now c.in_ok-pairs.pairs.items c.in_ok-pairs-2.pairs.items c.from_vec-pairs-3.result c.args.suspect.now.pair c.deref-4.result.now c.in_ok-values.values c.from_vec-pairs-3.ensures c.deref-4.ensures.value c.in_ok-pairs.ensures.part.among c.in_ok-pairs-2.ensures
+    shown_made_among c.args.graphs.now c.args.held.now c.in_ok-pairs.pairs.items c.in_ok-pairs-2.pairs.items c.from_vec-pairs.result c.args.suspect.now.pair c.deref-4.result.now c.in_ok-values.values c.from_vec-pairs.ensures c.deref-4.ensures.value c.in_ok-pairs.ensures.part.among c.in_ok-pairs-2.ensures

@@ -1,5 +1,10 @@
-use Rattle.std.proofs.Common.{◌∙◌, ◌≡◌, List, ap, length, refl, sym, subst}
+use Rattle.std.proofs.Common.{◌∙◌, List, ap, length, map, refl, sym, subst}
 use Rattle.std.proofs.lemmas.Result.{err_from_is_err_and}
+use Rattle.net_core.specs.Sides.{Graphs}
+use Rattle.net_core.specs.declared.graphs.Side.TheVariants.{First, Second}
+use Rattle.account_core.specs.Facts.{AreFacts}
+use Rattle.account_core.specs.Given.{decided_by}
+use Rattle.claim_rows.specs.Rows.{IsRow}
 use Rattle.claim_rows.specs.declared.told.InputTold.{InputTold}
 use Rattle.fact_bans.proofs.ServeLemmas.{served_one, served_then, serves_err, serves_memory, serves_ok}
 use Rattle.vector_bans.proofs.ResortLemmas.{both_rows, first_there, nothing_by_rows, second_there, shown_by_rows}
@@ -35,7 +40,23 @@ returns-clause-serves g c =
     serves_ok _ _ _ _ _ _ refl (served_then _ _ _ _ _ _ (served_one _ _ _ _ _ c.in_ok-first.ensures.serves) (served_one _ _ _ _ _ c.in_ok-second.ensures.serves))
 
 pub returns-clause-shown : goal.returns-clause-shown
-returns-clause-shown g c = ?
+returns-clause-shown g c =
+    let mid = g.O.Oracle.known c.claims_of.new.oracle in
+    let new = g.O.Oracle.known c.claims_of-2.new.oracle in
+    let one = subst (λ (row : List InputTold). IsRow (map decided_by mid.facts) First c.args.pair.from row) (sym c.deref.ensures.value) c.in_ok-first.ensures.row in
+    let other = subst (λ (row : List InputTold). IsRow (map decided_by new.facts) Second c.args.pair.to row) (sym c.deref-2.ensures.value) c.in_ok-second.ensures.row in
+    let rows = both_rows mid new c.args.pair c.deref.result.now c.deref-2.result.now c.in_ok-second.ensures.serves.grows one other in
+    shown_by_rows c.args.graphs.now (map decided_by new.facts) c.args.pairs.now c.args.pair c.deref.result.now c.deref-2.result.now c.in_ok-ban_by_facts.field-0 rows c.in_ok-ban_by_facts.ensures.shown
 
 pub returns-clause-none : goal.returns-clause-none
-returns-clause-none g c = ?
+returns-clause-none g c =
+    let mid = g.O.Oracle.known c.claims_of.new.oracle in
+    let new = g.O.Oracle.known c.claims_of-2.new.oracle in
+    let one = subst (λ (row : List InputTold). IsRow (map decided_by mid.facts) First c.args.pair.from row) (sym c.deref.ensures.value) c.in_ok-first.ensures.row in
+    let other = subst (λ (row : List InputTold). IsRow (map decided_by new.facts) Second c.args.pair.to row) (sym c.deref-2.ensures.value) c.in_ok-second.ensures.row in
+    let rows = both_rows mid new c.args.pair c.deref.result.now c.deref-2.result.now c.in_ok-second.ensures.serves.grows one other in
+    let first = ap length c.deref.ensures.value ∙ c.in_ok-first.ensures.whole in
+    let second = ap length c.deref-2.ensures.value ∙ c.in_ok-second.ensures.whole in
+    let graphs_are = c.requires.graphs ∙ (sym c.in_ok-first.ensures.serves.grows.graphs ∙ sym c.in_ok-second.ensures.serves.grows.graphs) in
+    let lawful = subst (λ (gr : Graphs). AreFacts gr new.facts) (sym graphs_are) c.in_ok-second.ensures.serves.grows.lawful in
+    nothing_by_rows c.args.graphs.now new c.args.pairs.now c.args.pair c.deref.result.now c.deref-2.result.now c.in_ok-ban_by_facts.field-0 lawful first second rows c.in_ok-ban_by_facts.ensures.none
