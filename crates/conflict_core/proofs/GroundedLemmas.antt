@@ -13,6 +13,7 @@ use Rattle.account_core.specs.Steps.{AreValidBans, IsValidBan}
 use Rattle.account_core.proofs.Growing.{ban_stays_valid}
 use Rattle.ban_book.specs.Covering.{Covers}
 use Rattle.ban_book.proofs.BookLemmas.{covers_last, covers_later, valid_push}
+use Rattle.ban_book.proofs.VectorLemmas.{no_vector_more, no_vector_none, no_vector_one}
 use Rattle.port_covers.specs.Levels.{HoldsMore, IsClosed}
 use Rattle.port_covers.proofs.ClosedLemmas.{ban_pairs}
 use Rattle.class_refine.specs.declared.entry.Entry.{Entry}
@@ -28,12 +29,13 @@ use Rattle.conflict_core.proofs.JustifiedLemmas.{named_later}
 use Rattle.conflict_core.proofs.ReferLemmas.{IsReferring}
 
 pub learns_none : (graphs : Graphs) (es : List Entry) (bans : List Ban) → LearnsMore graphs es bans bans
-learns_none graphs es bans = record { added = []; more = sym (append-nil bans); valid = λ facts grounded valid. valid }
+learns_none graphs es bans = record { added = []; more = sym (append-nil bans); no_vector = no_vector_none; valid = λ facts grounded valid. valid }
 
 pub learns_twice : (graphs : Graphs) (es : List Entry) (first second third : List Ban) → LearnsMore graphs es first second → LearnsMore graphs es second third → LearnsMore graphs es first third
 learns_twice graphs es first second third one other = record {
   added = one.added ++ other.added;
   more = other.more ∙ (ap (λ l. l ++ other.added) one.more ∙ append_assoc first one.added other.added);
+  no_vector = no_vector_more one.added other.added one.no_vector other.no_vector;
   valid = λ facts grounded valid. other.valid facts grounded (one.valid facts grounded valid);
 }
 
@@ -42,6 +44,7 @@ pub learns_holds : (graphs : Graphs) (es : List Entry) (before after : List Ban)
 learns_holds graphs es before after more = record {
   added = more.added;
   more = more.more;
+  no_vector = more.no_vector;
   valid = λ facts grounded valid. more.valid facts valid;
 }
 
@@ -56,6 +59,7 @@ learns_mismatch graphs es before after way with fails holds there (inl same) =
 learns_mismatch graphs es before after way with fails holds there (inr more) = record {
   added = mismatch_ban way with fails holds ∷ [];
   more = more;
+  no_vector = no_vector_one (mismatch_ban way with fails holds) (λ vector. vector);
   valid = λ facts grounded valid. subst (AreValidBans graphs facts) (sym more) (valid_push graphs facts before (mismatch_ban way with fails holds) valid (shown_at graphs facts es way with fails holds there grounded before));
 }
 

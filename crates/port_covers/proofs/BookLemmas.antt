@@ -15,8 +15,10 @@ use Rattle.account_core.specs.Given.{Decided, given_of}
 use Rattle.account_core.specs.Covers.{IsReference}
 use Rattle.account_core.specs.Steps.{AreValidBans, IsValidBan}
 use Rattle.ban_book.specs.Covering.{Covers}
+use Rattle.ban_book.specs.Vectors.{IsVector}
 pub use Rattle.ban_book.proofs.BookLemmas.{covers_last}
 use Rattle.ban_book.proofs.BookLemmas.{covers_later, valid_push}
+use Rattle.ban_book.proofs.VectorLemmas.{no_vector_more, no_vector_none, no_vector_one}
 use Rattle.port_covers.specs.declared.level.Level.{Level}
 use Rattle.account_core.specs.Tallies.{Ascend, other_side}
 use Rattle.port_covers.specs.Held.{AreHeld, IsPart}
@@ -24,13 +26,14 @@ use Rattle.port_covers.specs.Levels.{nth_way, ports_tried, ways_of, AreClosed, H
 use Rattle.port_covers.proofs.ClosedLemmas.{all_ways}
 
 pub holds_none : (graphs : Graphs) (bans : List Ban) → HoldsMore graphs bans bans
-holds_none graphs bans = record { added = []; more = sym (append-nil bans); valid = λ facts valid. valid }
+holds_none graphs bans = record { added = []; more = sym (append-nil bans); no_vector = no_vector_none; valid = λ facts valid. valid }
 
--- one more valid ban is held
-pub holds_one : (graphs : Graphs) (bans after : List Ban) (ban : Ban) → after ≡ bans ++ ban ∷ [] → ((facts : List Decided) → IsValidBan graphs (given_of facts bans) ban) → HoldsMore graphs bans after
-holds_one graphs bans after ban is valid = record {
+-- one more valid ban is held, which no vector shows
+pub holds_one : (graphs : Graphs) (bans after : List Ban) (ban : Ban) → after ≡ bans ++ ban ∷ [] → (IsVector ban.step → ⊥) → ((facts : List Decided) → IsValidBan graphs (given_of facts bans) ban) → HoldsMore graphs bans after
+holds_one graphs bans after ban is none valid = record {
   added = ban ∷ [];
   more = is;
+  no_vector = no_vector_one ban none;
   valid = λ facts before. subst (AreValidBans graphs facts) (sym is) (valid_push graphs facts bans ban before (valid facts));
 }
 
@@ -38,6 +41,7 @@ pub holds_twice : (graphs : Graphs) (first second third : List Ban) → HoldsMor
 holds_twice graphs first second third one other = record {
   added = one.added ++ other.added;
   more = other.more ∙ (ap (λ l. l ++ other.added) one.more ∙ append_assoc first one.added other.added);
+  no_vector = no_vector_more one.added other.added one.no_vector other.no_vector;
   valid = λ facts valid. other.valid facts (one.valid facts valid);
 }
 

@@ -13,6 +13,7 @@ use Rattle.account_core.specs.Ports.{ports_in}
 use Rattle.account_core.specs.Given.{Decided, given_of}
 use Rattle.account_core.specs.Covers.{way, IsReference}
 use Rattle.account_core.specs.Steps.{AreValidBans}
+use Rattle.ban_book.specs.Vectors.{AddsNoVector}
 use Rattle.port_covers.specs.declared.level.Level.{Level}
 
 -- of a port of a circuit and one of the other: that of the first circuit, and that of the second
@@ -48,8 +49,9 @@ AreClosed bans pairs level =
 abbrev pub ways_of : Graphs → Level → ℕ
 ways_of graphs level = 2 * ports_in graphs.second level.kind
 
--- Bans came after those that were held, and where those were valid all are, in view of any facts.
+-- Bans came after those that were held, and no vector shows them. Where those before were valid all are, in view of any facts.
 pub record HoldsMore (graphs : Graphs) (before after : List Ban) : Type 0 where
   pub added : List Ban
   pub more : after ≡ before ++ added
+  pub no_vector : AddsNoVector added
   pub valid : (facts : List Decided) → AreValidBans graphs facts before → AreValidBans graphs facts after

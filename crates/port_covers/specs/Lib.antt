@@ -2,3 +2,4 @@ pub mod Held
 pub mod Levels
 pub use Rattle.account_core.specs.Steps
 pub use Rattle.ban_book.specs.Covering
+pub use Rattle.ban_book.specs.Vectors

@@ -7,6 +7,7 @@ ghost use Rattle.account_core.specs.Ports.{AreOrdered, IsKnown, ports_in};
 ghost use Rattle.account_core.specs.Given.{Decided as AnyFact, given_of};
 ghost use Rattle.account_core.specs.Steps.{IsValidBan};
 ghost use Rattle.ban_book.specs.Covering.{Covers};
+ghost use Rattle.ban_book.specs.Vectors.{IsVector};
 ghost use Rattle.port_covers.specs.Held.{AreApart, IsPart};
 ghost use Rattle.port_covers.specs.Levels.{ports_tried, ways_of, AreClosed, HoldsMore};
 
@@ -56,6 +57,7 @@ fn ban_of_ways(
     ensures valid { IfOk result (λ ban. (facts : List AnyFact) (bans : List AnyBan)
         → AreClosed bans pairs.now level
         → IsValidBan graphs.now (given_of facts bans) ban) }
+    ensures step { IfOk result (λ ban. IsVector ban.step → ⊥) }
     ensures pairs { IfOk result (λ ban. ban.pairs ≡ pairs.now) }
 {
     let count = graphs.ports(level.kind);
