@@ -154,11 +154,15 @@ each_is_one [] [] zip = All-nil HasOneInput
 each_is_one [] (shape ∷ shapes) zip = absurd zip
 each_is_one (i ∷ inputs) [] zip = absurd zip
 each_is_one (i ∷ inputs) (shape ∷ shapes) zip =
-    All-cons HasOneInput shape shapes (elim zip.0 [inl is ↦ subst HasOneInput (sym is) tt | inr is ↦ subst HasOneInput (sym is) tt]) (each_is_one inputs shapes zip.1)
+    All-cons HasOneInput shape shapes (elim zip.0 [ inl is ↦ subst HasOneInput (sym is) tt | inr is ↦ subst HasOneInput (sym is) tt ]) (each_is_one inputs shapes zip.1)
 
-both_are_one : (inputs : List ℕ) → All HasOneInput (flat_map (λ i. Up i ∷ Down i ∷ []) inputs)
+abbrev both : ℕ → List Shape
+both i = Up i ∷ Down i ∷ []
+
+both_are_one : (inputs : List ℕ) → All HasOneInput (flat_map both inputs)
 both_are_one [] = All-nil HasOneInput
-both_are_one (i ∷ inputs) = All-cons HasOneInput (Up i) _ tt (All-cons HasOneInput (Down i) _ tt (both_are_one inputs))
+both_are_one (i ∷ inputs) =
+    All-cons HasOneInput (Up i) (Down i ∷ flat_map both inputs) tt (All-cons HasOneInput (Down i) (flat_map both inputs) tt (both_are_one inputs))
 
 have_one : (kind : Tallied) (inputs : List ℕ) (shapes : List Shape) → HaveShapes kind inputs shapes → All HasOneInput shapes
 have_one Support inputs shapes are = each_is_one inputs shapes are
