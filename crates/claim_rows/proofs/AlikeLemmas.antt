@@ -1,6 +1,6 @@
 -- Mismatches by rows: what is told apart shows a ban, and where all is told alike there is none.
-use Rattle.std.proofs.Common.{◌≡◌, ◌≢◌, ◌⊎◌, ℕ, ◌<◌, Bool, true, false, List, [], ◌∷◌, length, All, Some, refl, sym, ap, subst, ◌∙◌, inl, inr, arith}
-use Rattle.std.specs.Prelude.{Contains, option_and_then, option_map}
+use Rattle.std.proofs.Common.{◌≡◌, ◌≢◌, ◌⊎◌, ℕ, ◌<◌, Bool, true, false, List, [], ◌∷◌, length, All, Option, None, Some, refl, sym, ap, subst, ◌∙◌, inl, inr, arith}
+use Rattle.std.specs.Prelude.{Contains, IfNone, option_and_then, option_map}
 use Rattle.std.proofs.lemmas.Bool.{false≢true}
 use Rattle.std.proofs.lemmas.List.Elements.{All-cons, All-contains, All-nil}
 use Rattle.circuits.specs.declared.port.Pair.{Pair}
@@ -130,3 +130,8 @@ module _ (graphs : Graphs) (facts : List Decided) (pairs : List Pair) (output : 
         | inr image ↦
             false≢true (sym shown.rule.one_fails ∙ (sym (alike_facts holds fails shown.names.1 shown.names.0 image (one_back pairs (fact holds).claim (fact fails).claim image single)) ∙ shown.rule.other_holds))
       ]
+
+-- what follows of nothing being there
+pub none_then : {X : Type 0} (found : Option X) (P Q : Type 0) → IfNone found P → (P → Q) → IfNone found Q
+none_then None P Q is then = then is
+none_then (Some x) P Q is then = is

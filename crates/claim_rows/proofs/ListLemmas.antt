@@ -48,7 +48,6 @@ zip_map R S (x ∷ xs) [] then are = absurd are
 zip_map R S (x ∷ xs) (y ∷ ys) then are = (then x y are.0, zip_map R S xs ys then are.1)
 
 -- what the first elements give, and one more
-pub flat_taken : {A B : Type 0} (f : A → List B) (xs : List A) (index : ℕ) (x : A) (before after : List B) → index < length xs → x ≡ get_or xs index x → before ≡ flat_map f (take index xs) → after ≡ before ++ f x → after ≡ flat_map f (take (index + 1) xs)
-flat_taken f xs index x before after below same is more =
-    let taken : take (index + 1) xs ≡ take index xs ++ x ∷ [] = take_more xs index x below ∙ ap (λ y. take index xs ++ y ∷ []) (sym same) in
-    more ∙ (ap (λ l. l ++ f x) is ∙ (sym (flat_push f (take index xs) x) ∙ ap (flat_map f) (sym taken)))
+pub flat_taken : {A B : Type 0} (f : A → List B) (xs : List A) (index : ℕ) (d : A) (before after : List B) → index < length xs → before ≡ flat_map f (take index xs) → after ≡ before ++ f (get_or xs index d) → after ≡ flat_map f (take (index + 1) xs)
+flat_taken f xs index d before after below is more =
+    more ∙ (ap (λ l. l ++ f (get_or xs index d)) is ∙ (sym (flat_push f (take index xs) (get_or xs index d)) ∙ ap (flat_map f) (sym (take_more xs index d below))))

@@ -8,7 +8,7 @@ use Rattle.query_core.specs.declared.claims.Claim.{Claim}
 use Rattle.query_core.specs.declared.claims.Shape.{Shape}
 use Rattle.query_core.specs.declared.claims.Shape.TheVariants.{Up, Down}
 use Rattle.query_core.specs.Images.{one_input}
-use Rattle.account_core.specs.Given.{Decided, fact_at, given_of, IsFactGiven}
+use Rattle.account_core.specs.Given.{Decided, fact_at, given_of, no_fact, IsFactGiven}
 use Rattle.account_core.specs.Tallies.{shapes_of, AreOfEach, SayOf}
 use Rattle.claim_rows.specs.Told.{AddsFact, IsToldAs}
 use Rattle.claim_rows.specs.Listed.{ListsBoth, ListsOf, ListsOne}

@@ -1,5 +1,5 @@
 -- A tally's ban by rows: what it lists, how long that is, and that it is valid.
-use Rattle.std.proofs.Common.{◌≡◌, ℕ, zero, suc, ◌+◌, ◌*◌, ◌/◌, ◌<◌, ◌≤◌, ◌||◌, ◌&&◌, Bool, true, false, not, List, [], ◌∷◌, ◌++◌, length, take, filter, get_or, count_by, append-nil, append_assoc, refl, sym, ap, subst, ◌∙◌, inl, inr, arith}
+use Rattle.std.proofs.Common.{◌≡◌, ℕ, zero, suc, ◌+◌, ◌*◌, ◌/◌, ◌<◌, ◌≤◌, ◌||◌, ◌&&◌, Bool, true, false, not, cond, List, [], ◌∷◌, ◌++◌, length, take, filter, get_or, count_by, append-nil, append_assoc, refl, sym, ap, subst, ◌∙◌, inl, inr, arith}
 use Rattle.std.specs.Bool.{beq}
 use Rattle.std.specs.List.{flat_map}
 use Rattle.std.proofs.lemmas.Bool.{and_parts, cases_Bool, cond-false, cond-true}
@@ -97,15 +97,15 @@ one_length holds told rest row same =
     elim (cases_Bool (beq told.up.holds holds)) [
       | inl e ↦
           let passes : says_one holds told ≡ true = ap (λ b. b || beq told.down.holds holds) e in
-          omega (arith, same, ap (λ (l : List ℕ). length (l ++ rest)) (cond-true (beq told.up.holds holds) (told.up.number ∷ []) _ e), ap length (cond-true (says_one holds told) (told ∷ filter (says_one holds) row) (filter (says_one holds) row) passes))
+          omega (arith, same, ap (λ (l : List ℕ). length (l ++ rest)) (cond-true (beq told.up.holds holds) (told.up.number ∷ []) (cond (beq told.down.holds holds) (told.down.number ∷ []) []) e), ap length (cond-true (says_one holds told) (told ∷ filter (says_one holds) row) (filter (says_one holds) row) passes))
       | inr e ↦
           elim (cases_Bool (beq told.down.holds holds)) [
             | inl f ↦
                 let passes : says_one holds told ≡ true = ap (λ b. b || beq told.down.holds holds) e ∙ f in
-                omega (arith, same, ap (λ (l : List ℕ). length (l ++ rest)) (cond-false (beq told.up.holds holds) (told.up.number ∷ []) _ e ∙ cond-true (beq told.down.holds holds) (told.down.number ∷ []) [] f), ap length (cond-true (says_one holds told) (told ∷ filter (says_one holds) row) (filter (says_one holds) row) passes))
+                omega (arith, same, ap (λ (l : List ℕ). length (l ++ rest)) (cond-false (beq told.up.holds holds) (told.up.number ∷ []) (cond (beq told.down.holds holds) (told.down.number ∷ []) []) e ∙ cond-true (beq told.down.holds holds) (told.down.number ∷ []) [] f), ap length (cond-true (says_one holds told) (told ∷ filter (says_one holds) row) (filter (says_one holds) row) passes))
             | inr f ↦
                 let fails : says_one holds told ≡ false = ap (λ b. b || beq told.down.holds holds) e ∙ f in
-                omega (arith, same, ap (λ (l : List ℕ). length (l ++ rest)) (cond-false (beq told.up.holds holds) (told.up.number ∷ []) _ e ∙ cond-false (beq told.down.holds holds) (told.down.number ∷ []) [] f), ap length (cond-false (says_one holds told) (told ∷ filter (says_one holds) row) (filter (says_one holds) row) fails))
+                omega (arith, same, ap (λ (l : List ℕ). length (l ++ rest)) (cond-false (beq told.up.holds holds) (told.up.number ∷ []) (cond (beq told.down.holds holds) (told.down.number ∷ []) []) e ∙ cond-false (beq told.down.holds holds) (told.down.number ∷ []) [] f), ap length (cond-false (says_one holds told) (told ∷ filter (says_one holds) row) (filter (says_one holds) row) fails))
           ]
     ]
 

@@ -54,7 +54,7 @@ fn first_apart(
     ensures none { IfNone result (All (λ pair. pair.kind ≡ Input → AreAlike output first.now second.now pair) pairs.now) }
 {
     for input in pairs.iter() {
-        if let Some(apart) = apart(*input, output, first, second) {
+        if let Some(apart) = told_apart(*input, output, first, second) {
             return Some(apart);
         }
     }
@@ -62,7 +62,7 @@ fn first_apart(
 }
 
 // The facts that tell a pair, if it is of an input, apart from an output's pair.
-fn apart(
+fn told_apart(
     input: Pair,
     output: Pair,
     first: &[InputTold],
