@@ -62,12 +62,7 @@ fn first_apart(
 }
 
 // The facts that tell a pair, if it is of an input, apart from an output's pair.
-fn told_apart(
-    input: Pair,
-    output: Pair,
-    first: &[InputTold],
-    second: &[InputTold],
-) -> Option<Apart>
+fn told_apart(input: Pair, output: Pair, first: &[InputTold], second: &[InputTold]) -> Option<Apart>
     requires from { input.kind ≡ Input → input.from < length first.now }
     requires to { input.kind ≡ Input → input.to < length second.now }
     ensures some { IfSome result (λ apart. (apart.input ≡ input) × IsApart output first.now second.now apart) }
