@@ -1,6 +1,6 @@
 -- Mismatches by rows: what is told apart shows a ban, and where all is told alike there is none.
-use Rattle.std.proofs.Common.{◌≡◌, ◌≢◌, ◌⊎◌, ℕ, ◌<◌, Bool, true, false, List, [], ◌∷◌, length, All, Some, refl, sym, ap, subst, ◌∙◌, inl, inr, arith}
-use Rattle.std.specs.Prelude.{Contains, option_and_then, option_map}
+use Rattle.std.proofs.Common.{◌≡◌, ℕ, ◌<◌, Bool, true, false, List, [], ◌∷◌, length, All, Option, None, Some, refl, sym, ap, subst, ◌∙◌, inl, inr, arith}
+use Rattle.std.specs.Prelude.{Contains, IfNone, option_map}
 use Rattle.std.proofs.lemmas.Bool.{false≢true}
 use Rattle.std.proofs.lemmas.List.Elements.{All-cons, All-contains, All-nil}
 use Rattle.circuits.specs.declared.port.Pair.{Pair}
@@ -24,7 +24,7 @@ use Rattle.ban_book.proofs.VectorLemmas.{shape_moved}
 use Rattle.claim_rows.specs.declared.told.InputTold.{InputTold}
 use Rattle.claim_rows.specs.declared.mismatched.Unlike.{Unlike}
 use Rattle.claim_rows.specs.Mismatched.{mismatch_of, unlike_of, IsBanBy}
-use Rattle.claim_rows.specs.Rows.{told_at, AreAlike, AreRows, HasOneOutput, IsMismatchBan, IsRow}
+use Rattle.claim_rows.specs.Rows.{told_at, AreAlike, AreRows, HasOneOutput, IsMismatchBan}
 use Rattle.claim_rows.specs.Shown.{IsShownBan}
 use Rattle.claim_rows.proofs.MismatchLemmas.{input_before, input_from, input_image, input_to, two_known, two_ordered}
 use Rattle.claim_rows.proofs.MismatchedLemmas.{mismatch_valid}
@@ -42,7 +42,7 @@ apart_shown graphs facts pairs output one other ban known has first second is ro
     let here = row_tells facts First output.from one input.from value rows.first (omega (arith, first, input_from graphs input of_input known_input)) in
     let there = row_tells facts Second output.to other input.to moved rows.second (omega (arith, second, input_to graphs input of_input known_input)) in
     let by : IsBanBy graphs facts (input ∷ output ∷ []) (mismatch_of (input ∷ output ∷ []) (unlike_of (told_at one input.from value).holds (told_at one input.from value).number (told_at other input.to moved).number)) =
-        mismatch_valid graphs facts (input ∷ output ∷ []) _ _ (told_at one input.from value).holds (told_at other input.to moved).holds (told_at one input.from value).number (told_at other input.to moved).number (two_known graphs input output known_input known_output) (two_ordered input output (input_before input output of_input has.of_output)) (refl, input_image input output value of_input has.of_output) here there is.is.is.differ in
+    mismatch_valid graphs facts (input ∷ output ∷ []) _ _ (told_at one input.from value).holds (told_at other input.to moved).holds (told_at one input.from value).number (told_at other input.to moved).number (two_known graphs input output known_input known_output) (two_ordered input output (input_before input output of_input has.of_output)) (refl, input_image input output value of_input has.of_output) here there is.is.is.differ in
     let shown = subst (λ (u : Unlike). IsBanBy graphs facts (input ∷ output ∷ []) (mismatch_of (input ∷ output ∷ []) u)) (sym is.is.is.unlike_is) by in
     subst (IsShownBan graphs facts pairs) (sym is.ban_is) (record {
       valid = shown.valid;
@@ -130,3 +130,8 @@ module _ (graphs : Graphs) (facts : List Decided) (pairs : List Pair) (output : 
         | inr image ↦
             false≢true (sym shown.rule.one_fails ∙ (sym (alike_facts holds fails shown.names.1 shown.names.0 image (one_back pairs (fact holds).claim (fact fails).claim image single)) ∙ shown.rule.other_holds))
       ]
+
+-- what follows of nothing being there
+pub none_then : {X : Type 0} (found : Option X) (P Q : Type 0) → IfNone found P → (P → Q) → IfNone found Q
+none_then None P Q is then = then is
+none_then (Some x) P Q is then = is

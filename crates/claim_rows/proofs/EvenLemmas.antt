@@ -1,5 +1,5 @@
 -- Where two outputs depend on as many inputs, and are binate in as many, no tally of theirs is valid.
-use Rattle.std.proofs.Common.{◌≡◌, ◌⊎◌, ℕ, ◌+◌, ◌<◌, ◌≤◌, ◌||◌, ◌&&◌, Bool, true, false, not, List, [], ◌∷◌, length, get_or, All, count_by, refl, sym, ap, ap₂, subst, ◌∙◌, inl, inr, arith}
+use Rattle.std.proofs.Common.{◌≡◌, ◌⊎◌, ℕ, ◌+◌, ◌<◌, ◌≤◌, ◌||◌, ◌&&◌, Bool, true, false, List, [], ◌∷◌, length, get_or, All, count_by, refl, sym, ap, ap₂, subst, ◌∙◌, inl, inr, arith}
 use Rattle.std.specs.Prelude.{Contains}
 use Rattle.std.specs.Bool.{beq}
 use Rattle.std.proofs.lemmas.List.{get_or-map, length-map}
@@ -9,7 +9,6 @@ use Rattle.circuits.specs.declared.port.PortKind.TheVariants.{Output}
 use Rattle.net_core.specs.Sides.{Graphs, graph_of}
 use Rattle.net_core.specs.declared.graphs.Side.{Side}
 use Rattle.net_core.specs.declared.graphs.Side.TheVariants.{First, Second}
-use Rattle.query_core.specs.declared.claims.Claim.{Claim}
 use Rattle.query_core.specs.declared.claims.Shape.{Shape}
 use Rattle.query_core.specs.declared.claims.Shape.TheVariants.{Up, Down}
 use Rattle.query_core.specs.Claims.{IsClaim, IsPlaced}
@@ -17,7 +16,7 @@ use Rattle.query_core.specs.Images.{one_input}
 use Rattle.account_core.specs.declared.step.Step.TheVariants as step
 use Rattle.account_core.specs.declared.step.Tallied.{Tallied}
 use Rattle.account_core.specs.declared.step.Tallied.TheVariants.{Support, Binate}
-use Rattle.account_core.specs.Given.{Decided, decided, fact_at, given_of, no_fact, IsFactGiven}
+use Rattle.account_core.specs.Given.{Decided, fact_at, given_of, no_fact, IsFactGiven}
 use Rattle.account_core.specs.Tallies.{other_side, port_on, shapes_of, AreBothOfEach, AreOfEach, Ascend, HaveShapes, LackShapes, SayOf}
 use Rattle.account_core.proofs.Listed.{given_by, zipped}
 use Rattle.ban_book.specs.Vectors.{AreDecided, IsShownBy}

@@ -1,6 +1,7 @@
 -- Lists that grow at their end.
-use Rattle.std.proofs.Common.{◌≡◌, ℕ, suc, ◌+◌, ◌<◌, List, [], ◌∷◌, ◌++◌, length, All, refl, sym, ap, ◌∙◌, subst, append_assoc, append-nil, arith}
+use Rattle.std.proofs.Common.{◌≡◌, ℕ, suc, ◌+◌, ◌<◌, List, [], ◌∷◌, ◌++◌, length, take, get_or, All, refl, sym, ap, ◌∙◌, subst, append_assoc, append-nil, arith}
 use Rattle.std.specs.List.{AllZip, flat_map}
+use Rattle.std.proofs.lemmas.List.{take_more}
 use Rattle.std.proofs.lemmas.List.Elements.{All-push}
 use Rattle.std.proofs.lemmas.List.Quantifiers.{all_pairs_push}
 use Rattle.account_core.specs.Tallies.{Ascend}
@@ -45,3 +46,8 @@ zip_map R S [] [] then are = tt
 zip_map R S [] (y ∷ ys) then are = absurd are
 zip_map R S (x ∷ xs) [] then are = absurd are
 zip_map R S (x ∷ xs) (y ∷ ys) then are = (then x y are.0, zip_map R S xs ys then are.1)
+
+-- what the first elements give, and one more
+pub flat_taken : {A B : Type 0} (f : A → List B) (xs : List A) (index : ℕ) (d : A) (before after : List B) → index < length xs → before ≡ flat_map f (take index xs) → after ≡ before ++ f (get_or xs index d) → after ≡ flat_map f (take (index + 1) xs)
+flat_taken f xs index d before after below is more =
+    more ∙ (ap (λ l. l ++ f (get_or xs index d)) is ∙ (sym (flat_push f (take index xs) (get_or xs index d)) ∙ ap (flat_map f) (sym (take_more xs index d below))))

@@ -1,5 +1,5 @@
 -- Lists of facts' numbers.
-use Rattle.std.proofs.Common.{◌≡◌, ◌⊎◌, ℕ, zero, suc, ◌+◌, ◌*◌, ◌<◌, Bool, true, false, List, [], ◌∷◌, ◌++◌, length, map, get_or, All, refl, sym, ap, subst, ◌∙◌, inl, inr, append_assoc, arith}
+use Rattle.std.proofs.Common.{◌≡◌, ◌⊎◌, ℕ, suc, ◌+◌, ◌*◌, ◌<◌, Bool, true, false, List, [], ◌∷◌, ◌++◌, length, get_or, All, refl, sym, ap, subst, ◌∙◌, inl, inr, append_assoc, arith}
 use Rattle.std.specs.List.{flat_map}
 use Rattle.std.proofs.lemmas.List.{map_push, get_or_append_left, length-append, length-map}
 use Rattle.std.proofs.lemmas.List.Elements.{All-push}
@@ -8,7 +8,7 @@ use Rattle.query_core.specs.declared.claims.Claim.{Claim}
 use Rattle.query_core.specs.declared.claims.Shape.{Shape}
 use Rattle.query_core.specs.declared.claims.Shape.TheVariants.{Up, Down}
 use Rattle.query_core.specs.Images.{one_input}
-use Rattle.account_core.specs.Given.{Decided, fact_at, given_of, IsFactGiven}
+use Rattle.account_core.specs.Given.{Decided, fact_at, given_of, no_fact, IsFactGiven}
 use Rattle.account_core.specs.Tallies.{shapes_of, AreOfEach, SayOf}
 use Rattle.claim_rows.specs.Told.{AddsFact, IsToldAs}
 use Rattle.claim_rows.specs.Listed.{ListsBoth, ListsOf, ListsOne}
@@ -44,6 +44,7 @@ module _ (facts added : List Decided) where
       of_output = λ k d h. ap (λ (fact : Decided). fact.claim.output) (fact_stays (get_or numbers k d) (is.known k d h)) ∙ is.say.of_output k d h;
     };
   }
+
 -- nothing is listed yet
 pub lists_none : (shaped : List ℕ → List Shape → Type 0) (facts : List Decided) (holds : Bool) (side : Side) (output : ℕ) (numbers : List ℕ) → numbers ≡ [] → shaped [] [] → ListsOf shaped facts holds side output 0 numbers
 lists_none shaped facts holds side output numbers none is =

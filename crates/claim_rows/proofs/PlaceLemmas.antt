@@ -1,5 +1,5 @@
 -- Numbers that ascend, each the place of an element that passes a test, are no more than such elements.
-use Rattle.std.proofs.Common.{◌≡◌, ℕ, zero, suc, ◌+◌, ◌<◌, ◌≤◌, Bool, true, false, List, [], ◌∷◌, length, filter, get_or, All, count_by, ap, inl, inr, refl, subst, sym, arith}
+use Rattle.std.proofs.Common.{◌≡◌, ℕ, zero, suc, ◌+◌, ◌<◌, ◌≤◌, Bool, true, List, [], ◌∷◌, length, filter, get_or, All, count_by, ap, inl, inr, subst, arith}
 use Rattle.std.proofs.lemmas.Bool.{cases_Bool, cases_lt, cond-true, cond-false}
 use Rattle.std.proofs.lemmas.List.Sums.{length-filter}
 use Rattle.account_core.specs.Tallies.{Ascend}
@@ -59,7 +59,7 @@ pub ascending_count : {X : Type 0} (p : X → Bool) (row : List X) (d : X) (numb
 ascending_count p row d numbers ascend within passes =
     subst (λ n. length numbers ≤ n) (length-filter p row) (count_from p row d 0 numbers ascend (λ k e below. record {
       place = get_or numbers k e;
-      is = refl;
+      is = omega arith;
       within = within k e below;
       passes = passes k e below;
     }))

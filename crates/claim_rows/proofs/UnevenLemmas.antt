@@ -1,9 +1,9 @@
 -- A tally's ban by rows: what it lists, how long that is, and that it is valid.
-use Rattle.std.proofs.Common.{◌≡◌, ℕ, zero, suc, ◌+◌, ◌*◌, ◌/◌, ◌<◌, ◌≤◌, ◌||◌, ◌&&◌, Bool, true, false, not, List, [], ◌∷◌, ◌++◌, length, take, filter, get_or, count_by, append-nil, append_assoc, refl, sym, ap, subst, ◌∙◌, inl, inr, arith}
+use Rattle.std.proofs.Common.{◌≡◌, ℕ, zero, suc, ◌+◌, ◌*◌, ◌<◌, ◌≤◌, ◌||◌, ◌&&◌, Bool, true, false, not, cond, List, [], ◌∷◌, ◌++◌, length, take, filter, get_or, count_by, append-nil, append_assoc, refl, sym, ap, subst, ◌∙◌, inl, inr, arith}
 use Rattle.std.specs.Bool.{beq}
 use Rattle.std.specs.List.{flat_map}
 use Rattle.std.proofs.lemmas.Bool.{and_parts, cases_Bool, cond-false, cond-true}
-use Rattle.std.proofs.lemmas.List.{length-append, take_all, take_more}
+use Rattle.std.proofs.lemmas.List.{take_all, take_more}
 use Rattle.std.proofs.lemmas.List.Elements.{All-cons, All-contains, All-nil}
 use Rattle.std.proofs.lemmas.List.Filters.{length-filter_both}
 use Rattle.std.proofs.lemmas.List.Sums.{count_by-le-length, length-filter}
@@ -14,7 +14,6 @@ use Rattle.net_core.specs.Sides.{Graphs}
 use Rattle.net_core.specs.declared.graphs.Side.{Side}
 use Rattle.query_core.specs.declared.claims.Claim.{Claim}
 use Rattle.query_core.specs.declared.claims.Shape.{Shape}
-use Rattle.query_core.specs.declared.claims.Shape.TheVariants.{Up, Down}
 use Rattle.account_core.specs.declared.step.Ban.{Ban}
 use Rattle.account_core.specs.Given.{Decided, given_of}
 use Rattle.account_core.specs.Ports.{IsKnown}
@@ -22,7 +21,6 @@ use Rattle.account_core.specs.Steps.{IsValidBan}
 use Rattle.account_core.specs.Tallies.{other_side, port_on, AreBothOfEach, AreOfEach}
 use Rattle.ban_book.specs.Vectors.{IsVector}
 use Rattle.claim_rows.specs.declared.told.InputTold.{InputTold}
-use Rattle.claim_rows.specs.declared.tallies.Lists.{Lists}
 use Rattle.claim_rows.specs.Told.{AddsFact, IsToldAs}
 use Rattle.claim_rows.specs.Listed.{tally_of, tally_step, AreLists, ListsBoth, ListsOf, ListsOne}
 use Rattle.claim_rows.specs.Rows.{both_of, lists_by, no_told, one_of, row_on, says_both, says_one, AreRows, HasOneOutput, IsRow, IsTallyBan, IsTold}
@@ -97,15 +95,15 @@ one_length holds told rest row same =
     elim (cases_Bool (beq told.up.holds holds)) [
       | inl e ↦
           let passes : says_one holds told ≡ true = ap (λ b. b || beq told.down.holds holds) e in
-          omega (arith, same, ap (λ (l : List ℕ). length (l ++ rest)) (cond-true (beq told.up.holds holds) (told.up.number ∷ []) _ e), ap length (cond-true (says_one holds told) (told ∷ filter (says_one holds) row) (filter (says_one holds) row) passes))
+          omega (arith, same, ap (λ (l : List ℕ). length (l ++ rest)) (cond-true (beq told.up.holds holds) (told.up.number ∷ []) (cond (beq told.down.holds holds) (told.down.number ∷ []) []) e), ap length (cond-true (says_one holds told) (told ∷ filter (says_one holds) row) (filter (says_one holds) row) passes))
       | inr e ↦
           elim (cases_Bool (beq told.down.holds holds)) [
             | inl f ↦
                 let passes : says_one holds told ≡ true = ap (λ b. b || beq told.down.holds holds) e ∙ f in
-                omega (arith, same, ap (λ (l : List ℕ). length (l ++ rest)) (cond-false (beq told.up.holds holds) (told.up.number ∷ []) _ e ∙ cond-true (beq told.down.holds holds) (told.down.number ∷ []) [] f), ap length (cond-true (says_one holds told) (told ∷ filter (says_one holds) row) (filter (says_one holds) row) passes))
+                omega (arith, same, ap (λ (l : List ℕ). length (l ++ rest)) (cond-false (beq told.up.holds holds) (told.up.number ∷ []) (cond (beq told.down.holds holds) (told.down.number ∷ []) []) e ∙ cond-true (beq told.down.holds holds) (told.down.number ∷ []) [] f), ap length (cond-true (says_one holds told) (told ∷ filter (says_one holds) row) (filter (says_one holds) row) passes))
             | inr f ↦
                 let fails : says_one holds told ≡ false = ap (λ b. b || beq told.down.holds holds) e ∙ f in
-                omega (arith, same, ap (λ (l : List ℕ). length (l ++ rest)) (cond-false (beq told.up.holds holds) (told.up.number ∷ []) _ e ∙ cond-false (beq told.down.holds holds) (told.down.number ∷ []) [] f), ap length (cond-false (says_one holds told) (told ∷ filter (says_one holds) row) (filter (says_one holds) row) fails))
+                omega (arith, same, ap (λ (l : List ℕ). length (l ++ rest)) (cond-false (beq told.up.holds holds) (told.up.number ∷ []) (cond (beq told.down.holds holds) (told.down.number ∷ []) []) e ∙ cond-false (beq told.down.holds holds) (told.down.number ∷ []) [] f), ap length (cond-false (says_one holds told) (told ∷ filter (says_one holds) row) (filter (says_one holds) row) fails))
           ]
     ]
 

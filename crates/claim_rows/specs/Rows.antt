@@ -1,6 +1,7 @@
--- What is told of an output's claims of one input, by inputs (unateness and support of functions, as in textbooks of logic synthesis;
--- a match keeps both: Katebi and Markov, DATE 2010).
-use Rattle.std.specs.Prelude.{◌≡◌, ◌≢◌, ℕ, ◌<◌, ◌||◌, ◌&&◌, Bool, true, false, not, List, [], ◌∷◌, All, Contains, count_by, slice_index_or, if◌then◌else◌}
+-- What is told of an output's claims of one input, by inputs (unateness and support of functions, as in textbooks of logic
+-- synthesis; a match keeps both: Katebi and Markov, DATE 2010).
+use Rattle.std.specs.Prelude.{◌≡◌, ◌≢◌, ℕ, ◌<◌, ◌||◌, ◌&&◌, Bool, true, false, not, if◌then◌else◌}
+use Rattle.std.specs.Prelude.{List, [], ◌∷◌, All, Contains, count_by, slice_index_or}
 use Rattle.std.specs.Bool.{beq}
 use Rattle.std.specs.List.{flat_map}
 use Rattle.circuits.specs.Literals.{EachAt}

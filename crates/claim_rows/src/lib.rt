@@ -9,7 +9,7 @@ mod row_bans;
 mod tallies;
 mod told;
 
-pub use mismatched::{Carried, Unlike, carried, mismatch_ban, unlike_of};
+pub use mismatched::{Carried, Unlike, carry, mismatch_ban, unlike_of};
 pub use ports::{moved_value, one_input, two_inputs};
 pub use row_bans::ban_by_facts;
 pub use tallies::{Lists, tally_ban};

@@ -19,8 +19,8 @@ pub(crate) struct Apart {
     pub(crate) unlike: Unlike,
 }
 
-/// The ban of an input's pair and an output's where a claim of the first circuit is told otherwise than the one that they carry it to,
-/// by the outputs' rows: of the first such input among some pairs.
+/// The ban of an input's pair and an output's where a claim of the first circuit is told otherwise than the one that they carry
+/// it to, by the outputs' rows: of the first such input among some pairs.
 pub(crate) fn mismatch_by_rows(
     alloc: Global,
     pairs: &[Pair],
@@ -54,7 +54,7 @@ fn first_apart(
     ensures none { IfNone result (All (λ pair. pair.kind ≡ Input → AreAlike output first.now second.now pair) pairs.now) }
 {
     for input in pairs.iter() {
-        if let Some(apart) = apart(*input, output, first, second) {
+        if let Some(apart) = told_apart(*input, output, first, second) {
             return Some(apart);
         }
     }
@@ -62,12 +62,7 @@ fn first_apart(
 }
 
 // The facts that tell a pair, if it is of an input, apart from an output's pair.
-fn apart(
-    input: Pair,
-    output: Pair,
-    first: &[InputTold],
-    second: &[InputTold],
-) -> Option<Apart>
+fn told_apart(input: Pair, output: Pair, first: &[InputTold], second: &[InputTold]) -> Option<Apart>
     requires from { input.kind ≡ Input → input.from < length first.now }
     requires to { input.kind ≡ Input → input.to < length second.now }
     ensures some { IfSome result (λ apart. (apart.input ≡ input) × IsApart output first.now second.now apart) }

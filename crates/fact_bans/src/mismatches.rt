@@ -13,7 +13,7 @@ use crate::mismatched::{hold_by, unlike_by};
 use crate::seen::Seen;
 use ban_book::BanBook;
 use circuits::Pair;
-use claim_rows::{Unlike, carried, moved_value};
+use claim_rows::{Unlike, carry, moved_value};
 use cnf_core::Stop;
 use net_core::Side;
 use oracle_core::Oracle;
@@ -48,7 +48,7 @@ pub fn mismatch<O: Oracle>(
     let Some(value) = value_to_ask(input, output, seen) else {
         return Ok(None);
     };
-    let carried = carried(input, output, value);
+    let carried = carry(input, output, value);
     hold_by(
         alloc,
         graphs,
@@ -91,7 +91,7 @@ pub fn tell_apart<O: Oracle>(
     let Some(value) = value_to_ask(input, output, seen) else {
         return Ok(None);
     };
-    let carried = carried(input, output, value);
+    let carried = carry(input, output, value);
     unlike_by(alloc, oracle, &[input, output], carried, seen, ledger)
 }
 
