@@ -18,7 +18,7 @@ pub returns-in-None-clause-settled : goal.returns-in-None-clause-settled
 returns-in-None-clause-settled g c =
     shown_match c.args.graphs.now c.in_ok-matching.matching c.compare_all.new.logs c.first-first.ensures.sound c.second-second.ensures.sound c.in_ok-matching.ensures.ports (rw c.in-None.is at c.in_ok-compare_all.ensures.same)
 
-pub exclude-requires-clause-may : goal.exclude-in-Some-requires-clause-may
+pub exclude-requires-clause-may : goal.exclude-requires-clause-may
 exclude-requires-clause-may g c =
     may_later _ _ _ _ _ _ _ c.requires.may (held_kept _ _ _ _ _ _ _ c.requires.may.valid (served_one _ _ _ _ _ c.in_ok-compare_all.ensures.serves) refl)
 
