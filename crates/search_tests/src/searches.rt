@@ -101,7 +101,7 @@ enum Answer {
     Stopped,
 }
 
-fn answer(found: &Result<Found, Stop>, facts: &[Fact], bans: &[Ban]) -> Answer {
+fn answer_of(found: &Result<Found, Stop>, facts: &[Fact], bans: &[Ban]) -> Answer {
     match found {
         Ok(Found::Match(_, _)) => Answer::Match(of_one_input(facts)),
         Ok(Found::None(_)) => Answer::NoMatch {
@@ -143,7 +143,7 @@ fn found_by<O: Oracle>(alloc: Global, graphs: &PairableGraphs<'_>, oracle: &mut 
     let mut book = BanBook::new(alloc);
     let mut ledger = Ledger::new(alloc, 1_000_000);
     let found = search(alloc, graphs, oracle, &mut book, 1, &mut ledger);
-    answer(&found, oracle.facts(), book.bans())
+    answer_of(&found, oracle.facts(), book.bans())
 }
 
 /// What a search over the oracle that tries all vectors finds.
