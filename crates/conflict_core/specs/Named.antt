@@ -5,7 +5,7 @@ use Rattle.account_core.specs.declared.step.Ban.{Ban}
 use Rattle.account_core.specs.Covers.{IsImpossible}
 use Rattle.account_core.specs.Ports.{Clash}
 use Rattle.ban_book.specs.Covering.{Covers}
-use Rattle.port_covers.specs.Levels.{nth_way}
+use Rattle.port_covers.specs.Ways.{nth_way}
 use Rattle.class_refine.specs.declared.entry.Entry.{Entry}
 use Rattle.class_refine.specs.declared.entry.Fate.TheVariants.{Deleted}
 use Rattle.class_refine.specs.declared.entry.Reason.{Reason}

@@ -61,8 +61,8 @@ pub fn cover_port(
         way_of(resolved),
         &mut pairs,
     )?;
-    let level = refer(alloc, graphs, domains, port, &pairs, resolved, made, book)?;
-    let ban = hold_cover(alloc, graphs, &pairs, level, book)?;
+    let ways = refer(alloc, graphs, domains, port, &pairs, resolved, made, book)?;
+    let ban = hold_cover(alloc, graphs, &pairs, ways, book)?;
     Ok(Conflict { pairs, ban })
 }
 

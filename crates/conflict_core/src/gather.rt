@@ -2,7 +2,7 @@
 
 ghost use Rattle.std.specs.Prelude.{◌≡◌, ◌↔◌, ◌*◌, ◌<◌, All, AllPairs, Contains, IsTrue, OnOk, Some};
 ghost use Rattle.account_core.specs.Covers.{IsImpossible};
-ghost use Rattle.port_covers.specs.Held.{AreApart, IsPart};
+ghost use Rattle.port_covers.specs.Held.{AddsHeld, AreApart, IsPart};
 ghost use Rattle.class_refine.specs.Trails.{IsPairOf, ports_of};
 ghost use Rattle.conflict_core.specs.Named.{AreNamed, EachWay, IsGathered, IsLeftOutOr, IsNamedIn};
 
@@ -12,7 +12,7 @@ use circuits::Pair;
 use class_refine::{Domains, Reason};
 use port_covers::clash::clashing;
 use port_covers::cover::{add_one, add_others};
-use port_covers::level::nth_way;
+use port_covers::ways::nth_way;
 use std::alloc::AllocError;
 
 /// Adds held pairs to those of a conflict, until all ways of a port but one that is left out are impossible beside
@@ -32,8 +32,7 @@ pub(crate) fn gather(
     requires named { EachWay port (ports_of domains.now.inputs domains.now.outputs port.kind)
         (λ way. IsLeftOutOr skipped way (IsNamedIn bans.now domains.now.entries held.now way)) }
     requires part { IsPart held.now conflict.old.items }
-    ensures part { OnOk result (IsPart held.now conflict.new.items) }
-    ensures stays { OnOk result (All (Contains conflict.new.items) conflict.old.items) }
+    ensures adds { OnOk result (AddsHeld held.now conflict.old.items conflict.new.items) }
     ensures gathered { OnOk result (EachWay port (ports_of domains.now.inputs domains.now.outputs port.kind)
         (λ way. IsLeftOutOr skipped way (IsGathered bans.now domains.now.entries conflict.new.items way))) }
 {
@@ -58,8 +57,7 @@ fn gather_way(
     requires apart { AllPairs AreApart held.now }
     requires named { IsLeftOutOr skipped way (IsNamedIn bans.now domains.now.entries held.now way) }
     requires part { IsPart held.now conflict.old.items }
-    ensures part { OnOk result (IsPart held.now conflict.new.items) }
-    ensures stays { OnOk result (All (Contains conflict.new.items) conflict.old.items) }
+    ensures adds { OnOk result (AddsHeld held.now conflict.old.items conflict.new.items) }
     ensures gathered { OnOk result
         (IsLeftOutOr skipped way (IsGathered bans.now domains.now.entries conflict.new.items way)) }
 {
@@ -107,8 +105,7 @@ fn add_named(
     requires apart { AllPairs AreApart held.now }
     requires named { AreNamed bans.now held.now way reason }
     requires part { IsPart held.now conflict.old.items }
-    ensures part { OnOk result (IsPart held.now conflict.new.items) }
-    ensures stays { OnOk result (All (Contains conflict.new.items) conflict.old.items) }
+    ensures adds { OnOk result (AddsHeld held.now conflict.old.items conflict.new.items) }
     ensures named { OnOk result (AreNamed bans.now conflict.new.items way reason) }
 {
     match reason {

@@ -156,13 +156,6 @@ empty_ban bans ban covers = record {
     no_pairs [] all = refl
     no_pairs (x ∷ pairs) all = let there = all 0 x (omega arith) in absurd (omega (arith, there.1))
 
--- more bans change nothing of what follows
-pub trail_later : (graphs : Graphs) (before after : List Ban) (d : Domained) → LearnsMore graphs d.entries before after → IsTrail graphs before d → IsTrail graphs after d
-trail_later graphs before after d more is = record {
-  fit = is.fit;
-  justified = justified_later d.inputs d.outputs before more.added after d.entries more.more is.justified;
-}
-
 fit_same : (graphs : Graphs) (n m n2 m2 : ℕ) → n2 ≡ n → m2 ≡ m → FitPorts graphs n m → FitPorts graphs n2 m2
 fit_same graphs n m n2 m2 n_is m_is fit = subst (λ k. FitPorts graphs k m2) (sym n_is) (subst (λ k. FitPorts graphs n k) (sym m_is) fit)
 

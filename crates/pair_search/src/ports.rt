@@ -2,11 +2,11 @@
 
 ghost use Rattle.std.specs.Prelude.{◌≡◌, ◌<◌, ◌≤◌, ◌*◌, ◌^◌, ℕ, ◌⊎◌, Contains, IfNone, IfOk, IfSome, IsTrue, OnOk, false};
 ghost use Rattle.net_core.specs.declared.graphs.Side.TheVariants.{First, Second};
-ghost use Rattle.port_covers.specs.Levels.{nth_way};
+ghost use Rattle.port_covers.specs.Ways.{nth_way};
 ghost use Rattle.account_core.specs.Tallies.{port_on};
 ghost use Rattle.class_refine.specs.Trails.{IsDeleted, IsFreePort, IsOpen, IsPairOf, held_in, ports_of};
 ghost use Rattle.conflict_core.specs.Grounded.{StayGrounded};
-ghost use Rattle.conflict_core.specs.Justified.{AreJustified};
+ghost use Rattle.conflict_core.specs.Justified.{IsJustifiedTrail};
 ghost use Rattle.pair_search.specs.Impasses.{HasNoWay, IsImpasse};
 ghost use Rattle.pair_search.specs.Progress.{Propagates, left};
 
@@ -16,7 +16,7 @@ use circuits::Pair;
 use class_refine::{Cause, Domains, Reason};
 use conflict_core::Port;
 use net_core::Side;
-use port_covers::level::nth_way;
+use port_covers::ways::nth_way;
 use std::alloc::AllocError;
 
 /// Where a port has one way left, which is open, holds it. It answers whether it has none.
@@ -26,7 +26,7 @@ pub(crate) fn apply_port(
     port: Port,
 ) -> Result<bool, AllocError>
     requires there { port.number < ports_of domains.old.inputs domains.old.outputs port.kind }
-    requires justified { AreJustified domains.old.inputs domains.old.outputs bans.now domains.old.entries }
+    requires justified { IsJustifiedTrail bans.now domains.old }
     ensures propagates { OnOk result (Propagates bans.now domains.old domains.new) }
     ensures none { IfOk result (λ none. IsTrue none → HasNoWay domains.new.inputs domains.new.outputs domains.new.entries port) }
 {
@@ -55,8 +55,8 @@ pub fn branch(
 ) -> Result<Option<Impasse>, AllocError>
     requires there { port.number < ports_of domains.old.inputs domains.old.outputs port.kind }
     requires free { IsFreePort domains.old.entries port.side port.kind port.number }
-    requires justified { AreJustified domains.old.inputs domains.old.outputs bans.now domains.old.entries }
-    ensures justified { OnOk result (AreJustified domains.new.inputs domains.new.outputs bans.now domains.new.entries) }
+    requires justified { IsJustifiedTrail bans.now domains.old }
+    ensures justified { OnOk result (IsJustifiedTrail bans.now domains.new) }
     ensures inputs { OnOk result (domains.new.inputs ≡ domains.old.inputs) }
     ensures outputs { OnOk result (domains.new.outputs ≡ domains.old.outputs) }
     ensures grounded { OnOk result (StayGrounded domains.old.entries domains.new.entries) }
