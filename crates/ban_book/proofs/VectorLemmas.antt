@@ -30,13 +30,8 @@ use Rattle.account_core.specs.Given.{Decided, Given, decided, decided_by, fact_a
 use Rattle.account_core.specs.Mismatches.{IsImage}
 use Rattle.account_core.specs.Tallies.{other_side, port_on, shapes_of, AreBothOfEach, AreOfEach, HaveShapes, LackShapes, SayOf}
 use Rattle.account_core.proofs.Matched.{pair_of-held}
-use Rattle.ban_book.specs.Vectors.{AddsNoVector, AreEndsDecided, AreInputsDecided, AreLastResorts, HasOneInput, HaveNoFacts, IsDecided, IsLastResort, IsShownBy, IsVector}
+use Rattle.ban_book.specs.Vectors.{AddsNoVector, AreDecided, AreEndsDecided, AreInputsDecided, AreLastResorts, HasOneInput, HaveNoFacts, IsDecided, IsLastResort, IsShownBy, IsVector}
 use Rattle.ban_book.proofs.ShownLemmas.{IsSame, mismatch_in, tally_in}
-
--- The claims of facts are well placed, and no two facts are of one claim.
-pub record AreDecided (graphs : Graphs) (facts : List Decided) : Type 0 where
-  pub placed : All (λ fact. IsClaim graphs fact.claim) facts
-  pub distinct : AllPairs (λ one other. one.claim ≢ other.claim) facts
 
 -- facts decide claims that are apart
 claim_shown : (claim : Claim) (e : Evidence) → (shown_by claim e).claim ≡ claim
@@ -118,7 +113,7 @@ two_moved pairs exchanged a b i j moved is one =
     let w = moved_value exchanged second.0 b in
     two_are_two (nat_lt x y) x y y x v w w v (subst HasOneInput (sym second.2) one)
 
-shape_moved : (pairs : List Pair) (exchanged : Bool) (shape moved : Shape) → moved_shape pairs exchanged shape ≡ Some moved → (HasOneInput shape → HasOneInput moved) × (HasOneInput moved → HasOneInput shape)
+pub shape_moved : (pairs : List Pair) (exchanged : Bool) (shape moved : Shape) → moved_shape pairs exchanged shape ≡ Some moved → (HasOneInput shape → HasOneInput moved) × (HasOneInput moved → HasOneInput shape)
 shape_moved pairs exchanged (Up i) moved is = (λ one. one_moved pairs exchanged false i moved is, λ one. tt)
 shape_moved pairs exchanged (Down i) moved is = (λ one. one_moved pairs exchanged true i moved is, λ one. tt)
 shape_moved pairs exchanged (Swap i j a b) moved is = (λ one. absurd one, λ one. two_moved pairs exchanged a b i j moved is one)

@@ -1,6 +1,6 @@
 -- Bans that vectors show are a last resort: facts about single inputs show none of the pairs (unateness and support of functions, as in
 -- textbooks of logic synthesis; a match keeps both: Katebi and Markov, DATE 2010).
-use Rattle.std.specs.Prelude.{◌≡◌, ℕ, ◌<◌, ⊤, Bool, List, [], All, Contains}
+use Rattle.std.specs.Prelude.{◌≡◌, ◌≢◌, ℕ, ◌<◌, ⊤, Bool, List, [], All, AllPairs, Contains}
 use Rattle.circuits.specs.declared.port.Pair.{Pair}
 use Rattle.circuits.specs.declared.port.PortKind.TheVariants.{Output}
 use Rattle.net_core.specs.Sides.{Graphs}
@@ -9,6 +9,7 @@ use Rattle.net_core.specs.declared.graphs.Side.TheVariants.{First, Second}
 use Rattle.query_core.specs.declared.claims.Claim.{Claim}
 use Rattle.query_core.specs.declared.claims.Shape.{Shape}
 use Rattle.query_core.specs.declared.claims.Shape.TheVariants.{Up, Down, Swap}
+use Rattle.query_core.specs.Claims.{IsClaim}
 use Rattle.account_core.specs.declared.step.Ban.{Ban}
 use Rattle.account_core.specs.declared.step.Step.{Step}
 use Rattle.account_core.specs.declared.step.Step.TheVariants as step
@@ -28,6 +29,11 @@ abbrev pub HasOneInput : Shape → Type 0
 HasOneInput (Up i) = ⊤
 HasOneInput (Down i) = ⊤
 HasOneInput (Swap i j a b) = ⊥
+
+-- The claims of facts are well placed, and no two facts are of one claim.
+pub record AreDecided (graphs : Graphs) (facts : List Decided) : Type 0 where
+  pub placed : All (λ fact. IsClaim graphs fact.claim) facts
+  pub distinct : AllPairs (λ one other. one.claim ≢ other.claim) facts
 
 -- a claim was decided: it holds, or it fails
 abbrev pub IsDecided : List Decided → Claim → Type 0
