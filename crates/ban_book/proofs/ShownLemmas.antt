@@ -1,5 +1,5 @@
 -- Steps that facts show: that of more facts those show them that they name.
-use Rattle.std.proofs.Common.{◌≡◌, ◌⊎◌, ℕ, suc, ◌<◌, Bool, List, [], ◌∷◌, get_or, All, refl, sym, ap, subst, ◌∙◌, arith}
+use Rattle.std.proofs.Common.{◌≡◌, ◌⊎◌, ℕ, suc, Bool, List, [], ◌∷◌, All, refl, sym, ap, subst, ◌∙◌, arith}
 use Rattle.circuits.specs.declared.port.Pair.{Pair}
 use Rattle.net_core.specs.Sides.{Graphs}
 use Rattle.net_core.specs.declared.graphs.Side.{Side}
@@ -14,7 +14,11 @@ module _ (one other : Given) where
   abbrev pub IsSame : ℕ → Type 0
   IsSame k = fact_at one k ≡ fact_at other k
 
-  pub mismatch_in : (pairs : List Pair) (fails holds : ℕ) → IsSame fails → IsSame holds → IsMismatch one pairs fails holds → IsMismatch other pairs fails holds
+  pub mismatch_in : (pairs : List Pair) (fails holds : ℕ)
+      → IsSame fails
+      → IsSame holds
+      → IsMismatch one pairs fails holds
+      → IsMismatch other pairs fails holds
   mismatch_in pairs fails holds first second is = record {
     one_fails = ap (λ (fact : Decided). fact.holds) (sym first) ∙ is.one_fails;
     other_holds = ap (λ (fact : Decided). fact.holds) (sym second) ∙ is.other_holds;
@@ -27,14 +31,21 @@ module _ (one other : Given) where
       ap (λ (fact : Decided). fact.claim.shape ∷ shapes_of one numbers) (same 0 0 (omega arith))
       ∙ ap (λ (shapes : List Shape). (fact_at other k).claim.shape ∷ shapes) (shapes_in numbers (λ i d h. same (suc i) d (omega (arith, h))))
 
-  say_in : (numbers : List ℕ) (holds : Bool) (side : Side) (output : ℕ) → All IsSame numbers → SayOf one numbers holds side output → SayOf other numbers holds side output
+  say_in : (numbers : List ℕ) (holds : Bool) (side : Side) (output : ℕ)
+      → All IsSame numbers
+      → SayOf one numbers holds side output
+      → SayOf other numbers holds side output
   say_in numbers holds side output same say = record {
     says = λ k d h. ap (λ (fact : Decided). fact.holds) (sym (same k d h)) ∙ say.says k d h;
     of_side = λ k d h. ap (λ (fact : Decided). fact.claim.side) (sym (same k d h)) ∙ say.of_side k d h;
     of_output = λ k d h. ap (λ (fact : Decided). fact.claim.output) (sym (same k d h)) ∙ say.of_output k d h;
   }
 
-  pub tally_in : (graphs : Graphs) (pairs : List Pair) (kind : Tallied) (have lack : List ℕ) → All IsSame have → All IsSame lack → IsTally graphs one pairs kind have lack → IsTally graphs other pairs kind have lack
+  pub tally_in : (graphs : Graphs) (pairs : List Pair) (kind : Tallied) (have lack : List ℕ)
+      → All IsSame have
+      → All IsSame lack
+      → IsTally graphs one pairs kind have lack
+      → IsTally graphs other pairs kind have lack
   tally_in graphs pairs kind have lack first second is = record {
     side = is.side;
     pair = is.pair;
