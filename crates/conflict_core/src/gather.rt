@@ -88,10 +88,7 @@ fn is_left_out(skipped: Option<Pair>, way: Pair) -> bool
 pub(crate) fn is_impossible(conflict: &[Pair], way: Pair) -> bool
     ensures { IsTrue result ↔ IsImpossible conflict.now way }
 {
-    match clashing(conflict, way) {
-        Some(_) => true,
-        None => false,
-    }
+    clashing(conflict, way).is_some()
 }
 
 // Adds the pairs that the reason of a deleted way names.

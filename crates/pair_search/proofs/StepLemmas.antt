@@ -22,10 +22,10 @@ use Rattle.class_refine.specs.Numbers.{pairs_of_ports}
 use Rattle.class_refine.specs.Trails.{AreEntries, Domained, IsOpen, IsPairOf, held_in, ports_of}
 use Rattle.ban_book.specs.Covering.{Covers}
 use Rattle.conflict_core.specs.Conflicts.{FitPorts, IsChoiceAt}
-use Rattle.conflict_core.specs.Grounded.{IsGrounded, LearnsMore, StayGrounded}
+use Rattle.conflict_core.specs.Grounded.{IsGrounded, StayGrounded}
 use Rattle.conflict_core.specs.Justified.{AreJustified, IsJustified}
 use Rattle.conflict_core.proofs.GroundedLemmas.{stay_front, stay_none, stay_push, stay_twice}
-use Rattle.conflict_core.proofs.JustifiedLemmas.{held_append, justified_front, justified_later, justified_push}
+use Rattle.conflict_core.proofs.JustifiedLemmas.{held_append, justified_front, justified_push}
 use Rattle.conflict_core.proofs.PivotLemmas.{held_not_open}
 use Rattle.pair_search.specs.Progress.{IsTrail, Propagates, is_choice, left, left_of}
 use Rattle.pair_search.proofs.WeightLemmas.{few_entries, less_back, less_choice, less_push}

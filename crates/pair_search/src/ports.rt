@@ -106,23 +106,11 @@ fn remaining(domains: &Domains, port: Port, from: u64) -> Option<u64>
 {
     let count = domains.ports(port.kind);
     for number in from..2 * count as u64 {
-        if is_left(domains, way_of(domains, port, number)) {
+        if domains.remains(way_of(domains, port, number)) {
             return Some(number);
         }
     }
     None
-}
-
-// Whether a pair isn't deleted.
-fn is_left(domains: &Domains, way: Pair) -> bool
-    requires { IsPairOf domains.now.inputs domains.now.outputs way }
-    ensures left { IsTrue result → IsDeleted domains.now.entries way → ⊥ }
-    ensures gone { result ≡ false → IsDeleted domains.now.entries way }
-{
-    match domains.reason(way) {
-        Some(_) => false,
-        None => true,
-    }
 }
 
 // A held pair that shares a port with a pair.

@@ -11,8 +11,8 @@ ghost use Rattle.ban_book.specs.Vectors.{IsVector};
 ghost use Rattle.port_covers.specs.Held.{AddsHeld, AreApart, IsPart};
 ghost use Rattle.port_covers.specs.Ways.{ports_tried, way_count, AreClosed, HoldsMore};
 
-use crate::ways::ClosedWays;
 use crate::needed::add;
+use crate::ways::ClosedWays;
 use account_core::{Ban, Step};
 use ban_book::BanBook;
 use circuits::Pair;
