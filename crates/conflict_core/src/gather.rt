@@ -1,10 +1,10 @@
 //! The pairs that a port's deleted ways need.
 
-ghost use Rattle.std.specs.Prelude.{◌≡◌, ◌↔◌, ◌*◌, ◌<◌, All, AllPairs, Contains, IsTrue, OnOk, Some};
+ghost use Rattle.std.specs.Prelude.{◌≡◌, ◌↔◌, All, AllPairs, Contains, IsTrue, OnOk, Some};
 ghost use Rattle.account_core.specs.Covers.{IsImpossible};
 ghost use Rattle.port_covers.specs.Held.{AddsHeld, AreApart, IsPart};
-ghost use Rattle.class_refine.specs.Trails.{IsPairOf, ports_of};
-ghost use Rattle.conflict_core.specs.Named.{AreNamed, EachWay, IsGathered, IsLeftOutOr, IsNamedIn};
+ghost use Rattle.class_refine.specs.Trails.{IsPairOf};
+ghost use Rattle.conflict_core.specs.Named.{AreNamed, AreWaysGathered, AreWaysNamed, IsGathered, IsLeftOutOr, IsNamedIn, IsPortOf};
 
 use crate::port::Port;
 use account_core::Ban;
@@ -27,14 +27,12 @@ pub(crate) fn gather(
     skipped: Option<Pair>,
     conflict: &mut Vec<Pair>,
 ) -> Result<(), AllocError>
-    requires there { port.number < ports_of domains.now.inputs domains.now.outputs port.kind }
+    requires there { IsPortOf domains.now port }
     requires apart { AllPairs AreApart held.now }
-    requires named { EachWay port (ports_of domains.now.inputs domains.now.outputs port.kind)
-        (λ way. IsLeftOutOr skipped way (IsNamedIn bans.now domains.now.entries held.now way)) }
+    requires named { AreWaysNamed bans.now domains.now port skipped held.now }
     requires part { IsPart held.now conflict.old.items }
     ensures adds { OnOk result (AddsHeld held.now conflict.old.items conflict.new.items) }
-    ensures gathered { OnOk result (EachWay port (ports_of domains.now.inputs domains.now.outputs port.kind)
-        (λ way. IsLeftOutOr skipped way (IsGathered bans.now domains.now.entries conflict.new.items way))) }
+    ensures gathered { OnOk result (AreWaysGathered bans.now domains.now port skipped conflict.new.items) }
 {
     let count = domains.ports(port.kind);
     for number in 0..2 * count as u64 {

@@ -7,6 +7,7 @@ ghost use Rattle.account_core.specs.Tallies.{port_on};
 ghost use Rattle.class_refine.specs.Trails.{IsDeleted, IsFreePort, IsOpen, IsPairOf, held_in, ports_of};
 ghost use Rattle.conflict_core.specs.Grounded.{StayGrounded};
 ghost use Rattle.conflict_core.specs.Justified.{IsJustifiedTrail};
+ghost use Rattle.conflict_core.specs.Named.{IsPortOf};
 ghost use Rattle.pair_search.specs.Impasses.{HasNoWay, IsImpasse};
 ghost use Rattle.pair_search.specs.Progress.{Propagates, left};
 
@@ -25,7 +26,7 @@ pub(crate) fn apply_port(
     bans: &[Ban],
     port: Port,
 ) -> Result<bool, AllocError>
-    requires there { port.number < ports_of domains.old.inputs domains.old.outputs port.kind }
+    requires there { IsPortOf domains.old port }
     requires justified { IsJustifiedTrail bans.now domains.old }
     ensures propagates { OnOk result (Propagates bans.now domains.old domains.new) }
     ensures none { IfOk result (λ none. IsTrue none → HasNoWay domains.new.inputs domains.new.outputs domains.new.entries port) }
@@ -53,7 +54,7 @@ pub fn branch(
     bans: &[Ban],
     port: Port,
 ) -> Result<Option<Impasse>, AllocError>
-    requires there { port.number < ports_of domains.old.inputs domains.old.outputs port.kind }
+    requires there { IsPortOf domains.old port }
     requires free { IsFreePort domains.old.entries port.side port.kind port.number }
     requires justified { IsJustifiedTrail bans.now domains.old }
     ensures justified { OnOk result (IsJustifiedTrail bans.now domains.new) }
@@ -80,7 +81,7 @@ pub fn branch(
 
 /// A way of a port, by its number.
 pub fn way_of(domains: &Domains, port: Port, number: u64) -> Pair
-    requires there { port.number < ports_of domains.now.inputs domains.now.outputs port.kind }
+    requires there { IsPortOf domains.now port }
     requires below { number < 2 * ports_of domains.now.inputs domains.now.outputs port.kind }
     ensures value { result ≡ nth_way port.side port.kind port.number number }
     ensures known { IsPairOf domains.now.inputs domains.now.outputs result }
@@ -93,7 +94,7 @@ pub fn way_of(domains: &Domains, port: Port, number: u64) -> Pair
 
 // The number of the first way of a port, from one on, that isn't deleted.
 fn remaining(domains: &Domains, port: Port, from: u64) -> Option<u64>
-    requires there { port.number < ports_of domains.now.inputs domains.now.outputs port.kind }
+    requires there { IsPortOf domains.now port }
     ensures from { IfSome result (λ number. from ≤ number) }
     ensures below { IfSome result (λ number. number < 2 * ports_of domains.now.inputs domains.now.outputs port.kind) }
     ensures is { IfSome result (λ number.
