@@ -14,18 +14,20 @@ use Rattle.account_core.proofs.Growing.{ban_stays_valid}
 use Rattle.ban_book.specs.Covering.{Covers}
 use Rattle.ban_book.proofs.BookLemmas.{covers_last, covers_later, valid_push}
 use Rattle.ban_book.proofs.VectorLemmas.{no_vector_more, no_vector_none, no_vector_one}
-use Rattle.port_covers.specs.Levels.{HoldsMore, IsClosed}
+use Rattle.port_covers.specs.Ways.{HoldsMore, IsClosed}
 use Rattle.port_covers.proofs.ClosedLemmas.{ban_pairs}
 use Rattle.class_refine.specs.declared.entry.Entry.{Entry}
 use Rattle.class_refine.specs.declared.entry.Fate.{Fate}
 use Rattle.class_refine.specs.declared.entry.Fate.TheVariants.{Held, Deleted}
 use Rattle.class_refine.specs.declared.entry.Reason.TheVariants as reason
+use Rattle.class_refine.specs.Trails.{Domained}
 use Rattle.conflict_core.specs.declared.port.Port.{Port}
 use Rattle.conflict_core.specs.declared.port.Resolved.{Resolved}
 use Rattle.conflict_core.specs.Named.{IsGathered, IsLeftOutOr, deleted}
+use Rattle.conflict_core.specs.Justified.{IsTrail}
 use Rattle.conflict_core.specs.Grounded.{AreGrounded, IsGrounded, LearnsMore, MayAdd, StayGrounded, in_order, mismatch_ban}
 use Rattle.conflict_core.proofs.ConflictLemmas.{covers_among}
-use Rattle.conflict_core.proofs.JustifiedLemmas.{named_later}
+use Rattle.conflict_core.proofs.JustifiedLemmas.{justified_later, named_later}
 use Rattle.conflict_core.proofs.ReferLemmas.{IsReferring}
 
 pub learns_none : (graphs : Graphs) (es : List Entry) (bans : List Ban) → LearnsMore graphs es bans bans
@@ -46,6 +48,13 @@ learns_holds graphs es before after more = record {
   more = more.more;
   no_vector = more.no_vector;
   valid = λ facts grounded valid. more.valid facts valid;
+}
+
+-- more bans change nothing of what follows
+pub trail_later : (graphs : Graphs) (before after : List Ban) (d : Domained) → LearnsMore graphs d.entries before after → IsTrail graphs before d → IsTrail graphs after d
+trail_later graphs before after d more is = record {
+  fit = is.fit;
+  justified = justified_later d.inputs d.outputs before more.added after d.entries more.more is.justified;
 }
 
 -- the ban of a pair that was deleted by a mismatch
@@ -82,12 +91,12 @@ closed_beside before added pairs way (Some b) is = record {
   held = λ ban same. omega (arith, is.held ban same, length-append before added);
 }
 
-pub referring_later : (port : Port) (conflict : List Pair) (before added after : List Ban) (level : _) (number : ℕ) → after ≡ before ++ added → IsReferring port conflict before level number → IsReferring port conflict after level number
-referring_later port conflict before added after level number more is =
-    subst (λ bs. IsReferring port conflict bs level number) (sym more) (record {
+pub referring_later : (port : Port) (conflict : List Pair) (before added after : List Ban) (ways : _) (number : ℕ) → after ≡ before ++ added → IsReferring port conflict before ways number → IsReferring port conflict after ways number
+referring_later port conflict before added after ways number more is =
+    subst (λ bs. IsReferring port conflict bs ways number) (sym more) (record {
       of_port = is.of_port;
       size = is.size;
-      closed = λ k d below. closed_beside before added conflict _ (get_or level.refs k d) (is.closed k d below);
+      closed = λ k d below. closed_beside before added conflict _ (get_or ways.refs k d) (is.closed k d below);
     })
 
 -- what is gathered is so beside more bans

@@ -14,7 +14,7 @@ use Rattle.account_core.specs.Given.{Decided, given_of}
 use Rattle.account_core.specs.Covers.{way, IsReference}
 use Rattle.account_core.specs.Steps.{AreValidBans}
 use Rattle.ban_book.specs.Vectors.{AddsNoVector}
-use Rattle.port_covers.specs.declared.level.Level.{Level}
+use Rattle.port_covers.specs.declared.ways.ClosedWays.{ClosedWays}
 
 -- of a port of a circuit and one of the other: that of the first circuit, and that of the second
 abbrev pub first_port : Side → ℕ → ℕ → ℕ
@@ -41,13 +41,13 @@ pub record IsClosed (bans : List Ban) (pairs : List Pair) (pair : Pair) (ref : O
   pub held : (ban : ℕ) → ref ≡ Some ban → ban < length bans
 
 -- the first ways of a port are closed beside pairs
-abbrev pub AreClosed : List Ban → List Pair → Level → Type 0
-AreClosed bans pairs level =
-    EachAt (λ number ref. IsClosed bans pairs (nth_way level.side level.kind level.port number) ref) level.refs
+abbrev pub AreClosed : List Ban → List Pair → ClosedWays → Type 0
+AreClosed bans pairs ways =
+    EachAt (λ number ref. IsClosed bans pairs (nth_way ways.side ways.kind ways.port number) ref) ways.refs
 
--- how many ways the port of a level has, where the circuits have as many ports
-abbrev pub ways_of : Graphs → Level → ℕ
-ways_of graphs level = 2 * ports_in graphs.second level.kind
+-- how many ways a port has, where the circuits have as many ports
+abbrev pub way_count : Graphs → ClosedWays → ℕ
+way_count graphs ways = 2 * ports_in graphs.second ways.kind
 
 -- Bans came after those that were held, and no vector shows them. Where those before were valid all are, in view of any facts.
 pub record HoldsMore (graphs : Graphs) (before after : List Ban) : Type 0 where

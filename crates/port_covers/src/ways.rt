@@ -1,7 +1,7 @@
 //! The ways of a port.
 
 ghost use Rattle.std.specs.Prelude.{◌≡◌, ◌^◌, ◌<◌, []};
-ghost use Rattle.port_covers.specs.Levels.{nth_way};
+ghost use Rattle.port_covers.specs.Ways.{nth_way};
 
 use circuits::{Pair, PortKind};
 use items::Items;
@@ -11,7 +11,7 @@ use std::alloc::Global;
 /// A port of a circuit, and what closes each of its first ways: those with port 0 of the other circuit, plain and then
 /// negated, with port 1, and so on.
 #[derive(Debug, Drop)]
-pub struct Level {
+pub struct ClosedWays {
     pub side: Side,
     pub kind: PortKind,
     pub port: u32,
@@ -20,12 +20,12 @@ pub struct Level {
     pub refs: Items<Option<u64>>,
 }
 
-impl Level {
+impl ClosedWays {
     /// No way was closed.
-    pub fn new(alloc: Global, side: Side, kind: PortKind, port: u32) -> Level
+    pub fn new(alloc: Global, side: Side, kind: PortKind, port: u32) -> ClosedWays
         ensures { result ≡ record { side = side; kind = kind; port = port; refs = [] } }
     {
-        Level {
+        ClosedWays {
             side,
             kind,
             port,
