@@ -1,2 +1,4 @@
 pub mod ContainsLemmas
 pub mod BookLemmas
+pub mod ShownLemmas
+pub mod VectorLemmas

@@ -1,2 +1,3 @@
 pub mod Covering
+pub mod Vectors
 pub use Rattle.account_core.specs.Steps

@@ -1,6 +1,6 @@
 //! The pairs that are held and deleted, in order.
 
-ghost use Rattle.std.specs.Prelude.{◌≡◌, ◌≢◌, ◌↔◌, ◌+◌, ◌*◌, ◌^◌, ◌<◌, ◌≤◌, [], ◌∷◌, ◌++◌, AllPairs, Contains, IfNone, IfOk, IfSome, IsTrue, None, OnErr, OnOk, Option, length, replicate, slice_index_or, take};
+ghost use Rattle.std.specs.Prelude.{◌≡◌, ◌≢◌, ◌+◌, ◌*◌, ◌^◌, ◌<◌, ◌≤◌, [], ◌∷◌, ◌++◌, AllPairs, Contains, IfNone, IfOk, IfSome, IsTrue, None, OnErr, OnOk, Option, false, length, replicate, slice_index_or, take};
 ghost use Rattle.circuits.specs.declared.port.Pair.{Pair as AnyPair};
 ghost use Rattle.net_core.specs.declared.graphs.Side.TheVariants.{First, Second};
 ghost use Rattle.class_refine.specs.Kept.{TellsHeld, TellsPlace};
@@ -135,7 +135,8 @@ impl Domains {
     /// Whether a pair isn't deleted.
     pub fn remains(&self, pair: Pair) -> bool
         requires { IsPairOf self.now.inputs self.now.outputs pair }
-        ensures { IsTrue result ↔ (IsDeleted self.now.entries pair → ⊥) }
+        ensures left { IsTrue result → IsDeleted self.now.entries pair → ⊥ }
+        ensures gone { result ≡ false → IsDeleted self.now.entries pair }
     {
         self.reason(pair).is_none()
     }

@@ -13,27 +13,31 @@ use Rattle.account_core.specs.Steps.{AreValidBans, IsValidBan}
 use Rattle.account_core.proofs.Growing.{ban_stays_valid}
 use Rattle.ban_book.specs.Covering.{Covers}
 use Rattle.ban_book.proofs.BookLemmas.{covers_last, covers_later, valid_push}
-use Rattle.port_covers.specs.Levels.{HoldsMore, IsClosed}
+use Rattle.ban_book.proofs.VectorLemmas.{no_vector_more, no_vector_none, no_vector_one}
+use Rattle.port_covers.specs.Ways.{HoldsMore, IsClosed}
 use Rattle.port_covers.proofs.ClosedLemmas.{ban_pairs}
 use Rattle.class_refine.specs.declared.entry.Entry.{Entry}
 use Rattle.class_refine.specs.declared.entry.Fate.{Fate}
 use Rattle.class_refine.specs.declared.entry.Fate.TheVariants.{Held, Deleted}
 use Rattle.class_refine.specs.declared.entry.Reason.TheVariants as reason
+use Rattle.class_refine.specs.Trails.{Domained}
 use Rattle.conflict_core.specs.declared.port.Port.{Port}
 use Rattle.conflict_core.specs.declared.port.Resolved.{Resolved}
 use Rattle.conflict_core.specs.Named.{IsGathered, IsLeftOutOr, deleted}
+use Rattle.conflict_core.specs.Justified.{IsTrail}
 use Rattle.conflict_core.specs.Grounded.{AreGrounded, IsGrounded, LearnsMore, MayAdd, StayGrounded, in_order, mismatch_ban}
 use Rattle.conflict_core.proofs.ConflictLemmas.{covers_among}
-use Rattle.conflict_core.proofs.JustifiedLemmas.{named_later}
+use Rattle.conflict_core.proofs.JustifiedLemmas.{justified_later, named_later}
 use Rattle.conflict_core.proofs.ReferLemmas.{IsReferring}
 
 pub learns_none : (graphs : Graphs) (es : List Entry) (bans : List Ban) → LearnsMore graphs es bans bans
-learns_none graphs es bans = record { added = []; more = sym (append-nil bans); valid = λ facts grounded valid. valid }
+learns_none graphs es bans = record { added = []; more = sym (append-nil bans); no_vector = no_vector_none; valid = λ facts grounded valid. valid }
 
 pub learns_twice : (graphs : Graphs) (es : List Entry) (first second third : List Ban) → LearnsMore graphs es first second → LearnsMore graphs es second third → LearnsMore graphs es first third
 learns_twice graphs es first second third one other = record {
   added = one.added ++ other.added;
   more = other.more ∙ (ap (λ l. l ++ other.added) one.more ∙ append_assoc first one.added other.added);
+  no_vector = no_vector_more one.added other.added one.no_vector other.no_vector;
   valid = λ facts grounded valid. other.valid facts grounded (one.valid facts grounded valid);
 }
 
@@ -42,7 +46,15 @@ pub learns_holds : (graphs : Graphs) (es : List Entry) (before after : List Ban)
 learns_holds graphs es before after more = record {
   added = more.added;
   more = more.more;
+  no_vector = more.no_vector;
   valid = λ facts grounded valid. more.valid facts valid;
+}
+
+-- more bans change nothing of what follows
+pub trail_later : (graphs : Graphs) (before after : List Ban) (d : Domained) → LearnsMore graphs d.entries before after → IsTrail graphs before d → IsTrail graphs after d
+trail_later graphs before after d more is = record {
+  fit = is.fit;
+  justified = justified_later d.inputs d.outputs before more.added after d.entries more.more is.justified;
 }
 
 -- the ban of a pair that was deleted by a mismatch
@@ -56,6 +68,7 @@ learns_mismatch graphs es before after way with fails holds there (inl same) =
 learns_mismatch graphs es before after way with fails holds there (inr more) = record {
   added = mismatch_ban way with fails holds ∷ [];
   more = more;
+  no_vector = no_vector_one (mismatch_ban way with fails holds) (λ vector. vector);
   valid = λ facts grounded valid. subst (AreValidBans graphs facts) (sym more) (valid_push graphs facts before (mismatch_ban way with fails holds) valid (shown_at graphs facts es way with fails holds there grounded before));
 }
 
@@ -78,12 +91,12 @@ closed_beside before added pairs way (Some b) is = record {
   held = λ ban same. omega (arith, is.held ban same, length-append before added);
 }
 
-pub referring_later : (port : Port) (conflict : List Pair) (before added after : List Ban) (level : _) (number : ℕ) → after ≡ before ++ added → IsReferring port conflict before level number → IsReferring port conflict after level number
-referring_later port conflict before added after level number more is =
-    subst (λ bs. IsReferring port conflict bs level number) (sym more) (record {
+pub referring_later : (port : Port) (conflict : List Pair) (before added after : List Ban) (ways : _) (number : ℕ) → after ≡ before ++ added → IsReferring port conflict before ways number → IsReferring port conflict after ways number
+referring_later port conflict before added after ways number more is =
+    subst (λ bs. IsReferring port conflict bs ways number) (sym more) (record {
       of_port = is.of_port;
       size = is.size;
-      closed = λ k d below. closed_beside before added conflict _ (get_or level.refs k d) (is.closed k d below);
+      closed = λ k d below. closed_beside before added conflict _ (get_or ways.refs k d) (is.closed k d below);
     })
 
 -- what is gathered is so beside more bans

@@ -10,7 +10,7 @@ use Rattle.account_core.specs.declared.step.Ban.{Ban}
 use Rattle.account_core.specs.Ports.{Clash}
 use Rattle.ban_book.specs.Covering.{IsWithin}
 use Rattle.port_covers.specs.Held.{IsPart}
-use Rattle.port_covers.specs.Levels.{nth_way}
+use Rattle.port_covers.specs.Ways.{nth_way}
 use Rattle.port_covers.proofs.ListLemmas.{any_more, cons_more, among_more}
 use Rattle.class_refine.specs.declared.entry.Entry.{Entry}
 use Rattle.class_refine.specs.declared.entry.Fate.{Fate}

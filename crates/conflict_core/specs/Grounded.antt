@@ -8,6 +8,7 @@ use Rattle.account_core.specs.declared.step.Ban.{Ban}
 use Rattle.account_core.specs.declared.step.Step.TheVariants as step
 use Rattle.account_core.specs.Given.{Decided, given_of}
 use Rattle.account_core.specs.Steps.{AreValidBans, IsValidBan}
+use Rattle.ban_book.specs.Vectors.{AddsNoVector}
 use Rattle.class_refine.specs.declared.entry.Entry.{Entry}
 use Rattle.class_refine.specs.declared.entry.Fate.{Fate}
 use Rattle.class_refine.specs.declared.entry.Fate.TheVariants.{Held, Deleted}
@@ -38,11 +39,12 @@ pub record AreGrounded (graphs : Graphs) (facts : List Decided) (entries : List 
 pub record StayGrounded (before after : List Entry) : Type 0 where
   pub stay : (graphs : Graphs) (facts : List Decided) → AreGrounded graphs facts before → AreGrounded graphs facts after
 
--- Bans came after those that were held, and where those were valid all are, in view of any facts that show the deletions by
--- mismatches.
+-- Bans came after those that were held, and no vector shows them. Where those before were valid all are, in view of any facts that
+-- show the deletions by mismatches.
 pub record LearnsMore (graphs : Graphs) (entries : List Entry) (before after : List Ban) : Type 0 where
   pub added : List Ban
   pub more : after ≡ before ++ added
+  pub no_vector : AddsNoVector added
   pub valid : (facts : List Decided)
       → AreGrounded graphs facts entries
       → AreValidBans graphs facts before

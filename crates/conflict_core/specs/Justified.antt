@@ -3,6 +3,7 @@
 use Rattle.std.specs.Prelude.{ℕ, ⊤, List, take, Some}
 use Rattle.circuits.specs.declared.port.Pair.{Pair}
 use Rattle.circuits.specs.Literals.{EachAt}
+use Rattle.net_core.specs.Sides.{Graphs}
 use Rattle.net_core.specs.declared.graphs.Side.{Side}
 use Rattle.account_core.specs.declared.step.Ban.{Ban}
 use Rattle.account_core.specs.Tallies.{port_on}
@@ -10,8 +11,9 @@ use Rattle.class_refine.specs.declared.entry.Entry.{Entry}
 use Rattle.class_refine.specs.declared.entry.Cause.TheVariants.{Choice, LastWay}
 use Rattle.class_refine.specs.declared.entry.Fate.{Fate}
 use Rattle.class_refine.specs.declared.entry.Fate.TheVariants.{Held, Deleted}
-use Rattle.class_refine.specs.Trails.{IsDeleted, held_in, ports_of}
+use Rattle.class_refine.specs.Trails.{Domained, IsDeleted, held_in, ports_of}
 use Rattle.conflict_core.specs.declared.port.Port.{Port}
+use Rattle.conflict_core.specs.Conflicts.{FitPorts}
 use Rattle.conflict_core.specs.Named.{AreNamed, EachWay, IsLeftOutOr}
 
 -- a pair's port of a circuit
@@ -29,3 +31,12 @@ IsJustified inputs outputs bans before pair (Deleted why) = AreNamed bans (held_
 -- Each entry follows from those before it.
 pub record AreJustified (inputs outputs : ℕ) (bans : List Ban) (entries : List Entry) : Type 0 where
   pub each : EachAt (λ place entry. IsJustified inputs outputs bans (take place entries) entry.pair entry.fate) entries
+
+-- what became of each of two circuits' pairs follows from what stands before it
+abbrev pub IsJustifiedTrail : List Ban → Domained → Type 0
+IsJustifiedTrail bans domains = AreJustified domains.inputs domains.outputs bans domains.entries
+
+-- The pairs are those of two circuits, and what became of each follows from what stands before it.
+pub record IsTrail (graphs : Graphs) (bans : List Ban) (domains : Domained) : Type 0 where
+  pub fit : FitPorts graphs domains.inputs domains.outputs
+  pub justified : IsJustifiedTrail bans domains

@@ -5,11 +5,12 @@ use Rattle.account_core.specs.declared.step.Ban.{Ban}
 use Rattle.account_core.specs.Covers.{IsImpossible}
 use Rattle.account_core.specs.Ports.{Clash}
 use Rattle.ban_book.specs.Covering.{Covers}
-use Rattle.port_covers.specs.Levels.{nth_way}
+use Rattle.port_covers.specs.Ways.{nth_way}
 use Rattle.class_refine.specs.declared.entry.Entry.{Entry}
 use Rattle.class_refine.specs.declared.entry.Fate.TheVariants.{Deleted}
 use Rattle.class_refine.specs.declared.entry.Reason.{Reason}
 use Rattle.class_refine.specs.declared.entry.Reason.TheVariants as reason
+use Rattle.class_refine.specs.Trails.{Domained, ports_of}
 use Rattle.conflict_core.specs.declared.port.Port.{Port}
 
 -- a deleted pair's reason is so, and the pairs that it names are among these
@@ -36,3 +37,19 @@ IsGathered bans entries pairs way = IsImpossible pairs way ⊎ IsNamedIn bans en
 -- a way is the one that is left out, or has a property
 abbrev pub IsLeftOutOr : Option Pair → Pair → Type 0 → Type 0
 IsLeftOutOr skipped way P = (skipped ≡ Some way) ⊎ P
+
+-- a port is one of two circuits'
+abbrev pub IsPortOf : Domained → Port → Type 0
+IsPortOf domains port = port.number < ports_of domains.inputs domains.outputs port.kind
+
+-- each way of a port but the one that is left out is deleted, and what its reason names is among these pairs
+abbrev pub AreWaysNamed : List Ban → Domained → Port → Option Pair → List Pair → Type 0
+AreWaysNamed bans domains port skipped pairs =
+    EachWay port (ports_of domains.inputs domains.outputs port.kind)
+    (λ way. IsLeftOutOr skipped way (IsNamedIn bans domains.entries pairs way))
+
+-- each way of a port but the one that is left out is impossible beside pairs, or deleted as those are
+abbrev pub AreWaysGathered : List Ban → Domained → Port → Option Pair → List Pair → Type 0
+AreWaysGathered bans domains port skipped pairs =
+    EachWay port (ports_of domains.inputs domains.outputs port.kind)
+    (λ way. IsLeftOutOr skipped way (IsGathered bans domains.entries pairs way))

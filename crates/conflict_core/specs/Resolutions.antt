@@ -1,7 +1,9 @@
 -- Covers in which one way leads into a ban that is known (hyper-resolution over the ways of a port).
-use Rattle.std.specs.Prelude.{◌≡◌, Option, None, Some}
+use Rattle.std.specs.Prelude.{◌≡◌, List, ◌∷◌, Option, None, Some, IfSome}
 use Rattle.circuits.specs.declared.port.Pair.{Pair}
-use Rattle.port_covers.specs.declared.level.Level.{Level}
+use Rattle.account_core.specs.declared.step.Ban.{Ban}
+use Rattle.ban_book.specs.Covering.{Covers}
+use Rattle.port_covers.specs.declared.ways.ClosedWays.{ClosedWays}
 use Rattle.conflict_core.specs.declared.port.Port.{Port}
 use Rattle.conflict_core.specs.declared.port.Resolved.{Resolved}
 
@@ -10,8 +12,12 @@ abbrev pub left_out : Option Resolved → Option Pair
 left_out None = None
 left_out (Some resolved) = Some resolved.way
 
+-- the way that is resolved on leads into its ban beside pairs
+abbrev pub LeadsIntoBan : List Ban → List Pair → Option Resolved → Type 0
+LeadsIntoBan bans pairs resolved = IfSome resolved (λ it. Covers bans (it.way ∷ pairs) it.ban)
+
 -- The ways are those of a port.
-pub record IsLevelOf (port : Port) (level : Level) : Type 0 where
-  pub side_is : level.side ≡ port.side
-  pub kind_is : level.kind ≡ port.kind
-  pub port_is : level.port ≡ port.number
+pub record AreWaysOf (port : Port) (ways : ClosedWays) : Type 0 where
+  pub side_is : ways.side ≡ port.side
+  pub kind_is : ways.kind ≡ port.kind
+  pub port_is : ways.port ≡ port.number

@@ -1,13 +1,12 @@
 //! Held pairs that no match has all of, and covers that say so.
 
-ghost use Rattle.std.specs.Prelude.{◌≡◌, ◌<◌, ◌∷◌, All, AllPairs, Contains, IfOk, IfSome, OnOk};
+ghost use Rattle.std.specs.Prelude.{◌≡◌, All, AllPairs, Contains, IfOk, OnOk};
 ghost use Rattle.ban_book.specs.Covering.{Covers};
 ghost use Rattle.port_covers.specs.Held.{AreApart, AreHeld, IsPart};
-ghost use Rattle.class_refine.specs.Trails.{ports_of};
 ghost use Rattle.conflict_core.specs.Conflicts.{FitPorts, IsConflict};
 ghost use Rattle.conflict_core.specs.Grounded.{LearnsMore};
-ghost use Rattle.conflict_core.specs.Named.{EachWay, IsLeftOutOr, IsNamedIn};
-ghost use Rattle.conflict_core.specs.Resolutions.{left_out};
+ghost use Rattle.conflict_core.specs.Named.{AreWaysNamed, IsPortOf};
+ghost use Rattle.conflict_core.specs.Resolutions.{LeadsIntoBan, left_out};
 
 use crate::gather::gather;
 use crate::mismatch::Mismatches;
@@ -43,12 +42,11 @@ pub fn cover_port(
     book: &mut BanBook,
 ) -> Result<Conflict, AllocError>
     requires fit { FitPorts graphs.now domains.now.inputs domains.now.outputs }
-    requires there { port.number < ports_of domains.now.inputs domains.now.outputs port.kind }
+    requires there { IsPortOf domains.now port }
     requires held { AreHeld graphs.now held.now }
-    requires named { EachWay port (ports_of domains.now.inputs domains.now.outputs port.kind)
-        (λ way. IsLeftOutOr (left_out resolved) way (IsNamedIn book.old domains.now.entries held.now way)) }
+    requires named { AreWaysNamed book.old domains.now port (left_out resolved) held.now }
     requires part { IsPart held.now pairs.items }
-    requires resolved { IfSome resolved (λ it. Covers book.old (it.way ∷ pairs.items) it.ban) }
+    requires resolved { LeadsIntoBan book.old pairs.items resolved }
     ensures more { LearnsMore graphs.now domains.now.entries book.old book.new }
     ensures conflict { IfOk result (IsConflict book.new held.now) }
 {
@@ -61,8 +59,8 @@ pub fn cover_port(
         way_of(resolved),
         &mut pairs,
     )?;
-    let level = refer(alloc, graphs, domains, port, &pairs, resolved, made, book)?;
-    let ban = hold_cover(alloc, graphs, &pairs, level, book)?;
+    let ways = refer(alloc, graphs, domains, port, &pairs, resolved, made, book)?;
+    let ban = hold_cover(alloc, graphs, &pairs, ways, book)?;
     Ok(Conflict { pairs, ban })
 }
 

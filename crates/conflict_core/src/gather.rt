@@ -1,10 +1,10 @@
 //! The pairs that a port's deleted ways need.
 
-ghost use Rattle.std.specs.Prelude.{◌≡◌, ◌↔◌, ◌*◌, ◌<◌, All, AllPairs, Contains, IsTrue, OnOk, Some};
+ghost use Rattle.std.specs.Prelude.{◌≡◌, ◌↔◌, All, AllPairs, Contains, IsTrue, OnOk, Some};
 ghost use Rattle.account_core.specs.Covers.{IsImpossible};
-ghost use Rattle.port_covers.specs.Held.{AreApart, IsPart};
-ghost use Rattle.class_refine.specs.Trails.{IsPairOf, ports_of};
-ghost use Rattle.conflict_core.specs.Named.{AreNamed, EachWay, IsGathered, IsLeftOutOr, IsNamedIn};
+ghost use Rattle.port_covers.specs.Held.{AddsHeld, AreApart, IsPart};
+ghost use Rattle.class_refine.specs.Trails.{IsPairOf};
+ghost use Rattle.conflict_core.specs.Named.{AreNamed, AreWaysGathered, AreWaysNamed, IsGathered, IsLeftOutOr, IsNamedIn, IsPortOf};
 
 use crate::port::Port;
 use account_core::Ban;
@@ -12,7 +12,7 @@ use circuits::Pair;
 use class_refine::{Domains, Reason};
 use port_covers::clash::clashing;
 use port_covers::cover::{add_one, add_others};
-use port_covers::level::nth_way;
+use port_covers::ways::nth_way;
 use std::alloc::AllocError;
 
 /// Adds held pairs to those of a conflict, until all ways of a port but one that is left out are impossible beside
@@ -27,15 +27,12 @@ pub(crate) fn gather(
     skipped: Option<Pair>,
     conflict: &mut Vec<Pair>,
 ) -> Result<(), AllocError>
-    requires there { port.number < ports_of domains.now.inputs domains.now.outputs port.kind }
+    requires there { IsPortOf domains.now port }
     requires apart { AllPairs AreApart held.now }
-    requires named { EachWay port (ports_of domains.now.inputs domains.now.outputs port.kind)
-        (λ way. IsLeftOutOr skipped way (IsNamedIn bans.now domains.now.entries held.now way)) }
+    requires named { AreWaysNamed bans.now domains.now port skipped held.now }
     requires part { IsPart held.now conflict.old.items }
-    ensures part { OnOk result (IsPart held.now conflict.new.items) }
-    ensures stays { OnOk result (All (Contains conflict.new.items) conflict.old.items) }
-    ensures gathered { OnOk result (EachWay port (ports_of domains.now.inputs domains.now.outputs port.kind)
-        (λ way. IsLeftOutOr skipped way (IsGathered bans.now domains.now.entries conflict.new.items way))) }
+    ensures adds { OnOk result (AddsHeld held.now conflict.old.items conflict.new.items) }
+    ensures gathered { OnOk result (AreWaysGathered bans.now domains.now port skipped conflict.new.items) }
 {
     let count = domains.ports(port.kind);
     for number in 0..2 * count as u64 {
@@ -58,8 +55,7 @@ fn gather_way(
     requires apart { AllPairs AreApart held.now }
     requires named { IsLeftOutOr skipped way (IsNamedIn bans.now domains.now.entries held.now way) }
     requires part { IsPart held.now conflict.old.items }
-    ensures part { OnOk result (IsPart held.now conflict.new.items) }
-    ensures stays { OnOk result (All (Contains conflict.new.items) conflict.old.items) }
+    ensures adds { OnOk result (AddsHeld held.now conflict.old.items conflict.new.items) }
     ensures gathered { OnOk result
         (IsLeftOutOr skipped way (IsGathered bans.now domains.now.entries conflict.new.items way)) }
 {
@@ -90,10 +86,7 @@ fn is_left_out(skipped: Option<Pair>, way: Pair) -> bool
 pub(crate) fn is_impossible(conflict: &[Pair], way: Pair) -> bool
     ensures { IsTrue result ↔ IsImpossible conflict.now way }
 {
-    match clashing(conflict, way) {
-        Some(_) => true,
-        None => false,
-    }
+    clashing(conflict, way).is_some()
 }
 
 // Adds the pairs that the reason of a deleted way names.
@@ -107,8 +100,7 @@ fn add_named(
     requires apart { AllPairs AreApart held.now }
     requires named { AreNamed bans.now held.now way reason }
     requires part { IsPart held.now conflict.old.items }
-    ensures part { OnOk result (IsPart held.now conflict.new.items) }
-    ensures stays { OnOk result (All (Contains conflict.new.items) conflict.old.items) }
+    ensures adds { OnOk result (AddsHeld held.now conflict.old.items conflict.new.items) }
     ensures named { OnOk result (AreNamed bans.now conflict.new.items way reason) }
 {
     match reason {

@@ -1,13 +1,13 @@
 //! What stands for each way of a port in a cover.
 
-ghost use Rattle.std.specs.Prelude.{◌≡◌, ◌≢◌, ◌*◌, ◌<◌, ◌∷◌, IfNone, IfOk, IfSome, Some, length};
+ghost use Rattle.std.specs.Prelude.{◌≡◌, ◌≢◌, ◌*◌, ◌∷◌, IfNone, IfOk, IfSome, Some, length};
 ghost use Rattle.account_core.specs.Covers.{IsImpossible};
 ghost use Rattle.ban_book.specs.Covering.{Covers};
-ghost use Rattle.port_covers.specs.Levels.{AreClosed, IsClosed};
+ghost use Rattle.port_covers.specs.Ways.{AreClosed, IsClosed};
 ghost use Rattle.class_refine.specs.Trails.{IsPairOf, ports_of};
 ghost use Rattle.conflict_core.specs.Grounded.{LearnsMore};
-ghost use Rattle.conflict_core.specs.Named.{EachWay, IsGathered, IsLeftOutOr, IsNamedIn};
-ghost use Rattle.conflict_core.specs.Resolutions.{IsLevelOf, left_out};
+ghost use Rattle.conflict_core.specs.Named.{AreWaysGathered, IsGathered, IsLeftOutOr, IsNamedIn, IsPortOf};
+ghost use Rattle.conflict_core.specs.Resolutions.{AreWaysOf, LeadsIntoBan, left_out};
 
 use crate::gather::is_impossible;
 use crate::mismatch::{Mismatches, hold_mismatch};
@@ -15,7 +15,7 @@ use crate::port::{Port, Resolved};
 use ban_book::BanBook;
 use circuits::Pair;
 use class_refine::{Domains, Reason};
-use port_covers::level::{Level, nth_way};
+use port_covers::ways::{ClosedWays, nth_way};
 use port_sides::PairableGraphs;
 use std::alloc::{AllocError, Global};
 
@@ -31,25 +31,24 @@ pub(crate) fn refer(
     resolved: Option<Resolved>,
     made: &mut Mismatches,
     book: &mut BanBook,
-) -> Result<Level, AllocError>
-    requires there { port.number < ports_of domains.now.inputs domains.now.outputs port.kind }
-    requires resolved { IfSome resolved (λ it. Covers book.old (it.way ∷ conflict.now) it.ban) }
-    requires gathered { EachWay port (ports_of domains.now.inputs domains.now.outputs port.kind)
-        (λ way. IsLeftOutOr (left_out resolved) way (IsGathered book.old domains.now.entries conflict.now way)) }
+) -> Result<ClosedWays, AllocError>
+    requires there { IsPortOf domains.now port }
+    requires resolved { LeadsIntoBan book.old conflict.now resolved }
+    requires gathered { AreWaysGathered book.old domains.now port (left_out resolved) conflict.now }
     ensures more { LearnsMore graphs.now domains.now.entries book.old book.new }
-    ensures port { IfOk result (IsLevelOf port) }
-    ensures all { IfOk result (λ level.
-        length level.refs ≡ 2 * ports_of domains.now.inputs domains.now.outputs port.kind) }
+    ensures port { IfOk result (AreWaysOf port) }
+    ensures all { IfOk result (λ ways.
+        length ways.refs ≡ 2 * ports_of domains.now.inputs domains.now.outputs port.kind) }
     ensures closed { IfOk result (AreClosed book.new conflict.now) }
 {
     let count = domains.ports(port.kind);
-    let mut level = Level::new(alloc, port.side, port.kind, port.number);
+    let mut ways = ClosedWays::new(alloc, port.side, port.kind, port.number);
     for number in 0..2 * count as u64 {
         let way = nth_way(port.side, port.kind, port.number, number);
         let reference = reference(alloc, graphs, domains, way, conflict, resolved, made, book)?;
-        level.refs.push(reference)?;
+        ways.refs.push(reference)?;
     }
-    Ok(level)
+    Ok(ways)
 }
 
 // What stands for a way.
@@ -64,7 +63,7 @@ fn reference(
     book: &mut BanBook,
 ) -> Result<Option<u64>, AllocError>
     requires known { IsPairOf domains.now.inputs domains.now.outputs way }
-    requires resolved { IfSome resolved (λ it. Covers book.old (it.way ∷ conflict.now) it.ban) }
+    requires resolved { LeadsIntoBan book.old conflict.now resolved }
     requires gathered { IsLeftOutOr (left_out resolved) way
         (IsGathered book.old domains.now.entries conflict.now way) }
     ensures more { LearnsMore graphs.now domains.now.entries book.old book.new }

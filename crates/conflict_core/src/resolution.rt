@@ -7,9 +7,9 @@ ghost use Rattle.class_refine.specs.declared.entry.Entry.{Entry as AnyEntry};
 ghost use Rattle.class_refine.specs.declared.entry.Cause.TheVariants.{Choice, LastWay};
 ghost use Rattle.class_refine.specs.declared.entry.Fate.TheVariants.{Held};
 ghost use Rattle.class_refine.specs.Trails.{IsPairOf, held_in, is_held};
-ghost use Rattle.conflict_core.specs.Conflicts.{FitPorts, IsChoiceAt, IsConflict, IsLastOf, IsLearned};
+ghost use Rattle.conflict_core.specs.Conflicts.{IsChoiceAt, IsConflict, IsLastOf, IsLearned};
 ghost use Rattle.conflict_core.specs.Grounded.{LearnsMore};
-ghost use Rattle.conflict_core.specs.Justified.{AreJustified};
+ghost use Rattle.conflict_core.specs.Justified.{IsTrail};
 ghost use Rattle.conflict_core.specs.declared.learned.Learned.TheVariants as learned;
 ghost use Rattle.conflict_core.specs.Pivots.{IsPivot};
 
@@ -42,8 +42,7 @@ pub fn resolve(
     made: &mut Mismatches,
     book: &mut BanBook,
 ) -> Result<Learned, AllocError>
-    requires fit { FitPorts graphs.now domains.now.inputs domains.now.outputs }
-    requires justified { AreJustified domains.now.inputs domains.now.outputs book.old domains.now.entries }
+    requires trail { IsTrail graphs.now book.old domains.now }
     requires conflict { IsConflict book.old (held_in domains.now.entries) conflict }
     ensures more { LearnsMore graphs.now domains.now.entries book.old book.new }
     ensures learned { IfOk result (IsLearned domains.now.inputs domains.now.outputs book.new domains.now.entries) }
@@ -217,8 +216,7 @@ fn resolve_on(
     made: &mut Mismatches,
     book: &mut BanBook,
 ) -> Result<Conflict, AllocError>
-    requires fit { FitPorts graphs.now domains.now.inputs domains.now.outputs }
-    requires justified { AreJustified domains.now.inputs domains.now.outputs book.old domains.now.entries }
+    requires trail { IsTrail graphs.now book.old domains.now }
     requires within { place < length (held_in domains.now.entries) }
     requires forced { (d : AnyPair) → Contains domains.now.entries
         (record { pair = slice_index_or (held_in domains.now.entries) place d; fate = Held (LastWay side) }) }

@@ -1,7 +1,9 @@
 -- Calls that have claims decided and hold bans, one after the other.
-use Rattle.std.proofs.Common.{◌≡◌, List, [], ◌∷◌, ◌++◌, map, Result, Ok, Err, sym, ap, subst, ◌∙◌, append_assoc, append-nil}
+use Rattle.std.proofs.Common.{◌≡◌, Bool, true, false, List, [], ◌∷◌, ◌++◌, map, Result, Ok, Err, sym, ap, subst, ◌∙◌, append_assoc, append-nil}
+use Rattle.std.proofs.lemmas.List.Elements.{All-push}
 use Rattle.cnf_core.specs.declared.stop.Stop.{Stop}
 use Rattle.cnf_core.specs.declared.stop.Stop.TheVariants.{Memory}
+use Rattle.circuits.specs.declared.port.Pair.{Pair}
 use Rattle.net_core.specs.Sides.{Graphs}
 use Rattle.query_core.specs.Ledgers.{Ledgered}
 use Rattle.account_core.specs.declared.step.Ban.{Ban}
@@ -9,7 +11,10 @@ use Rattle.account_core.specs.Facts.{AreFacts}
 use Rattle.account_core.specs.Given.{decided_by, given_of}
 use Rattle.account_core.specs.Steps.{AreValidBans, IsValidBan}
 use Rattle.oracle_core.specs.Oracles.{Known, Serves}
+use Rattle.ban_book.specs.Vectors.{AreLastResorts, IsLastResort, IsVector}
 use Rattle.ban_book.proofs.BookLemmas.{valid_push}
+use Rattle.claim_rows.specs.declared.tallies.Lists.{Lists}
+use Rattle.claim_rows.specs.Listed.{tally_of}
 use Rattle.fact_bans.specs.Serving.{AreValid, HasServed, HoldsBans, MayHold, OnlyAdds}
 use Rattle.fact_bans.proofs.ServeLemmas.{served_one, served_same, served_then, serves_err, serves_ok, serves_last, serves_memory, valid_grows}
 
@@ -95,16 +100,22 @@ holds_no_more graphs old new a b bans result valid serves = record {
   adds = adds_none bans;
 }
 
--- one ban is held
-pub valid_one : (graphs : Graphs) (old new : Known) (a b : Ledgered) (bans more : List Ban) (ban : Ban) → AreValid graphs old bans → HasServed old new a b → more ≡ bans ++ ban ∷ [] → IsValidBan graphs (given_of (map decided_by new.facts) bans) ban → AreValid graphs new more
-valid_one graphs old new a b bans more ban valid served is here = record {
-  each = subst (AreValidBans graphs (map decided_by new.facts)) (sym is) (valid_push graphs (map decided_by new.facts) bans ban (valid_grows old new graphs bans served.grows valid).each here);
-}
+-- one ban is held, by a vector only as a last resort
+pub valid_one : (graphs : Graphs) (old new : Known) (a b : Ledgered) (bans more : List Ban) (ban : Ban) → AreValid graphs old bans → HasServed old new a b → more ≡ bans ++ ban ∷ [] → IsValidBan graphs (given_of (map decided_by new.facts) bans) ban → (IsVector ban.step → IsLastResort graphs (map decided_by new.facts) ban) → AreValid graphs new more
+valid_one graphs old new a b bans more ban valid served is here resort =
+    let grown = valid_grows old new graphs bans served.grows valid in
+    record {
+      graphs_are = grown.graphs_are;
+      each = subst (AreValidBans graphs (map decided_by new.facts)) (sym is) (valid_push graphs (map decided_by new.facts) bans ban grown.each here);
+      last_resorts = subst (AreLastResorts graphs (map decided_by new.facts)) (sym is) (record {
+        each = All-push (λ (b : Ban). IsVector b.step → IsLastResort graphs (map decided_by new.facts) b) bans ban grown.last_resorts.each resort;
+      });
+    }
 
-pub held_ban : (graphs : Graphs) (old new : Known) (a b : Ledgered) (bans more : List Ban) (ban : Ban) → AreValid graphs old bans → HasServed old new a b → more ≡ bans ++ ban ∷ [] → IsValidBan graphs (given_of (map decided_by new.facts) bans) ban → HasHeld graphs old new a b bans more
-held_ban graphs old new a b bans more ban valid served is here = record {
+pub held_ban : (graphs : Graphs) (old new : Known) (a b : Ledgered) (bans more : List Ban) (ban : Ban) → AreValid graphs old bans → HasServed old new a b → more ≡ bans ++ ban ∷ [] → IsValidBan graphs (given_of (map decided_by new.facts) bans) ban → (IsVector ban.step → IsLastResort graphs (map decided_by new.facts) ban) → HasHeld graphs old new a b bans more
+held_ban graphs old new a b bans more ban valid served is here resort = record {
   served = served;
-  valid = valid_one graphs old new a b bans more ban valid served is here;
+  valid = valid_one graphs old new a b bans more ban valid served is here resort;
   adds = adds_one bans more ban is;
 }
 
@@ -131,3 +142,8 @@ holds_fail graphs old new a b bans result stop is may serves = record {
   valid = valid_grows old new graphs bans serves.grows may.valid;
   adds = adds_none bans;
 }
+
+-- no vector shows a tally's ban
+pub tally_no_vector : (pair : Pair) (holds : Bool) (lists : Lists) → IsVector (tally_of pair holds lists).step → ⊥
+tally_no_vector pair true lists vector = vector
+tally_no_vector pair false lists vector = vector

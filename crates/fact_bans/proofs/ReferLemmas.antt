@@ -18,7 +18,7 @@ use Rattle.ban_book.specs.Covering.{Covers}
 use Rattle.fact_bans.specs.Serving.{OnlyAdds}
 use Rattle.fact_bans.specs.Referred.{row, AddsRef, AddsTwo, AreReferred, IsReferred}
 use Rattle.ban_book.proofs.BookLemmas.{covers_later}
-use Rattle.fact_bans.proofs.ListLemmas.{flat_push, zip_append, zip_map}
+use Rattle.claim_rows.proofs.ListLemmas.{flat_push, zip_append, zip_map}
 
 -- as more bans are held
 pub referred_later : (bans more : List Ban) (pair : Pair) (ref : Option ℕ) → OnlyAdds bans more → IsReferred bans pair ref → IsReferred more pair ref

@@ -9,10 +9,13 @@ use Rattle.oracle_core.specs.Work.{IsCharged, IsWorkOfClaimsAndMatches}
 use Rattle.account_core.specs.Facts.{AreFacts}
 use Rattle.oracle_core.specs.Oracles.{Grows, IsAnswered, IsStopped, Keeps, Known, Serves, Suits, entry_at}
 use Rattle.circuits.specs.declared.port.Pair.{Pair}
+use Rattle.account_core.specs.declared.fact.Fact.{Fact}
 use Rattle.account_core.specs.declared.step.Ban.{Ban}
 use Rattle.account_core.specs.Given.{Decided, decided_by, given_of, pairs_of}
 use Rattle.account_core.specs.Steps.{AreValidBans, IsValidBan}
 use Rattle.account_core.proofs.Growing.{ban_stays_valid}
+use Rattle.ban_book.specs.Vectors.{AreLastResorts}
+use Rattle.ban_book.proofs.VectorLemmas.{last_resorts_later}
 use Rattle.fact_bans.specs.Serving.{AreValid, HasServed}
 
 pub grows_same : (known : Known) → AreFacts known.graphs known.facts → Grows known known
@@ -150,4 +153,11 @@ valid_later old new graphs bans grows valid k d below =
     split = ap (map decided_by) grows.facts ∙ map-append decided_by old.facts grows.added
 
 pub valid_grows : (old new : Known) (graphs : Graphs) (bans : List Ban) → Grows old new → AreValid graphs old bans → AreValid graphs new bans
-valid_grows old new graphs bans grows valid = record { each = valid_later old new graphs bans grows valid.each }
+valid_grows old new graphs bans grows valid = record {
+  graphs_are = valid.graphs_are ∙ sym grows.graphs;
+  each = valid_later old new graphs bans grows valid.each;
+  last_resorts = subst (λ (facts : List Fact). AreLastResorts graphs (map decided_by facts) bans) (sym grows.facts) (last_resorts_later graphs old.facts grows.added bans lawful valid.last_resorts);
+}
+  where
+    lawful : AreFacts graphs (old.facts ++ grows.added)
+    lawful = subst (AreFacts graphs) grows.facts (subst (λ (g : Graphs). AreFacts g new.facts) (grows.graphs ∙ sym valid.graphs_are) grows.lawful)

@@ -1,9 +1,12 @@
 pub mod Serving
-pub mod Listed
-pub mod Mismatched
+pub mod Evidence
 pub mod Referred
 pub use Rattle.account_core.specs.Steps
 pub use Rattle.account_core.specs.Shown
 pub use Rattle.account_core.specs.Facts
 pub use Rattle.oracle_core.specs.Oracles
 pub use Rattle.ban_book.specs.Covering
+pub use Rattle.ban_book.specs.Vectors
+pub use Rattle.claim_rows.specs.Listed
+pub use Rattle.claim_rows.specs.Mismatched
+pub use Rattle.claim_rows.specs.Told

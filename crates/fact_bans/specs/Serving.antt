@@ -7,6 +7,7 @@ use Rattle.account_core.specs.declared.step.Ban.{Ban}
 use Rattle.account_core.specs.Given.{decided_by}
 use Rattle.account_core.specs.Steps.{AreValidBans}
 use Rattle.account_core.specs.Facts.{AreFacts}
+use Rattle.ban_book.specs.Vectors.{AreLastResorts}
 use Rattle.oracle_core.specs.Oracles.{Known, Grows, Suits, Keeps, Serves}
 
 -- What an oracle and a ledger are after calls that were all answered.
@@ -15,9 +16,12 @@ pub record HasServed (old new : Known) (before after : Ledgered) : Type 0 where
   pub suits : Suits new after
   pub keeps : Keeps old before after
 
--- Each ban is valid in view of the facts that are known, and of the bans before it.
+-- What is known is of these circuits. Each ban is valid in view of the facts, and of the bans before it, and is by a vector
+-- only as a last resort.
 pub record AreValid (graphs : Graphs) (known : Known) (bans : List Ban) : Type 0 where
+  pub graphs_are : graphs ≡ known.graphs
   pub each : AreValidBans graphs (map decided_by known.facts) bans
+  pub last_resorts : AreLastResorts graphs (map decided_by known.facts) bans
 
 -- The bans that were held stay, and others came after them.
 pub record OnlyAdds (before after : List Ban) : Type 0 where

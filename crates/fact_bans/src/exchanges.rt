@@ -9,11 +9,11 @@ ghost use Rattle.query_core.specs.declared.claims.Shape.TheVariants as AnyShape;
 ghost use Rattle.query_core.specs.Images.{moved_value, two_inputs};
 ghost use Rattle.fact_bans.specs.Serving.{HoldsBans, MayHold};
 
-use crate::mismatched::{Carried, hold_by};
-use crate::ports::{moved_value, two_inputs};
+use crate::mismatched::hold_by;
 use crate::seen::Seen;
 use ban_book::BanBook;
 use circuits::Pair;
+use claim_rows::{Carried, moved_value, two_inputs};
 use cnf_core::Stop;
 use net_core::Side;
 use oracle_core::Oracle;

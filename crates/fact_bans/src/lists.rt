@@ -6,11 +6,11 @@ ghost use Rattle.query_core.specs.Images.{one_input};
 ghost use Rattle.account_core.specs.Facts.{AreFacts};
 ghost use Rattle.account_core.specs.Given.{decided_by};
 ghost use Rattle.oracle_core.specs.Oracles.{Serves, Suits};
-ghost use Rattle.fact_bans.specs.Listed.{ListsBoth, ListsOne};
+ghost use Rattle.claim_rows.specs.Listed.{ListsBoth, ListsOne};
 
-use crate::ports::one_input;
 use crate::seen::Seen;
 use crate::told::add_fact;
+use claim_rows::one_input;
 use cnf_core::Stop;
 use items::Items;
 use net_core::Side;

@@ -1,42 +1,28 @@
 //! Bans by a claim of the first circuit that is decided otherwise than the one that pairs carry it to.
 
-ghost use Rattle.std.specs.Prelude.{◌≡◌, All, IfOk, IfSome, map};
+ghost use Rattle.std.specs.Prelude.{All, IfOk, IfSome, map};
 ghost use Rattle.query_core.specs.Claims.{IsClaim};
 ghost use Rattle.account_core.specs.Facts.{AreFacts};
 ghost use Rattle.account_core.specs.Given.{decided_by};
 ghost use Rattle.account_core.specs.Mismatches.{IsImage};
 ghost use Rattle.account_core.specs.Ports.{AreOrdered, IsKnown};
 ghost use Rattle.ban_book.specs.Covering.{Covers};
+ghost use Rattle.ban_book.specs.Vectors.{IsVector};
 ghost use Rattle.oracle_core.specs.Oracles.{Serves, Suits};
-ghost use Rattle.fact_bans.specs.Mismatched.{IsBanBy, mismatch_of, unlike_of};
+ghost use Rattle.claim_rows.specs.Mismatched.{IsBanBy, mismatch_of};
 ghost use Rattle.fact_bans.specs.Serving.{HoldsBans, MayHold};
 
 use crate::seen::Seen;
-use crate::told::{Told, decide};
-use account_core::{Ban, Step};
+use crate::told::decide;
+use account_core::Ban;
 use ban_book::BanBook;
 use circuits::Pair;
+use claim_rows::{Carried, Unlike, mismatch_ban, unlike_of};
 use cnf_core::Stop;
-use items::Few;
 use oracle_core::Oracle;
 use port_sides::PairableGraphs;
-use query_core::{Claim, Ledger};
-use std::alloc::{AllocError, Global};
-
-/// A claim of the first circuit, and that of the second which pairs carry it to.
-#[derive(Clone, Copy, Debug, Drop)]
-pub(crate) struct Carried {
-    pub(crate) claim: Claim,
-    pub(crate) image: Claim,
-}
-
-/// The numbers of two facts that tell pairs apart: a claim fails, and the one that the pairs carry it to holds, or that they carry
-/// to it.
-#[derive(Clone, Copy, Debug, Drop, PartialEq, Eq)]
-pub struct Unlike {
-    pub fails: u64,
-    pub holds: u64,
-}
+use query_core::Ledger;
+use std::alloc::Global;
 
 /// Has both claims decided, and holds the ban of the pairs where one fails and the other one holds. Answers its number; None
 /// where both fail, or both hold.
@@ -85,6 +71,7 @@ fn ban_by<O: Oracle>(
     ensures serves { Serves (O.known oracle.old) (O.known oracle.new) ledger.old ledger.new result }
     ensures ban { IfOk result (λ found. IfSome found
         (IsBanBy (O.known oracle.old).graphs (map decided_by (O.known oracle.new).facts) pairs.now)) }
+    ensures no_vector { IfOk result (λ found. IfSome found (λ ban. IsVector ban.step → ⊥)) }
 {
     let Some(unlike) = unlike_by(alloc, oracle, pairs, carried, seen, ledger)? else {
         return Ok(None);
@@ -120,33 +107,4 @@ pub(crate) fn unlike_by<O: Oracle>(
         return Ok(None);
     }
     Ok(Some(unlike_of(one, other)))
-}
-
-// Which of two facts fails, and which one holds.
-fn unlike_of(one: Told, other: Told) -> Unlike
-    ensures { result ≡ unlike_of one.holds one.number other.number }
-{
-    if one.holds {
-        Unlike {
-            fails: other.number,
-            holds: one.number,
-        }
-    } else {
-        Unlike {
-            fails: one.number,
-            holds: other.number,
-        }
-    }
-}
-
-// The ban of the pairs by two facts.
-fn mismatch_ban(alloc: Global, pairs: &[Pair], unlike: Unlike) -> Result<Ban, AllocError>
-    ensures { IfOk result (λ ban. ban ≡ mismatch_of pairs.now unlike) }
-{
-    let pairs = Few::from_slice(alloc, pairs)?;
-    let Unlike { fails, holds } = unlike;
-    Ok(Ban {
-        pairs,
-        step: Step::Mismatch { fails, holds },
-    })
 }

@@ -2,25 +2,23 @@
 
 ghost use Rattle.std.specs.Prelude.{◌≡◌, ◌∷◌, [], IfOk, IfSome, map};
 ghost use Rattle.circuits.specs.declared.port.PortKind.TheVariants.{Input, Output};
-ghost use Rattle.net_core.specs.declared.graphs.Side.TheVariants as AnySide;
 ghost use Rattle.account_core.specs.Given.{decided_by};
 ghost use Rattle.account_core.specs.Ports.{IsKnown};
 ghost use Rattle.ban_book.specs.Covering.{Covers};
-ghost use Rattle.query_core.specs.Images.{moved_value, one_input};
 ghost use Rattle.oracle_core.specs.Oracles.{Serves, Suits};
-ghost use Rattle.fact_bans.specs.Mismatched.{IsBanBy, mismatch_of};
+ghost use Rattle.claim_rows.specs.Mismatched.{IsBanBy, mismatch_of};
 ghost use Rattle.fact_bans.specs.Serving.{HoldsBans, MayHold};
 
-use crate::mismatched::{Carried, Unlike, hold_by, unlike_by};
-use crate::ports::{moved_value, one_input};
+use crate::mismatched::{hold_by, unlike_by};
 use crate::seen::Seen;
 use ban_book::BanBook;
 use circuits::Pair;
+use claim_rows::{Unlike, carry, moved_value};
 use cnf_core::Stop;
 use net_core::Side;
 use oracle_core::Oracle;
 use port_sides::PairableGraphs;
-use query_core::{Claim, Ledger};
+use query_core::Ledger;
 use std::alloc::Global;
 
 /// Holds a ban of the pairs of an input and an output where a claim of the one circuit fails that holds for the other one, and
@@ -50,7 +48,7 @@ pub fn mismatch<O: Oracle>(
     let Some(value) = value_to_ask(input, output, seen) else {
         return Ok(None);
     };
-    let carried = carried(input, output, value);
+    let carried = carry(input, output, value);
     hold_by(
         alloc,
         graphs,
@@ -93,7 +91,7 @@ pub fn tell_apart<O: Oracle>(
     let Some(value) = value_to_ask(input, output, seen) else {
         return Ok(None);
     };
-    let carried = carried(input, output, value);
+    let carried = carry(input, output, value);
     unlike_by(alloc, oracle, &[input, output], carried, seen, ledger)
 }
 
@@ -112,27 +110,4 @@ fn are_unlike(input: Pair, output: Pair, value: bool, seen: &Seen) -> bool {
     let image = moved_value(output.flip, input, value);
     seen.is_broken(Side::First, output.from, input.from, value)
         != seen.is_broken(Side::Second, output.to, input.to, image)
-}
-
-// The claim of the input with a value, and its image.
-fn carried(input: Pair, output: Pair, value: bool) -> Carried
-    ensures claim { result.claim ≡ record { side = AnySide.First; output = output.from; shape = one_input input.from value } }
-    ensures image { result.image ≡ record {
-      side = AnySide.Second;
-      output = output.to;
-      shape = one_input input.to (moved_value output.flip input value);
-    } }
-{
-    Carried {
-        claim: Claim {
-            side: Side::First,
-            output: output.from,
-            shape: one_input(input.from, value),
-        },
-        image: Claim {
-            side: Side::Second,
-            output: output.to,
-            shape: one_input(input.to, moved_value(output.flip, input, value)),
-        },
-    }
 }

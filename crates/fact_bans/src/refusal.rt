@@ -102,7 +102,7 @@ fn marked(alloc: Global, marks: &[bool], count: u32) -> Result<Items<u32>, Alloc
     Ok(ports)
 }
 
-#[tactic(auto, using(crate::proofs::ListLemmas::ascend_after, crate::proofs::ListLemmas::below_after, crate::proofs::ListLemmas::below_more))]
+#[tactic(auto, using(claim_rows::proofs::ListLemmas::ascend_after, claim_rows::proofs::ListLemmas::below_after, claim_rows::proofs::ListLemmas::below_more))]
 // Adds a port that is marked.
 fn add_marked(ports: &mut Items<u32>, marks: &[bool], port: u32) -> Result<(), AllocError>
     requires ascends { Ascend ports.old }

@@ -8,22 +8,21 @@ ghost use Rattle.account_core.specs.Ports.{IsKnown};
 ghost use Rattle.account_core.specs.Tallies.{port_on};
 ghost use Rattle.ban_book.specs.Covering.{Covers};
 ghost use Rattle.oracle_core.specs.Oracles.{Serves, Suits};
-ghost use Rattle.fact_bans.specs.Listed.{AreLists, tally_of};
+ghost use Rattle.claim_rows.specs.Listed.{AreLists};
 ghost use Rattle.fact_bans.specs.Serving.{HoldsBans, MayHold};
 
 use crate::lists::{Wanted, list_both, list_one};
 use crate::plan::Plan;
 use crate::seen::Seen;
-use account_core::{Ban, Step, Tallied};
 use ban_book::BanBook;
 use circuits::Pair;
+use claim_rows::{Lists, tally_ban};
 use cnf_core::Stop;
-use items::{Few, Items};
 use net_core::Side;
 use oracle_core::Oracle;
 use port_sides::{PairableGraphs, other_side, port_on};
 use query_core::Ledger;
-use std::alloc::{AllocError, Global};
+use std::alloc::Global;
 
 /// Holds a ban of a pair of outputs of which one has more inputs in its support than the other one may have, or is binate
 /// in more, and answers its number; None where none was shown. Only claims are asked that are needed for it: where vectors
@@ -83,13 +82,6 @@ fn tally_by<O: Oracle>(
     Ok(Some(number))
 }
 
-/// The numbers of facts that a tally is by: of one claim an input for one output, and of both claims for the other one.
-#[derive(Debug, Drop)]
-pub(crate) struct Lists {
-    pub(crate) one: Items<u64>,
-    pub(crate) both: Items<u64>,
-}
-
 // Has the claims of a plan decided. None where one isn't decided as it should be.
 fn ask<O: Oracle>(
     alloc: Global,
@@ -139,26 +131,4 @@ fn are_many(inputs: u32, one: &[u64], both: &[u64]) -> bool
     ensures many { IsTrue result → inputs < length one.now + length both.now / 2 }
 {
     (one.len() > 0) & (both.len() > 1) & (one.len() + both.len() / 2 > inputs as usize)
-}
-
-// The ban of a pair of outputs that these facts are for.
-fn tally_ban(alloc: Global, pair: Pair, holds: bool, lists: Lists) -> Result<Ban, AllocError>
-    ensures { IfOk result (λ ban. ban ≡ tally_of pair holds lists) }
-{
-    let pairs = Few::from_slice(alloc, &[pair])?;
-    let Lists { one, both } = lists;
-    let step = if holds {
-        Step::Tally {
-            kind: Tallied::Binate,
-            have: both,
-            lack: one,
-        }
-    } else {
-        Step::Tally {
-            kind: Tallied::Support,
-            have: one,
-            lack: both,
-        }
-    };
-    Ok(Ban { pairs, step })
 }

@@ -4,22 +4,17 @@ ghost use Rattle.std.specs.Prelude.{◌≡◌, ◌++◌, ◌∷◌, [], IfOk, If
 ghost use Rattle.query_core.specs.Claims.{IsClaim};
 ghost use Rattle.account_core.specs.Given.{decided_by};
 ghost use Rattle.oracle_core.specs.Oracles.{IsNumberOf, Serves, Suits};
-ghost use Rattle.fact_bans.specs.Listed.{holds_by, AddsFact, IsToldAs};
+ghost use Rattle.claim_rows.specs.Told.{AddsFact, IsToldAs};
+ghost use Rattle.fact_bans.specs.Evidence.{holds_by};
 
 use crate::seen::Seen;
 use account_core::{Evidence, Fact};
+use claim_rows::Told;
 use cnf_core::Stop;
 use items::Items;
 use oracle_core::Oracle;
 use query_core::{Claim, Ledger};
 use std::alloc::Global;
-
-/// The number of a claim's fact, and whether the claim holds.
-#[derive(Clone, Copy, Debug, Drop)]
-pub(crate) struct Told {
-    pub(crate) number: u64,
-    pub(crate) holds: bool,
-}
 
 /// Has a claim decided. Where it fails, that is noted as seen.
 pub(crate) fn decide<O: Oracle>(

@@ -15,12 +15,13 @@ use Rattle.account_core.specs.Ports.{IsKnown}
 use Rattle.account_core.specs.Given.{Decided, decided_by, given_of}
 use Rattle.account_core.specs.Steps.{IsValidBan}
 use Rattle.account_core.specs.declared.step.Step.TheVariants as step
-use Rattle.fact_bans.specs.declared.mismatched.Unlike.{Unlike}
-use Rattle.fact_bans.specs.Mismatched.{IsBanBy, mismatch_of}
+use Rattle.claim_rows.specs.declared.mismatched.Unlike.{Unlike}
+use Rattle.claim_rows.specs.Mismatched.{IsBanBy, mismatch_of}
 use Rattle.oracle_core.specs.Oracles.{Grows, Known}
 use Rattle.table_guess.specs.declared.trials.Trials.{Trials}
 use Rattle.table_guess.specs.Trials.{AreTrials}
-use Rattle.port_covers.specs.Levels.{HoldsMore}
+use Rattle.ban_book.specs.Vectors.{AreLastResorts}
+use Rattle.ban_book.proofs.VectorLemmas.{last_resorts_push_other}
 use Rattle.fact_bans.specs.Serving.{HasServed, OnlyAdds}
 use Rattle.fact_bans.proofs.ServeLemmas.{served_then}
 use Rattle.fact_bans.proofs.HoldingLemmas.{HasHeld, adds_then}
@@ -39,15 +40,6 @@ use Rattle.pair_search.proofs.StepLemmas.{HasOneMore, justified_one, less_one, o
 use Rattle.match_search.specs.declared.ahead.Ahead.{Ahead}
 use Rattle.match_search.specs.declared.ahead.Ahead.TheVariants as ahead
 use Rattle.match_search.specs.States.{Deletes, IsAhead, IsShownTrail}
-use Rattle.match_search.proofs.ServeLemmas.{valid_holds}
-
--- bans come that are valid whatever the facts are
-pub held_more : (graphs : Graphs) (old new : Known) (a b : Ledgered) (first second third : List Ban) → HasHeld graphs old new a b first second → HoldsMore graphs second third → HasHeld graphs old new a b first third
-held_more graphs old new a b first second third held more = record {
-  served = held.served;
-  valid = valid_holds new graphs second third more held.valid;
-  adds = adds_then first second third held.adds (record { added = more.added; more = more.more });
-}
 
 -- bans that come change nothing of what follows
 pub trail_adds : (graphs : Graphs) (before after : List Ban) (d : Domained) → OnlyAdds before after → IsTrail graphs before d → IsTrail graphs after d
@@ -64,10 +56,6 @@ trail_beside graphs bans lent before after same is inputs outputs are =
 pub trail_follows : (graphs : Graphs) (bans lent : List Ban) (before after : Domained) → lent ≡ bans → IsTrail graphs bans before → Propagates lent before after → IsTrail graphs bans after
 trail_follows graphs bans lent before after same is follows = trail_beside graphs bans lent before after same is follows.inputs follows.outputs follows.justified
 
--- bans that are valid whatever the facts are change nothing of what follows
-pub trail_holds : (graphs : Graphs) (before after : List Ban) (d : Domained) → HoldsMore graphs before after → IsTrail graphs before d → IsTrail graphs after d
-trail_holds graphs before after d more is = trail_adds graphs before after d (record { added = more.added; more = more.more }) is
-
 -- facts that come after show what was shown
 pub shown_grows : (graphs : Graphs) (old new : Known) (es : List Entry) → Grows old new → AreGrounded graphs (map decided_by old.facts) es → AreGrounded graphs (map decided_by new.facts) es
 shown_grows graphs old new es grows is =
@@ -79,9 +67,6 @@ shown_adds graphs old new before after d grows adds is = record {
   trail = trail_adds graphs before after d adds is.trail;
   shown = shown_grows graphs old new d.entries grows is.shown;
 }
-
-pub shown_holds : (graphs : Graphs) (known : Known) (before after : List Ban) (d : Domained) → HoldsMore graphs before after → IsShownTrail graphs known before d → IsShownTrail graphs known after d
-shown_holds graphs known before after d more is = record { trail = trail_holds graphs before after d more is.trail; shown = is.shown }
 
 -- after pairs were held and deleted in view of the bans as they were lent
 pub shown_beside : (graphs : Graphs) (known : Known) (bans lent : List Ban) (before after : Domained) → lent ≡ bans → IsShownTrail graphs known bans before → after.inputs ≡ before.inputs → after.outputs ≡ before.outputs → AreJustified after.inputs after.outputs lent after.entries → StayGrounded before.entries after.entries → IsShownTrail graphs known bans after
@@ -97,7 +82,11 @@ shown_follows graphs known bans lent before after same is follows = shown_beside
 pub held_learned : (graphs : Graphs) (old new : Known) (a b : Ledgered) (first second third : List Ban) (es : List Entry) → HasHeld graphs old new a b first second → AreGrounded graphs (map decided_by new.facts) es → LearnsMore graphs es second third → HasHeld graphs old new a b first third
 held_learned graphs old new a b first second third es held shown more = record {
   served = held.served;
-  valid = record { each = more.valid (map decided_by new.facts) shown held.valid.each };
+  valid = record {
+    graphs_are = held.valid.graphs_are;
+    each = more.valid (map decided_by new.facts) shown held.valid.each;
+    last_resorts = subst (AreLastResorts graphs (map decided_by new.facts)) (sym more.more) (last_resorts_push_other graphs (map decided_by new.facts) second more.added more.no_vector held.valid.last_resorts);
+  };
   adds = adds_then first second third held.adds (record { added = more.added; more = more.more });
 }
 

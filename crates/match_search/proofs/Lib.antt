@@ -1,11 +1,7 @@
 pub mod TableLemmas
-pub mod SentLemmas
-pub mod ShownLemmas
-pub mod DefiniteLemmas
-pub mod DifferLemmas
-pub mod ForesightLemmas
 pub mod ServeLemmas
 pub mod AskLemmas
 pub mod CompareLemmas
 pub mod SearchLemmas
 pub mod FreeLemmas
+pub mod ClaimLemmas

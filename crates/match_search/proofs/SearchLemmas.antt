@@ -1,9 +1,12 @@
 -- The search under way.
-use Rattle.std.proofs.Common.{◌≡◌, List, [], sym, subst, arith}
+use Rattle.std.proofs.Common.{◌≡◌, List, [], map, sym, subst, arith}
 use Rattle.net_core.specs.Sides.{Graphs}
 use Rattle.query_core.specs.Ledgers.{Ledgered}
 use Rattle.account_core.specs.declared.step.Ban.{Ban}
 use Rattle.account_core.specs.Facts.{AreFacts}
+use Rattle.account_core.specs.Given.{Decided, decided_by}
+use Rattle.ban_book.specs.Vectors.{AreLastResorts}
+use Rattle.ban_book.proofs.VectorLemmas.{last_resorts_none}
 use Rattle.oracle_core.specs.Oracles.{Known, Suits}
 use Rattle.fact_bans.specs.Serving.{MayHold}
 use Rattle.match_search.specs.States.{AreValid, HasServed}
@@ -14,9 +17,13 @@ pub guessing_start : (graphs : Graphs) (known : Known) (ledger : Ledgered) → g
 guessing_start graphs known ledger are lawful suits =
     served_same known ledger (subst (λ (g : Graphs). AreFacts g known.facts) are lawful) suits
 
-none_valid : (graphs : Graphs) (known : Known) (bans : List Ban) → bans ≡ [] → AreValid graphs known bans
-none_valid graphs known bans none =
-    subst (AreValid graphs known) (sym none) (record { each = λ k d below. absurd (omega (arith, below)) })
+none_valid : (graphs : Graphs) (known : Known) (bans : List Ban) → graphs ≡ known.graphs → bans ≡ [] → AreValid graphs known bans
+none_valid graphs known bans are none =
+    subst (AreValid graphs known) (sym none) (record {
+      graphs_are = are;
+      each = λ k d below. absurd (omega (arith, below));
+      last_resorts = last_resorts_none graphs (map decided_by known.facts);
+    })
 
 -- nothing was asked yet
 pub may_start : (graphs : Graphs) (known : Known) (ledger : Ledgered) (bans : List Ban) → graphs ≡ known.graphs → AreFacts known.graphs known.facts → Suits known ledger → bans ≡ [] → MayHold graphs known ledger bans
@@ -24,5 +31,9 @@ may_start graphs known ledger bans are lawful suits none = record {
   graphs_are = are;
   lawful = subst (λ (g : Graphs). AreFacts g known.facts) (sym are) lawful;
   suits = suits;
-  valid = none_valid graphs known bans none;
+  valid = none_valid graphs known bans are none;
 }
+
+-- no ban is by a vector where there is none
+pub none_last : (graphs : Graphs) (facts : List Decided) (bans : List Ban) → bans ≡ [] → AreLastResorts graphs facts bans
+none_last graphs facts bans none = subst (AreLastResorts graphs facts) (sym none) (last_resorts_none graphs facts)

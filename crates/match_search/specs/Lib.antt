@@ -1,8 +1,7 @@
 pub mod States
 pub mod Founds
-pub mod Differences
 pub use Rattle.port_covers.specs.Held
-pub use Rattle.port_covers.specs.Levels
+pub use Rattle.port_covers.specs.Ways
 pub use Rattle.pair_search.specs.Progress
 pub use Rattle.pair_search.specs.Impasses
 pub use Rattle.conflict_core.specs.Conflicts
@@ -13,3 +12,4 @@ pub use Rattle.account_core.specs.Shown
 pub use Rattle.oracle_core.specs.Oracles
 pub use Rattle.account_core.specs.Steps
 pub use Rattle.ban_book.specs.Covering
+pub use Rattle.ban_book.specs.Vectors

@@ -199,6 +199,7 @@ fn compare_held<O: Oracle>(
         graphs,
         oracle,
         &mut guide.trials,
+        &mut guide.seen,
         domains.pairs(),
         book,
         ledger,

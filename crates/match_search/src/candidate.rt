@@ -12,12 +12,12 @@ ghost use Rattle.match_search.specs.States.{IsSettled};
 ghost use Rattle.table_guess.specs.Trials.{AreTrials};
 
 use crate::ahead::Settled;
-use crate::difference::exclude;
 use crate::table::table;
 use ban_book::BanBook;
 use bit_list::Bits;
 use circuits::Pair;
 use cnf_core::{Log, Stop};
+use fact_bans::Seen;
 use items::Items;
 use net_core::Matching;
 use oracle_core::{Compared, Oracle};
@@ -25,6 +25,7 @@ use port_sides::PairableGraphs;
 use query_core::Ledger;
 use std::alloc::Global;
 use table_guess::Trials;
+use vector_bans::exclude;
 use watch_core::Stage;
 
 /// An output that differs from its partner, and a vector on which it does.
@@ -34,13 +35,14 @@ pub(crate) struct Difference {
     pub(crate) vector: Bits,
 }
 
-/// Compares all outputs under the pairs that are held, one of each port. Where one differs, it holds a ban that says
-/// so, and keeps the vector.
+/// Compares all outputs under the pairs that are held, one of each port. Where one differs, it keeps the vector, and holds a ban of
+/// which all pairs are held.
 pub(crate) fn compare_whole<O: Oracle>(
     alloc: Global,
     graphs: &PairableGraphs<'_>,
     oracle: &mut O,
     trials: &mut Trials,
+    seen: &mut Seen,
     held: &[Pair],
     book: &mut BanBook,
     ledger: &mut Ledger,
@@ -61,7 +63,17 @@ pub(crate) fn compare_whole<O: Oracle>(
         None => Ok(Settled::Match(matching, logs)),
         Some(found) => {
             trials.keep(alloc, graphs.first(), &found.vector)?;
-            let ban = exclude(alloc, graphs, &matching, found.output, &found.vector, book)?;
+            let ban = exclude(
+                alloc,
+                graphs,
+                oracle,
+                &matching,
+                found.output,
+                &found.vector,
+                seen,
+                book,
+                ledger,
+            )?;
             Ok(Settled::Ban(ban))
         }
     }

@@ -3,6 +3,7 @@
 ghost use Rattle.std.specs.Prelude.{◌≡◌, [], IfOk, map};
 ghost use Rattle.account_core.specs.Given.{decided_by};
 ghost use Rattle.account_core.specs.Steps.{AreValidBans};
+ghost use Rattle.ban_book.specs.Vectors.{AreLastResorts};
 ghost use Rattle.fact_bans.specs.Serving.{MayHold};
 ghost use Rattle.match_search.specs.Founds.{IsFound};
 ghost use Rattle.match_search.specs.States.{AreValid};
@@ -23,19 +24,20 @@ use query_core::Ledger;
 use std::alloc::Global;
 use table_guess::{Effort, Guesser};
 
-/// Up to how many inputs times outputs counts are looked at before all guesses: two words of 32 bits that are compared have 128. An adder of
-/// 128 bits has 33,024, and asks for seconds there, though its table is guessed in one.
+/// Up to how many inputs times outputs counts are looked at before all guesses: two words of 32 bits that are compared have
+/// 128. An adder of 128 bits has 33,024, and asks for seconds there, though its table is guessed in one.
 const FEW_FLIPS: u64 = 256;
 
-/// How often a refusal by counts is tried before more tables are guessed: once, since vectors that err there say little, and of circuits that
-/// match each further try is lost.
+/// How often a refusal by counts is tried before more tables are guessed: once, since vectors that err there say little, and of
+/// circuits that match each further try is lost.
 const FEW_TRIES: u32 = 1;
 
-/// Decides whether two circuits with as many ports match. Tables that are guessed are compared first; where none of them is a match,
-/// `search` decides. Of circuits with few claims, tables of little effort come first, then a refusal by counts, which takes little
-/// there, and then all guesses and the search. All draw by the seed.
+/// Decides whether two circuits with as many ports match. Tables that are guessed are compared first; where none of them is a
+/// match, `search` decides. Of circuits with few claims, tables of little effort come first, then a refusal by counts, which
+/// takes little there, and then all guesses and the search. All draw by the seed.
 ///
-/// The book's bans are valid in view of the oracle's facts, whatever is answered.
+/// The book's bans are valid in view of the oracle's facts, and each ban by a vector is a last resort, as `search` says,
+/// whatever is answered. Of a match that is guessed no claim is decided.
 ///
 /// # Errors
 ///
@@ -53,6 +55,7 @@ pub fn decide<O: Oracle>(
     requires suits { Suits (O.known oracle.old) ledger.old }
     ensures serves { Serves (O.known oracle.old) (O.known oracle.new) ledger.old ledger.new result }
     ensures bans { AreValidBans graphs.now (map decided_by (O.known oracle.new).facts) book.new }
+    ensures last_resorts { AreLastResorts graphs.now (map decided_by (O.known oracle.new).facts) book.new }
     ensures found { IfOk result (IsFound graphs.now book.new) }
 {
     let _facts = oracle.facts();
@@ -74,8 +77,8 @@ pub fn decide<O: Oracle>(
     }
 }
 
-// With how much effort tables are guessed at first: little where there are few claims of one input, so that counts may refuse a match
-// before all guesses failed.
+// With how much effort tables are guessed at first: little where there are few claims of one input, so that counts may refuse a
+// match before all guesses failed.
 fn first_effort(graphs: &PairableGraphs<'_>) -> Effort {
     let inputs = graphs.ports(PortKind::Input) as u64;
     let outputs = graphs.ports(PortKind::Output) as u64;
@@ -100,7 +103,7 @@ fn refuse_or_find<O: Oracle>(
     requires book { book.old ≡ [] }
     requires suits { Suits (O.known oracle.old) ledger.old }
     ensures serves { Serves (O.known oracle.old) (O.known oracle.new) ledger.old ledger.new result }
-    ensures bans { AreValidBans graphs.now (map decided_by (O.known oracle.new).facts) book.new }
+    ensures valid { AreValid graphs.now (O.known oracle.new) book.new }
     ensures found { IfOk result (IsFound graphs.now book.new) }
 {
     let _facts = oracle.facts();

@@ -1,7 +1,6 @@
 //! What follows of the pairs that are held, by bans, by decided claims and by vectors.
 
 ghost use Rattle.std.specs.Prelude.{◌≡◌, ◌≤◌, Contains, IfOk, IfSome, OnOk};
-ghost use Rattle.port_covers.specs.Levels.{HoldsMore};
 ghost use Rattle.fact_bans.specs.Serving.{HoldsBans, MayHold};
 ghost use Rattle.pair_search.specs.Impasses.{IsImpasse};
 ghost use Rattle.oracle_core.specs.Oracles.{Serves, Suits};
@@ -12,7 +11,6 @@ ghost use Rattle.table_guess.specs.Trials.{AreTrials};
 
 use crate::asking::{ask_held, ask_output};
 use crate::exchanged::exclude_by_swaps;
-use crate::foresight::foresee;
 use crate::guide::Guide;
 use crate::unlike::{delete_unlike, list_unlike};
 use account_core::Ban;
@@ -24,8 +22,8 @@ use oracle_core::Oracle;
 use pair_search::{Impasse, Queue, propagate};
 use port_sides::PairableGraphs;
 use query_core::Ledger;
-use std::alloc::{AllocError, Global};
-use table_guess::Trials;
+use std::alloc::Global;
+use vector_bans::foresee;
 
 /// Holds and deletes what follows, and tries the pairs that are held on vectors.
 pub(crate) fn follow<O: Oracle>(
@@ -51,7 +49,7 @@ pub(crate) fn follow<O: Oracle>(
     if let Some(impasse) = settle_all(alloc, graphs, oracle, guide, domains, queue, book, ledger)? {
         return Ok(Some(impasse));
     }
-    let found = foresee_held(alloc, graphs, &guide.trials, domains, book)?;
+    let found = foresee_held(alloc, graphs, oracle, guide, domains, book, ledger)?;
     Ok(found)
 }
 
@@ -309,22 +307,36 @@ fn delete_beside<O: Oracle>(
 }
 
 // Tries the pairs that are held on vectors.
-fn foresee_held(
+fn foresee_held<O: Oracle>(
     alloc: Global,
     graphs: &PairableGraphs<'_>,
-    trials: &Trials,
+    oracle: &mut O,
+    guide: &mut Guide,
     domains: &Domains,
     book: &mut BanBook,
-) -> Result<Option<Impasse>, AllocError>
+    ledger: &mut Ledger,
+) -> Result<Option<Impasse>, Stop>
+    requires may { MayHold graphs.now (O.known oracle.old) ledger.old book.old }
     requires trail { IsTrail graphs.now book.old domains.now }
-    requires trials { AreTrials graphs.now.first trials.now }
-    ensures more { HoldsMore graphs.now book.old book.new }
-    ensures trail { IsTrail graphs.now book.new domains.now }
+    requires trials { AreTrials graphs.now.first guide.old.trials }
+    ensures holds { HoldsBans graphs.now (O.known oracle.old) (O.known oracle.new) ledger.old ledger.new book.old book.new result }
+    ensures trials { guide.new.trials ≡ guide.old.trials }
     ensures impasse { IfOk result (λ found. IfSome found
         (IsImpasse domains.now.inputs domains.now.outputs book.new domains.now.entries)) }
 {
     let _lawful = domains.entries();
-    match foresee(alloc, graphs, domains.pairs(), trials, book)? {
+    let held = domains.pairs();
+    let seen = &mut guide.seen;
+    match foresee(
+        alloc,
+        graphs,
+        oracle,
+        held,
+        &guide.trials,
+        seen,
+        book,
+        ledger,
+    )? {
         Some(ban) => Ok(Some(Impasse::Ban(ban))),
         None => Ok(None),
     }

@@ -2,16 +2,15 @@
 #![tactic(auto)]
 
 mod ahead;
+mod all_claims;
 mod asking;
 mod branching;
 mod candidate;
 mod compared;
 mod deciding;
-mod difference;
 mod exchanged;
 mod fewest;
 mod following;
-mod foresight;
 mod found;
 mod guessed;
 mod guide;

@@ -5,10 +5,12 @@ ghost use Rattle.account_core.specs.Given.{decided_by};
 ghost use Rattle.account_core.specs.Steps.{AreValidBans};
 ghost use Rattle.oracle_core.specs.Oracles.{Serves, Suits};
 ghost use Rattle.fact_bans.specs.Serving.{MayHold};
-ghost use Rattle.match_search.specs.Founds.{IsFound};
+ghost use Rattle.ban_book.specs.Vectors.{AreLastResorts};
+ghost use Rattle.match_search.specs.Founds.{AreOutputsDecided, IsFound, IsMatch};
 ghost use Rattle.match_search.specs.States.{AreValid};
 ghost use Rattle.table_guess.specs.Trials.{AreTrials};
 
+use crate::all_claims::decide_found;
 use crate::branching::explore;
 use crate::found::Found;
 use crate::guide::Guide;
@@ -28,11 +30,14 @@ const MOST_TRIES: u32 = 32;
 /// From an impasse a ban is learned that leads as far back as it can, and the outputs of whole tables are compared. Pairs are
 /// tried on vectors; another seed draws other ones. `docs/SEARCH.md` tells how, and why it ends.
 ///
-/// The book's bans are valid in view of the oracle's facts, whatever is answered.
+/// The book's bans are valid in view of the oracle's facts, whatever is answered. A ban by a vector is a last resort: the
+/// claims of one input of its two outputs are decided, and neither a mismatch of these nor a tally is valid for its pairs.
+/// Where a match is found, the claims of one input of all outputs are decided after it.
 ///
 /// # Errors
 ///
-/// `Spent` where a line had to be learned and the ledger's budget was spent. `Memory` when out of memory.
+/// `Spent` where a line had to be learned and the ledger's budget was spent, also where a match was found, and its claims weren't
+/// decided. `Memory` when out of memory.
 pub fn search<O: Oracle>(
     alloc: Global,
     graphs: &PairableGraphs<'_>,
@@ -46,11 +51,16 @@ pub fn search<O: Oracle>(
     requires suits { Suits (O.known oracle.old) ledger.old }
     ensures serves { Serves (O.known oracle.old) (O.known oracle.new) ledger.old ledger.new result }
     ensures bans { AreValidBans graphs.now (map decided_by (O.known oracle.new).facts) book.new }
+    ensures last_resorts { AreLastResorts graphs.now (map decided_by (O.known oracle.new).facts) book.new }
     ensures found { IfOk result (IsFound graphs.now book.new) }
+    ensures decided { IfOk result (λ found. IsMatch found
+        → AreOutputsDecided graphs.now (map decided_by (O.known oracle.new).facts)) }
 {
     let _facts = oracle.facts();
     let mut guide = Guide::new(alloc, graphs, seed)?;
-    refuse_or_explore(alloc, graphs, oracle, &mut guide, book, ledger)
+    let found = refuse_or_explore(alloc, graphs, oracle, &mut guide, book, ledger)?;
+    decide_found(alloc, graphs, oracle, &found, &mut guide.seen, ledger)?;
+    Ok(found)
 }
 
 /// Searches unless counts of inputs refuse a match. What the search goes by comes from the caller, and bans may be held.

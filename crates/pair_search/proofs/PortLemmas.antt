@@ -7,7 +7,7 @@ use Rattle.circuits.specs.declared.port.Pair.{Pair}
 use Rattle.circuits.specs.declared.port.PortKind.{PortKind}
 use Rattle.net_core.specs.declared.graphs.Side.{Side}
 use Rattle.account_core.specs.Tallies.{port_on}
-use Rattle.port_covers.specs.Levels.{nth_way}
+use Rattle.port_covers.specs.Ways.{nth_way}
 use Rattle.port_covers.proofs.ListLemmas.{contains_cons}
 use Rattle.class_refine.specs.declared.entry.Entry.{Entry}
 use Rattle.class_refine.specs.declared.entry.Fate.{Fate}

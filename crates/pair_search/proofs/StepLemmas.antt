@@ -22,10 +22,10 @@ use Rattle.class_refine.specs.Numbers.{pairs_of_ports}
 use Rattle.class_refine.specs.Trails.{AreEntries, Domained, IsOpen, IsPairOf, held_in, ports_of}
 use Rattle.ban_book.specs.Covering.{Covers}
 use Rattle.conflict_core.specs.Conflicts.{FitPorts, IsChoiceAt}
-use Rattle.conflict_core.specs.Grounded.{IsGrounded, LearnsMore, StayGrounded}
+use Rattle.conflict_core.specs.Grounded.{IsGrounded, StayGrounded}
 use Rattle.conflict_core.specs.Justified.{AreJustified, IsJustified}
 use Rattle.conflict_core.proofs.GroundedLemmas.{stay_front, stay_none, stay_push, stay_twice}
-use Rattle.conflict_core.proofs.JustifiedLemmas.{held_append, justified_front, justified_later, justified_push}
+use Rattle.conflict_core.proofs.JustifiedLemmas.{held_append, justified_front, justified_push}
 use Rattle.conflict_core.proofs.PivotLemmas.{held_not_open}
 use Rattle.pair_search.specs.Progress.{IsTrail, Propagates, is_choice, left, left_of}
 use Rattle.pair_search.proofs.WeightLemmas.{few_entries, less_back, less_choice, less_push}
@@ -155,13 +155,6 @@ empty_ban bans ban covers = record {
     no_pairs : (pairs : List Pair) → All (Contains []) pairs → pairs ≡ []
     no_pairs [] all = refl
     no_pairs (x ∷ pairs) all = let there = all 0 x (omega arith) in absurd (omega (arith, there.1))
-
--- more bans change nothing of what follows
-pub trail_later : (graphs : Graphs) (before after : List Ban) (d : Domained) → LearnsMore graphs d.entries before after → IsTrail graphs before d → IsTrail graphs after d
-trail_later graphs before after d more is = record {
-  fit = is.fit;
-  justified = justified_later d.inputs d.outputs before more.added after d.entries more.more is.justified;
-}
 
 fit_same : (graphs : Graphs) (n m n2 m2 : ℕ) → n2 ≡ n → m2 ≡ m → FitPorts graphs n m → FitPorts graphs n2 m2
 fit_same graphs n m n2 m2 n_is m_is fit = subst (λ k. FitPorts graphs k m2) (sym n_is) (subst (λ k. FitPorts graphs n k) (sym m_is) fit)

@@ -1,7 +1,6 @@
 -- How much of a search is left: a number in a mixed radix that has a digit for each level, how many pairs are open where it
 -- ends (levels of decisions: Marques-Silva and Sakallah, GRASP, 1999).
 use Rattle.std.specs.Prelude.{◌≡◌, ℕ, suc, zero, ◌+◌, ◌-◌, ◌*◌, ◌≤◌, Bool, true, false, cond, List, [], ◌∷◌, ◌++◌}
-use Rattle.net_core.specs.Sides.{Graphs}
 use Rattle.account_core.specs.declared.step.Ban.{Ban}
 use Rattle.class_refine.specs.declared.entry.Entry.{Entry}
 use Rattle.class_refine.specs.declared.entry.Cause.TheVariants.{Choice, LastWay}
@@ -9,9 +8,9 @@ use Rattle.class_refine.specs.declared.entry.Fate.{Fate}
 use Rattle.class_refine.specs.declared.entry.Fate.TheVariants.{Held, Deleted}
 use Rattle.class_refine.specs.Numbers.{pairs_of_ports}
 use Rattle.class_refine.specs.Trails.{Domained}
-use Rattle.conflict_core.specs.Conflicts.{FitPorts}
 use Rattle.conflict_core.specs.Grounded.{StayGrounded}
-use Rattle.conflict_core.specs.Justified.{AreJustified}
+use Rattle.conflict_core.specs.Justified.{IsJustifiedTrail}
+pub use Rattle.conflict_core.specs.Justified.{IsTrail}
 
 -- a pair was chosen, so that a level begins with it
 abbrev pub is_choice : Fate → Bool
@@ -50,11 +49,6 @@ pub record Propagates (bans : List Ban) (before after : Domained) : Type 0 where
   pub outputs : after.outputs ≡ before.outputs
   pub added : List Entry
   pub more : after.entries ≡ before.entries ++ added
-  pub justified : AreJustified after.inputs after.outputs bans after.entries
+  pub justified : IsJustifiedTrail bans after
   pub grounded : StayGrounded before.entries after.entries
   pub less : left after ≤ left before
-
--- The pairs are those of two circuits, and what became of each follows from what stands before it.
-pub record IsTrail (graphs : Graphs) (bans : List Ban) (domains : Domained) : Type 0 where
-  pub fit : FitPorts graphs domains.inputs domains.outputs
-  pub justified : AreJustified domains.inputs domains.outputs bans domains.entries

@@ -4,7 +4,7 @@ ghost use Rattle.std.specs.Prelude.{◌≡◌, ◌<◌, IfNone, IfOk, IfSome, On
 ghost use Rattle.account_core.specs.Shown.{IsEmptyBan};
 ghost use Rattle.conflict_core.specs.Conflicts.{IsBack, IsLearned};
 ghost use Rattle.conflict_core.specs.Grounded.{LearnsMore, StayGrounded};
-ghost use Rattle.conflict_core.specs.Justified.{AreJustified};
+ghost use Rattle.conflict_core.specs.Justified.{IsJustifiedTrail};
 ghost use Rattle.pair_search.specs.Impasses.{IsImpasse};
 ghost use Rattle.pair_search.specs.Progress.{IsTrail, left};
 
@@ -73,9 +73,9 @@ fn go_back(
     bans: &[Ban],
     back: Back,
 ) -> Result<(), AllocError>
-    requires justified { AreJustified domains.old.inputs domains.old.outputs bans.now domains.old.entries }
+    requires justified { IsJustifiedTrail bans.now domains.old }
     requires back { IsBack domains.old.inputs domains.old.outputs bans.now domains.old.entries back }
-    ensures justified { OnOk result (AreJustified domains.new.inputs domains.new.outputs bans.now domains.new.entries) }
+    ensures justified { OnOk result (IsJustifiedTrail bans.now domains.new) }
     ensures inputs { OnOk result (domains.new.inputs ≡ domains.old.inputs) }
     ensures outputs { OnOk result (domains.new.outputs ≡ domains.old.outputs) }
     ensures grounded { OnOk result (StayGrounded domains.old.entries domains.new.entries) }

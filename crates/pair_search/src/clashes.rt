@@ -3,7 +3,7 @@
 ghost use Rattle.std.specs.Prelude.{◌≡◌, Contains, OnOk};
 ghost use Rattle.account_core.specs.Tallies.{port_on};
 ghost use Rattle.class_refine.specs.Trails.{IsPairOf, held_in};
-ghost use Rattle.conflict_core.specs.Justified.{AreJustified};
+ghost use Rattle.conflict_core.specs.Justified.{IsJustifiedTrail};
 ghost use Rattle.pair_search.specs.Progress.{Propagates};
 
 use crate::ports::way_of;
@@ -21,7 +21,7 @@ pub(crate) fn delete_clashing(
     bans: &[Ban],
     pair: Pair,
 ) -> Result<(), AllocError>
-    requires justified { AreJustified domains.old.inputs domains.old.outputs bans.now domains.old.entries }
+    requires justified { IsJustifiedTrail bans.now domains.old }
     requires known { IsPairOf domains.old.inputs domains.old.outputs pair }
     requires held { Contains (held_in domains.old.entries) pair }
     ensures { OnOk result (Propagates bans.now domains.old domains.new) }
@@ -38,7 +38,7 @@ fn delete_ways(
     pair: Pair,
     side: Side,
 ) -> Result<(), AllocError>
-    requires justified { AreJustified domains.old.inputs domains.old.outputs bans.now domains.old.entries }
+    requires justified { IsJustifiedTrail bans.now domains.old }
     requires known { IsPairOf domains.old.inputs domains.old.outputs pair }
     requires held { Contains (held_in domains.old.entries) pair }
     ensures { OnOk result (Propagates bans.now domains.old domains.new) }
@@ -64,7 +64,7 @@ fn delete_way(
     side: Side,
     way: Pair,
 ) -> Result<(), AllocError>
-    requires justified { AreJustified domains.old.inputs domains.old.outputs bans.now domains.old.entries }
+    requires justified { IsJustifiedTrail bans.now domains.old }
     requires known { IsPairOf domains.old.inputs domains.old.outputs way }
     requires held { Contains (held_in domains.old.entries) pair }
     requires kind { pair.kind ≡ way.kind }

@@ -2,9 +2,9 @@
 
 ghost use Rattle.std.specs.Prelude.{◌≡◌, IfOk};
 ghost use Rattle.class_refine.specs.Trails.{held_in};
-ghost use Rattle.conflict_core.specs.Conflicts.{FitPorts, IsConflict};
+ghost use Rattle.conflict_core.specs.Conflicts.{IsConflict};
 ghost use Rattle.conflict_core.specs.Grounded.{LearnsMore};
-ghost use Rattle.conflict_core.specs.Justified.{AreJustified};
+ghost use Rattle.conflict_core.specs.Justified.{IsTrail};
 ghost use Rattle.pair_search.specs.Impasses.{IsImpasse};
 
 use ban_book::BanBook;
@@ -31,8 +31,7 @@ pub(crate) fn conflict_of(
     made: &mut Mismatches,
     book: &mut BanBook,
 ) -> Result<Conflict, AllocError>
-    requires fit { FitPorts graphs.now domains.now.inputs domains.now.outputs }
-    requires justified { AreJustified domains.now.inputs domains.now.outputs book.old domains.now.entries }
+    requires trail { IsTrail graphs.now book.old domains.now }
     requires impasse { IsImpasse domains.now.inputs domains.now.outputs book.old domains.now.entries impasse }
     ensures more { LearnsMore graphs.now domains.now.entries book.old book.new }
     ensures conflict { IfOk result (IsConflict book.new (held_in domains.now.entries)) }
@@ -52,8 +51,7 @@ fn conflict_of_port(
     made: &mut Mismatches,
     book: &mut BanBook,
 ) -> Result<Conflict, AllocError>
-    requires fit { FitPorts graphs.now domains.now.inputs domains.now.outputs }
-    requires justified { AreJustified domains.now.inputs domains.now.outputs book.old domains.now.entries }
+    requires trail { IsTrail graphs.now book.old domains.now }
     requires impasse { IsImpasse domains.now.inputs domains.now.outputs book.old domains.now.entries (Impasse.Port port) }
     ensures more { LearnsMore graphs.now domains.now.entries book.old book.new }
     ensures conflict { IfOk result (IsConflict book.new (held_in domains.now.entries)) }

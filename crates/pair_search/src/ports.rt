@@ -2,11 +2,12 @@
 
 ghost use Rattle.std.specs.Prelude.{◌≡◌, ◌<◌, ◌≤◌, ◌*◌, ◌^◌, ℕ, ◌⊎◌, Contains, IfNone, IfOk, IfSome, IsTrue, OnOk, false};
 ghost use Rattle.net_core.specs.declared.graphs.Side.TheVariants.{First, Second};
-ghost use Rattle.port_covers.specs.Levels.{nth_way};
+ghost use Rattle.port_covers.specs.Ways.{nth_way};
 ghost use Rattle.account_core.specs.Tallies.{port_on};
 ghost use Rattle.class_refine.specs.Trails.{IsDeleted, IsFreePort, IsOpen, IsPairOf, held_in, ports_of};
 ghost use Rattle.conflict_core.specs.Grounded.{StayGrounded};
-ghost use Rattle.conflict_core.specs.Justified.{AreJustified};
+ghost use Rattle.conflict_core.specs.Justified.{IsJustifiedTrail};
+ghost use Rattle.conflict_core.specs.Named.{IsPortOf};
 ghost use Rattle.pair_search.specs.Impasses.{HasNoWay, IsImpasse};
 ghost use Rattle.pair_search.specs.Progress.{Propagates, left};
 
@@ -16,7 +17,7 @@ use circuits::Pair;
 use class_refine::{Cause, Domains, Reason};
 use conflict_core::Port;
 use net_core::Side;
-use port_covers::level::nth_way;
+use port_covers::ways::nth_way;
 use std::alloc::AllocError;
 
 /// Where a port has one way left, which is open, holds it. It answers whether it has none.
@@ -25,8 +26,8 @@ pub(crate) fn apply_port(
     bans: &[Ban],
     port: Port,
 ) -> Result<bool, AllocError>
-    requires there { port.number < ports_of domains.old.inputs domains.old.outputs port.kind }
-    requires justified { AreJustified domains.old.inputs domains.old.outputs bans.now domains.old.entries }
+    requires there { IsPortOf domains.old port }
+    requires justified { IsJustifiedTrail bans.now domains.old }
     ensures propagates { OnOk result (Propagates bans.now domains.old domains.new) }
     ensures none { IfOk result (λ none. IsTrue none → HasNoWay domains.new.inputs domains.new.outputs domains.new.entries port) }
 {
@@ -53,10 +54,10 @@ pub fn branch(
     bans: &[Ban],
     port: Port,
 ) -> Result<Option<Impasse>, AllocError>
-    requires there { port.number < ports_of domains.old.inputs domains.old.outputs port.kind }
+    requires there { IsPortOf domains.old port }
     requires free { IsFreePort domains.old.entries port.side port.kind port.number }
-    requires justified { AreJustified domains.old.inputs domains.old.outputs bans.now domains.old.entries }
-    ensures justified { OnOk result (AreJustified domains.new.inputs domains.new.outputs bans.now domains.new.entries) }
+    requires justified { IsJustifiedTrail bans.now domains.old }
+    ensures justified { OnOk result (IsJustifiedTrail bans.now domains.new) }
     ensures inputs { OnOk result (domains.new.inputs ≡ domains.old.inputs) }
     ensures outputs { OnOk result (domains.new.outputs ≡ domains.old.outputs) }
     ensures grounded { OnOk result (StayGrounded domains.old.entries domains.new.entries) }
@@ -80,7 +81,7 @@ pub fn branch(
 
 /// A way of a port, by its number.
 pub fn way_of(domains: &Domains, port: Port, number: u64) -> Pair
-    requires there { port.number < ports_of domains.now.inputs domains.now.outputs port.kind }
+    requires there { IsPortOf domains.now port }
     requires below { number < 2 * ports_of domains.now.inputs domains.now.outputs port.kind }
     ensures value { result ≡ nth_way port.side port.kind port.number number }
     ensures known { IsPairOf domains.now.inputs domains.now.outputs result }
@@ -93,7 +94,7 @@ pub fn way_of(domains: &Domains, port: Port, number: u64) -> Pair
 
 // The number of the first way of a port, from one on, that isn't deleted.
 fn remaining(domains: &Domains, port: Port, from: u64) -> Option<u64>
-    requires there { port.number < ports_of domains.now.inputs domains.now.outputs port.kind }
+    requires there { IsPortOf domains.now port }
     ensures from { IfSome result (λ number. from ≤ number) }
     ensures below { IfSome result (λ number. number < 2 * ports_of domains.now.inputs domains.now.outputs port.kind) }
     ensures is { IfSome result (λ number.
@@ -106,23 +107,11 @@ fn remaining(domains: &Domains, port: Port, from: u64) -> Option<u64>
 {
     let count = domains.ports(port.kind);
     for number in from..2 * count as u64 {
-        if is_left(domains, way_of(domains, port, number)) {
+        if domains.remains(way_of(domains, port, number)) {
             return Some(number);
         }
     }
     None
-}
-
-// Whether a pair isn't deleted.
-fn is_left(domains: &Domains, way: Pair) -> bool
-    requires { IsPairOf domains.now.inputs domains.now.outputs way }
-    ensures left { IsTrue result → IsDeleted domains.now.entries way → ⊥ }
-    ensures gone { result ≡ false → IsDeleted domains.now.entries way }
-{
-    match domains.reason(way) {
-        Some(_) => false,
-        None => true,
-    }
 }
 
 // A held pair that shares a port with a pair.

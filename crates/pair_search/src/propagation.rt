@@ -1,10 +1,9 @@
 //! What follows of the pairs that are held and deleted.
 
-ghost use Rattle.std.specs.Prelude.{◌≡◌, ◌<◌, IfOk, IfSome, OnOk};
+ghost use Rattle.std.specs.Prelude.{◌≡◌, ◌<◌};
 ghost use Rattle.class_refine.specs.Trails.{ports_of};
-ghost use Rattle.conflict_core.specs.Justified.{AreJustified};
-ghost use Rattle.pair_search.specs.Impasses.{IsImpasse};
-ghost use Rattle.pair_search.specs.Progress.{Propagates};
+ghost use Rattle.conflict_core.specs.Justified.{IsJustifiedTrail};
+ghost use Rattle.pair_search.specs.Impasses.{Follows};
 
 use crate::clashes::delete_clashing;
 use crate::impasse::Impasse;
@@ -26,10 +25,8 @@ pub fn propagate(
     queue: &mut Queue,
     bans: &[Ban],
 ) -> Result<Option<Impasse>, AllocError>
-    requires justified { AreJustified domains.old.inputs domains.old.outputs bans.now domains.old.entries }
-    ensures propagates { OnOk result (Propagates bans.now domains.old domains.new) }
-    ensures impasse { IfOk result (λ found. IfSome found
-        (IsImpasse domains.new.inputs domains.new.outputs bans.now domains.new.entries)) }
+    requires justified { IsJustifiedTrail bans.now domains.old }
+    ensures { Follows bans.now domains.old domains.new result }
 {
     if let Some(impasse) = apply_new(domains, queue, bans)? {
         return Ok(Some(impasse));
@@ -52,10 +49,8 @@ fn apply_new(
     queue: &mut Queue,
     bans: &[Ban],
 ) -> Result<Option<Impasse>, AllocError>
-    requires justified { AreJustified domains.old.inputs domains.old.outputs bans.now domains.old.entries }
-    ensures propagates { OnOk result (Propagates bans.now domains.old domains.new) }
-    ensures impasse { IfOk result (λ found. IfSome found
-        (IsImpasse domains.new.inputs domains.new.outputs bans.now domains.new.entries)) }
+    requires justified { IsJustifiedTrail bans.now domains.old }
+    ensures { Follows bans.now domains.old domains.new result }
 {
     for number in queue.seen..bans.len() {
         queue.add(domains, &bans[number], number as u64)?;
@@ -73,10 +68,8 @@ fn apply_ban(
     bans: &[Ban],
     number: u64,
 ) -> Result<Option<Impasse>, AllocError>
-    requires justified { AreJustified domains.old.inputs domains.old.outputs bans.now domains.old.entries }
-    ensures propagates { OnOk result (Propagates bans.now domains.old domains.new) }
-    ensures impasse { IfOk result (λ found. IfSome found
-        (IsImpasse domains.new.inputs domains.new.outputs bans.now domains.new.entries)) }
+    requires justified { IsJustifiedTrail bans.now domains.old }
+    ensures { Follows bans.now domains.old domains.new result }
 {
     if number >= bans.len() as u64 {
         return Ok(None);
@@ -94,10 +87,8 @@ fn follow(
     bans: &[Ban],
     entry: Entry,
 ) -> Result<Option<Impasse>, AllocError>
-    requires justified { AreJustified domains.old.inputs domains.old.outputs bans.now domains.old.entries }
-    ensures propagates { OnOk result (Propagates bans.now domains.old domains.new) }
-    ensures impasse { IfOk result (λ found. IfSome found
-        (IsImpasse domains.new.inputs domains.new.outputs bans.now domains.new.entries)) }
+    requires justified { IsJustifiedTrail bans.now domains.old }
+    ensures { Follows bans.now domains.old domains.new result }
 {
     match entry.fate {
         Fate::Held(_) => follow_held(domains, queue, bans, entry.pair),
@@ -112,10 +103,8 @@ fn follow_held(
     bans: &[Ban],
     pair: Pair,
 ) -> Result<Option<Impasse>, AllocError>
-    requires justified { AreJustified domains.old.inputs domains.old.outputs bans.now domains.old.entries }
-    ensures propagates { OnOk result (Propagates bans.now domains.old domains.new) }
-    ensures impasse { IfOk result (λ found. IfSome found
-        (IsImpasse domains.new.inputs domains.new.outputs bans.now domains.new.entries)) }
+    requires justified { IsJustifiedTrail bans.now domains.old }
+    ensures { Follows bans.now domains.old domains.new result }
 {
     if !is_held(domains, pair) {
         return Ok(None);
@@ -132,10 +121,8 @@ fn apply_bans(
     bans: &[Ban],
     pair: Pair,
 ) -> Result<Option<Impasse>, AllocError>
-    requires justified { AreJustified domains.old.inputs domains.old.outputs bans.now domains.old.entries }
-    ensures propagates { OnOk result (Propagates bans.now domains.old domains.new) }
-    ensures impasse { IfOk result (λ found. IfSome found
-        (IsImpasse domains.new.inputs domains.new.outputs bans.now domains.new.entries)) }
+    requires justified { IsJustifiedTrail bans.now domains.old }
+    ensures { Follows bans.now domains.old domains.new result }
 {
     let mut place = queue.take_list(pair);
     for _ in 0..queue.links() {
@@ -172,10 +159,8 @@ fn apply_link(
     pair: Pair,
     place: usize,
 ) -> Result<Option<Impasse>, AllocError>
-    requires justified { AreJustified domains.old.inputs domains.old.outputs bans.now domains.old.entries }
-    ensures propagates { OnOk result (Propagates bans.now domains.old domains.new) }
-    ensures impasse { IfOk result (λ found. IfSome found
-        (IsImpasse domains.new.inputs domains.new.outputs bans.now domains.new.entries)) }
+    requires justified { IsJustifiedTrail bans.now domains.old }
+    ensures { Follows bans.now domains.old domains.new result }
 {
     let Some(link) = queue.link_at(place) else {
         return Ok(None);
@@ -229,10 +214,8 @@ fn follow_deleted(
     bans: &[Ban],
     pair: Pair,
 ) -> Result<Option<Impasse>, AllocError>
-    requires justified { AreJustified domains.old.inputs domains.old.outputs bans.now domains.old.entries }
-    ensures propagates { OnOk result (Propagates bans.now domains.old domains.new) }
-    ensures impasse { IfOk result (λ found. IfSome found
-        (IsImpasse domains.new.inputs domains.new.outputs bans.now domains.new.entries)) }
+    requires justified { IsJustifiedTrail bans.now domains.old }
+    ensures { Follows bans.now domains.old domains.new result }
 {
     if let Some(impasse) = follow_port(domains, bans, pair, Side::First)? {
         return Ok(Some(impasse));
@@ -248,10 +231,8 @@ fn follow_port(
     pair: Pair,
     side: Side,
 ) -> Result<Option<Impasse>, AllocError>
-    requires justified { AreJustified domains.old.inputs domains.old.outputs bans.now domains.old.entries }
-    ensures propagates { OnOk result (Propagates bans.now domains.old domains.new) }
-    ensures impasse { IfOk result (λ found. IfSome found
-        (IsImpasse domains.new.inputs domains.new.outputs bans.now domains.new.entries)) }
+    requires justified { IsJustifiedTrail bans.now domains.old }
+    ensures { Follows bans.now domains.old domains.new result }
 {
     if !is_known(domains, pair) {
         return Ok(None);

@@ -3,7 +3,7 @@
 ghost use Rattle.std.specs.Prelude.{◌≡◌, ◌<◌, ◌∷◌, All, Contains, IfNone, IfOk, IsTrue, OnOk, length};
 ghost use Rattle.ban_book.specs.Covering.{Covers};
 ghost use Rattle.class_refine.specs.Trails.{IsOpen, IsPairOf, held_in};
-ghost use Rattle.conflict_core.specs.Justified.{AreJustified};
+ghost use Rattle.conflict_core.specs.Justified.{IsJustifiedTrail};
 ghost use Rattle.pair_search.specs.Progress.{Propagates};
 
 use account_core::Ban;
@@ -15,7 +15,7 @@ use std::alloc::AllocError;
 /// Where all pairs of a ban but one are held, and that one is open, deletes it. It answers whether all are held.
 pub(crate) fn apply(domains: &mut Domains, bans: &[Ban], number: u64) -> Result<bool, AllocError>
     requires there { number < length bans.now }
-    requires justified { AreJustified domains.old.inputs domains.old.outputs bans.now domains.old.entries }
+    requires justified { IsJustifiedTrail bans.now domains.old }
     ensures propagates { OnOk result (Propagates bans.now domains.old domains.new) }
     ensures all { IfOk result (λ all. IsTrue all → Covers bans.now (held_in domains.new.entries) number) }
 {

@@ -15,22 +15,25 @@ use Rattle.account_core.specs.Given.{Decided, given_of}
 use Rattle.account_core.specs.Covers.{IsReference}
 use Rattle.account_core.specs.Steps.{AreValidBans, IsValidBan}
 use Rattle.ban_book.specs.Covering.{Covers}
+use Rattle.ban_book.specs.Vectors.{IsVector}
 pub use Rattle.ban_book.proofs.BookLemmas.{covers_last}
 use Rattle.ban_book.proofs.BookLemmas.{covers_later, valid_push}
-use Rattle.port_covers.specs.declared.level.Level.{Level}
+use Rattle.ban_book.proofs.VectorLemmas.{no_vector_more, no_vector_none, no_vector_one}
+use Rattle.port_covers.specs.declared.ways.ClosedWays.{ClosedWays}
 use Rattle.account_core.specs.Tallies.{Ascend, other_side}
 use Rattle.port_covers.specs.Held.{AreHeld, IsPart}
-use Rattle.port_covers.specs.Levels.{nth_way, ports_tried, ways_of, AreClosed, HoldsMore}
+use Rattle.port_covers.specs.Ways.{nth_way, ports_tried, way_count, AreClosed, HoldsMore}
 use Rattle.port_covers.proofs.ClosedLemmas.{all_ways}
 
 pub holds_none : (graphs : Graphs) (bans : List Ban) → HoldsMore graphs bans bans
-holds_none graphs bans = record { added = []; more = sym (append-nil bans); valid = λ facts valid. valid }
+holds_none graphs bans = record { added = []; more = sym (append-nil bans); no_vector = no_vector_none; valid = λ facts valid. valid }
 
--- one more valid ban is held
-pub holds_one : (graphs : Graphs) (bans after : List Ban) (ban : Ban) → after ≡ bans ++ ban ∷ [] → ((facts : List Decided) → IsValidBan graphs (given_of facts bans) ban) → HoldsMore graphs bans after
-holds_one graphs bans after ban is valid = record {
+-- one more valid ban is held, which no vector shows
+pub holds_one : (graphs : Graphs) (bans after : List Ban) (ban : Ban) → after ≡ bans ++ ban ∷ [] → (IsVector ban.step → ⊥) → ((facts : List Decided) → IsValidBan graphs (given_of facts bans) ban) → HoldsMore graphs bans after
+holds_one graphs bans after ban is none valid = record {
   added = ban ∷ [];
   more = is;
+  no_vector = no_vector_one ban none;
   valid = λ facts before. subst (AreValidBans graphs facts) (sym is) (valid_push graphs facts bans ban before (valid facts));
 }
 
@@ -38,6 +41,7 @@ pub holds_twice : (graphs : Graphs) (first second third : List Ban) → HoldsMor
 holds_twice graphs first second third one other = record {
   added = one.added ++ other.added;
   more = other.more ∙ (ap (λ l. l ++ other.added) one.more ∙ append_assoc first one.added other.added);
+  no_vector = no_vector_more one.added other.added one.no_vector other.no_vector;
   valid = λ facts valid. other.valid facts (one.valid facts valid);
 }
 
@@ -71,39 +75,39 @@ tried_many : (side : Side) (port count : ℕ) → length (ports_tried side port 
 tried_many First port count = omega (arith, length-range_with_len 0 count)
 tried_many Second port count = omega (arith, length-range_with_len 0 count)
 
-abbrev pub cover_of : Graphs → List Pair → Level → Ban
-cover_of graphs pairs level = record { pairs = pairs; step = step.Cover level.kind (ports_tried level.side level.port (ports_in graphs.second level.kind)) (ports_tried (other_side level.side) level.port (ports_in graphs.second level.kind)) level.refs }
+abbrev pub cover_of : Graphs → List Pair → ClosedWays → Ban
+cover_of graphs pairs ways = record { pairs = pairs; step = step.Cover ways.kind (ports_tried ways.side ways.port (ports_in graphs.second ways.kind)) (ports_tried (other_side ways.side) ways.port (ports_in graphs.second ways.kind)) ways.refs }
 
-pub cover_valid : (graphs : Graphs) (bans : List Ban) (pairs : List Pair) (level : Level) (facts : List Decided) → ports_in graphs.first level.kind ≡ ports_in graphs.second level.kind → All (IsKnown graphs) pairs → AreOrdered pairs → level.port < ports_in graphs.first level.kind → length level.refs ≡ ways_of graphs level → AreClosed bans pairs level → IsValidBan graphs (given_of facts bans) (cover_of graphs pairs level)
-cover_valid graphs bans pairs level facts many known ordered there all closed = record {
+pub cover_valid : (graphs : Graphs) (bans : List Ban) (pairs : List Pair) (ways : ClosedWays) (facts : List Decided) → ports_in graphs.first ways.kind ≡ ports_in graphs.second ways.kind → All (IsKnown graphs) pairs → AreOrdered pairs → ways.port < ports_in graphs.first ways.kind → length ways.refs ≡ way_count graphs ways → AreClosed bans pairs ways → IsValidBan graphs (given_of facts bans) (cover_of graphs pairs ways)
+cover_valid graphs bans pairs ways facts many known ordered there all closed = record {
   known = known;
   ordered = ordered;
   names = record {
-    first_ports = subst (λ n. All (λ port. port < n) (ports_tried level.side level.port count)) (sym many_ports) (tried_below level.side level.port count here);
-    second_ports = tried_below (other_side level.side) level.port count here;
+    first_ports = subst (λ n. All (λ port. port < n) (ports_tried ways.side ways.port count)) (sym many_ports) (tried_below ways.side ways.port count here);
+    second_ports = tried_below (other_side ways.side) ways.port count here;
     given_bans = λ ban held_ref. omega (arith, (closed held_ref.0 (Some ban) held_ref.1).held ban held_ref.2, length-map bans (λ (b : Ban). b.pairs));
   };
   rule = record {
-    from_ascends = tried_ascends level.side level.port count;
-    to_ascends = tried_ascends (other_side level.side) level.port count;
-    too_many = omega (arith, many_ports, tried_many level.side level.port count);
-    referred = all_ways level.side level.kind level.port (ports_in graphs.second level.kind) (IsReference (given_of facts bans) pairs) level.refs all (λ number ref below. reference_facts facts bans pairs (nth_way level.side level.kind level.port number) (get_or level.refs number ref) ((closed number ref below).refers));
+    from_ascends = tried_ascends ways.side ways.port count;
+    to_ascends = tried_ascends (other_side ways.side) ways.port count;
+    too_many = omega (arith, many_ports, tried_many ways.side ways.port count);
+    referred = all_ways ways.side ways.kind ways.port (ports_in graphs.second ways.kind) (IsReference (given_of facts bans) pairs) ways.refs all (λ number ref below. reference_facts facts bans pairs (nth_way ways.side ways.kind ways.port number) (get_or ways.refs number ref) ((closed number ref below).refers));
   };
   shown = tt;
 }
   where
     count : ℕ
-    count = ports_in graphs.second level.kind
+    count = ports_in graphs.second ways.kind
 
-    many_ports : ports_in graphs.first level.kind ≡ count
+    many_ports : ports_in graphs.first ways.kind ≡ count
     many_ports = many
 
-    here : level.port < count
+    here : ways.port < count
     here = omega (arith, there, many_ports)
 
-pub cover_valid_of : (graphs : Graphs) (bans : List Ban) (pairs : List Pair) (level : Level) → ports_in graphs.first level.kind ≡ ports_in graphs.second level.kind → All (IsKnown graphs) pairs → AreOrdered pairs → level.port < ports_in graphs.first level.kind → length level.refs ≡ ways_of graphs level → AreClosed bans pairs level → (ps : List Pair) (from to : List ℕ) → ps ≡ pairs → from ≡ ports_tried level.side level.port (ports_in graphs.second level.kind) → to ≡ ports_tried (other_side level.side) level.port (ports_in graphs.second level.kind) → (facts : List Decided) → IsValidBan graphs (given_of facts bans) (record { pairs = ps; step = step.Cover level.kind from to level.refs })
-cover_valid_of graphs bans pairs level many known ordered there all closed ps from to ps_is from_is to_is facts =
-    subst (λ l. IsValidBan graphs (given_of facts bans) (record { pairs = l; step = step.Cover level.kind from to level.refs })) (sym ps_is) (subst (λ l. IsValidBan graphs (given_of facts bans) (record { pairs = pairs; step = step.Cover level.kind l to level.refs })) (sym from_is) (subst (λ l. IsValidBan graphs (given_of facts bans) (record { pairs = pairs; step = step.Cover level.kind (ports_tried level.side level.port (ports_in graphs.second level.kind)) l level.refs })) (sym to_is) (cover_valid graphs bans pairs level facts many known ordered there all closed)))
+pub cover_valid_of : (graphs : Graphs) (bans : List Ban) (pairs : List Pair) (ways : ClosedWays) → ports_in graphs.first ways.kind ≡ ports_in graphs.second ways.kind → All (IsKnown graphs) pairs → AreOrdered pairs → ways.port < ports_in graphs.first ways.kind → length ways.refs ≡ way_count graphs ways → AreClosed bans pairs ways → (ps : List Pair) (from to : List ℕ) → ps ≡ pairs → from ≡ ports_tried ways.side ways.port (ports_in graphs.second ways.kind) → to ≡ ports_tried (other_side ways.side) ways.port (ports_in graphs.second ways.kind) → (facts : List Decided) → IsValidBan graphs (given_of facts bans) (record { pairs = ps; step = step.Cover ways.kind from to ways.refs })
+cover_valid_of graphs bans pairs ways many known ordered there all closed ps from to ps_is from_is to_is facts =
+    subst (λ l. IsValidBan graphs (given_of facts bans) (record { pairs = l; step = step.Cover ways.kind from to ways.refs })) (sym ps_is) (subst (λ l. IsValidBan graphs (given_of facts bans) (record { pairs = pairs; step = step.Cover ways.kind l to ways.refs })) (sym from_is) (subst (λ l. IsValidBan graphs (given_of facts bans) (record { pairs = pairs; step = step.Cover ways.kind (ports_tried ways.side ways.port (ports_in graphs.second ways.kind)) l ways.refs })) (sym to_is) (cover_valid graphs bans pairs ways facts many known ordered there all closed)))
 
 -- those of the held pairs that are known
 pub part_known : (graphs : Graphs) (held pairs : List Pair) → AreHeld graphs held → IsPart held pairs → All (IsKnown graphs) pairs

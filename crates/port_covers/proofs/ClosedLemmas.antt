@@ -12,9 +12,9 @@ use Rattle.net_core.specs.declared.graphs.Side.TheVariants.{First, Second}
 use Rattle.account_core.specs.declared.step.Ban.{Ban}
 use Rattle.account_core.specs.Given.{ban_at, given_of}
 use Rattle.account_core.specs.Covers.{way, ways, IsImpossible}
-use Rattle.port_covers.specs.declared.level.Level.{Level}
+use Rattle.port_covers.specs.declared.ways.ClosedWays.{ClosedWays}
 use Rattle.account_core.specs.Tallies.{other_side, port_on}
-use Rattle.port_covers.specs.Levels.{first_port, nth_way, ports_tried, second_port, IsClosed, AreClosed}
+use Rattle.port_covers.specs.Ways.{first_port, nth_way, ports_tried, second_port, IsClosed, AreClosed}
 use Rattle.port_covers.proofs.ListLemmas.{each_push}
 
 -- a way that clashes with a held pair is closed
@@ -36,8 +36,8 @@ closed_by_ban bans pairs pair ban d below open' among = record {
     by_same other is = subst (λ n. n < length bans) (same_Some ban other is) below
 
 -- one more way is closed
-pub closed_more : (bans : List Ban) (pairs : List Pair) (level : Level) (ref : Option ℕ) → AreClosed bans pairs level → IsClosed bans pairs (nth_way level.side level.kind level.port (length level.refs)) ref → EachAt (λ number r. IsClosed bans pairs (nth_way level.side level.kind level.port number) r) (level.refs ++ ref ∷ [])
-closed_more bans pairs level ref are is = each_push (λ number r. IsClosed bans pairs (nth_way level.side level.kind level.port number) r) level.refs ref are is
+pub closed_more : (bans : List Ban) (pairs : List Pair) (closed : ClosedWays) (ref : Option ℕ) → AreClosed bans pairs closed → IsClosed bans pairs (nth_way closed.side closed.kind closed.port (length closed.refs)) ref → EachAt (λ number r. IsClosed bans pairs (nth_way closed.side closed.kind closed.port number) r) (closed.refs ++ ref ∷ [])
+closed_more bans pairs closed ref are is = each_push (λ number r. IsClosed bans pairs (nth_way closed.side closed.kind closed.port number) r) closed.refs ref are is
 
 -- both ways with a port
 abbrev both : (ℕ → Bool → Pair) → ℕ → List Pair

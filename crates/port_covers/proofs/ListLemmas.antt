@@ -33,7 +33,7 @@ apart_or_same {X = X} R xs x y pairs one other =
         subst (λ p. R p b) first (subst (λ p. R (get_or xs i b) p) is_b (pairs i j b less within))
 
 pub all_pairs_insert : {X : Type 0} (R : X → X → Type 0) (xs : List X) (place : ℕ) (y : X) → place ≤ length xs → AllPairs R xs → ((k : ℕ) (d : X) → k < place → R (get_or xs k d) y) → ((k : ℕ) (d : X) → place ≤ k → k < length xs → R y (get_or xs k d)) → AllPairs R (insert xs place y)
-all_pairs_insert R xs place y within pairs before behind i j d less below =
+all_pairs_insert R xs place y within pairs before after i j d less below =
     elim (cases_order j place) [
       | inl at ↦
           let e : get_or (insert xs place y) j d ≡ y = ap (λ k. get_or (insert xs place y) k d) at ∙ get_or-insert_at xs place y d within in
@@ -57,7 +57,7 @@ all_pairs_insert R xs place y within pairs before behind i j d less below =
         let e : get_or (insert xs place y) j d ≡ get_or xs m d = ap (λ k. get_or (insert xs place y) k d) is ∙ get_or-insert_above xs place y d m past within in
         let there : m < length xs = omega (arith, below, size, is) in
         subst (λ b. R (get_or (insert xs place y) i d) b) (sym e) (elim (cases_order i place) [
-          | inl at ↦ subst (λ a. R a (get_or xs m d)) (sym (ap (λ k. get_or (insert xs place y) k d) at ∙ get_or-insert_at xs place y d within)) (behind m d past there)
+          | inl at ↦ subst (λ a. R a (get_or xs m d)) (sym (ap (λ k. get_or (insert xs place y) k d) at ∙ get_or-insert_at xs place y d within)) (after m d past there)
           | inr (inl less_i) ↦ subst (λ a. R a (get_or xs m d)) (sym (get_or-insert_below xs place y d i less_i within)) (pairs i m d (omega (arith, less_i, past)) there)
           | inr (inr more_i) ↦ last m there (i - 1) (omega (arith, more_i)) (omega (arith, more_i)) (omega (arith, less, is, more_i))
         ])
@@ -65,8 +65,8 @@ all_pairs_insert R xs place y within pairs before behind i j d less below =
 in_front : {X : Type 0} (xs : List X) (i : ℕ) (x : X) → Contains (take i xs) x → Contains xs x
 in_front xs i x held = subst (λ l. Contains l x) (take-append-drop i xs) (Contains-append_left (take i xs) (drop i xs) x held)
 
-behind_it : {X : Type 0} (xs : List X) (i : ℕ) (x : X) → Contains (drop i xs) x → Contains xs x
-behind_it xs i x held = subst (λ l. Contains l x) (take-append-drop i xs) (Contains-append_right (take i xs) (drop i xs) x held)
+from_rest : {X : Type 0} (xs : List X) (i : ℕ) (x : X) → Contains (drop i xs) x → Contains xs x
+from_rest xs i x held = subst (λ l. Contains l x) (take-append-drop i xs) (Contains-append_right (take i xs) (drop i xs) x held)
 
 pub contains_cons : {X : Type 0} (xs : List X) (y x : X) → Contains xs x → Contains (y ∷ xs) x
 contains_cons xs y x held = (suc held.0, omega (arith, held.1), held.2)
@@ -90,7 +90,7 @@ pub insert_cases : {X : Type 0} (xs : List X) (i : ℕ) (y x : X) → Contains (
 insert_cases xs i y x held =
     elim (Contains-append_cases (take i xs) (y ∷ drop i xs) x held) [
       | inl first ↦ inl (in_front xs i x first)
-      | inr last ↦ elim (cons_cases (drop i xs) y x last) [ inl same ↦ inr (sym same) | inr later ↦ inl (behind_it xs i x later) ]
+      | inr last ↦ elim (cons_cases (drop i xs) y x last) [ inl same ↦ inr (sym same) | inr later ↦ inl (from_rest xs i x later) ]
     ]
 
 pub range_more : (n : ℕ) → range_with_len 0 (n + 1) ≡ range_with_len 0 n ++ n ∷ []

@@ -84,7 +84,7 @@ held_apart held one other apart first second =
 
 -- one more pair, at its place
 pub ordered_insert : (pairs : List Pair) (pair : Pair) (place : ℕ) → AreOrdered pairs → All (λ other. (other ≡ pair) ⊎ AreApart other pair) pairs → place ≤ length pairs → All (λ other. StandsBefore other pair) (take place pairs) → ((d : Pair) → place < length pairs → StandsBefore (get_or pairs place d) pair → ⊥) → (place < length pairs → get_or pairs place pair ≢ pair) → AreOrdered (insert pairs place pair)
-ordered_insert pairs pair place ordered apart within before behind other_there =
+ordered_insert pairs pair place ordered apart within before after other_there =
     all_pairs_insert StandInOrder pairs place pair within ordered first last
   where
     first : (k : ℕ) (d : Pair) → k < place → StandInOrder (get_or pairs k d) pair
@@ -95,7 +95,7 @@ ordered_insert pairs pair place ordered apart within before behind other_there =
 
     here : place < length pairs → StandsBefore pair (get_or pairs place pair)
     here there =
-        turned (get_or pairs place pair).kind pair.kind (get_or pairs place pair).from pair.from (behind pair there) (by_apart (apart place pair there))
+        turned (get_or pairs place pair).kind pair.kind (get_or pairs place pair).from pair.from (after pair there) (by_apart (apart place pair there))
       where
         by_apart : (get_or pairs place pair ≡ pair) ⊎ AreApart (get_or pairs place pair) pair → (get_or pairs place pair).kind ≡ pair.kind → (get_or pairs place pair).from ≢ pair.from
         by_apart (inl same) = absurd (other_there there same)

@@ -37,6 +37,11 @@ pub record IsPart (held pairs : List Pair) : Type 0 where
   pub among : All (Contains held) pairs
   pub ordered : AreOrdered pairs
 
+-- Held pairs were added to some of those that are held: what was there stays, in order.
+pub record AddsHeld (held before after : List Pair) : Type 0 where
+  pub part : IsPart held after
+  pub stays : All (Contains after) before
+
 -- a port stands before another: inputs come first, and ports of a kind ascend
 abbrev pub ArePortsInTurn : PortKind → PortKind → ℕ → ℕ → Type 0
 ArePortsInTurn Input Input one other = one < other

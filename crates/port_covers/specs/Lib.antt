@@ -1,4 +1,5 @@
 pub mod Held
-pub mod Levels
+pub mod Ways
 pub use Rattle.account_core.specs.Steps
 pub use Rattle.ban_book.specs.Covering
+pub use Rattle.ban_book.specs.Vectors

@@ -1,17 +1,18 @@
 //! Bans that say that a port has no way left.
 
-ghost use Rattle.std.specs.Prelude.{◌≡◌, ◌∷◌, ◌<◌, All, AllPairs, Contains, IfOk, OnOk, List, length};
+ghost use Rattle.std.specs.Prelude.{◌≡◌, ◌⊎◌, ◌∷◌, ◌<◌, All, AllPairs, Contains, IfOk, OnOk, List, length};
 ghost use Rattle.std.specs.List.{range_with_len};
 ghost use Rattle.account_core.specs.declared.step.Ban.{Ban as AnyBan};
 ghost use Rattle.account_core.specs.Ports.{AreOrdered, IsKnown, ports_in};
 ghost use Rattle.account_core.specs.Given.{Decided as AnyFact, given_of};
 ghost use Rattle.account_core.specs.Steps.{IsValidBan};
 ghost use Rattle.ban_book.specs.Covering.{Covers};
-ghost use Rattle.port_covers.specs.Held.{AreApart, IsPart};
-ghost use Rattle.port_covers.specs.Levels.{ports_tried, ways_of, AreClosed, HoldsMore};
+ghost use Rattle.ban_book.specs.Vectors.{IsVector};
+ghost use Rattle.port_covers.specs.Held.{AddsHeld, AreApart, IsPart};
+ghost use Rattle.port_covers.specs.Ways.{ports_tried, way_count, AreClosed, HoldsMore};
 
-use crate::level::Level;
 use crate::needed::add;
+use crate::ways::ClosedWays;
 use account_core::{Ban, Step};
 use ban_book::BanBook;
 use circuits::Pair;
@@ -26,18 +27,18 @@ pub fn hold_cover(
     alloc: Global,
     graphs: &PairableGraphs<'_>,
     pairs: &[Pair],
-    level: Level,
+    ways: ClosedWays,
     book: &mut BanBook,
 ) -> Result<u64, AllocError>
     requires known { All (IsKnown graphs.now) pairs.now }
     requires ordered { AreOrdered pairs.now }
-    requires there { level.port < ports_in graphs.now.first level.kind }
-    requires all { length level.refs ≡ ways_of graphs.now level }
-    requires closed { AreClosed book.old pairs.now level }
+    requires there { ways.port < ports_in graphs.now.first ways.kind }
+    requires all { length ways.refs ≡ way_count graphs.now ways }
+    requires closed { AreClosed book.old pairs.now ways }
     ensures more { HoldsMore graphs.now book.old book.new }
     ensures covers { IfOk result (Covers book.new pairs.now) }
 {
-    let ban = ban_of_ways(alloc, graphs, pairs, level)?;
+    let ban = ban_of_ways(alloc, graphs, pairs, ways)?;
     let held = book.hold(ban)?;
     Ok(held)
 }
@@ -47,22 +48,23 @@ fn ban_of_ways(
     alloc: Global,
     graphs: &PairableGraphs<'_>,
     pairs: &[Pair],
-    level: Level,
+    ways: ClosedWays,
 ) -> Result<Ban, AllocError>
     requires known { All (IsKnown graphs.now) pairs.now }
     requires ordered { AreOrdered pairs.now }
-    requires there { level.port < ports_in graphs.now.first level.kind }
-    requires all { length level.refs ≡ ways_of graphs.now level }
+    requires there { ways.port < ports_in graphs.now.first ways.kind }
+    requires all { length ways.refs ≡ way_count graphs.now ways }
     ensures valid { IfOk result (λ ban. (facts : List AnyFact) (bans : List AnyBan)
-        → AreClosed bans pairs.now level
+        → AreClosed bans pairs.now ways
         → IsValidBan graphs.now (given_of facts bans) ban) }
+    ensures step { IfOk result (λ ban. IsVector ban.step → ⊥) }
     ensures pairs { IfOk result (λ ban. ban.pairs ≡ pairs.now) }
 {
-    let count = graphs.ports(level.kind);
-    let from = ports_tried(alloc, level.side, level.port, count)?;
-    let to = ports_tried(alloc, other_side(level.side), level.port, count)?;
+    let count = graphs.ports(ways.kind);
+    let from = ports_tried(alloc, ways.side, ways.port, count)?;
+    let to = ports_tried(alloc, other_side(ways.side), ways.port, count)?;
     let pairs = Few::from_slice(alloc, pairs)?;
-    let Level { kind, refs, .. } = level;
+    let ClosedWays { kind, refs, .. } = ways;
     Ok(Ban {
         pairs,
         step: Step::Cover {
@@ -105,8 +107,7 @@ pub fn add_others(
     requires part { IsPart held.now needed.old.items }
     requires apart { AllPairs AreApart held.now }
     requires among { All (Contains (way ∷ held.now)) pairs.now }
-    ensures part { OnOk result (IsPart held.now needed.new.items) }
-    ensures stays { OnOk result (All (Contains needed.new.items) needed.old.items) }
+    ensures adds { OnOk result (AddsHeld held.now needed.old.items needed.new.items) }
     ensures among { OnOk result (All (Contains (way ∷ needed.new.items)) pairs.now) }
 {
     for pair in pairs.iter() {
@@ -125,8 +126,7 @@ fn add_unless(
     requires part { IsPart held.now needed.old.items }
     requires apart { AllPairs AreApart held.now }
     requires held { Contains (way ∷ held.now) pair }
-    ensures part { OnOk result (IsPart held.now needed.new.items) }
-    ensures stays { OnOk result (All (Contains needed.new.items) needed.old.items) }
+    ensures adds { OnOk result (AddsHeld held.now needed.old.items needed.new.items) }
     ensures added { OnOk result (Contains (way ∷ needed.new.items) pair) }
 {
     if pair == way {
@@ -141,9 +141,9 @@ pub fn add_one(needed: &mut Vec<Pair>, held: &[Pair], pair: Pair) -> Result<(), 
     requires part { IsPart held.now needed.old.items }
     requires apart { AllPairs AreApart held.now }
     requires held { Contains held.now pair }
-    ensures part { OnOk result (IsPart held.now needed.new.items) }
-    ensures stays { OnOk result (All (Contains needed.new.items) needed.old.items) }
+    ensures adds { OnOk result (AddsHeld held.now needed.old.items needed.new.items) }
     ensures added { OnOk result (Contains needed.new.items pair) }
+    ensures only { OnOk result (All (λ other. Contains needed.old.items other ⊎ (other ≡ pair)) needed.new.items) }
 {
     let _ = held;
     add(needed, pair)?;

@@ -3,5 +3,5 @@
 
 pub mod clash;
 pub mod cover;
-pub mod level;
 pub mod needed;
+pub mod ways;

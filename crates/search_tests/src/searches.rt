@@ -5,13 +5,15 @@ ghost use Rattle.oracle_core.specs.Oracles.{Suits};
 ghost use Rattle.query_core.specs.Ledgers.{Ledgered};
 
 use crate::sample_circuits::{AND, OR, Sample, XOR, are_small, pair};
+use account_core::{Ban, Fact, Step};
 use ban_book::BanBook;
+use cnf_core::Stop;
 use fact_tests::FactBook;
 use match_search::{Found, search};
 use net_core::Graphs;
 use oracle_core::Oracle;
 use port_sides::PairableGraphs;
-use query_core::Ledger;
+use query_core::{Ledger, Shape};
 use std::alloc::{AllocError, Global};
 use std::test::Fail;
 use table_oracle::TableOracle;
@@ -76,15 +78,62 @@ const ODD_OF_FOUR: Sample = Sample {
     outputs: &[26],
 };
 
-fn is_match(found: &Found) -> bool {
+/// One input, and an output that is always 0, or the input.
+const ZERO_OF_ONE: Sample = Sample {
+    inputs: 1,
+    gates: &[],
+    outputs: &[0],
+};
+
+const WIRE_OF_ONE: Sample = Sample {
+    inputs: 1,
+    gates: &[],
+    outputs: &[2],
+};
+
+/// What a search comes to, with what it leaves.
+#[derive(Clone, Copy, Debug, PartialEq, Eq)]
+enum Answer {
+    /// A match, and how many claims of one input are decided: of both circuits two of each output at each input.
+    Match(usize),
+    /// No match, and whether a ban is by a vector.
+    NoMatch { by_vector: bool },
+    Stopped,
+}
+
+fn answer_of(found: &Result<Found, Stop>, facts: &[Fact], bans: &[Ban]) -> Answer {
     match found {
-        Found::Match(_, _) => true,
-        Found::None(_) => false,
+        Ok(Found::Match(_, _)) => Answer::Match(of_one_input(facts)),
+        Ok(Found::None(_)) => Answer::NoMatch {
+            by_vector: bans.iter().any(|ban| is_vector(&ban.step)),
+        },
+        Err(_) => Answer::Stopped,
     }
 }
 
-/// What a search over a new oracle finds; None where it is stopped.
-fn found_by<O: Oracle>(alloc: Global, graphs: &PairableGraphs<'_>, oracle: &mut O) -> Option<bool>
+fn of_one_input(facts: &[Fact]) -> usize {
+    facts
+        .iter()
+        .filter(|fact| has_one_input(fact.claim.shape))
+        .count()
+}
+
+fn has_one_input(shape: Shape) -> bool {
+    match shape {
+        Shape::Up(_) | Shape::Down(_) => true,
+        Shape::Swap { .. } => false,
+    }
+}
+
+fn is_vector(step: &Step) -> bool {
+    match step {
+        Step::Vector { .. } => true,
+        _ => false,
+    }
+}
+
+/// What a search over a new oracle comes to.
+fn found_by<O: Oracle>(alloc: Global, graphs: &PairableGraphs<'_>, oracle: &mut O) -> Answer
     requires graphs { graphs.now ≡ (O.known oracle.old).graphs }
     requires suits { (ledger : Ledgered)
         → ledger.asked ≡ []
@@ -93,62 +142,64 @@ fn found_by<O: Oracle>(alloc: Global, graphs: &PairableGraphs<'_>, oracle: &mut 
 {
     let mut book = BanBook::new(alloc);
     let mut ledger = Ledger::new(alloc, 1_000_000);
-    match search(alloc, graphs, oracle, &mut book, 1, &mut ledger) {
-        Ok(found) => Some(is_match(&found)),
-        Err(_) => None,
-    }
+    let found = search(alloc, graphs, oracle, &mut book, 1, &mut ledger);
+    answer_of(&found, oracle.facts(), book.bans())
 }
 
 /// What a search over the oracle that tries all vectors finds.
-fn by_table(alloc: Global, graphs: &PairableGraphs<'_>) -> Result<Option<bool>, AllocError> {
+fn by_table(alloc: Global, graphs: &PairableGraphs<'_>) -> Result<Answer, AllocError> {
     if !are_small(graphs) {
-        return Ok(None);
+        return Ok(Answer::Stopped);
     }
     let mut oracle = TableOracle::new(alloc, graphs)?;
     Ok(found_by(alloc, graphs, &mut oracle))
 }
 
 /// What a search over the book of facts finds.
-fn by_book(alloc: Global, graphs: &PairableGraphs<'_>) -> Result<Option<bool>, AllocError> {
+fn by_book(alloc: Global, graphs: &PairableGraphs<'_>) -> Result<Answer, AllocError> {
     let mut oracle = FactBook::new(alloc, graphs.graphs(), 1)?;
     Ok(found_by(alloc, graphs, &mut oracle))
 }
 
 /// What is found over both oracles.
-fn by_both(alloc: Global, graphs: &Graphs<'_>) -> Result<(Option<bool>, Option<bool>), AllocError> {
+fn by_both(alloc: Global, graphs: &Graphs<'_>) -> Result<(Answer, Answer), AllocError> {
     match PairableGraphs::new(graphs) {
         Some(graphs) => Ok((by_table(alloc, &graphs)?, by_book(alloc, &graphs)?)),
-        None => Ok((None, None)),
+        None => Ok((Answer::Stopped, Answer::Stopped)),
     }
 }
 
-fn found(
-    alloc: Global,
-    first: Sample,
-    second: Sample,
-) -> Result<(Option<bool>, Option<bool>), Fail> {
+fn found(alloc: Global, first: Sample, second: Sample) -> Result<(Answer, Answer), Fail> {
     let both = pair(alloc, first, second)?;
     let graphs = both.graphs();
     Ok(by_both(alloc, &graphs)?)
 }
 
-/// Two circuits by name, and whether they have a match.
-const SEARCHES: &[(&str, Sample, Sample, bool)] = &[
-    ("AND, OR", AND, OR, true),
-    ("two outputs", AND_AND_INPUT, CROSSED, true),
-    ("constants", ZERO, ONE, true),
-    ("AND, XOR", AND, XOR, false),
-    ("two or odd of four", TWO_OF_FOUR, ODD_OF_FOUR, false),
+/// Two circuits by name, and what a search of them comes to.
+const SEARCHES: &[(&str, Sample, Sample, Answer)] = &[
+    ("AND, OR", AND, OR, Answer::Match(8)),
+    ("two outputs", AND_AND_INPUT, CROSSED, Answer::Match(16)),
+    ("constants", ZERO, ONE, Answer::Match(0)),
+    ("AND, XOR", AND, XOR, Answer::NoMatch { by_vector: false }),
+    (
+        "a constant, an input",
+        ZERO_OF_ONE,
+        WIRE_OF_ONE,
+        Answer::NoMatch { by_vector: false },
+    ),
+    (
+        "two or odd of four",
+        TWO_OF_FOUR,
+        ODD_OF_FOUR,
+        Answer::NoMatch { by_vector: false },
+    ),
 ];
 
 #[test]
 fn both_oracles_find_the_same(rt: HostRuntime) -> Result<(), Fail> {
-    for (name, first, second, is_match) in SEARCHES.iter() {
+    for (name, first, second, answer) in SEARCHES.iter() {
         let (by_table, by_book) = found(rt.alloc(), *first, *second)?;
-        assert_eq!(rt;
-            (*name, by_table, by_book),
-            (*name, Some(*is_match), Some(*is_match))
-        );
+        assert_eq!(rt; (*name, by_table, by_book), (*name, *answer, *answer));
     }
     Ok(())
 }

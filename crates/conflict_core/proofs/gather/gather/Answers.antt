@@ -26,4 +26,4 @@ gather_way-requires-clause-named c =
 
 pub loop-number-preserved : goal.loop-number-preserved
 loop-number-preserved c =
-    gathered_one c.args.bans.now c.args.domains.now.entries c.args.held.now c.args.conflict.now.items c.loop-number.conflict.items c.gather_way.new.conflict.items c.args.port c.args.skipped c.loop-number.number c.nth_way-way.result c.nth_way-way.ensures c.loop-number.invariant c.in_ok-gather_way.ensures.part c.in_ok-gather_way.ensures.stays c.in_ok-gather_way.ensures.gathered
+    gathered_one c.args.bans.now c.args.domains.now.entries c.args.held.now c.args.conflict.now.items c.loop-number.conflict.items c.gather_way.new.conflict.items c.args.port c.args.skipped c.loop-number.number c.nth_way-way.result c.nth_way-way.ensures c.loop-number.invariant c.in_ok-gather_way.ensures.adds.part c.in_ok-gather_way.ensures.adds.stays c.in_ok-gather_way.ensures.gathered

@@ -6,11 +6,11 @@ use Rattle.conflict_core.proofs.ConflictLemmas.{not_left_out}
 use Rattle.conflict_core.proofs.NamedLemmas.{one_reason}
 use Rattle.conflict_core.proofs.gather.gather_way.Goals as goal
 
-pub returns-then-is_left_out-clause-stays : goal.returns-then-is_left_out-clause-stays
-returns-then-is_left_out-clause-stays c = All-contains_itself c.args.conflict.now.items
+pub returns-then-is_left_out-clause-adds : goal.returns-then-is_left_out-clause-adds
+returns-then-is_left_out-clause-adds c = record { part = c.requires.part; stays = All-contains_itself c.args.conflict.now.items }
 
-pub returns-then-is_impossible-clause-stays : goal.returns-then-is_impossible-clause-stays
-returns-then-is_impossible-clause-stays c = All-contains_itself c.args.conflict.now.items
+pub returns-then-is_impossible-clause-adds : goal.returns-then-is_impossible-clause-adds
+returns-then-is_impossible-clause-adds c = record { part = c.requires.part; stays = All-contains_itself c.args.conflict.now.items }
 
 pub add_named-requires-clause-named : goal.add_named-requires-clause-named
 add_named-requires-clause-named c =

@@ -11,7 +11,7 @@ use Rattle.conflict_core.proofs.refer.refer.Goals as goal
 
 pub loop-number-init : goal.loop-number-init
 loop-number-init c = (
-  referring_none c.args.port c.args.conflict.now c.args.book.now c.new-level.result c.new-level.ensures,
+  referring_none c.args.port c.args.conflict.now c.args.book.now c.new-ways.result c.new-ways.ensures,
   learns_none c.args.graphs.now c.args.domains.now.entries c.args.book.now,
 )
 
@@ -47,6 +47,6 @@ pub loop-number-preserved : goal.loop-number-preserved
 loop-number-preserved c =
     let after = c.reference.new.book in
     let more = c.in_ok-reference.ensures.more in (
-      referring_one c.args.port c.args.conflict.now after c.loop-number.level c.push.new.self c.in_ok-reference.reference c.nth_way-way.result c.loop-number.number c.in_ok-push.ensures.ok c.nth_way-way.ensures (referring_later c.args.port c.args.conflict.now c.loop-number.book more.added after c.loop-number.level c.loop-number.number more.more c.loop-number.invariant.0) c.in_ok-reference.ensures.closed,
+      referring_one c.args.port c.args.conflict.now after c.loop-number.ways c.push.new.self c.in_ok-reference.reference c.nth_way-way.result c.loop-number.number c.in_ok-push.ensures.ok c.nth_way-way.ensures (referring_later c.args.port c.args.conflict.now c.loop-number.book more.added after c.loop-number.ways c.loop-number.number more.more c.loop-number.invariant.0) c.in_ok-reference.ensures.closed,
       learns_twice c.args.graphs.now c.args.domains.now.entries c.args.book.now c.loop-number.book after c.loop-number.invariant.1 c.in_ok-reference.ensures.more,
     )

@@ -2,8 +2,7 @@ use Rattle.std.proofs.Common.{◌<◌, ◌+◌, List, length, take, All, Contain
 use Rattle.circuits.specs.declared.port.Pair.{Pair}
 use Rattle.class_refine.specs.Trails.{held_in}
 use Rattle.ban_book.specs.Covering.{Covers}
-use Rattle.conflict_core.proofs.GroundedLemmas.{learns_twice}
-use Rattle.conflict_core.proofs.JustifiedLemmas.{justified_later}
+use Rattle.conflict_core.proofs.GroundedLemmas.{learns_twice, trail_later}
 use Rattle.conflict_core.proofs.PivotLemmas.{back_is}
 use Rattle.conflict_core.proofs.ResolveLemmas.{last_lent, none_left, resolving_at, resolving_on}
 use Rattle.conflict_core.proofs.resolution.resolve.Goals as goal
@@ -25,10 +24,9 @@ returns-in-Choice-clause-learned c =
     let inside : c.in-Some.last < length (held_in es) = omega (arith, last.within, c.loop-last.invariant.within) in
     back_is d.inputs d.outputs c.loop-last.book es conflict.pairs.items c.deref-in-Some.result.now c.in-Some.last c.in-Choice.place conflict.ban c.back_to.result c.entries-lawful.ensures.lawful inside c.deref-in-Some.ensures.value c.in-Choice.ensures c.loop-last.invariant.conflict_is.covers c.back_to.ensures
 
-pub resolve_on-requires-clause-justified : goal.resolve_on-requires-clause-justified
-resolve_on-requires-clause-justified c =
-    let d = c.args.domains.now in
-    justified_later d.inputs d.outputs c.args.book.now c.loop-last.invariant.more.added c.loop-last.book d.entries c.loop-last.invariant.more.more c.requires.justified
+pub resolve_on-requires-clause-trail : goal.resolve_on-requires-clause-trail
+resolve_on-requires-clause-trail c =
+    trail_later c.args.graphs.now c.args.book.now c.loop-last.book c.args.domains.now c.loop-last.invariant.more c.requires.trail
 
 pub resolve_on-requires-clause-conflict : goal.resolve_on-requires-clause-conflict
 resolve_on-requires-clause-conflict c =

@@ -2,7 +2,7 @@ use Rattle.std.proofs.Common.{◌∷◌, List, Some, All, Contains, sym, subst, 
 use Rattle.circuits.specs.declared.port.Pair.{Pair}
 use Rattle.account_core.specs.Tallies.{port_on}
 use Rattle.port_covers.specs.Held.{AreHeld}
-use Rattle.port_covers.specs.Levels.{nth_way}
+use Rattle.port_covers.specs.Ways.{nth_way}
 use Rattle.class_refine.specs.declared.entry.Fate.TheVariants.{Held}
 use Rattle.class_refine.specs.declared.entry.Cause.TheVariants.{LastWay}
 use Rattle.class_refine.specs.Trails.{held_in}
@@ -16,7 +16,7 @@ use Rattle.conflict_core.proofs.resolution.resolve_on.Goals as goal
 pub cover_port-requires-clause-held : goal.cover_port-requires-clause-held
 cover_port-requires-clause-held c =
     let d = c.args.domains.now in
-    subst (AreHeld c.args.graphs.now) (sym c.first_held-held.ensures) (held_first c.args.graphs.now (held_in d.entries) c.args.place (omega (arith, c.requires.within)) (held_known c.args.graphs.now d.inputs d.outputs d.entries c.requires.fit c.entries-lawful.ensures.lawful))
+    subst (AreHeld c.args.graphs.now) (sym c.first_held-held.ensures) (held_first c.args.graphs.now (held_in d.entries) c.args.place (omega (arith, c.requires.within)) (held_known c.args.graphs.now d.inputs d.outputs d.entries c.requires.trail.fit c.entries-lawful.ensures.lawful))
 
 pub cover_port-requires-clause-named : goal.cover_port-requires-clause-named
 cover_port-requires-clause-named c = λ number below.
@@ -25,7 +25,7 @@ cover_port-requires-clause-named c = λ number below.
     let way = c.held_at-way.result in
     let side = c.args.side in
     let there = subst (λ (p : Pair). Contains es (record { pair = p; fate = Held (LastWay side) })) (c.held_at-way.ensures.value way) (c.requires.forced way) in
-    let ways = ways_before d.inputs d.outputs c.args.book.now es c.args.place way side c.entries-lawful.ensures.lawful.apart c.requires.justified there c.requires.within (c.held_at-way.ensures.value way) number below in
+    let ways = ways_before d.inputs d.outputs c.args.book.now es c.args.place way side c.entries-lawful.ensures.lawful.apart c.requires.trail.justified there c.requires.within (c.held_at-way.ensures.value way) number below in
     subst (λ n. IsLeftOutOr (Some way) (nth_way side way.kind n number) (IsNamedIn c.args.book.now es c.first_held-held.result.now (nth_way side way.kind n number))) (sym c.port_on.ensures) (subst (λ (l : List Pair). IsLeftOutOr (Some way) (nth_way side way.kind (port_on side way) number) (IsNamedIn c.args.book.now es l (nth_way side way.kind (port_on side way) number))) (sym c.first_held-held.ensures) ways)
 
 pub cover_port-requires-clause-part : goal.cover_port-requires-clause-part

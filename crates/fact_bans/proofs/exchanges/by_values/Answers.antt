@@ -1,7 +1,7 @@
 use Rattle.std.proofs.Common.{◌∷◌, [], refl}
 use Rattle.std.proofs.lemmas.Result.{err_from_is_err_and}
 use Rattle.fact_bans.proofs.HoldingLemmas.{held_same, holds_ok, holds_stop}
-use Rattle.fact_bans.proofs.MismatchLemmas.{first_placed, input_from, input_to, inputs_image, is_image, second_placed, three_known, three_ordered, two_placed}
+use Rattle.claim_rows.proofs.MismatchLemmas.{first_placed, input_from, input_to, inputs_image, is_image, second_placed, three_known, three_ordered, two_placed}
 use Rattle.fact_bans.proofs.exchanges.by_values.Goals as goal
 
 pub returns-in_err-look_at_swaps-clause-holds : goal.returns-in_err-look_at_swaps-clause-holds

@@ -27,7 +27,8 @@ pub returns-clause-holds : goal.returns-clause-holds
 returns-clause-holds g c =
     let by = rw c.in-Some.is at c.in_ok-ban.ensures.ban in
     let here = subst (λ (gr : Graphs). IsValidBan gr (given_of (map decided_by (g.O.Oracle.known c.ban_by.new.oracle).facts) c.args.book.now) c.in-Some.ban) (sym c.requires.may.graphs_are) (by.valid c.args.book.now) in
-    holds_ok _ _ _ _ _ _ _ _ _ refl (held_ban _ _ _ _ _ _ _ c.in-Some.ban c.requires.may.valid (served_one _ _ _ _ _ c.in_ok-ban.ensures.serves) c.in_ok-number.ensures.held here)
+    let none = rw c.in-Some.is at c.in_ok-ban.ensures.no_vector in
+    holds_ok _ _ _ _ _ _ _ _ _ refl (held_ban _ _ _ _ _ _ _ c.in-Some.ban c.requires.may.valid (served_one _ _ _ _ _ c.in_ok-ban.ensures.serves) c.in_ok-number.ensures.held here (λ vector. absurd (none vector)))
 
 pub returns-clause-covers : goal.returns-clause-covers
 returns-clause-covers g c =

@@ -1,4 +1,4 @@
-use Rattle.fact_bans.proofs.ListLemmas.{marked_none}
+use Rattle.claim_rows.proofs.ListLemmas.{marked_none}
 use Rattle.fact_bans.proofs.refusal.marked.Goals as goal
 
 pub loop-port-init : goal.loop-port-init

@@ -6,6 +6,7 @@ use Rattle.account_core.specs.Covers.{ways}
 use Rattle.account_core.specs.Given.{decided_by, given_of}
 use Rattle.account_core.specs.Steps.{IsValidBan}
 use Rattle.fact_bans.specs.Referred.{AreReferred}
+use Rattle.ban_book.specs.Vectors.{IsVector}
 use Rattle.fact_bans.proofs.HoldingLemmas.{held_ban, held_kept, held_one, held_same, held_then, holds_err, holds_ok, holds_stop, may_later}
 use Rattle.fact_bans.proofs.ReferLemmas.{cover_valid, empty_last}
 use Rattle.fact_bans.proofs.refusal.refuse_by.Goals as goal
@@ -57,7 +58,7 @@ returns-clause-holds g c =
     let are = subst (λ l. AreReferred c.rows.new.book (ways Output from l) c.in-Some.refs) c.deref-4.ensures.value (subst (λ l. AreReferred c.rows.new.book (ways Output l c.deref-4.result.now) c.in-Some.refs) c.deref-3.ensures.value (rw c.in-Some.is at c.in_ok-refs.ensures.referred)) in
     let valid = cover_valid graphs facts c.rows.new.book from to c.in-Some.refs c.in_ok-from.ensures.ascends c.in_ok-to.ensures.ascends from_there to_there many are in
     let here = subst (λ (b : Ban). IsValidBan graphs (given_of facts c.rows.new.book) b) (sym c.in_ok-ban.ensures) valid in
-    holds_ok _ _ _ _ _ _ _ _ _ refl (held_then _ _ _ _ _ _ _ _ _ _ rows (held_ban _ _ _ _ _ _ _ c.in_ok-ban.ban may.valid (held_same _ _ _ _ may).served c.in_ok-number.ensures.held here))
+    holds_ok _ _ _ _ _ _ _ _ _ refl (held_then _ _ _ _ _ _ _ _ _ _ rows (held_ban _ _ _ _ _ _ _ c.in_ok-ban.ban may.valid (held_same _ _ _ _ may).served c.in_ok-number.ensures.held here (λ vector. absurd (subst (λ (b : Ban). IsVector b.step) c.in_ok-ban.ensures vector))))
 
 pub returns-clause-empty : goal.returns-clause-empty
 returns-clause-empty g c =

@@ -5,7 +5,7 @@ use Rattle.std.specs.Prelude.{not}
 use Rattle.account_core.specs.Given.{decided_by}
 use Rattle.account_core.specs.Tallies.{port_on, AreOfEach}
 use Rattle.fact_bans.specs.declared.lists.Wanted.{Wanted}
-use Rattle.fact_bans.specs.Listed.{ListsBoth, ListsOne}
+use Rattle.claim_rows.specs.Listed.{ListsBoth, ListsOne}
 use Rattle.fact_bans.proofs.FactLemmas.{lists_grow}
 use Rattle.fact_bans.proofs.ServeLemmas.{served_one, served_then, serves_err, serves_ok}
 use Rattle.fact_bans.proofs.tallies.ask.Goals as goal

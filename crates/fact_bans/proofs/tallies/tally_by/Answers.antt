@@ -5,9 +5,10 @@ use Rattle.account_core.specs.declared.step.Ban.{Ban}
 use Rattle.account_core.specs.Given.{decided_by, given_of}
 use Rattle.account_core.specs.Steps.{IsValidBan}
 use Rattle.fact_bans.proofs.ServeLemmas.{served_one}
+use Rattle.ban_book.specs.Vectors.{IsVector}
 use Rattle.ban_book.proofs.BookLemmas.{covers_own}
-use Rattle.fact_bans.proofs.HoldingLemmas.{held_ban, held_kept, holds_fail, holds_ok, holds_stop}
-use Rattle.fact_bans.proofs.TallyLemmas.{tally_valid}
+use Rattle.fact_bans.proofs.HoldingLemmas.{held_ban, held_kept, holds_fail, holds_ok, holds_stop, tally_no_vector}
+use Rattle.claim_rows.proofs.TallyLemmas.{tally_valid}
 use Rattle.fact_bans.proofs.tallies.tally_by.Goals as goal
 
 pub returns-in_err-lists-clause-holds : goal.returns-in_err-lists-clause-holds
@@ -44,7 +45,7 @@ returns-clause-holds g c =
     let many : graphs.first.inputs < length lists.one + length lists.both / 2 = omega (arith, c.are_many.ensures.many c.if-not-are_many.false, ap length c.deref.ensures.value, ap length c.deref-2.ensures.value, c.inputs.ensures.value, ap (λ (net : Net). net.inputs) c.first.ensures.value) in
     let valid = tally_valid graphs (map decided_by new.facts) c.args.book.now c.args.pair c.args.plan.now.side c.args.plan.now.holds lists c.requires.output c.requires.known are one both many in
     let here = subst (λ (b : Ban). IsValidBan graphs (given_of (map decided_by new.facts) c.args.book.now) b) (sym c.in_ok-ban.ensures) valid in
-    holds_ok _ _ _ _ _ _ _ _ _ refl (held_ban _ _ _ _ _ _ _ c.in_ok-ban.ban c.requires.may.valid (served_one _ _ _ _ _ c.in_ok-lists.ensures.serves) c.in_ok-number.ensures.held here)
+    holds_ok _ _ _ _ _ _ _ _ _ refl (held_ban _ _ _ _ _ _ _ c.in_ok-ban.ban c.requires.may.valid (served_one _ _ _ _ _ c.in_ok-lists.ensures.serves) c.in_ok-number.ensures.held here (λ vector. absurd (tally_no_vector c.args.pair c.args.plan.now.holds lists (subst (λ (b : Ban). IsVector b.step) c.in_ok-ban.ensures vector))))
 
 pub returns-clause-covers : goal.returns-clause-covers
 returns-clause-covers g c =

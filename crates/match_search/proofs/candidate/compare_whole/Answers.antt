@@ -1,7 +1,6 @@
 use Rattle.std.proofs.Common.{refl}
 use Rattle.std.proofs.lemmas.Result.{err_from_is_err_and}
-use Rattle.fact_bans.proofs.HoldingLemmas.{held_kept, holds_fail, holds_ok, holds_stop}
-use Rattle.match_search.proofs.AskLemmas.{held_more}
+use Rattle.fact_bans.proofs.HoldingLemmas.{held_kept, held_one, held_then, holds_err, holds_fail, holds_ok, holds_stop, may_later}
 use Rattle.match_search.proofs.CompareLemmas.{shown_match}
 use Rattle.match_search.proofs.ServeLemmas.{served_one}
 use Rattle.match_search.proofs.candidate.compare_whole.Goals as goal
@@ -19,9 +18,13 @@ pub returns-in-None-clause-settled : goal.returns-in-None-clause-settled
 returns-in-None-clause-settled g c =
     shown_match c.args.graphs.now c.in_ok-matching.matching c.compare_all.new.logs c.first-first.ensures.sound c.second-second.ensures.sound c.in_ok-matching.ensures.ports (rw c.in-None.is at c.in_ok-compare_all.ensures.same)
 
+pub exclude-requires-clause-may : goal.exclude-requires-clause-may
+exclude-requires-clause-may g c =
+    may_later _ _ _ _ _ _ _ c.requires.may (held_kept _ _ _ _ _ _ _ c.requires.may.valid (served_one _ _ _ _ _ c.in_ok-compare_all.ensures.serves) refl)
+
 pub returns-in_ok-ban-in-Some-clause-holds : goal.returns-in_ok-ban-in-Some-clause-holds
 returns-in_ok-ban-in-Some-clause-holds g c =
-    holds_ok _ _ _ _ _ _ _ _ _ refl (held_more _ _ _ _ _ _ _ _ (held_kept _ _ _ _ _ _ _ c.requires.may.valid (served_one _ _ _ _ _ c.in_ok-compare_all.ensures.serves) refl) c.in_ok-ban-in-Some.ensures.more)
+    holds_ok _ _ _ _ _ _ _ _ _ refl (held_then _ _ _ _ _ _ _ _ _ _ (held_kept _ _ _ _ _ _ _ c.requires.may.valid (served_one _ _ _ _ _ c.in_ok-compare_all.ensures.serves) refl) (held_one _ _ _ _ _ _ _ _ c.in_ok-ban-in-Some.ensures.holds))
 
 pub returns-in_ok-ban-in-Some-clause-settled : goal.returns-in_ok-ban-in-Some-clause-settled
 returns-in_ok-ban-in-Some-clause-settled g c =
@@ -35,4 +38,4 @@ returns-in_err-keep-in-Some-clause-holds g c =
 pub returns-in_err-ban-in-Some-clause-holds : goal.returns-in_err-ban-in-Some-clause-holds
 returns-in_err-ban-in-Some-clause-holds g c =
     let p = err_from_is_err_and c.from_residual-in_err-ban-in-Some.result c.from_residual-in_err-ban-in-Some.ensures.1 in
-    holds_stop _ _ _ _ _ _ _ _ (cc (p.1, p.2)) (held_more _ _ _ _ _ _ _ _ (held_kept _ _ _ _ _ _ _ c.requires.may.valid (served_one _ _ _ _ _ c.in_ok-compare_all.ensures.serves) refl) c.in_err-ban-in-Some.ensures.more)
+    holds_err _ _ _ _ _ _ _ _ _ _ _ c.in_err-ban-in-Some.field-0.0 (cc (p.1, p.2)) (held_kept _ _ _ _ _ _ _ c.requires.may.valid (served_one _ _ _ _ _ c.in_ok-compare_all.ensures.serves) refl) c.in_err-ban-in-Some.ensures.holds

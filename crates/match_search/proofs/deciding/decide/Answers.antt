@@ -1,5 +1,6 @@
 -- Guesses are compared, and then counts, more guesses and the search decide.
 use Rattle.std.proofs.Common.{◌∙◌, sym}
+use Rattle.match_search.proofs.SearchLemmas.{none_last}
 use Rattle.match_search.proofs.ServeLemmas.{served_one, serves_after}
 use Rattle.match_search.proofs.deciding.decide.Goals as goal
 
@@ -15,3 +16,15 @@ search-requires-clause-graphs g c = c.requires.graphs ∙ sym c.in_ok-table.ensu
 
 pub returns-clause-serves : goal.returns-clause-serves
 returns-clause-serves g c = serves_after _ _ _ _ _ _ _ (served_one _ _ _ _ _ c.in_ok-table.ensures.serves) c.search.ensures.serves
+
+pub returns-in_err-table-clause-last_resorts : goal.returns-in_err-table-clause-last_resorts
+returns-in_err-table-clause-last_resorts g c = none_last _ _ _ c.requires.book
+
+pub returns-in-Some-clause-last_resorts : goal.returns-in-Some-clause-last_resorts
+returns-in-Some-clause-last_resorts g c = none_last _ _ _ c.requires.book
+
+pub returns-in-Little-clause-bans : goal.returns-in-Little-clause-bans
+returns-in-Little-clause-bans g c = c.refuse_or_find.ensures.valid.each
+
+pub returns-in-Little-clause-last_resorts : goal.returns-in-Little-clause-last_resorts
+returns-in-Little-clause-last_resorts g c = c.refuse_or_find.ensures.valid.last_resorts

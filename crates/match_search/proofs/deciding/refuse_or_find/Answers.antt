@@ -14,14 +14,14 @@ returns-in_err-ban-clause-serves g c =
     let may = may_start _ _ _ _ c.requires.graphs c.facts-facts.ensures.lawful c.requires.suits c.requires.book in
     serves_err _ _ _ _ _ _ _ c.in_err-ban.field-0.0 (cc (p.1, p.2)) (held_same _ _ _ _ may).served c.in_err-ban.ensures.holds.serves
 
-pub returns-in_err-ban-clause-bans : goal.returns-in_err-ban-clause-bans
-returns-in_err-ban-clause-bans g c = c.in_err-ban.ensures.holds.valid.each
+pub returns-in_err-ban-clause-valid : goal.returns-in_err-ban-clause-valid
+returns-in_err-ban-clause-valid g c = c.in_err-ban.ensures.holds.valid
 
 pub returns-in-Some-clause-serves : goal.returns-in-Some-clause-serves
 returns-in-Some-clause-serves g c = serves_ok _ _ _ _ _ _ refl (served_one _ _ _ _ _ c.in_ok-ban.ensures.holds.serves)
 
-pub returns-in-Some-clause-bans : goal.returns-in-Some-clause-bans
-returns-in-Some-clause-bans g c = c.in_ok-ban.ensures.holds.valid.each
+pub returns-in-Some-clause-valid : goal.returns-in-Some-clause-valid
+returns-in-Some-clause-valid g c = c.in_ok-ban.ensures.holds.valid
 
 pub guess_or_explore-requires-clause-may : goal.guess_or_explore-requires-clause-may
 guess_or_explore-requires-clause-may g c =
@@ -30,5 +30,5 @@ guess_or_explore-requires-clause-may g c =
 pub returns-clause-serves : goal.returns-clause-serves
 returns-clause-serves g c = serves_last _ _ _ _ _ _ _ (served_one _ _ _ _ _ c.in_ok-ban.ensures.holds.serves) c.guess_or_explore.ensures.serves
 
-pub returns-clause-bans : goal.returns-clause-bans
-returns-clause-bans g c = c.guess_or_explore.ensures.valid.each
+pub returns-clause-valid : goal.returns-clause-valid
+returns-clause-valid g c = c.guess_or_explore.ensures.valid

@@ -1,19 +1,22 @@
-use Rattle.std.proofs.Common.{sym, subst}
+use Rattle.std.proofs.Common.{refl, sym, subst}
+use Rattle.std.proofs.lemmas.Result.{err_from_is_err_and}
 use Rattle.port_covers.specs.Held.{AreHeld}
 use Rattle.conflict_core.proofs.PivotLemmas.{held_known}
-use Rattle.match_search.proofs.AskLemmas.{trail_holds}
+use Rattle.fact_bans.proofs.HoldingLemmas.{held_one, held_same, holds_err, holds_ok}
 use Rattle.match_search.proofs.following.foresee_held.Goals as goal
 
 pub foresee-requires-clause-held : goal.foresee-requires-clause-held
-foresee-requires-clause-held c =
+foresee-requires-clause-held g c =
     let d = c.args.domains.now in
-    subst (AreHeld c.args.graphs.now) (sym c.pairs.ensures.value) (held_known c.args.graphs.now d.inputs d.outputs d.entries c.requires.trail.fit c.entries-lawful.ensures.lawful)
+    subst (AreHeld c.args.graphs.now) (sym c.pairs-held.ensures.value) (held_known c.args.graphs.now d.inputs d.outputs d.entries c.requires.trail.fit c.entries-lawful.ensures.lawful)
 
-pub returns-in_err-ban-clause-trail : goal.returns-in_err-ban-clause-trail
-returns-in_err-ban-clause-trail c = trail_holds c.args.graphs.now c.args.book.now c.foresee.new.book c.args.domains.now c.in_err-ban.ensures.more c.requires.trail
+pub returns-in_err-ban-clause-holds : goal.returns-in_err-ban-clause-holds
+returns-in_err-ban-clause-holds g c =
+    let p = err_from_is_err_and c.from_residual.result c.from_residual.ensures.1 in
+    holds_err _ _ _ _ _ _ _ _ _ _ _ c.in_err-ban.field-0.0 (cc (p.1, p.2)) (held_same _ _ _ _ c.requires.may) c.in_err-ban.ensures.holds
 
-pub returns-in-Some-clause-trail : goal.returns-in-Some-clause-trail
-returns-in-Some-clause-trail c = trail_holds c.args.graphs.now c.args.book.now c.foresee.new.book c.args.domains.now c.in_ok-ban.ensures.more c.requires.trail
+pub returns-in-Some-clause-holds : goal.returns-in-Some-clause-holds
+returns-in-Some-clause-holds g c = holds_ok _ _ _ _ _ _ _ _ _ refl (held_one _ _ _ _ _ _ _ _ c.in_ok-ban.ensures.holds)
 
-pub returns-in-None-clause-trail : goal.returns-in-None-clause-trail
-returns-in-None-clause-trail c = trail_holds c.args.graphs.now c.args.book.now c.foresee.new.book c.args.domains.now c.in_ok-ban.ensures.more c.requires.trail
+pub returns-in-None-clause-holds : goal.returns-in-None-clause-holds
+returns-in-None-clause-holds g c = holds_ok _ _ _ _ _ _ _ _ _ refl (held_one _ _ _ _ _ _ _ _ c.in_ok-ban.ensures.holds)

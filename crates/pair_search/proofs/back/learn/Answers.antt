@@ -1,14 +1,13 @@
-use Rattle.conflict_core.proofs.GroundedLemmas.{learns_twice}
-use Rattle.pair_search.proofs.StepLemmas.{trail_later}
+use Rattle.conflict_core.proofs.GroundedLemmas.{learns_twice, trail_later}
 use Rattle.pair_search.proofs.back.learn.Goals as goal
 
 pub returns-in_err-conflict-clause-trail : goal.returns-in_err-conflict-clause-trail
 returns-in_err-conflict-clause-trail c =
     trail_later c.args.graphs.now c.args.book.now c.conflict_of.new.book c.args.domains.now c.in_err-conflict.ensures.more c.requires.trail
 
-pub resolve-requires-clause-justified : goal.resolve-requires-clause-justified
-resolve-requires-clause-justified c =
-    (trail_later c.args.graphs.now c.args.book.now c.conflict_of.new.book c.args.domains.now c.in_ok-conflict.ensures.more c.requires.trail).justified
+pub resolve-requires-clause-trail : goal.resolve-requires-clause-trail
+resolve-requires-clause-trail c =
+    trail_later c.args.graphs.now c.args.book.now c.conflict_of.new.book c.args.domains.now c.in_ok-conflict.ensures.more c.requires.trail
 
 pub returns-in_err-learned-clause-more : goal.returns-in_err-learned-clause-more
 returns-in_err-learned-clause-more c =

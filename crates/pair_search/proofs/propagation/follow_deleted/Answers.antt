@@ -1,6 +1,9 @@
+use Rattle.std.proofs.Common.{rules}
 use Rattle.pair_search.proofs.StepLemmas.{propagates_two}
 use Rattle.pair_search.proofs.propagation.follow_deleted.Goals as goal
 
-pub returns-clause-propagates : goal.returns-clause-propagates
-returns-clause-propagates c =
-    propagates_two c.args.bans.now c.args.domains.now c.follow_port.new.domains c.follow_port-2.new.domains c.in_ok-impasse.ensures.propagates c.in_ok-found.ensures.propagates
+pub returns : goal.returns
+returns c = record {
+  propagates = propagates_two c.args.bans.now c.args.domains.now c.follow_port.new.domains c.follow_port-2.new.domains c.in_ok-impasse.ensures.propagates c.in_ok-found.ensures.propagates;
+  impasse = search rules;
+}

@@ -9,10 +9,13 @@ pub add-requires-clause-apart : goal.add-requires-clause-apart
 add-requires-clause-apart c =
     λ k d below. held_apart c.args.held.now (get_or c.args.needed.now.items k d) c.args.pair c.requires.apart (c.requires.part.among k d below) c.requires.held
 
-pub returns-clause-part : goal.returns-clause-part
-returns-clause-part c = record {
-  among = λ k d below. by_case _ (c.in_ok-add.ensures.only k d below);
-  ordered = c.in_ok-add.ensures.ordered;
+pub returns-clause-adds : goal.returns-clause-adds
+returns-clause-adds c = record {
+  part = record {
+    among = λ k d below. by_case _ (c.in_ok-add.ensures.only k d below);
+    ordered = c.in_ok-add.ensures.ordered;
+  };
+  stays = c.in_ok-add.ensures.stays;
 }
   where
     by_case : (x : Pair) → Contains c.args.needed.now.items x ⊎ (x ≡ c.args.pair) → Contains c.args.held.now x

@@ -7,7 +7,7 @@ use Rattle.port_covers.proofs.cover.hold_cover.Goals as goal
 
 pub returns-clause-more : goal.returns-clause-more
 returns-clause-more c =
-    holds_one c.args.graphs.now c.args.book.now c.hold.new.self c.in_ok-ban.ban c.in_ok-held.ensures.held (λ facts. c.in_ok-ban.ensures.valid facts c.args.book.now c.requires.closed)
+    holds_one c.args.graphs.now c.args.book.now c.hold.new.self c.in_ok-ban.ban c.in_ok-held.ensures.held c.in_ok-ban.ensures.step (λ facts. c.in_ok-ban.ensures.valid facts c.args.book.now c.requires.closed)
 
 pub returns-clause-covers : goal.returns-clause-covers
 returns-clause-covers c =

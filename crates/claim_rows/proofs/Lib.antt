@@ -1,0 +1,10 @@
+pub mod ListLemmas
+pub mod ListedLemmas
+pub mod TallyLemmas
+pub mod MismatchLemmas
+pub mod MismatchedLemmas
+pub mod PlaceLemmas
+pub mod RowLemmas
+pub mod UnevenLemmas
+pub mod EvenLemmas
+pub mod AlikeLemmas

@@ -1,8 +1,0 @@
-use Rattle.std.proofs.Common.{◌++◌, ◌∷◌, [], ◌+◌, ◌∙◌, ap, map, drop, false, arith}
-use Rattle.match_search.specs.Differences.{of_bit}
-use Rattle.port_covers.proofs.ListLemmas.{made_more}
-use Rattle.match_search.proofs.difference.definite.Goals as goal
-
-pub loop-place-preserved : goal.loop-place-preserved
-loop-place-preserved c =
-    ap (λ l. l ++ map of_bit (drop (c.loop-place.place + 1) c.args.vector.now)) (c.in_ok-push.ensures.ok ∙ ap (λ v. c.loop-place.values ++ v ∷ []) (c.of_bit.ensures ∙ ap of_bit c.get.ensures)) ∙ made_more of_bit c.args.vector.now c.loop-place.values c.loop-place.place false (omega (arith, c.loop-place-test.true, c.len-place-end.ensures)) c.loop-place.invariant

@@ -1,0 +1,86 @@
+-- A vector on which a held output's partner is wrong.
+use Rattle.std.proofs.Common.{◌≡◌, ◌≢◌, ◌⊎◌, ◌<◌, Bool, List, [], ◌∷◌, ◌++◌, length, map, get_or, All, refl, sym, subst, ◌∙◌, inl, inr, arith}
+use Rattle.std.specs.Prelude.{Contains}
+use Rattle.std.proofs.lemmas.List.{length-map}
+use Rattle.std.proofs.lemmas.List.Elements.{All-contains, All-contains_itself, All-nil, All-push, Contains-push}
+use Rattle.std.proofs.lemmas.List.Quantifiers.{all_pairs_push}
+use Rattle.circuits.specs.declared.port.Pair.{Pair}
+use Rattle.circuits.specs.declared.port.PortKind.TheVariants.{Input, Output}
+use Rattle.net_core.specs.Sides.{Graphs}
+use Rattle.net_core.specs.Graph.{IsGraph}
+use Rattle.account_core.specs.Ports.{ports_in, AreOrdered, IsKnown, StandInOrder}
+use Rattle.word_sim.specs.declared.tri.Tri.{Tri}
+use Rattle.port_covers.specs.Held.{AreHeld, IsPart}
+use Rattle.claim_rows.specs.Rows.{HasOneOutput}
+use Rattle.vector_bans.specs.Differences.{of_bit, AreHeldInputs, IsShown, IsWrong}
+use Rattle.vector_bans.proofs.DefiniteLemmas.{of_bit_definite, of_output}
+
+-- the ports of a held pair
+pub held_known : (graphs : Graphs) (held : List Pair) (pair : Pair) → AreHeld graphs held → Contains held pair → IsKnown graphs pair
+held_known graphs held pair are there = All-contains (IsKnown graphs) held pair are.known there
+
+pub output_there : (graphs : Graphs) (held : List Pair) (pair : Pair) → AreHeld graphs held → Contains held pair → pair.kind ≡ Output → pair.from < length graphs.first.outputs
+output_there graphs held pair are there kind = subst (λ k. pair.from < ports_in graphs.first k) kind (held_known graphs held pair are there).from
+
+pub partner_there : (graphs : Graphs) (held : List Pair) (pair : Pair) → AreHeld graphs held → Contains held pair → pair.kind ≡ Output → pair.to < length graphs.second.outputs
+partner_there graphs held pair are there kind = subst (λ k. pair.to < ports_in graphs.second k) kind (held_known graphs held pair are there).to
+
+pub part_known : (graphs : Graphs) (held pairs : List Pair) → AreHeld graphs held → IsPart held pairs → All (IsKnown graphs) pairs
+part_known graphs held pairs are part k d below = held_known graphs held (get_or pairs k d) are (part.among k d below)
+
+-- held pairs of inputs, and one of an output that a vector shows to be wrong
+pub shown_held : (graphs : Graphs) (held pairs : List Pair) (pair : Pair) (x : List Bool) (values : List Tri) → AreHeld graphs held → IsGraph graphs.first → IsPart held pairs → Contains held pair → HasOneOutput pairs pair → length x ≡ graphs.first.inputs → values ≡ map of_bit x → IsWrong graphs pairs pair values → IsShown graphs pairs pair values pairs
+shown_held graphs held pairs pair x values are first part there output size values_are wrong =
+    subst (λ v. IsShown graphs pairs pair v pairs) (sym values_are) (record {
+      among = All-contains_itself pairs;
+      ordered = part.ordered;
+      known = part_known graphs held pairs are part;
+      output = output;
+      places = length-map x of_bit ∙ size;
+      definite = λ e. of_bit_definite _ (sym (of_output graphs.first x pair.from first.ordered size (output_there graphs held pair are there output.of_output)) ∙ e);
+      wrong = subst (IsWrong graphs pairs pair) values_are wrong;
+    })
+
+-- none yet
+pub inputs_none : (held : List Pair) → AreHeldInputs held []
+inputs_none held = record { part = record { among = All-nil (Contains held); ordered = λ i j d less below. absurd (omega (arith, below)) }; inputs = All-nil (λ (pair : Pair). pair.kind ≡ Input) }
+
+-- one more
+pub inputs_more : (held pairs after : List Pair) (pair : Pair) → AreHeldInputs held pairs → Contains held pair → pair.kind ≡ Input → AreOrdered after → All (λ other. Contains pairs other ⊎ (other ≡ pair)) after → AreHeldInputs held after
+inputs_more held pairs after pair are there kind ordered only = record {
+  part = record { among = λ k d below. held_one (get_or after k d) (only k d below); ordered = ordered };
+  inputs = λ k d below. input_one (get_or after k d) (only k d below);
+}
+  where
+    held_one : (other : Pair) → Contains pairs other ⊎ (other ≡ pair) → Contains held other
+    held_one other (inl before) = All-contains (Contains held) pairs other are.part.among before
+    held_one other (inr same) = subst (Contains held) (sym same) there
+
+    input_one : (other : Pair) → Contains pairs other ⊎ (other ≡ pair) → other.kind ≡ Input
+    input_one other (inl before) = All-contains (λ (p : Pair). p.kind ≡ Input) pairs other are.inputs before
+    input_one other (inr same) = subst (λ (p : Pair). p.kind ≡ Input) (sym same) kind
+
+input_output : Input ≢ Output
+input_output e = cc
+
+-- and the pair of an output after them
+module _ (held pairs : List Pair) (pair : Pair) (are : AreHeldInputs held pairs) (there : Contains held pair) (kind : pair.kind ≡ Output) where
+  not_input : (other : Pair) → other.kind ≡ Input → other.kind ≡ pair.kind → ⊥
+  not_input other input same = input_output (sym input ∙ (same ∙ kind))
+
+  pub output_part : IsPart held (pairs ++ pair ∷ [])
+  output_part = record {
+    among = All-push (Contains held) pairs pair are.part.among there;
+    ordered = all_pairs_push StandInOrder pairs pair are.part.ordered (λ k d below. record {
+      inputs_first = λ e. kind;
+      ascending = λ same. absurd (not_input (get_or pairs k d) (are.inputs k d below) same);
+      apart = λ same. absurd (not_input (get_or pairs k d) (are.inputs k d below) same);
+    });
+  }
+
+  pub output_one : HasOneOutput (pairs ++ pair ∷ []) pair
+  output_one = record {
+    has = Contains-push pairs pair;
+    of_output = kind;
+    only = All-push (λ (other : Pair). other.kind ≡ Output → other ≡ pair) pairs pair (λ k d below e. absurd (input_output (sym (are.inputs k d below) ∙ e))) (λ e. refl);
+  }

@@ -1,0 +1,6 @@
+pub mod SentLemmas
+pub mod ShownLemmas
+pub mod DefiniteLemmas
+pub mod DifferLemmas
+pub mod ForesightLemmas
+pub mod ResortLemmas

@@ -1,0 +1,17 @@
+use Rattle.std.proofs.Common.{sym, subst}
+use Rattle.port_covers.specs.Held.{IsPart}
+use Rattle.claim_rows.specs.Rows.{HasOneOutput}
+use Rattle.vector_bans.specs.Differences.{AreHeldInputs}
+use Rattle.vector_bans.proofs.ForesightLemmas.{inputs_none, output_one, output_part}
+use Rattle.vector_bans.proofs.foresight.inputs_and.Goals as goal
+
+pub loop-other-init : goal.loop-other-init
+loop-other-init c = subst (AreHeldInputs c.args.held.now) (sym c.new-pairs.ensures.items) (inputs_none c.args.held.now)
+
+pub returns-clause-part : goal.returns-clause-part
+returns-clause-part c =
+    subst (IsPart c.args.held.now) (sym c.in_ok-push.ensures.items) (output_part c.args.held.now c.loop-other.pairs.items c.args.pair c.loop-other.invariant c.requires.held c.requires.output)
+
+pub returns-clause-output : goal.returns-clause-output
+returns-clause-output c =
+    subst (λ l. HasOneOutput l c.args.pair) (sym c.in_ok-push.ensures.items) (output_one c.args.held.now c.loop-other.pairs.items c.args.pair c.loop-other.invariant c.requires.held c.requires.output)

@@ -1,0 +1,378 @@
+//! Vectors on which an output differs from its partner.
+
+ghost use Rattle.std.specs.Prelude.{ℕ, ◌≡◌, ◌≢◌, ◌^◌, ◌<◌, ◌≤◌, ◌↔◌, [], ◌∷◌, ◌++◌, All, Contains, IfOk, IfSome, IsTrue, List, length, map, remove, replicate};
+ghost use Rattle.circuits.specs.declared.port.Pair.{Pair as AnyPair};
+ghost use Rattle.circuits.specs.declared.port.PortKind.TheVariants.{Input};
+ghost use Rattle.word_sim.specs.declared.tri.Tri.TheVariants.{X};
+ghost use Rattle.circuits.specs.Matches.{HavePorts};
+ghost use Rattle.query_core.specs.Images.{Extends};
+ghost use Rattle.oracle_core.specs.Oracles.{IsDifference};
+ghost use Rattle.account_core.specs.Ports.{AreOrdered, IsKnown};
+ghost use Rattle.account_core.specs.Vectors.{first_value, signed, value_at, values_sent};
+ghost use Rattle.ban_book.specs.Covering.{Covers};
+ghost use Rattle.word_sim.specs.ThreeValues.{tri_outputs};
+ghost use Rattle.vector_bans.specs.Differences.{of_bit, pair_from, pairs_from, AreShown, IsLeftOut, IsShown, IsWrong};
+ghost use Rattle.port_covers.specs.Held.{IsWhole};
+ghost use Rattle.fact_bans.specs.Serving.{HoldsBans, MayHold};
+
+use crate::last_resort::hold_shown;
+use ban_book::BanBook;
+use bit_list::Bits;
+use circuits::{Pair, PortKind};
+use cnf_core::Stop;
+use fact_bans::Seen;
+use items::Items;
+use net_core::{Graph, Matching};
+use oracle_core::Oracle;
+use port_sides::PairableGraphs;
+use query_core::Ledger;
+use std::alloc::{AllocError, Global};
+use word_sim::{Tri, tri_eval};
+
+/// Pairs on which values of the first circuit's inputs show that an output differs from its partner.
+#[derive(Debug, Drop)]
+pub(crate) struct Shown {
+    /// The output's pair, which is one of them.
+    pub(crate) pair: Pair,
+    pub(crate) pairs: Items<Pair>,
+    pub(crate) values: Items<Tri>,
+}
+
+/// Holds a ban of pairs that a matching has, an output's and some of inputs', where the output differs from its partner on a
+/// vector of the first circuit's inputs, and answers its number. The claims of one input of both outputs are decided. Where
+/// these show a ban of such pairs, that is held, and else the vector's.
+///
+/// # Errors
+///
+/// `Spent` where a line had to be learned and the ledger's budget was spent. `Memory` when out of memory.
+pub fn exclude<O: Oracle>(
+    alloc: Global,
+    graphs: &PairableGraphs<'_>,
+    oracle: &mut O,
+    matching: &Matching,
+    output: u32,
+    vector: &Bits,
+    seen: &mut Seen,
+    book: &mut BanBook,
+    ledger: &mut Ledger,
+) -> Result<u64, Stop>
+    requires may { MayHold graphs.now (O.known oracle.old) ledger.old book.old }
+    requires ports { HavePorts graphs.now.first graphs.now.second matching.now.inputs matching.now.outputs }
+    requires output { output < length graphs.now.first.outputs }
+    requires differs { IsDifference graphs.now matching.now output vector.now }
+    ensures holds { HoldsBans graphs.now (O.known oracle.old) (O.known oracle.new) ledger.old ledger.new book.old book.new result }
+    ensures covers { (held : List AnyPair)
+        → IsWhole graphs.now held
+        → Extends held matching.now.inputs matching.now.outputs
+        → IfOk result (Covers book.new held) }
+{
+    let shown = difference(alloc, graphs, matching, output, vector)?;
+    hold_shown(alloc, graphs, oracle, shown, seen, book, ledger)
+}
+
+// The pairs on which a vector shows that an output differs from the one that a matching sends it to. The pairs of inputs that the
+// difference doesn't need are left out.
+fn difference(
+    alloc: Global,
+    graphs: &PairableGraphs<'_>,
+    matching: &Matching,
+    output: u32,
+    vector: &Bits,
+) -> Result<Shown, AllocError>
+    requires ports { HavePorts graphs.now.first graphs.now.second matching.now.inputs matching.now.outputs }
+    requires output { output < length graphs.now.first.outputs }
+    requires differs { IsDifference graphs.now matching.now output vector.now }
+    ensures shown { IfOk result (λ shown. AreShown graphs.now shown.pairs shown) }
+    ensures held { (held : List AnyPair)
+        → IsWhole graphs.now held
+        → Extends held matching.now.inputs matching.now.outputs
+        → IfOk result (λ shown. All (Contains held) shown.pairs) }
+{
+    let _first = graphs.first();
+    let _second = graphs.second();
+    let values = definite(alloc, vector)?;
+    let pair = pair_from(PortKind::Output, &matching.outputs, output);
+    let whole = inputs_and(alloc, matching, pair)?;
+    let pairs = leave_out(alloc, graphs, whole, pair, &values)?;
+    let pairs = Items::from_vec(pairs);
+    Ok(Shown {
+        pair,
+        pairs,
+        values,
+    })
+}
+
+/// The values of a vector's bits.
+pub(crate) fn definite(alloc: Global, vector: &Bits) -> Result<Items<Tri>, AllocError>
+    ensures { IfOk result (λ values. values ≡ map of_bit vector.now) }
+{
+    let mut values = Items::new(alloc);
+    for place in 0..vector.len() {
+        values.push(of_bit(vector.get(place)))?;
+    }
+    Ok(values)
+}
+
+fn of_bit(bit: bool) -> Tri
+    ensures { result ≡ of_bit bit }
+{
+    if bit { Tri::One } else { Tri::Zero }
+}
+
+// The pair of a port whose entries are these.
+fn pair_from(kind: PortKind, entries: &[(u32, bool)], port: u32) -> Pair
+    requires { port < length entries.now }
+    ensures { result ≡ pair_from kind entries.now port }
+{
+    let (to, flip) = entries[port as usize];
+    Pair {
+        kind,
+        from: port,
+        to,
+        flip,
+    }
+}
+
+// The pairs of all inputs, in order, and one pair of an output after them.
+fn inputs_and(alloc: Global, matching: &Matching, pair: Pair) -> Result<Vec<Pair>, AllocError>
+    requires few { length matching.now.inputs < 2 ^ 32 }
+    ensures { IfOk result (λ pairs. pairs.items ≡ pairs_from Input matching.now.inputs ++ pair ∷ []) }
+{
+    let mut pairs = Vec::new(alloc);
+    for port in 0..matching.inputs.len() as u32 {
+        pairs.push(pair_from(PortKind::Input, &matching.inputs, port))?;
+    }
+    pairs.push(pair)?;
+    Ok(pairs)
+}
+
+/// Leaves out each input's pair without which the values show the difference too.
+pub(crate) fn leave_out(
+    alloc: Global,
+    graphs: &PairableGraphs<'_>,
+    whole: Vec<Pair>,
+    pair: Pair,
+    values: &[Tri],
+) -> Result<Vec<Pair>, AllocError>
+    requires known { IsKnown graphs.now pair }
+    requires shown { IsShown graphs.now whole.items pair values.now whole.items }
+    ensures { IfOk result (λ pairs. IsShown graphs.now whole.items pair values.now pairs.items) }
+{
+    let first = output_value(alloc, graphs.first(), values, pair.from)?;
+    let mut pairs = whole;
+    let mut place = pairs.len();
+    while place > 0 {
+        place -= 1;
+        pairs = without_needless(alloc, graphs, pairs, place, pair, values, first)?;
+    }
+    Ok(pairs)
+}
+
+/// Leaves out each input's pair without which the values show the difference too, first those that were held last: what a ban has
+/// of the earlier ones leads further back.
+pub(crate) fn leave_out_latest(
+    alloc: Global,
+    graphs: &PairableGraphs<'_>,
+    held: &[Pair],
+    whole: Vec<Pair>,
+    pair: Pair,
+    values: &[Tri],
+) -> Result<Vec<Pair>, AllocError>
+    requires known { IsKnown graphs.now pair }
+    requires shown { IsShown graphs.now whole.items pair values.now whole.items }
+    ensures { IfOk result (λ pairs. IsShown graphs.now whole.items pair values.now pairs.items) }
+{
+    let first = output_value(alloc, graphs.first(), values, pair.from)?;
+    let mut pairs = whole;
+    let mut left = held.len();
+    while left > 0 {
+        left -= 1;
+        pairs = without_one(alloc, graphs, pairs, held[left], pair, values, first)?;
+    }
+    Ok(pairs)
+}
+
+// The pairs, without one of them where the difference doesn't need it.
+fn without_one(
+    alloc: Global,
+    graphs: &PairableGraphs<'_>,
+    pairs: Vec<Pair>,
+    other: Pair,
+    pair: Pair,
+    values: &[Tri],
+    first: Tri,
+) -> Result<Vec<Pair>, AllocError>
+    requires ordered { AreOrdered pairs.items }
+    requires known { All (IsKnown graphs.now) pairs.items }
+    requires output { pair.to < length graphs.now.second.outputs }
+    requires values { length values.now ≡ graphs.now.first.inputs }
+    requires first { first ≡ first_value graphs.now values.now pair.from }
+    ensures { (whole : List AnyPair) → IsShown graphs.now whole pair values.now pairs.items
+        → IfOk result (λ fewer. IsShown graphs.now whole pair values.now fewer.items) }
+{
+    let Some(place) = place_of(&pairs, other) else {
+        return Ok(pairs);
+    };
+    let fewer = without_needless(alloc, graphs, pairs, place, pair, values, first)?;
+    Ok(fewer)
+}
+
+// Where a pair stands among some.
+fn place_of(pairs: &[Pair], pair: Pair) -> Option<usize>
+    ensures { IfSome result (λ place. place < length pairs.now) }
+{
+    for (place, other) in pairs.iter().enumerate() {
+        if *other == pair {
+            return Some(place);
+        }
+    }
+    None
+}
+
+// The pairs, without that at a place where the difference doesn't need it.
+fn without_needless(
+    alloc: Global,
+    graphs: &PairableGraphs<'_>,
+    pairs: Vec<Pair>,
+    place: usize,
+    pair: Pair,
+    values: &[Tri],
+    first: Tri,
+) -> Result<Vec<Pair>, AllocError>
+    requires place { place < length pairs.items }
+    requires ordered { AreOrdered pairs.items }
+    requires known { All (IsKnown graphs.now) pairs.items }
+    requires output { pair.to < length graphs.now.second.outputs }
+    requires values { length values.now ≡ graphs.now.first.inputs }
+    requires first { first ≡ first_value graphs.now values.now pair.from }
+    ensures shown { (whole : List AnyPair) → IsShown graphs.now whole pair values.now pairs.items
+        → IfOk result (λ fewer. IsShown graphs.now whole pair values.now fewer.items) }
+    ensures length { IfOk result (λ fewer. place ≤ length fewer.items) }
+{
+    match without(alloc, graphs, &pairs, place, pair, values, first)? {
+        Some(fewer) => Ok(fewer),
+        None => Ok(pairs),
+    }
+}
+
+// The pairs without that at a place, where it is of an input and the values show the difference without it.
+fn without(
+    alloc: Global,
+    graphs: &PairableGraphs<'_>,
+    pairs: &[Pair],
+    place: usize,
+    pair: Pair,
+    values: &[Tri],
+    first: Tri,
+) -> Result<Option<Vec<Pair>>, AllocError>
+    requires place { place < length pairs.now }
+    requires ordered { AreOrdered pairs.now }
+    requires known { All (IsKnown graphs.now) pairs.now }
+    requires output { pair.to < length graphs.now.second.outputs }
+    requires values { length values.now ≡ graphs.now.first.inputs }
+    requires first { first ≡ first_value graphs.now values.now pair.from }
+    ensures { IfOk result (λ found. IfSome found
+        (λ fewer. IsLeftOut graphs.now pair values.now pairs.now place fewer.items)) }
+{
+    if pairs[place].kind != PortKind::Input {
+        return Ok(None);
+    }
+    let fewer = removed(alloc, pairs, place)?;
+    if is_wrong(alloc, graphs, &fewer, pair, values, first)? {
+        return Ok(Some(fewer));
+    }
+    Ok(None)
+}
+
+// The pairs but for that at a place.
+fn removed(alloc: Global, pairs: &[Pair], place: usize) -> Result<Vec<Pair>, AllocError>
+    requires { place < length pairs.now }
+    ensures { IfOk result (λ fewer. fewer.items ≡ remove pairs.now place) }
+{
+    let mut fewer = Vec::from_slice(alloc, &pairs[..place])?;
+    fewer.extend_from_slice(&pairs[place + 1..])?;
+    Ok(fewer)
+}
+
+/// Whether the values make the partner of an output definite and wrong, whatever the inputs have that aren't paired.
+pub(crate) fn is_wrong(
+    alloc: Global,
+    graphs: &PairableGraphs<'_>,
+    pairs: &[Pair],
+    pair: Pair,
+    values: &[Tri],
+    first: Tri,
+) -> Result<bool, AllocError>
+    requires ordered { AreOrdered pairs.now }
+    requires known { All (IsKnown graphs.now) pairs.now }
+    requires output { pair.to < length graphs.now.second.outputs }
+    requires values { length values.now ≡ graphs.now.first.inputs }
+    requires first { first ≡ first_value graphs.now values.now pair.from }
+    ensures { IfOk result (λ wrong. IsTrue wrong ↔ IsWrong graphs.now pairs.now pair values.now) }
+{
+    let second = graphs.second();
+    let sent = sent(alloc, pairs, second.inputs(), values)?;
+    let value = output_value(alloc, second, &sent, pair.to)?;
+    Ok((value != Tri::X) & (first != signed(value, pair.flip)))
+}
+
+/// The value of an output where the inputs have these values.
+pub(crate) fn output_value(
+    alloc: Global,
+    graph: &Graph,
+    inputs: &[Tri],
+    output: u32,
+) -> Result<Tri, AllocError>
+    requires inputs { length inputs.now ≡ graph.now.inputs }
+    requires output { output < length graph.now.outputs }
+    ensures { IfOk result (λ value. value ≡ value_at (tri_outputs graph.now inputs.now) output) }
+{
+    let values = tri_eval(alloc, graph, inputs)?;
+    Ok(values[output as usize])
+}
+
+// A value, inverted where a sign says so.
+fn signed(value: Tri, flip: bool) -> Tri
+    ensures { result ≡ signed flip value }
+{
+    if flip { value.inverse() } else { value }
+}
+
+// What the inputs of the second circuit get: the values of the inputs that are paired with them, and else X.
+fn sent(alloc: Global, pairs: &[Pair], inputs: u32, values: &[Tri]) -> Result<Vec<Tri>, AllocError>
+    requires ordered { AreOrdered pairs.now }
+    requires from { All (λ pair. pair.kind ≡ Input → pair.from < length values.now) pairs.now }
+    requires to { All (λ pair. pair.kind ≡ Input → pair.to < inputs) pairs.now }
+    ensures { IfOk result (λ sent. sent.items ≡ values_sent pairs.now inputs values.now) }
+{
+    let mut sent = vec![in alloc; Tri::X; inputs as usize]?;
+    put_sent(pairs, values, &mut sent);
+    Ok(sent)
+}
+
+fn put_sent(pairs: &[Pair], values: &[Tri], sent: &mut [Tri])
+    requires ordered { AreOrdered pairs.now }
+    requires from { All (λ pair. pair.kind ≡ Input → pair.from < length values.now) pairs.now }
+    requires to { All (λ pair. pair.kind ≡ Input → pair.to < length sent.old) pairs.now }
+    requires unknown { sent.old ≡ replicate (length sent.old) X }
+    ensures { sent.new ≡ values_sent pairs.now (length sent.old) values.now }
+{
+    for pair in pairs.iter() {
+        send(*pair, values, sent);
+    }
+}
+
+// Where a pair is of inputs, the second one gets the value of the first, by the sign.
+fn send(pair: Pair, values: &[Tri], sent: &mut [Tri])
+    requires from { pair.kind ≡ Input → pair.from < length values.now }
+    requires to { pair.kind ≡ Input → pair.to < length sent.old }
+    ensures length { length sent.new ≡ length sent.old }
+    ensures sent { pair.kind ≡ Input → value_at sent.new pair.to ≡ signed pair.flip (value_at values.now pair.from) }
+    ensures others { (place : ℕ)
+        → (pair.kind ≡ Input → place ≢ pair.to)
+        → value_at sent.new place ≡ value_at sent.old place }
+{
+    if pair.kind == PortKind::Input {
+        sent[pair.to as usize] = signed(values[pair.from as usize], pair.flip);
+    }
+}

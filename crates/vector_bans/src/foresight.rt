@@ -1,0 +1,132 @@
+//! Pairs that fail on a vector, whatever the ports have that aren't in a pair yet.
+
+ghost use Rattle.std.specs.Prelude.{◌≡◌, AllPairs, Contains, IfOk, IfSome, OnOk};
+ghost use Rattle.circuits.specs.declared.port.PortKind.TheVariants.{Output};
+ghost use Rattle.ban_book.specs.Covering.{Covers};
+ghost use Rattle.port_covers.specs.Held.{AreApart, AreHeld, IsPart};
+ghost use Rattle.fact_bans.specs.Serving.{HoldsBans, MayHold};
+ghost use Rattle.table_guess.specs.Trials.{AreTrials, IsSuspect};
+ghost use Rattle.claim_rows.specs.Rows.{HasOneOutput};
+ghost use Rattle.vector_bans.specs.Differences.{AreHeldInputs, AreShown};
+
+use crate::difference::{Shown, definite, is_wrong, leave_out_latest, output_value};
+use crate::last_resort::hold_shown;
+use ban_book::BanBook;
+use circuits::{Pair, PortKind};
+use cnf_core::Stop;
+use fact_bans::Seen;
+use items::Items;
+use oracle_core::Oracle;
+use port_covers::needed::add;
+use port_sides::PairableGraphs;
+use query_core::Ledger;
+use std::alloc::{AllocError, Global};
+use table_guess::{Suspect, Trials};
+
+/// Where a held output's partner is wrong on one of the vectors that pairs are tried on, whatever the inputs have that aren't
+/// paired: holds a ban of held pairs, and answers its number. The claims of one input of both outputs are decided. Where these
+/// show a ban of the pairs on which the partner is wrong, that is held, and else the vector's. None where no vector shows that
+/// a partner is wrong.
+///
+/// # Errors
+///
+/// `Spent` where a line had to be learned and the ledger's budget was spent. `Memory` when out of memory.
+pub fn foresee<O: Oracle>(
+    alloc: Global,
+    graphs: &PairableGraphs<'_>,
+    oracle: &mut O,
+    held: &[Pair],
+    trials: &Trials,
+    seen: &mut Seen,
+    book: &mut BanBook,
+    ledger: &mut Ledger,
+) -> Result<Option<u64>, Stop>
+    requires may { MayHold graphs.now (O.known oracle.old) ledger.old book.old }
+    requires held { AreHeld graphs.now held.now }
+    requires trials { AreTrials graphs.now.first trials.now }
+    ensures holds { HoldsBans graphs.now (O.known oracle.old) (O.known oracle.new) ledger.old ledger.new book.old book.new result }
+    ensures covers { IfOk result (λ found. IfSome found (Covers book.new held.now)) }
+{
+    let Some(shown) = suspected(alloc, graphs, held, trials)? else {
+        return Ok(None);
+    };
+    let number = hold_shown(alloc, graphs, oracle, shown, seen, book, ledger)?;
+    Ok(Some(number))
+}
+
+// The held pairs on which one of the vectors shows that an output's partner is wrong.
+fn suspected(
+    alloc: Global,
+    graphs: &PairableGraphs<'_>,
+    held: &[Pair],
+    trials: &Trials,
+) -> Result<Option<Shown>, AllocError>
+    requires held { AreHeld graphs.now held.now }
+    requires trials { AreTrials graphs.now.first trials.now }
+    ensures { IfOk result (λ found. IfSome found (AreShown graphs.now held.now)) }
+{
+    match trials.suspect(alloc, graphs, held)? {
+        None => Ok(None),
+        Some(suspect) => wrong_pairs(alloc, graphs, held, &suspect),
+    }
+}
+
+// The held pairs on which a vector shows that a held output's partner is wrong, if it is. The pairs of inputs that this doesn't
+// need are left out.
+fn wrong_pairs(
+    alloc: Global,
+    graphs: &PairableGraphs<'_>,
+    held: &[Pair],
+    suspect: &Suspect,
+) -> Result<Option<Shown>, AllocError>
+    requires held { AreHeld graphs.now held.now }
+    requires suspect { IsSuspect graphs.now held.now suspect.now }
+    ensures { IfOk result (λ found. IfSome found (AreShown graphs.now held.now)) }
+{
+    let _first = graphs.first();
+    let pair = suspect.pair;
+    let values = definite(alloc, &suspect.vector)?;
+    let pairs = inputs_and(alloc, held, pair)?;
+    let first = output_value(alloc, graphs.first(), &values, pair.from)?;
+    if !is_wrong(alloc, graphs, &pairs, pair, &values, first)? {
+        return Ok(None);
+    }
+    let pairs = leave_out_latest(alloc, graphs, held, pairs, pair, &values)?;
+    let pairs = Items::from_vec(pairs);
+    Ok(Some(Shown {
+        pair,
+        pairs,
+        values,
+    }))
+}
+
+// The held pairs of inputs, and one of an output, in the order that bans have.
+fn inputs_and(alloc: Global, held: &[Pair], pair: Pair) -> Result<Vec<Pair>, AllocError>
+    requires apart { AllPairs AreApart held.now }
+    requires held { Contains held.now pair }
+    requires output { pair.kind ≡ Output }
+    ensures part { IfOk result (λ pairs. IsPart held.now pairs.items) }
+    ensures output { IfOk result (λ pairs. HasOneOutput pairs.items pair) }
+{
+    let mut pairs = Vec::new(alloc);
+    for other in held.iter() {
+        add_input(&mut pairs, held, *other)?;
+    }
+    pairs.push(pair)?;
+    Ok(pairs)
+}
+
+// Adds a held pair to those of inputs, if it is one.
+fn add_input(pairs: &mut Vec<Pair>, held: &[Pair], pair: Pair) -> Result<(), AllocError>
+    requires inputs { AreHeldInputs held.now pairs.old.items }
+    requires apart { AllPairs AreApart held.now }
+    requires held { Contains held.now pair }
+    ensures { OnOk result (AreHeldInputs held.now pairs.new.items) }
+{
+    let _ = held;
+    if pair.kind != PortKind::Input {
+        return Ok(());
+    }
+    add(pairs, pair)?;
+    Ok(())
+}

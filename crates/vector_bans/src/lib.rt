@@ -1,0 +1,9 @@
+//! Bans by vectors on which an output differs from its partner, held only where claims of one input show none.
+#![tactic(auto)]
+
+mod difference;
+mod foresight;
+mod last_resort;
+
+pub use difference::exclude;
+pub use foresight::foresee;
