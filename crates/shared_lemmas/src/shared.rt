@@ -210,6 +210,7 @@ fn ask_by<W: Watch>(
         budget: ledger.budget(),
         learned: ledger.learned(),
         lemmas: lemmas.lines.len() as u64,
+        next: 0,
     };
     let tried = &mut stock.tried;
     let lines = &lemmas.lines;
