@@ -63,7 +63,7 @@ impl<'a, B: Base> Solver<'a, B> {
 
     /// The solver's lines as a log, once it is done with.
     pub fn into_log(self) -> Log
-        ensures { result.lines ≡ self.lines }
+        ensures { result.lines ≡ self.entry.lines }
     {
         let Solver {
             base: _base,
@@ -190,6 +190,7 @@ impl<'a, B: Base> Solver<'a, B> {
         requires { list_any is_empty (clauses_of self.now.lines) ≡ true }
         ensures { IsFinding self.now result }
     {
+        let _count = self.lines.len();
         Finding::Refuted
     }
 

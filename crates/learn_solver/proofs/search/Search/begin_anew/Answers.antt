@@ -1,5 +1,5 @@
 -- What fits a trail fits it at level 0.
-use Rattle.std.proofs.Common.{arith}
+use Rattle.std.proofs.Common.{arith, rules}
 use Rattle.learn_solver.specs.Starts.{IsBack}
 use Rattle.learn_solver.proofs.GoneLemmas.{fitting_back}
 use Rattle.learn_solver.proofs.search.Search.begin_anew.Goals as goal

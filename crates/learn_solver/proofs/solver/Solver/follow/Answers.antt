@@ -1,5 +1,5 @@
 -- The search goes on from candidate to candidate.
-use Rattle.std.proofs.Common.{Option, MatchOption, subst}
+use Rattle.std.proofs.Common.{Option, MatchOption, rules, subst}
 use Rattle.learn_solver.specs.declared.verdict.Finding.{Finding}
 use Rattle.learn_solver.specs.Searches.{IsRunning}
 use Rattle.learn_solver.specs.Findings.{IsFinding}

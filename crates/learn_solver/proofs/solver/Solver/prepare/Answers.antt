@@ -1,5 +1,5 @@
 -- The question for a while, then the candidates, then the question from level 0 on.
-use Rattle.std.proofs.Common.{Option, MatchOption, subst}
+use Rattle.std.proofs.Common.{Option, MatchOption, rules, subst}
 use Rattle.learn_solver.specs.declared.verdict.Finding.{Finding}
 use Rattle.learn_solver.specs.Searches.{IsRunning}
 use Rattle.learn_solver.specs.Findings.{IsFinding}

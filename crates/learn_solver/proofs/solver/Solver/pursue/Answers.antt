@@ -1,5 +1,5 @@
 -- The search goes on from step to step.
-use Rattle.std.proofs.Common.{Option, MatchOption, subst}
+use Rattle.std.proofs.Common.{Option, MatchOption, rules, subst}
 use Rattle.learn_solver.specs.declared.verdict.Finding.{Finding}
 use Rattle.learn_solver.specs.Searches.{IsAdvanced}
 use Rattle.learn_solver.specs.Findings.{IsFinding}
