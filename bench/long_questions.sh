@@ -1,8 +1,8 @@
 #!/usr/bin/env bash
 # Prints what questions take that learn many lines, since no clause is let go: whether the middle output of Yosys's multiplier
-# can be 1 where that of ABC's array multiplier isn't, for more and more bits. For each the lines that were learned, the seconds
-# and the memory at most of `workbench ask`, which derives each line again before it answers, and the microseconds a line; and
-# the processor seconds of minisat on the same clauses. Needs Debian's yosys, berkeley-abc and minisat. Not part of the gate.
+# can be 1 where that of ABC's array multiplier isn't, for more and more bits. For each the seconds and the memory at most of
+# `workbench ask`, which derives each line again before it answers, and how many lines it learned. Needs Debian's yosys and
+# berkeley-abc. Not part of the gate.
 #
 #     bench/long_questions.sh [BITS ..]      BITS: 5 6 7 8
 set -eu
