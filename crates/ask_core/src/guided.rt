@@ -10,7 +10,7 @@ ghost use Rattle.ask_core.specs.Answers.{IsAnswer, IsAskedWith, IsBounded, IsBou
 use crate::question::Answer;
 use crate::vector::vector_of;
 use cnf_core::{LogLine, Stop};
-use learn_solver::{Guide, Solver, Verdict, solve_guided};
+use learn_solver::{Finding, Guide, Solver, solve_guided};
 use net_core::Graphs;
 use query_core::{ConeClauses, Ledger, Query, QueryBase};
 use std::alloc::Global;
@@ -74,10 +74,10 @@ fn search<G: Guide>(
     let base = QueryBase::new(alloc, graphs, query)?;
     let mut solver = Solver::new(alloc, &base, cones.ids(), lemmas)?;
     match solve_guided(alloc, &mut solver, guide, ledger)? {
-        Verdict::Model(values) => {
+        Finding::Model(values) => {
             let vector = vector_of(alloc, graphs, query, &values)?;
             Ok(Answer::Vector(vector))
         }
-        Verdict::Refuted(log) => Ok(Answer::Refuted(log)),
+        Finding::Refuted => Ok(Answer::Refuted(solver.into_log())),
     }
 }

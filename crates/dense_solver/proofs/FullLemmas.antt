@@ -16,7 +16,9 @@ use Rattle.watch_lists.specs.Propagations.{AreKnown}
 use Rattle.learn_solver.specs.Analyses.{has_all}
 use Rattle.learn_solver.specs.Solvers.{IsAdded, IsAsking, IsExtended, IsStopped, IsVerdict, active}
 use Rattle.learn_solver.specs.declared.verdict.Verdict.{Verdict}
-use Rattle.learn_solver.specs.declared.verdict.Verdict.TheVariants.{Model, Refuted}
+use Rattle.learn_solver.specs.declared.verdict.Verdict.TheVariants.{Model as Full, Refuted as Logged}
+use Rattle.learn_solver.specs.declared.verdict.Finding.{Finding}
+use Rattle.learn_solver.specs.declared.verdict.Finding.TheVariants.{Model, Refuted}
 use Rattle.learn_solver.proofs.AdvanceLemmas.{derived_after}
 use Rattle.learn_solver.proofs.SolverLemmas.{line_known, line_says, steps_there}
 use Rattle.dense_solver.specs.Renamings.{AreShort, IsRenaming, IsSpread, renamed, translated}
@@ -150,13 +152,13 @@ module _ (small : Formula) (names numbers : List ℕ) (full : Formula) (ids : Li
       twice true = refl
       twice false = refl
 
-  verdict_of : {O : Type 0} (lines : List LogLine) (before after : Charging O) (own answer : Verdict) → AreLearned small lines → before.lines ≡ lemmas → AreCharged before (map t lines) after → IsFound small lines own → IsTold names full.variables (lemmas ++ map t lines) own answer → IsVerdict (with_lines_of (start_of full ids lemmas) after) answer
-  verdict_of {O} lines before after (Model values) (Model bits) learned first charged found told =
+  verdict_of : {O : Type 0} (lines : List LogLine) (before after : Charging O) (own : Finding) (answer : Verdict) → AreLearned small lines → before.lines ≡ lemmas → AreCharged before (map t lines) after → IsFound small lines own → IsTold names full.variables (lemmas ++ map t lines) own answer → IsVerdict (with_lines_of (start_of full ids lemmas) after) answer
+  verdict_of {O} lines before after (Model values) (Full bits) learned first charged found told =
       let r = renamed names in
       let all : All (λ c. is_met bits c ≡ true) (map (map r) small.clauses) = All-map (λ c. is_met bits c ≡ true) (map r) small.clauses (λ k d below. met_renamed (length names) r values bits (bit_spread values bits told) (slice_index_or small.clauses k d) (is.renaming.known k d below) ∙ found.1 k d below) in
       let both : All (λ c. is_met bits c ≡ true) (map (clause_at full.clauses) ids ++ clauses_of lemmas) = subst (All (λ c. is_met bits c ≡ true)) (sym is.whole) all in
       record { variables = told.size; meets = front_all (λ c. is_met bits c ≡ true) (map (clause_at full.clauses) ids) (clauses_of lemmas) both }
-  verdict_of {O} lines before after (Refuted log) (Refuted whole) learned first charged found told =
+  verdict_of {O} lines before after Refuted (Logged whole) learned first charged found told =
       let extended = charged_extended lines before after learned first charged in
       let ls : after.lines ≡ lemmas ++ map t lines = ap (λ (x : Charging O). x.lines) charged.charged ∙ ap (λ xs. xs ++ map t lines) first in
       let closed : list_any is_empty (clauses_of (lemmas ++ map t lines)) ≡ true =
@@ -171,8 +173,8 @@ module _ (small : Formula) (names numbers : List ℕ) (full : Formula) (ids : Li
           closed = ap (λ xs. list_any is_empty (clauses_of xs)) told ∙ closed;
         };
       }
-  verdict_of {O} lines before after (Model values) (Refuted whole) learned first charged found told = absurd told
-  verdict_of {O} lines before after (Refuted log) (Model bits) learned first charged found told = absurd told
+  verdict_of {O} lines before after (Model values) (Logged whole) learned first charged found told = absurd told
+  verdict_of {O} lines before after Refuted (Full bits) learned first charged found told = absurd told
 
   pub dense_verdict : {O : Type 0} (before after : Charging O) (r : Result Verdict Stop) → before.lines ≡ lemmas → IfOk r (IsSettled small names numbers full lemmas before after) → IfOk r (IsVerdict (with_lines_of (start_of full ids lemmas) after))
   dense_verdict {O} before after (Ok answer) first s = verdict_of s.lines before after s.own answer s.learned first s.charged s.found s.told

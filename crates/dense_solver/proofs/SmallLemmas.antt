@@ -10,9 +10,10 @@ use Rattle.cnf_core.specs.Clauses.{Formula, Meets, clause_at}
 use Rattle.cnf_core.specs.Charges.{Charging}
 use Rattle.cnf_core.specs.Derivations.{AreDerived, clauses_of, is_empty}
 use Rattle.learn_solver.specs.Analyses.{has_all}
-use Rattle.learn_solver.specs.Solvers.{IsExtended, IsStopped, IsVerdict, Solving, wanted}
-use Rattle.learn_solver.specs.declared.verdict.Verdict.{Verdict}
-use Rattle.learn_solver.specs.declared.verdict.Verdict.TheVariants.{Model, Refuted}
+use Rattle.learn_solver.specs.Solvers.{IsExtended, IsStopped, Solving, wanted}
+use Rattle.learn_solver.specs.Findings.{IsFinding}
+use Rattle.learn_solver.specs.declared.verdict.Finding.{Finding}
+use Rattle.learn_solver.specs.declared.verdict.Finding.TheVariants.{Model, Refuted}
 use Rattle.learn_solver.proofs.AdvanceLemmas.{derived_after}
 use Rattle.dense_solver.specs.Renamings.{numbers_of}
 use Rattle.dense_solver.specs.Solved.{AreLearned, IsFound, IsHalted}
@@ -41,11 +42,11 @@ wanted-all : (small : Formula) (s new : Solving) → IsAll small s → new.formu
 wanted-all small s new all formula ids =
     ap (λ f. wanted f new.ids) (formula ∙ ap (λ (x : Solving). x.formula) all.is) ∙ (ap (wanted small) (ids ∙ ap (λ (x : Solving). x.ids) all.is) ∙ whole_wanted small.clauses)
 
-found : {O : Type 0} (small : Formula) (s new : Solving) (before after : Charging O) (v : Verdict) → IsAll small s → IsExtended s new before after → IsVerdict new v → IsFound small after.lines v
+found : {O : Type 0} (small : Formula) (s new : Solving) (before after : Charging O) (v : Finding) → IsAll small s → IsExtended s new before after → IsFinding new v → IsFound small after.lines v
 found {O} small s new before after (Model values) all extended is =
     (is.variables ∙ ap (λ (f : Formula). f.variables) (extended.formula ∙ ap (λ (x : Solving). x.formula) all.is), subst (Meets values) (wanted-all small s new all extended.formula extended.ids) is.meets)
-found {O} small s new before after (Refuted log) all extended is =
-    ap (λ ls. list_any is_empty (clauses_of ls)) (extended.lines_are ∙ sym is.lines_are) ∙ is.refutes.closed
+found {O} small s new before after Refuted all extended is =
+    ap (λ ls. list_any is_empty (clauses_of ls)) extended.lines_are ∙ is.closed
 
 learned : {O : Type 0} (small : Formula) (s new : Solving) (before after : Charging O) → IsAll small s → IsExtended s new before after → AreLearned small after.lines
 learned {O} small s new before after all extended =
@@ -59,11 +60,11 @@ learned {O} small s new before after all extended =
       fresh = λ k d within. subst (λ cs. All (λ clause. has_all (slice_index_or new.lines k d).clause clause ≡ false) (cs ++ clauses_of (take k new.lines))) whole (extended.added k d (omega (arith, ap length none)) within).fresh;
     })
 
-pub small_found : {O : Type 0} (small : Formula) (s new : Solving) (before after : Charging O) (r : Result Verdict Stop) → IsAll small s → IfOk r (λ _. IsExtended s new before after) → IfOk r (IsVerdict new) → IfOk r (IsFound small after.lines)
+pub small_found : {O : Type 0} (small : Formula) (s new : Solving) (before after : Charging O) (r : Result Finding Stop) → IsAll small s → IfOk r (λ _. IsExtended s new before after) → IfOk r (IsFinding new) → IfOk r (IsFound small after.lines)
 small_found {O} small s new before after (Ok v) all extended is = found small s new before after v all extended is
 small_found {O} small s new before after (Err stop) all extended is = tt
 
-pub small_learned : {O : Type 0} (small : Formula) (s new : Solving) (before after : Charging O) (r : Result Verdict Stop) → IsAll small s → IfOk r (λ _. IsExtended s new before after) → IfOk r (λ _. AreLearned small after.lines)
+pub small_learned : {O : Type 0} (small : Formula) (s new : Solving) (before after : Charging O) (r : Result Finding Stop) → IsAll small s → IfOk r (λ _. IsExtended s new before after) → IfOk r (λ _. AreLearned small after.lines)
 small_learned {O} small s new before after (Ok v) all extended = learned small s new before after all extended
 small_learned {O} small s new before after (Err stop) all extended = tt
 
@@ -77,6 +78,6 @@ halted {O} small s new before after (Spent n) all is = (
   },
 )
 
-pub small_halted : {O : Type 0} (small : Formula) (s new : Solving) (before after : Charging O) (r : Result Verdict Stop) → IsAll small s → IfErr r (IsStopped s new before after) → IfErr r (IsHalted small before after)
+pub small_halted : {O : Type 0} (small : Formula) (s new : Solving) (before after : Charging O) (r : Result Finding Stop) → IsAll small s → IfErr r (IsStopped s new before after) → IfErr r (IsHalted small before after)
 small_halted {O} small s new before after (Ok v) all is = tt
 small_halted {O} small s new before after (Err stop) all is = halted small s new before after stop all is

@@ -9,8 +9,10 @@ use Rattle.cnf_core.specs.Charges.{Charging}
 use Rattle.cnf_core.specs.Derivations.{AreDerived, clauses_of, is_empty}
 use Rattle.learn_solver.specs.Analyses.{has_all}
 use Rattle.learn_solver.specs.Solvers.{Solving}
+use Rattle.learn_solver.specs.declared.verdict.Finding.{Finding}
+use Rattle.learn_solver.specs.declared.verdict.Finding.TheVariants.{Model, Refuted}
 use Rattle.learn_solver.specs.declared.verdict.Verdict.{Verdict}
-use Rattle.learn_solver.specs.declared.verdict.Verdict.TheVariants.{Model, Refuted}
+use Rattle.learn_solver.specs.declared.verdict.Verdict.TheVariants.{Model as Full, Refuted as Logged}
 use Rattle.dense_solver.specs.Renamings.{IsSpread, translated}
 
 -- Lines that are derived from a formula, each of which has all the literals of no clause and no line before it.
@@ -21,9 +23,9 @@ pub record AreLearned (formula : Formula) (lines : List LogLine) : Type 0 where
       → All (λ clause. has_all (slice_index_or lines k d).clause clause ≡ false) (formula.clauses ++ clauses_of (take k lines))
 
 -- what an answer says of a formula, with the lines that were learned for it
-abbrev pub IsFound : Formula → List LogLine → Verdict → Type 0
+abbrev pub IsFound : Formula → List LogLine → Finding → Type 0
 IsFound formula lines (Model values) = (length values ≡ formula.variables) × Meets values formula.clauses
-IsFound formula lines (Refuted log) = list_any is_empty (clauses_of lines) ≡ true
+IsFound formula lines Refuted = list_any is_empty (clauses_of lines) ≡ true
 
 -- The budget was spent on lines, a refused one counted.
 pub record IsSpentOn {O : Type 0} (before after : Charging O) (learned : ℕ) : Type 0 where
@@ -53,22 +55,22 @@ AreRefused {O} old lines new (Spent learned) = AreOverdrawn old lines new learne
 AreRefused {O} old lines new Memory = Unit {0}
 
 -- an answer over names and the one over the formula's variables: each variable has the bit of its name, or the log has the lemmas and then the lines
-abbrev pub IsTold : List ℕ → ℕ → List LogLine → Verdict → Verdict → Type 0
-IsTold names variables lines (Model values) (Model full) = IsSpread names values variables full
-IsTold names variables lines (Refuted log) (Refuted whole) = whole.lines ≡ lines
-IsTold names variables lines (Model values) (Refuted whole) = ⊥
-IsTold names variables lines (Refuted log) (Model full) = ⊥
+abbrev pub IsTold : List ℕ → ℕ → List LogLine → Finding → Verdict → Type 0
+IsTold names variables lines (Model values) (Full full) = IsSpread names values variables full
+IsTold names variables lines Refuted (Logged whole) = whole.lines ≡ lines
+IsTold names variables lines (Model values) (Logged whole) = ⊥
+IsTold names variables lines Refuted (Full full) = ⊥
 
 -- a model has a value for each of n names
-abbrev pub HaveNamed : ℕ → Verdict → Type 0
+abbrev pub HaveNamed : ℕ → Finding → Type 0
 HaveNamed n (Model values) = length values ≡ n
-HaveNamed n (Refuted log) = Unit {0}
+HaveNamed n Refuted = Unit {0}
 
 -- A search over names that ended with an answer: its lines were charged as the formula's.
 pub record IsSettled {O : Type 0} (small : Formula) (names numbers : List ℕ) (full : Formula) (lemmas : List LogLine)
     (old new : Charging O) (answer : Verdict) : Type 0 where
   pub lines : List LogLine
-  pub own : Verdict
+  pub own : Finding
   pub learned : AreLearned small lines
   pub found : IsFound small lines own
   pub charged : AreCharged old (map (translated names numbers (length full.clauses + length lemmas)) lines) new

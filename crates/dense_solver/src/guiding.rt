@@ -30,6 +30,11 @@ impl<'a> Guide for GatePairs<'a> {
         let _ = (candidate, lines);
         Ok(())
     }
+
+    // The tab tells of each line.
+    fn learned(&mut self, lines: u64) {
+        let _ = lines;
+    }
 }
 
 /// The gates of a query's cones, and two candidates for each pair of them that seem to be equal: that the one is true and the other

@@ -8,7 +8,7 @@ use crate::base::DenseBase;
 use crate::guiding::GatePairs;
 use crate::tab::Tab;
 use cnf_core::{Base, Stop};
-use learn_solver::{Solver, Verdict, solve_guided};
+use learn_solver::{Finding, Solver, solve_guided};
 use std::alloc::{AllocError, Global};
 use watch_core::Watch;
 
@@ -18,7 +18,7 @@ pub(crate) fn solve_small<W: Watch>(
     dense: &DenseBase,
     gates: usize,
     tab: &mut Tab<'_, W>,
-) -> Result<Verdict, Stop>
+) -> Result<Finding, Stop>
     requires unlearned { tab.old.lines ≡ [] }
     requires not_spent { tab.old.spent ≡ false }
     requires opened { tab.old.opened ≡ true }

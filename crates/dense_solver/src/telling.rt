@@ -11,7 +11,7 @@ use crate::charging::charge_all;
 use crate::lines::translated;
 use cnf_core::{Charge, Log, LogLine, Stop};
 use items::Items;
-use learn_solver::Verdict;
+use learn_solver::{Finding, Verdict};
 use std::alloc::{AllocError, Global};
 
 /// Charges lines over names as lines of the formula, and answers these.
@@ -62,18 +62,18 @@ pub(crate) fn told(
     variables: u64,
     lemmas: &[LogLine],
     lines: Vec<LogLine>,
-    own: Verdict,
+    own: Finding,
 ) -> Result<Verdict, AllocError>
     requires names { AreNames variables dense.now.names }
     requires named { HaveNamed (length dense.now.names) own }
     ensures { IfOk result (IsTold dense.now.names variables (lemmas.now ++ lines.items) own) }
 {
     match own {
-        Verdict::Model(values) => {
+        Finding::Model(values) => {
             let full = spread(alloc, dense.names(), &values, variables)?;
             Ok(Verdict::Model(full))
         }
-        Verdict::Refuted(_) => {
+        Finding::Refuted => {
             let log = joined(alloc, lemmas, lines)?;
             Ok(Verdict::Refuted(log))
         }

@@ -17,7 +17,6 @@ use Rattle.cnf_core.specs.Clauses.{literal_of, variable_of}
 use Rattle.cnf_core.specs.Derivations.{clauses_of, is_same, is_true, repeats_variable}
 use Rattle.watch_lists.specs.Propagations.{AreKnown}
 use Rattle.watch_lists.proofs.EffectLemmas.{same_itself, same_literal}
-use Rattle.learn_solver.specs.declared.verdict.Verdict.{Verdict}
 use Rattle.learn_solver.specs.Analyses.{has_all}
 use Rattle.learn_solver.specs.Searches.{no_line}
 use Rattle.learn_solver.specs.Solvers.{IsBounded, IsBoundedStop, IsExtended, IsStopped, Solving, wanted}
@@ -221,10 +220,10 @@ bounded_stop {O} old new before after Memory stopped = tt
 bounded_stop {O} old new before after (Spent learned) stopped = bounded_by old new before after stopped.extended
 
 -- so it is of an answer
-pub bounded_answer : {O : Type 0} (old new : Solving) (before after : Charging O) (result : Result Verdict Stop) → IfOk result (λ _. IsExtended old new before after) → IfOk result (λ _. IsBounded old.formula.variables before after)
-bounded_answer {O} old new before after (Ok verdict) extended = bounded_by old new before after extended
-bounded_answer {O} old new before after (Err stop) extended = tt
+pub bounded_answer : {O V : Type 0} (old new : Solving) (before after : Charging O) (result : Result V Stop) → IfOk result (λ _. IsExtended old new before after) → IfOk result (λ _. IsBounded old.formula.variables before after)
+bounded_answer {O} {V} old new before after (Ok verdict) extended = bounded_by old new before after extended
+bounded_answer {O} {V} old new before after (Err stop) extended = tt
 
-pub bounded_stops : {O : Type 0} (old new : Solving) (before after : Charging O) (result : Result Verdict Stop) → IfErr result (IsStopped old new before after) → IfErr result (IsBoundedStop old.formula.variables before after)
-bounded_stops {O} old new before after (Ok verdict) stopped = tt
-bounded_stops {O} old new before after (Err stop) stopped = bounded_stop old new before after stop stopped
+pub bounded_stops : {O V : Type 0} (old new : Solving) (before after : Charging O) (result : Result V Stop) → IfErr result (IsStopped old new before after) → IfErr result (IsBoundedStop old.formula.variables before after)
+bounded_stops {O} {V} old new before after (Ok verdict) stopped = tt
+bounded_stops {O} {V} old new before after (Err stop) stopped = bounded_stop old new before after stop stopped

@@ -2,35 +2,35 @@
 use Rattle.std.proofs.Common.{◌≡◌, List, sym, subst, ◌∙◌}
 use Rattle.cnf_core.specs.declared.literal.SatLit.{SatLit}
 use Rattle.cnf_core.specs.Charges.{Charging}
-use Rattle.trail_core.specs.Trails.{Trailing}
 use Rattle.watch_lists.specs.Propagations.{IsSound}
-use Rattle.watch_lists.specs.Watched.{Watching}
 use Rattle.learn_solver.specs.declared.search.Search.{Search}
-use Rattle.learn_solver.specs.declared.search.Tools.{Tools}
 use Rattle.learn_solver.specs.Orders.{IsOrder}
-use Rattle.learn_solver.specs.Searches.{IsRunning}
+use Rattle.learn_solver.specs.Searches.{CanTurn, HasTurned, IsRunning}
 use Rattle.learn_solver.specs.Solvers.{IsAsking, IsExtended, IsSolver, Solving}
-use Rattle.learn_solver.specs.Starts.{IsFitting, StayTools}
 use Rattle.learn_solver.proofs.AdvanceLemmas.{IsUnderWay, extended_none, extended_twice}
+use Rattle.learn_solver.proofs.RunLemmas.{fitting_of}
 
 -- from level 0 on
-pub running_again : (s : Solving) (old new : Trailing) (before after : Watching) (tools tools_new : Tools) → IsRunning s old before tools → IsFitting after new → after.clauses ≡ before.clauses → new.variables ≡ old.variables → StayTools tools tools_new → IsRunning s new after tools_new
-running_again s old new before after tools tools_new is fitting clauses variables stay = record {
+pub running_again : (s : Solving) (old new : Search) → IsRunning s old.trail old.watches old.tools → HasTurned old new → IsRunning s new.trail new.watches new.tools
+running_again s old new is turned = record {
   searching = record {
-    variables = variables ∙ is.searching.variables;
+    variables = turned.variables ∙ is.searching.variables;
     unrefuted = is.searching.unrefuted;
-    sound = subst (λ (cs : List (List SatLit)). IsSound cs new) (clauses ∙ is.solver.stored) fitting.sound;
+    sound = subst (λ (cs : List (List SatLit)). IsSound cs new.trail) (turned.clauses ∙ is.solver.stored) turned.fitting.sound;
   };
-  solver = subst (IsSolver s.formula s.ids s.lines) (sym clauses) is.solver;
-  fits = fitting.fits;
-  present = fitting.present;
-  covered = fitting.covered;
-  tools_are = stay s.formula s.ids is.tools_are;
+  solver = subst (IsSolver s.formula s.ids s.lines) (sym turned.clauses) is.solver;
+  fits = turned.fitting.fits;
+  present = turned.fitting.present;
+  covered = turned.fitting.covered;
+  tools_are = turned.tools s.formula s.ids is.tools_are;
 }
 
--- the order is one of the trail's variables
-pub order_of : (s : Solving) (t : Trailing) (w : Watching) (tools : Tools) → IsRunning s t w tools → IsOrder t.variables tools.order
-order_of s t w tools is = subst (λ n. IsOrder n tools.order) (sym is.searching.variables) is.tools_are.order
+-- what is under way may go back
+pub can_turn : (s : Solving) (search : Search) → IsRunning s search.trail search.watches search.tools → CanTurn search
+can_turn s search is = record {
+  fitting = fitting_of s search.trail search.watches search.tools is;
+  order = subst (λ n. IsOrder n search.tools.order) (sym is.searching.variables) is.tools_are.order;
+}
 
 pub under_way_from : {O : Type 0} (s : Solving) (first : Charging O) (search : Search) → IsRunning s search.trail search.watches search.tools → IsAsking first s.lines → IsUnderWay s s first first search
 under_way_from {O} s first search running asking = record {

@@ -1,5 +1,6 @@
 pub mod Analyses
 pub mod Solvers
+pub mod Findings
 pub mod Orders
 pub mod Searches
 pub mod Starts

@@ -1,5 +1,5 @@
 -- Where a search stands.
-use Rattle.std.specs.Prelude.{◌≡◌, ◌≢◌, ℕ, ◌+◌, ◌-◌, ◌*◌, ◌<◌, ◌≤◌, ◌++◌, ◌∷◌, Bool, true, false, List, [], length, All, Option, None, Some, slice_index_or}
+use Rattle.std.specs.Prelude.{◌≡◌, ◌≢◌, ℕ, ◌+◌, ◌-◌, ◌*◌, ◌<◌, ◌≤◌, ◌++◌, ◌∷◌, Bool, true, false, List, [], length, All, Option, None, Some, MatchOption, slice_index_or}
 use Rattle.std.specs.List.{list_any}
 use Rattle.cnf_core.specs.declared.log.LogLine.{LogLine}
 use Rattle.cnf_core.specs.Clauses.{literal_of}
@@ -9,10 +9,13 @@ use Rattle.cnf_core.specs.Charges.{Charging, IsCharged}
 use Rattle.trail_core.specs.Trails.{Trailing, entry_at, literals, value_in}
 use Rattle.watch_lists.specs.Propagations.{IsSound, before}
 use Rattle.learn_solver.specs.Analyses.{IsAsserting, has_all}
-use Rattle.learn_solver.specs.Solvers.{IsAdded, IsSolver, Solving, active}
+use Rattle.learn_solver.specs.Solvers.{IsAdded, IsAsking, IsExtended, IsSolver, Solving, active}
 use Rattle.learn_solver.specs.declared.search.Search.{Search}
 use Rattle.learn_solver.specs.declared.search.Tools.{Tools}
-use Rattle.learn_solver.specs.Starts.{AreTools, StayTools}
+use Rattle.learn_solver.specs.declared.verdict.Finding.{Finding}
+use Rattle.learn_solver.specs.Findings.{IsFinding}
+use Rattle.learn_solver.specs.Orders.{IsOrder}
+use Rattle.learn_solver.specs.Starts.{AreTools, IsFitting, StayTools}
 use Rattle.watch_lists.specs.Watched.{Fits, IsCovered, IsPresent, Watching}
 
 -- a variable is assigned
@@ -105,3 +108,22 @@ pub record IsAdvanced {Others : Type 0} (solving : Solving) (first after : Charg
     (watching : Watching) (tools : Tools) : Type 0 where
   pub running : IsRunning solving new watching tools
   pub less : remaining after new < remaining first old
+
+-- A search that may go back: the watches fit the trail, whose variables the order has.
+pub record CanTurn (search : Search) : Type 0 where
+  pub fitting : IsFitting search.watches search.trail
+  pub order : IsOrder search.trail.variables search.tools.order
+
+-- A search went back, or stayed where it was, with what it has.
+pub record HasTurned (old new : Search) : Type 0 where
+  pub fitting : IsFitting new.watches new.trail
+  pub clauses : new.watches.clauses ≡ old.watches.clauses
+  pub variables : new.trail.variables ≡ old.trail.variables
+  pub tools : StayTools old.tools new.tools
+
+-- A search went on: its lines were charged, and it is under way, or there is an answer.
+pub record HasGone {Others : Type 0} (old new : Solving) (before after : Charging Others) (search : Search)
+    (answer : Option Finding) : Type 0 where
+  pub extended : IsExtended old new before after
+  pub asking : IsAsking after new.lines
+  pub answer_is : MatchOption answer (IsRunning new search.trail search.watches search.tools) (IsFinding new)

@@ -50,6 +50,10 @@ pub trait Guide {
     ///
     /// Only when out of memory.
     fn done_with(&mut self, candidate: Candidate, lines: u64) -> Result<(), AllocError>;
+
+    /// The search for the question itself has so many lines now, lemmas among them. It is told after each step, also after a
+    /// decision, so that is to cost next to nothing.
+    fn learned(&mut self, lines: u64);
 }
 
 /// Nothing on the agenda.
@@ -68,6 +72,10 @@ impl Guide for Unguided {
     fn done_with(&mut self, candidate: Candidate, lines: u64) -> Result<(), AllocError> {
         let _ = (candidate, lines);
         Ok(())
+    }
+
+    fn learned(&mut self, lines: u64) {
+        let _ = lines;
     }
 }
 

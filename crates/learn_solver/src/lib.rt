@@ -16,4 +16,4 @@ mod verdict;
 
 pub use candidate::{Agenda, Candidate, Guide, Operands, Unguided};
 pub use solver::{Solver, solve, solve_guided};
-pub use verdict::Verdict;
+pub use verdict::{Finding, Verdict};

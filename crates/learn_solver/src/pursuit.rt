@@ -1,13 +1,14 @@
 //! Parts of the question, one after another, and the whole of it.
 
-ghost use Rattle.std.specs.Prelude.{MatchOption, IfOk, IfErr};
-ghost use Rattle.learn_solver.specs.Searches.{IsRunning};
-ghost use Rattle.learn_solver.specs.Solvers.{IsAsking, IsExtended, IsStopped, IsVerdict};
+ghost use Rattle.std.specs.Prelude.{IfOk, IfErr};
+ghost use Rattle.learn_solver.specs.Findings.{IsFinding};
+ghost use Rattle.learn_solver.specs.Searches.{HasGone, IsRunning};
+ghost use Rattle.learn_solver.specs.Solvers.{IsAsking, IsExtended, IsStopped};
 
 use crate::candidate::{Agenda, Candidate, Guide, Operands};
 use crate::search::Search;
 use crate::solver::Solver;
-use crate::verdict::Verdict;
+use crate::verdict::Finding;
 use cnf_core::{Base, Charge, Stop};
 use std::alloc::Global;
 
@@ -27,14 +28,11 @@ impl<'a, B: Base> Solver<'a, B> {
         search: &mut Search,
         guide: &mut G,
         ledger: &mut L,
-    ) -> Result<Option<Verdict>, Stop>
+    ) -> Result<Option<Finding>, Stop>
         requires running { IsRunning self.old search.old.trail search.old.watches search.old.tools }
         requires asking { IsAsking (L.charging ledger.old) self.old.lines }
-        ensures extended { IfOk result
-            (λ _. IsExtended self.old self.new (L.charging ledger.old) (L.charging ledger.new)) }
-        ensures asking { IfOk result (λ _. IsAsking (L.charging ledger.new) self.new.lines) }
-        ensures answer { IfOk result (λ answer. MatchOption answer
-            (IsRunning self.new search.new.trail search.new.watches search.new.tools) (IsVerdict self.new)) }
+        ensures gone { IfOk result
+            (HasGone self.old self.new (L.charging ledger.old) (L.charging ledger.new) search.new) }
         ensures stop { IfErr result
             (IsStopped self.old self.new (L.charging ledger.old) (L.charging ledger.new)) }
     {
@@ -46,8 +44,8 @@ impl<'a, B: Base> Solver<'a, B> {
             candidates,
             leading,
         } = guide.agenda(alloc)?;
-        if let Some(verdict) = self.follow(alloc, search, guide, &gates, &candidates, ledger)? {
-            return Ok(Some(verdict));
+        if let Some(found) = self.follow(alloc, search, guide, &gates, &candidates, ledger)? {
+            return Ok(Some(found));
         }
         search.widen(leading);
         Ok(None)
@@ -62,20 +60,17 @@ impl<'a, B: Base> Solver<'a, B> {
         gates: &[Operands],
         candidates: &[Candidate],
         ledger: &mut L,
-    ) -> Result<Option<Verdict>, Stop>
+    ) -> Result<Option<Finding>, Stop>
         requires running { IsRunning self.old search.old.trail search.old.watches search.old.tools }
         requires asking { IsAsking (L.charging ledger.old) self.old.lines }
-        ensures extended { IfOk result
-            (λ _. IsExtended self.old self.new (L.charging ledger.old) (L.charging ledger.new)) }
-        ensures asking { IfOk result (λ _. IsAsking (L.charging ledger.new) self.new.lines) }
-        ensures answer { IfOk result (λ answer. MatchOption answer
-            (IsRunning self.new search.new.trail search.new.watches search.new.tools) (IsVerdict self.new)) }
+        ensures gone { IfOk result
+            (HasGone self.old self.new (L.charging ledger.old) (L.charging ledger.new) search.new) }
         ensures stop { IfErr result
             (IsStopped self.old self.new (L.charging ledger.old) (L.charging ledger.new)) }
     {
         for candidate in candidates.iter() {
-            if let Some(verdict) = self.look_at(alloc, search, *candidate, gates, ledger)? {
-                return Ok(Some(verdict));
+            if let Some(found) = self.look_at(alloc, search, *candidate, gates, ledger)? {
+                return Ok(Some(found));
             }
             guide.done_with(*candidate, self.count())?;
         }
@@ -90,14 +85,11 @@ impl<'a, B: Base> Solver<'a, B> {
         candidate: Candidate,
         gates: &[Operands],
         ledger: &mut L,
-    ) -> Result<Option<Verdict>, Stop>
+    ) -> Result<Option<Finding>, Stop>
         requires running { IsRunning self.old search.old.trail search.old.watches search.old.tools }
         requires asking { IsAsking (L.charging ledger.old) self.old.lines }
-        ensures extended { IfOk result
-            (λ _. IsExtended self.old self.new (L.charging ledger.old) (L.charging ledger.new)) }
-        ensures asking { IfOk result (λ _. IsAsking (L.charging ledger.new) self.new.lines) }
-        ensures answer { IfOk result (λ answer. MatchOption answer
-            (IsRunning self.new search.new.trail search.new.watches search.new.tools) (IsVerdict self.new)) }
+        ensures gone { IfOk result
+            (HasGone self.old self.new (L.charging ledger.old) (L.charging ledger.new) search.new) }
         ensures stop { IfErr result
             (IsStopped self.old self.new (L.charging ledger.old) (L.charging ledger.new)) }
     {
@@ -112,46 +104,45 @@ impl<'a, B: Base> Solver<'a, B> {
         search: &mut Search,
         most: u64,
         ledger: &mut L,
-    ) -> Result<Option<Verdict>, Stop>
+    ) -> Result<Option<Finding>, Stop>
         requires running { IsRunning self.old search.old.trail search.old.watches search.old.tools }
         requires asking { IsAsking (L.charging ledger.old) self.old.lines }
-        ensures extended { IfOk result
-            (λ _. IsExtended self.old self.new (L.charging ledger.old) (L.charging ledger.new)) }
-        ensures asking { IfOk result (λ _. IsAsking (L.charging ledger.new) self.new.lines) }
-        ensures answer { IfOk result (λ answer. MatchOption answer
-            (IsRunning self.new search.new.trail search.new.watches search.new.tools) (IsVerdict self.new)) }
+        ensures gone { IfOk result
+            (HasGone self.old self.new (L.charging ledger.old) (L.charging ledger.new) search.new) }
         ensures stop { IfErr result
             (IsStopped self.old self.new (L.charging ledger.old) (L.charging ledger.new)) }
     {
         let end = self.count().saturating_add(most);
         while !search.is_settled() & (self.count() < end) {
-            if let Some(verdict) = self.advance(alloc, search, ledger)? {
-                return Ok(Some(verdict));
+            if let Some(found) = self.advance(alloc, search, ledger)? {
+                return Ok(Some(found));
             }
         }
         Ok(None)
     }
 
-    /// Searches until there is an answer.
-    pub(crate) fn finish<L: Charge>(
+    /// Searches until there is an answer, and tells the guide how many lines there are.
+    pub(crate) fn finish<G: Guide, L: Charge>(
         &mut self,
         alloc: Global,
         search: &mut Search,
+        guide: &mut G,
         ledger: &mut L,
-    ) -> Result<Verdict, Stop>
+    ) -> Result<Finding, Stop>
         requires running { IsRunning self.old search.old.trail search.old.watches search.old.tools }
         requires asking { IsAsking (L.charging ledger.old) self.old.lines }
         ensures extended { IfOk result
             (λ _. IsExtended self.old self.new (L.charging ledger.old) (L.charging ledger.new)) }
         ensures asking { IfOk result (λ _. IsAsking (L.charging ledger.new) self.new.lines) }
-        ensures verdict { IfOk result (IsVerdict self.new) }
+        ensures found { IfOk result (IsFinding self.new) }
         ensures stop { IfErr result
             (IsStopped self.old self.new (L.charging ledger.old) (L.charging ledger.new)) }
     {
         loop {
-            if let Some(verdict) = self.advance(alloc, search, ledger)? {
-                return Ok(verdict);
+            if let Some(found) = self.advance(alloc, search, ledger)? {
+                return Ok(found);
             }
+            guide.learned(self.count());
         }
     }
 }

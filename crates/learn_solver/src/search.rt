@@ -4,7 +4,7 @@ ghost use Rattle.std.specs.Prelude.{◌≡◌, ◌<◌, ◌++◌, ◌∷◌, [],
 ghost use Rattle.std.specs.List.{list_any};
 ghost use Rattle.cnf_core.specs.Derivations.{AreDerived, clauses_of, is_empty};
 ghost use Rattle.trail_core.specs.Trails.{IsFree, literals};
-ghost use Rattle.learn_solver.specs.Searches.{IsAssigned};
+ghost use Rattle.learn_solver.specs.Searches.{CanTurn, HasTurned, IsAssigned};
 ghost use Rattle.watch_lists.specs.Propagations.{AreKnown, IsConflict, IsQuiet};
 ghost use Rattle.learn_solver.specs.Starts.{AreAllLoose, AreIdle, IsBegun, IsFitting, IsPropagated, IsSoundBack, IsStarting, IsStuck, StayTools};
 ghost use Rattle.learn_solver.specs.Orders.{IsOrder};
@@ -168,12 +168,8 @@ impl Search {
 
     // Goes back to level 0 where it is time to.
     fn restart(&mut self)
-        requires fitting { IsFitting self.old.watches self.old.trail }
-        requires order { IsOrder self.old.trail.variables self.old.tools.order }
-        ensures fitting { IsFitting self.new.watches self.new.trail }
-        ensures clauses { self.new.watches.clauses ≡ self.old.watches.clauses }
-        ensures variables { self.new.trail.variables ≡ self.old.trail.variables }
-        ensures tools { StayTools self.old.tools self.new.tools }
+        requires { CanTurn self.old }
+        ensures { HasTurned self.old self.new }
     {
         if !self.tools.restarts.count() {
             return;
@@ -183,12 +179,8 @@ impl Search {
 
     /// Turns to a candidate, from level 0 on.
     pub(crate) fn narrow(&mut self, candidate: Candidate, gates: &[Operands])
-        requires fitting { IsFitting self.old.watches self.old.trail }
-        requires order { IsOrder self.old.trail.variables self.old.tools.order }
-        ensures fitting { IsFitting self.new.watches self.new.trail }
-        ensures clauses { self.new.watches.clauses ≡ self.old.watches.clauses }
-        ensures variables { self.new.trail.variables ≡ self.old.trail.variables }
-        ensures tools { StayTools self.old.tools self.new.tools }
+        requires { CanTurn self.old }
+        ensures { HasTurned self.old self.new }
     {
         self.tools.focus.narrow(candidate, gates);
         self.begin_anew();
@@ -196,12 +188,8 @@ impl Search {
 
     /// Turns to the whole question, from level 0 on, in which these literals are decided before all other variables.
     pub(crate) fn widen(&mut self, leading: Vec<SatLit>)
-        requires fitting { IsFitting self.old.watches self.old.trail }
-        requires order { IsOrder self.old.trail.variables self.old.tools.order }
-        ensures fitting { IsFitting self.new.watches self.new.trail }
-        ensures clauses { self.new.watches.clauses ≡ self.old.watches.clauses }
-        ensures variables { self.new.trail.variables ≡ self.old.trail.variables }
-        ensures tools { StayTools self.old.tools self.new.tools }
+        requires { CanTurn self.old }
+        ensures { HasTurned self.old self.new }
     {
         self.tools.focus.widen(leading);
         self.begin_anew();
@@ -218,12 +206,8 @@ impl Search {
 
     // Goes back to level 0.
     fn begin_anew(&mut self)
-        requires fitting { IsFitting self.old.watches self.old.trail }
-        requires order { IsOrder self.old.trail.variables self.old.tools.order }
-        ensures fitting { IsFitting self.new.watches self.new.trail }
-        ensures clauses { self.new.watches.clauses ≡ self.old.watches.clauses }
-        ensures variables { self.new.trail.variables ≡ self.old.trail.variables }
-        ensures tools { StayTools self.old.tools self.new.tools }
+        requires { CanTurn self.old }
+        ensures { HasTurned self.old self.new }
     {
         if self.trail.level() == 0 {
             return;

@@ -9,14 +9,15 @@ ghost use Rattle.watch_lists.specs.Propagations.{IsConflict, IsQuiet};
 ghost use Rattle.learn_solver.specs.Analyses.{has_all};
 ghost use Rattle.cnf_core.specs.Charges.{IsCharged, IsRefused};
 ghost use Rattle.learn_solver.specs.Searches.{IsAdvanced, IsDecided, IsLearning, IsLearnt, IsLesson, IsRunning, IsSame, last_line};
-ghost use Rattle.learn_solver.specs.Solvers.{IsAsking, IsBounded, IsBoundedStop, IsExtended, IsModel, IsRefuted, IsStopped, IsVerdict, ArePut, active, id_at, wanted};
+ghost use Rattle.learn_solver.specs.Solvers.{IsAsking, IsBounded, IsBoundedStop, IsExtended, IsModel, IsStopped, IsVerdict, ArePut, active, id_at, wanted};
+ghost use Rattle.learn_solver.specs.Findings.{IsFinding};
 
 use crate::candidate::{Guide, Unguided};
 use crate::conflict::{Learned, analyse};
 use crate::decision::values;
 use crate::order::bump_all;
 use crate::search::{Search, begun};
-use crate::verdict::Verdict;
+use crate::verdict::{Finding, Verdict};
 use cnf_core::{Base, Charge, Log, LogLine, Stop};
 use items::Items;
 use std::alloc::{AllocError, Global};
@@ -58,6 +59,20 @@ impl<'a, B: Base> Solver<'a, B> {
         let ids = Vec::from_slice(alloc, ids)?;
         let lines = copied(alloc, lemmas)?;
         Ok(Solver { base, ids, lines })
+    }
+
+    /// The solver's lines as a log, once it is done with.
+    pub fn into_log(self) -> Log
+        ensures { result.lines ≡ self.entry.lines }
+    {
+        let Solver {
+            base: _base,
+            ids: _ids,
+            lines,
+        } = self;
+        Log {
+            lines: Items::from_vec(lines),
+        }
     }
 
     // The number that a clause that is looked at has in the formula and its log.
@@ -148,18 +163,18 @@ impl<'a, B: Base> Solver<'a, B> {
     }
 
     // Decides the next variable that occurs, or answers a model where all of them are assigned.
-    fn decide(&self, alloc: Global, search: &mut Search) -> Result<Option<Verdict>, AllocError>
+    fn decide(&self, alloc: Global, search: &mut Search) -> Result<Option<Finding>, AllocError>
         requires running { IsRunning self.now search.old.trail search.old.watches search.old.tools }
         requires quiet { IsQuiet (active self.now.formula self.now.ids self.now.lines)
             (literals search.old.trail.entries) }
         requires walked { search.old.trail.walked ≡ length search.old.trail.entries }
         ensures { IfOk result (λ answer. MatchOption answer
-            (IsDecided self.now search.old.trail search.new.trail search.new.watches search.new.tools) (IsVerdict self.now)) }
+            (IsDecided self.now search.old.trail search.new.trail search.new.watches search.new.tools) (IsFinding self.now)) }
     {
         let Some(literal) = search.tools.decision(&search.trail) else {
             let variables = self.base.variables();
             let values = values(alloc, &search.trail, variables)?;
-            return Ok(Some(Verdict::Model(values)));
+            return Ok(Some(Finding::Model(values)));
         };
         search.trail.decide(literal);
         Ok(None)
@@ -170,14 +185,27 @@ impl<'a, B: Base> Solver<'a, B> {
         self.lines.len() as u64
     }
 
-    // The lines as a log, once one is empty.
-    fn refute(&self, alloc: Global) -> Result<Verdict, AllocError>
+    // What the lines say, once one is empty.
+    fn refuted(&self) -> Finding
         requires { list_any is_empty (clauses_of self.now.lines) ≡ true }
+        ensures { IsFinding self.now result }
+    {
+        let _count = self.lines.len();
+        Finding::Refuted
+    }
+
+    // What was found, with the lines as a log.
+    fn told(&self, alloc: Global, found: Finding) -> Result<Verdict, AllocError>
+        requires { IsFinding self.now found }
         ensures { IfOk result (IsVerdict self.now) }
     {
-        let lines = copied(alloc, &self.lines)?;
-        let lines = Items::from_vec(lines);
-        Ok(Verdict::Refuted(Log { lines }))
+        match found {
+            Finding::Model(values) => Ok(Verdict::Model(values)),
+            Finding::Refuted => {
+                let lines = Items::from_vec(copied(alloc, &self.lines)?);
+                Ok(Verdict::Refuted(Log { lines }))
+            }
+        }
     }
 
     /// One step of the search: propagation, then a decision or a learned line.
@@ -186,7 +214,7 @@ impl<'a, B: Base> Solver<'a, B> {
         alloc: Global,
         search: &mut Search,
         ledger: &mut L,
-    ) -> Result<Option<Verdict>, Stop>
+    ) -> Result<Option<Finding>, Stop>
         requires running { IsRunning self.old search.old.trail search.old.watches search.old.tools }
         requires asking { IsAsking (L.charging ledger.old) self.old.lines }
         ensures extended { IfOk result
@@ -194,7 +222,7 @@ impl<'a, B: Base> Solver<'a, B> {
         ensures asking { IfOk result (λ _. IsAsking (L.charging ledger.new) self.new.lines) }
         ensures answer { IfOk result (λ answer. MatchOption answer
             (IsAdvanced self.new (L.charging ledger.old) (L.charging ledger.new) search.old.trail search.new.trail
-            search.new.watches search.new.tools) (IsVerdict self.new)) }
+            search.new.watches search.new.tools) (IsFinding self.new)) }
         ensures stop { IfErr result
             (IsStopped self.old self.new (L.charging ledger.old) (L.charging ledger.new)) }
     {
@@ -203,8 +231,7 @@ impl<'a, B: Base> Solver<'a, B> {
             return Ok(answer);
         };
         let Some(level) = self.learn(alloc, search, conflict, ledger)? else {
-            let verdict = self.refute(alloc)?;
-            return Ok(Some(verdict));
+            return Ok(Some(self.refuted()));
         };
         search.go_back(&self.lines[self.lines.len() - 1].clause, level)?;
         Ok(None)
@@ -217,13 +244,13 @@ impl<'a, B: Base> Solver<'a, B> {
         search: &mut Search,
         conflict: u64,
         ledger: &mut L,
-    ) -> Result<Verdict, Stop>
+    ) -> Result<Finding, Stop>
         requires learning { IsLearning self.old search.old.trail search.old.watches search.old.tools }
         requires lowest { search.old.trail.level ≡ 0 }
         requires asking { IsAsking (L.charging ledger.old) self.old.lines }
         requires conflict { IsConflict (active self.old.formula self.old.ids self.old.lines)
             (literals search.old.trail.entries) conflict }
-        ensures verdict { IfOk result (IsVerdict self.new) }
+        ensures found { IfOk result (IsFinding self.new) }
         ensures extended { IfOk result
             (λ _. IsExtended self.old self.new (L.charging ledger.old) (L.charging ledger.new)) }
         ensures asking { IfOk result (λ _. IsAsking (L.charging ledger.new) self.new.lines) }
@@ -233,8 +260,7 @@ impl<'a, B: Base> Solver<'a, B> {
         let None = self.learn(alloc, search, conflict, ledger)? else {
             unreachable!()
         };
-        let verdict = self.refute(alloc)?;
-        Ok(verdict)
+        Ok(self.refuted())
     }
 
     // Charges the last line.
@@ -282,21 +308,23 @@ pub fn solve<B: Base, L: Charge>(
     ensures bounded_stop { IfErr result
         (IsBoundedStop solver.old.formula.variables (L.charging ledger.old) (L.charging ledger.new)) }
 {
-    solve_guided(alloc, solver, &mut Unguided, ledger)
+    let found = solve_guided(alloc, solver, &mut Unguided, ledger)?;
+    let verdict = solver.told(alloc, found)?;
+    Ok(verdict)
 }
 
 /// The same, where parts of the question are searched first (explicit learning: Lu, Wang, Cheng, Moon and Hanna, DATE 2003):
 /// for each candidate in order, whether its two literals can be true together. What is learned from that serves all that
-/// comes after. No answer depends on the candidates.
+/// comes after. No answer depends on the candidates. A refutation is the solver's lines (`Solver::into_log`).
 pub fn solve_guided<B: Base, G: Guide, L: Charge>(
     alloc: Global,
     solver: &mut Solver<'_, B>,
     guide: &mut G,
     ledger: &mut L,
-) -> Result<Verdict, Stop>
+) -> Result<Finding, Stop>
     requires unrefuted { list_any is_empty (clauses_of solver.old.lines) ≡ false }
     requires asking { IsAsking (L.charging ledger.old) solver.old.lines }
-    ensures verdict { IfOk result (IsVerdict solver.new) }
+    ensures found { IfOk result (IsFinding solver.new) }
     ensures lines { IfOk result (λ _. IsExtended solver.old solver.new (L.charging ledger.old) (L.charging ledger.new)) }
     ensures not_spent { IfOk result (λ _. IsAsking (L.charging ledger.new) solver.new.lines) }
     ensures stop { IfErr result (IsStopped solver.old solver.new (L.charging ledger.old) (L.charging ledger.new)) }
@@ -314,10 +342,10 @@ fn searched<B: Base, G: Guide, L: Charge>(
     solver: &mut Solver<'_, B>,
     guide: &mut G,
     ledger: &mut L,
-) -> Result<Verdict, Stop>
+) -> Result<Finding, Stop>
     requires unrefuted { list_any is_empty (clauses_of solver.old.lines) ≡ false }
     requires asking { IsAsking (L.charging ledger.old) solver.old.lines }
-    ensures verdict { IfOk result (IsVerdict solver.new) }
+    ensures found { IfOk result (IsFinding solver.new) }
     ensures lines { IfOk result (λ _. IsExtended solver.old solver.new (L.charging ledger.old) (L.charging ledger.new)) }
     ensures not_spent { IfOk result (λ _. IsAsking (L.charging ledger.new) solver.new.lines) }
     ensures stop { IfErr result (IsStopped solver.old solver.new (L.charging ledger.old) (L.charging ledger.new)) }
@@ -329,8 +357,8 @@ fn searched<B: Base, G: Guide, L: Charge>(
     if let Some(early) = solver.prepare(alloc, &mut search, guide, ledger)? {
         return Ok(early);
     }
-    let verdict = solver.finish(alloc, &mut search, ledger)?;
-    Ok(verdict)
+    let found = solver.finish(alloc, &mut search, guide, ledger)?;
+    Ok(found)
 }
 
 /// A line that was derived from a conflict, and the level to go back to.

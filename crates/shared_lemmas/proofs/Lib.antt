@@ -2,3 +2,4 @@ pub mod EqualLemmas
 pub mod FormulaLemmas
 pub mod SharedLaws
 pub mod AloneLemmas
+pub mod AnswerLemmas

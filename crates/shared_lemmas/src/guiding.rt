@@ -7,6 +7,10 @@ use query_core::QueryBase;
 use std::alloc::{AllocError, Global};
 use watch_core::{Stage, Watch};
 
+/// From how many more lines on one is told of the question's own search. They come by the thousand in a second, and what is
+/// shown changes once in one.
+const TOLD_EVERY: u64 = 64;
+
 /// The pairs of a question's gates that seem to be equal and that no question before looked at. Each is two candidates.
 #[derive(Drop)]
 pub(crate) struct NewPairs<'a, W: Watch> {
@@ -26,9 +30,19 @@ pub(crate) struct Progress<'a, W: Watch> {
     pub(crate) learned: u64,
     /// How many of the question's lines were learned before it.
     pub(crate) lemmas: u64,
+    /// With how many of them it is told again.
+    pub(crate) next: u64,
 }
 
 impl<'a, W: Watch> Progress<'a, W> {
+    // Tells how many lines were learned, where the question has so many, unless few were learned since.
+    fn tell_some(&mut self, lines: u64) {
+        if lines >= self.next {
+            self.tell(lines);
+            self.next = lines.saturating_add(TOLD_EVERY);
+        }
+    }
+
     // Tells how many lines were learned, where the question has so many.
     fn tell(&self, lines: u64) {
         let own = lines.saturating_sub(self.lemmas);
@@ -57,5 +71,9 @@ impl<'a, W: Watch> Guide for NewPairs<'a, W> {
     fn done_with(&mut self, candidate: Candidate, lines: u64) -> Result<(), AllocError> {
         self.progress.tell(lines);
         self.tried.add(candidate)
+    }
+
+    fn learned(&mut self, lines: u64) {
+        self.progress.tell_some(lines);
     }
 }

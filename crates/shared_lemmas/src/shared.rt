@@ -5,7 +5,7 @@ ghost use Rattle.query_core.specs.Formulas.{formula_of};
 ghost use Rattle.query_core.specs.Queries.{IsQuery};
 ghost use Rattle.ask_core.specs.Answers.{IsAnswer, IsBounded, IsBoundedStop};
 ghost use Rattle.log_parts.specs.Parts.{MayGoOn};
-ghost use Rattle.shared_lemmas.specs.Shared.{AreShared, HoldUnder, IsAskedBy, IsStoppedBy, IsUnder};
+ghost use Rattle.shared_lemmas.specs.Shared.{AreShared, HoldUnder, IsAnswered, IsAskedBy, IsHalted, IsStoppedBy, IsUnder};
 
 use crate::feeds::have_same_feeds;
 use crate::guiding::{NewPairs, Progress};
@@ -103,12 +103,8 @@ fn ask_sharing<W: Watch>(
     requires shared { AreShared graphs.now stock.old.held.items stock.old.lines.items }
     requires not_spent { ledger.old.spent ≡ false }
     ensures shared { AreShared graphs.now stock.new.held.items stock.new.lines.items }
-    ensures answer { IfOk result (IsAnswer graphs.now query.now) }
-    ensures asked { IfOk result (λ _. IsAskedBy graphs.now query.now ledger.old ledger.new) }
-    ensures not_spent { IfOk result (λ _. ledger.new.spent ≡ false) }
-    ensures stop { IfErr result (IsStoppedBy graphs.now query.now ledger.old ledger.new) }
-    ensures bounded { IfOk result (λ _. IsBounded graphs.now query.now ledger.new) }
-    ensures bounded_stop { IfErr result (IsBoundedStop graphs.now query.now ledger.new) }
+    ensures answered { IfOk result (IsAnswered graphs.now query.now ledger.old ledger.new) }
+    ensures halted { IfErr result (IsHalted graphs.now query.now ledger.old ledger.new) }
 {
     turn_to(alloc, graphs, query, stock)?;
     let cones = ConeClauses::new(alloc, graphs, query)?;
@@ -134,12 +130,8 @@ fn ask_alone<W: Watch>(
 ) -> Result<Answer, Stop>
     requires fits { IsQuery graphs.now query.now }
     requires not_spent { ledger.old.spent ≡ false }
-    ensures answer { IfOk result (IsAnswer graphs.now query.now) }
-    ensures asked { IfOk result (λ _. IsAskedBy graphs.now query.now ledger.old ledger.new) }
-    ensures not_spent { IfOk result (λ _. ledger.new.spent ≡ false) }
-    ensures stop { IfErr result (IsStoppedBy graphs.now query.now ledger.old ledger.new) }
-    ensures bounded { IfOk result (λ _. IsBounded graphs.now query.now ledger.new) }
-    ensures bounded_stop { IfErr result (IsBoundedStop graphs.now query.now ledger.new) }
+    ensures answered { IfOk result (IsAnswered graphs.now query.now ledger.old ledger.new) }
+    ensures halted { IfErr result (IsHalted graphs.now query.now ledger.old ledger.new) }
 {
     ask_watched(alloc, graphs, query, ledger, watch)
 }
@@ -162,12 +154,8 @@ fn ask_cones<W: Watch>(
     requires not_spent { ledger.old.spent ≡ false }
     ensures own { stock.new.held.items ≡ query.now ∷ [] }
     ensures hold { HoldUnder graphs.now query.now stock.new.lines.items }
-    ensures answer { IfOk result (IsAnswer graphs.now query.now) }
-    ensures asked { IfOk result (λ _. IsAskedBy graphs.now query.now ledger.old ledger.new) }
-    ensures not_spent { IfOk result (λ _. ledger.new.spent ≡ false) }
-    ensures stop { IfErr result (IsStoppedBy graphs.now query.now ledger.old ledger.new) }
-    ensures bounded { IfOk result (λ _. IsBounded graphs.now query.now ledger.new) }
-    ensures bounded_stop { IfErr result (IsBoundedStop graphs.now query.now ledger.new) }
+    ensures answered { IfOk result (IsAnswered graphs.now query.now ledger.old ledger.new) }
+    ensures halted { IfErr result (IsHalted graphs.now query.now ledger.old ledger.new) }
 {
     let base = QueryBase::new(alloc, graphs, query)?;
     let lemmas = lemmas_for(alloc, cones, &base, stock)?;
@@ -198,18 +186,15 @@ fn ask_by<W: Watch>(
     requires not_spent { ledger.old.spent ≡ false }
     ensures own { stock.new.held.items ≡ query.now ∷ [] }
     ensures hold { HoldUnder graphs.now query.now stock.new.lines.items }
-    ensures answer { IfOk result (IsAnswer graphs.now query.now) }
-    ensures asked { IfOk result (λ _. IsAskedBy graphs.now query.now ledger.old ledger.new) }
-    ensures not_spent { IfOk result (λ _. ledger.new.spent ≡ false) }
-    ensures stop { IfErr result (IsStoppedBy graphs.now query.now ledger.old ledger.new) }
-    ensures bounded { IfOk result (λ _. IsBounded graphs.now query.now ledger.new) }
-    ensures bounded_stop { IfErr result (IsBoundedStop graphs.now query.now ledger.new) }
+    ensures answered { IfOk result (IsAnswered graphs.now query.now ledger.old ledger.new) }
+    ensures halted { IfErr result (IsHalted graphs.now query.now ledger.old ledger.new) }
 {
     let progress = Progress {
         watch,
         budget: ledger.budget(),
         learned: ledger.learned(),
         lemmas: lemmas.lines.len() as u64,
+        next: 0,
     };
     let tried = &mut stock.tried;
     let lines = &lemmas.lines;
@@ -238,12 +223,8 @@ fn ask_new_pairs<W: Watch>(
     requires of_query { cones.now.query ≡ query.now }
     requires lemmas { MayGoOn (formula_of graphs.now query.now) lemmas.now }
     requires not_spent { ledger.old.spent ≡ false }
-    ensures answer { IfOk result (IsAnswer graphs.now query.now) }
-    ensures asked { IfOk result (λ _. IsAskedBy graphs.now query.now ledger.old ledger.new) }
-    ensures not_spent { IfOk result (λ _. ledger.new.spent ≡ false) }
-    ensures stop { IfErr result (IsStoppedBy graphs.now query.now ledger.old ledger.new) }
-    ensures bounded { IfOk result (λ _. IsBounded graphs.now query.now ledger.new) }
-    ensures bounded_stop { IfErr result (IsBoundedStop graphs.now query.now ledger.new) }
+    ensures answered { IfOk result (IsAnswered graphs.now query.now ledger.old ledger.new) }
+    ensures halted { IfErr result (IsHalted graphs.now query.now ledger.old ledger.new) }
 {
     let mut guide = NewPairs {
         base,

@@ -1,12 +1,13 @@
 -- What the effect of a clause says of literals on a trail.
-use Rattle.std.proofs.Common.{◌≡◌, ◌||◌, cond, Bool, true, false, List, All, None, Some, slice_index_or, inl, inr, refl, eq-eqb}
+use Rattle.std.proofs.Common.{◌≡◌, ◌||◌, cond, Bool, true, false, List, [], ◌∷◌, length, All, None, Some, slice_index_or, ◌⊎◌, inl, inr, refl, sym, ◌∙◌, ap, arith, eq-eqb, eqb-true}
 use Rattle.std.specs.List.{list_all}
 use Rattle.std.proofs.lemmas.List.Recursion.{and_from_places}
-use Rattle.std.proofs.lemmas.Bool.{or_left, or_right}
+use Rattle.std.proofs.lemmas.Bool.{false≢true, or_cases, or_left, or_right}
+use Rattle.std.proofs.lemmas.List.Elements.{All-cons, All-nil}
 use Rattle.cnf_core.specs.declared.literal.SatLit.{SatLit}
 use Rattle.cnf_core.specs.Derivations.{is_same, is_true, is_false}
 use Rattle.trail_core.specs.Trails.{value_in}
-use Rattle.watch_lists.specs.Looks.{IsOut}
+use Rattle.watch_lists.specs.Looks.{IsHalfFalse, IsOut}
 pub use Rattle.cnf_core.proofs.LiteralLemmas.{same_itself, same_literal}
 pub use Rattle.cnf_core.proofs.EffectLemmas.{IsMaker, all_false, conflict_from, conflict_says, known_at, makes_from, makes_says, neither_true, neither_two, not_neither, open_ones}
 
@@ -26,3 +27,30 @@ value_false made l e = by_tests (is_true made l) (is_false made l) e
     by_tests true f h = absurd (let x : Some true ≡ Some false = h in cc)
     by_tests false true h = refl
     by_tests false false h = absurd (let x : None ≡ Some false = h in cc)
+
+-- a literal of a clause of two is the first or the second
+one_of_two : (l a b : SatLit) → is_true (a ∷ b ∷ []) l ≡ true → (is_same l a ≡ true) ⊎ (is_same l b ≡ true)
+one_of_two l a b there = elim (or_cases (is_same l a) (is_same l b || false) there) [
+  | inl first ↦ inl first
+  | inr later ↦ elim (or_cases (is_same l b) false later) [ inl second ↦ inr second | inr none ↦ absurd (false≢true none) ]
+]
+
+all_two : (made : List SatLit) (l a b : SatLit) → IsOut made l a → IsOut made l b → All (IsOut made l) (a ∷ b ∷ [])
+all_two made l a b first second =
+    All-cons (IsOut made l) a (b ∷ []) first (All-cons (IsOut made l) b [] second (All-nil (IsOut made l)))
+
+-- a binary clause has no literal beside its two watched ones
+pub binary_out : (made clause : List SatLit) (l : SatLit) → length clause ≡ 2 → IsHalfFalse made clause l → All (IsOut made l) clause
+binary_out made [] l two half = absurd (omega (arith, two))
+binary_out made (a ∷ []) l two half = absurd (omega (arith, two))
+binary_out made (a ∷ b ∷ []) l two half = elim (one_of_two l a b half.other_there) [
+  | inl mine ↦ elim (one_of_two half.falsified a b half.there) [
+    | inl same ↦ absurd (half.differs (eqb-true half.falsified.0 a.0 same ∙ sym (eqb-true l.0 a.0 mine)))
+    | inr fallen ↦ all_two made l a b (inr (eqb-true l.0 a.0 mine)) (inl (ap (is_false made) (sym (same_literal half.falsified b fallen)) ∙ half.fails))
+  ]
+  | inr mine ↦ elim (one_of_two half.falsified a b half.there) [
+    | inl fallen ↦ all_two made l a b (inl (ap (is_false made) (sym (same_literal half.falsified a fallen)) ∙ half.fails)) (inr (eqb-true l.0 b.0 mine))
+    | inr same ↦ absurd (half.differs (eqb-true half.falsified.0 b.0 same ∙ sym (eqb-true l.0 b.0 mine)))
+  ]
+]
+binary_out made (a ∷ b ∷ x ∷ clause) l two half = absurd (omega (arith, two))

@@ -10,7 +10,7 @@ use Rattle.trail_core.specs.Trails.{IsTrail, Trailing, entry_at, literals, nothi
 use Rattle.trail_core.proofs.TrailLemmas.{place_of_true, true_at}
 use Rattle.watch_lists.specs.declared.threads.Watch.{Watch}
 use Rattle.watch_lists.specs.declared.threads.Head.{Head}
-use Rattle.watch_lists.specs.Looks.{IsBeside, IsTarget}
+use Rattle.watch_lists.specs.Looks.{IsBeside, IsHalfFalse, IsTarget}
 use Rattle.watch_lists.specs.Propagations.{AreKnown, IsReason, IsSound}
 use Rattle.watch_lists.specs.Threads.{AreAlike, IsAttached, IsIn, head_at, literal_at, no_watch, partner}
 use Rattle.watch_lists.specs.Watched.{AreOfClauses, IsHeld, IsPresent, IsWalking, IsWatched}
@@ -295,3 +295,15 @@ other_there clauses ws hs t f s out is =
     let back : IsAttached ws (partner s) = λ e. front.attached (ap (λ k. (literal_at ws k).0) (sym (partner_twice s)) ∙ sym e) in
     let half : partner s / 2 ≡ s / 2 = omega arith in
     ap (λ k. is_true (clause_at clauses k) (literal_at ws (partner s))) (sym half) ∙ is.of_clauses.of (partner s) (partner_within ws s is.threaded.even front.within) back
+
+-- the clause that is looked at has the other watch's literal, and the false one
+pub half_false : (clauses : List (List SatLit)) (ws : List Watch) (hs : List Head) (t : Trailing) (f : SatLit) (s : ℕ) (out : List ℕ) → IsWalking clauses ws hs t f (s ∷ out) → IsHalfFalse (literals t.entries) (clause_at clauses (s / 2)) (literal_at ws (partner s))
+half_false clauses ws hs t f s out is =
+    let front = is.threaded.out_nowhere s (inl refl) in
+    record {
+      falsified = f;
+      there = ap (is_true (clause_at clauses (s / 2))) (sym (is.left_watch s (inl refl))) ∙ is.of_clauses.of s front.within front.attached;
+      fails = false_at t.entries t.walked f is.there is.falsity;
+      differs = partner_differs clauses ws hs t f s out is;
+      other_there = other_there clauses ws hs t f s out is;
+    }

@@ -1,5 +1,6 @@
 pub mod Feet
 pub mod Looks
+pub mod Arenas
 pub mod Propagations
 pub mod Threads
 pub mod Watched

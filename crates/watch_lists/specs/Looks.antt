@@ -22,6 +22,14 @@ IsOut made other literal = (is_false made literal ≡ true) ⊎ (other.0 ≡ lit
 abbrev pub IsIn : List SatLit → SatLit → SatLit → Type 0
 IsIn made other literal = (is_false made literal ≡ false) × (literal.0 ≢ other.0)
 
+-- A clause has this literal and another one, which is false.
+pub record IsHalfFalse (made clause : List SatLit) (other : SatLit) : Type 0 where
+  pub falsified : SatLit
+  pub there : is_true clause falsified ≡ true
+  pub fails : is_false made falsified ≡ true
+  pub differs : falsified.0 ≢ other.0
+  pub other_there : is_true clause other ≡ true
+
 -- All literals but one are false, and that one is unassigned.
 pub record IsLeft (trail : Trailing) (clause : List SatLit) (literal : SatLit) : Type 0 where
   pub makes : effect_of (literals trail.entries) clause ≡ Makes literal

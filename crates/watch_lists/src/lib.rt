@@ -1,6 +1,7 @@
 //! Propagation by two watched literals of each clause (Moskewicz and others, Chaff, 2001; Eén and Sörensson, MiniSat, 2003).
 #![tactic(auto)]
 
+mod arena;
 mod looking;
 mod threads;
 mod watches;

@@ -1,15 +1,16 @@
 //! What a clause does on a trail, by one of its literals.
 
-ghost use Rattle.std.specs.Prelude.{◌≡◌, ◌≢◌, ◌<◌, true, false, All, IfSome, IfNone};
+ghost use Rattle.std.specs.Prelude.{◌≡◌, ◌≢◌, ◌<◌, true, false, All, IfSome, IfNone, length};
 ghost use Rattle.cnf_core.specs.declared.effect.Effect.TheVariants.{Conflict as AllFalse};
-ghost use Rattle.cnf_core.specs.Clauses.{variable_of};
+ghost use Rattle.cnf_core.specs.Clauses.{clause_at, variable_of};
 ghost use Rattle.cnf_core.specs.Derivations.{effect_of, is_false, is_true};
 ghost use Rattle.trail_core.specs.Trails.{literals};
 ghost use Rattle.watch_lists.specs.Propagations.{AreKnown};
-ghost use Rattle.watch_lists.specs.Looks.{IsBeside, IsIn, IsLook, IsOut, IsTarget};
+ghost use Rattle.watch_lists.specs.Looks.{IsBeside, IsHalfFalse, IsIn, IsLook, IsOut, IsTarget};
 ghost use Rattle.watch_lists.specs.Feet.{ArePair, IsAtTop, IsElsewhere, IsFallen, IsFoot, IsMade, IsNotAtTop, IsOpen, IsReached, IsSettled};
 ghost use Rattle.watch_lists.specs.Watched.{IsRooted};
 
+use crate::arena::Arena;
 use cnf_core::SatLit;
 use trail_core::Trail;
 
@@ -30,18 +31,19 @@ pub(crate) enum Look {
 /// true or is made true. None where all literals are false.
 pub(crate) fn target(
     trail: &mut Trail,
-    clause: &[SatLit],
+    clauses: &Arena,
     id: u64,
     other: SatLit,
     falsified: SatLit,
 ) -> Option<SatLit>
-    requires known { AreKnown trail.old.variables clause.now }
-    requires there { is_true clause.now other ≡ true }
-    ensures target { IfSome result (IsTarget trail.old trail.new clause.now id other falsified) }
-    ensures conflict { IfNone result (effect_of (literals trail.old.entries) clause.now ≡ AllFalse) }
+    requires there { id < length clauses.now.clauses }
+    requires known { AreKnown trail.old.variables (clause_at clauses.now.clauses id) }
+    requires half { IsHalfFalse (literals trail.old.entries) (clause_at clauses.now.clauses id) other }
+    ensures target { IfSome result (IsTarget trail.old trail.new (clause_at clauses.now.clauses id) id other falsified) }
+    ensures conflict { IfNone result (effect_of (literals trail.old.entries) (clause_at clauses.now.clauses id) ≡ AllFalse) }
     ensures same { IfNone result (trail.new ≡ trail.old) }
 {
-    match look_at(trail, clause, other) {
+    match look_at(trail, clauses, id, other) {
         Look::Holds => Some(falsified),
         Look::Open(open) => Some(open),
         Look::Unit => {
@@ -52,23 +54,38 @@ pub(crate) fn target(
     }
 }
 
-// What a clause does, by one of its literals.
-fn look_at(trail: &Trail, clause: &[SatLit], other: SatLit) -> Look
-    requires known { AreKnown trail.now.variables clause.now }
-    requires there { is_true clause.now other ≡ true }
-    ensures { IsLook trail.now clause.now other result }
+// What a clause does, by one of its watched literals, where the other one is false.
+fn look_at(trail: &Trail, clauses: &Arena, id: u64, other: SatLit) -> Look
+    requires there { id < length clauses.now.clauses }
+    requires known { AreKnown trail.now.variables (clause_at clauses.now.clauses id) }
+    requires half { IsHalfFalse (literals trail.now.entries) (clause_at clauses.now.clauses id) other }
+    ensures { IsLook trail.now (clause_at clauses.now.clauses id) other result }
 {
     match trail.value(other) {
         Some(true) => Look::Holds,
-        Some(false) => match beside(trail, clause, other) {
+        Some(false) => match third(trail, clauses, id, other) {
             Some(open) => Look::Open(open),
             None => Look::Conflict,
         },
-        None => match beside(trail, clause, other) {
+        None => match third(trail, clauses, id, other) {
             Some(open) => Look::Open(open),
             None => Look::Unit,
         },
     }
+}
+
+// A literal of a clause that isn't false, beside a watched one, where the other watched one is false. A binary clause has
+// none.
+fn third(trail: &Trail, clauses: &Arena, id: u64, other: SatLit) -> Option<SatLit>
+    requires there { id < length clauses.now.clauses }
+    requires half { IsHalfFalse (literals trail.now.entries) (clause_at clauses.now.clauses id) other }
+    ensures found { IfSome result (IsBeside (literals trail.now.entries) (clause_at clauses.now.clauses id) other) }
+    ensures none { IfNone result (All (IsOut (literals trail.now.entries) other) (clause_at clauses.now.clauses id)) }
+{
+    if clauses.is_binary(id) {
+        return None;
+    }
+    beside(trail, clauses.get(id), other)
 }
 
 /// A literal of a clause that isn't false, beside another one. The first is as good as any: the literals that became false

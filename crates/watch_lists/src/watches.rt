@@ -9,6 +9,7 @@ ghost use Rattle.watch_lists.specs.Feet.{IsReached};
 ghost use Rattle.watch_lists.specs.Threads.{IsAttached, links, no_head};
 ghost use Rattle.watch_lists.specs.Watched.{AreQuiet, Fits, IsCovered, IsPresent, IsReady, IsRewatched, IsWalking, StayAttached, with_clause};
 
+use crate::arena::Arena;
 use crate::looking::{Foot, find_foot, target};
 use crate::threads::{Head, Rest, Threads, partner};
 use cnf_core::{ClauseStore, SatLit};
@@ -22,7 +23,7 @@ use trail_core::Trail;
 #[derive(Drop)]
 pub struct Watches {
     variables: u64,
-    clauses: ClauseStore,
+    clauses: Arena,
     threads: Threads,
 }
 
@@ -49,7 +50,7 @@ impl Watches {
         };
         Ok(Watches {
             variables,
-            clauses: ClauseStore::new(alloc),
+            clauses: Arena::new(alloc),
             threads,
         })
     }
@@ -74,7 +75,7 @@ impl Watches {
         ensures clauses { result.now.clauses ≡ self.now.clauses }
         ensures known { All (AreKnown self.now.variables) self.now.clauses }
     {
-        &self.clauses
+        self.clauses.store()
     }
 
     /// The literals of a clause, in the order in which it has them.
@@ -158,7 +159,7 @@ fn no_heads(alloc: Global, count: usize) -> Result<Vec<Head>, AllocError>
 // Looks at the next clause of a list of watches whose literal became false. Some: a clause all of whose literals are
 // false, and nothing changes.
 fn visit(
-    clauses: &ClauseStore,
+    clauses: &Arena,
     threads: &mut Threads,
     trail: &mut Trail,
     literal: SatLit,
@@ -181,7 +182,7 @@ fn visit(
     let watch = rest.at;
     let id = (watch / 2) as u64;
     let other = threads.watches[partner(watch)].literal;
-    let Some(moved) = target(trail, clauses.get(id), id, other, literal) else {
+    let Some(moved) = target(trail, clauses, id, other, literal) else {
         return Some(id);
     };
     let _walked = trail.walked();
@@ -191,12 +192,7 @@ fn visit(
 
 // Goes over the clauses that watch a literal, whose opposite is the next one to be walked. Some: a clause all of whose
 // literals are false.
-fn walk(
-    clauses: &ClauseStore,
-    threads: &mut Threads,
-    trail: &mut Trail,
-    literal: SatLit,
-) -> Option<u64>
+fn walk(clauses: &Arena, threads: &mut Threads, trail: &mut Trail, literal: SatLit) -> Option<u64>
     requires ready { IsReady clauses.now.clauses threads.old.watches.items threads.old.heads.items trail.old }
     requires there { trail.old.walked < length trail.old.entries }
     requires falsity { (entry_at trail.old.entries trail.old.walked).literal.0 ≡ (opposite literal).0 }
@@ -221,7 +217,7 @@ fn walk(
 }
 
 // Walks all literals of a trail that aren't walked. Some: a clause all of whose literals are false.
-fn walk_all(clauses: &ClauseStore, threads: &mut Threads, trail: &mut Trail) -> Option<u64>
+fn walk_all(clauses: &Arena, threads: &mut Threads, trail: &mut Trail) -> Option<u64>
     requires ready { IsReady clauses.now.clauses threads.old.watches.items threads.old.heads.items trail.old }
     ensures ready { IsReady clauses.now.clauses threads.new.watches.items threads.new.heads.items trail.new }
     ensures walked { IfNone result (trail.new.walked ≡ length trail.new.entries) }

@@ -1,7 +1,7 @@
 -- A query's answer is that of a solver for the clauses of its cones.
 use Rattle.std.proofs.Common.{◌≡◌, Bool, List, sym, subst}
-use Rattle.learn_solver.specs.declared.verdict.Verdict.{Verdict}
-use Rattle.learn_solver.specs.Solvers.{IsVerdict}
+use Rattle.learn_solver.specs.declared.verdict.Finding.{Finding}
+use Rattle.learn_solver.specs.Findings.{IsFinding}
 use Rattle.learn_solver.proofs.StepLemmas.{passed_on}
 use Rattle.query_core.specs.ConeClauses.{MeetsCones}
 use Rattle.query_core.specs.Ledgers.{charging_of}
@@ -28,7 +28,7 @@ vector_of-requires-clause-meets g c =
     let s = c.in_ok-solver.solver in
     let new = c.solve_guided.new.solver in
     let of = made_of_base graphs query lemmas c.args.cones.now c.in_ok-base.base c.ids.result.now s c.requires.of_graphs c.requires.of_query c.in_ok-base.ensures c.ids.ensures.value c.ids.ensures.are c.requires.derived c.in_ok-solver.ensures in
-    let model = subst (λ (v : Verdict). IsVerdict new v) c.in-Model.is c.in_ok-values.ensures.verdict in
+    let model = subst (λ (v : Finding). IsFinding new v) c.in-Model.is c.in_ok-values.ensures.found in
     subst (λ (bs : List Bool). MeetsCones graphs query bs) (sym c.deref.ensures.value) (meets_cones graphs query lemmas s new (charging_of c.open.new.self) (charging_of c.solve_guided.new.ledger) c.in-Model.values of c.in_ok-values.ensures.lines model.meets)
 
 pub returns-in-Model-clause-asked : goal.returns-in-Model-clause-asked

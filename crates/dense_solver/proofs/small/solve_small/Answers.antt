@@ -14,7 +14,7 @@ pub returns-clause-found : goal.returns-clause-found
 returns-clause-found g c =
     let small = small_formula c.args.dense.now in
     let all : IsAll small c.in_ok-solver.solver = record { is = c.in_ok-solver.ensures ∙ ap (λ (ids : List ℕ). record { formula = small; ids = ids; lines = [] }) (c.deref.ensures.value ∙ (c.in_ok-numbers.ensures ∙ ap (numbers_of [] 0) c.count.ensures.value)) } in
-    small_found small c.in_ok-solver.solver c.solve_guided.new.solver c.args.tab.now c.solve_guided.new.ledger c.solve_guided.result all c.solve_guided.ensures.lines c.solve_guided.ensures.verdict
+    small_found small c.in_ok-solver.solver c.solve_guided.new.solver c.args.tab.now c.solve_guided.new.ledger c.solve_guided.result all c.solve_guided.ensures.lines c.solve_guided.ensures.found
 
 pub returns-clause-learned : goal.returns-clause-learned
 returns-clause-learned g c =

@@ -1,8 +1,9 @@
 -- A search begins, is prepared and goes on to its end.
 use Rattle.std.proofs.Common.{◌≡◌, Option, MatchOption, subst, ap, ◌∙◌}
-use Rattle.learn_solver.specs.declared.verdict.Verdict.{Verdict}
+use Rattle.learn_solver.specs.declared.verdict.Finding.{Finding}
+use Rattle.learn_solver.specs.Findings.{IsFinding}
 use Rattle.learn_solver.specs.Searches.{IsRunning}
-use Rattle.learn_solver.specs.Solvers.{IsStopped, IsVerdict, Solving}
+use Rattle.learn_solver.specs.Solvers.{IsStopped, Solving}
 use Rattle.learn_solver.specs.Starts.{IsBegun}
 use Rattle.learn_solver.proofs.AdvanceLemmas.{extended_twice, stopped_after, under_way}
 use Rattle.learn_solver.proofs.StepLemmas.{passed_on}
@@ -21,17 +22,17 @@ pub finish-requires-clause-running : goal.finish-requires-clause-running
 finish-requires-clause-running g c =
     let s = c.prepare.new.self in
     let now = c.prepare.new.search in
-    subst (λ (a : Option Verdict). MatchOption a (IsRunning s now.trail now.watches now.tools) (IsVerdict s)) c.in_default-2.is c.in_ok-early.ensures.answer
+    subst (λ (a : Option Finding). MatchOption a (IsRunning s now.trail now.watches now.tools) (IsFinding s)) c.in_default-2.is c.in_ok-early.ensures.gone.answer_is
 
-pub returns-in_err-verdict-clause-stop : goal.returns-in_err-verdict-clause-stop
-returns-in_err-verdict-clause-stop g c =
+pub returns-in_err-found-clause-stop : goal.returns-in_err-found-clause-stop
+returns-in_err-found-clause-stop g c =
     let charging = g.L.Charge.charging in
     let first = charging c.args.ledger.now in
     let after = charging c.finish.new.ledger in
-    let stop = c.in_err-verdict.field-0.0 in
-    passed_on c.from_residual-in_err-verdict.result stop (IsStopped c.args.solver.now c.finish.new.self first after) c.from_residual-in_err-verdict.ensures.1 (stopped_after c.args.solver.now c.prepare.new.self c.finish.new.self first (charging c.prepare.new.ledger) after stop c.in_ok-early.ensures.extended c.in_err-verdict.ensures.stop)
+    let stop = c.in_err-found.field-0.0 in
+    passed_on c.from_residual-in_err-found.result stop (IsStopped c.args.solver.now c.finish.new.self first after) c.from_residual-in_err-found.ensures.1 (stopped_after c.args.solver.now c.prepare.new.self c.finish.new.self first (charging c.prepare.new.ledger) after stop c.in_ok-early.ensures.gone.extended c.in_err-found.ensures.stop)
 
 pub returns-clause-lines : goal.returns-clause-lines
 returns-clause-lines g c =
     let charging = g.L.Charge.charging in
-    extended_twice c.args.solver.now c.prepare.new.self c.finish.new.self (charging c.args.ledger.now) (charging c.prepare.new.ledger) (charging c.finish.new.ledger) c.in_ok-early.ensures.extended c.in_ok-verdict.ensures.extended
+    extended_twice c.args.solver.now c.prepare.new.self c.finish.new.self (charging c.args.ledger.now) (charging c.prepare.new.ledger) (charging c.finish.new.ledger) c.in_ok-early.ensures.gone.extended c.in_ok-found.ensures.extended

@@ -6,20 +6,25 @@ use Rattle.ask_core.specs.Answers.{IsAskedIn, IsStopped}
 use Rattle.ask_core.proofs.AskLemmas.{whole_of}
 use Rattle.shared_lemmas.specs.Shared.{IsAskedBy, IsStoppedBy}
 use Rattle.shared_lemmas.proofs.AloneLemmas.{stopped_by}
+use Rattle.shared_lemmas.proofs.AnswerLemmas.{answered_from, halted_from}
 use Rattle.shared_lemmas.proofs.shared.ask_alone.Goals as goal
 
-pub returns-clause-asked : goal.returns-clause-asked
-returns-clause-asked g c =
+pub returns-clause-answered : goal.returns-clause-answered
+returns-clause-answered g c =
     let graphs = c.args.graphs.now in
     let query = c.args.query.now in
     let before = c.args.ledger.now in
     let after = c.ask_watched.new.ledger in
-    IfOk-weaker c.ask_watched.result (λ (a : Answer). IsAskedIn graphs query before after) (λ (a : Answer). IsAskedBy graphs query before after) (λ a is. record { lemmas = is.lemmas; with_them = whole_of graphs query before after is }) c.ask_watched.ensures.asked
+    let r = c.ask_watched.result in
+    let e = c.ask_watched.ensures in
+    answered_from graphs query before after r e.answer (IfOk-weaker r (λ (a : Answer). IsAskedIn graphs query before after) (λ (a : Answer). IsAskedBy graphs query before after) (λ a is. record { lemmas = is.lemmas; with_them = whole_of graphs query before after is }) e.asked) e.not_spent e.bounded
 
-pub returns-clause-stop : goal.returns-clause-stop
-returns-clause-stop g c =
+pub returns-clause-halted : goal.returns-clause-halted
+returns-clause-halted g c =
     let graphs = c.args.graphs.now in
     let query = c.args.query.now in
     let before = c.args.ledger.now in
     let after = c.ask_watched.new.ledger in
-    IfErr-weaker c.ask_watched.result (IsStopped graphs query before after) (IsStoppedBy graphs query before after) (λ (s : Stop) is. stopped_by graphs query before after s is) c.ask_watched.ensures.stop
+    let r = c.ask_watched.result in
+    let e = c.ask_watched.ensures in
+    halted_from graphs query before after r (IfErr-weaker r (IsStopped graphs query before after) (IsStoppedBy graphs query before after) (λ (s : Stop) is. stopped_by graphs query before after s is) e.stop) e.bounded_stop
