@@ -1,5 +1,5 @@
--- Bans that vectors show are a last resort: facts about single inputs show none of the pairs (unateness and support of functions, as in
--- textbooks of logic synthesis; a match keeps both: Katebi and Markov, DATE 2010).
+-- Bans that vectors show are a last resort: facts about single inputs show none of the pairs (unateness and support of
+-- functions, as in textbooks of logic synthesis; a match keeps both: Katebi and Markov, DATE 2010).
 use Rattle.std.specs.Prelude.{◌≡◌, ◌≢◌, ℕ, ◌<◌, ⊤, Bool, List, [], All, AllPairs, Contains}
 use Rattle.circuits.specs.declared.port.Pair.{Pair}
 use Rattle.circuits.specs.declared.port.PortKind.TheVariants.{Output}
