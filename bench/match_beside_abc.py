@@ -22,8 +22,14 @@ KINDS = ("permuted", "negated", "other", "gate", "output")
 BESIDE = ("permuted", "gate")  # no port of these is negated, so that bm can answer them
 
 
+class NotMade(Exception):
+    """A tool that makes circuits was ended by a signal, as ABC of Debian 12 is by its own assertion on some."""
+
+
 def tool(*command, seconds=600):
     ran = subprocess.run(command, capture_output=True, text=True, preexec_fn=lambda: limits(seconds))
+    if ran.returncode < 0:
+        raise NotMade(f"{command}: {ran.stdout} {ran.stderr}")
     if ran.returncode != 0:
         sys.exit(f"{command}: {ran.stdout} {ran.stderr}")
     return ran.stdout
@@ -95,6 +101,14 @@ class Bench:
             return first, second, netlists.match_by_trying(first, second), "tried"
         return first, second, False if why else None, why or "unknown"
 
+    def made(self, circuit, kind):
+        """The pair, and nothing where a tool ended without making it, which is said."""
+        try:
+            return self.pair(circuit, kind)
+        except NotMade as ended:
+            print(f"{circuit.name} {kind}: not made: {ended}", file=sys.stderr, flush=True)
+            return None
+
     # ---- what is answered
 
     def is_match(self, first, second, printed):
@@ -157,7 +171,7 @@ class Bench:
     def write(self, circuit, kinds, folder):
         """Writes the pairs of a circuit as files, for other programs."""
         for kind in kinds:
-            pair = self.pair(circuit, kind)
+            pair = self.made(circuit, kind)
             if pair is not None:
                 for side, net in zip("ab", pair):
                     netlists.to_text(net, os.path.join(folder, f"{circuit.name}_{kind}_{side}.aag"))
@@ -170,7 +184,7 @@ class Bench:
             beside = not self.choices.no_bm and kind in BESIDE and ("bm", circuit.name, kind) not in done
             if not wanted and not beside:
                 continue
-            pair = self.pair(circuit, kind)
+            pair = self.made(circuit, kind)
             if pair is None:
                 continue
             first, second, known, why = pair
