@@ -10,9 +10,9 @@ use Rattle.account_core.specs.declared.fact.FactHead.TheVariants as head
 use Rattle.account_file.specs.declared.place.Place.{Place}
 use Rattle.account_file.specs.declared.record.Record.{Record}
 use Rattle.account_file.specs.declared.record.Record.TheVariants as record_of
-use Rattle.account_file.specs.Order.{place_after, place_after_one, place_behind}
+use Rattle.account_file.specs.Order.{place_after, place_after_one, next_place}
 use Rattle.account_check.specs.Logs.{OpenFact}
-use Rattle.account_check.specs.Accounts.{Account, account_after, after, behind_line, empty_account}
+use Rattle.account_check.specs.Accounts.{Account, account_after, after, rest_after_line, empty_account}
 
 -- one record more
 pub account_after-push : (graphs : Graphs) (records : List Record) (entry : Record) → account_after graphs (records ++ entry ∷ []) ≡ after (account_after graphs records) entry
@@ -23,7 +23,7 @@ if_graphs : (b : Bool) (x y : Account) (graphs : Graphs) → x.graphs ≡ graphs
 if_graphs true x y graphs first second = first
 if_graphs false x y graphs first second = second
 
-line_graphs : (account : Account) (fact : Option OpenFact) (line : LogLine) → (behind_line account fact line).graphs ≡ account.graphs
+line_graphs : (account : Account) (fact : Option OpenFact) (line : LogLine) → (rest_after_line account fact line).graphs ≡ account.graphs
 line_graphs account None line = refl
 line_graphs account (Some fact) line = if_graphs (is_empty line.clause) _ _ account.graphs refl refl
 
@@ -59,9 +59,9 @@ no_place p e = cc
 places_follow : (account : Account) (records : List Record) (place : Place) → fold place_after_one (Some account.place) records ≡ Some place → (fold after account records).place ≡ place
 places_follow account [] place e = some_place account.place place e
 places_follow account (entry ∷ records) place e =
-    by (place_behind account.place entry) refl (places_follow (after account entry) records place)
+    by (next_place account.place entry) refl (places_follow (after account entry) records place)
   where
-    by : (o : Option Place) → place_behind account.place entry ≡ o → (fold place_after_one (Some (after account entry).place) records ≡ Some place → (fold after account (entry ∷ records)).place ≡ place) → (fold after account (entry ∷ records)).place ≡ place
+    by : (o : Option Place) → next_place account.place entry ≡ o → (fold place_after_one (Some (after account entry).place) records ≡ Some place → (fold after account (entry ∷ records)).place ≡ place) → (fold after account (entry ∷ records)).place ≡ place
     by None is go =
         absurd (no_place place (sym (none_stays records) ∙ (ap (λ o. fold place_after_one o records) (sym is) ∙ e)))
     by (Some p) is go =

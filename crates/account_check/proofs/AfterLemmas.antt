@@ -7,7 +7,7 @@ use Rattle.account_core.specs.declared.conclusion.Conclusion.TheVariants as conc
 use Rattle.account_core.specs.Given.{Given}
 use Rattle.account_file.specs.declared.place.Place.TheVariants as place
 use Rattle.account_file.specs.declared.record.Record.TheVariants as entry
-use Rattle.account_file.specs.Order.{logs_asked, place_behind}
+use Rattle.account_file.specs.Order.{logs_asked, next_place}
 use Rattle.account_check.specs.declared.checker.Stage.{Stage}
 use Rattle.account_check.specs.declared.checker.Stage.TheVariants as stage
 use Rattle.account_check.specs.Logs.{log_count, unproved}
@@ -29,7 +29,7 @@ kept graphs given stage = record {
 }
 
 -- a match, whose logs follow
-pub match_after : (graphs : Graphs) (given : Given) (now : Stage) (logs : MatchLogs) (matching : Matching) (pairs : List Pair) → IsSome (place_behind (place_of now) (entry.Conclusion (conclusion.Match pairs))) → logs ≡ record { graphs = graphs; proof = unproved matching } → matching ≡ matching_of graphs.first.inputs pairs → AreInOrder graphs.first pairs → kept graphs given (stage.Proving logs) ≡ after (kept graphs given now) (entry.Conclusion (conclusion.Match pairs))
+pub match_after : (graphs : Graphs) (given : Given) (now : Stage) (logs : MatchLogs) (matching : Matching) (pairs : List Pair) → IsSome (next_place (place_of now) (entry.Conclusion (conclusion.Match pairs))) → logs ≡ record { graphs = graphs; proof = unproved matching } → matching ≡ matching_of graphs.first.inputs pairs → AreInOrder graphs.first pairs → kept graphs given (stage.Proving logs) ≡ after (kept graphs given now) (entry.Conclusion (conclusion.Match pairs))
 match_after graphs given stage.Empty logs matching pairs may made is order = cc
 match_after graphs given stage.Begun logs matching pairs may made is order =
     let m = matching_of graphs.first.inputs pairs in

@@ -12,13 +12,13 @@ use Rattle.account_file.specs.declared.fault.FileStop.{FileStop}
 use Rattle.account_file.specs.declared.fault.FileStop.TheVariants as file
 use Rattle.account_file.specs.declared.place.Place.TheVariants as place
 use Rattle.account_file.specs.Lines.{whole_lines}
-use Rattle.account_file.specs.Order.{place_behind}
+use Rattle.account_file.specs.Order.{next_place}
 use Rattle.account_file.specs.Accounts.{AreRecords, IsNextRecord, SaysNext}
 use Rattle.account_file.specs.Reading.{Reading, HasRead, given_by}
 use Rattle.account_file.specs.Texts.{Says}
 use Rattle.account_file.proofs.LawLemmas.{as_many}
 use Rattle.account_file.proofs.LineLemmas.{lines_stay}
-use Rattle.account_file.proofs.OrderLemmas.{place_behind_last}
+use Rattle.account_file.proofs.OrderLemmas.{place_after_last}
 use Rattle.account_file.proofs.ReadingLemmas.{fault_stays}
 use Rattle.account_check.specs.declared.reject.Reject.{Reject}
 use Rattle.account_check.specs.declared.reject.RecordStop.{RecordStop}
@@ -40,11 +40,11 @@ next_line records new bytes count read fault is count_is =
     read.line ∙ (ap (λ f. length records + cond (is_some f) 1 0) is ∙ sym count_is)
 
 -- a record that may stand next
-pub may_stand : (finished : Bool) (graphs : Graphs) (bytes : List ℕ) (reading : Reading) (account : Account) (entry : Record) → (so_far : IsChecking finished graphs bytes reading account) → IsNextRecord bytes so_far.records entry → IsSome (place_behind account.place entry)
+pub may_stand : (finished : Bool) (graphs : Graphs) (bytes : List ℕ) (reading : Reading) (account : Account) (entry : Record) → (so_far : IsChecking finished graphs bytes reading account) → IsNextRecord bytes so_far.records entry → IsSome (next_place account.place entry)
 may_stand finished graphs bytes reading account entry so_far next =
     let place = reading.place in
     let there : account.place ≡ place = ap (λ (a : Account). a.place) so_far.account_is ∙ account_place graphs so_far.records place so_far.read.place in
-    subst IsSome (place_behind_last so_far.records entry place so_far.read.place ∙ ap (λ p. place_behind p entry) (sym there)) next.order
+    subst IsSome (place_after_last so_far.records entry place so_far.read.place ∙ ap (λ p. next_place p entry) (sym there)) next.order
 
 -- a record more was taken
 pub goes_on : (finished : Bool) (graphs : Graphs) (bytes : List ℕ) (old new : Reading) (account then : Account) (entry : Record) → (so_far : IsChecking finished graphs bytes old account) → HasRead new bytes (so_far.records ++ entry ∷ []) → new.finished ≡ old.finished → new.fault ≡ None → HasFault account entry None → then ≡ after account entry → IsChecking finished graphs bytes new then

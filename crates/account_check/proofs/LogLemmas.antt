@@ -36,7 +36,7 @@ derived_more formula lines line derived none k d below =
           let here = get_or_append_left lines (line ∷ []) d k before in
           let prior = take-append-le k lines (line ∷ []) (omega arith) in
           subst (λ l. line_fault formula (clauses_of (take k (lines ++ line ∷ []))) l ≡ None) (sym here) (subst (λ ls. line_fault formula (clauses_of ls) (slice_index_or lines k d) ≡ None) (sym prior) (derived k d before))
-      | inr behind ↦
+      | inr after ↦
           let last : k ≡ length lines = omega (arith, below, length-append lines (line ∷ [])) in
           let end : length lines + 0 ≡ k = omega (arith, last) in
           let here : slice_index_or (lines ++ line ∷ []) k d ≡ line = ap (λ j. slice_index_or (lines ++ line ∷ []) j d) (sym end) ∙ get_or-append-add lines (line ∷ []) 0 d in
@@ -75,7 +75,7 @@ pub refuted_more : (graphs : Graphs) (matching : Matching) (c : ℕ) → AreRefu
 refuted_more graphs matching c refuted one j below =
     elim (cases_lt j c) [
       | inl before ↦ refuted j before
-      | inr behind ↦
+      | inr after ↦
           let last : c ≡ j = omega arith in
           subst (λ k. IsRefuted graphs (log_query graphs matching k)) last one
     ]

@@ -20,10 +20,10 @@ use Rattle.account_file.specs.declared.place.Place.{Place}
 use Rattle.account_file.specs.declared.place.Place.TheVariants as place
 use Rattle.account_file.specs.declared.record.Record.{Record}
 use Rattle.account_file.specs.declared.record.Record.TheVariants as entry_of
-use Rattle.account_file.specs.Order.{logs_asked, logs_behind, place_after, place_in_log, place_after_one, place_behind}
+use Rattle.account_file.specs.Order.{logs_asked, logs_after, place_after, place_in_log, place_after_one, next_place}
 use Rattle.account_check.specs.declared.verdict.Verdict.{Verdict}
 use Rattle.account_check.specs.declared.verdict.Verdict.TheVariants as verdict
-use Rattle.account_check.specs.Accounts.{Account, AreValid, HasFault, account_after, behind, behind_conclusion, behind_line, empty_account}
+use Rattle.account_check.specs.Accounts.{Account, AreValid, HasFault, account_after, with_record, after_conclusion, rest_after_line, empty_account}
 use Rattle.account_check.specs.Conclusions.{AreWhole, ConclusionTests, matching_of}
 use Rattle.account_check.specs.Logs.{OpenFact, Proof, line_reject, log_count, with_fact, log_query, match_reject, unproved, with_line}
 use Rattle.account_check.specs.Proofs.{AreRefuted, IsLogSoFar}
@@ -61,7 +61,7 @@ log_at graphs matching c left ports counted some =
     log_begun graphs (log_query graphs matching c) (match_query_fits graphs matching (c / 2) (c % 2 == 0) ports (omega (arith, counted, some, ports.outputs.entries)))
 
 -- a line that is taken of the open log: the empty one closes it
-line_more : (graphs : Graphs) (proof : Proof) (line : LogLine) (left : ℕ) → 0 < left → AreLogsSoFar graphs proof left → None ≡ match_reject graphs proof line → AreLogsSoFar graphs (with_line proof line) (logs_behind left line.clause)
+line_more : (graphs : Graphs) (proof : Proof) (line : LogLine) (left : ℕ) → 0 < left → AreLogsSoFar graphs proof left → None ≡ match_reject graphs proof line → AreLogsSoFar graphs (with_line proof line) (logs_after left line.clause)
 line_more graphs proof line left some logs none =
     by line.clause refl
   where
@@ -71,7 +71,7 @@ line_more graphs proof line left some logs none =
     more : IsLogSoFar graphs query (proof.taken ++ line.clause ∷ [])
     more = log_more graphs query proof.taken line (logs.open_log some) (no_reject _ none)
 
-    by : (clause : List SatLit) → line.clause ≡ clause → AreLogsSoFar graphs (if is_empty clause then record { matching = proof.matching; closed = proof.closed + 1; taken = [] } else record { matching = proof.matching; closed = proof.closed; taken = proof.taken ++ line.clause ∷ [] }) (logs_behind left clause)
+    by : (clause : List SatLit) → line.clause ≡ clause → AreLogsSoFar graphs (if is_empty clause then record { matching = proof.matching; closed = proof.closed + 1; taken = [] } else record { matching = proof.matching; closed = proof.closed; taken = proof.taken ++ line.clause ∷ [] }) (logs_after left clause)
     by [] e =
         let refuted = refuted_by graphs query (proof.taken ++ line.clause ∷ []) more (last_empty proof.taken line.clause (ap is_empty e)) in
         let counted : proof.closed + 1 + (left - 1) ≡ log_count proof.matching = omega (arith, logs.counted, some) in
@@ -113,7 +113,7 @@ other_verdict matching e = cc
 same_matching : (a b : Matching) → ◌≡◌ {A = Option Verdict} (Some (verdict.Match a)) (Some (verdict.Match b)) → a ≡ b
 same_matching a b e = cc
 
-concluded : (account : Account) (x : Conclusion) → ConclusionTests account.graphs account.given x None → IsMatchSoFar (behind_conclusion account x) (logs_asked x)
+concluded : (account : Account) (x : Conclusion) → ConclusionTests account.graphs account.given x None → IsMatchSoFar (after_conclusion account x) (logs_asked x)
 concluded account conclusion.NonePorts tests = record {
   same = λ matching e. absurd (other_verdict matching e);
   logs = λ matching e. absurd (other_verdict matching e);
@@ -132,7 +132,7 @@ concluded account (conclusion.Match pairs) tests =
     }
 
 -- a line of a match's logs
-line_taken : (account : Account) (fact : Option OpenFact) (line : LogLine) (left : ℕ) → 0 < left → fact ≡ None → account.fact ≡ None → IsMatchSoFar account left → None ≡ line_reject account.graphs fact account.proof line → IsKnownAt (place.Logs (logs_behind left line.clause)) (behind_line account fact line)
+line_taken : (account : Account) (fact : Option OpenFact) (line : LogLine) (left : ℕ) → 0 < left → fact ≡ None → account.fact ≡ None → IsMatchSoFar account left → None ≡ line_reject account.graphs fact account.proof line → IsKnownAt (place.Logs (logs_after left line.clause)) (rest_after_line account fact line)
 line_taken account (Some fact) line left some closed none so_far fine = absurd (some_fact closed)
   where
     some_fact : ◌≡◌ {A = Option OpenFact} (Some fact) None → ⊥
@@ -153,7 +153,7 @@ line_taken account None line left some closed none so_far fine = (
     so_far_matching matching e = kept (is_empty line.clause) _ _ refl refl ∙ so_far.same matching e
 
 -- a line of a fact's log: after the empty one no fact is open
-fact_closed : (account : Account) (fact : Option OpenFact) (line : LogLine) (clause : List SatLit) → line.clause ≡ clause → account.fact ≡ fact → IsKnownAt (place_in_log clause) (behind_line account fact line)
+fact_closed : (account : Account) (fact : Option OpenFact) (line : LogLine) (clause : List SatLit) → line.clause ≡ clause → account.fact ≡ fact → IsKnownAt (place_in_log clause) (rest_after_line account fact line)
 fact_closed account fact line (literal ∷ clause) e is = tt
 fact_closed account None line [] e is = is
 fact_closed account (Some fact) line [] e is =
@@ -170,7 +170,7 @@ fact_closed account (Some fact) line [] e is =
     by false same = cc
 
 -- a conclusion opens no fact
-fact_stays : (account : Account) (x : Conclusion) → account.fact ≡ None → (behind_conclusion account x).fact ≡ None
+fact_stays : (account : Account) (x : Conclusion) → account.fact ≡ None → (after_conclusion account x).fact ≡ None
 fact_stays account conclusion.NonePorts e = e
 fact_stays account (conclusion.NoneBan ban) e = e
 fact_stays account (conclusion.Match pairs) e = e
@@ -192,22 +192,22 @@ no_place p e = cc
 known_there : (p q : Place) (account : Account) → Some p ≡ Some q → IsKnownAt p account → IsKnownAt q account
 known_there p q account e known = subst (λ (r : Place). IsKnownAt r account) (some_place p q e) known
 
-known_after : (at : Place) (account : Account) (entry : Record) (next : Place) → IsKnownAt at account → HasFault account entry None → place_behind at entry ≡ Some next → IsKnownAt next (behind account entry)
+known_after : (at : Place) (account : Account) (entry : Record) (next : Place) → IsKnownAt at account → HasFault account entry None → next_place at entry ≡ Some next → IsKnownAt next (with_record account entry)
 known_after place.Start account entry_of.Header next known fine e = known_there place.Headed next account e known
-known_after place.Headed account (entry_of.Fact (head.Fails claim bits)) next known fine e = known_there place.Headed next (behind account (entry_of.Fact (head.Fails claim bits))) e known
-known_after place.Headed account (entry_of.Fact (head.Holds claim)) next known fine e = known_there place.FactLog next (behind account (entry_of.Fact (head.Holds claim))) e tt
-known_after place.Headed account (entry_of.Ban ban) next known fine e = known_there place.Headed next (behind account (entry_of.Ban ban)) e known
+known_after place.Headed account (entry_of.Fact (head.Fails claim bits)) next known fine e = known_there place.Headed next (with_record account (entry_of.Fact (head.Fails claim bits))) e known
+known_after place.Headed account (entry_of.Fact (head.Holds claim)) next known fine e = known_there place.FactLog next (with_record account (entry_of.Fact (head.Holds claim))) e tt
+known_after place.Headed account (entry_of.Ban ban) next known fine e = known_there place.Headed next (with_record account (entry_of.Ban ban)) e known
 known_after place.Headed account (entry_of.Conclusion x) next known fine e =
-    known_there (place.Logs (logs_asked x)) next (behind_conclusion account x) e (fact_stays account x known, concluded account x fine)
+    known_there (place.Logs (logs_asked x)) next (after_conclusion account x) e (fact_stays account x known, concluded account x fine)
 known_after place.FactLog account (entry_of.Line line) next known fine e =
-    known_there (place_in_log line.clause) next (behind_line account account.fact line) e (fact_closed account account.fact line line.clause refl refl)
+    known_there (place_in_log line.clause) next (rest_after_line account account.fact line) e (fact_closed account account.fact line line.clause refl refl)
 known_after (place.Logs left) account (entry_of.Line line) next known fine e =
     by (left == 0) refl e
   where
-    by : (b : Bool) → (left == 0) ≡ b → (if b then None else Some (place.Logs (logs_behind left line.clause))) ≡ Some next → IsKnownAt next (behind_line account account.fact line)
+    by : (b : Bool) → (left == 0) ≡ b → (if b then None else Some (place.Logs (logs_after left line.clause))) ≡ Some next → IsKnownAt next (rest_after_line account account.fact line)
     by true zero_left e = absurd (no_place next e)
     by false some_left e =
-        known_there (place.Logs (logs_behind left line.clause)) next (behind_line account account.fact line) e (line_taken account account.fact line left (above left some_left) known.0 known.0 known.1 fine)
+        known_there (place.Logs (logs_after left line.clause)) next (rest_after_line account account.fact line) e (line_taken account account.fact line left (above left some_left) known.0 known.0 known.1 fine)
 known_after (place.Logs left) account entry_of.End next known fine e =
     by (left == 0) refl e
   where
@@ -263,8 +263,8 @@ known_first graphs records (suc n) at valid within e =
     leads : place_after_one (place_after before) entry ≡ Some at
     leads = sym (fold_push place_after_one (Some place.Start) before entry) ∙ (ap place_after (sym longer) ∙ e)
 
-    there : IsKnownAt at (behind account entry) → IsKnownAt at (account_after graphs (take (suc n) records))
-    there known = subst (IsKnownAt at) (sym (ap (account_after graphs) longer ∙ account_after-push graphs before entry)) (placed at (behind account entry) _ known)
+    there : IsKnownAt at (with_record account entry) → IsKnownAt at (account_after graphs (take (suc n) records))
+    there known = subst (IsKnownAt at) (sym (ap (account_after graphs) longer ∙ account_after-push graphs before entry)) (placed at (with_record account entry) _ known)
 
     by : (found : Option Place) → place_after before ≡ found → ((here : Place) → place_after before ≡ Some here → IsKnownAt here account) → IsKnownAt at (account_after graphs (take (suc n) records))
     by None is known = absurd (no_place at (subst (λ o. place_after_one o entry ≡ Some at) is leads))

@@ -25,16 +25,16 @@ before net pairs (suc i) order few =
     ap (λ n. count_by is_output (take n pairs)) next ∙ (count_by_more_no is_output pairs i none here (ap is_output_kind kind) ∙ before net pairs i order (omega arith))
 
 -- and the others of outputs
-behind : (net : Net) (pairs : List Pair) (j : ℕ) → AreInOrder net pairs → net.inputs + j ≤ length pairs → count_by is_output (take (net.inputs + j) pairs) ≡ j
-behind net pairs zero order few =
+after : (net : Net) (pairs : List Pair) (j : ℕ) → AreInOrder net pairs → net.inputs + j ≤ length pairs → count_by is_output (take (net.inputs + j) pairs) ≡ j
+after net pairs zero order few =
     let start : net.inputs + zero ≡ net.inputs = omega arith in
     ap (λ n. count_by is_output (take n pairs)) start ∙ before net pairs net.inputs order (omega arith)
-behind net pairs (suc j) order few =
+after net pairs (suc j) order few =
     let here : net.inputs + j < length pairs = omega (arith, few) in
     let there : j < length (drop net.inputs pairs) = omega (arith, length-drop net.inputs pairs, few) in
     let kind = ap (λ (p : Pair). p.kind) (sym (get_or-drop net.inputs pairs j none)) ∙ (order.outputs j none there).0 in
     let next : net.inputs + suc j ≡ net.inputs + j + 1 = omega arith in
-    let more : count_by is_output (take (net.inputs + j) pairs) + 1 ≡ suc j = omega (arith, behind net pairs j order (omega (arith, few))) in
+    let more : count_by is_output (take (net.inputs + j) pairs) + 1 ≡ suc j = omega (arith, after net pairs j order (omega (arith, few))) in
     ap (λ n. count_by is_output (take n pairs)) next ∙ (count_by_more_yes is_output pairs (net.inputs + j) none here (ap is_output_kind kind) ∙ more)
 
 -- there are as many pairs of outputs as the matching has outputs
@@ -44,4 +44,4 @@ outputs_counted net pairs order =
     let left : length (map entry_of (drop net.inputs pairs)) ≡ m = omega (arith, length-map (drop net.inputs pairs) entry_of, length-drop net.inputs pairs, order.count) in
     let whole : net.inputs + m ≡ length pairs = sym order.count in
     let all : take (net.inputs + m) pairs ≡ pairs = ap (λ n. take n pairs) whole ∙ take-length pairs in
-    left ∙ (sym (behind net pairs m order (omega (arith, whole))) ∙ ap (count_by is_output) all)
+    left ∙ (sym (after net pairs m order (omega (arith, whole))) ∙ ap (count_by is_output) all)

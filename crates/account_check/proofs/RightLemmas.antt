@@ -40,7 +40,7 @@ use Rattle.account_check.specs.declared.reject.Reject.TheVariants as reject
 use Rattle.account_check.specs.declared.verdict.Verdict.{Verdict}
 use Rattle.account_check.specs.declared.verdict.Verdict.TheVariants as verdict
 use Rattle.account_check.specs.Logs.{OpenFact, line_reject, refutation_of, with_ban, with_fact}
-use Rattle.account_check.specs.Accounts.{Account, account_after, after, behind, behind_conclusion, behind_line, empty_account, HasFault}
+use Rattle.account_check.specs.Accounts.{Account, account_after, after, with_record, after_conclusion, rest_after_line, empty_account, HasFault}
 use Rattle.account_check.specs.Bans.{BanTests}
 use Rattle.account_check.specs.Conclusions.{ConclusionTests}
 use Rattle.account_check.specs.Facts.{AreInputs, ArePortsThere, ClaimTests, FactTests, IsLesserFirst}
@@ -108,7 +108,7 @@ placed_anywhere : (account : Account) (place : Place) → IsRight account → Is
 placed_anywhere account place right = record { given = right.given; fact = right.fact; refused = right.refused }
 
 -- a record that fails
-right_fails : (account : Account) (claim : Claim) (bits : List Bool) → IsRight account → FactTests account.graphs (head.Fails claim bits) None → IsRight (behind account (entry_of.Fact (head.Fails claim bits)))
+right_fails : (account : Account) (claim : Claim) (bits : List Bool) → IsRight account → FactTests account.graphs (head.Fails claim bits) None → IsRight (with_record account (entry_of.Fact (head.Fails claim bits)))
 right_fails account claim bits right tests =
     let here = claim_passed account.graphs claim (Unless (Breaks account.graphs claim bits) reject.VectorFails Passed) tests in
     let breaks = through here.1 in
@@ -119,7 +119,7 @@ right_fails account claim bits right tests =
     }
 
 -- a fact that holds, before its log
-right_holds : (account : Account) (claim : Claim) → IsRight account → FactTests account.graphs (head.Holds claim) None → IsRight (behind account (entry_of.Fact (head.Holds claim)))
+right_holds : (account : Account) (claim : Claim) → IsRight account → FactTests account.graphs (head.Holds claim) None → IsRight (with_record account (entry_of.Fact (head.Holds claim)))
 right_holds account claim right tests =
     let here = claim_passed account.graphs claim Passed tests in
     record {
@@ -144,7 +144,7 @@ last_empty taken clause e =
     either true = refl
     either false = refl
 
-right_line : (account : Account) (fact : Option OpenFact) (line : LogLine) → IsGraph account.graphs.first → IsGraph account.graphs.second → IsRight account → IsOpenFact account.graphs fact → None ≡ line_reject account.graphs fact account.proof line → IsRight (behind_line account fact line)
+right_line : (account : Account) (fact : Option OpenFact) (line : LogLine) → IsGraph account.graphs.first → IsGraph account.graphs.second → IsRight account → IsOpenFact account.graphs fact → None ≡ line_reject account.graphs fact account.proof line → IsRight (rest_after_line account fact line)
 right_line account None line first second right open_fact none = record { given = right.given; fact = right.fact; refused = right.refused }
 right_line account (Some fact) line first second right being none =
     by (is_empty line.clause) refl
@@ -177,7 +177,7 @@ valid_excludes : (graphs : Graphs) (given : Given) (ban : Ban) → IsGraph graph
 valid_excludes = ban_contradicts
 
 -- a ban
-right_ban : (account : Account) (ban : Ban) → IsGraph account.graphs.first → IsGraph account.graphs.second → IsRight account → BanTests account.graphs account.given ban None → IsRight (behind account (entry_of.Ban ban))
+right_ban : (account : Account) (ban : Ban) → IsGraph account.graphs.first → IsGraph account.graphs.second → IsRight account → BanTests account.graphs account.given ban None → IsRight (with_record account (entry_of.Ban ban))
 right_ban account ban first second right tests = record {
   given = ban_more account.graphs account.given ban.pairs right.given (valid_excludes account.graphs account.given ban first second right.given (ban_passed account.graphs account.given ban tests));
   fact = right.fact;
@@ -188,7 +188,7 @@ right_ban account ban first second right tests = record {
 other_verdict : (matching : Matching) → ◌≡◌ {A = Option Verdict} (Some (verdict.Match matching)) (Some verdict.None) → ⊥
 other_verdict matching e = cc
 
-right_conclusion : (account : Account) (x : Conclusion) → IsRight account → ConclusionTests account.graphs account.given x None → IsRight (behind_conclusion account x)
+right_conclusion : (account : Account) (x : Conclusion) → IsRight account → ConclusionTests account.graphs account.given x None → IsRight (after_conclusion account x)
 right_conclusion account conclusion.NonePorts right tests =
     let differ = through tests in
     record {
@@ -211,22 +211,22 @@ right_conclusion account (conclusion.Match pairs) right tests = record {
   refused = λ e. absurd (other_verdict _ e);
 }
 
-right_behind : (account : Account) (entry : Record) → IsGraph account.graphs.first → IsGraph account.graphs.second → IsRight account → HasFault account entry None → IsRight (behind account entry)
-right_behind account entry_of.Header first second right fine = right
-right_behind account (entry_of.Fact (head.Fails claim bits)) first second right fine =
+right_by_record : (account : Account) (entry : Record) → IsGraph account.graphs.first → IsGraph account.graphs.second → IsRight account → HasFault account entry None → IsRight (with_record account entry)
+right_by_record account entry_of.Header first second right fine = right
+right_by_record account (entry_of.Fact (head.Fails claim bits)) first second right fine =
     right_fails account claim bits right (through fine).1
-right_behind account (entry_of.Fact (head.Holds claim)) first second right fine =
+right_by_record account (entry_of.Fact (head.Holds claim)) first second right fine =
     right_holds account claim right (through fine).1
-right_behind account (entry_of.Line line) first second right fine = right_line account account.fact line first second right right.fact fine
-right_behind account (entry_of.Ban ban) first second right fine =
+right_by_record account (entry_of.Line line) first second right fine = right_line account account.fact line first second right right.fact fine
+right_by_record account (entry_of.Ban ban) first second right fine =
     right_ban account ban first second right (through fine).1
-right_behind account (entry_of.Conclusion x) first second right fine = right_conclusion account x right fine
-right_behind account entry_of.End first second right fine = right
+right_by_record account (entry_of.Conclusion x) first second right fine = right_conclusion account x right fine
+right_by_record account entry_of.End first second right fine = right
 
 -- one valid record more
 pub right_after : (account : Account) (entry : Record) → IsGraph account.graphs.first → IsGraph account.graphs.second → IsRight account → HasFault account entry None → IsRight (after account entry)
 right_after account entry first second right fine =
-    placed_anywhere (behind account entry) _ (right_behind account entry first second right fine)
+    placed_anywhere (with_record account entry) _ (right_by_record account entry first second right fine)
 
 -- an account before its first record
 pub right_at_first : (graphs : Graphs) → IsRight (empty_account graphs)

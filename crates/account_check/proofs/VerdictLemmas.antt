@@ -31,7 +31,7 @@ valid_more graphs records entry valid fine k d below =
           let here = get_or_append_left records (entry ∷ []) d k before in
           let prior = take-append-le k records (entry ∷ []) (omega arith) in
           subst (λ e. HasFault (account_after graphs (take k (records ++ entry ∷ []))) e None) (sym here) (subst (λ rs. HasFault (account_after graphs rs) (slice_index_or records k d) None) (sym prior) (valid k d before))
-      | inr behind ↦
+      | inr after ↦
           let last : k ≡ length records = omega (arith, below, length-append records (entry ∷ [])) in
           let end : length records + 0 ≡ k = omega (arith, last) in
           let here : slice_index_or (records ++ entry ∷ []) k d ≡ entry = ap (λ j. slice_index_or (records ++ entry ∷ []) j d) (sym end) ∙ get_or-append-add records (entry ∷ []) 0 d in

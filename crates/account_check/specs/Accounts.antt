@@ -13,7 +13,7 @@ use Rattle.account_file.specs.declared.place.Place.{Place}
 use Rattle.account_file.specs.declared.place.Place.TheVariants as place
 use Rattle.account_file.specs.declared.record.Record.{Record}
 use Rattle.account_file.specs.declared.record.Record.TheVariants as entry
-use Rattle.account_file.specs.Order.{place_behind}
+use Rattle.account_file.specs.Order.{next_place}
 use Rattle.account_check.specs.declared.reject.Reject.{Reject}
 use Rattle.account_check.specs.declared.reject.RecordStop.{RecordStop}
 use Rattle.account_check.specs.declared.reject.RecordStop.TheVariants as stop
@@ -57,37 +57,37 @@ HasFault account (entry.Conclusion conclusion) fault = ConclusionTests account.g
 HasFault account entry.End fault = Passed fault
 
 -- where a line of the open log leads: after the empty one the fact is given
-abbrev pub behind_line : Account → Option OpenFact → LogLine → Account
-behind_line account None line = record account { proof = with_line account.proof line }
-behind_line account (Some fact) line =
+abbrev pub rest_after_line : Account → Option OpenFact → LogLine → Account
+rest_after_line account None line = record account { proof = with_line account.proof line }
+rest_after_line account (Some fact) line =
     if is_empty line.clause then record account { given = with_fact account.given fact.claim true; fact = None }
     else record account { fact = Some (record { claim = fact.claim; taken = fact.taken ++ line.clause ∷ [] }) }
 
 -- where a fact leads: one that fails is given, and of one that holds the log follows
-abbrev pub behind_fact : Account → FactHead → Account
-behind_fact account (fact.Fails claim bits) = record account { given = with_fact account.given claim false }
-behind_fact account (fact.Holds claim) = record account { fact = Some (unshown claim) }
+abbrev pub after_fact : Account → FactHead → Account
+after_fact account (fact.Fails claim bits) = record account { given = with_fact account.given claim false }
+after_fact account (fact.Holds claim) = record account { fact = Some (unshown claim) }
 
 -- where a conclusion leads
-abbrev pub behind_conclusion : Account → Conclusion → Account
-behind_conclusion account conclusion.NonePorts = record account { concluded = Some verdict.None }
-behind_conclusion account (conclusion.NoneBan ban) = record account { concluded = Some verdict.None }
-behind_conclusion account (conclusion.Match pairs) =
+abbrev pub after_conclusion : Account → Conclusion → Account
+after_conclusion account conclusion.NonePorts = record account { concluded = Some verdict.None }
+after_conclusion account (conclusion.NoneBan ban) = record account { concluded = Some verdict.None }
+after_conclusion account (conclusion.Match pairs) =
     let matching = matching_of account.graphs.first.inputs pairs in
     record account { proof = unproved matching; concluded = Some (verdict.Match matching) }
 
 -- where a record leads
-abbrev pub behind : Account → Record → Account
-behind account entry.Header = account
-behind account (entry.Fact head) = behind_fact account head
-behind account (entry.Line line) = behind_line account account.fact line
-behind account (entry.Ban ban) = record account { given = with_ban account.given ban.pairs }
-behind account (entry.Conclusion conclusion) = behind_conclusion account conclusion
-behind account entry.End = account
+abbrev pub with_record : Account → Record → Account
+with_record account entry.Header = account
+with_record account (entry.Fact head) = after_fact account head
+with_record account (entry.Line line) = rest_after_line account account.fact line
+with_record account (entry.Ban ban) = record account { given = with_ban account.given ban.pairs }
+with_record account (entry.Conclusion conclusion) = after_conclusion account conclusion
+with_record account entry.End = account
 
 abbrev pub after : Account → Record → Account
 after account entry =
-    record (behind account entry) { place = unwrap_or (place_behind account.place entry) account.place }
+    record (with_record account entry) { place = unwrap_or (next_place account.place entry) account.place }
 
 -- Taking a record that may stand next: a record that is refused has the fault that is told, one that is taken has none, and what
 -- isn't taken changes nothing.

@@ -4,7 +4,7 @@ ghost use Rattle.std.specs.Prelude.{◌≡◌, ◌≢◌, ◌↔◌, IsOk, IsSom
 ghost use Rattle.circuits.specs.Matches.{IsMatchOfFunctions};
 ghost use Rattle.account_core.specs.declared.conclusion.Conclusion.TheVariants as conclusion;
 ghost use Rattle.account_core.specs.declared.fact.FactHead.TheVariants as head;
-ghost use Rattle.account_file.specs.Order.{place_behind};
+ghost use Rattle.account_file.specs.Order.{next_place};
 ghost use Rattle.account_check.specs.Accounts.{after, empty_account, verdict_of, HasFault, Takes};
 ghost use Rattle.account_file.specs.declared.place.Place.TheVariants as place;
 ghost use Rattle.account_file.specs.declared.record.Record.TheVariants as entry;
@@ -94,7 +94,7 @@ impl<'a> Checker<'a> {
     /// Takes a record that may stand after the others, exactly where nothing is wrong with it, unless out of memory.
     /// What is refused changes nothing, nor does running out of memory.
     pub fn record(&mut self, alloc: Global, entry: &Record) -> Result<(), RecordStop>
-        requires { IsSome (place_behind self.old.place entry.now) }
+        requires { IsSome (next_place self.old.place entry.now) }
         ensures refused { (reject : AnyReject) → result ≢ Err stop.Memory
             → ((result ≡ Err (stop.Reject reject)) ↔ HasFault self.old entry.now (Some reject)) }
         ensures taken { result ≢ Err stop.Memory → (IsOk result ↔ HasFault self.old entry.now None) }
@@ -120,7 +120,7 @@ impl<'a> Checker<'a> {
 
     /// Takes a record that may stand after the others, or refuses it.
     pub(crate) fn take(&mut self, alloc: Global, entry: &Record) -> Result<(), RecordStop>
-        requires { IsSome (place_behind self.old.place entry.now) }
+        requires { IsSome (next_place self.old.place entry.now) }
         ensures { Takes self.old entry.now self.new result }
     {
         match entry {
@@ -141,7 +141,7 @@ impl<'a> Checker<'a> {
 
     // Takes a fact.
     fn fact(&mut self, alloc: Global, head: &FactHead) -> Result<(), RecordStop>
-        requires { IsSome (place_behind self.old.place (entry.Fact head.now)) }
+        requires { IsSome (next_place self.old.place (entry.Fact head.now)) }
         ensures { Takes self.old (entry.Fact head.now) self.new result }
     {
         match head {
@@ -152,7 +152,7 @@ impl<'a> Checker<'a> {
 
     // Takes a claim that fails.
     fn fails(&mut self, alloc: Global, claim: &Claim, bits: &Bits) -> Result<(), RecordStop>
-        requires { IsSome (place_behind self.old.place (entry.Fact (head.Fails claim.now bits.now))) }
+        requires { IsSome (next_place self.old.place (entry.Fact (head.Fails claim.now bits.now))) }
         ensures { Takes self.old (entry.Fact (head.Fails claim.now bits.now)) self.new result }
     {
         if let Some(reject) = test_fails(alloc, self.graphs, claim, bits)? {
@@ -164,7 +164,7 @@ impl<'a> Checker<'a> {
 
     // Takes a claim that holds, whose log follows.
     fn holds(&mut self, alloc: Global, claim: &Claim) -> Result<(), RecordStop>
-        requires { IsSome (place_behind self.old.place (entry.Fact (head.Holds claim.now))) }
+        requires { IsSome (next_place self.old.place (entry.Fact (head.Holds claim.now))) }
         ensures { Takes self.old (entry.Fact (head.Holds claim.now)) self.new result }
     {
         if let Some(reject) = test_holds(self.graphs, claim) {
@@ -177,7 +177,7 @@ impl<'a> Checker<'a> {
 
     // Takes a line of the open log.
     fn line(&mut self, alloc: Global, line: &LogLine) -> Result<(), RecordStop>
-        requires { IsSome (place_behind self.old.place (entry.Line line.now)) }
+        requires { IsSome (next_place self.old.place (entry.Line line.now)) }
         ensures { Takes self.old (entry.Line line.now) self.new result }
     {
         if let Stage::Showing(_) = &self.stage {
@@ -208,7 +208,7 @@ impl<'a> Checker<'a> {
 
     // Takes a line of a match's logs.
     fn match_line(&mut self, alloc: Global, line: &LogLine) -> Result<(), RecordStop>
-        requires place { IsSome (place_behind self.old.place (entry.Line line.now)) }
+        requires place { IsSome (next_place self.old.place (entry.Line line.now)) }
         requires other { self.old.place ≢ place.FactLog }
         ensures { Takes self.old (entry.Line line.now) self.new result }
     {
@@ -220,7 +220,7 @@ impl<'a> Checker<'a> {
 
     // Takes a ban.
     fn ban(&mut self, alloc: Global, ban: &Ban) -> Result<(), RecordStop>
-        requires { IsSome (place_behind self.old.place (entry.Ban ban.now)) }
+        requires { IsSome (next_place self.old.place (entry.Ban ban.now)) }
         ensures { Takes self.old (entry.Ban ban.now) self.new result }
     {
         if let Some(reject) = test_ban(alloc, self.graphs, &self.given, ban)? {
@@ -232,7 +232,7 @@ impl<'a> Checker<'a> {
 
     // Takes a conclusion. Of a match the logs follow.
     fn conclude(&mut self, alloc: Global, conclusion: &Conclusion) -> Result<(), RecordStop>
-        requires { IsSome (place_behind self.old.place (entry.Conclusion conclusion.now)) }
+        requires { IsSome (next_place self.old.place (entry.Conclusion conclusion.now)) }
         ensures { Takes self.old (entry.Conclusion conclusion.now) self.new result }
     {
         match conclusion {
@@ -244,7 +244,7 @@ impl<'a> Checker<'a> {
 
     // Takes the conclusion that there is no match since the circuits have other numbers of ports.
     fn conclude_by_ports(&mut self) -> Result<(), RecordStop>
-        requires { IsSome (place_behind self.old.place (entry.Conclusion conclusion.NonePorts)) }
+        requires { IsSome (next_place self.old.place (entry.Conclusion conclusion.NonePorts)) }
         ensures { Takes self.old (entry.Conclusion conclusion.NonePorts) self.new result }
     {
         if let Some(reject) = test_ports(self.graphs) {
@@ -256,7 +256,7 @@ impl<'a> Checker<'a> {
 
     // Takes the conclusion that there is no match since a ban has no pairs.
     fn conclude_by_ban(&mut self, ban: u64) -> Result<(), RecordStop>
-        requires { IsSome (place_behind self.old.place (entry.Conclusion (conclusion.NoneBan ban))) }
+        requires { IsSome (next_place self.old.place (entry.Conclusion (conclusion.NoneBan ban))) }
         ensures { Takes self.old (entry.Conclusion (conclusion.NoneBan ban)) self.new result }
     {
         if let Some(reject) = test_empty_ban(self.graphs, &self.given, ban) {
@@ -268,7 +268,7 @@ impl<'a> Checker<'a> {
 
     // Takes a match, whose logs follow.
     fn conclude_match(&mut self, alloc: Global, pairs: &[Pair]) -> Result<(), RecordStop>
-        requires { IsSome (place_behind self.old.place (entry.Conclusion (conclusion.Match pairs.now))) }
+        requires { IsSome (next_place self.old.place (entry.Conclusion (conclusion.Match pairs.now))) }
         ensures { Takes self.old (entry.Conclusion (conclusion.Match pairs.now)) self.new result }
     {
         let matching = matching(alloc, self.graphs, pairs)?;
@@ -279,7 +279,7 @@ impl<'a> Checker<'a> {
 
     // Ends an account whose logs are all closed.
     fn end(&mut self)
-        requires { IsSome (place_behind self.old.place entry.End) }
+        requires { IsSome (next_place self.old.place entry.End) }
         ensures { self.new ≡ after self.old entry.End }
     {
         match mem::replace(&mut self.stage, Stage::Empty) {

@@ -41,8 +41,8 @@ pub fn every_prefix_is_right()
         → AreRight graphs (account_after graphs records).given }
 {}
 
-/// Where an account that says that there is no match is accepted, whoever wrote it, no signed bijections make the circuits' functions
-/// equal.
+/// Where an account that says that there is no match is accepted, whoever wrote it, no signed bijections make the circuits'
+/// functions equal.
 pub fn accepted_refusal_is_right()
     ensures { (graphs : TwoGraphs) (bytes : List ℕ)
         → IsGraph graphs.first → IsGraph graphs.second

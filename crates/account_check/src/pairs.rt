@@ -14,7 +14,8 @@ use items::Items;
 use net_core::{Graph, Graphs, Matching};
 use std::alloc::{AllocError, Global};
 
-/// What is wrong with the conclusion that there is no match since the circuits have other numbers of ports: that they have as many.
+/// What is wrong with the conclusion that there is no match since the circuits have other numbers of ports: that they have as
+/// many.
 pub(crate) fn test_ports(graphs: &Graphs<'_>) -> Option<Reject>
     ensures { OtherPortsTest graphs.now result }
 {
@@ -24,8 +25,8 @@ pub(crate) fn test_ports(graphs: &Graphs<'_>) -> Option<Reject>
     None
 }
 
-/// What is wrong with the conclusion that there is no match since a ban has no pairs: the circuits have other numbers of ports; the
-/// ban wasn't given; it has pairs.
+/// What is wrong with the conclusion that there is no match since a ban has no pairs: the circuits have other numbers of ports;
+/// the ban wasn't given; it has pairs.
 pub(crate) fn test_empty_ban(graphs: &Graphs<'_>, given: &Given, ban: u64) -> Option<Reject>
     ensures { PortsTest graphs.now (EmptyBanTests given.now ban) result }
 {

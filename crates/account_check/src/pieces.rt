@@ -5,7 +5,7 @@ ghost use Rattle.circuits.specs.Matches.{IsMatchOfFunctions};
 ghost use Rattle.net_core.specs.Sides.{Graphs as TwoGraphs};
 ghost use Rattle.net_core.specs.declared.matching.Matching.{Matching as Table};
 ghost use Rattle.account_file.specs.declared.place.Place.TheVariants.{Ended};
-ghost use Rattle.account_file.specs.Order.{place_behind};
+ghost use Rattle.account_file.specs.Order.{next_place};
 ghost use Rattle.account_check.specs.declared.verdict.Verdict.TheVariants as verdict;
 ghost use Rattle.account_check.specs.Accounts.{verdict_of, Takes};
 ghost use Rattle.account_check.specs.Checking.{refused, unread, Feeds, Goes, HasTaken, IsChecking, IsUnderCheck, IsUnderWay, TakesAll};
@@ -141,7 +141,7 @@ fn take_next(
 
 // Has a record taken, and lets it go.
 fn take(alloc: Global, checker: &mut Checker<'_>, entry: Record) -> Result<(), RecordStop>
-    requires { IsSome (place_behind checker.old.place entry) }
+    requires { IsSome (next_place checker.old.place entry) }
     ensures { Takes checker.old entry checker.new result }
 {
     checker.take(alloc, &entry)

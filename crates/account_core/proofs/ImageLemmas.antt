@@ -1,5 +1,5 @@
--- What follows from the law of images: that a mismatch excludes its ban's pairs, and that a match carries an output's inputs to its
--- partner's.
+-- What follows from the law of images: that a mismatch excludes its ban's pairs, and that a match carries an output's inputs to
+-- its partner's.
 use Rattle.std.proofs.Common.{◌≡◌, ◌↔◌, ℕ, ◌<◌, Bool, true, false, eqb, List, [], ◌∷◌, All, Some, refl, ap, subst, ◌∙◌, inl, inr, arith, eq-eqb}
 use Rattle.std.specs.Prelude.{option_and_then, option_map}
 use Rattle.std.proofs.lemmas.Bool.{cond-true}

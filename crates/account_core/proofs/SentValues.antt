@@ -59,13 +59,13 @@ value_bit : (values : List Tri) (x : List Bool) (k : ℕ) → FillsIn values x �
 value_bit values x k fills =
     elim (cases_lt k (length values)) [
       | inl below ↦ fills.bits k below
-      | inr past ↦ subst (λ v. IsBitOf v (bit x k)) (sym (behind values k past)) tt
+      | inr past ↦ subst (λ v. IsBitOf v (bit x k)) (sym (after values k past)) tt
     ]
   where
-    behind : (values : List Tri) (k : ℕ) → length values ≤ k → value_at values k ≡ X
-    behind [] k past = refl
-    behind (v ∷ values) zero past = absurd (omega arith)
-    behind (v ∷ values) (suc k) past = behind values k (omega arith)
+    after : (values : List Tri) (k : ℕ) → length values ≤ k → value_at values k ≡ X
+    after [] k past = refl
+    after (v ∷ values) zero past = absurd (omega arith)
+    after (v ∷ values) (suc k) past = after values k (omega arith)
 
 -- what a place gets is what the vector moved has there
 sent_bit : (p q : List (ℕ × Bool)) (pairs : List Pair) (values : List Tri) (x y : List Bool) (place : ℕ) → Moves p x y → FillsIn values x → Extends pairs p q → IsBitOf (value_sent pairs values place) (bit y place)

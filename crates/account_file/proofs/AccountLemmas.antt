@@ -15,14 +15,14 @@ use Rattle.account_file.specs.declared.next_record.NextRecord.{NextRecord}
 use Rattle.account_file.specs.declared.next_record.NextRecord.TheVariants.{Wait, Read, Refuse}
 use Rattle.account_file.specs.Forms.{record_in}
 use Rattle.account_file.specs.Words.{words_of}
-use Rattle.account_file.specs.Lines.{whole_lines, behind_lines}
-use Rattle.account_file.specs.Order.{place_behind, place_after}
+use Rattle.account_file.specs.Lines.{whole_lines, after_lines}
+use Rattle.account_file.specs.Order.{next_place, place_after}
 use Rattle.account_file.specs.Accounts.{HasForm, AreUnderWay, LineFault}
 use Rattle.account_file.specs.Spelling.{IsWritable, line_text, record_line}
 use Rattle.account_file.specs.NextRecords.{in_place, placed, next_from, next_at_line}
 use Rattle.account_file.proofs.BadWordLemmas.{bad_number_found, bad_number_read, bad_word_found, bad_word_read, bad_words}
-use Rattle.account_file.proofs.LineLemmas.{lines_first, behind_first}
-use Rattle.account_file.proofs.OrderLemmas.{place_behind_last, at_start}
+use Rattle.account_file.proofs.LineLemmas.{lines_first, after_first_line}
+use Rattle.account_file.proofs.OrderLemmas.{place_after_last, at_start}
 use Rattle.account_file.proofs.RecordLemmas.{line_text_is_line, read_is_written}
 
 -- the lines of records, without their line feeds
@@ -41,12 +41,12 @@ lines_of_records (entry ∷ records) left w =
     ∙ lines_first (line_text entry) (flat_map record_line records ++ left) (line_text_is_line entry (All-head IsWritable entry records w))
     ∙ ap (λ l. line_text entry ∷ l) (lines_of_records records left (All-tail IsWritable entry records w))
 
-pub behind_records : (records : List Record) (left : List ℕ) → All IsWritable records → behind_lines (flat_map record_line records ++ left) ≡ behind_lines left
-behind_records [] left w = refl
-behind_records (entry ∷ records) left w =
-    ap behind_lines (text_first entry (flat_map record_line records) left)
-    ∙ behind_first (line_text entry) (flat_map record_line records ++ left) (line_text_is_line entry (All-head IsWritable entry records w))
-    ∙ behind_records records left (All-tail IsWritable entry records w)
+pub after_records : (records : List Record) (left : List ℕ) → All IsWritable records → after_lines (flat_map record_line records ++ left) ≡ after_lines left
+after_records [] left w = refl
+after_records (entry ∷ records) left w =
+    ap after_lines (text_first entry (flat_map record_line records) left)
+    ∙ after_first_line (line_text entry) (flat_map record_line records ++ left) (line_text_is_line entry (All-head IsWritable entry records w))
+    ∙ after_records records left (All-tail IsWritable entry records w)
 
 pub have_forms : (records : List Record) → All IsWritable records → AllZip HasForm (texts_of records) records
 have_forms [] w = tt
@@ -61,13 +61,13 @@ abbrev pub FaultThere : Place → List ℕ → RecordFault → Type 0
 FaultThere place line fault.Header = (place ≡ Start) × (line ≢ codes "npnp 1")
 FaultThere place line fault.Word = (place ≢ Start) × (place ≢ Ended) × (record_in (words_of line) ≡ Err fault.Word)
 FaultThere place line fault.Number = (place ≢ Start) × (place ≢ Ended) × (record_in (words_of line) ≡ Err fault.Number)
-FaultThere place line fault.Order = (place ≢ Start) × (place ≢ Ended) × ((entry : Record) × HasForm line entry × (place_behind place entry ≡ None))
+FaultThere place line fault.Order = (place ≢ Start) × (place ≢ Ended) × ((entry : Record) × HasForm line entry × (next_place place entry ≡ None))
 FaultThere place line fault.Truncated = ⊥
 FaultThere place line fault.Trailing = place ≡ Ended
 
 abbrev pub NextSays : Place → List ℕ → NextRecord → Type 0
 NextSays place line Wait = ⊥
-NextSays place line (Read entry behind used) = HasForm line entry × (place_behind place entry ≡ Some behind) × (used ≡ length line + 1)
+NextSays place line (Read entry after used) = HasForm line entry × (next_place place entry ≡ Some after) × (used ≡ length line + 1)
 NextSays place line (Refuse fault) = FaultThere place line fault
 
 header_says : (line : List ℕ) → NextSays Start line (next_at_line Start line)
@@ -83,14 +83,14 @@ later_says place line later open' (Err fault) e = elim (bad_words (words_of line
   | inl word ↦ subst (λ f. FaultThere place line f) (sym word) (later, open', e ∙ ap Err word)
   | inr number ↦ subst (λ f. FaultThere place line f) (sym number) (later, open', e ∙ ap Err number)
 ]
-later_says place line later open' (Ok entry) e = by (place_behind place entry) refl
+later_says place line later open' (Ok entry) e = by (next_place place entry) refl
   where
     form : HasForm line entry
     form = let found = read_is_written line entry e in (found.1, found.0)
 
-    by : (p : Option Place) → place_behind place entry ≡ p → NextSays place line (next_from (length line + 1) (placed entry p))
+    by : (p : Option Place) → next_place place entry ≡ p → NextSays place line (next_from (length line + 1) (placed entry p))
     by None is = (later, open', (entry, form, is))
-    by (Some behind) is = (form, is, refl)
+    by (Some after) is = (form, is, refl)
 
 pub next_at_line_says : (place : Place) (line : List ℕ) → NextSays place line (next_at_line place line)
 next_at_line_says Start line = header_says line
@@ -105,11 +105,11 @@ fault_there before place line fault.Header at' h = (let e : Some Start ≡ Some 
 fault_there before place line fault.Word at' h = (λ e. h.0.begun (at_start before (at' ∙ ap Some e)), λ e. h.0.not_ended (at' ∙ ap Some e), bad_word_read line h.1)
 fault_there before place line fault.Number at' h = (λ e. h.0.begun (at_start before (at' ∙ ap Some e)), λ e. h.0.not_ended (at' ∙ ap Some e), bad_number_read line h.1)
 fault_there before place line fault.Order at' h =
-    (λ e. h.0.begun (at_start before (at' ∙ ap Some e)), λ e. h.0.not_ended (at' ∙ ap Some e), (h.1.entry, h.1.form, none (place_behind place h.1.entry) refl))
+    (λ e. h.0.begun (at_start before (at' ∙ ap Some e)), λ e. h.0.not_ended (at' ∙ ap Some e), (h.1.entry, h.1.form, none (next_place place h.1.entry) refl))
   where
-    none : (p : Option Place) → place_behind place h.1.entry ≡ p → p ≡ None
+    none : (p : Option Place) → next_place place h.1.entry ≡ p → p ≡ None
     none None e = refl
-    none (Some behind) e = absurd (h.1.out_of_order (subst IsSome (sym (place_behind_last before h.1.entry place at' ∙ e)) refl))
+    none (Some after) e = absurd (h.1.out_of_order (subst IsSome (sym (place_after_last before h.1.entry place at' ∙ e)) refl))
 fault_there before place line fault.Truncated at' h = absurd h
 fault_there before place line fault.Trailing at' h = let e : Some place ≡ Some Ended = sym at' ∙ h in cc
 
@@ -128,7 +128,7 @@ line_fault before place line fault.Order at' h = (
   record {
     entry = h.2.0;
     form = h.2.1;
-    out_of_order = λ may. false≢true (subst IsSome (place_behind_last before h.2.0 place at' ∙ h.2.2) may);
+    out_of_order = λ may. false≢true (subst IsSome (place_after_last before h.2.0 place at' ∙ h.2.2) may);
   },
 )
 line_fault before place line fault.Truncated at' h = absurd h

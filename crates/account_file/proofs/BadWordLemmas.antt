@@ -14,21 +14,21 @@ use Rattle.account_file.proofs.ReadLemmas.{CanRead, IsWordOrNumber}
 use Rattle.account_file.proofs.RecordLemmas.{text_words, words_written, written_is_read, read_is_written}
 
 -- words that are read begin a line
-begins : (front : List (List ℕ)) (word : List ℕ) → CanRead (λ behind. record_in (front ++ word ∷ behind)) → BeginsLine (front ++ word ∷ [])
+begins : (front : List (List ℕ)) (word : List ℕ) → CanRead (λ after. record_in (front ++ word ∷ after)) → BeginsLine (front ++ word ∷ [])
 begins front word c =
     let found = words_written (front ++ word ∷ c.words) c.entry c.read in
     record {
       line = line_text c.entry;
       entry = c.entry;
       form = (found.1, refl);
-      behind = c.words;
+      after = c.words;
       words_are = text_words c.entry found.1 ∙ sym found.0 ∙ sym (append_assoc front (word ∷ []) c.words);
     }
 
 -- words that begin a line are read with what follows them there
-begun : (front : List (List ℕ)) (word : List ℕ) → (b : BeginsLine (front ++ word ∷ [])) → record_in (front ++ word ∷ b.behind) ≡ Ok b.entry
+begun : (front : List (List ℕ)) (word : List ℕ) → (b : BeginsLine (front ++ word ∷ [])) → record_in (front ++ word ∷ b.after) ≡ Ok b.entry
 begun front word b =
-    ap record_in (sym (append_assoc front (word ∷ []) b.behind)) ∙ ap record_in (sym b.words_are) ∙ written_is_read b.entry b.line b.form.0 b.form.1
+    ap record_in (sym (append_assoc front (word ∷ []) b.after)) ∙ ap record_in (sym b.words_are) ∙ written_is_read b.entry b.line b.form.0 b.form.1
 
 pub bad_number_found : (line : List ℕ) → record_in (words_of line) ≡ Err Number → HasBadNumber line
 bad_number_found line e =
@@ -36,20 +36,20 @@ bad_number_found line e =
     record {
       before = s.front;
       word = s.word;
-      behind = s.more;
+      after = s.more;
       words_are = s.words_are;
       digits = s.digits;
-      begins_none = λ b. let both : Err Number ≡ Ok b.entry = sym (s.stuck b.behind) ∙ begun s.front s.word b in cc;
+      begins_none = λ b. let both : Err Number ≡ Ok b.entry = sym (s.stuck b.after) ∙ begun s.front s.word b in cc;
       number_fits = λ n small. begins s.front (decimal n) (s.fits n small);
     }
 
 pub bad_number_read : (line : List ℕ) → HasBadNumber line → record_in (words_of line) ≡ Err Number
 bad_number_read line bad =
     let zero = bad.number_fits 0 (omega arith) in
-    let read : record_in (bad.before ++ codes "0" ∷ zero.behind) ≡ Ok zero.entry =
-    ap (λ w. record_in (bad.before ++ w ∷ zero.behind)) (sym zero_decimal) ∙ begun bad.before (decimal 0) zero in
-    elim (line_is_read.zero bad.before zero.behind bad.word zero.entry read bad.digits) [
-      | inl stuck ↦ ap record_in bad.words_are ∙ stuck bad.behind
+    let read : record_in (bad.before ++ codes "0" ∷ zero.after) ≡ Ok zero.entry =
+    ap (λ w. record_in (bad.before ++ w ∷ zero.after)) (sym zero_decimal) ∙ begun bad.before (decimal 0) zero in
+    elim (line_is_read.zero bad.before zero.after bad.word zero.entry read bad.digits) [
+      | inl stuck ↦ ap record_in bad.words_are ∙ stuck bad.after
       | inr c ↦ absurd (bad.begins_none (begins bad.before bad.word c))
     ]
 

@@ -28,7 +28,7 @@ use Rattle.account_file.proofs.NameLemmas.{side_is_word, kind_is_word, tallied_i
 -- a word of a part, and what follows it
 then_word : {X Y : Type 0} (read : List ℕ → Result X RecordFault) (q : X → List (List ℕ) → Parsed Y) (k : Y → Behind) → IsWord read
     → ((x : X) → IsRead (λ words. followed (q x words) k)) → IsRead (λ words. followed (followed (next_by read words) q) k)
-then_word {X} {Y} read q k w r = nested_read (next_by read) q k (next_read read (λ x behind. followed (q x behind) k) w r)
+then_word {X} {Y} read q k w r = nested_read (next_by read) q k (next_read read (λ x after. followed (q x after) k) w r)
 
 small_items : (n : ℕ) → n < 2 ^ 32 → is_separator (decimal n) ≡ false
 small_items n small = number_is_item n (omega (arith, small))
@@ -37,19 +37,19 @@ small_items n small = number_is_item n (omega (arith, small))
 then_list : {X Y : Type 0} (read : List ℕ → Result X RecordFault) (q : List X → List (List ℕ) → Parsed Y) (k : Y → Behind) → IsWord read
     → ((xs : List X) → IsRead (λ words. followed (q xs words) k)) → ((xs : List X) → CanEnd (λ words. followed (q xs words) k))
     → IsRead (λ words. followed (followed (list_by read words) q) k)
-then_list {X} {Y} read q k w r c = nested_read (list_by read) q k (list_read read w small_items (λ xs behind. followed (q xs behind) k) r c)
+then_list {X} {Y} read q k w r c = nested_read (list_by read) q k (list_read read w small_items (λ xs after. followed (q xs after) k) r c)
 
 then_end : {Y : Type 0} (name : List ℕ) (q : Bool → List (List ℕ) → Parsed Y) (k : Y → Behind) → is_separator name ≡ true → named name name ≡ Ok true
     → IsRead (λ words. followed (q true words) k) → CanEnd (λ words. followed (followed (next_by (named name) words) q) k)
-then_end {Y} name q k ends same r = nested_end (next_by (named name)) q k (end_named name (λ x behind. followed (q x behind) k) ends same r)
+then_end {Y} name q k ends same r = nested_end (next_by (named name)) q k (end_named name (λ x after. followed (q x after) k) ends same r)
 
 -- a list that a name ends
 closed_list : {X Y : Type 0} (read : List ℕ → Result X RecordFault) (name : List ℕ) (q : List X → Bool → List (List ℕ) → Parsed Y) (k : Y → Behind) → IsWord read
     → is_separator name ≡ true → named name name ≡ Ok true → named name (codes "0") ≡ Err Word
     → ((xs : List X) (b : Bool) → IsRead (λ words. followed (q xs b words) k))
-    → IsRead (λ words. followed (followed (list_by read words) (λ xs behind. followed (next_by (named name) behind) (q xs))) k)
+    → IsRead (λ words. followed (followed (list_by read words) (λ xs after. followed (next_by (named name) after) (q xs))) k)
 closed_list {X} {Y} read name q k w ends same zero r =
-    then_list read (λ xs behind. followed (next_by (named name) behind) (q xs)) k w
+    then_list read (λ xs after. followed (next_by (named name) after) (q xs)) k w
     (λ xs. then_word (named name) (q xs) k (named_is_word name zero) (r xs))
     (λ xs. then_end name (q xs) k ends same (r xs true))
 

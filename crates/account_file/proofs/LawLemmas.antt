@@ -17,12 +17,12 @@ use Rattle.account_file.specs.declared.next_record.NextRecord.{NextRecord}
 use Rattle.account_file.specs.declared.next_record.NextRecord.TheVariants.{Wait, Read, Refuse}
 use Rattle.account_file.specs.Forms.{record_in}
 use Rattle.account_file.specs.Words.{words_of}
-use Rattle.account_file.specs.Lines.{whole_lines, behind_lines}
-use Rattle.account_file.specs.Order.{place_behind, place_after, AreInOrder, MayStand}
+use Rattle.account_file.specs.Lines.{whole_lines, after_lines}
+use Rattle.account_file.specs.Order.{next_place, place_after, AreInOrder, MayStand}
 use Rattle.account_file.specs.Accounts.{HasForm, AreRecords, LineFault, EndFault, HasFormFault, IsAccountOf, SaysNext}
 use Rattle.account_file.specs.NextRecords.{in_place, placed, next_from, next_at_line}
 use Rattle.account_file.proofs.AccountLemmas.{FaultThere, NextSays, fault_there, line_fault, next_at_line_says}
-use Rattle.account_file.proofs.OrderLemmas.{place_behind_last, place_there, take_in_order}
+use Rattle.account_file.proofs.OrderLemmas.{place_after_last, place_there, take_in_order}
 use Rattle.account_file.proofs.RecordLemmas.{cancel_last, written_is_read}
 
 form_is_read : (line : List ℕ) (entry : Record) → HasForm line entry → record_in (words_of line) ≡ Ok entry
@@ -62,14 +62,14 @@ forms_of_front (line ∷ lines) (e ∷ es) (suc k) z = (z.0, forms_of_front line
 
 -- what the code does at a line that has a record's form, or a fault
 
-nothing_behind_end : (entry : Record) (behind : Place) → place_behind Ended entry ≡ Some behind → ⊥
-nothing_behind_end record_of.Header behind e = cc
-nothing_behind_end (record_of.Fact (Fails claim bits)) behind e = cc
-nothing_behind_end (record_of.Fact (Holds claim)) behind e = cc
-nothing_behind_end (record_of.Line line) behind e = cc
-nothing_behind_end (record_of.Ban ban) behind e = cc
-nothing_behind_end (record_of.Conclusion conclusion) behind e = cc
-nothing_behind_end record_of.End behind e = cc
+nothing_after_end : (entry : Record) (after : Place) → next_place Ended entry ≡ Some after → ⊥
+nothing_after_end record_of.Header after e = cc
+nothing_after_end (record_of.Fact (Fails claim bits)) after e = cc
+nothing_after_end (record_of.Fact (Holds claim)) after e = cc
+nothing_after_end (record_of.Line line) after e = cc
+nothing_after_end (record_of.Ban ban) after e = cc
+nothing_after_end (record_of.Conclusion conclusion) after e = cc
+nothing_after_end record_of.End after e = cc
 
 header_line : (line : List ℕ) → line ≡ codes "npnp 1" → bytes_eq line (codes "npnp 1") ≡ true
 header_line line same = (bytes_eq-Decides line (codes "npnp 1")).1 same
@@ -81,26 +81,26 @@ other_line line other = by (bytes_eq line (codes "npnp 1")) refl
     by true e = absurd (other ((bytes_eq-Decides line (codes "npnp 1")).0 e))
     by false e = refl
 
-said_record : (place : Place) (line : List ℕ) (entry : Record) (behind : Place) → HasForm line entry → place_behind place entry ≡ Some behind
-    → next_at_line place line ≡ Read entry behind (length line + 1)
-said_record Start line record_of.Header behind form e =
+said_record : (place : Place) (line : List ℕ) (entry : Record) (after : Place) → HasForm line entry → next_place place entry ≡ Some after
+    → next_at_line place line ≡ Read entry after (length line + 1)
+said_record Start line record_of.Header after form e =
     let same = cancel_last line (codes "npnp 1") 10 (sym form.1) in
-    let headed : Headed ≡ behind = cc in
+    let headed : Headed ≡ after = cc in
     ap (λ b. next_from (length line + 1) (cond b (Ok (record_of.Header, Headed)) (Err fault.Header))) (header_line line same)
     ∙ ap (λ p. Read record_of.Header p (length line + 1)) headed
-said_record Start line (record_of.Fact (Fails claim bits)) behind form e = cc
-said_record Start line (record_of.Fact (Holds claim)) behind form e = cc
-said_record Start line (record_of.Line l) behind form e = cc
-said_record Start line (record_of.Ban ban) behind form e = cc
-said_record Start line (record_of.Conclusion c) behind form e = cc
-said_record Start line record_of.End behind form e = cc
-said_record Headed line entry behind form e =
+said_record Start line (record_of.Fact (Fails claim bits)) after form e = cc
+said_record Start line (record_of.Fact (Holds claim)) after form e = cc
+said_record Start line (record_of.Line l) after form e = cc
+said_record Start line (record_of.Ban ban) after form e = cc
+said_record Start line (record_of.Conclusion c) after form e = cc
+said_record Start line record_of.End after form e = cc
+said_record Headed line entry after form e =
     ap (λ r. next_from (length line + 1) (in_place Headed r)) (form_is_read line entry form) ∙ ap (λ p. next_from (length line + 1) (placed entry p)) e
-said_record FactLog line entry behind form e =
+said_record FactLog line entry after form e =
     ap (λ r. next_from (length line + 1) (in_place FactLog r)) (form_is_read line entry form) ∙ ap (λ p. next_from (length line + 1) (placed entry p)) e
-said_record (Logs logs) line entry behind form e =
+said_record (Logs logs) line entry after form e =
     ap (λ r. next_from (length line + 1) (in_place (Logs logs) r)) (form_is_read line entry form) ∙ ap (λ p. next_from (length line + 1) (placed entry p)) e
-said_record Ended line entry behind form e = absurd (nothing_behind_end entry behind e)
+said_record Ended line entry after form e = absurd (nothing_after_end entry after e)
 
 said_fault : (place : Place) (line : List ℕ) (fault : RecordFault) → FaultThere place line fault → next_at_line place line ≡ Refuse fault
 said_fault Start line fault.Header h = ap (λ b. next_from (length line + 1) (cond b (Ok (record_of.Header, Headed)) (Err fault.Header))) (other_line line h.1)
@@ -139,12 +139,12 @@ said_fault Ended line fault.Trailing h = refl
 
 -- what is read at a line after records
 line_next : (before : List Record) (place : Place) (line : List ℕ) (entry : Record) → place_after before ≡ Some place → HasForm line entry → MayStand before entry
-    → (behind : Place) × (next_at_line place line ≡ Read entry behind (length line + 1))
-line_next before place line entry at' form may = by (place_behind place entry) refl
+    → (after : Place) × (next_at_line place line ≡ Read entry after (length line + 1))
+line_next before place line entry at' form may = by (next_place place entry) refl
   where
-    by : (p : Option Place) → place_behind place entry ≡ p → (behind : Place) × (next_at_line place line ≡ Read entry behind (length line + 1))
-    by None e = absurd (false≢true (subst IsSome (place_behind_last before entry place at' ∙ e) may))
-    by (Some behind) e = (behind, said_record place line entry behind form e)
+    by : (p : Option Place) → next_place place entry ≡ p → (after : Place) × (next_at_line place line ≡ Read entry after (length line + 1))
+    by None e = absurd (false≢true (subst IsSome (place_after_last before entry place at' ∙ e) may))
+    by (Some after) e = (after, said_record place line entry after form e)
 
 fault_next : (before : List Record) (place : Place) (line : List ℕ) (fault : RecordFault) → place_after before ≡ Some place → LineFault before line fault → next_at_line place line ≡ Refuse fault
 fault_next before place line fault at' h = said_fault place line fault (fault_there before place line fault at' h)
@@ -224,7 +224,7 @@ module _ (bytes : List ℕ) (before : List Record) where
   same_fault : (first second : RecordFault) → HasFormFault bytes before first → HasFormFault bytes before second → first ≡ second
   same_fault first second f s = elim (cases_lt (length before) (length (whole_lines bytes))) [
     | inl below ↦ same_line_fault before (get_or (whole_lines bytes) (length before) []) first second f.records.order (f.at_line below) (s.at_line below)
-    | inr past ↦ same_end_fault before (behind_lines bytes) first second (f.at_end past) (s.at_end past)
+    | inr past ↦ same_end_fault before (after_lines bytes) first second (f.at_end past) (s.at_end past)
   ]
 
   account_has_none : (wrong : RecordFault) → IsAccountOf bytes before → HasFormFault bytes before wrong → ⊥
@@ -232,9 +232,9 @@ module _ (bytes : List ℕ) (before : List Record) where
       let count = as_many (whole_lines bytes) before account.records_are.form in
       by wrong (has.at_end (omega (arith, count)))
     where
-      by : (f : RecordFault) → EndFault before (behind_lines bytes) f → ⊥
+      by : (f : RecordFault) → EndFault before (after_lines bytes) f → ⊥
       by fault.Truncated h = h account.ended
-      by fault.Trailing h = h.1 account.nothing_behind
+      by fault.Trailing h = h.1 account.nothing_after
       by fault.Header h = h
       by fault.Word h = h
       by fault.Number h = h
@@ -320,7 +320,7 @@ module _ (bytes : List ℕ) (done left : List (List ℕ)) (before : List Record)
         at_end = λ past. absurd (omega (arith, past, count, ap length all, length-append done (line ∷ more)));
       }
 
-  refused_end : left ≡ [] → (wrong : RecordFault) → EndFault before (behind_lines bytes) wrong → HasFormFault bytes before wrong
+  refused_end : left ≡ [] → (wrong : RecordFault) → EndFault before (after_lines bytes) wrong → HasFormFault bytes before wrong
   refused_end none wrong h =
       let count = as_many done before form in
       record {
@@ -332,7 +332,7 @@ module _ (bytes : List ℕ) (done left : List (List ℕ)) (before : List Record)
   cut_off : left ≡ [] → place ≢ Ended → SaysSomething bytes
   cut_off none open' = inr (before, (fault.Truncated, refused_end none fault.Truncated (λ ended. open' (let same : Some place ≡ Some Ended = sym at' ∙ ended in cc))))
 
-  accepted : left ≡ [] → place ≡ Ended → behind_lines bytes ≡ [] → SaysSomething bytes
+  accepted : left ≡ [] → place ≡ Ended → after_lines bytes ≡ [] → SaysSomething bytes
   accepted none ended nothing =
       let all : done ≡ whole_lines bytes = sym (lines ∙ ap (λ l. done ++ l) none ∙ append-nil done) in
       inl (
@@ -340,11 +340,11 @@ module _ (bytes : List ℕ) (done left : List (List ℕ)) (before : List Record)
         record {
           records_are = record { form = subst (λ l. AllZip HasForm l before) all form; order = subst IsSome (sym at') refl };
           ended = at' ∙ ap Some ended;
-          nothing_behind = nothing;
+          nothing_after = nothing;
         },
       )
 
-  trailing : left ≡ [] → place ≡ Ended → behind_lines bytes ≢ [] → SaysSomething bytes
+  trailing : left ≡ [] → place ≡ Ended → after_lines bytes ≢ [] → SaysSomething bytes
   trailing none ended some = inr (before, (fault.Trailing, refused_end none fault.Trailing (at' ∙ ap Some ended, some)))
 
 end_says : (bytes : List ℕ) (done : List (List ℕ)) (before : List Record) (place : Place) → whole_lines bytes ≡ done ++ [] → AllZip HasForm done before → place_after before ≡ Some place → SaysSomething bytes
@@ -352,9 +352,9 @@ end_says bytes done before Start lines form at' = cut_off bytes done [] before S
 end_says bytes done before Headed lines form at' = cut_off bytes done [] before Headed lines form at' refl (λ e. cc)
 end_says bytes done before FactLog lines form at' = cut_off bytes done [] before FactLog lines form at' refl (λ e. cc)
 end_says bytes done before (Logs logs) lines form at' = cut_off bytes done [] before (Logs logs) lines form at' refl (λ e. cc)
-end_says bytes done before Ended lines form at' = by (behind_lines bytes) refl
+end_says bytes done before Ended lines form at' = by (after_lines bytes) refl
   where
-    by : (rest : List ℕ) → behind_lines bytes ≡ rest → SaysSomething bytes
+    by : (rest : List ℕ) → after_lines bytes ≡ rest → SaysSomething bytes
     by [] e = accepted bytes done [] before Ended lines form at' refl refl e
     by (byte ∷ rest) e = trailing bytes done [] before Ended lines form at' refl refl (λ none. let no : [] ≡ byte ∷ rest = sym none ∙ e in cc)
 
@@ -362,12 +362,12 @@ text_says : (bytes : List ℕ) (done left : List (List ℕ)) (before : List Reco
 text_says bytes done [] before place lines form at' = end_says bytes done before place lines form at'
 text_says bytes done (line ∷ left) before place lines form at' =
     by (next_at_line place line) (next_at_line_says place line)
-    (λ entry behind has e. text_says bytes (done ++ line ∷ []) left (before ++ entry ∷ []) behind (lines ∙ sym (append_assoc done (line ∷ []) left))
-    (all_zipped_more HasForm done before line entry form has) (place_behind_last before entry place at' ∙ e))
+    (λ entry after has e. text_says bytes (done ++ line ∷ []) left (before ++ entry ∷ []) after (lines ∙ sym (append_assoc done (line ∷ []) left))
+    (all_zipped_more HasForm done before line entry form has) (place_after_last before entry place at' ∙ e))
   where
-    by : (next : NextRecord) → NextSays place line next → ((entry : Record) (behind : Place) → HasForm line entry → place_behind place entry ≡ Some behind → SaysSomething bytes) → SaysSomething bytes
+    by : (next : NextRecord) → NextSays place line next → ((entry : Record) (after : Place) → HasForm line entry → next_place place entry ≡ Some after → SaysSomething bytes) → SaysSomething bytes
     by Wait said next = absurd said
-    by (Read entry behind used) said next = next entry behind said.0 said.1
+    by (Read entry after used) said next = next entry after said.0 said.1
     by (Refuse wrong) said next = inr (before, (wrong, refused_at bytes done (line ∷ left) before place lines form at' line left refl wrong said))
 
 pub every_text : (bytes : List ℕ) → SaysSomething bytes

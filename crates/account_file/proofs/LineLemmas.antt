@@ -7,7 +7,7 @@ use Rattle.std.proofs.lemmas.List.Splits.{slice_split_at, slice_split_none, leng
 use Rattle.std.proofs.lemmas.List.Sums.{split_at_first, passes_at_first, fails_before_first}
 use Rattle.text_core.specs.Bytes.{is_line_feed}
 use Rattle.text_core.specs.Lines.{IsLine}
-use Rattle.account_file.specs.Lines.{pieces_of, whole_lines, behind_lines}
+use Rattle.account_file.specs.Lines.{pieces_of, whole_lines, after_lines}
 
 more_pieces : (piece : List ℕ) (pieces : List (List ℕ)) → 0 < length pieces → take (length (piece ∷ pieces) - 1) (piece ∷ pieces) ≡ piece ∷ take (length pieces - 1) pieces
 more_pieces piece [] some = absurd (omega (arith, some))
@@ -31,16 +31,16 @@ pub lines_first : (line more : List ℕ) → IsLine line → whole_lines (line +
 lines_first line more h =
     ap (λ pieces. take (length pieces - 1) pieces) (slice_split_at is_line_feed line 10 more h refl) ∙ more_pieces line (pieces_of more) (some_piece more)
 
-pub behind_first : (line more : List ℕ) → IsLine line → behind_lines (line ++ 10 ∷ more) ≡ behind_lines more
-behind_first line more h =
+pub after_first_line : (line more : List ℕ) → IsLine line → after_lines (line ++ 10 ∷ more) ≡ after_lines more
+after_first_line line more h =
     ap (λ pieces. get_or pieces (length pieces - 1) []) (slice_split_at is_line_feed line 10 more h refl) ∙ last_piece line (pieces_of more) (some_piece more)
 
 -- no line feed
 pub lines_none : (left : List ℕ) → IsLine left → whole_lines left ≡ []
 lines_none left h = ap (λ pieces. take (length pieces - 1) pieces) (slice_split_none is_line_feed left h)
 
-pub behind_none : (left : List ℕ) → IsLine left → behind_lines left ≡ left
-behind_none left h = ap (λ pieces. get_or pieces (length pieces - 1) []) (slice_split_none is_line_feed left h)
+pub after_none : (left : List ℕ) → IsLine left → after_lines left ≡ left
+after_none left h = ap (λ pieces. get_or pieces (length pieces - 1) []) (slice_split_none is_line_feed left h)
 
 -- by the first line feed
 same_byte : (byte : ℕ) → is_line_feed byte ≡ true → byte ≡ 10

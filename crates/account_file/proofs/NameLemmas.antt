@@ -22,7 +22,7 @@ use Rattle.account_file.specs.declared.names.StepName.{StepName}
 use Rattle.account_file.specs.declared.names.StepName.TheVariants as step_name
 use Rattle.account_file.specs.declared.names.NoneName.{NoneName}
 use Rattle.account_file.specs.declared.names.NoneName.TheVariants as none_name
-use Rattle.account_file.specs.Forms.{bit_of, tri_of, with_digit, digits_by, digits_behind, values_in, bits_of, tris_of, both_bits, two_bits_of, side_of, kind_of, tallied_of, shape_name_of, step_name_of, none_name_of, record_name_of, named}
+use Rattle.account_file.specs.Forms.{bit_of, tri_of, with_digit, digits_by, digits_after, values_in, bits_of, tris_of, both_bits, two_bits_of, side_of, kind_of, tallied_of, shape_name_of, step_name_of, none_name_of, record_name_of, named}
 use Rattle.account_file.specs.Spelling.{side_word, bit_digit, tri_digit, bits_word, tris_word, tallied_word, kind_word}
 use Rattle.account_file.proofs.ReadLemmas.{IsWord}
 use Rattle.account_file.proofs.SpellingLemmas.{IsVisible, shown}
@@ -356,7 +356,7 @@ module _ {X : Type 0} (read : ℕ → Result X RecordFault) (digit : X → ℕ) 
       by (Ok x) ea (Ok rest) er e more = absurd (let clash : ⊥ = cc in clash)
 
   abbrev values : List ℕ → Result (List X) RecordFault
-  values word = values_in read (digits_behind word)
+  values word = values_in read (digits_after word)
 
   abbrev spelled : List X → List ℕ
   spelled xs = 61 ∷ map digit xs

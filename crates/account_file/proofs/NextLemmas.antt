@@ -21,39 +21,39 @@ by_used : (used : ℕ) (found : Result (Record × Place) RecordFault) (entry : R
 by_used used (Ok found) entry place n e = cc
 by_used used (Err fault) entry place n e = cc
 
-at_line : (place : Place) (line : List ℕ) (entry : Record) (behind : Place) (n : ℕ) → next_at_line place line ≡ Read entry behind n → (2 ≤ n) × (n ≡ length line + 1)
-at_line Start [] entry behind n e = cc
-at_line Headed [] entry behind n e = cc
-at_line FactLog [] entry behind n e = cc
-at_line (Logs logs) [] entry behind n e = cc
-at_line Ended line entry behind n e = cc
-at_line Start (b ∷ line) entry behind n e = let u = by_used (length (b ∷ line) + 1) (line_at Start (b ∷ line)) entry behind n e in (omega (arith, u), sym u)
-at_line Headed (b ∷ line) entry behind n e = let u = by_used (length (b ∷ line) + 1) (line_at Headed (b ∷ line)) entry behind n e in (omega (arith, u), sym u)
-at_line FactLog (b ∷ line) entry behind n e = let u = by_used (length (b ∷ line) + 1) (line_at FactLog (b ∷ line)) entry behind n e in (omega (arith, u), sym u)
-at_line (Logs logs) (b ∷ line) entry behind n e = let u = by_used (length (b ∷ line) + 1) (line_at (Logs logs) (b ∷ line)) entry behind n e in (omega (arith, u), sym u)
+at_line : (place : Place) (line : List ℕ) (entry : Record) (after : Place) (n : ℕ) → next_at_line place line ≡ Read entry after n → (2 ≤ n) × (n ≡ length line + 1)
+at_line Start [] entry after n e = cc
+at_line Headed [] entry after n e = cc
+at_line FactLog [] entry after n e = cc
+at_line (Logs logs) [] entry after n e = cc
+at_line Ended line entry after n e = cc
+at_line Start (b ∷ line) entry after n e = let u = by_used (length (b ∷ line) + 1) (line_at Start (b ∷ line)) entry after n e in (omega (arith, u), sym u)
+at_line Headed (b ∷ line) entry after n e = let u = by_used (length (b ∷ line) + 1) (line_at Headed (b ∷ line)) entry after n e in (omega (arith, u), sym u)
+at_line FactLog (b ∷ line) entry after n e = let u = by_used (length (b ∷ line) + 1) (line_at FactLog (b ∷ line)) entry after n e in (omega (arith, u), sym u)
+at_line (Logs logs) (b ∷ line) entry after n e = let u = by_used (length (b ∷ line) + 1) (line_at (Logs logs) (b ∷ line)) entry after n e in (omega (arith, u), sym u)
 
-at_end : (place : Place) (left : List ℕ) (entry : Record) (behind : Place) (n : ℕ) → next_at_end place left ≡ Read entry behind n → ⊥
-at_end Start left entry behind n e = cc
-at_end Headed left entry behind n e = cc
-at_end FactLog left entry behind n e = cc
-at_end (Logs logs) left entry behind n e = cc
-at_end Ended [] entry behind n e = cc
-at_end Ended (b ∷ left) entry behind n e = cc
+at_end : (place : Place) (left : List ℕ) (entry : Record) (after : Place) (n : ℕ) → next_at_end place left ≡ Read entry after n → ⊥
+at_end Start left entry after n e = cc
+at_end Headed left entry after n e = cc
+at_end FactLog left entry after n e = cc
+at_end (Logs logs) left entry after n e = cc
+at_end Ended [] entry after n e = cc
+at_end Ended (b ∷ left) entry after n e = cc
 
-pub used_within : (left : List ℕ) (finished : Bool) (place : Place) (entry : Record) (behind : Place) (n : ℕ) → next_of left finished place ≡ Read entry behind n → (2 ≤ n) × (n ≤ length left)
-used_within left finished place entry behind n e =
+pub used_within : (left : List ℕ) (finished : Bool) (place : Place) (entry : Record) (after : Place) (n : ℕ) → next_of left finished place ≡ Read entry after n → (2 ≤ n) × (n ≤ length left)
+used_within left finished place entry after n e =
     elim (cases_Bool (has_line left)) [
       | inl there ↦
           let line = before_first is_line_feed left in
           let other : NextRecord = cond finished (next_at_end place left) Wait in
-          let used = at_line place line entry behind n (sym (ap (λ b. cond b (next_at_line place line) other) there) ∙ e) in
+          let used = at_line place line entry after n (sym (ap (λ b. cond b (next_at_line place line) other) there) ∙ e) in
           let below = ltb-true (position_or_len is_line_feed left) (length left) there in
           (used.0, omega (arith, used.1, below, length-take (position_or_len is_line_feed left) left))
       | inr none ↦ absurd (no_read finished (sym (ap (λ b. cond b (next_at_line place (before_first is_line_feed left)) (cond finished (next_at_end place left) Wait)) none) ∙ e))
     ]
   where
-    no_read : (f : Bool) → cond f (next_at_end place left) Wait ≡ Read entry behind n → ⊥
-    no_read true read = at_end place left entry behind n read
+    no_read : (f : Bool) → cond f (next_at_end place left) Wait ≡ Read entry after n → ⊥
+    no_read true read = at_end place left entry after n read
     no_read false read = cc
 
 -- one line more was given
@@ -65,10 +65,10 @@ counted_more (Some fault) line left total used none counted two within = absurd 
 pub line_end_within : (bytes : List ℕ) (looked : ℕ) → looked ≤ position_or_len is_line_feed bytes → looked ≤ length bytes
 line_end_within bytes looked none = omega (arith, none, prefix_len-le-length (λ byte. not (is_line_feed byte)) bytes)
 
-pub line_end_behind : (bytes : List ℕ) (looked : ℕ) → looked ≤ position_or_len is_line_feed bytes → looked + position_or_len is_line_feed (drop looked bytes) ≡ position_or_len is_line_feed bytes
-line_end_behind bytes zero none = zero-add (position_or_len is_line_feed bytes)
-line_end_behind [] (suc looked) none = absurd (omega (arith, none))
-line_end_behind (byte ∷ bytes) (suc looked) none = by (not (is_line_feed byte)) none (λ rest. line_end_behind bytes looked rest)
+pub line_end_after : (bytes : List ℕ) (looked : ℕ) → looked ≤ position_or_len is_line_feed bytes → looked + position_or_len is_line_feed (drop looked bytes) ≡ position_or_len is_line_feed bytes
+line_end_after bytes zero none = zero-add (position_or_len is_line_feed bytes)
+line_end_after [] (suc looked) none = absurd (omega (arith, none))
+line_end_after (byte ∷ bytes) (suc looked) none = by (not (is_line_feed byte)) none (λ rest. line_end_after bytes looked rest)
   where
     by : (b : Bool) → suc looked ≤ cond b (1 + position_or_len is_line_feed bytes) 0
         → (looked ≤ position_or_len is_line_feed bytes → looked + position_or_len is_line_feed (drop looked bytes) ≡ position_or_len is_line_feed bytes)

@@ -8,13 +8,13 @@ use Rattle.account_file.specs.declared.record.Record.{Record}
 use Rattle.account_file.specs.declared.record.Record.TheVariants as record_of
 use Rattle.account_file.specs.declared.place.Place.{Place}
 use Rattle.account_file.specs.declared.place.Place.TheVariants.{Start, Headed, FactLog, Logs, Ended}
-use Rattle.account_file.specs.Order.{logs_behind, place_in_log, place_behind, place_after_one, place_after, AreInOrder}
+use Rattle.account_file.specs.Order.{logs_after, place_in_log, next_place, place_after_one, place_after, AreInOrder}
 
 pub place_after-push : (records : List Record) (entry : Record) → place_after (records ++ entry ∷ []) ≡ place_after_one (place_after records) entry
 place_after-push records entry = fold_push place_after_one (Some Start) records entry
 
-pub place_behind_last : (records : List Record) (entry : Record) (place : Place) → place_after records ≡ Some place → place_after (records ++ entry ∷ []) ≡ place_behind place entry
-place_behind_last records entry place e = place_after-push records entry ∙ ap (λ p. place_after_one p entry) e
+pub place_after_last : (records : List Record) (entry : Record) (place : Place) → place_after records ≡ Some place → place_after (records ++ entry ∷ []) ≡ next_place place entry
+place_after_last records entry place e = place_after-push records entry ∙ ap (λ p. place_after_one p entry) e
 
 -- no order comes after none
 none_stays : (records : List Record) → fold place_after_one None records ≡ None
@@ -43,10 +43,10 @@ place_there records all = by (place_after records) refl
     by (Some place) e = (place, e)
 
 -- after a record nothing starts
-not_start : (place : Place) (entry : Record) → place_behind place entry ≡ Some Start → ⊥
+not_start : (place : Place) (entry : Record) → next_place place entry ≡ Some Start → ⊥
 not_start (Logs logs) (record_of.Line line) e = by (eqb logs 0) e
   where
-    by : (b : Bool) → cond b None (Some (Logs (logs_behind logs line.clause))) ≡ Some Start → ⊥
+    by : (b : Bool) → cond b None (Some (Logs (logs_after logs line.clause))) ≡ Some Start → ⊥
     by true e = cc
     by false e = cc
 not_start (Logs logs) record_of.End e = by (eqb logs 0) e
@@ -94,9 +94,9 @@ not_start Ended record_of.End e = cc
 
 starts_with_nothing : (records : List Record) (place : Place) → fold place_after_one (Some place) records ≡ Some Start → (records ≡ []) × (place ≡ Start)
 starts_with_nothing [] place e = (refl, cc)
-starts_with_nothing (entry ∷ records) place e = by (place_behind place entry) refl (λ next rest. (starts_with_nothing records next rest).1)
+starts_with_nothing (entry ∷ records) place e = by (next_place place entry) refl (λ next rest. (starts_with_nothing records next rest).1)
   where
-    by : (p : Option Place) → place_behind place entry ≡ p → ((next : Place) → fold place_after_one (Some next) records ≡ Some Start → next ≡ Start) → (entry ∷ records ≡ []) × (place ≡ Start)
+    by : (p : Option Place) → next_place place entry ≡ p → ((next : Place) → fold place_after_one (Some next) records ≡ Some Start → next ≡ Start) → (entry ∷ records ≡ []) × (place ≡ Start)
     by None is first =
         let none : None ≡ Some Start = sym (ap (λ p. fold place_after_one p records) is ∙ none_stays records) ∙ e in
         absurd (let no : ⊥ = cc in no)

@@ -42,12 +42,12 @@ pub record IsStuck (p : Behind) (words : List (List ℕ)) : Type 0 where
   pub more : List (List ℕ)
   pub words_are : words ≡ front ++ word ∷ more
   pub digits : is_numeral word ≡ true
-  pub stuck : (behind : List (List ℕ)) → p (front ++ word ∷ behind) ≡ Err Number
-  pub fits : (n : ℕ) → n < 2 ^ 32 → CanRead (λ behind. p (front ++ decimal n ∷ behind))
+  pub stuck : (after : List (List ℕ)) → p (front ++ word ∷ after) ≡ Err Number
+  pub fits : (n : ℕ) → n < 2 ^ 32 → CanRead (λ after. p (front ++ decimal n ∷ after))
 
 -- a word after others is a bad number, or fits
 abbrev pub Decides : Behind → List (List ℕ) → List ℕ → Type 0
-Decides p front word = ((behind : List (List ℕ)) → p (front ++ word ∷ behind) ≡ Err Number) ⊎ CanRead (λ behind. p (front ++ word ∷ behind))
+Decides p front word = ((after : List (List ℕ)) → p (front ++ word ∷ after) ≡ Err Number) ⊎ CanRead (λ after. p (front ++ word ∷ after))
 
 pub record IsRead (p : Behind) : Type 0 where
   pub some : CanRead p
@@ -87,7 +87,7 @@ next_read {X} read k w r = record {
     at' : (word : List ℕ) (a : Result X RecordFault) → read word ≡ a → (words : List (List ℕ)) → P (word ∷ words) ≡ followed (with_words a words) k
     at' word a is words = ap (λ b. followed (with_words b words) k) is
 
-    reads : (word : List ℕ) → Wrote read word → CanRead (λ behind. P (word ∷ behind))
+    reads : (word : List ℕ) → Wrote read word → CanRead (λ after. P (word ∷ after))
     reads word x = let c = (r x.value).some in record { words = c.words; entry = c.entry; read = at' word (Ok x.value) x.is c.words ∙ c.read }
 
     faults : (words : List (List ℕ)) (fault : RecordFault) → P words ≡ Err fault → IsWordOrNumber fault
@@ -111,7 +111,7 @@ next_read {X} read k w r = record {
               more = s.more;
               words_are = ap (λ l. word ∷ l) s.words_are;
               digits = s.digits;
-              stuck = λ behind. at' word (Ok x) is (s.front ++ s.word ∷ behind) ∙ s.stuck behind;
+              stuck = λ after. at' word (Ok x) is (s.front ++ s.word ∷ after) ∙ s.stuck after;
               fits = λ n small. let c = s.fits n small in record { words = c.words; entry = c.entry; read = at' word (Ok x) is (s.front ++ decimal n ∷ c.words) ∙ c.read };
             }
         by (Err f) is e =
@@ -123,7 +123,7 @@ next_read {X} read k w r = record {
               more = words;
               words_are = refl;
               digits = w.digits word bad;
-              stuck = λ behind. at' word (Err Number) bad behind;
+              stuck = λ after. at' word (Err Number) bad after;
               fits = λ n small. reads (decimal n) (w.fits word bad n small);
             }
 
@@ -132,7 +132,7 @@ next_read {X} read k w r = record {
       where
         by : (a : Result X RecordFault) → read (codes "0") ≡ a → followed (with_words a more) k ≡ Ok entry → Decides P [] word
         by (Ok x) is e = elim (w.zero x word is digits) [
-          | inl bad ↦ inl (λ behind. at' word (Err Number) bad behind)
+          | inl bad ↦ inl (λ after. at' word (Err Number) bad after)
           | inr good ↦ inr (reads word good)
         ]
         by (Err f) is e = absurd (let no : ⊥ = cc in no)
@@ -140,7 +140,7 @@ next_read {X} read k w r = record {
       where
         by : (a : Result X RecordFault) → read first ≡ a → followed (with_words a (front ++ codes "0" ∷ more)) k ≡ Ok entry → Decides P (first ∷ front) word
         by (Ok x) is e = elim ((r x).zero front more word entry e digits) [
-          | inl bad ↦ inl (λ behind. at' first (Ok x) is (front ++ word ∷ behind) ∙ bad behind)
+          | inl bad ↦ inl (λ after. at' first (Ok x) is (front ++ word ∷ after) ∙ bad after)
           | inr c ↦ inr (record { words = c.words; entry = c.entry; read = at' first (Ok x) is (front ++ word ∷ c.words) ∙ c.read })
         ]
         by (Err f) is e = absurd (let no : ⊥ = cc in no)
@@ -198,7 +198,7 @@ module _ {X : Type 0} (read : List ℕ → Result X RecordFault) (w : IsWord rea
           let same : f ≡ fault = cc in
           w.faults word fault (ra ∙ ap Err same)
 
-  reads_item : (k : List X → Behind) → ((xs : List X) → CanEnd (k xs)) → (word : List ℕ) → is_separator word ≡ false → Wrote read word → CanRead (λ behind. ListThen k (word ∷ behind))
+  reads_item : (k : List X → Behind) → ((xs : List X) → CanEnd (k xs)) → (word : List ℕ) → is_separator word ≡ false → Wrote read word → CanRead (λ after. ListThen k (word ∷ after))
   reads_item k c word other x =
       let end = c (x.value ∷ []) in
       record { words = end.words; entry = end.entry; read = at_item k word end.words x.value other x.is ∙ at_stop (λ xs. k (x.value ∷ xs)) end.words end.ends ∙ end.read }
@@ -221,7 +221,7 @@ module _ {X : Type 0} (read : List ℕ → Result X RecordFault) (w : IsWord rea
             more = s.more;
             words_are = s.words_are ∙ ap (λ l. l ++ s.word ∷ s.more) some;
             digits = s.digits;
-            stuck = λ behind. at_stop k (first ∷ front ++ s.word ∷ behind) sep ∙ ap (λ l. k [] (l ++ s.word ∷ behind)) (sym some) ∙ s.stuck behind;
+            stuck = λ after. at_stop k (first ∷ front ++ s.word ∷ after) sep ∙ ap (λ l. k [] (l ++ s.word ∷ after)) (sym some) ∙ s.stuck after;
             fits = λ n small.
                 let f = s.fits n small in
                 record { words = f.words; entry = f.entry; read = at_stop k (first ∷ front ++ decimal n ∷ f.words) sep ∙ ap (λ l. k [] (l ++ decimal n ∷ f.words)) (sym some) ∙ f.read };
@@ -238,7 +238,7 @@ module _ {X : Type 0} (read : List ℕ → Result X RecordFault) (w : IsWord rea
             more = s.more;
             words_are = ap (λ l. word ∷ l) s.words_are;
             digits = s.digits;
-            stuck = λ behind. at_item k word (s.front ++ s.word ∷ behind) x is ra ∙ s.stuck behind;
+            stuck = λ after. at_item k word (s.front ++ s.word ∷ after) x is ra ∙ s.stuck after;
             fits = λ n small. let f = s.fits n small in record { words = f.words; entry = f.entry; read = at_item k word (s.front ++ decimal n ∷ f.words) x is ra ∙ f.read };
           }
       by false is (Err f) ra more =
@@ -251,7 +251,7 @@ module _ {X : Type 0} (read : List ℕ → Result X RecordFault) (w : IsWord rea
             more = words;
             words_are = refl;
             digits = w.digits word bad;
-            stuck = λ behind. at_word k word behind (Err Number) is bad;
+            stuck = λ after. at_word k word after (Err Number) is bad;
             fits = λ n small. reads_item k c (decimal n) (numbers n small) (w.fits word bad n small);
           }
 
@@ -261,7 +261,7 @@ module _ {X : Type 0} (read : List ℕ → Result X RecordFault) (w : IsWord rea
     where
       by : (a : Result X RecordFault) → read (codes "0") ≡ a → Decides (ListThen k) [] word
       by (Ok x) is = elim (w.zero x word is digits) [
-        | inl bad ↦ inl (λ behind. at_word k word behind (Err Number) (digits_no_separator word digits) bad)
+        | inl bad ↦ inl (λ after. at_word k word after (Err Number) (digits_no_separator word digits) bad)
         | inr good ↦ inr (reads_item k c word (digits_no_separator word digits) good)
       ]
       by (Err f) is = absurd (let both : Err f ≡ Ok entry = sym (at_word k (codes "0") more (Err f) refl is) ∙ e in cc)
@@ -271,11 +271,11 @@ module _ {X : Type 0} (read : List ℕ → Result X RecordFault) (w : IsWord rea
       by : (s : Bool) → is_separator first ≡ s → (a : Result X RecordFault) → read first ≡ a
           → ((x : X) → ListThen (λ xs. k (x ∷ xs)) (front ++ codes "0" ∷ more) ≡ Ok entry → Decides (ListThen (λ xs. k (x ∷ xs))) front word) → Decides (ListThen k) (first ∷ front) word
       by true is a ra rest = elim ((r []).zero (first ∷ front) more word entry (sym (at_stop k (first ∷ front ++ codes "0" ∷ more) is) ∙ e) digits) [
-        | inl bad ↦ inl (λ behind. at_stop k (first ∷ front ++ word ∷ behind) is ∙ bad behind)
+        | inl bad ↦ inl (λ after. at_stop k (first ∷ front ++ word ∷ after) is ∙ bad after)
         | inr f ↦ inr (record { words = f.words; entry = f.entry; read = at_stop k (first ∷ front ++ word ∷ f.words) is ∙ f.read })
       ]
       by false is (Ok x) ra rest = elim (rest x (sym (at_item k first (front ++ codes "0" ∷ more) x is ra) ∙ e)) [
-        | inl bad ↦ inl (λ behind. at_item k first (front ++ word ∷ behind) x is ra ∙ bad behind)
+        | inl bad ↦ inl (λ after. at_item k first (front ++ word ∷ after) x is ra ∙ bad after)
         | inr f ↦ inr (record { words = f.words; entry = f.entry; read = at_item k first (front ++ word ∷ f.words) x is ra ∙ f.read })
       ]
       by false is (Err f) ra rest = absurd (let both : Err f ≡ Ok entry = sym (at_word k first (front ++ codes "0" ∷ more) (Err f) is ra) ∙ e in cc)
@@ -331,11 +331,11 @@ same_read p q same r = record {
         more = s.more;
         words_are = s.words_are;
         digits = s.digits;
-        stuck = λ behind. same (s.front ++ s.word ∷ behind) ∙ s.stuck behind;
+        stuck = λ after. same (s.front ++ s.word ∷ after) ∙ s.stuck after;
         fits = λ n small. let f = s.fits n small in record { words = f.words; entry = f.entry; read = same (s.front ++ decimal n ∷ f.words) ∙ f.read };
       };
   zero = λ front more word entry e digits. elim (r.zero front more word entry (sym (same (front ++ codes "0" ∷ more)) ∙ e) digits) [
-    | inl bad ↦ inl (λ behind. same (front ++ word ∷ behind) ∙ bad behind)
+    | inl bad ↦ inl (λ after. same (front ++ word ∷ after) ∙ bad after)
     | inr f ↦ inr (record { words = f.words; entry = f.entry; read = same (front ++ word ∷ f.words) ∙ f.read })
   ];
 }
@@ -345,9 +345,9 @@ regrouped {X} {Y} (Ok part) q k = refl
 regrouped {X} {Y} (Err fault) q k = refl
 
 pub nested_read : {X Y : Type 0} (p : List (List ℕ) → Parsed X) (q : X → List (List ℕ) → Parsed Y) (k : Y → Behind)
-    → IsRead (λ words. followed (p words) (λ x behind. followed (q x behind) k)) → IsRead (λ words. followed (followed (p words) q) k)
-nested_read {X} {Y} p q k r = same_read (λ words. followed (p words) (λ x behind. followed (q x behind) k)) (λ words. followed (followed (p words) q) k) (λ words. regrouped (p words) q k) r
+    → IsRead (λ words. followed (p words) (λ x after. followed (q x after) k)) → IsRead (λ words. followed (followed (p words) q) k)
+nested_read {X} {Y} p q k r = same_read (λ words. followed (p words) (λ x after. followed (q x after) k)) (λ words. followed (followed (p words) q) k) (λ words. regrouped (p words) q k) r
 
 pub nested_end : {X Y : Type 0} (p : List (List ℕ) → Parsed X) (q : X → List (List ℕ) → Parsed Y) (k : Y → Behind)
-    → CanEnd (λ words. followed (p words) (λ x behind. followed (q x behind) k)) → CanEnd (λ words. followed (followed (p words) q) k)
+    → CanEnd (λ words. followed (p words) (λ x after. followed (q x after) k)) → CanEnd (λ words. followed (followed (p words) q) k)
 nested_end {X} {Y} p q k c = record { words = c.words; entry = c.entry; ends = c.ends; read = regrouped (p c.words) q k ∙ c.read }

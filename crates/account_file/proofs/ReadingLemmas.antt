@@ -18,24 +18,24 @@ use Rattle.account_file.specs.declared.place.Place.{Place}
 use Rattle.account_file.specs.declared.place.Place.TheVariants.{Start, Headed, FactLog, Logs, Ended}
 use Rattle.account_file.specs.declared.next_record.NextRecord.{NextRecord}
 use Rattle.account_file.specs.declared.next_record.NextRecord.TheVariants.{Wait, Read, Refuse}
-use Rattle.account_file.specs.Lines.{whole_lines, behind_lines}
-use Rattle.account_file.specs.Order.{place_behind, place_after, AreInOrder}
+use Rattle.account_file.specs.Lines.{whole_lines, after_lines}
+use Rattle.account_file.specs.Order.{next_place, place_after, AreInOrder}
 use Rattle.account_file.specs.Accounts.{HasForm, AreRecords, LineFault, EndFault, HasFormFault, SaysNext}
 use Rattle.account_file.specs.Reading.{Reading, HasRead, given_by}
 use Rattle.account_file.specs.Spelling.{IsWritable, record_line}
-use Rattle.account_file.specs.NextRecords.{has_line, next_at_line, next_at_end, next_of, answer_by, reading_behind, next_answer, next_reading}
+use Rattle.account_file.specs.NextRecords.{has_line, next_at_line, next_at_end, next_of, answer_by, reading_after, next_answer, next_reading}
 use Rattle.account_file.specs.Texts.{Answers, Says}
-use Rattle.account_file.proofs.AccountLemmas.{texts_of, length_texts, lines_of_records, behind_records, have_forms, FaultThere, NextSays, next_at_line_says, line_fault}
-use Rattle.account_file.proofs.LineLemmas.{lines_first, lines_none, behind_none, cut_first, before_first_is_line, no_line_feed_is_line, lines_stay}
-use Rattle.account_file.proofs.OrderLemmas.{place_behind_last}
+use Rattle.account_file.proofs.AccountLemmas.{texts_of, length_texts, lines_of_records, after_records, have_forms, FaultThere, NextSays, next_at_line_says, line_fault}
+use Rattle.account_file.proofs.LineLemmas.{lines_first, lines_none, after_none, cut_first, before_first_is_line, no_line_feed_is_line, lines_stay}
+use Rattle.account_file.proofs.OrderLemmas.{place_after_last}
 
 -- a text that begins with the lines of records, after which an account stands so
 module _ (bytes left : List ℕ) (records : List Record) (place : Place) (text : bytes ≡ flat_map record_line records ++ left) (w : All IsWritable records) (at' : place_after records ≡ Some place) where
   lines_are : whole_lines bytes ≡ texts_of records ++ whole_lines left
   lines_are = ap whole_lines text ∙ lines_of_records records left w
 
-  rest_is : behind_lines bytes ≡ behind_lines left
-  rest_is = ap behind_lines text ∙ behind_records records left w
+  rest_is : after_lines bytes ≡ after_lines left
+  rest_is = ap after_lines text ∙ after_records records left w
 
   in_order : AreInOrder records
   in_order = subst IsSome (sym at') refl
@@ -74,9 +74,9 @@ module _ (bytes left : List ℕ) (records : List Record) (place : Place) (text :
 
     line_says : (finished : Bool) (next : NextRecord) → NextSays place line next → SaysNext bytes finished records (answer_by next)
     line_says finished Wait said = absurd said
-    line_says finished (Read entry behind used) said = record {
+    line_says finished (Read entry after used) said = record {
       form = subst (λ l. AllZip HasForm l (records ++ entry ∷ [])) (sym front_is) (all_zipped_more HasForm (texts_of records) records line entry (have_forms records w) said.0);
-      order = subst IsSome (sym (place_behind_last records entry place at' ∙ said.1)) refl;
+      order = subst IsSome (sym (place_after_last records entry place at' ∙ said.1)) refl;
     }
     line_says true (Refuse wrong) said = refused wrong said
     line_says false (Refuse wrong) said = (refused wrong said, below)
@@ -89,8 +89,8 @@ module _ (bytes left : List ℕ) (records : List Record) (place : Place) (text :
     all_are : AreRecords (whole_lines bytes) records
     all_are = record { form = subst (λ l. AllZip HasForm l records) (sym no_line) (have_forms records w); order = in_order }
 
-    left_is : behind_lines bytes ≡ left
-    left_is = rest_is ∙ behind_none left none
+    left_is : after_lines bytes ≡ left
+    left_is = rest_is ∙ after_none left none
 
     end_fault : (wrong : RecordFault) → EndFault records left wrong → HasFormFault bytes records wrong
     end_fault wrong h = record {
@@ -111,7 +111,7 @@ end_says bytes left records (Logs logs) text w at' none = cut_off bytes left rec
 end_says bytes [] records Ended text w at' none = record {
   records_are = all_are bytes [] records Ended text w at' none;
   ended = at';
-  nothing_behind = left_is bytes [] records Ended text w at' none;
+  nothing_after = left_is bytes [] records Ended text w at' none;
 }
 end_says bytes (byte ∷ left) records Ended text w at' none =
     end_fault bytes (byte ∷ left) records Ended text w at' none fault.Trailing (at', λ e. cc)
@@ -216,20 +216,20 @@ abbrev faults_given : Option RecordFault → ℕ
 faults_given given = cond (is_some given) 1 0
 
 -- what is left after a record
-record NextLeaves (place : Place) (left : List ℕ) (entry : Record) (behind : Place) (used : ℕ) : Type 0 where
+record NextLeaves (place : Place) (left : List ℕ) (entry : Record) (after : Place) (used : ℕ) : Type 0 where
   pub writable : IsWritable entry
   pub text : left ≡ record_line entry ++ drop used left
-  pub place_is : place_behind place entry ≡ Some behind
+  pub place_is : next_place place entry ≡ Some after
 
 abbrev Leaves : Place → List ℕ → NextRecord → Type 0
 Leaves place left Wait = Unit {0}
-Leaves place left (Read entry behind used) = NextLeaves place left entry behind used
+Leaves place left (Read entry after used) = NextLeaves place left entry after used
 Leaves place left (Refuse wrong) = Unit {0}
 
 leaves : (place : Place) (left : List ℕ) (next : NextRecord) → position_or_len is_line_feed left < length left → NextSays place (before_first is_line_feed left) next → Leaves place left next
 leaves place left Wait below said = tt
 leaves place left (Refuse wrong) below said = tt
-leaves place left (Read entry behind used) below said =
+leaves place left (Read entry after used) below said =
     let line = before_first is_line_feed left in
     let n = position_or_len is_line_feed left in
     let long : length line ≡ n = length-take-le n left (omega (arith, below)) in
@@ -268,13 +268,13 @@ module _ (reading : Reading) (bytes : List ℕ) (records : List Record) (has : H
   reads_nothing = subst (λ l. HasRead reading bytes l) (sym (append-nil records)) has
 
   reads_next : (next : NextRecord) → reading.fault ≡ None → Leaves reading.place reading.left next → SaysNext bytes reading.finished records (answer_by next)
-      → HasRead (reading_behind reading next) bytes (records ++ given_by (answer_by next))
+      → HasRead (reading_after reading next) bytes (records ++ given_by (answer_by next))
   reads_next Wait none left' said = reads_nothing
-  reads_next (Read entry behind used) none left' said = record {
+  reads_next (Read entry after used) none left' said = record {
     text = has.text ∙ ap (λ l. flat_map record_line records ++ l) left'.text ∙ sym (append_assoc (flat_map record_line records) (record_line entry) (drop used reading.left))
         ∙ ap (λ l. l ++ drop used reading.left) (ap (λ l. flat_map record_line records ++ l) (sym (append-nil (record_line entry))) ∙ sym (flat_map-append record_line records (entry ∷ [])));
     writable = All-push IsWritable records entry has.writable left'.writable;
-    place = place_behind_last records entry reading.place has.place ∙ left'.place_is;
+    place = place_after_last records entry reading.place has.place ∙ left'.place_is;
     line = let given = without_fault reading.fault none in omega (arith, given, has.line, length-append records (entry ∷ []));
     total = has.total;
     fault = subst (λ o. IfSome o (λ wrong. SaysNext bytes reading.finished (records ++ entry ∷ []) (Err wrong))) (sym none) tt;

@@ -34,10 +34,10 @@ use Rattle.account_file.proofs.ValueLemmas.{IsSpelled, AreItems, port_spelled, p
 -- a part was read in front of the words after it
 pub record Taken {X Y : Type 0} (print : X → List (List ℕ)) (IsFit : X → Type 0) (words : List (List ℕ)) (k : X → List (List ℕ) → Result Y RecordFault) (y : Y) : Type 0 where
   pub value : X
-  pub behind : List (List ℕ)
-  pub words_are : words ≡ print value ++ behind
+  pub after : List (List ℕ)
+  pub words_are : words ≡ print value ++ after
   pub fit : IsFit value
-  pub rest : k value behind ≡ Ok y
+  pub rest : k value after ≡ Ok y
 
 abbrev IsPart : {X : Type 0} → (List (List ℕ) → Parsed X) → (X → List (List ℕ)) → (X → Type 0) → Type 0
 IsPart {X} p print IsFit = (words : List (List ℕ)) (part : X × List (List ℕ)) → p words ≡ Ok part → (words ≡ print part.0 ++ part.1) × IsFit part.0
@@ -47,7 +47,7 @@ take_part : {X Y : Type 0} (p : List (List ℕ) → Parsed X) (print : X → Lis
 take_part {X} {Y} p print IsFit is_part words k y e = by (p words) refl e
   where
     by : (a : Parsed X) → p words ≡ a → followed a k ≡ Ok y → Taken print IsFit words k y
-    by (Ok part) is e = let w = is_part words part is in record { value = part.0; behind = part.1; words_are = w.0; fit = w.1; rest = e }
+    by (Ok part) is e = let w = is_part words part is in record { value = part.0; after = part.1; words_are = w.0; fit = w.1; rest = e }
     by (Err fault) is e = absurd (let clash : ⊥ = cc in clash)
 
 module _ {X : Type 0} (read : List ℕ → Result X RecordFault) (spell : X → List ℕ) (IsFit : X → Type 0) (s : IsSpelled read spell IsFit) where
@@ -115,17 +115,17 @@ ShapeIs words part = (words ≡ shape_words part.0 ++ part.1) × ShapeHasPorts p
 shape_named : (name : ShapeName) (words : List (List ℕ)) (part : Shape × List (List ℕ)) → shape_by name words ≡ Ok part → ShapeIs (shape_word name ∷ words) part
 shape_named shape_name.Up words part e =
     let i = port words _ part e in
-    let same : (Up i.value, i.behind) ≡ part = let last = i.rest in cc in
+    let same : (Up i.value, i.after) ≡ part = let last = i.rest in cc in
     subst (ShapeIs (codes "up" ∷ words)) same (ap (λ l. codes "up" ∷ l) i.words_are, i.fit)
 shape_named shape_name.Down words part e =
     let i = port words _ part e in
-    let same : (Down i.value, i.behind) ≡ part = let last = i.rest in cc in
+    let same : (Down i.value, i.after) ≡ part = let last = i.rest in cc in
     subst (ShapeIs (codes "down" ∷ words)) same (ap (λ l. codes "down" ∷ l) i.words_are, i.fit)
 shape_named shape_name.Swap words part e =
     let i = port words _ part e in
-    let j = port i.behind _ part i.rest in
-    let bits = take_word two_bits_of two_bits_word Any two_bits_spelled j.behind _ part j.rest in
-    let same : (Swap i.value j.value bits.value.0 bits.value.1, bits.behind) ≡ part = let last = bits.rest in cc in
+    let j = port i.after _ part i.rest in
+    let bits = take_word two_bits_of two_bits_word Any two_bits_spelled j.after _ part j.rest in
+    let same : (Swap i.value j.value bits.value.0 bits.value.1, bits.after) ≡ part = let last = bits.rest in cc in
     subst (ShapeIs (codes "swap" ∷ words)) same (
       ap (λ l. codes "swap" ∷ l) i.words_are ∙ ap (λ l. codes "swap" ∷ decimal i.value ∷ l) j.words_are
           ∙ ap (λ l. codes "swap" ∷ decimal i.value ∷ decimal j.value ∷ l) bits.words_are,
@@ -135,16 +135,16 @@ shape_named shape_name.Swap words part e =
 shape_part : IsPart shape_of shape_words ShapeHasPorts
 shape_part words part e =
     let name = take_word shape_name_of shape_word Any shape_name_spelled words _ part e in
-    let is = shape_named name.value name.behind part name.rest in
+    let is = shape_named name.value name.after part name.rest in
     (name.words_are ∙ is.0, is.1)
 
 claim_part : IsPart claim_of claim_words ClaimHasPorts
 claim_part words part e =
     let side = take_word side_of side_word Any side_spelled words _ part e in
-    let output = port side.behind _ part side.rest in
-    let shape = take_part shape_of shape_words ShapeHasPorts shape_part output.behind _ part output.rest in
+    let output = port side.after _ part side.rest in
+    let shape = take_part shape_of shape_words ShapeHasPorts shape_part output.after _ part output.rest in
     let claim : Claim = record { side = side.value; output = output.value; shape = shape.value } in
-    let same : (claim, shape.behind) ≡ part = let last = shape.rest in cc in
+    let same : (claim, shape.after) ≡ part = let last = shape.rest in cc in
     subst (λ (p : Claim × List (List ℕ)). (words ≡ claim_words p.0 ++ p.1) × ClaimHasPorts p.0) same (
       side.words_are ∙ ap (λ l. side_word side.value ∷ l) output.words_are ∙ ap (λ l. side_word side.value ∷ decimal output.value ∷ l) shape.words_are,
       record { output = output.fit; shape = shape.fit },
@@ -158,50 +158,50 @@ StepIs words part = (words ≡ step_words part.0 ++ part.1) × StepHasNumbers pa
 step_vector : (words : List (List ℕ)) (part : Step × List (List ℕ)) → step_by step_name.Vector words ≡ Ok part → StepIs (codes "vector" ∷ words) part
 step_vector words part e =
     let output = port words _ part e in
-    let tris = take_word tris_of tris_word Any tris_spelled output.behind _ part output.rest in
-    let same : (Vector output.value tris.value, tris.behind) ≡ part = let last = tris.rest in cc in
+    let tris = take_word tris_of tris_word Any tris_spelled output.after _ part output.rest in
+    let same : (Vector output.value tris.value, tris.after) ≡ part = let last = tris.rest in cc in
     subst (StepIs (codes "vector" ∷ words)) same (ap (λ l. codes "vector" ∷ l) output.words_are ∙ ap (λ l. codes "vector" ∷ decimal output.value ∷ l) tris.words_are, output.fit)
 
 step_mismatch : (words : List (List ℕ)) (part : Step × List (List ℕ)) → step_by step_name.Mismatch words ≡ Ok part → StepIs (codes "mismatch" ∷ words) part
 step_mismatch words part e =
     let fails = number words _ part e in
-    let holds = number fails.behind _ part fails.rest in
-    let same : (Mismatch fails.value holds.value, holds.behind) ≡ part = let last = holds.rest in cc in
+    let holds = number fails.after _ part fails.rest in
+    let same : (Mismatch fails.value holds.value, holds.after) ≡ part = let last = holds.rest in cc in
     subst (StepIs (codes "mismatch" ∷ words)) same
     (ap (λ l. codes "mismatch" ∷ l) fails.words_are ∙ ap (λ l. codes "mismatch" ∷ decimal fails.value ∷ l) holds.words_are, (fails.fit, holds.fit))
 
 step_tally : (words : List (List ℕ)) (part : Step × List (List ℕ)) → step_by step_name.Tally words ≡ Ok part → StepIs (codes "tally" ∷ words) part
 step_tally words part e =
     let kind = take_word tallied_of tallied_word Any tallied_spelled words _ part e in
-    let have = take_list number_of decimal IsNumber number_is_spelled kind.behind _ part kind.rest in
-    let slash = take_name (codes "/") have.behind _ part have.rest in
-    let lack = take_list number_of decimal IsNumber number_is_spelled slash.behind _ part slash.rest in
-    let same : (Tally kind.value have.value lack.value, lack.behind) ≡ part = let last = lack.rest in cc in
+    let have = take_list number_of decimal IsNumber number_is_spelled kind.after _ part kind.rest in
+    let slash = take_name (codes "/") have.after _ part have.rest in
+    let lack = take_list number_of decimal IsNumber number_is_spelled slash.after _ part slash.rest in
+    let same : (Tally kind.value have.value lack.value, lack.after) ≡ part = let last = lack.rest in cc in
     let front : List (List ℕ) → List (List ℕ) = λ l. codes "tally" ∷ tallied_word kind.value ∷ l in
     subst (StepIs (codes "tally" ∷ words)) same (
       ap (λ l. codes "tally" ∷ l) kind.words_are ∙ ap front have.words_are
           ∙ ap (λ l. front (map decimal have.value ++ l)) (slash.words_are ∙ ap (λ l. codes "/" ∷ l) lack.words_are)
-          ∙ ap front (sym (append_assoc (map decimal have.value) (codes "/" ∷ map decimal lack.value) lack.behind)),
+          ∙ ap front (sym (append_assoc (map decimal have.value) (codes "/" ∷ map decimal lack.value) lack.after)),
       (have.fit, lack.fit),
     )
 
 step_cover : (words : List (List ℕ)) (part : Step × List (List ℕ)) → step_by step_name.Cover words ≡ Ok part → StepIs (codes "cover" ∷ words) part
 step_cover words part e =
     let kind = take_word kind_of kind_word Any kind_spelled words _ part e in
-    let from = take_list port_of decimal IsPort port_spelled kind.behind _ part kind.rest in
-    let slash = take_name (codes "/") from.behind _ part from.rest in
-    let to = take_list port_of decimal IsPort port_spelled slash.behind _ part slash.rest in
-    let second = take_name (codes "/") to.behind _ part to.rest in
-    let refs = take_list reference_of reference_word IsReference reference_spelled second.behind _ part second.rest in
-    let same : (Cover kind.value from.value to.value refs.value, refs.behind) ≡ part = let last = refs.rest in cc in
+    let from = take_list port_of decimal IsPort port_spelled kind.after _ part kind.rest in
+    let slash = take_name (codes "/") from.after _ part from.rest in
+    let to = take_list port_of decimal IsPort port_spelled slash.after _ part slash.rest in
+    let second = take_name (codes "/") to.after _ part to.rest in
+    let refs = take_list reference_of reference_word IsReference reference_spelled second.after _ part second.rest in
+    let same : (Cover kind.value from.value to.value refs.value, refs.after) ≡ part = let last = refs.rest in cc in
     let front : List (List ℕ) → List (List ℕ) = λ l. codes "cover" ∷ kind_word kind.value ∷ l in
-    let tail : slash.behind ≡ (map decimal to.value ++ codes "/" ∷ map reference_word refs.value) ++ refs.behind =
+    let tail : slash.after ≡ (map decimal to.value ++ codes "/" ∷ map reference_word refs.value) ++ refs.after =
     to.words_are ∙ ap (λ l. map decimal to.value ++ l) (second.words_are ∙ ap (λ l. codes "/" ∷ l) refs.words_are)
-    ∙ sym (append_assoc (map decimal to.value) (codes "/" ∷ map reference_word refs.value) refs.behind) in
+    ∙ sym (append_assoc (map decimal to.value) (codes "/" ∷ map reference_word refs.value) refs.after) in
     subst (StepIs (codes "cover" ∷ words)) same (
       ap (λ l. codes "cover" ∷ l) kind.words_are ∙ ap front from.words_are
           ∙ ap (λ l. front (map decimal from.value ++ l)) (slash.words_are ∙ ap (λ l. codes "/" ∷ l) tail)
-          ∙ ap front (sym (append_assoc (map decimal from.value) (codes "/" ∷ (map decimal to.value ++ codes "/" ∷ map reference_word refs.value)) refs.behind)),
+          ∙ ap front (sym (append_assoc (map decimal from.value) (codes "/" ∷ (map decimal to.value ++ codes "/" ∷ map reference_word refs.value)) refs.after)),
       (from.fit, (to.fit, refs.fit)),
     )
 
@@ -214,7 +214,7 @@ step_named step_name.Cover words part e = step_cover words part e
 step_part : IsPart step_of step_words StepHasNumbers
 step_part words part e =
     let name = take_word step_name_of step_word Any step_name_spelled words _ part e in
-    let is = step_named name.value name.behind part name.rest in
+    let is = step_named name.value name.after part name.rest in
     (name.words_are ∙ is.0, is.1)
 
 -- records
@@ -228,43 +228,43 @@ RecordIs words part = (words ≡ record_words part.0 ++ part.1) × IsWritable pa
 record_fails : (words : List (List ℕ)) (part : Record × List (List ℕ)) → record_by record_name.Fails words ≡ Ok part → RecordIs (codes "fails" ∷ words) part
 record_fails words part e =
     let claim = take_part claim_of claim_words ClaimHasPorts claim_part words _ part e in
-    let bits = take_word bits_of bits_word Any bits_spelled claim.behind _ part claim.rest in
-    let same : (record_of.Fact (Fails claim.value bits.value), bits.behind) ≡ part = let last = bits.rest in cc in
+    let bits = take_word bits_of bits_word Any bits_spelled claim.after _ part claim.rest in
+    let same : (record_of.Fact (Fails claim.value bits.value), bits.after) ≡ part = let last = bits.rest in cc in
     subst (RecordIs (codes "fails" ∷ words)) same (
       ap (λ l. codes "fails" ∷ l) claim.words_are ∙ ap (λ l. codes "fails" ∷ claim_words claim.value ++ l) bits.words_are
-          ∙ ap (λ l. codes "fails" ∷ l) (sym (append_assoc (claim_words claim.value) (bits_word bits.value ∷ []) bits.behind)),
+          ∙ ap (λ l. codes "fails" ∷ l) (sym (append_assoc (claim_words claim.value) (bits_word bits.value ∷ []) bits.after)),
       claim.fit,
     )
 
 record_holds : (words : List (List ℕ)) (part : Record × List (List ℕ)) → record_by record_name.Holds words ≡ Ok part → RecordIs (codes "holds" ∷ words) part
 record_holds words part e =
     let claim = take_part claim_of claim_words ClaimHasPorts claim_part words _ part e in
-    let same : (record_of.Fact (Holds claim.value), claim.behind) ≡ part = let last = claim.rest in cc in
+    let same : (record_of.Fact (Holds claim.value), claim.after) ≡ part = let last = claim.rest in cc in
     subst (RecordIs (codes "holds" ∷ words)) same (ap (λ l. codes "holds" ∷ l) claim.words_are, claim.fit)
 
 record_log : (words : List (List ℕ)) (part : Record × List (List ℕ)) → record_by record_name.Line words ≡ Ok part → RecordIs (codes "l" ∷ words) part
 record_log words part e =
     let clause = take_list literal_of literal_word (λ literal. IsNumber literal.0) literal_spelled words _ part e in
-    let colon = take_name (codes ":") clause.behind _ part clause.rest in
-    let hints = take_list number_of decimal IsNumber number_is_spelled colon.behind _ part colon.rest in
-    let same : (record_of.Line (record { clause = clause.value; hints = hints.value }), hints.behind) ≡ part = let last = hints.rest in cc in
+    let colon = take_name (codes ":") clause.after _ part clause.rest in
+    let hints = take_list number_of decimal IsNumber number_is_spelled colon.after _ part colon.rest in
+    let same : (record_of.Line (record { clause = clause.value; hints = hints.value }), hints.after) ≡ part = let last = hints.rest in cc in
     subst (RecordIs (codes "l" ∷ words)) same (
       ap (λ l. codes "l" ∷ l) clause.words_are
           ∙ ap (λ l. codes "l" ∷ map literal_word clause.value ++ l) (colon.words_are ∙ ap (λ l. codes ":" ∷ l) hints.words_are)
-          ∙ ap (λ l. codes "l" ∷ l) (sym (append_assoc (map literal_word clause.value) (codes ":" ∷ map decimal hints.value) hints.behind)),
+          ∙ ap (λ l. codes "l" ∷ l) (sym (append_assoc (map literal_word clause.value) (codes ":" ∷ map decimal hints.value) hints.after)),
       record { literals = clause.fit; hints = hints.fit },
     )
 
 record_ban : (words : List (List ℕ)) (part : Record × List (List ℕ)) → record_by record_name.Ban words ≡ Ok part → RecordIs (codes "ban" ∷ words) part
 record_ban words part e =
     let pairs = take_list pair_of pair_word HasPorts pair_spelled words _ part e in
-    let colon = take_name (codes ":") pairs.behind _ part pairs.rest in
-    let step = take_part step_of step_words StepHasNumbers step_part colon.behind _ part colon.rest in
-    let same : (record_of.Ban (record { pairs = pairs.value; step = step.value }), step.behind) ≡ part = let last = step.rest in cc in
+    let colon = take_name (codes ":") pairs.after _ part pairs.rest in
+    let step = take_part step_of step_words StepHasNumbers step_part colon.after _ part colon.rest in
+    let same : (record_of.Ban (record { pairs = pairs.value; step = step.value }), step.after) ≡ part = let last = step.rest in cc in
     subst (RecordIs (codes "ban" ∷ words)) same (
       ap (λ l. codes "ban" ∷ l) pairs.words_are
           ∙ ap (λ l. codes "ban" ∷ map pair_word pairs.value ++ l) (colon.words_are ∙ ap (λ l. codes ":" ∷ l) step.words_are)
-          ∙ ap (λ l. codes "ban" ∷ l) (sym (append_assoc (map pair_word pairs.value) (codes ":" ∷ step_words step.value) step.behind)),
+          ∙ ap (λ l. codes "ban" ∷ l) (sym (append_assoc (map pair_word pairs.value) (codes ":" ∷ step_words step.value) step.after)),
       record { pairs = pairs.fit; step = step.fit },
     )
 
@@ -274,13 +274,13 @@ record_none none_name.Ports words part e =
     subst (RecordIs (codes "none" ∷ codes "ports" ∷ words)) same (refl, tt)
 record_none none_name.Ban words part e =
     let ban = number words _ part e in
-    let same : (record_of.Conclusion (NoneBan ban.value), ban.behind) ≡ part = let last = ban.rest in cc in
+    let same : (record_of.Conclusion (NoneBan ban.value), ban.after) ≡ part = let last = ban.rest in cc in
     subst (RecordIs (codes "none" ∷ codes "ban" ∷ words)) same (ap (λ l. codes "none" ∷ codes "ban" ∷ l) ban.words_are, ban.fit)
 
 record_named : (name : RecordName) (words : List (List ℕ)) (part : Record × List (List ℕ)) → record_by name words ≡ Ok part → RecordIs (record_word name ∷ words) part
 record_named record_name.Header words part e =
     let version = take_name (codes "1") words _ part e in
-    let same : (record_of.Header, version.behind) ≡ part = let last = version.rest in cc in
+    let same : (record_of.Header, version.after) ≡ part = let last = version.rest in cc in
     subst (RecordIs (codes "npnp" ∷ words)) same (ap (λ l. codes "npnp" ∷ l) version.words_are, tt)
 record_named record_name.Fails words part e = record_fails words part e
 record_named record_name.Holds words part e = record_holds words part e
@@ -288,11 +288,11 @@ record_named record_name.Line words part e = record_log words part e
 record_named record_name.Ban words part e = record_ban words part e
 record_named record_name.None words part e =
     let name = take_word none_name_of none_word Any none_name_spelled words _ part e in
-    let is = record_none name.value name.behind part name.rest in
+    let is = record_none name.value name.after part name.rest in
     (ap (λ l. codes "none" ∷ l) name.words_are ∙ is.0, is.1)
 record_named record_name.Match words part e =
     let pairs = take_list pair_of pair_word HasPorts pair_spelled words _ part e in
-    let same : (record_of.Conclusion (Match pairs.value), pairs.behind) ≡ part = let last = pairs.rest in cc in
+    let same : (record_of.Conclusion (Match pairs.value), pairs.after) ≡ part = let last = pairs.rest in cc in
     subst (RecordIs (codes "match" ∷ words)) same (ap (λ l. codes "match" ∷ l) pairs.words_are, pairs.fit)
 record_named record_name.End words part e =
     let same : (record_of.End, words) ≡ part = cc in
@@ -301,56 +301,56 @@ record_named record_name.End words part e =
 record_part : IsPart record_in_front record_words IsWritable
 record_part words part e =
     let name = take_word record_name_of record_word Any record_name_spelled words _ part e in
-    let is = record_named name.value name.behind part name.rest in
+    let is = record_named name.value name.after part name.rest in
     (name.words_are ∙ is.0, is.1)
 
 -- the words that are read are those of the record, and it can be written
 pub words_written : (words : List (List ℕ)) (entry : Record) → record_in words ≡ Ok entry → (words ≡ record_words entry) × IsWritable entry
 words_written words entry e =
     let part = take_part record_in_front record_words IsWritable record_part words _ entry e in
-    by part.behind part.value part.words_are part.fit part.rest
+    by part.after part.value part.words_are part.fit part.rest
   where
-    by : (behind : List (List ℕ)) (found : Record) → words ≡ record_words found ++ behind → IsWritable found → last_part found behind ≡ Ok entry → (words ≡ record_words entry) × IsWritable entry
+    by : (after : List (List ℕ)) (found : Record) → words ≡ record_words found ++ after → IsWritable found → last_part found after ≡ Ok entry → (words ≡ record_words entry) × IsWritable entry
     by [] found is fit last =
         let same : found ≡ entry = cc in
         subst (λ e. (words ≡ record_words e) × IsWritable e) same (is ∙ append-nil (record_words found), fit)
-    by (word ∷ behind) found is fit last = absurd (let clash : ⊥ = cc in clash)
+    by (word ∷ after) found is fit last = absurd (let clash : ⊥ = cc in clash)
 
 -- what is written is read
 
 module _ {X : Type 0} (read : List ℕ → Result X RecordFault) (spell : X → List ℕ) (IsFit : X → Type 0) (s : IsSpelled read spell IsFit) where
-  give : {Y : Type 0} (x : X) (behind : List (List ℕ)) (k : X → List (List ℕ) → Result Y RecordFault) → IsFit x → followed (next_by read (spell x ∷ behind)) k ≡ k x behind
-  give {Y} x behind k fit = ap (λ a. followed (with_words a behind) k) (s.back x fit)
+  give : {Y : Type 0} (x : X) (after : List (List ℕ)) (k : X → List (List ℕ) → Result Y RecordFault) → IsFit x → followed (next_by read (spell x ∷ after)) k ≡ k x after
+  give {Y} x after k fit = ap (λ a. followed (with_words a after) k) (s.back x fit)
 
-  list_back : AreItems spell IsFit → (xs : List X) (behind : List (List ℕ)) → All IsFit xs → stops behind ≡ true → list_by read (map spell xs ++ behind) ≡ Ok (xs, behind)
-  list_back items [] behind fit ends = list_stops read behind ends
-  list_back items (x ∷ xs) behind fit ends =
+  list_back : AreItems spell IsFit → (xs : List X) (after : List (List ℕ)) → All IsFit xs → stops after ≡ true → list_by read (map spell xs ++ after) ≡ Ok (xs, after)
+  list_back items [] after fit ends = list_stops read after ends
+  list_back items (x ∷ xs) after fit ends =
       let first = All-head IsFit x xs fit in
-      let rest : List (List ℕ) = map spell xs ++ behind in
+      let rest : List (List ℕ) = map spell xs ++ after in
       ap (λ b. cond b (Ok ([], spell x ∷ rest)) (with_item (read (spell x)) (list_by read rest))) (items x first)
       ∙ ap (λ a. with_item a (list_by read rest)) (s.back x first)
-      ∙ ap (λ r. with_item (Ok x) r) (list_back items xs behind (All-tail IsFit x xs fit) ends)
+      ∙ ap (λ r. with_item (Ok x) r) (list_back items xs after (All-tail IsFit x xs fit) ends)
 
-  give_list : {Y : Type 0} → AreItems spell IsFit → (xs : List X) (behind : List (List ℕ)) (k : List X → List (List ℕ) → Result Y RecordFault) → All IsFit xs → stops behind ≡ true
-      → followed (list_by read (map spell xs ++ behind)) k ≡ k xs behind
-  give_list {Y} items xs behind k fit ends = ap (λ a. followed a k) (list_back items xs behind fit ends)
+  give_list : {Y : Type 0} → AreItems spell IsFit → (xs : List X) (after : List (List ℕ)) (k : List X → List (List ℕ) → Result Y RecordFault) → All IsFit xs → stops after ≡ true
+      → followed (list_by read (map spell xs ++ after)) k ≡ k xs after
+  give_list {Y} items xs after k fit ends = ap (λ a. followed a k) (list_back items xs after fit ends)
 
   give_last : {Y : Type 0} → AreItems spell IsFit → (xs : List X) (k : List X → List (List ℕ) → Result Y RecordFault) → All IsFit xs → followed (list_by read (map spell xs)) k ≡ k xs []
   give_last {Y} items xs k fit = ap (λ l. followed (list_by read l) k) (sym (append-nil (map spell xs))) ∙ give_list items xs [] k fit refl
 
-shape_back : (shape : Shape) (behind : List (List ℕ)) → ShapeHasPorts shape → shape_of (shape_words shape ++ behind) ≡ Ok (shape, behind)
-shape_back (Up i) behind fit = give port_of decimal IsPort port_spelled i behind _ fit
-shape_back (Down i) behind fit = give port_of decimal IsPort port_spelled i behind _ fit
-shape_back (Swap i j a b) behind fit =
-    give port_of decimal IsPort port_spelled i (decimal j ∷ two_bits_word (a, b) ∷ behind) _ fit.0
-    ∙ give port_of decimal IsPort port_spelled j (two_bits_word (a, b) ∷ behind) _ fit.1
-    ∙ give two_bits_of two_bits_word Any two_bits_spelled (a, b) behind _ tt
+shape_back : (shape : Shape) (after : List (List ℕ)) → ShapeHasPorts shape → shape_of (shape_words shape ++ after) ≡ Ok (shape, after)
+shape_back (Up i) after fit = give port_of decimal IsPort port_spelled i after _ fit
+shape_back (Down i) after fit = give port_of decimal IsPort port_spelled i after _ fit
+shape_back (Swap i j a b) after fit =
+    give port_of decimal IsPort port_spelled i (decimal j ∷ two_bits_word (a, b) ∷ after) _ fit.0
+    ∙ give port_of decimal IsPort port_spelled j (two_bits_word (a, b) ∷ after) _ fit.1
+    ∙ give two_bits_of two_bits_word Any two_bits_spelled (a, b) after _ tt
 
-claim_back : (claim : Claim) (behind : List (List ℕ)) → ClaimHasPorts claim → claim_of (claim_words claim ++ behind) ≡ Ok (claim, behind)
-claim_back claim behind fit =
-    give side_of side_word Any side_spelled claim.side (decimal claim.output ∷ shape_words claim.shape ++ behind) _ tt
-    ∙ give port_of decimal IsPort port_spelled claim.output (shape_words claim.shape ++ behind) _ fit.output
-    ∙ ap (λ (a : Parsed Shape). followed a (λ shape words. Ok (record { side = claim.side; output = claim.output; shape = shape }, words))) (shape_back claim.shape behind fit.shape)
+claim_back : (claim : Claim) (after : List (List ℕ)) → ClaimHasPorts claim → claim_of (claim_words claim ++ after) ≡ Ok (claim, after)
+claim_back claim after fit =
+    give side_of side_word Any side_spelled claim.side (decimal claim.output ∷ shape_words claim.shape ++ after) _ tt
+    ∙ give port_of decimal IsPort port_spelled claim.output (shape_words claim.shape ++ after) _ fit.output
+    ∙ ap (λ (a : Parsed Shape). followed a (λ shape words. Ok (record { side = claim.side; output = claim.output; shape = shape }, words))) (shape_back claim.shape after fit.shape)
 
 step_back : (step : Step) → StepHasNumbers step → step_of (step_words step) ≡ Ok (step, [])
 step_back (Vector output tris) fit =

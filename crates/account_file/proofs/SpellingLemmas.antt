@@ -37,15 +37,15 @@ no_line_feed byte above = grind (arith, nat_tests)
 pub line_spaced_words : (first : List ℕ) (rest : List (List ℕ)) → IsVisible first → All IsVisible rest → IsLine (first ++ spaced rest)
 line_spaced_words first rest h hs =
     All-append (λ byte. is_line_feed byte ≡ false) first (spaced rest)
-    (All-weaker (λ byte. 32 < byte) (λ byte. is_line_feed byte ≡ false) no_line_feed first h) (behind rest hs)
+    (All-weaker (λ byte. 32 < byte) (λ byte. is_line_feed byte ≡ false) no_line_feed first h) (after rest hs)
   where
-    behind : (words : List (List ℕ)) → All IsVisible words → IsLine (spaced words)
-    behind [] all = All-nil (λ byte. is_line_feed byte ≡ false)
-    behind (next ∷ words) all =
+    after : (words : List (List ℕ)) → All IsVisible words → IsLine (spaced words)
+    after [] all = All-nil (λ byte. is_line_feed byte ≡ false)
+    after (next ∷ words) all =
         All-cons (λ byte. is_line_feed byte ≡ false) 32 (next ++ spaced words) refl
         (All-append (λ byte. is_line_feed byte ≡ false) next (spaced words)
         (All-weaker (λ byte. 32 < byte) (λ byte. is_line_feed byte ≡ false) no_line_feed next (All-head IsVisible next words all))
-        (behind words (All-tail IsVisible next words all)))
+        (after words (All-tail IsVisible next words all)))
 
 joined : (first : List ℕ) (rest : List (List ℕ)) → join_with_byte 32 (first ∷ rest) ≡ first ++ spaced rest
 joined first [] = sym (append-nil first)

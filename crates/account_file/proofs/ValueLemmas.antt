@@ -252,14 +252,14 @@ sign_shows false = omega arith
 pair_read : (pair : Pair) → HasPorts pair → pair_in (pair_word pair) ≡ Some pair
 pair_read pair ports =
     let from = decimal pair.from in
-    let behind : List ℕ = sign_of pair.flip ∷ decimal pair.to in
+    let after : List ℕ = sign_of pair.flip ∷ decimal pair.to in
     let digits = digits_front from (sign_of pair.flip) (decimal pair.to) (decimal_digits pair.from (omega (arith, ports.from))) (sign_ends pair.flip) in
-    let cut : ℕ → Option Pair = λ n. pair_after (kind_of_letter (kind_letter pair.kind)) (take n (from ++ behind)) (drop n (from ++ behind)) in
+    let cut : ℕ → Option Pair = λ n. pair_after (kind_of_letter (kind_letter pair.kind)) (take n (from ++ after)) (drop n (from ++ after)) in
     let first = number_read (2 ^ 32) pair.from ports.from (omega arith) in
     let second = number_read (2 ^ 32) pair.to ports.to (omega arith) in
     ap cut digits
-    ∙ ap (λ l. pair_after (kind_of_letter (kind_letter pair.kind)) l (drop (length from) (from ++ behind))) (take_at from behind (length from) refl)
-    ∙ ap (λ l. pair_after (kind_of_letter (kind_letter pair.kind)) from l) (drop_at from behind (length from) refl)
+    ∙ ap (λ l. pair_after (kind_of_letter (kind_letter pair.kind)) l (drop (length from) (from ++ after))) (take_at from after (length from) refl)
+    ∙ ap (λ l. pair_after (kind_of_letter (kind_letter pair.kind)) from l) (drop_at from after (length from) refl)
     ∙ ap (λ k. pair_by k (number_below (2 ^ 32) from) (flip_of_sign (sign_of pair.flip)) (number_below (2 ^ 32) (decimal pair.to))) (kind_read pair.kind)
     ∙ ap (λ n. pair_by (Some pair.kind) n (flip_of_sign (sign_of pair.flip)) (number_below (2 ^ 32) (decimal pair.to))) first
     ∙ ap (λ f. pair_by (Some pair.kind) (Some pair.from) f (number_below (2 ^ 32) (decimal pair.to))) (flip_read pair.flip)
@@ -301,7 +301,7 @@ by_fields letter front sign back (Some kind) None f n pair ek em ef en e = cc
 by_fields letter front sign back (Some kind) (Some from) None n pair ek em ef en e = cc
 by_fields letter front sign back (Some kind) (Some from) (Some flip) None pair ek em ef en e = cc
 
-by_parts : (letter : ℕ) (front behind : List ℕ) (pair : Pair) → pair_after (kind_of_letter letter) front behind ≡ Some pair → IsPairWord (letter ∷ front ++ behind) pair
+by_parts : (letter : ℕ) (front after : List ℕ) (pair : Pair) → pair_after (kind_of_letter letter) front after ≡ Some pair → IsPairWord (letter ∷ front ++ after) pair
 by_parts letter front [] pair e = cc
 by_parts letter front (sign ∷ back) pair e =
     by_fields letter front sign back (kind_of_letter letter) (number_below (2 ^ 32) front) (flip_of_sign sign) (number_below (2 ^ 32) back) pair refl refl refl refl e

@@ -7,7 +7,7 @@ use Rattle.account_file.specs.declared.record.Record.{Record}
 use Rattle.account_file.specs.declared.fault.RecordFault.{RecordFault}
 use Rattle.account_file.specs.declared.fault.RecordFault.TheVariants as fault
 use Rattle.account_file.specs.Words.{words_of}
-use Rattle.account_file.specs.Lines.{whole_lines, behind_lines}
+use Rattle.account_file.specs.Lines.{whole_lines, after_lines}
 use Rattle.account_file.specs.Order.{AreInOrder, MayStand, HaveEnded}
 use Rattle.account_file.specs.Spelling.{IsWritable, record_line}
 
@@ -30,15 +30,15 @@ pub record BeginsLine (words : List (List ℕ)) : Type 0 where
   pub line : List ℕ
   pub entry : Record
   pub form : HasForm line entry
-  pub behind : List (List ℕ)
-  pub words_are : words_of line ≡ words ++ behind
+  pub after : List (List ℕ)
+  pub words_are : words_of line ≡ words ++ after
 
 -- The first word of a line with which its words begin no record's line is digits, where any number may stand.
 pub record HasBadNumber (line : List ℕ) : Type 0 where
   pub before : List (List ℕ)
   pub word : List ℕ
-  pub behind : List (List ℕ)
-  pub words_are : words_of line ≡ before ++ word ∷ behind
+  pub after : List (List ℕ)
+  pub words_are : words_of line ≡ before ++ word ∷ after
   pub digits : is_numeral word ≡ true
   pub begins_none : BeginsLine (before ++ word ∷ []) → ⊥
   pub number_fits : (n : ℕ) → n < 2 ^ 32 → BeginsLine (before ++ decimal n ∷ [])
@@ -78,13 +78,13 @@ pub record HasFormFault (bytes : List ℕ) (before : List Record) (fault : Recor
   pub records : AreRecords (take (length before) (whole_lines bytes)) before
   pub at_line : length before < length (whole_lines bytes)
       → LineFault before (slice_index_or (whole_lines bytes) (length before) []) fault
-  pub at_end : length (whole_lines bytes) ≤ length before → EndFault before (behind_lines bytes) fault
+  pub at_end : length (whole_lines bytes) ≤ length before → EndFault before (after_lines bytes) fault
 
 -- A text has no fault of form: its lines are these records, the last is the end, and nothing stands after.
 pub record IsAccountOf (bytes : List ℕ) (records : List Record) : Type 0 where
   pub records_are : AreRecords (whole_lines bytes) records
   pub ended : HaveEnded records
-  pub nothing_behind : behind_lines bytes ≡ []
+  pub nothing_after : after_lines bytes ≡ []
 
 -- The next record of a text after these: the next line has its form, and it may stand there.
 abbrev pub IsNextRecord : List ℕ → List Record → Record → Type 0

@@ -124,19 +124,19 @@ digits_by {X} read [] = Ok []
 digits_by {X} read (digit ∷ digits) = with_digit (read digit) (digits_by read digits)
 
 -- the digits after `=`
-abbrev pub digits_behind : List ℕ → Result (List ℕ) RecordFault
-digits_behind [] = Err fault.Word
-digits_behind (sign ∷ digits) = if sign == 61 then Ok digits else Err fault.Word
+abbrev pub digits_after : List ℕ → Result (List ℕ) RecordFault
+digits_after [] = Err fault.Word
+digits_after (sign ∷ digits) = if sign == 61 then Ok digits else Err fault.Word
 
 abbrev pub values_in : {X : Type 0} → (ℕ → Result X RecordFault) → Result (List ℕ) RecordFault → Result (List X) RecordFault
 values_in {X} read (Ok digits) = digits_by read digits
 values_in {X} read (Err fault) = Err fault
 
 abbrev pub bits_of : List ℕ → Result (List Bool) RecordFault
-bits_of word = values_in bit_of (digits_behind word)
+bits_of word = values_in bit_of (digits_after word)
 
 abbrev pub tris_of : List ℕ → Result (List Tri) RecordFault
-tris_of word = values_in tri_of (digits_behind word)
+tris_of word = values_in tri_of (digits_after word)
 
 -- the two bits of a swap
 abbrev pub both_bits : Result Bool RecordFault → Result Bool RecordFault → Result (Bool × Bool) RecordFault
@@ -147,11 +147,11 @@ both_bits (Err fault) b = Err fault
 abbrev pub second_bit : Result Bool RecordFault → List ℕ → Result (Bool × Bool) RecordFault
 second_bit a [] = Err fault.Word
 second_bit a (b ∷ []) = both_bits a (bit_of b)
-second_bit a (b ∷ c ∷ behind) = Err fault.Word
+second_bit a (b ∷ c ∷ after) = Err fault.Word
 
 abbrev pub two_bits_of : List ℕ → Result (Bool × Bool) RecordFault
 two_bits_of [] = Err fault.Word
-two_bits_of (a ∷ behind) = second_bit (bit_of a) behind
+two_bits_of (a ∷ after) = second_bit (bit_of a) after
 
 -- words that are names
 abbrev pub side_of : List ℕ → Result Side RecordFault
@@ -208,8 +208,8 @@ Parsed X = Result (X × List (List ℕ)) RecordFault
 
 -- a part, and then what follows
 abbrev pub followed : {X Y : Type 0} → Parsed X → (X → List (List ℕ) → Result Y RecordFault) → Result Y RecordFault
-followed {X} {Y} (Ok part) behind = behind part.0 part.1
-followed {X} {Y} (Err fault) behind = Err fault
+followed {X} {Y} (Ok part) after = after part.0 part.1
+followed {X} {Y} (Err fault) after = Err fault
 
 abbrev pub with_words : {X : Type 0} → Result X RecordFault → List (List ℕ) → Parsed X
 with_words {X} (Ok x) words = Ok (x, words)

@@ -12,5 +12,5 @@ abbrev pub whole_lines : List ℕ → List (List ℕ)
 whole_lines bytes = take (length (pieces_of bytes) - 1) (pieces_of bytes)
 
 -- what stands after the last line feed: the last piece
-abbrev pub behind_lines : List ℕ → List ℕ
-behind_lines bytes = slice_index_or (pieces_of bytes) (length (pieces_of bytes) - 1) []
+abbrev pub after_lines : List ℕ → List ℕ
+after_lines bytes = slice_index_or (pieces_of bytes) (length (pieces_of bytes) - 1) []

@@ -13,7 +13,7 @@ use Rattle.account_file.specs.declared.next_record.NextRecord.{NextRecord}
 use Rattle.account_file.specs.declared.next_record.NextRecord.TheVariants.{Wait, Read, Refuse}
 use Rattle.account_file.specs.Forms.{record_in}
 use Rattle.account_file.specs.Words.{words_of}
-use Rattle.account_file.specs.Order.{place_behind}
+use Rattle.account_file.specs.Order.{next_place}
 use Rattle.account_file.specs.Reading.{Reading}
 
 -- what a line is: a record and where the account stands after it, or a fault
@@ -22,7 +22,7 @@ placed entry None = Err fault.Order
 placed entry (Some place) = Ok (entry, place)
 
 abbrev pub in_place : Place → Result Record RecordFault → Result (Record × Place) RecordFault
-in_place place (Ok entry) = placed entry (place_behind place entry)
+in_place place (Ok entry) = placed entry (next_place place entry)
 in_place place (Err fault) = Err fault
 
 abbrev pub line_at : Place → List ℕ → Result (Record × Place) RecordFault
@@ -58,11 +58,11 @@ answer_by Wait = Ok None
 answer_by (Read entry place used) = Ok (Some entry)
 answer_by (Refuse fault) = Err fault
 
-abbrev pub reading_behind : Reading → NextRecord → Reading
-reading_behind reading Wait = reading
-reading_behind reading (Read entry place used) =
+abbrev pub reading_after : Reading → NextRecord → Reading
+reading_after reading Wait = reading
+reading_after reading (Read entry place used) =
     record reading { left = drop used reading.left; line = reading.line + 1; place = place }
-reading_behind reading (Refuse fault) = record reading { line = reading.line + 1; fault = Some fault }
+reading_after reading (Refuse fault) = record reading { line = reading.line + 1; fault = Some fault }
 
 -- after a fault it is given again
 abbrev pub next_answer : Option RecordFault → Reading → Result (Option Record) RecordFault
@@ -70,5 +70,5 @@ next_answer None reading = answer_by (next_of reading.left reading.finished read
 next_answer (Some fault) reading = Err fault
 
 abbrev pub next_reading : Option RecordFault → Reading → Reading
-next_reading None reading = reading_behind reading (next_of reading.left reading.finished reading.place)
+next_reading None reading = reading_after reading (next_of reading.left reading.finished reading.place)
 next_reading (Some fault) reading = reading

@@ -26,9 +26,9 @@ logs_asked (NoneBan ban) = 0
 logs_asked (Match pairs) = 2 * count_by is_output pairs
 
 -- how many logs are left after a line of a log: the empty clause ends a log
-abbrev pub logs_behind : {X : Type 0} → ℕ → List X → ℕ
-logs_behind {X} logs [] = logs - 1
-logs_behind {X} logs (literal ∷ clause) = logs
+abbrev pub logs_after : {X : Type 0} → ℕ → List X → ℕ
+logs_after {X} logs [] = logs - 1
+logs_after {X} logs (literal ∷ clause) = logs
 
 -- the same where the log is that of a fact
 abbrev pub place_in_log : {X : Type 0} → List X → Place
@@ -36,20 +36,20 @@ place_in_log {X} [] = Headed
 place_in_log {X} (literal ∷ clause) = FactLog
 
 -- where an account stands after a record that may stand there
-abbrev pub place_behind : Place → Record → Option Place
-place_behind Start record_of.Header = Some Headed
-place_behind Headed (record_of.Fact (Fails claim bits)) = Some Headed
-place_behind Headed (record_of.Fact (Holds claim)) = Some FactLog
-place_behind Headed (record_of.Ban ban) = Some Headed
-place_behind Headed (record_of.Conclusion conclusion) = Some (Logs (logs_asked conclusion))
-place_behind FactLog (record_of.Line line) = Some (place_in_log line.clause)
-place_behind (Logs logs) (record_of.Line line) = if logs == 0 then None else Some (Logs (logs_behind logs line.clause))
-place_behind (Logs logs) record_of.End = if logs == 0 then Some Ended else None
-place_behind place entry = None
+abbrev pub next_place : Place → Record → Option Place
+next_place Start record_of.Header = Some Headed
+next_place Headed (record_of.Fact (Fails claim bits)) = Some Headed
+next_place Headed (record_of.Fact (Holds claim)) = Some FactLog
+next_place Headed (record_of.Ban ban) = Some Headed
+next_place Headed (record_of.Conclusion conclusion) = Some (Logs (logs_asked conclusion))
+next_place FactLog (record_of.Line line) = Some (place_in_log line.clause)
+next_place (Logs logs) (record_of.Line line) = if logs == 0 then None else Some (Logs (logs_after logs line.clause))
+next_place (Logs logs) record_of.End = if logs == 0 then Some Ended else None
+next_place place entry = None
 
 -- the same, where the records before it may stand as they do
 abbrev pub place_after_one : Option Place → Record → Option Place
-place_after_one place entry = option_and_then (λ p. place_behind p entry) place
+place_after_one place entry = option_and_then (λ p. next_place p entry) place
 
 -- where an account stands after records, if each may stand where it does
 abbrev pub place_after : List Record → Option Place

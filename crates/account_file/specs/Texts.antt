@@ -5,7 +5,7 @@ use Rattle.account_file.specs.declared.fault.RecordFault.{RecordFault}
 use Rattle.account_file.specs.declared.next_record.NextRecord.{NextRecord}
 use Rattle.account_file.specs.declared.fault.FileStop.{FileStop}
 use Rattle.account_file.specs.declared.fault.FileStop.TheVariants.{Fault, Memory}
-use Rattle.account_file.specs.Forms.{Parsed, digits_behind, list_by, with_item}
+use Rattle.account_file.specs.Forms.{Parsed, digits_after, list_by, with_item}
 
 -- the answer is what is meant, or memory ran out
 abbrev pub Answers : {X Y : Type 0} → (X → Y) → Result X FileStop → Result Y RecordFault → Type 0
@@ -34,8 +34,8 @@ GivesItem {X} read (Err fault) old new = list_by read old ≡ Err fault
 
 -- the digits after `=`
 abbrev pub GivesDigits : Result (Bor (List ℕ)) RecordFault → List ℕ → Type 0
-GivesDigits (Ok digits) word = digits_behind word ≡ Ok digits.now
-GivesDigits (Err fault) word = digits_behind word ≡ Err fault
+GivesDigits (Ok digits) word = digits_after word ≡ Ok digits.now
+GivesDigits (Err fault) word = digits_after word ≡ Err fault
 
 -- what was read, in front of the rest of a list
 abbrev pub in_front : {X : Type 0} → List X → Parsed (List X) → Parsed (List X)

@@ -3,7 +3,7 @@
 ghost use Rattle.std.specs.Prelude.{◌≡◌, ◌≤◌, length, count_by};
 ghost use Rattle.std.specs.List.{position_or_len};
 ghost use Rattle.text_core.specs.Bytes.{is_line_feed};
-ghost use Rattle.account_file.specs.Order.{is_output, logs_asked, place_behind, place_in_log};
+ghost use Rattle.account_file.specs.Order.{is_output, logs_asked, next_place, place_in_log};
 ghost use Rattle.account_file.specs.NextRecords.{line_at, placed, next_of, next_at_end, next_at_line};
 ghost use Rattle.account_file.specs.Texts.{Answers, AnswersNext};
 
@@ -43,7 +43,7 @@ pub(crate) fn next_of(
     requires { looked ≤ position_or_len is_line_feed left.now }
     ensures { AnswersNext result (next_of left.now finished place) }
 {
-    let end = line_end_behind(left, looked);
+    let end = line_end_after(left, looked);
     if end < left.len() {
         return next_at_line(alloc, place, &left[..end]);
     }
@@ -54,7 +54,7 @@ pub(crate) fn next_of(
 }
 
 // How many bytes stand before the first line feed, where none is among the first `looked`.
-fn line_end_behind(bytes: &[u8], looked: usize) -> usize
+fn line_end_after(bytes: &[u8], looked: usize) -> usize
     requires { looked ≤ position_or_len is_line_feed bytes.now }
     ensures { result ≡ position_or_len is_line_feed bytes.now }
 {
@@ -123,15 +123,15 @@ fn first_line(line: &[u8]) -> Result<(Record, Place), RecordFault>
 
 // A record, where it may stand there.
 fn in_place(place: Place, entry: Record) -> Result<(Record, Place), RecordFault>
-    ensures { result ≡ placed entry (place_behind place entry) }
+    ensures { result ≡ placed entry (next_place place entry) }
 {
-    let place = place_behind(place, &entry).ok_or(RecordFault::Order)?;
+    let place = next_place(place, &entry).ok_or(RecordFault::Order)?;
     Ok((entry, place))
 }
 
 // Where the account stands after a record, if the record may stand there.
-fn place_behind(place: Place, entry: &Record) -> Option<Place>
-    ensures { result ≡ place_behind place entry.now }
+fn next_place(place: Place, entry: &Record) -> Option<Place>
+    ensures { result ≡ next_place place entry.now }
 {
     match (place, entry) {
         (Place::Start, Record::Header) => Some(Place::Headed),
@@ -161,7 +161,7 @@ fn place_in_log(line: &LogLine) -> Place
 
 // Where the account stands after a line of a conclusion's logs, of which n are left.
 fn place_in_logs(logs: u64, line: &LogLine) -> Option<Place>
-    ensures { result ≡ place_behind (Place.Logs logs) (Record.Line line.now) }
+    ensures { result ≡ next_place (Place.Logs logs) (Record.Line line.now) }
 {
     if logs == 0 {
         return None;

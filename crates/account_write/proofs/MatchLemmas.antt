@@ -20,7 +20,7 @@ use Rattle.account_file.specs.declared.place.Place.{Place}
 use Rattle.account_file.specs.declared.place.Place.TheVariants as place
 use Rattle.account_file.specs.declared.record.Record.{Record}
 use Rattle.account_file.specs.declared.record.Record.TheVariants as entry
-use Rattle.account_file.specs.Order.{is_output, logs_behind}
+use Rattle.account_file.specs.Order.{is_output, logs_after}
 use Rattle.account_file.specs.Spelling.{IsWritable}
 use Rattle.account_check.specs.declared.verdict.Verdict.TheVariants as verdict
 use Rattle.account_check.specs.Accounts.{Account, after, empty_account}
@@ -54,11 +54,11 @@ pub header_leads : (graphs : Graphs) → Lead (empty_account graphs) (entry.Head
 header_leads graphs = lead_one (empty_account graphs) entry.Header (headed graphs none_given) (record { there = refl; right = refl }) refl
 
 -- where a line leads while logs are left
-some_left : (left : ℕ) (clause : List SatLit) → (if suc left == 0 then None else Some (place.Logs (logs_behind (suc left) clause))) ≡ Some (place.Logs (logs_behind (suc left) clause))
+some_left : (left : ℕ) (clause : List SatLit) → (if suc left == 0 then None else Some (place.Logs (logs_after (suc left) clause))) ≡ Some (place.Logs (logs_after (suc left) clause))
 some_left left clause =
     elim (eqb_tells (suc left) 0) [
       | inl (test, zero_left) ↦ absurd (omega (arith, zero_left))
-      | inr (test, some) ↦ ap (λ b. if b then None else Some (place.Logs (logs_behind (suc left) clause))) test
+      | inr (test, some) ↦ ap (λ b. if b then None else Some (place.Logs (logs_after (suc left) clause))) test
     ]
 
 -- the same account at another place, if there is one

@@ -13,10 +13,10 @@ use Rattle.account_file.specs.declared.place.Place.TheVariants as place
 use Rattle.account_file.specs.declared.record.Record.{Record}
 use Rattle.account_file.specs.declared.record.Record.TheVariants as entry_of
 use Rattle.account_file.specs.Accounts.{HasForm}
-use Rattle.account_file.specs.Lines.{behind_lines, whole_lines}
-use Rattle.account_file.specs.Order.{place_after, place_after_one, place_behind}
+use Rattle.account_file.specs.Lines.{after_lines, whole_lines}
+use Rattle.account_file.specs.Order.{place_after, place_after_one, next_place}
 use Rattle.account_file.specs.Spelling.{IsWritable, record_line}
-use Rattle.account_file.proofs.AccountLemmas.{behind_records, have_forms, lines_of_records, texts_of}
+use Rattle.account_file.proofs.AccountLemmas.{after_records, have_forms, lines_of_records, texts_of}
 use Rattle.account_check.specs.declared.verdict.Verdict.{Verdict}
 use Rattle.account_check.specs.Accounts.{Account, after, empty_account, verdict_at, HasFault}
 use Rattle.account_check.specs.Verdicts.{IsAccepted}
@@ -24,7 +24,7 @@ use Rattle.account_write.specs.Records.{account_of, lines_of}
 
 -- a record may stand there, and nothing is wrong with it
 pub record IsTaken (account : Account) (entry : Record) : Type 0 where
-  pub there : IsSome (place_behind account.place entry)
+  pub there : IsSome (next_place account.place entry)
   pub right : HasFault account entry None
 
 abbrev pub AreTaken : Account → List Record → Type 0
@@ -62,9 +62,9 @@ lead_from account same records other e lead = subst (λ a. Lead a records other)
 -- they stand in order
 in_order : (account : Account) (records : List Record) → AreTaken account records → fold place_after_one (Some account.place) records ≡ Some (fold after account records).place
 in_order account [] taken = refl
-in_order account (entry ∷ records) taken = by (place_behind account.place entry) refl taken.0.there (in_order (after account entry) records taken.1)
+in_order account (entry ∷ records) taken = by (next_place account.place entry) refl taken.0.there (in_order (after account entry) records taken.1)
   where
-    by : (o : Option Place) → place_behind account.place entry ≡ o → IsSome o → fold place_after_one (Some (after account entry).place) records ≡ Some (fold after account (entry ∷ records)).place → fold place_after_one (place_behind account.place entry) records ≡ Some (fold after account (entry ∷ records)).place
+    by : (o : Option Place) → next_place account.place entry ≡ o → IsSome o → fold place_after_one (Some (after account entry).place) records ≡ Some (fold after account (entry ∷ records)).place → fold place_after_one (next_place account.place entry) records ≡ Some (fold after account (entry ∷ records)).place
     by None is some go = absurd (let no : ⊥ = cc in no)
     by (Some p) is some go =
         let there : (after account entry).place ≡ p = ap (λ o. unwrap_or o account.place) is in
@@ -86,7 +86,7 @@ accepted graphs records other verdict writable lead ended concluded = record {
       order = subst IsSome (sym order) refl;
     };
     ended = order ∙ ap (λ (a : Account). Some a.place) lead.to ∙ ap Some ended;
-    nothing_behind = ap behind_lines (sym (append-nil (lines_of records))) ∙ behind_records records [] writable;
+    nothing_after = ap after_lines (sym (append-nil (lines_of records))) ∙ after_records records [] writable;
   };
   valid = valid (empty_account graphs) records lead.taken;
   verdict_is = ap (λ (a : Account). verdict_at a.place a.concluded) lead.to ∙ (ap (λ p. verdict_at p other.concluded) ended ∙ concluded);
@@ -107,13 +107,13 @@ accepted_at_end graphs records other verdict writable lead at concluded =
     all = All-append IsWritable records (entry_of.End ∷ []) writable (All-cons IsWritable entry_of.End [] tt (All-nil IsWritable))
 
     taken : IsTaken other entry_of.End
-    taken = record { there = subst (λ p. IsSome (place_behind p entry_of.End)) (sym at) refl; right = refl }
+    taken = record { there = subst (λ p. IsSome (next_place p entry_of.End)) (sym at) refl; right = refl }
 
     whole : Lead (empty_account graphs) (records ++ entry_of.End ∷ []) (after other entry_of.End)
     whole = lead_on (empty_account graphs) records other (entry_of.End ∷ []) (after other entry_of.End) lead (lead_one other entry_of.End (after other entry_of.End) taken refl)
 
     ended : (after other entry_of.End).place ≡ place.Ended
-    ended = ap (λ p. unwrap_or (place_behind p entry_of.End) p) at
+    ended = ap (λ p. unwrap_or (next_place p entry_of.End) p) at
 
     text : lines_of (records ++ entry_of.End ∷ []) ≡ account_of records
     text = flat_map-append record_line records (entry_of.End ∷ []) ∙ ap (λ l. lines_of records ++ l) (append-nil (record_line entry_of.End))

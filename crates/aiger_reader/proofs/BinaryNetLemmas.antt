@@ -15,7 +15,7 @@ use Rattle.aiger_reader.specs.declared.body.AndLine.{AndLine}
 use Rattle.aiger_reader.specs.declared.body.Literals.{Literals}
 use Rattle.aiger_reader.specs.Headers.{AigerHeader, Begins}
 use Rattle.aiger_reader.specs.Bodies.{IsBody, first_of, lit_from}
-use Rattle.aiger_reader.specs.Deltas.{BeginsGates, AreGates, and_from, behind_outputs, binary_circuit}
+use Rattle.aiger_reader.specs.Deltas.{BeginsGates, AreGates, and_from, after_outputs, binary_circuit}
 use Rattle.aiger_reader.specs.Reading.{rows_of, row_of, input_lines_of, gate_lines_of, HasCounts}
 use Rattle.aiger_reader.specs.Numbered.{circuit_from}
 use Rattle.aiger_reader.specs.Assembly.{ArePairsBelow, IsBinaryBody}
@@ -74,7 +74,7 @@ pub rows_closed : (bytes : List ℕ) (h : AigerHeader) (rows : List (List ℕ)) 
 rows_closed bytes h rows gates rest binary begins body are =
     let most : 2 * h.variables + 1 ≡ 2 * (h.inputs + length gates) + 1 = omega (arith, begins.header.no_gaps binary, (accepted_limits h begins.accepted).latches, are.count) in
     let small : All (λ literal. literal ≤ 2 * (h.inputs + length gates) + 1) (map first_of rows) = All-map (λ literal. literal ≤ 2 * (h.inputs + length gates) + 1) first_of rows (λ k d below. subst (λ n. first_of (get_or rows k d) ≤ n) most (subst (λ row. first_of row ≤ 2 * h.variables + 1) (get_or_default rows k [] d below) (row_in_range (2 * h.variables + 1) (get_or rows k []) (body.good.good k below).in_range))) in
-    subst (λ outputs. IsClosed (circuit_from h.inputs (map and_from gates) outputs)) (map-map lit_from first_of rows) (binary_closed h.inputs gates (map first_of rows) (begins_below (h.inputs + 1) (behind_outputs bytes h) rest gates are.read) small)
+    subst (λ outputs. IsClosed (circuit_from h.inputs (map and_from gates) outputs)) (map-map lit_from first_of rows) (binary_closed h.inputs gates (map first_of rows) (begins_below (h.inputs + 1) (after_outputs bytes h) rest gates are.read) small)
 
 -- the netlist of the outputs' lines
 pub binary_is : (h : AigerHeader) (literals : Literals) (gates : List (ℕ × ℕ)) → h.binary ≡ true → HasCounts literals (input_lines_of h) h.outputs (gate_lines_of h) → circuit_from h.inputs (map and_from gates) (map lit_from literals.outputs.items) ≡ binary_circuit h (rows_of literals) gates

@@ -64,16 +64,16 @@ places_small h literals signals sound few v d below =
     ]
 
 -- the rows of the outputs, and those of the gates
-behind_inputs : (h : AigerHeader) (literals : Literals) → length literals.inputs.items ≡ h.inputs → drop h.inputs (rows_of literals) ≡ map (λ literal. literal ∷ []) literals.outputs.items ++ map row_of literals.gates.items
-behind_inputs h literals count =
+after_inputs : (h : AigerHeader) (literals : Literals) → length literals.inputs.items ≡ h.inputs → drop h.inputs (rows_of literals) ≡ map (λ literal. literal ∷ []) literals.outputs.items ++ map row_of literals.gates.items
+after_inputs h literals count =
     let single : ℕ → List ℕ = λ literal. literal ∷ [] in
     let inputs = map single literals.inputs.items in
     let rest = map single literals.outputs.items ++ map row_of literals.gates.items in
     let e : h.inputs ≡ length inputs = omega (arith, length-map literals.inputs.items single) in
     ap (λ n. drop n (rows_of literals)) e ∙ (ap (drop (length inputs)) (append_assoc inputs (map single literals.outputs.items) (map row_of literals.gates.items)) ∙ drop-append_seam inputs rest)
 
-behind_outputs : (h : AigerHeader) (literals : Literals) → length literals.inputs.items ≡ h.inputs → length literals.outputs.items ≡ h.outputs → drop (h.inputs + h.outputs) (rows_of literals) ≡ map row_of literals.gates.items
-behind_outputs h literals inputs_read outputs_read =
+after_outputs : (h : AigerHeader) (literals : Literals) → length literals.inputs.items ≡ h.inputs → length literals.outputs.items ≡ h.outputs → drop (h.inputs + h.outputs) (rows_of literals) ≡ map row_of literals.gates.items
+after_outputs h literals inputs_read outputs_read =
     let single : ℕ → List ℕ = λ literal. literal ∷ [] in
     let front = map single literals.inputs.items ++ map single literals.outputs.items in
     let e : h.inputs + h.outputs ≡ length front = omega (arith, length-append (map single literals.inputs.items) (map single literals.outputs.items), length-map literals.inputs.items single, length-map literals.outputs.items single) in
@@ -105,7 +105,7 @@ circuit_is h literals signals text sound rows =
     let out_same : All (λ x. lit_in signals x ≡ literal_of variables x) literals.outputs.items = λ k d below. literal_is h.variables variables signals (get_or literals.outputs.items k d) sound.numbered (outputs_are_known h literals signals sound rows k d below) in
     let and_same : All (λ line. def_in signals line ≡ and_row (row_of line)) literals.gates.items = λ k d below. let known = gates_are_known h literals signals sound rows k d below in ap₂ And (literal_is h.variables variables signals (get_or literals.gates.items k d).a sound.numbered known.0) (literal_is h.variables variables signals (get_or literals.gates.items k d).b sound.numbered known.1) in
     let out_count : h.outputs ≡ length (map single literals.outputs.items) = omega (arith, sound.counts.outputs_read, length-map literals.outputs.items single) in
-    let taken : take h.outputs (drop h.inputs (rows_of literals)) ≡ map single literals.outputs.items = ap (take h.outputs) (behind_inputs h literals count) ∙ (ap (λ n. take n (map single literals.outputs.items ++ map row_of literals.gates.items)) out_count ∙ take-append_seam (map single literals.outputs.items) (map row_of literals.gates.items)) in
+    let taken : take h.outputs (drop h.inputs (rows_of literals)) ≡ map single literals.outputs.items = ap (take h.outputs) (after_inputs h literals count) ∙ (ap (λ n. take n (map single literals.outputs.items ++ map row_of literals.gates.items)) out_count ∙ take-append_seam (map single literals.outputs.items) (map row_of literals.gates.items)) in
     let outputs : map (lit_in signals) literals.outputs.items ≡ map out_row (take h.outputs (drop h.inputs (rows_of literals))) = map_on (lit_in signals) (literal_of variables) literals.outputs.items out_same ∙ (sym (map-map out_row single literals.outputs.items) ∙ ap (map out_row) (sym taken)) in
-    let defs : map (def_in signals) literals.gates.items ≡ map and_row (drop (h.inputs + h.outputs) (rows_of literals)) = map_on (def_in signals) (λ line. and_row (row_of line)) literals.gates.items and_same ∙ (sym (map-map and_row row_of literals.gates.items) ∙ ap (map and_row) (sym (behind_outputs h literals count sound.counts.outputs_read))) in
+    let defs : map (def_in signals) literals.gates.items ≡ map and_row (drop (h.inputs + h.outputs) (rows_of literals)) = map_on (def_in signals) (λ line. and_row (row_of line)) literals.gates.items and_same ∙ (sym (map-map and_row row_of literals.gates.items) ∙ ap (map and_row) (sym (after_outputs h literals count sound.counts.outputs_read))) in
     ap₂ (circuit_from h.inputs) defs outputs

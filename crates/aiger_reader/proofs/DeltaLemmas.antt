@@ -43,25 +43,25 @@ last_group most byte n bytes rest here below same some = record {
 
 -- a group with others after it
 pub group_before : (most less byte low high : ℕ) (bytes middle rest : List ℕ) → bytes ≡ byte ∷ middle → 128 ≤ byte → low ≡ byte - 128 → most ≡ less + 1 → BeginsGroups less middle high rest → BeginsGroups most bytes (low + 128 * high) rest
-group_before most less byte low high bytes middle rest here above same count behind = record {
-  groups = byte ∷ behind.groups;
-  spelled = here ∙ ap (λ xs. byte ∷ xs) behind.spelled;
-  value = subst (λ n. IsInGroups (byte ∷ behind.groups) (n + 128 * high)) (sym same) (more_groups byte high behind.groups above behind.value);
-  short = omega (arith, behind.short);
+group_before most less byte low high bytes middle rest here above same count after = record {
+  groups = byte ∷ after.groups;
+  spelled = here ∙ ap (λ xs. byte ∷ xs) after.spelled;
+  value = subst (λ n. IsInGroups (byte ∷ after.groups) (n + 128 * high)) (sym same) (more_groups byte high after.groups above after.value);
+  short = omega (arith, after.short);
 }
 
 -- what stands after a group that isn't the last
-behind_group : (byte n : ℕ) (groups middle rest : List ℕ) → byte ∷ middle ≡ groups ++ rest → 128 ≤ byte → IsInGroups groups n → (others : List ℕ) × (high : ℕ) × (middle ≡ others ++ rest) × IsInGroups others high × (length groups ≡ length others + 1)
-behind_group byte n [] middle rest same above value = absurd value
-behind_group byte n (one ∷ []) middle rest same above value =
+after_group : (byte n : ℕ) (groups middle rest : List ℕ) → byte ∷ middle ≡ groups ++ rest → 128 ≤ byte → IsInGroups groups n → (others : List ℕ) × (high : ℕ) × (middle ≡ others ++ rest) × IsInGroups others high × (length groups ≡ length others + 1)
+after_group byte n [] middle rest same above value = absurd value
+after_group byte n (one ∷ []) middle rest same above value =
     let e : byte ≡ one = cc in
     absurd (omega (arith, value.0))
-behind_group byte n (one ∷ two ∷ groups) middle rest same above value =
+after_group byte n (one ∷ two ∷ groups) middle rest same above value =
     (two ∷ groups, value.1, cc, value.3, omega arith)
 
-pub no_group_behind : (most less byte n : ℕ) (bytes middle rest : List ℕ) → bytes ≡ byte ∷ middle → 128 ≤ byte → most ≡ less + 1 → ((m : ℕ) (left : List ℕ) → BeginsGroups less middle m left → ⊥) → BeginsGroups most bytes n rest → ⊥
-no_group_behind most less byte n bytes middle rest here above count none all =
-    let other = behind_group byte n all.groups middle rest (sym here ∙ all.spelled) above all.value in
+pub no_group_after : (most less byte n : ℕ) (bytes middle rest : List ℕ) → bytes ≡ byte ∷ middle → 128 ≤ byte → most ≡ less + 1 → ((m : ℕ) (left : List ℕ) → BeginsGroups less middle m left → ⊥) → BeginsGroups most bytes n rest → ⊥
+no_group_after most less byte n bytes middle rest here above count none all =
+    let other = after_group byte n all.groups middle rest (sym here ∙ all.spelled) above all.value in
     none other.1 rest (record { groups = other.0; spelled = other.2; value = other.3; short = omega (arith, other.4, all.short) })
 
 -- a number of four groups is below 2 to the 28

@@ -15,8 +15,8 @@ give_more inputs outputs (first ∷ done) line before entries after given adds =
 pub give_split : (inputs outputs : ℕ) (done : List (List ℕ)) (line : List ℕ) (before after : List Entry) → GiveNames inputs outputs (done ++ line ∷ []) before after → (entries : List Entry) × GiveNames inputs outputs done before entries × AddsName inputs outputs line entries after
 give_split inputs outputs [] line before after given = (before, refl, given)
 give_split inputs outputs (first ∷ done) line before after given =
-    let behind = give_split inputs outputs done line (before ++ given.0) after given.4 in
-    (behind.0, (given.0, given.1, given.2, given.3, behind.1), behind.2)
+    let following = give_split inputs outputs done line (before ++ given.0) after given.4 in
+    (following.0, (given.0, given.1, given.2, given.3, following.1), following.2)
 
 -- the lines give one row of names
 pub give_same : (inputs outputs : ℕ) (done : List (List ℕ)) (before xs ys : List Entry) → GiveNames inputs outputs done before xs → GiveNames inputs outputs done before ys → xs ≡ ys

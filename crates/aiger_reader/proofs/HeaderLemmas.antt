@@ -7,7 +7,7 @@ use Rattle.text_core.specs.Lines.{lines}
 use Rattle.text_core.specs.Piece.{Piece}
 use Rattle.aiger_reader.specs.declared.header.Numbers.{Numbers}
 use Rattle.aiger_reader.specs.Words.{numbers_on, AreSmall}
-use Rattle.aiger_reader.specs.Headers.{AigerHeader, header_numbers, keyword, line_behind, WritesHeader, HasHeader}
+use Rattle.aiger_reader.specs.Headers.{AigerHeader, header_numbers, keyword, line_after, WritesHeader, HasHeader}
 use Rattle.aiger_reader.specs.Numbers.{header_from, WritesNumbers, IsCounted}
 
 -- after as many numbers as a row has, nothing is left
@@ -34,24 +34,24 @@ pub no_room : (done numbers : List ℕ) (whole left : List (Option ℕ)) → who
 no_room done numbers whole left front some few same = some (none_left done numbers whole left front few same)
 
 -- the first of the lines
-pub line_behind-first : (bytes left line : List ℕ) (rest : List (List ℕ)) → left ≡ drop 4 bytes → lines left ≡ line ∷ rest → line_behind bytes ≡ line
-line_behind-first bytes left line rest behind next =
-    ap (λ (ls : List (List ℕ)). get_or ls 0 []) (ap lines (sym behind) ∙ next)
+pub line_after-first : (bytes left line : List ℕ) (rest : List (List ℕ)) → left ≡ drop 4 bytes → lines left ≡ line ∷ rest → line_after bytes ≡ line
+line_after-first bytes left line rest following next =
+    ap (λ (ls : List (List ℕ)). get_or ls 0 []) (ap lines (sym following) ∙ next)
 
 -- a file with nothing after the keyword has no numbers
-pub no_line : (bytes left : List ℕ) → left ≡ drop 4 bytes → lines left ≡ [] → (h : AigerHeader) → WritesHeader (line_behind bytes) h → ⊥
-no_line bytes left behind none h writes =
-    let empty : line_behind bytes ≡ [] = ap (λ (ls : List (List ℕ)). get_or ls 0 []) (ap lines (sym behind) ∙ none) in
+pub no_line : (bytes left : List ℕ) → left ≡ drop 4 bytes → lines left ≡ [] → (h : AigerHeader) → WritesHeader (line_after bytes) h → ⊥
+no_line bytes left following none h writes =
+    let empty : line_after bytes ≡ [] = ap (λ (ls : List (List ℕ)). get_or ls 0 []) (ap lines (sym following) ∙ none) in
     let same : [] ≡ map Some (header_numbers h) = ap numbers_on (sym empty) ∙ writes.written in
     cc
 
-pub first_behind : (bytes left : List ℕ) (after : List (List ℕ)) (line : Option Piece) → left ≡ drop 4 bytes → IfSome line (λ l. lines left ≡ l.bytes ∷ after) → IfSome line (λ l. line_behind bytes ≡ l.bytes)
-first_behind bytes left after (Some line) behind next = line_behind-first bytes left line.bytes after behind next
-first_behind bytes left after None behind next = tt
+pub first_after : (bytes left : List ℕ) (after : List (List ℕ)) (line : Option Piece) → left ≡ drop 4 bytes → IfSome line (λ l. lines left ≡ l.bytes ∷ after) → IfSome line (λ l. line_after bytes ≡ l.bytes)
+first_after bytes left after (Some line) following next = line_after-first bytes left line.bytes after following next
+first_after bytes left after None following next = tt
 
-pub none_behind : (bytes left : List ℕ) (line : Option Piece) → left ≡ drop 4 bytes → IfNone line (lines left ≡ []) → IfNone line ((h : AigerHeader) → WritesHeader (line_behind bytes) h → ⊥)
-none_behind bytes left (Some line) behind none = tt
-none_behind bytes left None behind none = no_line bytes left behind none
+pub none_after : (bytes left : List ℕ) (line : Option Piece) → left ≡ drop 4 bytes → IfNone line (lines left ≡ []) → IfNone line ((h : AigerHeader) → WritesHeader (line_after bytes) h → ⊥)
+none_after bytes left (Some line) following none = tt
+none_after bytes left None following none = no_line bytes left following none
 
 -- fewer than five numbers are no header
 pub too_few : (line row : List ℕ) (count : ℕ) (h : AigerHeader) → numbers_on line ≡ map Some (take count row) → count < 5 → WritesHeader line h → ⊥
@@ -102,11 +102,11 @@ keyword_same true false e = absurd (no_clash (sym (ap (λ (bytes : List ℕ). ge
 keyword_same false true e = absurd (no_clash (ap (λ (bytes : List ℕ). get_or bytes 1 0 == 97) e))
 
 -- a file's header has the form and the numbers that are read
-header_same : (bytes : List ℕ) (binary : Bool) (numbers : Numbers) (h : AigerHeader) → take 4 bytes ≡ keyword binary → (writes : WritesNumbers (line_behind bytes) numbers) → HasHeader bytes h → (h.binary ≡ binary) × (header_numbers h ≡ header_numbers (header_from binary numbers writes.properties))
+header_same : (bytes : List ℕ) (binary : Bool) (numbers : Numbers) (h : AigerHeader) → take 4 bytes ≡ keyword binary → (writes : WritesNumbers (line_after bytes) numbers) → HasHeader bytes h → (h.binary ≡ binary) × (header_numbers h ≡ header_numbers (header_from binary numbers writes.properties))
 header_same bytes binary numbers h begins writes has =
     (keyword_same h.binary binary (sym has.begins ∙ begins), map_same _ _ (sym has.numbers.written ∙ (writes.header binary).written))
 
-pub not_counted : (bytes : List ℕ) (binary : Bool) (numbers : Numbers) → take 4 bytes ≡ keyword binary → WritesNumbers (line_behind bytes) numbers → (IsCounted binary numbers → ⊥) → (h : AigerHeader) → HasHeader bytes h → ⊥
+pub not_counted : (bytes : List ℕ) (binary : Bool) (numbers : Numbers) → take 4 bytes ≡ keyword binary → WritesNumbers (line_after bytes) numbers → (IsCounted binary numbers → ⊥) → (h : AigerHeader) → HasHeader bytes h → ⊥
 not_counted bytes binary numbers begins writes not_so h has =
     let same = header_same bytes binary numbers h begins writes has in
     let variables : h.variables ≡ numbers.variables = cc in
@@ -118,7 +118,7 @@ not_counted bytes binary numbers begins writes not_so h has =
       no_gaps = λ t. let gaps = has.no_gaps (subst IsTrue (sym same.0) t) in omega (arith, gaps);
     })
 
-pub header_read : (bytes : List ℕ) (binary : Bool) (numbers : Numbers) → take 4 bytes ≡ keyword binary → (writes : WritesNumbers (line_behind bytes) numbers) → IsCounted binary numbers → HasHeader bytes (header_from binary numbers writes.properties)
+pub header_read : (bytes : List ℕ) (binary : Bool) (numbers : Numbers) → take 4 bytes ≡ keyword binary → (writes : WritesNumbers (line_after bytes) numbers) → IsCounted binary numbers → HasHeader bytes (header_from binary numbers writes.properties)
 header_read bytes binary numbers begins writes counts =
     record {
       begins = begins;

@@ -48,8 +48,8 @@ below_or_not (suc a) (suc b) =
     elim (below_or_not a b) [ inl h ↦ inl (omega arith) | inr h ↦ inr (omega arith) ]
 
 -- the offset after a line, where anything is left there
-offset_behind : (left line : Piece) → first_line left ≡ Some line → ((after_line left).bytes ≡ []) ⊎ ((after_line left).at ≡ left.at + (length line.bytes + 1))
-offset_behind left line first =
+offset_after : (left line : Piece) → first_line left ≡ Some line → ((after_line left).bytes ≡ []) ⊎ ((after_line left).at ≡ left.at + (length line.bytes + 1))
+offset_after left line first =
     let n = line_length left.bytes in
     let bytes : take n left.bytes ≡ line.bytes = ap (λ (p : Piece). p.bytes) (line_is left line first) in
     elim (below_or_not n (length left.bytes)) [
@@ -66,7 +66,7 @@ length_of_lines (first ∷ done) line =
 -- one line more
 pub one_more : (inputs outputs : ℕ) (text left line after : Piece) (input_slots output_slots new_inputs new_outputs : List (Option (List ℕ))) (new_entries : List (Port × List ℕ)) → (way : IsUnderWay inputs outputs text left input_slots output_slots) → first_line left ≡ Some line → after ≡ after_line left → lines left.bytes ≡ line.bytes ∷ lines after.bytes → is_comment line.bytes ≡ false → AddsName inputs outputs line.bytes way.entries new_entries → ArePortSlots new_entries new_inputs new_outputs → IsUnderWay inputs outputs text after new_inputs new_outputs
 one_more inputs outputs text left line after input_slots output_slots new_inputs new_outputs new_entries way first next split symbol adds ports =
-    let offset : (after.bytes ≡ []) ⊎ (after.at ≡ left.at + (length line.bytes + 1)) = let P : Piece → Type 0 = λ p. (p.bytes ≡ []) ⊎ (p.at ≡ left.at + (length line.bytes + 1)) in subst P (sym next) (offset_behind left line first) in
+    let offset : (after.bytes ≡ []) ⊎ (after.at ≡ left.at + (length line.bytes + 1)) = let P : Piece → Type 0 = λ p. (p.bytes ≡ []) ⊎ (p.at ≡ left.at + (length line.bytes + 1)) in subst P (sym next) (offset_after left line first) in
     record {
       done = way.done ++ line.bytes ∷ [];
       entries = new_entries;
@@ -78,7 +78,7 @@ one_more inputs outputs text left line after input_slots output_slots new_inputs
         | inl none ↦ absurd (let e : line.bytes ∷ lines after.bytes ≡ [] = sym split ∙ ap lines none in cc)
         | inr at ↦ elim offset [
           | inl none ↦ inl none
-          | inr behind ↦ inr (omega (arith, at, behind, length_of_lines way.done line.bytes))
+          | inr following ↦ inr (omega (arith, at, following, length_of_lines way.done line.bytes))
         ]
       ];
     }

@@ -78,7 +78,7 @@ outputs_known h literals signals n sound is within k below =
     let variables = defined (roles_of h) (rows_of literals) in
     elim (cases_lt k (input_lines_of h)) [
       | inl before ↦ subst (All (IsKnown variables)) (sym (input_reads h literals k before)) (All-nil (IsKnown variables))
-      | inr behind ↦
+      | inr after ↦
           let place = k - input_lines_of h in
           let e : input_lines_of h + place ≡ k = omega arith in
           let has = prefix_len_passes (has_place signals) literals.outputs.items place 0 (omega arith) in
@@ -101,7 +101,7 @@ gates_known h literals signals n m sound is all_outputs gates_is within k below 
     let d : AndLine = record { lhs = 0; a = 0; b = 0 } in
     elim (cases_lt k (input_lines_of h + n)) [
       | inl before ↦ outputs_known h literals signals n sound is (omega arith) k before
-      | inr behind ↦
+      | inr after ↦
           let place = k - (input_lines_of h + n) in
           let e : input_lines_of h + h.outputs + place ≡ k = omega (arith, sound.counts.outputs_read) in
           let line = get_or literals.gates.items place d in

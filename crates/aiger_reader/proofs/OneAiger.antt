@@ -17,7 +17,7 @@ use Rattle.aiger_reader.proofs.OneSymbols.{names_same, names_or_fault, fault_sam
 
 -- one header, one netlist and one rest
 same_form : (binary : Bool) (bytes : List ℕ) (h : AigerHeader) (rows : List (List ℕ)) (c d : Circuit) (r s : List ℕ) → IsOfForm binary bytes h rows c r → IsOfForm binary bytes h rows d s → (c ≡ d) × (r ≡ s)
-same_form false bytes h rows c d r s one other = (one.same ∙ sym other.same, one.behind ∙ sym other.behind)
+same_form false bytes h rows c d r s one other = (one.same ∙ sym other.same, one.after ∙ sym other.after)
 same_form true bytes h rows c d r s one other =
     let same = one_are_gates bytes r s h one.gates other.gates one.read other.read in
     (one.same ∙ (ap (binary_circuit h rows) same.0 ∙ sym other.same), same.1)
@@ -96,7 +96,7 @@ names_at : (bytes : List ℕ) (fault : NetKind) (at : ℕ) (h : AigerHeader) (ci
 names_at bytes fault at h circuit rest net names =
     let same = one_file bytes names.h h names.circuit circuit names.rest rest names.netlist net in
     let why = subst (λ g. IsSymbolFault g.inputs g.outputs names.base names.rest at) same.0 names.why in
-    (subst (λ r. names.base + length r ≡ length bytes) same.2 names.behind, subst (λ r. IsSymbolFault h.inputs h.outputs names.base r at) same.2 why)
+    (subst (λ r. names.base + length r ≡ length bytes) same.2 names.after, subst (λ r. IsSymbolFault h.inputs h.outputs names.base r at) same.2 why)
 
 pub netlist_or_fault : (bytes : List ℕ) (circuit : Circuit) (i o : List (List ℕ)) (fault : NetKind) (at : ℕ) → IsAiger bytes circuit i o → IsAigerFault bytes fault at → ⊥
 netlist_or_fault bytes circuit i o fault at is (inl header) = no_header bytes is.h fault header.0 is.netlist.begins
@@ -172,7 +172,7 @@ one_in_cycles bytes fault other at place one two =
 one_in_names : (bytes : List ℕ) → IsOne (IsNamesFault bytes)
 one_in_names bytes fault other at place one two =
     let there = names_at bytes other place one.h one.circuit one.rest one.netlist two in
-    let base : two.base ≡ one.base = omega (arith, there.0, one.behind) in
+    let base : two.base ≡ one.base = omega (arith, there.0, one.after) in
     let why = subst (λ b. IsSymbolFault one.h.inputs one.h.outputs b one.rest place) base there.1 in
     (one.is_symbol ∙ sym two.is_symbol, fault_same one.h.inputs one.h.outputs one.base one.rest at place one.why why)
 

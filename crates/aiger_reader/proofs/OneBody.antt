@@ -88,20 +88,20 @@ not_redefined bytes h xs ys more fewer below again =
     not_before (defined roles ys) front.0 (first_of x / 2) (subst (AllPairs (λ one other. one ≢ other)) all more.distinct) (subst (λ row. Contains (defined roles ys) (first_of row / 2)) (sym same) again.before)
 
 -- What is said of the line after fewer good lines is not so where more lines are good.
-pub not_behind : (bytes : List ℕ) (h : AigerHeader) (xs ys : List (List ℕ)) (fault : NetKind) (at : ℕ) → AreGood h (body_lines bytes) xs → AreGood h (body_lines bytes) ys → length ys < length xs → IsLineFault bytes h ys fault at → ⊥
-not_behind bytes h xs ys kind.Truncated at more fewer below why =
+pub not_after : (bytes : List ℕ) (h : AigerHeader) (xs ys : List (List ℕ)) (fault : NetKind) (at : ℕ) → AreGood h (body_lines bytes) xs → AreGood h (body_lines bytes) ys → length ys < length xs → IsLineFault bytes h ys fault at → ⊥
+not_after bytes h xs ys kind.Truncated at more fewer below why =
     omega (arith, why.0, more.there)
-not_behind bytes h xs ys kind.BadLine at more fewer below why =
+not_after bytes h xs ys kind.BadLine at more fewer below why =
     why.0.unwritten (next_row xs ys) (more.written (length ys) below)
-not_behind bytes h xs ys kind.BadLiteral at more fewer below why =
+not_after bytes h xs ys kind.BadLiteral at more fewer below why =
     let same = one_row (get_or (body_lines bytes) (length ys) []) (role_at h (length ys)) (next_row xs ys) why.0.row (more.written (length ys) below) why.0.written in
     why.0.bad (subst (IsGoodRow h (role_at h (length ys))) same (more.good (length ys) below))
-not_behind bytes h xs ys kind.Redefined at more fewer below why = not_redefined bytes h xs ys more fewer below why.0
-not_behind bytes h xs ys other at more fewer below why = absurd why
+not_after bytes h xs ys kind.Redefined at more fewer below why = not_redefined bytes h xs ys more fewer below why.0
+not_after bytes h xs ys other at more fewer below why = absurd why
 
 pub body_or_fault : (bytes : List ℕ) (h : AigerHeader) (rows : List (List ℕ)) (fault : NetKind) (at : ℕ) → IsBody bytes h rows → IsBodyFault bytes h fault at → ⊥
 body_or_fault bytes h rows fault at body bad =
-    not_behind bytes h rows bad.rows fault at body.good bad.good (omega (arith, body.whole, bad.wanted_line)) bad.why
+    not_after bytes h rows bad.rows fault at body.good bad.good (omega (arith, body.whole, bad.wanted_line)) bad.why
 
 -- the four faults of a line
 abbrev Four : List ℕ → AigerHeader → List (List ℕ) → NetKind → ℕ → Type 0
@@ -152,9 +152,9 @@ compared m n = elim (leb_tells n m) [
 pub one_body_fault : (bytes : List ℕ) (h : AigerHeader) (one other : NetKind) (at place : ℕ) → IsBodyFault bytes h one at → IsBodyFault bytes h other place → (one ≡ other) × (at ≡ place)
 one_body_fault bytes h one other at place this that =
     elim (compared (length this.rows) (length that.rows)) [
-      | inl less ↦ absurd (not_behind bytes h that.rows this.rows one at that.good this.good less this.why)
+      | inl less ↦ absurd (not_after bytes h that.rows this.rows one at that.good this.good less this.why)
       | inr (inl same) ↦
           let rows = one_front h (body_lines bytes) this.rows that.rows this.good that.good same in
           same_four bytes h that.rows one other at place (four bytes h that.rows one at (subst (λ rows. IsLineFault bytes h rows one at) rows this.why)) (four bytes h that.rows other place that.why)
-      | inr (inr more) ↦ absurd (not_behind bytes h this.rows that.rows other place this.good that.good more that.why)
+      | inr (inr more) ↦ absurd (not_after bytes h this.rows that.rows other place this.good that.good more that.why)
     ]

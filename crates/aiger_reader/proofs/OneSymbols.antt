@@ -75,8 +75,8 @@ give_front inputs outputs (suc n) (suc m) (line ∷ all) before after within giv
     (rest.0, (given.0, given.1, given.2, given.3, rest.1))
 
 -- the lines before a fault don't reach after another
-not_behind : (inputs outputs base : ℕ) (text : List ℕ) (at m : ℕ) (after : List Entry) → (fault : IsSymbolFault inputs outputs base text at) → fault.place < m → GiveNames inputs outputs (take m (symbol_lines text)) [] after → ⊥
-not_behind inputs outputs base text at m after fault below given =
+not_after : (inputs outputs base : ℕ) (text : List ℕ) (at m : ℕ) (after : List Entry) → (fault : IsSymbolFault inputs outputs base text at) → fault.place < m → GiveNames inputs outputs (take m (symbol_lines text)) [] after → ⊥
+not_after inputs outputs base text at m after fault below given =
     let front = give_front inputs outputs (fault.place + 1) m (symbol_lines text) [] after (omega (arith, below)) given in
     fault.bad front.0 front.1
 
@@ -85,7 +85,7 @@ pub symbols_or_fault : (inputs outputs base : ℕ) (text : List ℕ) (entries : 
 symbols_or_fault inputs outputs base text entries at symbols fault =
     let all = symbol_lines text in
     let P : List (List ℕ) → Type 0 = λ xs. GiveNames inputs outputs xs [] entries in
-    not_behind inputs outputs base text at (length all) entries fault fault.there (subst P (sym (take_all (length all) all (omega arith))) symbols)
+    not_after inputs outputs base text at (length all) entries fault fault.there (subst P (sym (take_all (length all) all (omega arith))) symbols)
 
 pub names_or_fault : (inputs outputs base : ℕ) (text : List ℕ) (i o : List (List ℕ)) (at : ℕ) → AreNames inputs outputs text i o → IsSymbolFault inputs outputs base text at → ⊥
 names_or_fault inputs outputs base text i o at names fault =
@@ -97,5 +97,5 @@ place_from a b less more = omega (arith, less, more)
 -- the fault has one place, and one offset
 pub fault_same : (inputs outputs base : ℕ) (text : List ℕ) (a b : ℕ) → IsSymbolFault inputs outputs base text a → IsSymbolFault inputs outputs base text b → a ≡ b
 fault_same inputs outputs base text a b one other =
-    let place = place_from one.place other.place (λ less. not_behind inputs outputs base text a other.place other.entries one less other.good) (λ more. not_behind inputs outputs base text b one.place one.entries other more one.good) in
+    let place = place_from one.place other.place (λ less. not_after inputs outputs base text a other.place other.entries one less other.good) (λ more. not_after inputs outputs base text b one.place one.entries other more one.good) in
     one.offset ∙ (ap (λ n. base + length (text_of_lines (take n (lines text)))) place ∙ sym other.offset)

@@ -2,19 +2,19 @@
 use Rattle.std.proofs.Common.{◌≡◌, ℕ, ◌+◌, ◌-◌, ◌*◌, ◌<◌, ◌≤◌, List, [], ◌∷◌, ◌++◌, length, Option, None, Some, IfNone, refl, sym, subst, arith}
 use Rattle.std.specs.Option.{SomeIff}
 use Rattle.aiger_reader.specs.Headers.{AigerHeader}
-use Rattle.aiger_reader.specs.Deltas.{BeginsDelta, BeginsFirst, BeginsSecond, BeginsGates, IsBadPair, IsPairFault, IsDeltaFault, AreGates, behind_outputs}
+use Rattle.aiger_reader.specs.Deltas.{BeginsDelta, BeginsFirst, BeginsSecond, BeginsGates, IsBadPair, IsPairFault, IsDeltaFault, AreGates, after_outputs}
 use Rattle.aiger_reader.proofs.DeltaLemmas.{delta_same}
 
 -- a delta that is greater than the literal
-pub no_first : (r : Option ℕ) (literal delta : ℕ) (bytes behind : List ℕ) → SomeIff r (delta ≤ literal) (literal - delta) → BeginsDelta bytes delta behind → IfNone r ((a : ℕ) (rest : List ℕ) → BeginsFirst literal bytes a rest → ⊥)
-no_first None literal delta bytes behind greater read = λ a rest begins.
-    greater (omega (arith, begins.operand, (delta_same bytes behind rest delta begins.delta read begins.read).0))
-no_first (Some a) literal delta bytes behind greater read = tt
+pub no_first : (r : Option ℕ) (literal delta : ℕ) (bytes after : List ℕ) → SomeIff r (delta ≤ literal) (literal - delta) → BeginsDelta bytes delta after → IfNone r ((a : ℕ) (rest : List ℕ) → BeginsFirst literal bytes a rest → ⊥)
+no_first None literal delta bytes after greater read = λ a rest begins.
+    greater (omega (arith, begins.operand, (delta_same bytes after rest delta begins.delta read begins.read).0))
+no_first (Some a) literal delta bytes after greater read = tt
 
-pub no_second : (r : Option ℕ) (first delta : ℕ) (bytes behind : List ℕ) → SomeIff r (delta ≤ first) (first - delta) → BeginsDelta bytes delta behind → IfNone r ((b : ℕ) (rest : List ℕ) → BeginsSecond first bytes b rest → ⊥)
-no_second None first delta bytes behind greater read = λ b rest begins.
-    greater (omega (arith, begins.operand, (delta_same bytes behind rest delta begins.delta read begins.read).0))
-no_second (Some b) first delta bytes behind greater read = tt
+pub no_second : (r : Option ℕ) (first delta : ℕ) (bytes after : List ℕ) → SomeIff r (delta ≤ first) (first - delta) → BeginsDelta bytes delta after → IfNone r ((b : ℕ) (rest : List ℕ) → BeginsSecond first bytes b rest → ⊥)
+no_second None first delta bytes after greater read = λ b rest begins.
+    greater (omega (arith, begins.operand, (delta_same bytes after rest delta begins.delta read begins.read).0))
+no_second (Some b) first delta bytes after greater read = tt
 
 -- the gate with this literal stands at the front of the bytes
 abbrev pub BeginsPair : ℕ → List ℕ → ℕ × ℕ → List ℕ → Type 0
@@ -45,16 +45,16 @@ pair_fault variable count literal total end at bytes middle gates begins fewer p
     }
 
 -- a bad pair after the outputs of a file is the file's fault
-pub file_fault : (bytes left : List ℕ) (h : AigerHeader) (inputs count total at : ℕ) → left ≡ behind_outputs bytes h → inputs ≡ h.inputs → count ≡ h.gates → total ≡ length bytes → IsPairFault (inputs + 1) count left total at → IsDeltaFault bytes h at
+pub file_fault : (bytes left : List ℕ) (h : AigerHeader) (inputs count total at : ℕ) → left ≡ after_outputs bytes h → inputs ≡ h.inputs → count ≡ h.gates → total ≡ length bytes → IsPairFault (inputs + 1) count left total at → IsDeltaFault bytes h at
 file_fault bytes left h inputs count total at here same as_many end fault =
     let P : List ℕ → Type 0 = λ xs. IsPairFault (inputs + 1) count xs total at in
-    let Q : ℕ → Type 0 = λ n. IsPairFault (n + 1) count (behind_outputs bytes h) total at in
-    let R : ℕ → Type 0 = λ n. IsPairFault (h.inputs + 1) n (behind_outputs bytes h) total at in
-    let S : ℕ → Type 0 = λ n. IsPairFault (h.inputs + 1) h.gates (behind_outputs bytes h) n at in
+    let Q : ℕ → Type 0 = λ n. IsPairFault (n + 1) count (after_outputs bytes h) total at in
+    let R : ℕ → Type 0 = λ n. IsPairFault (h.inputs + 1) n (after_outputs bytes h) total at in
+    let S : ℕ → Type 0 = λ n. IsPairFault (h.inputs + 1) h.gates (after_outputs bytes h) n at in
     subst S end (subst R as_many (subst Q same (subst P here fault)))
 
-pub file_gates : (bytes left rest : List ℕ) (h : AigerHeader) (inputs : ℕ) (gates : List (ℕ × ℕ)) → left ≡ behind_outputs bytes h → inputs ≡ h.inputs → length gates ≡ h.gates → BeginsGates (inputs + 1) left gates rest → AreGates bytes h gates rest
+pub file_gates : (bytes left rest : List ℕ) (h : AigerHeader) (inputs : ℕ) (gates : List (ℕ × ℕ)) → left ≡ after_outputs bytes h → inputs ≡ h.inputs → length gates ≡ h.gates → BeginsGates (inputs + 1) left gates rest → AreGates bytes h gates rest
 file_gates bytes left rest h inputs gates here same count begins =
     let P : List ℕ → Type 0 = λ xs. BeginsGates (inputs + 1) xs gates rest in
-    let Q : ℕ → Type 0 = λ n. BeginsGates (n + 1) (behind_outputs bytes h) gates rest in
+    let Q : ℕ → Type 0 = λ n. BeginsGates (n + 1) (after_outputs bytes h) gates rest in
     record { count = count; read = subst Q same (subst P here begins) }

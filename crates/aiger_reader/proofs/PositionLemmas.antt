@@ -38,7 +38,7 @@ word_before_blank digits tail blank none is =
 pub record Parts (bytes digits tail : List ℕ) : Type 0 where
   pub there : word_length bytes < length bytes
   pub front : take (word_length bytes) bytes ≡ digits
-  pub behind : drop (word_length bytes + 1) bytes ≡ tail
+  pub after : drop (word_length bytes + 1) bytes ≡ tail
 
 parts_at : (digits tail : List ℕ) (blank n : ℕ) → n ≡ length digits → (n < length (digits ++ blank ∷ tail)) × (take n (digits ++ blank ∷ tail) ≡ digits) × (drop (n + 1) (digits ++ blank ∷ tail) ≡ tail)
 parts_at digits tail blank n same =
@@ -51,7 +51,7 @@ position_parts bytes tail position begins =
     let count = word_before_blank begins.digits tail begins.blank (number_not_blank begins.digits position begins.place) begins.blank_is in
     let parts = parts_at begins.digits tail begins.blank (word_length whole) count in
     let P : List ℕ → Type 0 = λ xs. Parts xs begins.digits tail in
-    subst P (sym begins.form) (record { there = parts.0; front = parts.1; behind = parts.2 })
+    subst P (sym begins.form) (record { there = parts.0; front = parts.1; after = parts.2 })
 
 -- the bytes begin with one position at most
 pub position_same : (bytes x y : List ℕ) (p q : ℕ) → BeginsPosition bytes p x → BeginsPosition bytes q y → (p ≡ q) × (x ≡ y)
@@ -60,13 +60,13 @@ position_same bytes x y p q one other =
     let b = position_parts bytes y q other in
     let digits : one.digits ≡ other.digits = sym a.front ∙ b.front in
     let same : Some p ≡ Some q = sym one.place ∙ (ap number digits ∙ other.place) in
-    (cc, sym a.behind ∙ b.behind)
+    (cc, sym a.after ∙ b.after)
 
 -- where a blank stands after a number
 pub position_here : (bytes tail : List ℕ) (position : ℕ) → word_length bytes < length bytes → number (take (word_length bytes) bytes) ≡ Some position → tail ≡ take (length bytes - (word_length bytes + 1)) (drop (word_length bytes + 1) bytes) → BeginsPosition bytes position tail
-position_here bytes tail position there place behind =
+position_here bytes tail position there place after =
     let n = word_length bytes in
-    let tail_is : tail ≡ drop (n + 1) bytes = behind ∙ take_rest bytes (n + 1) in
+    let tail_is : tail ≡ drop (n + 1) bytes = after ∙ take_rest bytes (n + 1) in
     record {
       digits = take n bytes;
       blank = get_or bytes n 0;

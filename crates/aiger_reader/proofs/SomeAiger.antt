@@ -26,7 +26,7 @@ form_or_fault : (binary : Bool) (bytes : List ℕ) (h : AigerHeader) (rows : Lis
 form_or_fault false bytes h rows is begins body =
     let rest = drop (line_offset bytes (1 + length rows)) bytes in
     elim (known_or_not bytes h rows) [
-      | inl known ↦ inl (text_circuit h rows, rest, omega (arith, length-drop (line_offset bytes (1 + length rows)) bytes), record { known = known; same = refl; behind = refl })
+      | inl known ↦ inl (text_circuit h rows, rest, omega (arith, length-drop (line_offset bytes (1 + length rows)) bytes), record { known = known; same = refl; after = refl })
       | inr unknown ↦ inr (kind.Undefined, unknown.0, inr (inr (inr (inl (record { h = h; begins = begins; rows = rows; body = body; text = is; is_undefined = refl; why = unknown.1 })))))
     ]
 form_or_fault true bytes h rows is begins body =
@@ -74,7 +74,7 @@ named_or_fault bytes net acyclic =
           netlist = net.4;
           acyclic = acyclic;
           is_symbol = refl;
-          behind = omega (arith, net.3);
+          after = omega (arith, net.3);
           why = bad.1;
         }))))),
       )

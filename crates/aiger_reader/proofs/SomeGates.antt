@@ -4,8 +4,8 @@ use Rattle.std.proofs.lemmas.Bool.{cases_lt}
 use Rattle.std.proofs.lemmas.List.{length_push}
 use Rattle.aiger_reader.specs.Headers.{AigerHeader}
 use Rattle.aiger_reader.specs.Bodies.{line_offset}
-use Rattle.aiger_reader.specs.Deltas.{IsInGroups, BeginsGroups, BeginsDelta, BeginsFirst, BeginsSecond, BeginsGates, AreGates, IsBadPair, IsPairFault, IsDeltaFault, behind_outputs}
-use Rattle.aiger_reader.proofs.DeltaLemmas.{last_group, group_before, no_group_behind, delta_same}
+use Rattle.aiger_reader.specs.Deltas.{IsInGroups, BeginsGroups, BeginsDelta, BeginsFirst, BeginsSecond, BeginsGates, AreGates, IsBadPair, IsPairFault, IsDeltaFault, after_outputs}
+use Rattle.aiger_reader.proofs.DeltaLemmas.{last_group, group_before, no_group_after, delta_same}
 use Rattle.aiger_reader.proofs.PairLemmas.{BeginsPair, gates_push}
 use Rattle.aiger_reader.proofs.TellLemmas.{Told, told_both, told_le, told_lt}
 
@@ -25,7 +25,7 @@ told_groups (suc most) (byte ∷ bytes) =
       | inl below ↦ inl (byte, bytes, last_group (suc most) byte byte (byte ∷ bytes) bytes refl below refl (omega arith))
       | inr above ↦ elim (told_groups most bytes) [
         | inl has ↦ inl (byte - 128 + 128 * has.0, has.1, group_before (suc most) most byte (byte - 128) has.0 (byte ∷ bytes) bytes has.1 refl above refl (omega arith) has.2)
-        | inr none ↦ inr (λ has. no_group_behind (suc most) most byte has.0 (byte ∷ bytes) bytes has.1 refl above (omega arith) (λ m left begins. none (m, left, begins)) has.2)
+        | inr none ↦ inr (λ has. no_group_after (suc most) most byte has.0 (byte ∷ bytes) bytes has.1 refl above (omega arith) (λ m left begins. none (m, left, begins)) has.2)
       ]
     ]
 
@@ -94,8 +94,8 @@ HasGates bytes h = (gates : List (ℕ × ℕ)) × (rest : List ℕ) × (length r
 
 pub gates_or_bad : (bytes : List ℕ) (h : AigerHeader) → HasGates bytes h ⊎ ((at : ℕ) × IsDeltaFault bytes h at)
 gates_or_bad bytes h =
-    let within : length (behind_outputs bytes h) ≤ length bytes = omega (arith, length-drop (line_offset bytes (1 + h.outputs)) bytes) in
-    elim (front_or_bad (h.inputs + 1) h.gates (length bytes) (behind_outputs bytes h) within h.gates (omega arith)) [
+    let within : length (after_outputs bytes h) ≤ length bytes = omega (arith, length-drop (line_offset bytes (1 + h.outputs)) bytes) in
+    elim (front_or_bad (h.inputs + 1) h.gates (length bytes) (after_outputs bytes h) within h.gates (omega arith)) [
       | inr bad ↦ inr bad
       | inl front ↦ inl (front.0, front.1, front.3, record { count = front.2; read = front.4 })
     ]

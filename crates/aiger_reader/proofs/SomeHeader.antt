@@ -3,14 +3,14 @@ use Rattle.std.proofs.Common.{◌≡◌, ℕ, ◌+◌, ◌^◌, ◌<◌, ◌≤�
 use Rattle.net_file.specs.declared.fault.NetKind.{NetKind}
 use Rattle.net_file.specs.declared.fault.NetKind.TheVariants as kind
 use Rattle.aiger_reader.specs.Words.{numbers_on}
-use Rattle.aiger_reader.specs.Headers.{AigerHeader, header_numbers, keyword, line_behind, HasHeader, header_fault, Begins}
+use Rattle.aiger_reader.specs.Headers.{AigerHeader, header_numbers, keyword, line_after, HasHeader, header_fault, Begins}
 use Rattle.aiger_reader.specs.Numbers.{IsHeaderFault}
 use Rattle.aiger_reader.proofs.HeaderLemmas.{map_same, keyword_same}
 use Rattle.aiger_reader.proofs.OneBody.{header_from_row}
 use Rattle.aiger_reader.proofs.TellLemmas.{Told, told_both, told_by, told_if, told_same, told_le, told_lt, told_true, told_all, told_list, told_some}
 
 -- the file's only header is that of its numbers
-header_is : (bytes : List ℕ) (binary : Bool) (row : List ℕ) (h : AigerHeader) → take 4 bytes ≡ keyword binary → numbers_on (line_behind bytes) ≡ map Some row → HasHeader bytes h → h ≡ header_from_row binary row
+header_is : (bytes : List ℕ) (binary : Bool) (row : List ℕ) (h : AigerHeader) → take 4 bytes ≡ keyword binary → numbers_on (line_after bytes) ≡ map Some row → HasHeader bytes h → h ≡ header_from_row binary row
 header_is bytes binary row h begins written has =
     ap₂ header_from_row (keyword_same h.binary binary (sym has.begins ∙ begins)) (map_same (header_numbers h) row (sym has.numbers.written ∙ written))
 
@@ -22,7 +22,7 @@ five_numbers binary (a ∷ b ∷ c ∷ []) enough = absurd (omega arith)
 five_numbers binary (a ∷ b ∷ c ∷ d ∷ []) enough = absurd (omega arith)
 five_numbers binary (a ∷ b ∷ c ∷ d ∷ e ∷ rest) enough = refl
 
-told_enough : (bytes : List ℕ) (binary : Bool) (row : List ℕ) → take 4 bytes ≡ keyword binary → numbers_on (line_behind bytes) ≡ map Some row → 5 ≤ length row → Told (HasHeader bytes (header_from_row binary row))
+told_enough : (bytes : List ℕ) (binary : Bool) (row : List ℕ) → take 4 bytes ≡ keyword binary → numbers_on (line_after bytes) ≡ map Some row → 5 ≤ length row → Told (HasHeader bytes (header_from_row binary row))
 told_enough bytes binary row begins written enough =
     let h = header_from_row binary row in
     let same = five_numbers binary row enough in
@@ -35,7 +35,7 @@ told_enough bytes binary row begins written enough =
       no_gaps = both.1.1;
     }) (λ has. ((has.numbers.few, has.numbers.small), (has.counted, has.no_gaps))) (told_both numbers counts)
 
-told_row : (bytes : List ℕ) (binary : Bool) (row : List ℕ) → take 4 bytes ≡ keyword binary → numbers_on (line_behind bytes) ≡ map Some row → Told (HasHeader bytes (header_from_row binary row))
+told_row : (bytes : List ℕ) (binary : Bool) (row : List ℕ) → take 4 bytes ≡ keyword binary → numbers_on (line_after bytes) ≡ map Some row → Told (HasHeader bytes (header_from_row binary row))
 told_row bytes binary row begins written =
     elim (told_le 5 (length row)) [
       | inl enough ↦ told_enough bytes binary row begins written enough
@@ -47,7 +47,7 @@ HasSome bytes = (h : AigerHeader) × HasHeader bytes h
 
 told_form : (bytes : List ℕ) (binary : Bool) → take 4 bytes ≡ keyword binary → Told (HasSome bytes)
 told_form bytes binary begins =
-    elim (told_some (numbers_on (line_behind bytes))) [
+    elim (told_some (numbers_on (line_after bytes))) [
       | inr none ↦ inr (λ has. none (header_numbers has.0, has.1.numbers.written))
       | inl row ↦ told_by (λ has. (header_from_row binary row.0, has)) (λ has. subst (HasHeader bytes) (header_is bytes binary row.0 has.0 begins row.1 has.1) has.1) (told_row bytes binary row.0 begins row.1)
     ]

@@ -10,7 +10,7 @@ use Rattle.text_core.specs.Numbers.{number}
 use Rattle.text_core.specs.Words.{words, word_length}
 use Rattle.aiger_reader.specs.Symbols.{Port, Entry, IsWithoutReturn, BeginsPosition, NamesPort, GivesName, GiveNames, AddsName, IsThere, AreSymbols, IsSymbolFault, IsNameOf, ArePortNames, AreNames, letter_of, port_at, name_or, symbol_lines}
 use Rattle.aiger_reader.proofs.PositionLemmas.{position_parts, position_here}
-use Rattle.aiger_reader.proofs.SymbolLemmas.{behind_letter, unnamed, gives_same}
+use Rattle.aiger_reader.proofs.SymbolLemmas.{after_letter, unnamed, gives_same}
 use Rattle.aiger_reader.proofs.GiveLemmas.{give_more, give_split, give_same}
 use Rattle.aiger_reader.proofs.OneSymbols.{port_or_not}
 use Rattle.aiger_reader.proofs.TellLemmas.{Told, told_both, told_by, told_not, told_same, told_lt, told_all, told_list}
@@ -80,7 +80,7 @@ told_named (byte ∷ rest) =
     elim (kind_or_none byte) [
       | inr none ↦ inr (λ has. let form = has.2.form in no_kind byte has.0.kind none.0 none.1 (cc))
       | inl kind ↦ elim (told_position rest) [
-        | inr none ↦ inr (λ has. none (has.0.position, has.2.tail, behind_letter (byte ∷ rest) rest has.1 has.0 has.2 refl))
+        | inr none ↦ inr (λ has. none (has.0.position, has.2.tail, after_letter (byte ∷ rest) rest has.1 has.0 has.2 refl))
         | inl position ↦ told_tail byte rest position.1 kind.0 position.0 kind.1 position.2
       ]
     ]
@@ -196,9 +196,9 @@ first_only entry entries port same apart zero below d is = refl
 first_only entry entries port same apart (suc k) below d is =
     absurd (apart k d (omega (arith, below)) (is ∙ sym same))
 
-given_behind : (entry : Entry) (entries : List Entry) (port : Port) (name : List ℕ) → entry.0 ≢ port → IsNameOf entries port name → (k : ℕ) → k < length (entry ∷ entries) → (d : Entry) → (get_or (entry ∷ entries) k d).0 ≡ port → name ≡ (get_or (entry ∷ entries) k d).1
-given_behind entry entries port name apart is_name zero below d is = absurd (apart is)
-given_behind entry entries port name apart is_name (suc k) below d is = is_name.given k (omega (arith, below)) d is
+given_after : (entry : Entry) (entries : List Entry) (port : Port) (name : List ℕ) → entry.0 ≢ port → IsNameOf entries port name → (k : ℕ) → k < length (entry ∷ entries) → (d : Entry) → (get_or (entry ∷ entries) k d).0 ≡ port → name ≡ (get_or (entry ∷ entries) k d).1
+given_after entry entries port name apart is_name zero below d is = absurd (apart is)
+given_after entry entries port name apart is_name (suc k) below d is = is_name.given k (omega (arith, below)) d is
 
 some_name : (entries : List Entry) (port : Port) → IsOnce entries → (name : List ℕ) × IsNameOf entries port name
 some_name [] port once = (name_or port None, record { given = λ k below d is. absurd (omega (arith, below)); unnamed = λ all. refl })
@@ -206,20 +206,20 @@ some_name (entry ∷ entries) port once =
     let P : Entry → Type 0 = λ other. other.0 ≢ port in
     elim (port_or_not entry.0 port) [
       | inl same ↦ (entry.1, record { given = first_only entry entries port same once.0; unnamed = λ all. absurd (All-head P entry entries all same) })
-      | inr apart ↦ let behind = some_name entries port once.1 in
-          (behind.0, record { given = given_behind entry entries port behind.0 apart behind.1; unnamed = λ all. behind.1.unnamed (All-tail P entry entries all) })
+      | inr apart ↦ let following = some_name entries port once.1 in
+          (following.0, record { given = given_after entry entries port following.0 apart following.1; unnamed = λ all. following.1.unnamed (All-tail P entry entries all) })
     ]
 
 each_cons : (P : ℕ → List ℕ → Type 0) (x : List ℕ) (xs : List (List ℕ)) → P 0 x → EachAt (λ k. P (suc k)) xs → EachAt P (x ∷ xs)
-each_cons P x xs here behind zero d below = here
-each_cons P x xs here behind (suc k) d below = behind k d (omega (arith, below))
+each_cons P x xs here following zero d below = here
+each_cons P x xs here following (suc k) d below = following k d (omega (arith, below))
 
 some_each : (P : ℕ → List ℕ → Type 0) → ((k : ℕ) → (x : List ℕ) × P k x) → (n : ℕ) → (xs : List (List ℕ)) × (length xs ≡ n) × EachAt P xs
 some_each P each zero = ([], refl, λ k d below. absurd (omega (arith, below)))
 some_each P each (suc n) =
-    let behind = some_each (λ k. P (suc k)) (λ k. each (suc k)) n in
+    let following = some_each (λ k. P (suc k)) (λ k. each (suc k)) n in
     let first = each 0 in
-    (first.0 ∷ behind.0, omega (arith, behind.1), each_cons P first.0 behind.0 first.1 behind.2)
+    (first.0 ∷ following.0, omega (arith, following.1), each_cons P first.0 following.0 first.1 following.2)
 
 some_names : (entries : List Entry) (kind : PortKind) (count : ℕ) → IsOnce entries → (names : List (List ℕ)) × ArePortNames entries kind count names
 some_names entries kind count once =

@@ -34,8 +34,8 @@ return_same text a b one other =
     ]
 
 -- what stands after the letter
-pub behind_letter : (line rest name : List ℕ) (port : Port) → (named : NamesPort line port name) → rest ≡ drop 1 line → BeginsPosition rest port.position named.tail
-behind_letter line rest name port named same =
+pub after_letter : (line rest name : List ℕ) (port : Port) → (named : NamesPort line port name) → rest ≡ drop 1 line → BeginsPosition rest port.position named.tail
+after_letter line rest name port named same =
     let P : List ℕ → Type 0 = λ xs. BeginsPosition xs port.position named.tail in
     let e : rest ≡ named.rest = same ∙ ap (drop 1) named.form in
     subst P (sym e) named.place
@@ -44,16 +44,16 @@ pub named_same : (line a b : List ℕ) (p q : Port) → NamesPort line p a → N
 named_same line a b p q one other =
     let letters : letter_of p.kind ≡ letter_of q.kind = cc (one.form, other.form) in
     let kind = letter_same p.kind q.kind letters in
-    let behind = position_same (drop 1 line) one.tail other.tail p.position q.position (behind_letter line (drop 1 line) a p one refl) (behind_letter line (drop 1 line) b q other refl) in
+    let after = position_same (drop 1 line) one.tail other.tail p.position q.position (after_letter line (drop 1 line) a p one refl) (after_letter line (drop 1 line) b q other refl) in
     let P : List ℕ → Type 0 = λ tail. IsWithoutReturn tail b in
-    (ap₂ port_at kind behind.0, return_same one.tail a b one.name_is (subst P (sym behind.1) other.name_is))
+    (ap₂ port_at kind after.0, return_same one.tail a b one.name_is (subst P (sym after.1) other.name_is))
 
 -- a line with no name, where a carriage return alone stands after the blank, or nothing
 pub unnamed : (line rest tail name none : List ℕ) (position : ℕ) (port : Port) → rest ≡ drop 1 line → BeginsPosition rest position tail → IsWithoutReturn tail none → none ≡ [] → NamesPort line port name → ⊥
 unnamed line rest tail name none position port same begins without empty named =
-    let behind = position_same rest tail named.tail position port.position begins (behind_letter line rest name port named same) in
+    let after = position_same rest tail named.tail position port.position begins (after_letter line rest name port named same) in
     let P : List ℕ → Type 0 = λ xs. IsWithoutReturn xs name in
-    named.named (sym (return_same tail none name without (subst P (sym behind.1) named.name_is)) ∙ empty)
+    named.named (sym (return_same tail none name without (subst P (sym after.1) named.name_is)) ∙ empty)
 
 filter_filled : (x : ℕ) (part : List ℕ) (parts : List (List ℕ)) → filter is_not_empty ((x ∷ part) ∷ parts) ≡ (x ∷ part) ∷ filter is_not_empty parts
 filter_filled x part parts = grind arith

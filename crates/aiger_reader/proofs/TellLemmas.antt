@@ -93,12 +93,12 @@ not_some : (words : List (Option ℕ)) (numbers : List ℕ) → None ∷ words �
 not_some words [] e = cc
 not_some words (n ∷ numbers) e = cc
 
-some_behind : (word : Option ℕ) (words : List (Option ℕ)) (numbers : List ℕ) → word ∷ words ≡ map Some numbers → AreSome words
-some_behind word words [] e = absurd (cc)
-some_behind word words (n ∷ numbers) e = (numbers, cc)
+some_after : (word : Option ℕ) (words : List (Option ℕ)) (numbers : List ℕ) → word ∷ words ≡ map Some numbers → AreSome words
+some_after word words [] e = absurd (cc)
+some_after word words (n ∷ numbers) e = (numbers, cc)
 
 pub told_some : (words : List (Option ℕ)) → Told (AreSome words)
 told_some [] = inl ([], refl)
 told_some (None ∷ words) = inr (λ some. not_some words some.0 some.1)
 told_some (Some n ∷ words) =
-    told_by (λ some. (n ∷ some.0, ap (λ ws. Some n ∷ ws) some.1)) (λ some. some_behind (Some n) words some.0 some.1) (told_some words)
+    told_by (λ some. (n ∷ some.0, ap (λ ws. Some n ∷ ws) some.1)) (λ some. some_after (Some n) words some.0 some.1) (told_some words)

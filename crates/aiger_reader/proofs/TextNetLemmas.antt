@@ -70,7 +70,7 @@ place_there variables v there =
       | inl before ↦
           let fails = fails_before_first (λ w. w == v) variables there.0 v before in
           absurd (cc (fails, ap (λ w. w == v) there.2, same_test v))
-      | inr behind ↦ omega (arith, there.1)
+      | inr after ↦ omega (arith, there.1)
     ]
 
 -- a known literal is of a signal that is there

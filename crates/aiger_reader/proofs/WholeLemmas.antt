@@ -17,7 +17,7 @@ use Rattle.aiger_reader.specs.declared.body.Literals.{Literals}
 use Rattle.aiger_reader.specs.Numbers.{header_of}
 use Rattle.aiger_reader.specs.Headers.{AigerHeader}
 use Rattle.aiger_reader.specs.Bodies.{roles_of, IsBody, IsBodyFault, IsKnownRow, IsUndefined, lit_from, text_circuit, line_offset}
-use Rattle.aiger_reader.specs.Deltas.{BeginsGates, IsPairFault, and_from, behind_outputs, binary_circuit}
+use Rattle.aiger_reader.specs.Deltas.{BeginsGates, IsPairFault, and_from, after_outputs, binary_circuit}
 use Rattle.aiger_reader.specs.Numbered.{IsSound, circuit_from}
 use Rattle.aiger_reader.specs.Reading.{rows_of, input_lines_of, gate_lines_of, IsAtLine}
 use Rattle.aiger_reader.specs.Aiger.{IsOfForm, IsNetlist, IsLinesFault, IsGatesFault, IsUndefinedFault, IsNamesFault, IsAigerFault}
@@ -82,14 +82,14 @@ text_is bytes header literals signals rest circuit text begun read known same =
         form = of_text header.binary bytes h rows circuit rest.bytes text (record {
           known = known begun.0;
           same = same begun.0;
-          behind = rest_is bytes (length rows + 1) rest read.left ∙ ap (λ n. drop (line_offset bytes n) bytes) lines_read;
+          after = rest_is bytes (length rows + 1) rest read.left ∙ ap (λ n. drop (line_offset bytes n) bytes) lines_read;
         });
       },
     )
 
 -- what is left after the lines of the binary form begins with the gates
-behind_is : (bytes : List ℕ) (header : Header) (literals : Literals) (signals : List ℕ) (rest : Piece) (properties : List ℕ) → header.binary ≡ true → AreLinesRead bytes header literals signals rest → rest.bytes ≡ behind_outputs bytes (header_of header properties)
-behind_is bytes header literals signals rest properties binary read =
+after_is : (bytes : List ℕ) (header : Header) (literals : Literals) (signals : List ℕ) (rest : Piece) (properties : List ℕ) → header.binary ≡ true → AreLinesRead bytes header literals signals rest → rest.bytes ≡ after_outputs bytes (header_of header properties)
+after_is bytes header literals signals rest properties binary read =
     let counts = read.sound.counts in
     let no_inputs : length literals.inputs.items ≡ 0 = counts.inputs_read ∙ ap (λ t. if t then 0 else header.inputs) binary in
     let no_gates : length literals.gates.items ≡ 0 = counts.gates_read ∙ ap (λ t. if t then 0 else header.gates) binary in
@@ -106,7 +106,7 @@ delta_fault bytes header literals signals rest fault binary begun read is why =
       body = read.body begun.0;
       binary = binary;
       is_delta = is;
-      why = file_fault bytes rest.bytes h header.inputs header.gates (rest.at + length rest.bytes) fault.at (behind_is bytes header literals signals rest begun.0 binary read) refl refl (end_is bytes (length (rows_of literals) + 1) rest read.left) why;
+      why = file_fault bytes rest.bytes h header.inputs header.gates (rest.at + length rest.bytes) fault.at (after_is bytes header literals signals rest begun.0 binary read) refl refl (end_is bytes (length (rows_of literals) + 1) rest read.left) why;
     } in
     inr (inr (inl found))
 
@@ -115,17 +115,17 @@ of_binary binary bytes h rows circuit rest text is =
     subst (λ t. IsOfForm t bytes h rows circuit rest) (sym text) is
 
 -- the netlist of the gates in the binary form is the file's
-pub deltas_are : (bytes : List ℕ) (header : Header) (literals : Literals) (signals : List ℕ) (rest : Piece) (behind : List ℕ) (circuit : Circuit) (gates : List (ℕ × ℕ)) → header.binary ≡ true → IsBegun bytes header → AreLinesRead bytes header literals signals rest → length gates ≡ header.gates → BeginsGates (header.inputs + 1) rest.bytes gates behind → circuit ≡ circuit_from header.inputs (map and_from gates) (map lit_from literals.outputs.items) → IsNetOf bytes header circuit behind
-deltas_are bytes header literals signals rest behind circuit gates binary begun read count begins same =
+pub deltas_are : (bytes : List ℕ) (header : Header) (literals : Literals) (signals : List ℕ) (rest : Piece) (after : List ℕ) (circuit : Circuit) (gates : List (ℕ × ℕ)) → header.binary ≡ true → IsBegun bytes header → AreLinesRead bytes header literals signals rest → length gates ≡ header.gates → BeginsGates (header.inputs + 1) rest.bytes gates after → circuit ≡ circuit_from header.inputs (map and_from gates) (map lit_from literals.outputs.items) → IsNetOf bytes header circuit after
+deltas_are bytes header literals signals rest after circuit gates binary begun read count begins same =
     let h = header_of header begun.0 in
     let rows = rows_of literals in
-    let gates_are = file_gates bytes rest.bytes behind h header.inputs gates (behind_is bytes header literals signals rest begun.0 binary read) refl count begins in (
+    let gates_are = file_gates bytes rest.bytes after h header.inputs gates (after_is bytes header literals signals rest begun.0 binary read) refl count begins in (
       begun.0,
       record {
         begins = begun.1;
         rows = rows;
         body = read.body begun.0;
-        form = of_binary header.binary bytes h rows circuit behind binary (record {
+        form = of_binary header.binary bytes h rows circuit after binary (record {
           gates = gates;
           read = gates_are;
           same = same ∙ binary_is h literals gates binary read.sound.counts;
@@ -134,8 +134,8 @@ deltas_are bytes header literals signals rest behind circuit gates binary begun 
     )
 
 -- the outputs and the gates of the binary form are in range
-pub binary_body : (bytes : List ℕ) (header : Header) (literals : Literals) (signals : List ℕ) (rest : Piece) (behind outputs : List ℕ) (gates pairs : List (ℕ × ℕ)) → header.binary ≡ true → IsBegun bytes header → AreLinesRead bytes header literals signals rest → length gates ≡ header.gates → BeginsGates (header.inputs + 1) rest.bytes gates behind → outputs ≡ literals.outputs.items → pairs ≡ gates → IsBinaryBody header outputs pairs
-binary_body bytes header literals signals rest behind outputs gates pairs binary begun read count begins outs gates_same =
+pub binary_body : (bytes : List ℕ) (header : Header) (literals : Literals) (signals : List ℕ) (rest : Piece) (after outputs : List ℕ) (gates pairs : List (ℕ × ℕ)) → header.binary ≡ true → IsBegun bytes header → AreLinesRead bytes header literals signals rest → length gates ≡ header.gates → BeginsGates (header.inputs + 1) rest.bytes gates after → outputs ≡ literals.outputs.items → pairs ≡ gates → IsBinaryBody header outputs pairs
+binary_body bytes header literals signals rest after outputs gates pairs binary begun read count begins outs gates_same =
     let sound = read.sound in
     let h = header_of header [] in
     let small : All (λ literal. literal ≤ 2 * header.variables + 1) literals.outputs.items = λ k d below. outputs_small h literals signals k d sound below in
@@ -144,7 +144,7 @@ binary_body bytes header literals signals rest behind outputs gates pairs binary
       outputs_read = ap length outs ∙ sound.counts.outputs_read;
       in_range = subst (All (λ literal. literal ≤ 2 * header.variables + 1)) (sym outs) small;
       gates_read = ap length gates_same ∙ count;
-      below = subst (ArePairsBelow (header.inputs + 1)) (sym gates_same) (begins_below (header.inputs + 1) rest.bytes behind gates begins);
+      below = subst (ArePairsBelow (header.inputs + 1)) (sym gates_same) (begins_below (header.inputs + 1) rest.bytes after gates begins);
     }
 
 -- the header's own limits
@@ -191,7 +191,7 @@ loop_line false bytes h rows circuit rest d is body form sizes looped =
     omega (arith, body.whole, length-roles_of h, i, g, body.good.there, length-drop 1 (lines bytes), looped.there, sizes.defs)
 loop_line true bytes h rows circuit rest d is body form sizes looped =
     let variables : h.inputs + 1 ≡ circuit.inputs + 1 = omega (arith, sizes.inputs) in
-    let pairs = begins_below (h.inputs + 1) (behind_outputs bytes h) rest form.gates form.read.read in
+    let pairs = begins_below (h.inputs + 1) (after_outputs bytes h) rest form.gates form.read.read in
     absurd (not_looped circuit form.gates d (ap (λ c. c.defs) form.same) (subst (λ n. ArePairsBelow n form.gates) variables pairs) looped)
 
 pub loop_there : (bytes : List ℕ) (h : AigerHeader) (circuit : Circuit) (rest : List ℕ) (d : ℕ) → IsNetlist bytes h circuit rest → IsFirstLooped circuit d → 1 + h.inputs + h.outputs + d < length (lines bytes)
@@ -209,7 +209,7 @@ names_fault bytes header circuit rest fault net acyclic end is why =
       netlist = net.1;
       acyclic = acyclic;
       is_symbol = is;
-      behind = end;
+      after = end;
       why = why;
     } in
     inr (inr (inr (inr (inr found))))

@@ -17,7 +17,7 @@ pub record IsText (bytes : List ℕ) (h : AigerHeader) (rows : List (List ℕ)) 
     : Type 0 where
   pub known : (k : ℕ) → k < length rows → IsKnownRow h rows k
   pub same : circuit ≡ text_circuit h rows
-  pub behind : rest ≡ drop (line_offset bytes (1 + length rows)) bytes
+  pub after : rest ≡ drop (line_offset bytes (1 + length rows)) bytes
 
 -- The binary form: the deltas of all gates are good, and with the outputs' lines give this netlist.
 pub record IsBinary (bytes : List ℕ) (h : AigerHeader) (rows : List (List ℕ)) (circuit : Circuit) (rest : List ℕ)
@@ -97,7 +97,7 @@ pub record IsNamesFault (bytes : List ℕ) (fault : NetKind) (at : ℕ) : Type 0
   pub netlist : IsNetlist bytes h circuit rest
   pub acyclic : IsAcyclic circuit
   pub is_symbol : fault ≡ kind.BadSymbol
-  pub behind : base + length rest ≡ length bytes
+  pub after : base + length rest ≡ length bytes
   pub why : IsSymbolFault h.inputs h.outputs base rest at
 
 abbrev pub IsAigerFault : List ℕ → NetKind → ℕ → Type 0

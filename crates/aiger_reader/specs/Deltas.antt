@@ -45,19 +45,19 @@ pub record BeginsSecond (a : ℕ) (bytes : List ℕ) (b : ℕ) (rest : List ℕ)
 abbrev pub BeginsGates : ℕ → List ℕ → List (ℕ × ℕ) → List ℕ → Type 0
 BeginsGates variable bytes [] rest = bytes ≡ rest
 BeginsGates variable bytes (gate ∷ gates) rest =
-    (middle behind : List ℕ)
+    (middle after : List ℕ)
     × BeginsFirst (2 * variable) bytes gate.0 middle
-    × BeginsSecond gate.0 middle gate.1 behind
-    × BeginsGates (variable + 1) behind gates rest
+    × BeginsSecond gate.0 middle gate.1 after
+    × BeginsGates (variable + 1) after gates rest
 
 -- what stands after the header's line and the outputs' lines
-abbrev pub behind_outputs : List ℕ → AigerHeader → List ℕ
-behind_outputs bytes h = drop (line_offset bytes (1 + h.outputs)) bytes
+abbrev pub after_outputs : List ℕ → AigerHeader → List ℕ
+after_outputs bytes h = drop (line_offset bytes (1 + h.outputs)) bytes
 
 -- The gates of a file in the binary form, and what stands after them.
 pub record AreGates (bytes : List ℕ) (h : AigerHeader) (gates : List (ℕ × ℕ)) (rest : List ℕ) : Type 0 where
   pub count : length gates ≡ h.gates
-  pub read : BeginsGates (h.inputs + 1) (behind_outputs bytes h) gates rest
+  pub read : BeginsGates (h.inputs + 1) (after_outputs bytes h) gates rest
 
 -- the first delta of a pair is bad, or the second one; the offset is the file's length less what is left
 abbrev pub IsBadPair : ℕ → List ℕ → ℕ → ℕ → Type 0
@@ -79,7 +79,7 @@ pub record IsPairFault (variable count : ℕ) (bytes : List ℕ) (total at : ℕ
 
 -- The first delta that is cut off, too long or out of range, at its first byte.
 abbrev pub IsDeltaFault : List ℕ → AigerHeader → ℕ → Type 0
-IsDeltaFault bytes h at = IsPairFault (h.inputs + 1) h.gates (behind_outputs bytes h) (length bytes) at
+IsDeltaFault bytes h at = IsPairFault (h.inputs + 1) h.gates (after_outputs bytes h) (length bytes) at
 
 -- the AND of the literals with these numbers
 abbrev pub and_from : ℕ × ℕ → Def

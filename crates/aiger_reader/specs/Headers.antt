@@ -26,8 +26,8 @@ abbrev pub keyword : Bool → List ℕ
 keyword binary = if binary then codes "aig " else codes "aag "
 
 -- the first line of a file after the keyword
-abbrev pub line_behind : List ℕ → List ℕ
-line_behind bytes = slice_index_or (lines (drop 4 bytes)) 0 []
+abbrev pub line_after : List ℕ → List ℕ
+line_after bytes = slice_index_or (lines (drop 4 bytes)) 0 []
 
 -- The line writes five to nine numbers of 32 bits: those of a header.
 pub record WritesHeader (line : List ℕ) (h : AigerHeader) : Type 0 where
@@ -38,7 +38,7 @@ pub record WritesHeader (line : List ℕ) (h : AigerHeader) : Type 0 where
 -- The file begins with this header.
 pub record HasHeader (bytes : List ℕ) (h : AigerHeader) : Type 0 where
   pub begins : take 4 bytes ≡ keyword h.binary
-  pub numbers : WritesHeader (line_behind bytes) h
+  pub numbers : WritesHeader (line_after bytes) h
   pub counted : h.inputs + h.latches + h.gates ≤ h.variables
   pub no_gaps : IsTrue h.binary → h.inputs + h.latches + h.gates ≡ h.variables
 

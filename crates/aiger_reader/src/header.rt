@@ -3,7 +3,7 @@
 ghost use Rattle.std.specs.Prelude.{◌≡◌, ℕ, ◌≤◌, ◌↔◌, Bool, List, length, map, take, IsTrue, Some, None, IfOk, IfErr, IfSome, IfNone, nat_lt};
 ghost use Rattle.std.specs.List.{list_any};
 ghost use Rattle.aiger_reader.specs.Words.{numbers_on, AreSmall};
-ghost use Rattle.aiger_reader.specs.Headers.{AigerHeader, keyword, line_behind, WritesHeader, HasHeader, Begins, header_fault};
+ghost use Rattle.aiger_reader.specs.Headers.{AigerHeader, keyword, line_after, WritesHeader, HasHeader, Begins, header_fault};
 ghost use Rattle.aiger_reader.specs.Numbers.{header_of, header_from, WritesNumbers, HasNumbers, IsCounted, IsHeaderFault};
 
 pub(crate) use crate::limits::Header;
@@ -127,10 +127,10 @@ fn form_of(input: &[u8]) -> Option<bool>
 }
 
 // The first line after the keyword.
-fn line_behind_keyword(input: &[u8]) -> Option<Span<'_>>
+fn line_after_keyword(input: &[u8]) -> Option<Span<'_>>
     requires { 4 ≤ length input.now }
-    ensures line { IfSome result (λ line. line_behind input.now ≡ line.bytes) }
-    ensures none { IfNone result ((h : AigerHeader) → WritesHeader (line_behind input.now) h → ⊥) }
+    ensures line { IfSome result (λ line. line_after input.now ≡ line.bytes) }
+    ensures none { IfNone result ((h : AigerHeader) → WritesHeader (line_after input.now) h → ⊥) }
 {
     Cursor::new(&input[4..]).next_line()
 }
@@ -138,10 +138,10 @@ fn line_behind_keyword(input: &[u8]) -> Option<Span<'_>>
 // The numbers on the first line after the keyword, where these are five to nine of 32 bits.
 fn read_numbers(input: &[u8]) -> Option<Numbers>
     requires { 4 ≤ length input.now }
-    ensures numbers { IfSome result (WritesNumbers (line_behind input.now)) }
-    ensures none { IfNone result ((h : AigerHeader) → WritesHeader (line_behind input.now) h → ⊥) }
+    ensures numbers { IfSome result (WritesNumbers (line_after input.now)) }
+    ensures none { IfNone result ((h : AigerHeader) → WritesHeader (line_after input.now) h → ⊥) }
 {
-    let mut line = line_behind_keyword(input)?;
+    let mut line = line_after_keyword(input)?;
     let mut row = [0; 9];
     let count = fill(&mut line, &mut row)?;
     if count < 5 {

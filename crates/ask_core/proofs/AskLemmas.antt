@@ -43,8 +43,8 @@ front-all : (P : List SatLit → Type 0) (xs ys : List (List SatLit)) → All P 
 front-all P xs ys all k d within =
     subst P (get_or_append_left xs ys d k within) (all k d (omega (arith, within, length-append xs ys)))
 
-behind-all : (P : List SatLit → Type 0) (xs ys : List (List SatLit)) → All P (xs ++ ys) → All P ys
-behind-all P xs ys all k d within =
+after-all : (P : List SatLit → Type 0) (xs ys : List (List SatLit)) → All P (xs ++ ys) → All P ys
+after-all P xs ys all k d within =
     subst P (get_or-append-add xs ys k d) (all (length xs + k) d (omega (arith, within, length-append xs ys)))
 
 -- A solver for the clauses of a query's cones, with lemmas.
@@ -76,7 +76,7 @@ asked_with graphs query lemmas s new old first after of there opened_is extended
       record {
         derived = ap (λ f. line_fault f (clauses_of (take k new.lines)) (slice_index_or new.lines k d)) (sym of.formula) ∙ added.derived;
         fresh = all-cones P graphs query lemmas s of (front-all P (wanted s.formula s.ids) (clauses_of (take k new.lines)) added.fresh);
-        unlike_earlier = behind-all P (wanted s.formula s.ids) (clauses_of (take k new.lines)) added.fresh;
+        unlike_earlier = after-all P (wanted s.formula s.ids) (clauses_of (take k new.lines)) added.fresh;
       };
   budget = extended.budget ∙ ap (λ (l : Ledgered). l.budget) opened_is;
   asked = asked_after first after new.lines (is_opened first there) (extended.opened ∙ is_opened first there) extended.lines_are extended.others ∙ ap (λ (l : Ledgered). with_lines new.lines l.asked) opened_is;

@@ -125,13 +125,13 @@ twos_split least [] one other shapes each ascend = cc
 twos_split least (i ∷ inputs) one other shapes each ascend =
     let parts = ascend_rest least i inputs ascend in
     let first = head_is one (Up i) (other ∷ shapes) _ each in
-    let behind = tail_is one (Up i) (other ∷ shapes) _ each in
-    let second = head_is other (Down i) shapes _ behind in
+    let after = tail_is one (Up i) (other ∷ shapes) _ each in
+    let second = head_is other (Down i) shapes _ after in
     record {
       i = i;
       is = ap (λ s. twin_input s other) first ∙ (ap (λ s. twin_input (Up i) s) second ∙ to_two i);
       within = parts.0;
-      rest = record { inputs = inputs; both_of_each = tail_is other (Down i) shapes _ behind; ascend = parts.1 };
+      rest = record { inputs = inputs; both_of_each = tail_is other (Down i) shapes _ after; ascend = parts.1 };
     }
 
 pub twos_step : (P : Type 0) (least i : ℕ) (one other : Shape) (shapes left : List Shape) → left ≡ one ∷ other ∷ shapes → twin_input one other ≡ Some i → least ≤ i → (GoOverTwice least left ↔ P) → (GoOverTwice (i + 1) shapes ↔ P)

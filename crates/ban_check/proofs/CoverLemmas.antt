@@ -13,14 +13,14 @@ use Rattle.ban_check.specs.Counted.{row, IsHeld, IsReferredBanGiven}
 use Rattle.ban_check.proofs.BoolLemmas.{both_tests, either_test, negated_test, same_test}
 
 -- too few references are left
-pub references_short : (R : Pair → Option ℕ → Type 0) (kind : PortKind) (port t : ℕ) (to_left to_behind : List ℕ) (more : List Pair) (left : List (Option ℕ)) → to_left ≡ t ∷ to_behind → length left < 2 → AllZip R (row kind port to_left ++ more) left → ⊥
-references_short R kind port t to_left to_behind more left to_is short all =
+pub references_short : (R : Pair → Option ℕ → Type 0) (kind : PortKind) (port t : ℕ) (to_left to_after : List ℕ) (more : List Pair) (left : List (Option ℕ)) → to_left ≡ t ∷ to_after → length left < 2 → AllZip R (row kind port to_left ++ more) left → ⊥
+references_short R kind port t to_left to_after more left to_is short all =
     by left short (subst (λ l. AllZip R (row kind port l ++ more) left) to_is all)
   where
-    by : (left : List (Option ℕ)) → length left < 2 → AllZip R (row kind port (t ∷ to_behind) ++ more) left → ⊥
+    by : (left : List (Option ℕ)) → length left < 2 → AllZip R (row kind port (t ∷ to_after) ++ more) left → ⊥
     by [] short all = all
     by (one ∷ []) short all = all.1
-    by (one ∷ other ∷ behind) short all = absurd (omega (arith, short))
+    by (one ∷ other ∷ after) short all = absurd (omega (arith, short))
 
 -- a pair among some and one more
 held_more : (pairs : List Pair) (more held : Pair) → ((held ≡ more) ⊎ Any (λ pair. pair ≡ held) pairs) → IsHeld pairs more held

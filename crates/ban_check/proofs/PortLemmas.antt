@@ -11,13 +11,13 @@ use Rattle.query_core.proofs.ImageLemmas.{found-is}
 use Rattle.account_core.specs.Ports.{ports_in, AreOrdered, IsKnown, StandInOrder}
 
 pub ordered_more : (pairs : List Pair) (k : ℕ) (e : Pair) → k < length pairs → ((i j : ℕ) (d : Pair) → i < j → j < k → StandInOrder (slice_index_or pairs i d) (slice_index_or pairs j d)) → All (λ other. StandInOrder other (get_or pairs k e)) (take k pairs) → (i j : ℕ) (d : Pair) → i < j → j < k + 1 → StandInOrder (slice_index_or pairs i d) (slice_index_or pairs j d)
-ordered_more pairs k e within so_far behind i j d less below =
+ordered_more pairs k e within so_far after i j d less below =
     elim (cases_lt j k) [
       | inl before ↦ so_far i j d less before
       | inr not_before ↦
           let last : k ≡ j = omega (arith, below, not_before) in
           let first : i < k = omega (arith, less, last) in
-          let one = behind i d (omega (arith, first, within, length-take k pairs)) in
+          let one = after i d (omega (arith, first, within, length-take k pairs)) in
           let here : get_or pairs k e ≡ get_or pairs j d = default_free pairs k j e d within last in
           subst (λ p. StandInOrder (get_or pairs i d) p) here (subst (λ p. StandInOrder p (get_or pairs k e)) (get_or-take k pairs i d first) one)
     ]

@@ -100,8 +100,8 @@ first_unknown lines words at u =
     let found = is_undefined (input_words lines) (defined_words lines) in
     subst (λ ws. IsAtFirst found ws at) (sym u.whole) (record {
       place = length u.before;
-      first = IsFirst-seam found u.before u.word u.behind (none_undefined lines u.before u.known) (undefined_by lines u.before u.word ∙ ap not u.unknown);
-      offset = u.offset ∙ ap (λ (w : Piece). w.at) (sym (get_or-append_seam u.before u.word u.behind (record { bytes = []; at = 0 })));
+      first = IsFirst-seam found u.before u.word u.after (none_undefined lines u.before u.known) (undefined_by lines u.before u.word ∙ ap not u.unknown);
+      offset = u.offset ∙ ap (λ (w : Piece). w.at) (sym (get_or-append_seam u.before u.word u.after (record { bytes = []; at = 0 })));
     })
 
 pub undefined_name : (lines : List (List Piece)) (kind : NetKind) (at : ℕ) → AreDefinedOnce lines → IsUnknownFault (signal_names lines) (read_words lines) kind at → IsUndefinedFault lines kind at

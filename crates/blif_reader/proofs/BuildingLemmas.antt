@@ -18,7 +18,7 @@ use Rattle.blif_reader.specs.Directives.{directive_of, is_row, is_names}
 use Rattle.blif_reader.specs.Rows.{output_byte}
 use Rattle.blif_reader.specs.Names.{operands, read_on, read_words}
 use Rattle.blif_reader.specs.Covers.{trits_of, literal_named, are_on, leading_rows, cover_of, covers_of}
-use Rattle.blif_reader.specs.Building.{EndsAs, but_last, IsKnownIn, IsUnknownAt, IsUnknownFault, Continues, closed, with_row, open_behind, closed_by, outputs_by, places_by, Builds, continued, outputs_in, places_in, IsBuilt, IsBuilding}
+use Rattle.blif_reader.specs.Building.{EndsAs, but_last, IsKnownIn, IsUnknownAt, IsUnknownFault, Continues, closed, with_row, open_after, closed_by, outputs_by, places_by, Builds, continued, outputs_in, places_in, IsBuilt, IsBuilding}
 
 abbrev pub cover_so_far : List ℕ → List (List Trit) → Bool → CoverSoFar
 cover_so_far names rows on = record { names = names; rows = rows; on = on }
@@ -36,7 +36,7 @@ pub unknown_later : (names : List (List ℕ)) (word : Piece) (words : List Piece
 unknown_later names word words at k u = record {
   before = word ∷ u.before;
   word = u.word;
-  behind = u.behind;
+  after = u.after;
   whole = ap (λ ws. word ∷ ws) u.whole;
   known = All-cons (IsKnownIn names) word u.before k u.known;
   unknown = u.unknown;
@@ -47,7 +47,7 @@ pub unknown_here : (names : List (List ℕ)) (word : Piece) (words : List Piece)
 unknown_here names word words h = record {
   before = [];
   word = word;
-  behind = words;
+  after = words;
   whole = refl;
   known = All-nil (IsKnownIn names);
   unknown = h;
@@ -108,8 +108,8 @@ unknown_before : (names : List (List ℕ)) (words rest : List Piece) (at : ℕ) 
 unknown_before names words rest at u = record {
   before = u.before;
   word = u.word;
-  behind = u.behind ++ rest;
-  whole = ap (λ ws. ws ++ rest) u.whole ∙ append_assoc u.before (u.word ∷ u.behind) rest;
+  after = u.after ++ rest;
+  whole = ap (λ ws. ws ++ rest) u.whole ∙ append_assoc u.before (u.word ∷ u.after) rest;
   known = u.known;
   unknown = u.unknown;
   offset = u.offset;
@@ -173,7 +173,7 @@ other_on names cover line left directive k r n =
     ap (λ ds. closed cover ++ ds) (sym (covers_skip names line left (ap is_names k ∙ n))) ∙ sym (closing names cover line left (ap is_row k ∙ r))
 
 -- a line takes the definitions on
-pub line_on : (names : List (List ℕ)) (cover : Option CoverSoFar) (line : List Piece) (left : List (List Piece)) (directive : Directive) → directive_of line ≡ directive → closed_by cover directive ++ continued names (open_behind names cover directive line) left ≡ continued names cover (line ∷ left)
+pub line_on : (names : List (List ℕ)) (cover : Option CoverSoFar) (line : List Piece) (left : List (List Piece)) (directive : Directive) → directive_of line ≡ directive → closed_by cover directive ++ continued names (open_after names cover directive line) left ≡ continued names cover (line ∷ left)
 line_on names cover line left Row k = row_on names cover line left k
 line_on names cover line left Names k =
     ap (λ ds. closed cover ++ ds) (sym (covers_take names line left (ap is_names k))) ∙ sym (closing names cover line left (ap is_row k))

@@ -22,11 +22,11 @@ use Rattle.blif_reader.specs.Directives.{directive_of, is_row, is_names, is_end}
 use Rattle.blif_reader.specs.Firsts.{NoneIs}
 use Rattle.blif_reader.specs.Rows.{operand_count, has_widths, row_widths, literal_bytes, opening, row_fault}
 use Rattle.blif_reader.specs.Names.{is_same_kind, operands, read_on, read_words, defined_on, defined_words, named_ports, ports_on, port_words, input_words, output_words}
-use Rattle.blif_reader.specs.Faults.{has_line, fault_before_end, fault_behind_end, line_fault, is_faulty}
+use Rattle.blif_reader.specs.Faults.{has_line, fault_before_end, fault_after_end, line_fault, is_faulty}
 use Rattle.blif_reader.specs.Covers.{trit_of, trits_of, signal_names, signal_named, literal_named, leading_rows, cover_of, covers_of, blif_circuit}
 use Rattle.blif_reader.specs.Building.{IsKnownIn, outputs_by, outputs_in}
 use Rattle.blif_reader.proofs.FirstLemmas.{found-seam}
-use Rattle.blif_reader.proofs.SurveyLemmas.{behind, not_row, row_more, opening_of, not_ended}
+use Rattle.blif_reader.proofs.SurveyLemmas.{reversed_push, not_row, row_more, opening_of, not_ended}
 use Rattle.blif_reader.proofs.NumberLemmas.{any_place, length-map}
 use Rattle.blif_reader.proofs.BuildingLemmas.{covers_skip, covers_take, no_rows, one_row}
 
@@ -53,9 +53,9 @@ All-front P [] ys all = All-nil P
 All-front P (x ∷ xs) ys all =
     All-cons P x xs (All-head P x (xs ++ ys) all) (All-front P xs ys (All-tail P x (xs ++ ys) all))
 
-All-behind : {X : Type 0} (P : X → Type 0) (xs ys : List X) → All P (xs ++ ys) → All P ys
-All-behind P [] ys all = all
-All-behind P (x ∷ xs) ys all = All-behind P xs ys (All-tail P x (xs ++ ys) all)
+All-after : {X : Type 0} (P : X → Type 0) (xs ys : List X) → All P (xs ++ ys) → All P ys
+All-after P [] ys all = all
+All-after P (x ∷ xs) ys all = All-after P xs ys (All-tail P x (xs ++ ys) all)
 
 -- what a list of definitions has for each
 abbrev NamesBelow : ℕ → Def → Type 0
@@ -80,7 +80,7 @@ known_by_test false names line left e known rest =
 known_covers : (names : List (List ℕ)) (lines : List (List Piece)) → All (IsKnownIn names) (read_words lines) → All (NamesBelow (1 + length names)) (covers_of names lines)
 known_covers names [] known = All-nil (NamesBelow (1 + length names))
 known_covers names (line ∷ lines) known =
-    known_by_test (is_names (directive_of line)) names line lines refl (All-front (IsKnownIn names) (read_on (directive_of line) line) (read_words lines) known) (known_covers names lines (All-behind (IsKnownIn names) (read_on (directive_of line) line) (read_words lines) known))
+    known_by_test (is_names (directive_of line)) names line lines refl (All-front (IsKnownIn names) (read_on (directive_of line) line) (read_words lines) known) (known_covers names lines (All-after (IsKnownIn names) (read_on (directive_of line) line) (read_words lines) known))
 
 -- as many definitions as defined names
 count_by_directive : (names : List (List ℕ)) (line : List Piece) (left : List (List Piece)) (directive : Directive) → directive_of line ≡ directive → length (covers_of names left) ≡ length (defined_words left) → length (covers_of names (line ∷ left)) ≡ length (defined_on directive line ++ defined_words left)
@@ -109,7 +109,7 @@ by_tests false widths other h = cc h
 -- a row without a fault has the widths of the cover that is open
 sound_row : (pre : List (List Piece)) (row : List Piece) → directive_of row ≡ Row → line_fault pre row ≡ None → has_widths (operand_count (opening pre)) row ≡ true
 sound_row pre row k h =
-    let at_row = ap (λ d. cond (has_line is_end pre) (fault_behind_end d) (fault_before_end pre row d)) (sym k) ∙ h in
+    let at_row = ap (λ d. cond (has_line is_end pre) (fault_after_end d) (fault_before_end pre row d)) (sym k) ∙ h in
     by_tests (is_names (directive_of (opening pre))) (has_widths (operand_count (opening pre)) row) _ (not_ended (has_line is_end pre) fault.Directive (row_fault pre row) at_row)
 
 row_kind : (d : Directive) → is_row d ≡ true → d ≡ Row
@@ -117,10 +117,10 @@ row_kind Row h = refl
 row_kind other h = cc h
 
 opening-row : (pre : List (List Piece)) (row : List Piece) → is_row (directive_of row) ≡ true → opening (pre ++ row ∷ []) ≡ opening pre
-opening-row pre row h = ap opening_of (behind pre row) ∙ (row_more (reverse pre) row h).1
+opening-row pre row h = ap opening_of (reversed_push pre row) ∙ (row_more (reverse pre) row h).1
 
 opening-line : (pre : List (List Piece)) (line : List Piece) → is_row (directive_of line) ≡ false → opening (pre ++ line ∷ []) ≡ line
-opening-line pre line h = ap opening_of (behind pre line) ∙ (not_row (reverse pre) line h).1
+opening-line pre line h = ap opening_of (reversed_push pre line) ∙ (not_row (reverse pre) line h).1
 
 one_more : (pre : List (List Piece)) (line : List Piece) (rest : List (List Piece)) → NoneIs is_faulty (pre ++ line ∷ rest) → NoneIs is_faulty ((pre ++ line ∷ []) ++ rest)
 one_more pre line rest sound = subst (NoneIs is_faulty) (sym (append_assoc pre (line ∷ []) rest)) sound
@@ -194,7 +194,7 @@ All-append P (x ∷ xs) ys one two =
 known_outputs : (names : List (List ℕ)) (lines : List (List Piece)) → All (IsKnownIn names) (read_words lines) → All (IsKnownIn names) (outputs_in lines)
 known_outputs names [] known = All-nil (IsKnownIn names)
 known_outputs names (line ∷ lines) known =
-    All-append (IsKnownIn names) (outputs_by (directive_of line) line) (outputs_in lines) (outputs_by_directive names (directive_of line) line (All-front (IsKnownIn names) (read_on (directive_of line) line) (read_words lines) known)) (known_outputs names lines (All-behind (IsKnownIn names) (read_on (directive_of line) line) (read_words lines) known))
+    All-append (IsKnownIn names) (outputs_by (directive_of line) line) (outputs_in lines) (outputs_by_directive names (directive_of line) line (All-front (IsKnownIn names) (read_on (directive_of line) line) (read_words lines) known)) (known_outputs names lines (All-after (IsKnownIn names) (read_on (directive_of line) line) (read_words lines) known))
 
 -- the words of output ports are those of the output lines
 filter_same : (kind : PortKind) (words : List Piece) (rest : List Port) → map (λ (p : Port). p.word) (filter (λ (p : Port). is_same_kind p.kind Output) (named_ports kind words ++ rest)) ≡ cond (is_same_kind kind Output) words [] ++ map (λ (p : Port). p.word) (filter (λ (p : Port). is_same_kind p.kind Output) rest)

@@ -56,9 +56,9 @@ word_by_part (byte ∷ bytes) word words = omega (arith, one_more_at_most (is_no
 words_of_parts : (at : ℕ) (parts : List (List ℕ)) → length (filter (λ word. is_not_empty word.bytes) (placed at parts)) ≤ total parts
 words_of_parts at [] = omega arith
 words_of_parts at (part ∷ parts) =
-    let behind = at + length part + 1 in
-    let words = filter (λ (word : Piece). is_not_empty word.bytes) (placed behind parts) in
-    omega (arith, word_by_part part (record { bytes = part; at = at }) words, words_of_parts behind parts)
+    let after = at + length part + 1 in
+    let words = filter (λ (word : Piece). is_not_empty word.bytes) (placed after parts) in
+    omega (arith, word_by_part part (record { bytes = part; at = at }) words, words_of_parts after parts)
 
 few_words_at : (line : Piece) → length (words_at line) ≤ length line.bytes
 few_words_at line =
@@ -95,8 +95,8 @@ total-joined : (at : ℕ) (parts : List (List ℕ)) → total (joined (placed at
 total-joined at [] = omega arith
 total-joined at (part ∷ parts) =
     let line : Piece = record { bytes = part; at = at } in
-    let behind = at + length part + 1 in
-    omega (arith, joined_by_test (goes_on part) (line_words line) (joined (placed behind parts)), few_line_words line, total-joined behind parts)
+    let after = at + length part + 1 in
+    omega (arith, joined_by_test (goes_on part) (line_words line) (joined (placed after parts)), few_line_words line, total-joined after parts)
 
 total-words : (bytes : List ℕ) → total (joined (lines_at (record { bytes = bytes; at = 0 }))) ≤ length bytes
 total-words bytes = omega (arith, total-joined 0 (lines bytes), total-lines bytes)

@@ -246,12 +246,12 @@ self_kind kind port rest e =
 pub excess : (kind : PortKind) (ports : List Port) (k : ℕ) (port : Port) (at : ℕ) → k < length ports → ((d : Port) → get_or ports k d ≡ port) → port.kind ≡ kind → length (words_of_kind kind (take k ports)) ≡ 1024 → at ≡ port.word.at → IsExcess (words_of_kind kind ports) at
 excess kind ports k port at h is e full a =
     let before = words_of_kind kind (take k ports) in
-    let behind = words_of_kind kind (drop (suc k) ports) in
+    let after = words_of_kind kind (drop (suc k) ports) in
     let parts : ports ≡ take k ports ++ port ∷ drop (suc k) ports = sym (take-append-drop k ports) ∙ ap (λ ps. take k ports ++ ps) (drop-cons ports k port h ∙ ap (λ p. p ∷ drop (suc k) ports) (is port)) in
-    let whole : words_of_kind kind ports ≡ before ++ port.word ∷ behind = ap (words_of_kind kind) parts ∙ (words_of_kind-append kind (take k ports) (port ∷ drop (suc k) ports) ∙ ap (λ ws. before ++ ws) (self_kind kind port (drop (suc k) ports) e)) in
-    let there : get_or (before ++ port.word ∷ behind) 1024 nowhere ≡ port.word = subst (λ n. get_or (before ++ port.word ∷ behind) n nowhere ≡ port.word) full (get_or-append_seam before port.word behind nowhere) in
+    let whole : words_of_kind kind ports ≡ before ++ port.word ∷ after = ap (words_of_kind kind) parts ∙ (words_of_kind-append kind (take k ports) (port ∷ drop (suc k) ports) ∙ ap (λ ws. before ++ ws) (self_kind kind port (drop (suc k) ports) e)) in
+    let there : get_or (before ++ port.word ∷ after) 1024 nowhere ≡ port.word = subst (λ n. get_or (before ++ port.word ∷ after) n nowhere ≡ port.word) full (get_or-append_seam before port.word after nowhere) in
     subst (λ words. IsExcess words at) (sym whole) (record {
-      many = omega (arith, full, length-append before (port.word ∷ behind));
+      many = omega (arith, full, length-append before (port.word ∷ after));
       offset = a ∙ ap (λ (w : Piece). w.at) (sym there);
     })
   where

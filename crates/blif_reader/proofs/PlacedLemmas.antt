@@ -10,7 +10,7 @@ use Rattle.text_core.specs.Lines.{lines, line_length, first_line, after_line}
 use Rattle.text_core.specs.Words.{is_not_empty, word_length, without_blanks, first_word, after_word}
 use Rattle.text_core.proofs.EmptyTests.{filled_by_test, empty_by_test, nil_from_length, some_by_test, none_by_test}
 use Rattle.text_core.proofs.LineLemmas.{lines-front}
-use Rattle.text_core.proofs.WordLemmas.{drop-one_more, parts_behind, slice_split-front, word_length-behind_blanks}
+use Rattle.text_core.proofs.WordLemmas.{drop-one_more, parts_after, slice_split-front, word_length-after_blanks}
 use Rattle.blif_reader.specs.JoinedLines.{placed, lines_at, words_at}
 
 abbrev piece : List ℕ → ℕ → Piece
@@ -39,14 +39,14 @@ words_from-blanks : (at : ℕ) (bs : List ℕ) → words_from at bs ≡ words_fr
 words_from-blanks at [] = refl
 words_from-blanks at (b ∷ bs) = words_from-blanks_by_test (is_blank b) at b bs (prefix_len is_blank bs) refl (words_from-blanks (at + 1) bs)
 
-behind_by_test : (t : Bool) (at b : ℕ) (bs : List ℕ) (n : ℕ) → is_blank b ≡ t → filter filled (placed (at + 1) (parts_behind (drop n bs))) ≡ words_from at (drop n bs) → filter filled (placed (at + 1) (parts_behind (drop (cond (not t) (1 + n) 0) (b ∷ bs)))) ≡ words_from at (drop (cond (not t) (1 + n) 0) (b ∷ bs))
-behind_by_test true at b bs n e h = sym (words_from-blank at b bs e)
-behind_by_test false at b bs n e h = rw (drop-one_more n b bs) h
+after_by_test : (t : Bool) (at b : ℕ) (bs : List ℕ) (n : ℕ) → is_blank b ≡ t → filter filled (placed (at + 1) (parts_after (drop n bs))) ≡ words_from at (drop n bs) → filter filled (placed (at + 1) (parts_after (drop (cond (not t) (1 + n) 0) (b ∷ bs)))) ≡ words_from at (drop (cond (not t) (1 + n) 0) (b ∷ bs))
+after_by_test true at b bs n e h = sym (words_from-blank at b bs e)
+after_by_test false at b bs n e h = rw (drop-one_more n b bs) h
 
 -- a blank, or nothing, stands after the first part
-words_from-behind : (at : ℕ) (bs : List ℕ) → filter filled (placed (at + 1) (parts_behind (drop (word_length bs) bs))) ≡ words_from at (drop (word_length bs) bs)
-words_from-behind at [] = refl
-words_from-behind at (b ∷ bs) = behind_by_test (is_blank b) at b bs (word_length bs) refl (words_from-behind at bs)
+words_from-after : (at : ℕ) (bs : List ℕ) → filter filled (placed (at + 1) (parts_after (drop (word_length bs) bs))) ≡ words_from at (drop (word_length bs) bs)
+words_from-after at [] = refl
+words_from-after at (b ∷ bs) = after_by_test (is_blank b) at b bs (word_length bs) refl (words_from-after at bs)
 
 filter-cons : (word : Piece) (words : List Piece) → 0 < length word.bytes → filter filled (word ∷ words) ≡ word ∷ filter filled words
 filter-cons word words h = kept word.bytes h
@@ -70,8 +70,8 @@ words_from-front at bs some word =
     let few : n ≤ length bs = word_length-le bs in
     let long : length (take n bs) ≡ n = omega (arith, length-take n bs) in
     ap (λ parts. filter filled (placed at parts)) (slice_split-front bs)
-    ∙ (filter-cons (piece (take n bs) at) (placed (at + length (take n bs) + 1) (parts_behind (drop n bs))) (omega arith)
-    ∙ ap (λ rest. piece (take n bs) at ∷ rest) (ap (λ m. filter filled (placed (at + m + 1) (parts_behind (drop n bs)))) long ∙ words_from-behind (at + n) bs))
+    ∙ (filter-cons (piece (take n bs) at) (placed (at + length (take n bs) + 1) (parts_after (drop n bs))) (omega arith)
+    ∙ ap (λ rest. piece (take n bs) at ∷ rest) (ap (λ m. filter filled (placed (at + m + 1) (parts_after (drop n bs)))) long ∙ words_from-after (at + n) bs))
 
 -- a line's words from after its blanks
 words_at-blanks : (p : Piece) → words_at p ≡ words_at (without_blanks p)
@@ -89,7 +89,7 @@ words_at-first p word h =
     let n = word_length rest.bytes in
     let few : n ≤ length rest.bytes = word_length-le rest.bytes in
     words_at-blanks p
-    ∙ (words_from-front rest.at rest.bytes some (word_length-behind_blanks p.bytes some)
+    ∙ (words_from-front rest.at rest.bytes some (word_length-after_blanks p.bytes some)
     ∙ (ap (λ m. piece (take n rest.bytes) rest.at ∷ words_from (rest.at + m) (drop n rest.bytes)) (let e : n ≡ min n (length rest.bytes) = omega arith in e)
     ∙ ap (λ (w : Piece). w ∷ words_at (after_word p)) found.1))
 
@@ -107,8 +107,8 @@ pub words_at-empty : (p : Piece) → p.bytes ≡ [] → words_at p ≡ []
 words_at-empty p h = no_words p h
 
 -- the offset of what stands after the last line makes no difference
-behind_line : (p : Piece) → placed (p.at + length (take (line_length p.bytes) p.bytes) + 1) (lines (drop (line_length p.bytes + 1) p.bytes)) ≡ lines_at (after_line p)
-behind_line p =
+rest_after_line : (p : Piece) → placed (p.at + length (take (line_length p.bytes) p.bytes) + 1) (lines (drop (line_length p.bytes + 1) p.bytes)) ≡ lines_at (after_line p)
+rest_after_line p =
     let n = line_length p.bytes in
     elim (cases_lt n (length p.bytes)) [
       | inl within ↦ ap (λ m. placed m (lines (drop (n + 1) p.bytes))) (let e : p.at + length (take n p.bytes) + 1 ≡ p.at + min (n + 1) (length p.bytes) = omega (arith, length-take n p.bytes) in e)
@@ -121,7 +121,7 @@ lines_at-first p line h =
     let n = line_length p.bytes in
     let found = some_by_test (length p.bytes == 0) (front n p) line h in
     ap (placed p.at) (lines-front p.bytes (filled_by_test p.bytes found.0))
-    ∙ (ap (λ rest. piece (take n p.bytes) p.at ∷ rest) (behind_line p)
+    ∙ (ap (λ rest. piece (take n p.bytes) p.at ∷ rest) (rest_after_line p)
     ∙ ap (λ (l : Piece). l ∷ lines_at (after_line p)) found.1)
 
 pub lines_at-no_first : (p : Piece) → first_line p ≡ None → lines_at p ≡ []

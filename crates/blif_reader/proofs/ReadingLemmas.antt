@@ -57,9 +57,9 @@ none_of_lines all lines new entered a e n =
     ap (filter has_words) n ∙ sym (ap (filter has_words) (a ∙ ap (λ ws. ws ∷ lines) e))
 
 -- a word was taken from a line
-pub word_taken : (old new word : Piece) (behind : List Piece) → Some word ≡ first_word old → new ≡ after_word old → words_at old ++ behind ≡ word ∷ (words_at new ++ behind)
-word_taken old new word behind h n =
-    ap (λ ws. ws ++ behind) (words_at-first old word (sym h)) ∙ ap (λ p. word ∷ (words_at p ++ behind)) (sym n)
+pub word_taken : (old new word : Piece) (after : List Piece) → Some word ≡ first_word old → new ≡ after_word old → words_at old ++ after ≡ word ∷ (words_at new ++ after)
+word_taken old new word after h n =
+    ap (λ ws. ws ++ after) (words_at-first old word (sym h)) ∙ ap (λ p. word ∷ (words_at p ++ after)) (sym n)
 
 -- a line that has no words and doesn't go on
 pub nothing_left : (line rest : Piece) (on : Bool) → on ≡ false → words_at line ≡ [] → words_left (reading line on rest) ≡ []

@@ -25,22 +25,22 @@ use Rattle.blif_reader.proofs.FirstLemmas.{NoneIs-push, IsFirst-seam}
 abbrev FirstOrNone : {X : Type 0} → (List X → X → Bool) → List X → Type 0
 FirstOrNone found xs = ((place : ℕ) × IsFirst found xs place) ⊎ NoneIs found xs
 
-first_by_test : {X : Type 0} (t : Bool) (found : List X → X → Bool) (before : List X) (x : X) (behind : List X)
+first_by_test : {X : Type 0} (t : Bool) (found : List X → X → Bool) (before : List X) (x : X) (after : List X)
     → found before x ≡ t
     → NoneIs found before
-    → (NoneIs found (before ++ x ∷ []) → FirstOrNone found ((before ++ x ∷ []) ++ behind))
-    → FirstOrNone found (before ++ x ∷ behind)
-first_by_test true found before x behind e none later = inl (length before, IsFirst-seam found before x behind none e)
-first_by_test false found before x behind e none later =
-    subst (FirstOrNone found) (append_assoc before (x ∷ []) behind) (later (NoneIs-push found before x none e))
+    → (NoneIs found (before ++ x ∷ []) → FirstOrNone found ((before ++ x ∷ []) ++ after))
+    → FirstOrNone found (before ++ x ∷ after)
+first_by_test true found before x after e none later = inl (length before, IsFirst-seam found before x after none e)
+first_by_test false found before x after e none later =
+    subst (FirstOrNone found) (append_assoc before (x ∷ []) after) (later (NoneIs-push found before x none e))
 
-first_behind : {X : Type 0} (found : List X → X → Bool) (before behind : List X) → NoneIs found before → FirstOrNone found (before ++ behind)
-first_behind found before [] none = inr (subst (NoneIs found) (sym (append-nil before)) none)
-first_behind found before (x ∷ behind) none =
-    first_by_test (found before x) found before x behind refl none (λ more. first_behind found (before ++ x ∷ []) behind more)
+first_after : {X : Type 0} (found : List X → X → Bool) (before after : List X) → NoneIs found before → FirstOrNone found (before ++ after)
+first_after found before [] none = inr (subst (NoneIs found) (sym (append-nil before)) none)
+first_after found before (x ∷ after) none =
+    first_by_test (found before x) found before x after refl none (λ more. first_after found (before ++ x ∷ []) after more)
 
 first_or_none : {X : Type 0} (found : List X → X → Bool) (xs : List X) → FirstOrNone found xs
-first_or_none found xs = first_behind found [] xs (λ k d below. absurd (omega arith))
+first_or_none found xs = first_after found [] xs (λ k d below. absurd (omega arith))
 
 nowhere : Piece
 nowhere = record { bytes = []; at = 0 }

@@ -21,8 +21,8 @@ use Rattle.blif_reader.specs.JoinedLines.{word_of}
 use Rattle.blif_reader.specs.Directives.{directive_of, is_row, is_names, is_model, is_inputs, is_outputs, is_end}
 use Rattle.blif_reader.specs.Rows.{output_byte, operand_count, has_widths, has_good_bytes, rows_before, opening, differs_from, fault_in_cover, row_fault}
 use Rattle.blif_reader.specs.Names.{ports_on, defined_on}
-use Rattle.blif_reader.specs.Faults.{has_line, fault_by_directive, fault_before_end, fault_behind_end, line_fault, is_faulty, IsLineFault}
-use Rattle.blif_reader.specs.Surveys.{is_mixed, fault_by_cover, fault_known, fault_of, cover_behind, Advances, HaveOutput, IsOpen, IsSurveyed, IsUnderWay}
+use Rattle.blif_reader.specs.Faults.{has_line, fault_by_directive, fault_before_end, fault_after_end, line_fault, is_faulty, IsLineFault}
+use Rattle.blif_reader.specs.Surveys.{is_mixed, fault_by_cover, fault_known, fault_of, cover_after, Advances, HaveOutput, IsOpen, IsSurveyed, IsUnderWay}
 use Rattle.blif_reader.proofs.FirstLemmas.{found-seam, NoneIs-push, IsFirst-seam}
 
 or_same : (b : Bool) → (b || b) ≡ b
@@ -72,12 +72,12 @@ known_same earlier line survey directive s =
 
 pub fault_same : (earlier : List (List Piece)) (line : List Piece) (survey : Survey) → IsSurveyed earlier survey → fault_of survey line (directive_of line) ≡ line_fault earlier line
 fault_same earlier line survey s =
-    ap (λ t. cond t (fault_behind_end (directive_of line)) (fault_known survey line (directive_of line))) s.end
-    ∙ ap (cond (has_line is_end earlier) (fault_behind_end (directive_of line))) (known_same earlier line survey (directive_of line) s)
+    ap (λ t. cond t (fault_after_end (directive_of line)) (fault_known survey line (directive_of line))) s.end
+    ∙ ap (cond (has_line is_end earlier) (fault_after_end (directive_of line))) (known_same earlier line survey (directive_of line) s)
 
 -- the lines before, from the nearest
-pub behind : (earlier : List (List Piece)) (line : List Piece) → reverse (earlier ++ line ∷ []) ≡ line ∷ reverse earlier
-behind earlier line = reverse-append earlier (line ∷ [])
+pub reversed_push : (earlier : List (List Piece)) (line : List Piece) → reverse (earlier ++ line ∷ []) ≡ line ∷ reverse earlier
+reversed_push earlier line = reverse-append earlier (line ∷ [])
 
 -- the open cover by the lines before, from the nearest
 abbrev pub rows_of : List (List Piece) → List (List Piece)
@@ -130,7 +130,7 @@ no_mixed true true false h = refl
 no_mixed true false mixed h = cc h
 no_mixed false bytes mixed h = cc h
 
-opened_more : (nearest : List (List Piece)) (line : List Piece) (cover : Option OpenCover) (directive : Directive) → directive_of line ≡ directive → OpenBy nearest cover → fault_by_cover cover line ≡ None → directive ≡ Row → OpenBy (line ∷ nearest) (cover_behind cover Row line)
+opened_more : (nearest : List (List Piece)) (line : List Piece) (cover : Option OpenCover) (directive : Directive) → directive_of line ≡ directive → OpenBy nearest cover → fault_by_cover cover line ≡ None → directive ≡ Row → OpenBy (line ∷ nearest) (cover_after cover Row line)
 opened_more nearest line None directive k o f r = ap (λ l. is_names (directive_of l)) (row_more nearest line (ap is_row (k ∙ r))).1 ∙ o
 opened_more nearest line (Some cover) directive k o f r =
     let more = row_more nearest line (ap is_row (k ∙ r)) in
@@ -145,7 +145,7 @@ opened_names nearest line k =
     let new = not_row nearest line (ap is_row k) in
     (ap (λ l. is_names (directive_of l)) new.1 ∙ ap is_names k, ap operand_count (sym new.1), new.0)
 
-cover_more : (nearest : List (List Piece)) (line : List Piece) (cover : Option OpenCover) (directive : Directive) → directive_of line ≡ directive → OpenBy nearest cover → (directive ≡ Row → fault_by_cover cover line ≡ None) → OpenBy (line ∷ nearest) (cover_behind cover directive line)
+cover_more : (nearest : List (List Piece)) (line : List Piece) (cover : Option OpenCover) (directive : Directive) → directive_of line ≡ directive → OpenBy nearest cover → (directive ≡ Row → fault_by_cover cover line ≡ None) → OpenBy (line ∷ nearest) (cover_after cover directive line)
 cover_more nearest line cover Names k o f = opened_names nearest line k
 cover_more nearest line cover Row k o f = opened_more nearest line cover Row k o (f refl) refl
 cover_more nearest line cover other k o f = closed_as nearest line other k refl refl
@@ -186,7 +186,7 @@ surveyed_more earlier line old new s a =
       inputs = a.inputs ∙ (ap (λ t. t || is_inputs directive) s.inputs ∙ sym (has_line-push is_inputs earlier line));
       outputs = a.outputs ∙ (ap (λ t. t || is_outputs directive) s.outputs ∙ sym (has_line-push is_outputs earlier line));
       end = a.end ∙ (ap (λ t. t || is_end directive) s.end ∙ sym (has_line-push is_end earlier line));
-      cover = is_open (earlier ++ line ∷ []) new.cover (subst (λ lines. OpenBy lines new.cover) (sym (behind earlier line)) (subst (OpenBy (line ∷ reverse earlier)) (sym a.cover) (cover_more (reverse earlier) line old.cover directive refl (open_by earlier old.cover s.cover) (row_known old line directive a.no_fault))));
+      cover = is_open (earlier ++ line ∷ []) new.cover (subst (λ lines. OpenBy lines new.cover) (sym (reversed_push earlier line)) (subst (OpenBy (line ∷ reverse earlier)) (sym a.cover) (cover_more (reverse earlier) line old.cover directive refl (open_by earlier old.cover s.cover) (row_known old line directive a.no_fault))));
     }
 
 -- the lines go on by one

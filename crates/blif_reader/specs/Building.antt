@@ -31,8 +31,8 @@ IsKnownIn names word = list_any (bytes_eq word.bytes) names ≡ true
 pub record IsUnknownAt (names : List (List ℕ)) (words : List Piece) (at : ℕ) : Type 0 where
   pub before : List Piece
   pub word : Piece
-  pub behind : List Piece
-  pub whole : words ≡ before ++ word ∷ behind
+  pub after : List Piece
+  pub whole : words ≡ before ++ word ∷ after
   pub known : All (IsKnownIn names) before
   pub unknown : list_any (bytes_eq word.bytes) names ≡ false
   pub offset : at ≡ word.at
@@ -61,11 +61,11 @@ with_row (Some cover) row = Some (record {
 })
 
 -- the cover that is open after a line
-abbrev pub open_behind : List (List ℕ) → Option CoverSoFar → Directive → List Piece → Option CoverSoFar
-open_behind names cover Row line = with_row cover line
-open_behind names cover Names line =
+abbrev pub open_after : List (List ℕ) → Option CoverSoFar → Directive → List Piece → Option CoverSoFar
+open_after names cover Row line = with_row cover line
+open_after names cover Names line =
     Some (record { names = map (signal_named names) (operands line); rows = []; on = true })
-open_behind names cover other line = None
+open_after names cover other line = None
 
 -- what a line closes
 abbrev pub closed_by : Option CoverSoFar → Directive → List Def
@@ -83,7 +83,7 @@ places_by other line = []
 -- One line was read, and all that it reads is known.
 pub record Builds (names : List (List ℕ)) (directive : Directive) (line : List Piece) (old new : Covers) : Type 0 where
   pub defs : new.defs ≡ old.defs ++ closed_by old.current directive
-  pub current : new.current ≡ open_behind names old.current directive line
+  pub current : new.current ≡ open_after names old.current directive line
   pub outputs : new.outputs ≡ old.outputs ++ map (literal_named names) (outputs_by directive line)
   pub places : new.places ≡ old.places ++ places_by directive line
   pub known : All (IsKnownIn names) (read_on directive line)

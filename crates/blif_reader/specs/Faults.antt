@@ -37,13 +37,13 @@ fault_before_end earlier line directive =
     fault_by_directive (has_line is_model earlier) (row_fault earlier line) line directive
 
 -- nothing may stand after `.end`; a model there is a second one, also where the first has no `.model` line
-abbrev pub fault_behind_end : Directive → Option NetKind
-fault_behind_end directive = if is_model directive then Some fault.SecondModel else Some fault.Directive
+abbrev pub fault_after_end : Directive → Option NetKind
+fault_after_end directive = if is_model directive then Some fault.SecondModel else Some fault.Directive
 
 -- what is wrong with a line that stands after these
 abbrev pub line_fault : List (List Piece) → List Piece → Option NetKind
 line_fault earlier line =
-    if has_line is_end earlier then fault_behind_end (directive_of line)
+    if has_line is_end earlier then fault_after_end (directive_of line)
     else fault_before_end earlier line (directive_of line)
 
 abbrev pub is_faulty : List (List Piece) → List Piece → Bool

@@ -12,7 +12,7 @@ use Rattle.blif_reader.specs.Directives.{directive_of, is_model, is_inputs, is_o
 use Rattle.blif_reader.specs.Firsts.{NoneIs}
 use Rattle.blif_reader.specs.Rows.{operand_count, output_byte, fault_in_cover, rows_before, opening}
 use Rattle.blif_reader.specs.Names.{ports_on, port_words, defined_on, defined_words}
-use Rattle.blif_reader.specs.Faults.{has_line, is_faulty, fault_by_directive, fault_behind_end}
+use Rattle.blif_reader.specs.Faults.{has_line, is_faulty, fault_by_directive, fault_after_end}
 
 -- the words of a row that has one or two
 abbrev pub one_or_two : Option Piece → Piece → List Piece
@@ -38,14 +38,14 @@ fault_known survey line directive =
     fault_by_directive survey.has_model (fault_by_cover survey.cover line) line directive
 
 abbrev pub fault_of : Survey → List Piece → Directive → Option NetKind
-fault_of survey line directive = if survey.ended then fault_behind_end directive else fault_known survey line directive
+fault_of survey line directive = if survey.ended then fault_after_end directive else fault_known survey line directive
 
 -- the cover that is open after a line
-abbrev pub cover_behind : Option OpenCover → Directive → List Piece → Option OpenCover
-cover_behind cover Names line = Some (record { operands = operand_count line; output = None })
-cover_behind None Row line = None
-cover_behind (Some cover) Row line = Some (record { operands = cover.operands; output = Some (output_byte line) })
-cover_behind cover other line = None
+abbrev pub cover_after : Option OpenCover → Directive → List Piece → Option OpenCover
+cover_after cover Names line = Some (record { operands = operand_count line; output = None })
+cover_after None Row line = None
+cover_after (Some cover) Row line = Some (record { operands = cover.operands; output = Some (output_byte line) })
+cover_after cover other line = None
 
 -- One line was read, without a fault.
 pub record Advances (directive : Directive) (line : List Piece) (old new : Survey) : Type 0 where
@@ -56,7 +56,7 @@ pub record Advances (directive : Directive) (line : List Piece) (old new : Surve
   pub inputs : new.has_inputs ≡ (old.has_inputs || is_inputs directive)
   pub outputs : new.has_outputs ≡ (old.has_outputs || is_outputs directive)
   pub end : new.ended ≡ (old.ended || is_end directive)
-  pub cover : new.cover ≡ cover_behind old.cover directive line
+  pub cover : new.cover ≡ cover_after old.cover directive line
 
 -- the rows before in the open cover have this byte for the output, if there is one
 abbrev pub HaveOutput : Option ℕ → List (List Piece) → Type 0

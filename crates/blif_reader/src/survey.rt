@@ -5,7 +5,7 @@ ghost use Rattle.text_core.specs.Piece.{Piece};
 ghost use Rattle.net_file.specs.declared.fault.NetFault.{NetFault};
 ghost use Rattle.blif_reader.specs.Blif.{blif_lines};
 ghost use Rattle.blif_reader.specs.Directives.{directive_of};
-ghost use Rattle.blif_reader.specs.Faults.{fault_behind_end, IsLineFault};
+ghost use Rattle.blif_reader.specs.Faults.{fault_after_end, IsLineFault};
 ghost use Rattle.blif_reader.specs.Names.{named_ports};
 ghost use Rattle.blif_reader.specs.Reading.{words_left, lines_left, line_from};
 ghost use Rattle.blif_reader.specs.Surveys.{fault_of, fault_by_cover, Advances, IsSurveyed};
@@ -73,7 +73,7 @@ impl<'a> Survey<'a> {
     {
         let directive = Directive::from_word(first.bytes());
         if self.ended {
-            return Err(LineStop::Fault(kind_behind_end(directive)));
+            return Err(LineStop::Fault(kind_after_end(directive)));
         }
         match directive {
             Directive::Row => self.read_row(first, lines),
@@ -279,8 +279,8 @@ pub(crate) fn survey_lines<'a>(alloc: Global, input: &'a [u8]) -> Result<Survey<
 }
 
 // What is wrong with a line after `.end`.
-fn kind_behind_end(directive: Directive) -> NetKind
-    ensures { fault_behind_end directive ≡ Some result }
+fn kind_after_end(directive: Directive) -> NetKind
+    ensures { fault_after_end directive ≡ Some result }
 {
     match directive {
         Directive::Model => NetKind::SecondModel,

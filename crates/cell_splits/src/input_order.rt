@@ -4,8 +4,8 @@ use net_core::Graph;
 use std::alloc::{AllocError, Global};
 
 /// The place of each input in the order in which a search by depth meets it that begins at the first output and goes to the
-/// deeper operand first. Inputs that stand near each other there are joined by gates near the inputs, as the leaves of a tree or the
-/// bits of a chain of carries. Those that are never met come last.
+/// deeper operand first. Inputs that stand near each other there are joined by gates near the inputs, as the leaves of a tree
+/// or the bits of a chain of carries. Those that are never met come last.
 pub(crate) fn places_of(alloc: Global, graph: &Graph) -> Result<Vec<usize>, AllocError> {
     let inputs = graph.inputs() as usize;
     let mut walk = Walk {

@@ -1,6 +1,6 @@
-//! How alike inputs of two circuits are by the gates that they reach. Where outputs don't tell inputs apart, as those of a parity or
-//! of a sorter, each of them may go to any other one; but that the table is a match is shown with few clauses only where
-//! gates of both circuits have the same function by it.
+//! How alike inputs of two circuits are by the gates that they reach. Where outputs don't tell inputs apart, as those of a
+//! parity or of a sorter, each of them may go to any other one; but that the table is a match is shown with few clauses only
+//! where gates of both circuits have the same function by it.
 
 use crate::draws::Draws;
 use crate::exact::{is_shared, own_class};
@@ -254,8 +254,8 @@ impl Likeness {
         self.responses
     }
 
-    /// How alike an input of the first circuit and one of the second are: which part the features that they share have of those that
-    /// they could share. Of pairs that are alike in that those come first whose places are nearest.
+    /// How alike an input of the first circuit and one of the second are: which part the features that they share have of those
+    /// that they could share. Of pairs that are alike in that those come first whose places are nearest.
     pub fn of(&self, mine: usize, its: usize) -> (u64, Reverse<usize>) {
         let row = mine.saturating_mul(self.inputs);
         let shared = at(&self.shared, row.saturating_add(its));

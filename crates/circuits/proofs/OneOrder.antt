@@ -24,8 +24,8 @@ abbrev IsOneWay : (ℕ → ℕ → Type 0) → ℕ → Type 0
 IsOneWay R n = (d e : ℕ) → d < n → e < n → R d e → R e d → ⊥
 
 -- where the first k elements are the same, the first list doesn't have among them what the second has at k
-behind : (R : ℕ → ℕ → Type 0) (n : ℕ) (a b : List ℕ) (k p : ℕ) → IsOneWay R n → IsAscending R n b → k < n → get_or a p 0 ≡ get_or b k 0 → (p < k → get_or a p 0 ≡ get_or b p 0) → k ≤ p
-behind R n a b k p apart other h same agree =
+following : (R : ℕ → ℕ → Type 0) (n : ℕ) (a b : List ℕ) (k p : ℕ) → IsOneWay R n → IsAscending R n b → k < n → get_or a p 0 ≡ get_or b k 0 → (p < k → get_or a p 0 ≡ get_or b p 0) → k ≤ p
+following R n a b k p apart other h same agree =
     elim (cases_lt p k) [
       | inr past ↦ past
       | inl less ↦
@@ -49,7 +49,7 @@ next : (R : ℕ → ℕ → Type 0) (n : ℕ) (a b : List ℕ) (k : ℕ) → IsO
 next R n a b k apart one other h earlier =
     let there = other.in_range k 0 (omega (arith, other.entries)) in
     let p = place_in a (get_or b k 0) (one.onto (get_or b k 0) there) in
-    ahead R a k p.0 (get_or b k 0) one.ascending (behind R n a b k p.0 apart other h p.2 (earlier p.0)) p.1 p.2
+    ahead R a k p.0 (get_or b k 0) one.ascending (following R n a b k p.0 apart other h p.2 (earlier p.0)) p.1 p.2
 
 -- so they have the same there
 same_at : (R : ℕ → ℕ → Type 0) (n : ℕ) (a b : List ℕ) (k : ℕ) → IsOneWay R n → IsAscending R n a → IsAscending R n b → k < n → ((j : ℕ) → j < k → get_or a j 0 ≡ get_or b j 0) → get_or a k 0 ≡ get_or b k 0

@@ -13,7 +13,7 @@ use Rattle.cnf_core.specs.declared.effect.Effect.TheVariants.{Makes, Neither}
 use Rattle.cnf_core.specs.declared.fault.LineFault.{LineFault}
 use Rattle.cnf_core.specs.declared.fault.LineFault.TheVariants as fault
 use Rattle.cnf_core.specs.Clauses.{Formula, Meets, is_met, as_signal, variable_of, literal_bit, opposite, clause_at}
-use Rattle.cnf_core.specs.Derivations.{is_same, is_true, is_false, effect_by, effect_of, fault_behind, hint_fault, is_empty, repeats_variable, line_fault, clauses_of, AreDerived, IsRefutation}
+use Rattle.cnf_core.specs.Derivations.{is_same, is_true, is_false, effect_by, effect_of, fault_after, hint_fault, is_empty, repeats_variable, line_fault, clauses_of, AreDerived, IsRefutation}
 use Rattle.cnf_core.proofs.LiteralLemmas.{same_literal}
 
 -- the opposite of a literal has the other bit
@@ -75,14 +75,14 @@ both true b e = refl
 both false b e = e
 
 -- after a clause that is met there is a fault, where there is one after each true literal that it makes
-behind_met : (a : List Bool) (made open_ones : List SatLit) (hints : List ℕ) (go_on : SatLit → Option LineFault) → list_any (literal_bit a) open_ones ≡ true → ((l : SatLit) → literal_bit a l ≡ true → go_on l ≢ None) → fault_behind (effect_by made open_ones) hints go_on ≢ None
-behind_met a made [] hints go_on met behind none = absurd (false≢true met)
-behind_met a made (l ∷ others) hints go_on met behind none =
+after_met : (a : List Bool) (made open_ones : List SatLit) (hints : List ℕ) (go_on : SatLit → Option LineFault) → list_any (literal_bit a) open_ones ≡ true → ((l : SatLit) → literal_bit a l ≡ true → go_on l ≢ None) → fault_after (effect_by made open_ones) hints go_on ≢ None
+after_met a made [] hints go_on met after none = absurd (false≢true met)
+after_met a made (l ∷ others) hints go_on met after none =
     elim (cases_Bool (list_all (is_same l) others && not (is_true made l))) [
       | inl unit ↦
           let alone = both (list_all (is_same l) others) (not (is_true made l)) unit in
-          behind l (only_true a l others alone met) (sym (ap (λ b. fault_behind (cond b (Makes l) Neither) hints go_on) unit) ∙ none)
-      | inr neither ↦ let e = sym (ap (λ b. fault_behind (cond b (Makes l) Neither) hints go_on) neither) ∙ none in cc
+          after l (only_true a l others alone met) (sym (ap (λ b. fault_after (cond b (Makes l) Neither) hints go_on) unit) ∙ none)
+      | inr neither ↦ let e = sym (ap (λ b. fault_after (cond b (Makes l) Neither) hints go_on) neither) ∙ none in cc
     ]
 
 -- one more is true
@@ -98,8 +98,8 @@ no_conflict a clauses (hint ∷ hints) made meets all none =
           let met = meets hint [] (ltb-true hint (length clauses) there) in
           let go_on : SatLit → Option LineFault = λ l. hint_fault clauses (made ++ l ∷ []) hints in
           let open_ones = filter (λ l. not (is_false made l)) (clause_at clauses hint) in
-          behind_met a made open_ones hints go_on (still_met a made (clause_at clauses hint) all met) (λ l holds. no_conflict a clauses hints (made ++ l ∷ []) meets (one_more a made l all holds)) (sym (ap (λ b. cond b (fault_behind (effect_of made (clause_at clauses hint)) hints go_on) (Some fault.UnknownHint)) there) ∙ none)
-      | inr unknown ↦ let e = sym (ap (λ b. cond b (fault_behind (effect_of made (clause_at clauses hint)) hints (λ l. hint_fault clauses (made ++ l ∷ []) hints)) (Some fault.UnknownHint)) unknown) ∙ none in cc
+          after_met a made open_ones hints go_on (still_met a made (clause_at clauses hint) all met) (λ l holds. no_conflict a clauses hints (made ++ l ∷ []) meets (one_more a made l all holds)) (sym (ap (λ b. cond b (fault_after (effect_of made (clause_at clauses hint)) hints go_on) (Some fault.UnknownHint)) there) ∙ none)
+      | inr unknown ↦ let e = sym (ap (λ b. cond b (fault_after (effect_of made (clause_at clauses hint)) hints (λ l. hint_fault clauses (made ++ l ∷ []) hints)) (Some fault.UnknownHint)) unknown) ∙ none in cc
     ]
 
 -- where a clause isn't met, its negation holds

@@ -46,7 +46,7 @@ any_of_open made p (y ∷ clause) e =
           let found = sym (ap (λ t. list_any p (cond (not t) (y ∷ open_ones made clause) (open_ones made clause))) is) ∙ e in
           elim (or_cases (p y) (list_any p (open_ones made clause)) found) [
             | inl here ↦ or_left (p y) (list_any p clause) here
-            | inr behind ↦ or_right (p y) (list_any p clause) (any_of_open made p clause behind)
+            | inr after ↦ or_right (p y) (list_any p clause) (any_of_open made p clause after)
           ]
     ]
 
@@ -58,13 +58,13 @@ any_in_open made l (y ∷ clause) free e =
       | inl is ↦
           elim (or_cases (is_same l y) (list_any (is_same l) clause) e) [
             | inl here ↦ absurd (both_ways (is_false made l) free (ap (is_false made) (same_literal l y here) ∙ is))
-            | inr behind ↦ ap (λ t. list_any (is_same l) (cond (not t) (y ∷ open_ones made clause) (open_ones made clause))) is ∙ any_in_open made l clause free behind
+            | inr after ↦ ap (λ t. list_any (is_same l) (cond (not t) (y ∷ open_ones made clause) (open_ones made clause))) is ∙ any_in_open made l clause free after
           ]
       | inr is ↦
           ap (λ t. list_any (is_same l) (cond (not t) (y ∷ open_ones made clause) (open_ones made clause))) is
           ∙ elim (or_cases (is_same l y) (list_any (is_same l) clause) e) [
             | inl here ↦ or_left (is_same l y) (list_any (is_same l) (open_ones made clause)) here
-            | inr behind ↦ or_right (is_same l y) (list_any (is_same l) (open_ones made clause)) (any_in_open made l clause free behind)
+            | inr after ↦ or_right (is_same l y) (list_any (is_same l) (open_ones made clause)) (any_in_open made l clause free after)
           ]
     ]
 
@@ -166,7 +166,7 @@ all_any x a (y ∷ ys) all any =
     let parts = and_parts (is_same x y) (list_all (is_same x) ys) all in
     elim (or_cases (is_same a y) (list_any (is_same a) ys) any) [
       | inl here ↦ same_literal x y parts.0 ∙ sym (same_literal a y here)
-      | inr behind ↦ all_any x a ys parts.1 behind
+      | inr after ↦ all_any x a ys parts.1 after
     ]
 
 -- two literals of a clause that differ and aren't false
@@ -216,7 +216,7 @@ pub known_at : (n : ℕ) (clause : List SatLit) (l : SatLit) → All (λ m. vari
 known_at n [] l known e = absurd (false≢true e)
 known_at n (m ∷ clause) l known e = elim (or_cases (is_same l m) (list_any (is_same l) clause) e) [
   | inl here ↦ subst (λ x. variable_of x < n) (sym (same_literal l m here)) (known 0 l (omega arith))
-  | inr behind ↦ known_at n clause l (λ k d within. known (suc k) d (omega (arith, within))) behind
+  | inr after ↦ known_at n clause l (λ k d within. known (suc k) d (omega (arith, within))) after
 ]
 
 -- where that one is false too, all are

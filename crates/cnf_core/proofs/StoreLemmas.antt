@@ -48,8 +48,8 @@ part_stays start end xs more ascend within =
 pub pieces_more : {X : Type 0} (start : ℕ) (ends : List ℕ) (xs more : List X) → AreEnds start ends (length xs) → pieces start (ends ++ (length xs + length more) ∷ []) (xs ++ more) ≡ pieces start ends xs ++ more ∷ []
 pieces_more start [] xs more are =
     let count : length xs + length more - start ≡ length more = omega (arith, are) in
-    let behind : drop start (xs ++ more) ≡ more = ap (λ k. drop k (xs ++ more)) are ∙ drop-append_seam xs more in
-    ap (λ part. part ∷ []) (ap (λ k. take k (drop start (xs ++ more))) count ∙ (ap (take (length more)) behind ∙ take-length more))
+    let after : drop start (xs ++ more) ≡ more = ap (λ k. drop k (xs ++ more)) are ∙ drop-append_seam xs more in
+    ap (λ part. part ∷ []) (ap (λ k. take k (drop start (xs ++ more))) count ∙ (ap (take (length more)) after ∙ take-length more))
 pieces_more start (end ∷ ends) xs more are =
     let first = part_stays start end xs more are.0 (starts_within end (length xs) ends are.1) in
     let rest = pieces_more end ends xs more are.1 in

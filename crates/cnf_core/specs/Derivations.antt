@@ -31,18 +31,18 @@ abbrev pub effect_of : List SatLit → List SatLit → Effect
 effect_of made clause = effect_by made (filter (λ literal. not (is_false made literal)) clause)
 
 -- what is wrong after a clause with this effect, where hints are left; a literal that is made goes on
-abbrev pub fault_behind : Effect → List ℕ → (SatLit → Option LineFault) → Option LineFault
-fault_behind Conflict [] go_on = None
-fault_behind Conflict (hint ∷ hints) go_on = Some fault.AfterConflict
-fault_behind (Makes literal) hints go_on = go_on literal
-fault_behind Neither hints go_on = Some fault.NotUnit
+abbrev pub fault_after : Effect → List ℕ → (SatLit → Option LineFault) → Option LineFault
+fault_after Conflict [] go_on = None
+fault_after Conflict (hint ∷ hints) go_on = Some fault.AfterConflict
+fault_after (Makes literal) hints go_on = go_on literal
+fault_after Neither hints go_on = Some fault.NotUnit
 
 -- what is wrong with hints: each clause but the last makes a literal true, and the last is a conflict
 abbrev pub hint_fault : List (List SatLit) → List SatLit → List ℕ → Option LineFault
 hint_fault clauses made [] = Some fault.NoConflict
 hint_fault clauses made (hint ∷ hints) =
     if nat_lt hint (length clauses) then
-    fault_behind (effect_of made (clause_at clauses hint)) hints (λ literal. hint_fault clauses (made ++ literal ∷ []) hints)
+    fault_after (effect_of made (clause_at clauses hint)) hints (λ literal. hint_fault clauses (made ++ literal ∷ []) hints)
     else Some fault.UnknownHint
 
 abbrev pub is_empty : List SatLit → Bool

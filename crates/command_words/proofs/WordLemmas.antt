@@ -54,8 +54,8 @@ four_up (x ∷ y ∷ []) a b c d low ea eb ec ed = absurd (omega arith)
 four_up (x ∷ y ∷ z ∷ []) a b c d low ea eb ec ed = absurd (omega arith)
 four_up (x ∷ y ∷ z ∷ w ∷ rest) a b c d low ea eb ec ed = cc
 
-pub four_behind : {X : Type 0} (xs : List X) (a b c d : X) → 4 ≤ length xs → a ≡ get_or xs 0 a → b ≡ get_or xs 1 b → c ≡ get_or xs 2 c → d ≡ get_or xs 3 d → xs ≡ a ∷ b ∷ c ∷ d ∷ between 4 (length xs) xs
-four_behind xs a b c d low ea eb ec ed = four_up xs a b c d low ea eb ec ed ∙ ap (λ rest. a ∷ b ∷ c ∷ d ∷ rest) (sym (between_to_end xs 4 (length xs) (omega arith)))
+pub four_after : {X : Type 0} (xs : List X) (a b c d : X) → 4 ≤ length xs → a ≡ get_or xs 0 a → b ≡ get_or xs 1 b → c ≡ get_or xs 2 c → d ≡ get_or xs 3 d → xs ≡ a ∷ b ∷ c ∷ d ∷ between 4 (length xs) xs
+four_after xs a b c d low ea eb ec ed = four_up xs a b c d low ea eb ec ed ∙ ap (λ rest. a ∷ b ∷ c ∷ d ∷ rest) (sym (between_to_end xs 4 (length xs) (omega arith)))
 
 -- what names and numbers make of words of the form
 pub asks_match : (words : List (List ℕ)) (first second account : List ℕ) (numbers : List (List ℕ)) (result : Option MatchWords)

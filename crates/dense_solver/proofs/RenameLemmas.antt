@@ -9,7 +9,7 @@ use Rattle.cnf_core.specs.declared.effect.Effect.{Effect}
 use Rattle.cnf_core.specs.declared.effect.Effect.TheVariants.{Conflict, Makes, Neither}
 use Rattle.cnf_core.specs.declared.fault.LineFault.TheVariants as fault
 use Rattle.cnf_core.specs.Clauses.{clause_at, is_met, literal_bit, opposite, variable_of}
-use Rattle.cnf_core.specs.Derivations.{effect_by, effect_of, fault_behind, hint_fault, is_false, is_same, is_true, repeats_variable}
+use Rattle.cnf_core.specs.Derivations.{effect_by, effect_of, fault_after, hint_fault, is_false, is_same, is_true, repeats_variable}
 use Rattle.learn_solver.specs.Analyses.{has_all}
 use Rattle.learn_solver.proofs.PlaceLemmas.{variable_of-opposite}
 use Rattle.watch_lists.specs.Propagations.{AreKnown}
@@ -93,19 +93,19 @@ pub hints_renamed : (n : ℕ) (r : SatLit → SatLit) → Renames n r → (claus
 hints_renamed n r is clauses all number within each made [] known e = e
 hints_renamed n r is clauses all number within each made (s ∷ steps) known e =
     elim (cases_lt s (length clauses)) [
-      | inr late ↦ let found = le-ltb s (length clauses) late in absurd (let x : Some fault.UnknownHint ≡ None = sym (ap (λ b. cond b (fault_behind (effect_of made (clause_at clauses s)) steps (λ m. hint_fault clauses (made ++ m ∷ []) steps)) (Some fault.UnknownHint)) found) ∙ e in cc)
+      | inr late ↦ let found = le-ltb s (length clauses) late in absurd (let x : Some fault.UnknownHint ≡ None = sym (ap (λ b. cond b (fault_after (effect_of made (clause_at clauses s)) steps (λ m. hint_fault clauses (made ++ m ∷ []) steps)) (Some fault.UnknownHint)) found) ∙ e in cc)
       | inl low ↦
           let found = lt-ltb s (length clauses) low in
           let there = each s low in
           let here : AreKnown n (clause_at clauses s) = within s [] low in
-          let after = sym (ap (λ b. cond b (fault_behind (effect_of made (clause_at clauses s)) steps (λ m. hint_fault clauses (made ++ m ∷ []) steps)) (Some fault.UnknownHint)) found) ∙ e in
-          ap (λ b. cond b (fault_behind (effect_of (map r made) (clause_at all (number s))) (map number steps) (λ m. hint_fault all (map r made ++ m ∷ []) (map number steps))) (Some fault.UnknownHint)) (lt-ltb (number s) (length all) there.0)
-          ∙ (ap (λ c. fault_behind (effect_of (map r made) c) (map number steps) (λ m. hint_fault all (map r made ++ m ∷ []) (map number steps))) there.1
-          ∙ (ap (λ f. fault_behind f (map number steps) (λ m. hint_fault all (map r made ++ m ∷ []) (map number steps))) (effect_renamed n r is made (clause_at clauses s) known here)
+          let after = sym (ap (λ b. cond b (fault_after (effect_of made (clause_at clauses s)) steps (λ m. hint_fault clauses (made ++ m ∷ []) steps)) (Some fault.UnknownHint)) found) ∙ e in
+          ap (λ b. cond b (fault_after (effect_of (map r made) (clause_at all (number s))) (map number steps) (λ m. hint_fault all (map r made ++ m ∷ []) (map number steps))) (Some fault.UnknownHint)) (lt-ltb (number s) (length all) there.0)
+          ∙ (ap (λ c. fault_after (effect_of (map r made) c) (map number steps) (λ m. hint_fault all (map r made ++ m ∷ []) (map number steps))) there.1
+          ∙ (ap (λ f. fault_after f (map number steps) (λ m. hint_fault all (map r made ++ m ∷ []) (map number steps))) (effect_renamed n r is made (clause_at clauses s) known here)
           ∙ by_effect (effect_of made (clause_at clauses s)) steps (λ m made_is left. ap (λ ls. hint_fault all ls (map number steps)) (sym (map-append r made (m ∷ []))) ∙ hints_renamed n r is clauses all number within each (made ++ m ∷ []) steps (All-push (λ (x : SatLit). variable_of x < n) made m known (makes_known n made (open_in made (clause_at clauses s)) m (open_known n made (clause_at clauses s) here) made_is)) left) after))
     ]
   where
-    by_effect : (effect : Effect) (left : List ℕ) → ((m : SatLit) → effect ≡ Makes m → hint_fault clauses (made ++ m ∷ []) steps ≡ None → hint_fault all (map r made ++ r m ∷ []) (map number steps) ≡ None) → fault_behind effect left (λ m. hint_fault clauses (made ++ m ∷ []) steps) ≡ None → fault_behind (moved r effect) (map number left) (λ m. hint_fault all (map r made ++ m ∷ []) (map number steps)) ≡ None
+    by_effect : (effect : Effect) (left : List ℕ) → ((m : SatLit) → effect ≡ Makes m → hint_fault clauses (made ++ m ∷ []) steps ≡ None → hint_fault all (map r made ++ r m ∷ []) (map number steps) ≡ None) → fault_after effect left (λ m. hint_fault clauses (made ++ m ∷ []) steps) ≡ None → fault_after (moved r effect) (map number left) (λ m. hint_fault all (map r made ++ m ∷ []) (map number steps)) ≡ None
     by_effect Conflict [] rest goes = refl
     by_effect Conflict (x ∷ left) rest goes = absurd (let y : Some fault.AfterConflict ≡ None = goes in cc)
     by_effect (Makes m) left rest goes = rest m refl goes

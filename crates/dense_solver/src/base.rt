@@ -14,8 +14,8 @@ use query_core::ConeClauses;
 use std::alloc::{AllocError, Global};
 use std::marker::Model;
 
-/// Clauses of a formula and of lemmas, over the variables that occur in them alone. Variable k of theirs stands for the formula's of the k-th
-/// name, and these ascend.
+/// Clauses of a formula and of lemmas, over the variables that occur in them alone. Variable k of theirs stands for the
+/// formula's of the k-th name, and these ascend.
 #[derive(Drop)]
 pub struct DenseBase {
     names: Vec<u64>,

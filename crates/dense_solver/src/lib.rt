@@ -1,5 +1,5 @@
-//! Clauses of a formula, over variables of their own that are numbered without gaps: what a search costs over them grows with the clauses,
-//! whatever else the formula has.
+//! Clauses of a formula, over variables of their own that are numbered without gaps: what a search costs over them grows with
+//! the clauses, whatever else the formula has.
 #![tactic(auto)]
 
 mod base;

@@ -17,10 +17,10 @@ use query_core::ConeClauses;
 use std::alloc::Global;
 use watch_core::Watch;
 
-/// Looks for a model of the clauses of a query's cones, with lemmas that are derived in order from the formula and have one to three literals. The
-/// search is over the variables that occur in them alone, and costs by them, whatever else the formula has. The lemmas are the lines of the
-/// ledger's open entry, and the tab has the ledger's budget, of which as much is spent. What is learned is charged to the tab as it comes, and
-/// to the ledger, in terms of the formula, when the search ends.
+/// Looks for a model of the clauses of a query's cones, with lemmas that are derived in order from the formula and have one to
+/// three literals. The search is over the variables that occur in them alone, and costs by them, whatever else the formula has.
+/// The lemmas are the lines of the ledger's open entry, and the tab has the ledger's budget, of which as much is spent. What is
+/// learned is charged to the tab as it comes, and to the ledger, in terms of the formula, when the search ends.
 ///
 /// # Errors
 ///

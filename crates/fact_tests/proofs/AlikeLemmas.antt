@@ -1,5 +1,5 @@
--- Inputs that may be exchanged: a function that is unate in one is unate in the other, in the same way, or, where each is inverted,
--- in the opposite one.
+-- Inputs that may be exchanged: a function that is unate in one is unate in the other, in the same way, or, where each is
+-- inverted, in the opposite one.
 use Rattle.std.proofs.Common.{◌≡◌, ◌≢◌, ℕ, ◌<◌, Bool, true, false, not, List, length, refl, sym, subst, ap, ◌∙◌, arith}
 use Rattle.std.proofs.lemmas.Bool.{false≢true}
 use Rattle.std.proofs.lemmas.List.{length-set, set_comm}

@@ -35,8 +35,8 @@ asked_with_of graphs query lemmas before after fits is = record {
     fits = fits;
     lemmas = within;
     derived = is.derived;
-    learned = λ k d below behind.
-        let learned = is.learned k d behind below in
+    learned = λ k d below following.
+        let learned = is.learned k d following below in
         record {
           derived = learned.derived;
           beside_cones = learned.fresh;
@@ -96,7 +96,7 @@ outside_closed graphs claim first second placed outside =
         fits = fits;
         lemmas = omega arith;
         derived = refuted.derived;
-        learned = λ k d below behind. at_line query line fits refuted k d below;
+        learned = λ k d below following. at_line query line fits refuted k d below;
       };
     }
   where

@@ -17,7 +17,7 @@ use Rattle.cnf_core.specs.declared.fault.LineFault.TheVariants as fault
 use Rattle.cnf_core.specs.declared.effect.Effect.{Effect}
 use Rattle.cnf_core.specs.declared.effect.Effect.TheVariants.{Conflict}
 use Rattle.cnf_core.specs.Clauses.{Formula, clause_at, opposite}
-use Rattle.cnf_core.specs.Derivations.{IsRefutation, clauses_of, effect_by, effect_of, fault_behind, hint_fault, line_fault}
+use Rattle.cnf_core.specs.Derivations.{IsRefutation, clauses_of, effect_by, effect_of, fault_after, hint_fault, line_fault}
 use Rattle.net_core.specs.Sides.{Graphs}
 use Rattle.net_core.specs.declared.graphs.Side.{Side}
 use Rattle.net_core.specs.declared.graphs.Side.TheVariants.{First, Second}
@@ -343,11 +343,11 @@ units_hint : (clauses : List (List SatLit)) (unit : ℕ) (l : SatLit) → unit +
 units_hint clauses unit l within one other =
     let last : SatLit → Option LineFault = λ (x : SatLit). Some fault.NoConflict in
     let go : SatLit → Option LineFault = λ (x : SatLit). hint_fault clauses (x ∷ []) ((unit + 1) ∷ []) in
-    ap (λ t. cond t (fault_behind (effect_of [] (clause_at clauses unit)) ((unit + 1) ∷ []) go) (Some fault.UnknownHint)) (below_true unit (length clauses) (omega (arith, within)))
-    ∙ (ap (λ c. fault_behind (effect_of [] c) ((unit + 1) ∷ []) go) one
-    ∙ (ap (λ t. cond t (fault_behind (effect_of (l ∷ []) (clause_at clauses (unit + 1))) [] last) (Some fault.UnknownHint)) (below_true (unit + 1) (length clauses) within)
-    ∙ (ap (λ c. fault_behind (effect_of (l ∷ []) c) [] last) other
-    ∙ ap (λ e. fault_behind e [] last) (conflict_of l))))
+    ap (λ t. cond t (fault_after (effect_of [] (clause_at clauses unit)) ((unit + 1) ∷ []) go) (Some fault.UnknownHint)) (below_true unit (length clauses) (omega (arith, within)))
+    ∙ (ap (λ c. fault_after (effect_of [] c) ((unit + 1) ∷ []) go) one
+    ∙ (ap (λ t. cond t (fault_after (effect_of (l ∷ []) (clause_at clauses (unit + 1))) [] last) (Some fault.UnknownHint)) (below_true (unit + 1) (length clauses) within)
+    ∙ (ap (λ c. fault_after (effect_of (l ∷ []) c) [] last) other
+    ∙ ap (λ e. fault_after e [] last) (conflict_of l))))
 
 pub units_close : (formula : Formula) (unit : ℕ) (l : SatLit) → unit + 1 < length formula.clauses → clause_at formula.clauses unit ≡ l ∷ [] → clause_at formula.clauses (unit + 1) ≡ opposite l ∷ [] → line_fault formula [] (record { clause = []; hints = unit ∷ (unit + 1) ∷ [] }) ≡ None
 units_close formula unit l within one other =

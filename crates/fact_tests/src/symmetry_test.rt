@@ -111,8 +111,8 @@ fn exchange<O: Oracle>(
 }
 
 /// Whether the two inputs may be exchanged: as they are, or each inverted. That is so where two swaps hold, which aren't asked
-/// where unateness tells the inputs apart. The one that starts is asked first, and where it holds the other starts from then on: of
-/// a carry one holds for the inputs of lesser digits, and is expensive, and the other one for those of greater digits.
+/// where unateness tells the inputs apart. The one that starts is asked first, and where it holds the other starts from then
+/// on: of a carry one holds for the inputs of lesser digits, and is expensive, and the other one for those of greater digits.
 fn are_alike<O: Oracle>(
     alloc: Global,
     output: &FirstOutput<'_>,

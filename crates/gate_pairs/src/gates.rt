@@ -49,8 +49,8 @@ fn gate_at<B: Base>(base: &B, ids: &[u64], k: usize) -> Option<Gate>
     })
 }
 
-/// The inputs of gates each of which stands after its operands: what is read and is no gate's output, as literals without complement, in
-/// the order in which they are read first. The constant is none.
+/// The inputs of gates each of which stands after its operands: what is read and is no gate's output, as literals without
+/// complement, in the order in which they are read first. The constant is none.
 ///
 /// # Errors
 ///

@@ -92,7 +92,7 @@ fn reads_on(shelf: &mut MemShelf) -> Result<bool, ShelfStop>
 
 /// A call that isn't told to fail does what it does elsewhere, also after one that failed.
 #[test]
-fn goes_on_behind_a_failure(rt: HostRuntime) -> Result<(), Fail> {
+fn goes_on_after_a_failure(rt: HostRuntime) -> Result<(), Fail> {
     let mut shelf = shelf_failing_at(rt.alloc(), &[9, 1, 4])?;
     let answer = reads_on(&mut shelf);
     assert_eq!(rt; (answer, shelf.calls()), (Ok(true), 6));

@@ -5,7 +5,7 @@ use Rattle.cnf_core.specs.declared.literal.SatLit.{SatLit}
 use Rattle.cnf_core.specs.declared.effect.Effect.TheVariants.{Conflict, Makes, Neither}
 use Rattle.cnf_core.specs.declared.fault.LineFault.TheVariants as fault
 use Rattle.cnf_core.specs.Clauses.{clause_at}
-use Rattle.cnf_core.specs.Derivations.{effect_of, fault_behind, hint_fault}
+use Rattle.cnf_core.specs.Derivations.{effect_of, fault_after, hint_fault}
 use Rattle.std.proofs.Math.Seq.{drop-cons}
 use Rattle.joint_hash.specs.Chains.{LeadOn}
 use Rattle.joint_hash.proofs.LeadLemmas.{lead_makes, lead_neither, lead_there}
@@ -23,16 +23,16 @@ hint_makes clauses start made hints id l is there makes = record {
   goes = λ rest.
       ap (hint_fault clauses start) (append_assoc hints (id ∷ []) rest)
       ∙ (is.goes (id ∷ rest)
-      ∙ (ap (λ t. cond t (fault_behind (effect_of made (clause_at clauses id)) rest (λ m. hint_fault clauses (made ++ m ∷ []) rest)) (Some fault.UnknownHint)) (lt-ltb id (length clauses) there)
-      ∙ ap (λ e. fault_behind e rest (λ m. hint_fault clauses (made ++ m ∷ []) rest)) makes));
+      ∙ (ap (λ t. cond t (fault_after (effect_of made (clause_at clauses id)) rest (λ m. hint_fault clauses (made ++ m ∷ []) rest)) (Some fault.UnknownHint)) (lt-ltb id (length clauses) there)
+      ∙ ap (λ e. fault_after e rest (λ m. hint_fault clauses (made ++ m ∷ []) rest)) makes));
 }
 
 -- the last one
 pub hint_ends : (clauses : List (List SatLit)) (start made : List SatLit) (hints : List ℕ) (id : ℕ) → IsHinted clauses start made hints → id < length clauses → effect_of made (clause_at clauses id) ≡ Conflict → hint_fault clauses start (hints ++ id ∷ []) ≡ None
 hint_ends clauses start made hints id is there conflict =
     is.goes (id ∷ [])
-    ∙ (ap (λ t. cond t (fault_behind (effect_of made (clause_at clauses id)) [] (λ m. hint_fault clauses (made ++ m ∷ []) [])) (Some fault.UnknownHint)) (lt-ltb id (length clauses) there)
-    ∙ ap (λ e. fault_behind e [] (λ m. hint_fault clauses (made ++ m ∷ []) [])) conflict)
+    ∙ (ap (λ t. cond t (fault_after (effect_of made (clause_at clauses id)) [] (λ m. hint_fault clauses (made ++ m ∷ []) [])) (Some fault.UnknownHint)) (lt-ltb id (length clauses) there)
+    ∙ ap (λ e. fault_after e [] (λ m. hint_fault clauses (made ++ m ∷ []) [])) conflict)
 
 -- Hints so far, and clauses that lead on from there.
 pub record IsOnTheWay (clauses : List (List SatLit)) (start made : List SatLit) (hints ids : List ℕ) : Type 0 where

@@ -26,7 +26,7 @@ true_before : (made : List SatLit) (l m : SatLit) → is_true (made ++ l ∷ [])
 true_before made l m truth =
     elim (or_cases (is_true made m) (is_same m l || false) (sym (true_with made l m) ∙ truth)) [
       | inl front ↦ inl front
-      | inr behind ↦ elim (or_cases (is_same m l) false behind) [ inl same ↦ inr (same_literal m l same) | inr none ↦ absurd (false≢true none) ]
+      | inr after ↦ elim (or_cases (is_same m l) false after) [ inl same ↦ inr (same_literal m l same) | inr none ↦ absurd (false≢true none) ]
     ]
 
 -- all that is true by these is true by those

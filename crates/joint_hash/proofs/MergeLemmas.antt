@@ -240,19 +240,19 @@ module _ (IsGate : ConeGate → Type 0) (nested : AreNested IsGate) where
           late_from = omega (arith, enough);
           there_to = omega (arith, longer);
           there_from = omega (arith, longer);
-          to_variable = ap (λ (cs : List (List SatLit)). clause_at cs (length clauses)) grown ∙ (first_behind clauses ∙ ap (λ (l : SatLit). opposite first.output ∷ l ∷ []) (sym this_plain));
-          from_variable = ap (λ (cs : List (List SatLit)). clause_at cs (length clauses + 1)) grown ∙ (second_behind clauses ∙ ap (λ (l : SatLit). first.output ∷ opposite l ∷ []) (sym this_plain));
+          to_variable = ap (λ (cs : List (List SatLit)). clause_at cs (length clauses)) grown ∙ (first_after clauses ∙ ap (λ (l : SatLit). opposite first.output ∷ l ∷ []) (sym this_plain));
+          from_variable = ap (λ (cs : List (List SatLit)). clause_at cs (length clauses + 1)) grown ∙ (second_after clauses ∙ ap (λ (l : SatLit). first.output ∷ opposite l ∷ []) (sym this_plain));
         }
           where
-            first_behind : (cs : List (List SatLit)) → clause_at (cs ++ lemmas) (length cs) ≡ opposite first.output ∷ gate.output ∷ []
-            first_behind [] = refl
-            first_behind (c ∷ cs) = first_behind cs
+            first_after : (cs : List (List SatLit)) → clause_at (cs ++ lemmas) (length cs) ≡ opposite first.output ∷ gate.output ∷ []
+            first_after [] = refl
+            first_after (c ∷ cs) = first_after cs
 
-            second_behind : (cs : List (List SatLit)) → clause_at (cs ++ lemmas) (length cs + 1) ≡ first.output ∷ opposite gate.output ∷ []
-            second_behind [] = refl
-            second_behind (c ∷ cs) =
+            second_after : (cs : List (List SatLit)) → clause_at (cs ++ lemmas) (length cs + 1) ≡ first.output ∷ opposite gate.output ∷ []
+            second_after [] = refl
+            second_after (c ∷ cs) =
                 let e : suc (length cs) + 1 ≡ suc (length cs + 1) = omega arith in
-                ap (clause_at (c ∷ (cs ++ lemmas))) e ∙ second_behind cs
+                ap (clause_at (c ∷ (cs ++ lemmas))) e ∙ second_after cs
 
         twin_at : (v : ℕ) (twin : Twin) → ((w == v) ≡ true) ⊎ ((w == v) ≡ false) → cond (w == v) (Some own) (twins v) ≡ Some twin → IsTwin count more v twin
         twin_at v twin (inl same) is =

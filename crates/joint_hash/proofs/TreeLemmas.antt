@@ -21,9 +21,9 @@ other_default (x ∷ xs) (suc k) d e within = other_default xs k d e (omega (ari
 
 -- a clause after the first ones is one of the others
 among_others : (first others : List (List SatLit)) (id : ℕ) (clause : List SatLit) → length first ≤ id → id < length (first ++ others) → clause_at (first ++ others) id ≡ clause → Contains others clause
-among_others first others id clause behind within is =
-    let at : length first + (id - length first) ≡ id = omega (arith, behind) in
-    let here : id - length first < length others = omega (arith, behind, within, length-append first others) in
+among_others first others id clause after within is =
+    let at : length first + (id - length first) ≡ id = omega (arith, after) in
+    let here : id - length first < length others = omega (arith, after, within, length-append first others) in
     (id - length first, here, other_default others (id - length first) clause [] here ∙ (sym (get_or-append-add first others (id - length first) []) ∙ (ap (clause_at (first ++ others)) at ∙ is)))
 
 module _ (IsGate : ConeGate → Type 0) (nested : AreNested IsGate) (limit : ℕ) (clauses : List (List SatLit)) (lines : List LogLine) (firsts : SatLit × SatLit → Option ConeGate) (twins : ℕ → Option Twin)

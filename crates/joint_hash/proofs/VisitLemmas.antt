@@ -76,7 +76,7 @@ module _ (ids : List ℕ) (ascending : AllPairs (λ one other. one < other) ids)
   -- what is less stands before
   stands_before : (j k : ℕ) → j < length ids → slice_index_or ids j 0 < slice_index_or ids k 0 → j < k
   stands_before j k within less =
-      elim (cases_lt j k) [ inl before ↦ before | inr behind ↦ absurd (omega (arith, less, at_most k j behind within)) ]
+      elim (cases_lt j k) [ inl before ↦ before | inr after ↦ absurd (omega (arith, less, at_most k j after within)) ]
 
 module _ (graphs : Graphs) (query : Query) (ids : List ℕ) (ascending : AllPairs (λ one other. one < other) ids) (there : All (λ id. id < length (query_clauses graphs query)) ids) (cones : (id : ℕ) → (Contains ids id ↔ IsConeId graphs query id)) (lines : List LogLine) (firsts : List ((SatLit × SatLit) × ConeGate)) (twins : List (ℕ × Twin)) where
   -- a gate's last clause has a place

@@ -59,7 +59,7 @@ conflict_here clauses t trail sound marked id there conflict are_marked some =
         let marked_there : is_marked marked (entry_at es p.at) ≡ true = ap (λ (m : SatLit). bit marked (variable_of m)) p.is ∙ (ap (bit marked) (variable_of-opposite l) ∙ are_marked k no_literal within) in
         let lower : (entry_at es p.at).level ≢ t.level = λ same. absurd (omega (arith, none, counted_here t marked (length es) p.at p.within p.within marked_there same)) in
         let first : p.at < s.at = elim (leb_tells s.at p.at) [
-          | inl (found, behind) ↦ absurd (omega (arith, lower, low_level t trail p.at p.within, ascend t trail s.at p.at behind p.within, s.level_there))
+          | inl (found, after) ↦ absurd (omega (arith, lower, low_level t trail p.at p.within, ascend t trail s.at p.at after p.within, s.level_there))
           | inr (found, ahead) ↦ ahead
         ] in
         ap (is_true (before es s.at)) (sym p.is) ∙ true_before es s.at p.at first p.within in

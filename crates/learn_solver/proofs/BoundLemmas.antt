@@ -76,7 +76,7 @@ has_variable : (clause : List SatLit) (l : SatLit) (v : ℕ) → variable_of l �
 has_variable [] l v is found = found
 has_variable (m ∷ clause) l v is found = elim (or_cases (is_same l m) (is_true clause l) found) [
   | inl here ↦ or_left (variable_of m == v) (list_any (λ other. variable_of other == v) clause) (eq-eqb (variable_of m) v (ap variable_of (sym (same_literal l m here)) ∙ is))
-  | inr behind ↦ or_right (variable_of m == v) (list_any (λ other. variable_of other == v) clause) (has_variable clause l v is behind)
+  | inr following ↦ or_right (variable_of m == v) (list_any (λ other. variable_of other == v) clause) (has_variable clause l v is following)
 ]
 
 one_of_each : (clause : List SatLit) (a b : SatLit) → repeats_variable clause ≡ false → variable_of a ≡ variable_of b → is_true clause a ≡ true → is_true clause b ≡ true → a ≡ b
@@ -87,11 +87,11 @@ one_of_each (m ∷ clause) a b once same found found_too =
     elim (or_cases (is_same a m) (is_true clause a) found) [
       | inl here ↦ elim (or_cases (is_same b m) (is_true clause b) found_too) [
         | inl here_too ↦ same_literal a m here ∙ sym (same_literal b m here_too)
-        | inr behind ↦ absurd (again b (sym same ∙ ap variable_of (same_literal a m here)) behind)
+        | inr following ↦ absurd (again b (sym same ∙ ap variable_of (same_literal a m here)) following)
       ]
-      | inr behind ↦ elim (or_cases (is_same b m) (is_true clause b) found_too) [
-        | inl here ↦ absurd (again a (same ∙ ap variable_of (same_literal b m here)) behind)
-        | inr behind_too ↦ one_of_each clause a b parts.1 same behind behind_too
+      | inr following ↦ elim (or_cases (is_same b m) (is_true clause b) found_too) [
+        | inl here ↦ absurd (again a (same ∙ ap variable_of (same_literal b m here)) following)
+        | inr after_too ↦ one_of_each clause a b parts.1 same following after_too
       ]
     ]
 
@@ -151,7 +151,7 @@ all_below : (xs : List ℕ) (m q : ℕ) → All (λ x. x < m) xs → list_any (e
 all_below [] m q all found = absurd (false≢true found)
 all_below (x ∷ xs) m q all found = elim (or_cases (eqb q x) (list_any (eqb q) xs) found) [
   | inl here ↦ omega (arith, eqb-true q x here, all 0 0 (omega arith))
-  | inr behind ↦ all_below xs m q (λ k d within. all (suc k) d (omega (arith, within))) behind
+  | inr following ↦ all_below xs m q (λ k d within. all (suc k) d (omega (arith, within))) following
 ]
 
 abbrev line_number : ℕ → LogLine → ℕ

@@ -10,7 +10,7 @@ use Rattle.cnf_core.specs.declared.literal.SatLit.{SatLit}
 use Rattle.cnf_core.specs.declared.effect.Effect.TheVariants.{Conflict, Makes}
 use Rattle.cnf_core.specs.declared.fault.LineFault.TheVariants as fault
 use Rattle.cnf_core.specs.Clauses.{clause_at, opposite, variable_of}
-use Rattle.cnf_core.specs.Derivations.{effect_of, fault_behind, hint_fault, is_false, is_same, is_true}
+use Rattle.cnf_core.specs.Derivations.{effect_of, fault_after, hint_fault, is_false, is_same, is_true}
 use Rattle.trail_core.specs.declared.assigned.Assigned.{Assigned}
 use Rattle.trail_core.specs.Trails.{entry_at, literals}
 use Rattle.watch_lists.specs.Propagations.{IsReason, before}
@@ -24,13 +24,13 @@ nothing_there = record { 0 = 0 }
 -- a first step that leaves a single literal, and one that is the conflict
 pub step_makes : (clauses : List (List SatLit)) (made : List SatLit) (id : ℕ) (rest : List ℕ) (l : SatLit) → id < length clauses → effect_of made (clause_at clauses id) ≡ Makes l → hint_fault clauses (made ++ l ∷ []) rest ≡ None → hint_fault clauses made (id ∷ rest) ≡ None
 step_makes clauses made id rest l there makes after =
-    ap (λ t. cond t (fault_behind (effect_of made (clause_at clauses id)) rest (λ m. hint_fault clauses (made ++ m ∷ []) rest)) (Some fault.UnknownHint)) (lt-ltb id (length clauses) there)
-    ∙ (ap (λ e. fault_behind e rest (λ m. hint_fault clauses (made ++ m ∷ []) rest)) makes ∙ after)
+    ap (λ t. cond t (fault_after (effect_of made (clause_at clauses id)) rest (λ m. hint_fault clauses (made ++ m ∷ []) rest)) (Some fault.UnknownHint)) (lt-ltb id (length clauses) there)
+    ∙ (ap (λ e. fault_after e rest (λ m. hint_fault clauses (made ++ m ∷ []) rest)) makes ∙ after)
 
 pub step_conflict : (clauses : List (List SatLit)) (made : List SatLit) (id : ℕ) → id < length clauses → effect_of made (clause_at clauses id) ≡ Conflict → hint_fault clauses made (id ∷ []) ≡ None
 step_conflict clauses made id there conflict =
-    ap (λ t. cond t (fault_behind (effect_of made (clause_at clauses id)) [] (λ m. hint_fault clauses (made ++ m ∷ []) [])) (Some fault.UnknownHint)) (lt-ltb id (length clauses) there)
-    ∙ ap (λ e. fault_behind e [] (λ m. hint_fault clauses (made ++ m ∷ []) [])) conflict
+    ap (λ t. cond t (fault_after (effect_of made (clause_at clauses id)) [] (λ m. hint_fault clauses (made ++ m ∷ []) [])) (Some fault.UnknownHint)) (lt-ltb id (length clauses) there)
+    ∙ ap (λ e. fault_after e [] (λ m. hint_fault clauses (made ++ m ∷ []) [])) conflict
 
 -- a literal that is false before a place is false wherever the marked ones are true, if its variable is marked
 false_between : (es : List Assigned) (marked : List Bool) (p q : ℕ) (made : List SatLit) (l : SatLit) → p ≤ q → IsBetween es marked q made → bit marked (variable_of l) ≡ true → is_false (before es p) l ≡ true → is_false made l ≡ true

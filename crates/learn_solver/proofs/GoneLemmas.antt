@@ -136,7 +136,7 @@ conflict_at made (m ∷ clause) l all e =
     let parts = and_parts (is_false made m) (list_all (is_false made) clause) all in
     elim (or_cases (is_same l m) (is_true clause l) e) [
       | inl here ↦ ap (is_false made) (same_literal l m here) ∙ parts.0
-      | inr behind ↦ conflict_at made clause l parts.1 behind
+      | inr following ↦ conflict_at made clause l parts.1 following
     ]
 
 -- the literal that became false last isn't false any more

@@ -51,7 +51,7 @@ kept_at (x ∷ es) marked (suc p) l e =
           let found = sym (ap (λ b. is_true (cond b (x.literal ∷ kept_literals es marked p) (kept_literals es marked p)) l) found_marked) ∙ e in
           elim (or_cases (is_same l x.literal) (is_true (kept_literals es marked p) l) found) [
             | inl here ↦ record { at = 0; early = omega arith; within = omega arith; marked_there = found_marked; is = sym (same_literal l x.literal here) }
-            | inr behind ↦ later (kept_at es marked p l behind)
+            | inr after ↦ later (kept_at es marked p l after)
           ]
       | inr found_free ↦ later (kept_at es marked p l (sym (ap (λ b. is_true (cond b (x.literal ∷ kept_literals es marked p) (kept_literals es marked p)) l) found_free) ∙ e))
     ]
@@ -79,7 +79,7 @@ opposite_there [] l e = e
 opposite_there (m ∷ ls) l e =
     elim (or_cases (is_same l m) (is_true ls l) e) [
       | inl here ↦ or_left (is_same (opposite l) (opposite m)) (is_true (map opposite ls) (opposite l)) (ap (λ n. is_same (opposite l) (opposite n)) (sym (same_literal l m here)) ∙ same_itself (opposite l))
-      | inr behind ↦ or_right (is_same (opposite l) (opposite m)) (is_true (map opposite ls) (opposite l)) (opposite_there ls l behind)
+      | inr after ↦ or_right (is_same (opposite l) (opposite m)) (is_true (map opposite ls) (opposite l)) (opposite_there ls l after)
     ]
 
 pub opposites_twice : (ls : List SatLit) → map opposite (map opposite ls) ≡ ls

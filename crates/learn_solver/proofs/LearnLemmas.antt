@@ -35,7 +35,7 @@ variable_found [] v e = absurd (false≢true e)
 variable_found (m ∷ ls) v e =
     elim (or_cases (variable_of m == v) (list_any (λ other. variable_of other == v) ls) e) [
       | inl here ↦ (m, or_left (is_same m m) (is_true ls m) (same_itself m), eqb-true (variable_of m) v here)
-      | inr behind ↦ let rest = variable_found ls v behind in (rest.0, or_right (is_same rest.0 m) (is_true ls rest.0) rest.1, rest.2)
+      | inr after ↦ let rest = variable_found ls v after in (rest.0, or_right (is_same rest.0 m) (is_true ls rest.0) rest.1, rest.2)
     ]
 
 -- no variable is repeated
@@ -103,7 +103,7 @@ fresh_above clauses t marked p here steps is above id d there all =
     let quiet = subst (λ r. IsJustified clauses (before es s.at) (entry_at es s.at).literal r) s.decision (is.sound.justified s.at s.within) in
     let one = opposite (entry_at es u.at).literal in
     let late : s.at ≤ u.at = elim (leb_tells s.at u.at) [
-      | inl (found, behind) ↦ behind
+      | inl (found, after) ↦ after
       | inr (found, ahead) ↦ absurd (omega (arith, decision_raises t is.trail u.at s.at ahead s.within s.decision, u.level_there, s.level_there))
     ] in
     let not_true : is_true (before es s.at) one ≡ false = elim (cases_Bool (is_true (before es s.at) one)) [
@@ -131,7 +131,7 @@ fresh_above clauses t marked p here steps is above id d there all =
               or_right (is_false (before es s) y) (is_same one y) (ap (λ m. is_same m y) literal ∙ same_itself y)
           | inr lower ↦
               let early : at.at < s = elim (leb_tells s at.at) [
-                | inl (f, behind) ↦ absurd (omega (arith, lower, low_level t is.trail at.at at.within, ascend t is.trail s at.at behind at.within, level))
+                | inl (f, after) ↦ absurd (omega (arith, lower, low_level t is.trail at.at at.within, ascend t is.trail s at.at after at.within, level))
                 | inr (f, ahead) ↦ ahead
               ] in
               or_left (is_false (before es s) y) (is_same one y) (ap (is_true (before es s)) (sym at.is) ∙ true_before es s at.at early at.within)

@@ -33,8 +33,8 @@ stands (x ∷ es) zero l e = absurd (false≢true e)
 stands (x ∷ es) (suc p) l e =
     elim (or_cases (is_same l x.literal) (is_true (before es p) l) e) [
       | inl here ↦ record { at = 0; early = omega arith; within = omega arith; is = sym (same_literal l x.literal here) }
-      | inr behind ↦
-          let rest = stands es p l behind in
+      | inr after ↦
+          let rest = stands es p l after in
           record { at = suc rest.at; early = omega (arith, rest.early); within = omega (arith, rest.within); is = rest.is }
     ]
 

@@ -12,7 +12,7 @@ use Rattle.cnf_core.specs.declared.effect.Effect.TheVariants.{Conflict, Makes, N
 use Rattle.cnf_core.specs.declared.fault.LineFault.{LineFault}
 use Rattle.cnf_core.specs.declared.fault.LineFault.TheVariants as fault
 use Rattle.cnf_core.specs.Clauses.{Formula, clause_at, opposite, variable_of}
-use Rattle.cnf_core.specs.Derivations.{AreDerived, clauses_of, effect_of, fault_behind, hint_fault, is_empty, line_fault, repeats_variable}
+use Rattle.cnf_core.specs.Derivations.{AreDerived, clauses_of, effect_of, fault_after, hint_fault, is_empty, line_fault, repeats_variable}
 use Rattle.watch_lists.specs.Propagations.{AreKnown}
 pub use Rattle.cnf_core.proofs.LineLemmas.{clauses_more, derived_more}
 use Rattle.learn_solver.specs.Solvers.{ArePut, IsSolver, active, id_at, wanted}
@@ -95,17 +95,17 @@ pub steps_there : (clauses : List (List SatLit)) (made : List SatLit) (steps : L
 steps_there clauses made [] e k d within = absurd (omega (arith, within))
 steps_there clauses made (s ∷ steps) e k d within =
     elim (cases_lt s (length clauses)) [
-      | inr late ↦ let found = le-ltb s (length clauses) late in absurd (let x : Some fault.UnknownHint ≡ None = sym (ap (λ b. cond b (fault_behind (effect_of made (clause_at clauses s)) steps (λ m. hint_fault clauses (made ++ m ∷ []) steps)) (Some fault.UnknownHint)) found) ∙ e in cc)
-      | inl low ↦ let found = lt-ltb s (length clauses) low in by_place k low (λ m. steps_there clauses (made ++ m ∷ []) steps) (effect_of made (clause_at clauses s)) (sym (ap (λ b. cond b (fault_behind (effect_of made (clause_at clauses s)) steps (λ m. hint_fault clauses (made ++ m ∷ []) steps)) (Some fault.UnknownHint)) found) ∙ e) within
+      | inr late ↦ let found = le-ltb s (length clauses) late in absurd (let x : Some fault.UnknownHint ≡ None = sym (ap (λ b. cond b (fault_after (effect_of made (clause_at clauses s)) steps (λ m. hint_fault clauses (made ++ m ∷ []) steps)) (Some fault.UnknownHint)) found) ∙ e in cc)
+      | inl low ↦ let found = lt-ltb s (length clauses) low in by_place k low (λ m. steps_there clauses (made ++ m ∷ []) steps) (effect_of made (clause_at clauses s)) (sym (ap (λ b. cond b (fault_after (effect_of made (clause_at clauses s)) steps (λ m. hint_fault clauses (made ++ m ∷ []) steps)) (Some fault.UnknownHint)) found) ∙ e) within
     ]
   where
-    by_place : (n : ℕ) → s < length clauses → ((m : SatLit) → hint_fault clauses (made ++ m ∷ []) steps ≡ None → (j e : ℕ) → j < length steps → slice_index_or steps j e < length clauses) → (effect : Effect) → fault_behind effect steps (λ m. hint_fault clauses (made ++ m ∷ []) steps) ≡ None → n < length (s ∷ steps) → slice_index_or (s ∷ steps) n d < length clauses
+    by_place : (n : ℕ) → s < length clauses → ((m : SatLit) → hint_fault clauses (made ++ m ∷ []) steps ≡ None → (j e : ℕ) → j < length steps → slice_index_or steps j e < length clauses) → (effect : Effect) → fault_after effect steps (λ m. hint_fault clauses (made ++ m ∷ []) steps) ≡ None → n < length (s ∷ steps) → slice_index_or (s ∷ steps) n d < length clauses
     by_place zero low rest effect goes h = low
     by_place (suc n) low rest (Makes m) goes h = rest m goes n d (omega (arith, h))
     by_place (suc n) low rest Neither goes h = absurd (let x : Some fault.NotUnit ≡ None = goes in cc)
     by_place (suc n) low rest Conflict goes h = ends steps goes (omega (arith, h))
       where
-        ends : (left : List ℕ) → fault_behind Conflict left (λ m. hint_fault clauses (made ++ m ∷ []) left) ≡ None → n < length left → slice_index_or left n d < length clauses
+        ends : (left : List ℕ) → fault_after Conflict left (λ m. hint_fault clauses (made ++ m ∷ []) left) ≡ None → n < length left → slice_index_or left n d < length clauses
         ends [] goes' h' = absurd (omega (arith, h'))
         ends (x ∷ left) goes' h' = absurd (let y : Some fault.AfterConflict ≡ None = goes' in cc)
 
@@ -114,17 +114,17 @@ pub hints_follow : (clauses all : List (List SatLit)) (number : ℕ → ℕ) →
 hints_follow clauses all number same made [] e = e
 hints_follow clauses all number same made (s ∷ steps) e =
     elim (cases_lt s (length clauses)) [
-      | inr late ↦ let found = le-ltb s (length clauses) late in absurd (let x : Some fault.UnknownHint ≡ None = sym (ap (λ b. cond b (fault_behind (effect_of made (clause_at clauses s)) steps (λ m. hint_fault clauses (made ++ m ∷ []) steps)) (Some fault.UnknownHint)) found) ∙ e in cc)
+      | inr late ↦ let found = le-ltb s (length clauses) late in absurd (let x : Some fault.UnknownHint ≡ None = sym (ap (λ b. cond b (fault_after (effect_of made (clause_at clauses s)) steps (λ m. hint_fault clauses (made ++ m ∷ []) steps)) (Some fault.UnknownHint)) found) ∙ e in cc)
       | inl low ↦
           let found = lt-ltb s (length clauses) low in
           let there = same s low in
-          let after = sym (ap (λ b. cond b (fault_behind (effect_of made (clause_at clauses s)) steps (λ m. hint_fault clauses (made ++ m ∷ []) steps)) (Some fault.UnknownHint)) found) ∙ e in
-          ap (λ b. cond b (fault_behind (effect_of made (clause_at all (number s))) (map number steps) (λ m. hint_fault all (made ++ m ∷ []) (map number steps))) (Some fault.UnknownHint)) (lt-ltb (number s) (length all) there.0)
-          ∙ (ap (λ c. fault_behind (effect_of made c) (map number steps) (λ m. hint_fault all (made ++ m ∷ []) (map number steps))) there.1
+          let after = sym (ap (λ b. cond b (fault_after (effect_of made (clause_at clauses s)) steps (λ m. hint_fault clauses (made ++ m ∷ []) steps)) (Some fault.UnknownHint)) found) ∙ e in
+          ap (λ b. cond b (fault_after (effect_of made (clause_at all (number s))) (map number steps) (λ m. hint_fault all (made ++ m ∷ []) (map number steps))) (Some fault.UnknownHint)) (lt-ltb (number s) (length all) there.0)
+          ∙ (ap (λ c. fault_after (effect_of made c) (map number steps) (λ m. hint_fault all (made ++ m ∷ []) (map number steps))) there.1
           ∙ by_effect (effect_of made (clause_at clauses s)) steps (λ m left. hints_follow clauses all number same (made ++ m ∷ []) steps left) after)
     ]
   where
-    by_effect : (effect : Effect) (left : List ℕ) → ((m : SatLit) → hint_fault clauses (made ++ m ∷ []) steps ≡ None → hint_fault all (made ++ m ∷ []) (map number steps) ≡ None) → fault_behind effect left (λ m. hint_fault clauses (made ++ m ∷ []) steps) ≡ None → fault_behind effect (map number left) (λ m. hint_fault all (made ++ m ∷ []) (map number steps)) ≡ None
+    by_effect : (effect : Effect) (left : List ℕ) → ((m : SatLit) → hint_fault clauses (made ++ m ∷ []) steps ≡ None → hint_fault all (made ++ m ∷ []) (map number steps) ≡ None) → fault_after effect left (λ m. hint_fault clauses (made ++ m ∷ []) steps) ≡ None → fault_after effect (map number left) (λ m. hint_fault all (made ++ m ∷ []) (map number steps)) ≡ None
     by_effect Conflict [] rest goes = refl
     by_effect Conflict (x ∷ left) rest goes = absurd (let y : Some fault.AfterConflict ≡ None = goes in cc)
     by_effect (Makes m) left rest goes = rest m goes

@@ -30,7 +30,8 @@ pub struct Agenda {
     pub gates: Vec<Operands>,
     /// In the order in which they are looked at: best those first on which others rest.
     pub candidates: Vec<Candidate>,
-    /// What is decided before all other variables, once the candidates were looked at: each of these literals is to be true first.
+    /// What is decided before all other variables, once the candidates were looked at: each of these literals is to be true
+    /// first.
     pub leading: Vec<SatLit>,
 }
 

@@ -42,8 +42,8 @@ impl Focus {
         self.leading = leading;
     }
 
-    /// The first of the literals that are decided before all other variables which isn't assigned. A literal over no variable of the
-    /// trail is passed over.
+    /// The first of the literals that are decided before all other variables which isn't assigned. A literal over no variable
+    /// of the trail is passed over.
     pub(crate) fn next_leading(&self, trail: &Trail, variables: usize) -> Option<SatLit>
         requires { variables ≡ trail.now.variables }
         ensures { IfSome result (IsFree trail.now) }

@@ -64,8 +64,8 @@ impl Tools {
         next_decision(trail, &self.occurring)
     }
 
-    // The next literal to decide before all others, or for the candidate that the search is after, if it is after one: its own ones are to
-    // be true, and then comes what they are computed from.
+    // The next literal to decide before all others, or for the candidate that the search is after, if it is after one: its own
+    // ones are to be true, and then comes what they are computed from.
     fn wanted(&self, trail: &Trail) -> Option<SatLit>
         requires { IsOrder trail.now.variables self.now.order }
         ensures { IfSome result (IsFree trail.now) }

@@ -289,9 +289,9 @@ impl<'a, B: Base> Solver<'a, B> {
 }
 
 /// Looks for a model of the solver's clauses. The lines of the ledger's open entry are the solver's lemmas, and each learned
-/// line is charged to it, the closing empty one too. Spent comes at a conflict that is met with the budget spent: its line
-/// is the solver's last one, and the ledger's refused one. Running out of memory may leave both anyhow. Since each line has all the
-/// literals of no clause before it, one call learns at most 3^n lines over n variables.
+/// line is charged to it, the closing empty one too. Spent comes at a conflict that is met with the budget spent: its line is
+/// the solver's last one, and the ledger's refused one. Running out of memory may leave both anyhow. Since each line has all
+/// the literals of no clause before it, one call learns at most 3^n lines over n variables.
 pub fn solve<B: Base, L: Charge>(
     alloc: Global,
     solver: &mut Solver<'_, B>,

@@ -10,7 +10,7 @@ use Rattle.cnf_core.specs.declared.effect.Effect.{Effect}
 use Rattle.cnf_core.specs.declared.effect.Effect.TheVariants.{Conflict, Makes, Neither}
 use Rattle.cnf_core.specs.declared.fault.LineFault.TheVariants as fault
 use Rattle.cnf_core.specs.Clauses.{Formula, clause_at, opposite, variable_of}
-use Rattle.cnf_core.specs.Derivations.{AreDerived, IsRefutation, clauses_of, effect_of, fault_behind, hint_fault, is_empty, line_fault, repeats_variable}
+use Rattle.cnf_core.specs.Derivations.{AreDerived, IsRefutation, clauses_of, effect_of, fault_after, hint_fault, is_empty, line_fault, repeats_variable}
 use Rattle.learn_solver.proofs.SolverLemmas.{derived_more, line_from, line_says}
 use Rattle.log_parts.specs.declared.common.Common.{Common}
 use Rattle.log_parts.specs.Parts.{ArePlaced, GoesOn, HaveCommon, IsLastOf, IsRenumbered, MayGoOn, Trims, number_in}
@@ -24,19 +24,19 @@ hints_carried clauses all number each made (h ∷ hints) (n ∷ own) same e =
     elim (cases_lt h (length clauses)) [
       | inr late ↦
           let found = le-ltb h (length clauses) late in
-          absurd (let x : Some fault.UnknownHint ≡ None = sym (ap (λ b. cond b (fault_behind (effect_of made (clause_at clauses h)) hints (λ m. hint_fault clauses (made ++ m ∷ []) hints)) (Some fault.UnknownHint)) found) ∙ e in cc)
+          absurd (let x : Some fault.UnknownHint ≡ None = sym (ap (λ b. cond b (fault_after (effect_of made (clause_at clauses h)) hints (λ m. hint_fault clauses (made ++ m ∷ []) hints)) (Some fault.UnknownHint)) found) ∙ e in cc)
       | inl low ↦
           let found = lt-ltb h (length clauses) low in
           let head : number h ≡ Some n = cc in
           let rest : map number hints ≡ map Some own = ap (drop 1) same in
           let there = each h n low head in
-          let after = sym (ap (λ b. cond b (fault_behind (effect_of made (clause_at clauses h)) hints (λ m. hint_fault clauses (made ++ m ∷ []) hints)) (Some fault.UnknownHint)) found) ∙ e in
-          ap (λ b. cond b (fault_behind (effect_of made (clause_at all n)) own (λ m. hint_fault all (made ++ m ∷ []) own)) (Some fault.UnknownHint)) (lt-ltb n (length all) there.0)
-          ∙ (ap (λ c. fault_behind (effect_of made c) own (λ m. hint_fault all (made ++ m ∷ []) own)) there.1
+          let after = sym (ap (λ b. cond b (fault_after (effect_of made (clause_at clauses h)) hints (λ m. hint_fault clauses (made ++ m ∷ []) hints)) (Some fault.UnknownHint)) found) ∙ e in
+          ap (λ b. cond b (fault_after (effect_of made (clause_at all n)) own (λ m. hint_fault all (made ++ m ∷ []) own)) (Some fault.UnknownHint)) (lt-ltb n (length all) there.0)
+          ∙ (ap (λ c. fault_after (effect_of made c) own (λ m. hint_fault all (made ++ m ∷ []) own)) there.1
           ∙ by_effect (effect_of made (clause_at clauses h)) hints own rest (λ m left. hints_carried clauses all number each (made ++ m ∷ []) hints own rest left) after)
     ]
   where
-    by_effect : (effect : Effect) (left mine : List ℕ) → map number left ≡ map Some mine → ((m : SatLit) → hint_fault clauses (made ++ m ∷ []) hints ≡ None → hint_fault all (made ++ m ∷ []) own ≡ None) → fault_behind effect left (λ m. hint_fault clauses (made ++ m ∷ []) hints) ≡ None → fault_behind effect mine (λ m. hint_fault all (made ++ m ∷ []) own) ≡ None
+    by_effect : (effect : Effect) (left mine : List ℕ) → map number left ≡ map Some mine → ((m : SatLit) → hint_fault clauses (made ++ m ∷ []) hints ≡ None → hint_fault all (made ++ m ∷ []) own ≡ None) → fault_after effect left (λ m. hint_fault clauses (made ++ m ∷ []) hints) ≡ None → fault_after effect mine (λ m. hint_fault all (made ++ m ∷ []) own) ≡ None
     by_effect Conflict [] [] same rest goes = refl
     by_effect Conflict [] (y ∷ mine) same rest goes = absurd (let x : [] ≡ Some y ∷ map Some mine = same in cc)
     by_effect Conflict (x ∷ left) mine same rest goes = absurd (let y : Some fault.AfterConflict ≡ None = goes in cc)

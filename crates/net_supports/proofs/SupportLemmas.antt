@@ -44,16 +44,16 @@ zero_bit v = ap (λ n. eqb n 1) (bit_at-zero v)
 
 -- the word of an input has the one bit
 pub one_bit : (first input v : ℕ) → first ≤ input → input < first + 64 → word_bit v (1 * 2 ^ (input - first) % 18446744073709551616) ≡ (input == first + v)
-one_bit first input v behind within =
+one_bit first input v after within =
     let k = input - first in
-    let small : k < 64 = omega (arith, behind, within) in
+    let small : k < 64 = omega (arith, after, within) in
     let fits : 1 * 2 ^ k < 18446744073709551616 = omega (arith, pow_below k 64 small) in
     let value : 1 * 2 ^ k % 18446744073709551616 ≡ 2 ^ k = mod-eq_of_lt fits ∙ omega arith in
     ap (word_bit v) value ∙ by_place (cases_eq v k)
   where
     by_place : (v ≡ input - first) ⊎ (v ≢ input - first) → word_bit v (2 ^ (input - first)) ≡ (input == first + v)
     by_place (inl e) =
-        let n : input ≡ first + v = omega (arith, behind, e) in
+        let n : input ≡ first + v = omega (arith, after, e) in
         ap (λ j. word_bit j (2 ^ (input - first))) e ∙ (ap (λ m. eqb m 1) (bit_at-pow_same (input - first)) ∙ sym (eq-eqb input (first + v) n))
     by_place (inr other) =
         let apart : input ≢ first + v = λ e. other (omega (arith, e)) in

@@ -156,8 +156,8 @@ pub fn run<S: Shelf, K: Sink>(
         × Rose (S.state shelf.old).faults (S.state shelf.new).faults) }
 
     // No file changes but the account of a match, and that one only where there is an answer, and the two files of a pair. A
-    // failed write or running out of memory may leave a first part of an account that is accepted, or of the pair's first netlist,
-    // and only where that is whole a part of the second.
+    // failed write or running out of memory may leave a first part of an account that is accepted, or of the pair's first
+    // netlist, and only where that is whole a part of the second.
     ensures files { IsTrue S.tells → (name : List ℕ)
         → (NamesAccount (map string_bytes words.now) name → ⊥)
         → (NamesPair (map string_bytes words.now) name → ⊥)

@@ -21,7 +21,7 @@ use Rattle.circuits.specs.declared.port.PortKind.TheVariants.{Input as InputPort
 use Rattle.circuits.proofs.AsCircuit.{as_circuit-acyclic}
 use Rattle.net_file.specs.declared.named.Named.{Named}
 use Rattle.aiger_reader.specs.Words.{numbers_on, AreSmall}
-use Rattle.aiger_reader.specs.Headers.{AigerHeader, header_numbers, header_fault, line_behind, Begins}
+use Rattle.aiger_reader.specs.Headers.{AigerHeader, header_numbers, header_fault, line_after, Begins}
 use Rattle.aiger_reader.specs.Bodies.{Role, Input, Output, Gate as GateLine, roles_of, role_at, defined, body_lines, line_offset, IsBody, IsKnown, IsKnownRow, reads, text_circuit, literal_of, and_on, first_of}
 use Rattle.aiger_reader.specs.Symbols.{AreNames, ArePortNames, GiveNames, is_comment, port_at}
 use Rattle.aiger_reader.specs.Aiger.{IsAiger}
@@ -188,7 +188,7 @@ lines_are named good =
     lines_of (aag_lines named) (All-cons IsLine (header_line (codes "aag ") named.graph) (body_of named) head (body_on_lines named good))
 
 -- the first line after the keyword
-line_is : (named : Named) → IsPrintable named → line_behind (aag_text named) ≡ first_line named.graph
+line_is : (named : Named) → IsPrintable named → line_after (aag_text named) ≡ first_line named.graph
 line_is named good =
     ap (λ (ls : List (List ℕ)). get_or ls 0 []) (lines_of (first_line named.graph ∷ body_of named) (All-cons IsLine (first_line named.graph) (body_of named) (header_on_line named.graph good.within) (body_on_lines named good)))
 
@@ -330,7 +330,7 @@ aag_is named good = record {
     form = record {
       known = aag_known named.graph good.within;
       same = aag_circuit named.graph good.within.ordered;
-      behind = aag_rest named good;
+      after = aag_rest named good;
     };
   };
   acyclic = as_circuit-acyclic named.graph good.within.ordered;

@@ -16,7 +16,7 @@ use Rattle.circuits.specs.declared.definition.Def.{Def}
 use Rattle.circuits.proofs.AsCircuit.{as_circuit-acyclic}
 use Rattle.net_file.specs.declared.named.Named.{Named}
 use Rattle.aiger_reader.specs.Words.{numbers_on}
-use Rattle.aiger_reader.specs.Headers.{AigerHeader, line_behind, Begins}
+use Rattle.aiger_reader.specs.Headers.{AigerHeader, line_after, Begins}
 use Rattle.aiger_reader.specs.Bodies.{Role, Output, roles_of, defined, body_lines, line_offset, IsBody, first_of, lit_from}
 use Rattle.aiger_reader.specs.Deltas.{AreGates, BeginsGates, and_from}
 use Rattle.aiger_reader.specs.Aiger.{IsAiger}
@@ -78,7 +78,7 @@ front_on_lines net within =
 lines_are : (named : Named) → IsWithinLimits named.graph → lines (aig_text named) ≡ front_lines named.graph ++ lines (back named)
 lines_are named within = lines-text_of_lines (front_lines named.graph) (back named) (front_on_lines named.graph within)
 
-line_is : (named : Named) → IsWithinLimits named.graph → line_behind (aig_text named) ≡ numbers_line (printed_numbers named.graph)
+line_is : (named : Named) → IsWithinLimits named.graph → line_after (aig_text named) ≡ numbers_line (printed_numbers named.graph)
 line_is named within =
     let line = numbers_line (printed_numbers named.graph) in
     let rest = map numbers_line (outs named.graph) in

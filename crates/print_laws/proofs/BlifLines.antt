@@ -19,10 +19,10 @@ use Rattle.blif_reader.specs.Directives.{directive_of, is_row, is_names, is_end}
 use Rattle.blif_reader.specs.Firsts.{NoneIs}
 use Rattle.blif_reader.specs.Rows.{operand_count, has_widths, has_good_bytes, rows_before, opening, row_fault, fault_in_cover, differs_from, output_byte}
 use Rattle.blif_reader.specs.Names.{ports_on, port_words, operands, defined_on, defined_words, read_on, read_words}
-use Rattle.blif_reader.specs.Faults.{has_line, fault_before_end, fault_behind_end, is_faulty}
+use Rattle.blif_reader.specs.Faults.{has_line, fault_before_end, fault_after_end, is_faulty}
 use Rattle.blif_reader.specs.Covers.{trit_of, signal_named, leading_rows, cover_of, covers_of}
 use Rattle.blif_reader.proofs.FirstLemmas.{NoneIs-push}
-use Rattle.blif_reader.proofs.SurveyLemmas.{behind, not_row, rows_of, opening_of}
+use Rattle.blif_reader.proofs.SurveyLemmas.{reversed_push, not_row, rows_of, opening_of}
 use Rattle.blif_reader.proofs.BuildingLemmas.{covers_skip, covers_take, no_rows, one_row}
 use Rattle.net_print.specs.BlifLines.{signal_name, gate_name, output_name, gates_lines, outputs_lines}
 use Rattle.print_laws.specs.PrintedCircuits.{wanted_of, gate_cover, output_cover, printed_signal}
@@ -310,7 +310,7 @@ no_end_more earlier line none here =
 -- a line before `.end`
 pub sound_line : (earlier : List (List Piece)) (line : List Piece) (directive : Directive) → HasNoEnd earlier → directive_of line ≡ directive → is_some (fault_before_end earlier line directive) ≡ false → is_faulty earlier line ≡ false
 sound_line earlier line directive none is sound =
-    ap (λ t. is_some (if t then fault_behind_end (directive_of line) else fault_before_end earlier line (directive_of line))) none
+    ap (λ t. is_some (if t then fault_after_end (directive_of line) else fault_before_end earlier line (directive_of line))) none
     ∙ ap (λ d. is_some (fault_before_end earlier line d)) is
     ∙ sound
 
@@ -318,8 +318,8 @@ row_after : (earlier : List (List Piece)) (line row : List Piece) → ArePair li
 row_after earlier line row pair =
     let all = earlier ++ line ∷ [] in
     let no_row : is_row (directive_of line) ≡ false = ap is_row pair.names_line in
-    let opened : opening all ≡ line = ap opening_of (behind earlier line) ∙ (not_row (reverse earlier) line no_row).1 in
-    let alone : rows_before all ≡ [] = ap rows_of (behind earlier line) ∙ (not_row (reverse earlier) line no_row).0 in
+    let opened : opening all ≡ line = ap opening_of (reversed_push earlier line) ∙ (not_row (reverse earlier) line no_row).1 in
+    let alone : rows_before all ≡ [] = ap rows_of (reversed_push earlier line) ∙ (not_row (reverse earlier) line no_row).0 in
     let fault_of : List Piece → List (List Piece) → Option NetKind = λ o rs. if not (is_names (directive_of o)) then Some fault.RowOutside else fault_in_cover (operand_count o) (list_any (differs_from (output_byte row)) rs) row in
     ap (λ o. fault_of o (rows_before all)) opened
     ∙ ap (fault_of line) alone

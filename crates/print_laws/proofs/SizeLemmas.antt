@@ -54,11 +54,11 @@ gates_size n t (gate ∷ gates) rest few small =
     let right = signal_name n (signal_of gate.b) in
     let name = gate_name t in
     let row = row_byte gate.a ∷ row_byte gate.b ∷ [] in
-    let behind = gates_lines n (t + 1) gates ++ rest in
+    let after = gates_lines n (t + 1) gates ++ rest in
     omega (
       arith,
-      line_size (codes ".names" ∷ left ∷ right ∷ name ∷ []) ((row ∷ codes "1" ∷ []) ∷ behind),
-      line_size (row ∷ codes "1" ∷ []) behind,
+      line_size (codes ".names" ∷ left ∷ right ∷ name ∷ []) ((row ∷ codes "1" ∷ []) ∷ after),
+      line_size (row ∷ codes "1" ∷ []) after,
       join_size (codes ".names") left (right ∷ name ∷ []),
       join_size left right (name ∷ []),
       join_size right name [],
@@ -75,11 +75,11 @@ outputs_size n k (output ∷ outputs) rest few small =
     let left = signal_name n (signal_of output) in
     let name : List ℕ = 111 ∷ decimal k in
     let row = row_byte output ∷ [] in
-    let behind = outputs_lines n (k + 1) outputs ++ rest in
+    let after = outputs_lines n (k + 1) outputs ++ rest in
     omega (
       arith,
-      line_size (codes ".names" ∷ left ∷ name ∷ []) ((row ∷ codes "1" ∷ []) ∷ behind),
-      line_size (row ∷ codes "1" ∷ []) behind,
+      line_size (codes ".names" ∷ left ∷ name ∷ []) ((row ∷ codes "1" ∷ []) ∷ after),
+      line_size (row ∷ codes "1" ∷ []) after,
       join_size (codes ".names") left (name ∷ []),
       join_size left name [],
       join_size row (codes "1") [],
@@ -104,7 +104,7 @@ blif_short net within =
     let m = length net.outputs in
     let last : List (List (List ℕ)) = (codes ".end" ∷ []) ∷ [] in
     let covers = outputs_lines n 0 net.outputs ++ last in
-    let behind = gates_lines n 0 net.gates ++ covers in
+    let after = gates_lines n 0 net.gates ++ covers in
     let inputs = ports_line (codes ".inputs") 105 n in
     let outputs = ports_line (codes ".outputs") 111 m in
     let constant : List (List ℕ) = codes ".names" ∷ codes "z" ∷ [] in
@@ -113,10 +113,10 @@ blif_short net within =
       within.inputs,
       within.outputs,
       within.gates,
-      line_size (codes ".model" ∷ codes "npnp" ∷ []) (inputs ∷ outputs ∷ constant ∷ behind),
-      line_size inputs (outputs ∷ constant ∷ behind),
-      line_size outputs (constant ∷ behind),
-      line_size constant behind,
+      line_size (codes ".model" ∷ codes "npnp" ∷ []) (inputs ∷ outputs ∷ constant ∷ after),
+      line_size inputs (outputs ∷ constant ∷ after),
+      line_size outputs (constant ∷ after),
+      line_size constant after,
       join_size (codes ".model") (codes "npnp") [],
       join_size (codes ".names") (codes "z") [],
       ports_size (codes ".inputs") 105 0 n (omega (arith, within.inputs)),

@@ -50,8 +50,8 @@ from_pairs : (low high : ℕ) (xs : List ℕ) → low ≤ high → AllPairs (λ 
 from_pairs low high [] le pairs least most = le
 from_pairs low high (x ∷ xs) le pairs least most =
     let top : x < high = most 0 x (omega arith) in
-    let behind : All (λ y. x + 1 ≤ y) xs = λ k d within. omega (arith, pairs 0 (suc k) d (omega arith) (omega (arith, within))) in
-    (least 0 x (omega arith), from_pairs (x + 1) high xs (omega (arith, top)) (λ i j d before within. pairs (suc i) (suc j) d (omega (arith, before)) (omega (arith, within))) behind (λ k d within. most (suc k) d (omega (arith, within))))
+    let after : All (λ y. x + 1 ≤ y) xs = λ k d within. omega (arith, pairs 0 (suc k) d (omega arith) (omega (arith, within))) in
+    (least 0 x (omega arith), from_pairs (x + 1) high xs (omega (arith, top)) (λ i j d before within. pairs (suc i) (suc j) d (omega (arith, before)) (omega (arith, within))) after (λ k d within. most (suc k) d (omega (arith, within))))
 
 -- the numbers of the clauses of gates that ascend
 ids_ascend : (first low high : ℕ) (gates : List ℕ) → Ascends low high gates → Ascends (first + 3 * low) (first + 3 * high) (gate_ids first gates)
@@ -161,8 +161,8 @@ cone_ids_are graphs query left right of_left of_right = record {
           | inr more ↦
               elim (Contains-append_cases lefts (rights ++ outputs) id more) [
                 | inl in_left ↦ inr (inl ((reached_ids (circuit_of graphs query.left) query.left.output 1 left id of_left).0 in_left))
-                | inr behind ↦
-                    elim (Contains-append_cases rights outputs id behind) [
+                | inr after ↦
+                    elim (Contains-append_cases rights outputs id after) [
                       | inl in_right ↦ inr (inr (inl ((reached_ids (circuit_of graphs query.right) query.right.output (1 + 3 * l) right id of_right).0 in_right)))
                       | inr last ↦ inr (inr (inr (one_output id last)))
                     ]

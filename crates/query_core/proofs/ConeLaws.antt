@@ -180,10 +180,10 @@ cone_vector_there graphs query a first second fits meets = record {
         let id = 1 + 3 * left_gates graphs query + (3 * t + r) in
         let at : id - 1 - length lefts ≡ 3 * t + r = omega (arith, left_count) in
         let some : id ≢ 0 = omega arith in
-        let behind : length lefts ≤ id - 1 = omega (arith, left_count) in
+        let after : length lefts ≤ id - 1 = omega (arith, left_count) in
         let below : id - 1 - length lefts < length rights = omega (arith, left_count, right_count, within, small) in
         let cone : IsConeId graphs query id = inr (inr (inl (record { gate = t; reached = reached; from = omega arith; to = omega (arith, small) }))) in
-        ap (λ j. is_met a (clause_at rights j)) (sym at) ∙ (ap (is_met a) (clause_of_right lefts rights one other id some behind below) ∙ meets id cone)
+        ap (λ j. is_met a (clause_at rights j)) (sym at) ∙ (ap (is_met a) (clause_of_right lefts rights one other id some after below) ∙ meets id cone)
 
     left_half : IsHalfMet a n left query.left.feed (left_variables graphs query) query.left.output
     left_half = record {
@@ -211,14 +211,14 @@ cone_vector_there graphs query a first second fits meets = record {
     left_out =
         let id = 1 + 3 * (left_gates graphs query + right_gates graphs query) in
         let some : id ≢ 0 = omega arith in
-        let behind : length lefts ≤ id - 1 = omega (arith, left_count) in
+        let after : length lefts ≤ id - 1 = omega (arith, left_count) in
         let here : id - 1 - length lefts ≡ length rights = omega (arith, left_count, right_count) in
-        ap (is_met a) (first_output lefts rights one other id some behind here) ∙ meets id (inr (inr (inr (inl refl))))
+        ap (is_met a) (first_output lefts rights one other id some after here) ∙ meets id (inr (inr (inr (inl refl))))
 
     right_out : is_met a (other ∷ []) ≡ true
     right_out =
         let id = 2 + 3 * (left_gates graphs query + right_gates graphs query) in
         let some : id ≢ 0 = omega arith in
-        let behind : length lefts ≤ id - 1 = omega (arith, left_count) in
+        let after : length lefts ≤ id - 1 = omega (arith, left_count) in
         let here : id - 1 - length lefts ≡ length rights + 1 = omega (arith, left_count, right_count) in
-        ap (is_met a) (second_output lefts rights one other id some behind here) ∙ meets id (inr (inr (inr (inr refl))))
+        ap (is_met a) (second_output lefts rights one other id some after here) ∙ meets id (inr (inr (inr (inr refl))))

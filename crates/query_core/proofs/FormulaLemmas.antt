@@ -61,24 +61,24 @@ clause_of_left left right a b (suc k) some below =
     let at : suc k - 1 ≡ k = omega arith in
     ap (clause_at left) at ∙ sym (get_or_append_left left (right ++ (a ∷ []) ∷ (b ∷ []) ∷ []) [] k (subst (λ n. n < length left) at below))
 
-behind_left : (left right : List (List SatLit)) (a b : SatLit) (id : ℕ) → id ≢ 0 → length left ≤ id - 1 → clause_at (clauses_by left right a b) id ≡ clause_at (right ++ (a ∷ []) ∷ (b ∷ []) ∷ []) (id - 1 - length left)
-behind_left left right a b zero some behind = absurd (some refl)
-behind_left left right a b (suc k) some behind =
-    let at : k ≡ length left + (suc k - 1 - length left) = omega (arith, behind) in
+after_left : (left right : List (List SatLit)) (a b : SatLit) (id : ℕ) → id ≢ 0 → length left ≤ id - 1 → clause_at (clauses_by left right a b) id ≡ clause_at (right ++ (a ∷ []) ∷ (b ∷ []) ∷ []) (id - 1 - length left)
+after_left left right a b zero some after = absurd (some refl)
+after_left left right a b (suc k) some after =
+    let at : k ≡ length left + (suc k - 1 - length left) = omega (arith, after) in
     ap (clause_at (left ++ (right ++ (a ∷ []) ∷ (b ∷ []) ∷ []))) at ∙ get_or-append-add left (right ++ (a ∷ []) ∷ (b ∷ []) ∷ []) (suc k - 1 - length left) []
 
 pub clause_of_right : (left right : List (List SatLit)) (a b : SatLit) (id : ℕ) → id ≢ 0 → length left ≤ id - 1 → id - 1 - length left < length right → clause_at right (id - 1 - length left) ≡ clause_at (clauses_by left right a b) id
-clause_of_right left right a b id some behind below =
-    sym (behind_left left right a b id some behind ∙ get_or_append_left right ((a ∷ []) ∷ (b ∷ []) ∷ []) [] (id - 1 - length left) below)
+clause_of_right left right a b id some after below =
+    sym (after_left left right a b id some after ∙ get_or_append_left right ((a ∷ []) ∷ (b ∷ []) ∷ []) [] (id - 1 - length left) below)
 
 pub first_output : (left right : List (List SatLit)) (a b : SatLit) (id : ℕ) → id ≢ 0 → length left ≤ id - 1 → id - 1 - length left ≡ length right → a ∷ [] ≡ clause_at (clauses_by left right a b) id
-first_output left right a b id some behind here =
+first_output left right a b id some after here =
     let at : id - 1 - length left ≡ length right + 0 = omega (arith, here) in
-    sym (behind_left left right a b id some behind ∙ (ap (clause_at (right ++ (a ∷ []) ∷ (b ∷ []) ∷ [])) at ∙ get_or-append-add right ((a ∷ []) ∷ (b ∷ []) ∷ []) 0 []))
+    sym (after_left left right a b id some after ∙ (ap (clause_at (right ++ (a ∷ []) ∷ (b ∷ []) ∷ [])) at ∙ get_or-append-add right ((a ∷ []) ∷ (b ∷ []) ∷ []) 0 []))
 
 pub second_output : (left right : List (List SatLit)) (a b : SatLit) (id : ℕ) → id ≢ 0 → length left ≤ id - 1 → id - 1 - length left ≡ length right + 1 → b ∷ [] ≡ clause_at (clauses_by left right a b) id
-second_output left right a b id some behind here =
-    sym (behind_left left right a b id some behind ∙ (ap (clause_at (right ++ (a ∷ []) ∷ (b ∷ []) ∷ [])) here ∙ get_or-append-add right ((a ∷ []) ∷ (b ∷ []) ∷ []) 1 []))
+second_output left right a b id some after here =
+    sym (after_left left right a b id some after ∙ (ap (clause_at (right ++ (a ∷ []) ∷ (b ∷ []) ∷ [])) here ∙ get_or-append-add right ((a ∷ []) ∷ (b ∷ []) ∷ []) 1 []))
 
 -- how many literals stand for signals
 pub signal_count : (feed : List Feed) (variables : List ℕ) → length (signal_literals feed variables) ≡ 1 + length feed + length variables

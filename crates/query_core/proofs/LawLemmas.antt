@@ -176,11 +176,11 @@ vector_there graphs query a first second fits meets =
     let outputs = (output_literal left ls query.left.output query.left_value ∷ []) ∷ (output_literal right rs query.right.output query.right_value ∷ []) ∷ [] in
     let met = recursion_from_All (λ clause. is_met a clause ≡ true) (query_clauses graphs query) meets in
     let start : bit a 0 ≡ true = is_itself (bit a 0) ∙ (sym (literal_of_bit a 0 true) ∙ (or_false (literal_bit a true_literal) ∙ met.0)) in
-    let behind = second_part a lefts (rights ++ outputs) met.1 in
-    let outs = second_part a rights outputs behind in
+    let after = second_part a lefts (rights ++ outputs) met.1 in
+    let outs = second_part a rights outputs after in
     record {
       left = output_there a n left query.left.feed (left_variables graphs query) query.left.output query.left_value start (ordered_side graphs query.left.side first second) fits.left.inputs fits.left.feed (length-range_with_len (n + 1) (length left.gates)) fits.left.wires fits.left.output (first_part a lefts (rights ++ outputs) met.1) outs.0;
-      right = output_there a n right query.right.feed (right_variables graphs query) query.right.output query.right_value start (ordered_side graphs query.right.side first second) fits.right.inputs fits.right.feed (right_variable_count graphs query fits) fits.right.wires fits.right.output (first_part a rights outputs behind) outs.1.0;
+      right = output_there a n right query.right.feed (right_variables graphs query) query.right.output query.right_value start (ordered_side graphs query.right.side first second) fits.right.inputs fits.right.feed (right_variable_count graphs query fits) fits.right.wires fits.right.output (first_part a rights outputs after) outs.1.0;
     }
   where
     or_false : (t : Bool) → t ≡ (t || false)

@@ -222,12 +222,12 @@ cone_clause graphs query left right ids id one_ordered ordered coning cone =
         let t = of.gate in
         let r = id - (1 + 3 * left_gates graphs query + 3 * t) in
         let some : id ≢ 0 = omega (arith, of.from) in
-        let behind : length lefts ≤ id - 1 = omega (arith, of.from, left_count) in
+        let following : length lefts ≤ id - 1 = omega (arith, of.from, left_count) in
         let at : id - 1 - length lefts ≡ 3 * t + r = omega (arith, of.from, left_count) in
         let below : id - 1 - length lefts < 3 * right_gates graphs query = omega (arith, of.to, of.from, left_count, there) in
         let same = same_clause other k query.right.feed vs ws t r ordered feeds agree there of.reached (omega (arith, of.to, of.from)) in
-        sym (clause_of_right lefts (half_clauses other given) first (last given) id some behind (omega (arith, below, right_count given)))
-        ∙ (ap (clause_at (half_clauses other given)) at ∙ (same ∙ (sym (ap (clause_at (half_clauses other wanted)) at) ∙ clause_of_right lefts (half_clauses other wanted) first (last wanted) id some behind (omega (arith, below, right_count wanted)))))
+        sym (clause_of_right lefts (half_clauses other given) first (last given) id some following (omega (arith, below, right_count given)))
+        ∙ (ap (clause_at (half_clauses other given)) at ∙ (same ∙ (sym (ap (clause_at (half_clauses other wanted)) at) ∙ clause_of_right lefts (half_clauses other wanted) first (last wanted) id some following (omega (arith, below, right_count wanted)))))
 
     by_kind : IsConeId graphs query id → clause_at (over ls given) id ≡ clause_at (over ls wanted) id
     by_kind (inl e) = ap (clause_at (over ls given)) e ∙ sym (ap (clause_at (over ls wanted)) e)
@@ -235,15 +235,15 @@ cone_clause graphs query left right ids id one_ordered ordered coning cone =
     by_kind (inr (inr (inl of))) = in_right of (reached_there other k of.gate ordered coning.fits.right.output of.reached)
     by_kind (inr (inr (inr (inl e)))) =
         let some : id ≢ 0 = omega (arith, e) in
-        let behind : length lefts ≤ id - 1 = omega (arith, e, left_count) in
+        let following : length lefts ≤ id - 1 = omega (arith, e, left_count) in
         let here : (rs : List SatLit) → id - 1 - length lefts ≡ length (half_clauses other rs) = λ rs. omega (arith, e, left_count, right_count rs) in
-        sym (first_output lefts (half_clauses other given) first (last given) id some behind (here given)) ∙ first_output lefts (half_clauses other wanted) first (last wanted) id some behind (here wanted)
+        sym (first_output lefts (half_clauses other given) first (last given) id some following (here given)) ∙ first_output lefts (half_clauses other wanted) first (last wanted) id some following (here wanted)
     by_kind (inr (inr (inr (inr e)))) =
         let some : id ≢ 0 = omega (arith, e) in
-        let behind : length lefts ≤ id - 1 = omega (arith, e, left_count) in
+        let following : length lefts ≤ id - 1 = omega (arith, e, left_count) in
         let here : (rs : List SatLit) → id - 1 - length lefts ≡ length (half_clauses other rs) + 1 = λ rs. omega (arith, e, left_count, right_count rs) in
         let same = same_output other k query.right.feed vs ws query.right_value ordered feeds agree coning.fits.right.output in
-        sym (second_output lefts (half_clauses other given) first (last given) id some behind (here given)) ∙ (ap (λ b. b ∷ []) same ∙ second_output lefts (half_clauses other wanted) first (last wanted) id some behind (here wanted))
+        sym (second_output lefts (half_clauses other given) first (last given) id some following (here given)) ∙ (ap (λ b. b ∷ []) same ∙ second_output lefts (half_clauses other wanted) first (last wanted) id some following (here wanted))
 
 -- each circuit of a query, with variables for its gates
 pub left_half : (graphs : Graphs) (query : Query) (variables : Variables) → IsQuery graphs query → AreFor (left_gates graphs query) variables → IsHalf (circuit_of graphs query.left) query.left.feed variables query.left.output

@@ -36,14 +36,14 @@ pub(crate) fn query_ids(
 {
     let left = graphs.side(query.left.side);
     let right = graphs.side(query.right.side);
-    let behind_left = 1 + 3 * left.gates().len() as u64;
-    let behind_right = behind_left + 3 * right.gates().len() as u64;
+    let after_left = 1 + 3 * left.gates().len() as u64;
+    let after_right = after_left + 3 * right.gates().len() as u64;
     let mut ids = Vec::new(alloc);
     ids.push(0)?;
     push_gate_ids(&mut ids, 1, left_gates)?;
-    push_gate_ids(&mut ids, behind_left, right_gates)?;
-    ids.push(behind_right)?;
-    ids.push(behind_right + 1)?;
+    push_gate_ids(&mut ids, after_left, right_gates)?;
+    ids.push(after_right)?;
+    ids.push(after_right + 1)?;
     Ok(ids)
 }
 

@@ -28,15 +28,15 @@ can_be_made values n clause effect l same known_by is makes =
     record { known = known_at values.variables clause l known maker.there; not_true = maker.not_true; not_false = maker.not_false }
 
 -- whether a literal has the variable of one of those before it, or of an earlier one of its own list
-abbrev pub twice_behind : List SatLit → List SatLit → Bool
-twice_behind earlier [] = false
-twice_behind earlier (l ∷ left) = list_any (λ m. variable_of m == variable_of l) earlier || twice_behind (earlier ++ l ∷ []) left
+abbrev pub twice_after : List SatLit → List SatLit → Bool
+twice_after earlier [] = false
+twice_after earlier (l ∷ left) = list_any (λ m. variable_of m == variable_of l) earlier || twice_after (earlier ++ l ∷ []) left
 
 -- The first literals of a clause were made false, and no two have one variable.
 pub record IsNegated (old now : Made) (clause : List SatLit) (count : ℕ) : Type 0 where
   pub variables : now.variables ≡ old.variables
   pub made : now.made ≡ map opposite (take count clause)
-  pub twice : twice_behind (take count clause) (drop count clause) ≡ repeats_variable clause
+  pub twice : twice_after (take count clause) (drop count clause) ≡ repeats_variable clause
 
 -- what the hints that are left lead to is what all lead to
 pub record IsWalked (clauses : List (List SatLit)) (old now : Made) (hints left : List ℕ) : Type 0 where
@@ -106,7 +106,7 @@ in_order false true c d = refl
 in_order false false c d = refl
 
 -- the two ways to look for a variable that stands twice
-twice_either : (earlier left : List SatLit) → twice_behind earlier left ≡ (list_any (λ l. list_any (λ m. variable_of m == variable_of l) earlier) left || repeats_variable left)
+twice_either : (earlier left : List SatLit) → twice_after earlier left ≡ (list_any (λ l. list_any (λ m. variable_of m == variable_of l) earlier) left || repeats_variable left)
 twice_either earlier [] = refl
 twice_either earlier (l ∷ left) =
     let before = list_any (λ m. variable_of m == variable_of l) earlier in
@@ -114,7 +114,7 @@ twice_either earlier (l ∷ left) =
     let later = list_any (λ x. variable_of x == variable_of l) left in
     ap (λ t. before || t) (twice_either (earlier ++ l ∷ []) left ∙ ap (λ t. t || repeats_variable left) (any_earlier earlier l left)) ∙ in_order before rest later (repeats_variable left)
 
-pub twice_in_all : (clause : List SatLit) → twice_behind [] clause ≡ repeats_variable clause
+pub twice_in_all : (clause : List SatLit) → twice_after [] clause ≡ repeats_variable clause
 twice_in_all clause = twice_either [] clause ∙ ap (λ t. t || repeats_variable clause) (none_found clause)
 
 -- a literal whose variable has a bit already
@@ -122,7 +122,7 @@ pub found_twice : (old now : Made) (clause : List SatLit) (k : ℕ) (d : SatLit)
 found_twice old now clause k d is within met =
     let l = slice_index_or clause k d in
     let before : list_any (λ m. variable_of m == variable_of l) (take k clause) ≡ true = sym (met_before (take k clause) l) ∙ (ap (λ ms. is_true ms l || is_false ms l) (sym is.made) ∙ met) in
-    sym is.twice ∙ (ap (twice_behind (take k clause)) (drop-cons clause k d within) ∙ ap (λ t. t || twice_behind (take k clause ++ l ∷ []) (drop (suc k) clause)) before)
+    sym is.twice ∙ (ap (twice_after (take k clause)) (drop-cons clause k d within) ∙ ap (λ t. t || twice_after (take k clause ++ l ∷ []) (drop (suc k) clause)) before)
 
 -- one literal more was made false
 pub one_more_negated : (old now new : Made) (clause : List SatLit) (k : ℕ) (d : SatLit) → IsNegated old now clause k → k < length clause → (is_true now.made (slice_index_or clause k d) || is_false now.made (slice_index_or clause k d)) ≡ false → new.variables ≡ now.variables → new.made ≡ now.made ++ opposite (slice_index_or clause k d) ∷ [] → IsNegated old new clause (suc k)
@@ -134,6 +134,6 @@ one_more_negated old now new clause k d is within free variables made =
       variables = variables ∙ is.variables;
       made = made ∙ (ap (λ ms. ms ++ opposite l ∷ []) is.made ∙ (sym (map-append opposite (take k clause) (l ∷ [])) ∙ ap (map opposite) (sym first)));
       twice =
-          ap (λ xs. twice_behind xs (drop (suc k) clause)) first
-          ∙ (sym (ap (twice_behind (take k clause)) (drop-cons clause k d within) ∙ ap (λ t. t || twice_behind (take k clause ++ l ∷ []) (drop (suc k) clause)) before) ∙ is.twice);
+          ap (λ xs. twice_after xs (drop (suc k) clause)) first
+          ∙ (sym (ap (twice_after (take k clause)) (drop-cons clause k d within) ∙ ap (λ t. t || twice_after (take k clause ++ l ∷ []) (drop (suc k) clause)) before) ∙ is.twice);
     }

@@ -6,7 +6,7 @@ ghost use Rattle.cnf_core.specs.declared.effect.Effect.TheVariants.{Conflict};
 ghost use Rattle.cnf_core.specs.declared.fault.LineFault.TheVariants as fault;
 ghost use Rattle.cnf_core.specs.declared.literal.SatLit.{SatLit as AnyLiteral};
 ghost use Rattle.cnf_core.specs.Clauses.{clause_at, opposite, variable_of};
-ghost use Rattle.cnf_core.specs.Derivations.{effect_of, fault_behind, hint_fault, is_empty, line_fault, repeats_variable};
+ghost use Rattle.cnf_core.specs.Derivations.{effect_of, fault_after, hint_fault, is_empty, line_fault, repeats_variable};
 ghost use Rattle.refute_check.specs.Refutations.{answer_of};
 ghost use Rattle.refute_check.specs.Values.{AreKnown, CanBeMade};
 
@@ -86,7 +86,7 @@ fn walk<B: Base>(
 
 // Nothing may stand after a conflict.
 fn end_at_conflict(rest: &[u64]) -> Result<(), LineFault>
-    ensures { result ≡ answer_of (fault_behind Conflict rest.now (λ _. None)) }
+    ensures { result ≡ answer_of (fault_after Conflict rest.now (λ _. None)) }
 {
     if rest.is_empty() {
         Ok(())

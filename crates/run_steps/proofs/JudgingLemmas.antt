@@ -23,8 +23,8 @@ use Rattle.run_steps.specs.declared.outcome.Outcome.{Outcome}
 use Rattle.run_steps.specs.declared.outcome.Outcome.TheVariants.{Rejected}
 use Rattle.shelf_core.proofs.FaultLemmas.{rose_later}
 
--- Of the `size` unread bytes of an account, all but `left` were read, and their whole lines are valid, for any two circuits that the
--- check is of.
+-- Of the `size` unread bytes of an account, all but `left` were read, and their whole lines are valid, for any two circuits
+-- that the check is of.
 pub record IsFeeding (tells : Bool) (start now : ShelfState) (before after : Progress) (size left : ℕ) : Type 0 where
   pub reading : now.mode ≡ Reading
   pub left_is : now.left ≡ left

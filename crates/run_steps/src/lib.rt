@@ -1,5 +1,5 @@
-//! The steps of a run that ask no search: how a run ends, netlists that are read, accounts that are checked, reports, and pairs of
-//! netlists that are made. What all steps do is defined here.
+//! The steps of a run that ask no search: how a run ends, netlists that are read, accounts that are checked, reports, and pairs
+//! of netlists that are made. What all steps do is defined here.
 #![tactic(auto)]
 
 mod checking;

@@ -22,15 +22,15 @@ use std::marker::Model;
 use std::mem;
 use watch_core::Watch;
 
-/// A search over the formula's variables costs by the circuits. From this many clauses on, some 10,000 gates in either circuit, that
-/// is more than a question of small cones takes by itself.
+/// A search over the formula's variables costs by the circuits. From this many clauses on, some 10,000 gates in either circuit,
+/// that is more than a question of small cones takes by itself.
 const LARGE: u64 = 60_000;
 
 /// Cones are small that have at most one of so many clauses.
 const PART: u64 = 8;
 
-/// How many lines questions may get as lemmas in a run. The ledger keeps those of each question, 250 bytes for a line or so. A sorter of 64
-/// numbers gets 400,000; of a code of 57 bits that is corrected a run would take gigabytes.
+/// How many lines questions may get as lemmas in a run. The ledger keeps those of each question, 250 bytes for a line or so. A
+/// sorter of 64 numbers gets 400,000; of a code of 57 bits that is corrected a run would take gigabytes.
 const MOST_GIVEN: u64 = 1 << 21;
 
 /// What questions about two circuits have learned, for later ones under the same feeds: as those about the outputs of one
@@ -63,8 +63,8 @@ impl<'a> SharedLemmas<'a> {
         }
     }
 
-    /// Answers a query that fits the circuits, by what was learned under its feeds too, which are the first lemmas of its entry in
-    /// the ledger. The log of a refutation has what its last line rests on, and no more.
+    /// Answers a query that fits the circuits, by what was learned under its feeds too, which are the first lemmas of its entry
+    /// in the ledger. The log of a refutation has what its last line rests on, and no more.
     ///
     /// # Errors
     ///

@@ -54,8 +54,8 @@ impl Tried {
     }
 }
 
-/// Lines that hold under the feeds of a query, whatever is asked of the outputs. It has lists and maps alone, and no enum: whoever owns
-/// a stock drops each of these in one step.
+/// Lines that hold under the feeds of a query, whatever is asked of the outputs. It has lists and maps alone, and no enum:
+/// whoever owns a stock drops each of these in one step.
 #[derive(Drop)]
 pub(crate) struct Stock {
     /// The query that was asked last, if one was: under its feeds the lines hold.

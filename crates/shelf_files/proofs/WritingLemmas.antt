@@ -21,8 +21,8 @@ first_of text more k =
     (least, sym (take_min k text) ∙ sym (take-append-le least text more (omega arith)))
 
 -- and so is a text with a first part of what comes after it
-first_behind : (text more : List ℕ) (k : ℕ) → text ++ take k more ≡ take (length text + k) (text ++ more)
-first_behind text more k =
+first_after : (text more : List ℕ) (k : ℕ) → text ++ take k more ≡ take (length text + k) (text ++ more)
+first_after text more k =
     sym (take_plus (length text) k (text ++ more) ∙ (ap (λ ys. ys ++ take k (drop (length text) (text ++ more))) (take_at text more (length text) refl) ∙ ap (λ ys. text ++ take k ys) (drop_at text more (length text) refl)))
 
 whole_first : (text : List ℕ) (content : Option (List ℕ)) → content ≡ Some text → HoldsFirst text content
@@ -105,7 +105,7 @@ written_then tells pending middle left old now new result first then = record {
           ap new.held (sym first.named)
               ∙ (two.1
               ∙ ap Some (append_assoc there one.0 (take two.0 middle)
-              ∙ ap (λ bytes. there ++ bytes) (first_behind one.0 middle two.0 ∙ ap (take (length one.0 + two.0)) (sym one.1)))),
+              ∙ ap (λ bytes. there ++ bytes) (first_after one.0 middle two.0 ∙ ap (take (length one.0 + two.0)) (sym one.1)))),
         )
 
 -- as much is still to be written in another form

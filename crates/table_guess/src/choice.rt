@@ -98,9 +98,9 @@ fn better(best: Option<(Rank, usize)>, rank: Option<Rank>, cell: usize) -> Optio
     }
 }
 
-/// The next choice point: a literal of the first circuit, and those that it may correspond to, if one isn't alone. By likeness, where
-/// that is known, those that are most alike come first. Else, in later rounds, the literal and the order of the others are
-/// drawn. Small cells come first in every other round.
+/// The next choice point: a literal of the first circuit, and those that it may correspond to, if one isn't alone. By likeness,
+/// where that is known, those that are most alike come first. Else, in later rounds, the literal and the order of the others
+/// are drawn. Small cells come first in every other round.
 pub(crate) fn next_point(
     alloc: Global,
     state: State,

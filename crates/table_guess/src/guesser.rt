@@ -25,8 +25,8 @@ use std::alloc::{AllocError, Global};
 /// How many words of gates may be computed, about a second's.
 const MOST_WORDS: u64 = 1 << 28;
 
-/// Which part of its words a guess of little effort may compute. Most tables that are found are found by then, and of circuits without a
-/// match counts show it in most cases once that much was tried.
+/// Which part of its words a guess of little effort may compute. Most tables that are found are found by then, and of circuits
+/// without a match counts show it in most cases once that much was tried.
 const LITTLE_SHARE: u64 = 8;
 
 /// On how many blocks of 256 vectors a circuit may be run with each input inverted where that takes longer. A search of large
@@ -173,8 +173,8 @@ impl<'a> Guesser<'a> {
         self.kept.keep(vector);
     }
 
-    /// A table whose outputs agree on all vectors that were tried. None where none is found within this effort, which bounds what all
-    /// guesses take together.
+    /// A table whose outputs agree on all vectors that were tried. None where none is found within this effort, which bounds
+    /// what all guesses take together.
     ///
     /// # Errors
     ///

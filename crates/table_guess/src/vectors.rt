@@ -16,7 +16,8 @@ const FEWEST_WORDS: usize = 8;
 /// How many words are tried at most: 2,048 vectors show nearly every wrong pair, and a search tries them at each step.
 const MOST_WORDS: usize = 32;
 
-/// Vectors of n inputs, 8 to 32 words: all of few inputs, which come again where they don't fill a block, else some that are drawn.
+/// Vectors of n inputs, 8 to 32 words: all of few inputs, which come again where they don't fill a block, else some that are
+/// drawn.
 pub(crate) fn first_vectors(alloc: Global, inputs: u32, seed: u64) -> Result<Words, AllocError>
     ensures { IfOk result (HasColumns inputs) }
 {

@@ -1,5 +1,5 @@
--- Hints that derive the clause that excludes given bits: by the clauses that exclude both ways to go on, or gate by gate where all
--- inputs have a bit.
+-- Hints that derive the clause that excludes given bits: by the clauses that exclude both ways to go on, or gate by gate where
+-- all inputs have a bit.
 use Rattle.std.proofs.Common.{◌≡◌, ℕ, ◌+◌, ◌*◌, ◌/◌, ◌-◌, ◌%◌, ◌<◌, ◌||◌, cond, Bool, true, false, List, [], ◌∷◌, ◌++◌, length, None, Some, inl, inr, refl, sym, ap, subst, ◌∙◌, arith, append_assoc}
 use Rattle.std.specs.List.{list_any, list_all}
 use Rattle.std.proofs.lemmas.Bool.{and_from, and_parts, both_ways, cases_Bool, cases_eq, false≢true, lt-ltb, or_cases, or_left, or_parts, or_right}
@@ -9,7 +9,7 @@ use Rattle.cnf_core.specs.declared.literal.SatLit.{SatLit}
 use Rattle.cnf_core.specs.declared.effect.Effect.TheVariants.{Conflict, Makes, Neither}
 use Rattle.cnf_core.specs.declared.fault.LineFault.TheVariants as fault
 use Rattle.cnf_core.specs.Clauses.{clause_at, literal_of, opposite}
-use Rattle.cnf_core.specs.Derivations.{effect_of, fault_behind, hint_fault, is_false, is_same, is_true}
+use Rattle.cnf_core.specs.Derivations.{effect_of, fault_after, hint_fault, is_false, is_same, is_true}
 use Rattle.learn_solver.specs.Analyses.{has_all}
 use Rattle.net_core.specs.Sides.{Graphs}
 use Rattle.net_core.specs.Graph.{IsGraph}
@@ -39,8 +39,8 @@ last_true made l = true_with made l l ∙ or_right (is_true made l) (is_same l l
 -- a first hint that makes a literal true
 hint_makes : (clauses : List (List SatLit)) (made : List SatLit) (id : ℕ) (rest : List ℕ) (l : SatLit) → id < length clauses → effect_of made (clause_at clauses id) ≡ Makes l → hint_fault clauses made (id ∷ rest) ≡ hint_fault clauses (made ++ l ∷ []) rest
 hint_makes clauses made id rest l there makes =
-    ap (λ t. cond t (fault_behind (effect_of made (clause_at clauses id)) rest (λ m. hint_fault clauses (made ++ m ∷ []) rest)) (Some fault.UnknownHint)) (lt-ltb id (length clauses) there)
-    ∙ ap (λ e. fault_behind e rest (λ m. hint_fault clauses (made ++ m ∷ []) rest)) makes
+    ap (λ t. cond t (fault_after (effect_of made (clause_at clauses id)) rest (λ m. hint_fault clauses (made ++ m ∷ []) rest)) (Some fault.UnknownHint)) (lt-ltb id (length clauses) there)
+    ∙ ap (λ e. fault_after e rest (λ m. hint_fault clauses (made ++ m ∷ []) rest)) makes
 
 -- ---- by the clauses that exclude both ways to go on
 
@@ -49,8 +49,8 @@ either_of : (clause : List SatLit) (x y : SatLit) (T : Type 0) → is_true (clau
 either_of clause x y T among one other =
     elim (or_cases (is_true clause y) (is_same y x || false) (sym (true_with clause x y) ∙ among)) [
       | inl front ↦ one front
-      | inr behind ↦
-          elim (or_cases (is_same y x) false behind) [ inl same ↦ other (same_literal y x same) | inr none ↦ absurd (false≢true none) ]
+      | inr after ↦
+          elim (or_cases (is_same y x) false after) [ inl same ↦ other (same_literal y x same) | inr none ↦ absurd (false≢true none) ]
     ]
 
 module _ (clauses : List (List SatLit)) (bits : List Bool) where
@@ -158,7 +158,7 @@ held_with made l [] held = absurd (false≢true held)
 held_with made l (y ∷ clause) held =
     elim (or_cases (is_true made y) (list_any (is_true made) clause) held) [
       | inl truth ↦ or_left (is_true (made ++ l ∷ []) y) (list_any (is_true (made ++ l ∷ [])) clause) (stays_true made l y truth)
-      | inr behind ↦ or_right (is_true (made ++ l ∷ []) y) (list_any (is_true (made ++ l ∷ [])) clause) (held_with made l clause behind)
+      | inr after ↦ or_right (is_true (made ++ l ∷ []) y) (list_any (is_true (made ++ l ∷ [])) clause) (held_with made l clause after)
     ]
 
 made_held : (made : List SatLit) (l : SatLit) (clause : List SatLit) → list_any (is_same l) clause ≡ true → IsHeld (made ++ l ∷ []) clause
@@ -166,7 +166,7 @@ made_held made l [] there = absurd (false≢true there)
 made_held made l (y ∷ clause) there =
     elim (or_cases (is_same l y) (list_any (is_same l) clause) there) [
       | inl here ↦ or_left (is_true (made ++ l ∷ []) y) (list_any (is_true (made ++ l ∷ [])) clause) (ap (is_true (made ++ l ∷ [])) (sym (same_literal l y here)) ∙ last_true made l)
-      | inr behind ↦ or_right (is_true (made ++ l ∷ []) y) (list_any (is_true (made ++ l ∷ [])) clause) (made_held made l clause behind)
+      | inr after ↦ or_right (is_true (made ++ l ∷ []) y) (list_any (is_true (made ++ l ∷ [])) clause) (made_held made l clause after)
     ]
 
 pub gates_make : (front : List (List SatLit)) (bits : List Bool) (made : List SatLit) (hints : List ℕ) (id : ℕ) → IsUnderWay front bits made hints id → id < length front → (l : SatLit) → effect_of made (clause_at front id) ≡ Makes l → IsUnderWay front bits (made ++ l ∷ []) (hints ++ id ∷ []) (id + 1)

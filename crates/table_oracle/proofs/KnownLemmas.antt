@@ -54,7 +54,7 @@ held_by made clause l known there neither =
         let free = or_parts (is_true made y) (list_any (is_true made) ys) n in
         elim (or_cases (is_same l y) (list_any (is_same l) ys) t) [
           | inl here ↦ ap (is_true made) (same_literal l y here) ∙ free.0
-          | inr behind ↦ not_true ys behind free.1
+          | inr after ↦ not_true ys after free.1
         ]
 
 this_one : (made : List SatLit) (l : SatLit) → is_known_or made l l ≡ true
@@ -92,8 +92,8 @@ other_true : (made : List SatLit) (l y : SatLit) → AreApart made → IsHeld ma
 other_true made l y apart held falsity =
     elim (or_cases (is_true made l) (is_true made y || false) held) [
       | inl truth ↦ truth
-      | inr behind ↦
-          elim (or_cases (is_true made y) false behind) [
+      | inr after ↦
+          elim (or_cases (is_true made y) false after) [
             | inl truth ↦ absurd (false_apart made y apart falsity truth)
             | inr none ↦ absurd (false≢true none)
           ]
@@ -115,8 +115,8 @@ gate_known made v a b apart first second one other third =
     both is_a is_b =
         elim (or_cases (is_true made v) (is_true made (opposite a) || (is_true made (opposite b) || false)) third) [
           | inl truth ↦ or_left (is_true made v) (is_false made v) truth
-          | inr behind ↦
-              elim (or_cases (is_true made (opposite a)) (is_true made (opposite b) || false) behind) [
+          | inr after ↦
+              elim (or_cases (is_true made (opposite a)) (is_true made (opposite b) || false) after) [
                 | inl not_a ↦ absurd (both_ways (is_false made a) (apart a is_a) not_a)
                 | inr rest ↦
                     elim (or_cases (is_true made (opposite b)) false rest) [

@@ -98,7 +98,7 @@ not_new [] clause new found = false≢true found
 not_new (c ∷ clauses) clause new found =
     elim (or_cases (has_all clause c) (list_any (has_all clause) clauses) found) [
       | inl here ↦ both_ways (has_all clause c) (new 0 c (omega arith)) here
-      | inr behind ↦ not_new clauses clause (λ k d within. new (suc k) d (omega (arith, within))) behind
+      | inr following ↦ not_new clauses clause (λ k d within. new (suc k) d (omega (arith, within))) following
     ]
 
 pub not_excluded : (clauses : List (List SatLit)) (bits : List Bool) → IsNew clauses (excluding bits) → IsExcluded clauses bits → ⊥
@@ -140,8 +140,8 @@ none_closed [] clause new = refl
 none_closed ([] ∷ clauses) clause new = absurd (both_ways true (new 0 [] (omega arith)) refl)
 none_closed ((l ∷ c) ∷ clauses) clause new = none_closed clauses clause (λ k d within. new (suc k) d (omega (arith, within)))
 
-new_behind : (front lines : List (List SatLit)) (clause : List SatLit) → IsNew (front ++ lines) clause → IsNew lines clause
-new_behind front lines clause new k d within =
+new_after : (front lines : List (List SatLit)) (clause : List SatLit) → IsNew (front ++ lines) clause → IsNew lines clause
+new_after front lines clause new k d within =
     subst (λ c. has_all clause c ≡ false) (get_or-append-add front lines k d) (new (length front + k) d (omega (arith, within, length-append front lines)))
 
 pub line_added : (splitting : Splitting) (lines : List LogLine) (bits : List Bool) (line : LogLine) → IsSplitting splitting → length bits ≤ splitting.inputs → line.clause ≡ excluding bits → IsNew (clauses_in splitting.base lines) line.clause → hint_fault (clauses_in splitting.base lines) (map opposite line.clause) line.hints ≡ None → IsAdded (solving_of splitting.base lines).formula (solving_of splitting.base lines).ids lines line
@@ -151,7 +151,7 @@ line_added splitting lines bits line is within clause new hints =
     let few : length bits < formula.variables = omega (arith, within, is.inputs) in
     record {
       derived = line_from formula (clauses_of lines) line (record {
-        unclosed = none_closed (clauses_of lines) line.clause (new_behind (query_clauses asking.graphs asking.query) (clauses_of lines) line.clause new);
+        unclosed = none_closed (clauses_of lines) line.clause (new_after (query_clauses asking.graphs asking.query) (clauses_of lines) line.clause new);
         known = subst (λ c. list_all (λ l. nat_lt (variable_of l) formula.variables) c ≡ true) (sym clause) (excluding_known formula.variables bits few);
         once = subst (λ c. repeats_variable c ≡ false) (sym clause) (excluding_once bits);
         hints = hints;
@@ -231,7 +231,7 @@ closes asking lines excluded =
     let found : (list_any (has_all []) front || list_any (has_all []) (clauses_of lines)) ≡ true = sym (list_any-append (has_all []) front (clauses_of lines)) ∙ excluded [] refl in
     elim (or_cases (list_any (has_all []) front) (list_any (has_all []) (clauses_of lines)) found) [
       | inl here ↦ absurd (both_ways (list_any (has_all []) front) (none_in_query asking.graphs asking.query) here)
-      | inr behind ↦ empty_found (clauses_of lines) behind
+      | inr following ↦ empty_found (clauses_of lines) following
     ]
 
 -- and it is a refutation
@@ -255,8 +255,8 @@ new_next lines clause k line new is there fresh j d below within =
 pub new_both : (front lines : List (List SatLit)) (clause : List SatLit) → IsNew front clause → IsNew lines clause → IsNew (front ++ lines) clause
 new_both front lines clause one other = All-append (λ c. has_all clause c ≡ false) front lines one other
 
-pub covering_behind : (front lines : List (List SatLit)) (clause : List SatLit) (count place : ℕ) → count ≡ length front → IsCovering lines clause place → IsCovering (front ++ lines) clause (count + place)
-covering_behind front lines clause count place count_is covering = record {
+pub covering_after : (front lines : List (List SatLit)) (clause : List SatLit) (count place : ℕ) → count ≡ length front → IsCovering lines clause place → IsCovering (front ++ lines) clause (count + place)
+covering_after front lines clause count place count_is covering = record {
   within = omega (arith, count_is, covering.within, length-append front lines);
   has = ap (λ k. has_all clause (clause_at (front ++ lines) (k + place))) count_is ∙ (ap (has_all clause) (get_or-append-add front lines place []) ∙ covering.has);
 }

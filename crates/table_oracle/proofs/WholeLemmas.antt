@@ -96,9 +96,9 @@ module _ (graphs : Graphs) (query : Query) (made : List SatLit) (begun : IsBegun
         let id = 1 + 3 * left_gates graphs query + (3 * t + r) in
         let at : id - 1 - length lefts ≡ 3 * t + r = omega (arith, left_count) in
         let above : id ≢ 0 = omega arith in
-        let behind : length lefts ≤ id - 1 = omega (arith, left_count) in
+        let after : length lefts ≤ id - 1 = omega (arith, left_count) in
         let below : id - 1 - length lefts < length rights = omega (arith, left_count, right_count, within, small) in
-        subst (IsHeld made) (sym (ap (clause_at rights) (sym at) ∙ clause_of_right lefts rights one other id above behind below)) (held id (omega (arith, early, small, much)));
+        subst (IsHeld made) (sym (ap (clause_at rights) (sym at) ∙ clause_of_right lefts rights one other id above after below)) (held id (omega (arith, early, small, much)));
   }
 
   -- a clause is held that leaves nothing open, once those before it are
@@ -109,13 +109,13 @@ module _ (graphs : Graphs) (query : Query) (made : List SatLit) (begun : IsBegun
         | inr above ↦
             elim (cases_lt (id - 1) (length lefts)) [
               | inl early ↦ of_left above early
-              | inr behind ↦
+              | inr after ↦
                   elim (cases_lt (id - 1 - length lefts) (length rights)) [
-                    | inl below ↦ of_right above behind below
+                    | inl below ↦ of_right above after below
                     | inr late ↦
                         elim (cases_eq (id - 1 - length lefts) (length rights)) [
-                          | inl here ↦ by_unit one (first_output lefts rights one other id above behind here)
-                          | inr not_here ↦ by_unit other (second_output lefts rights one other id above behind (omega (arith, late, not_here, there, count_of graphs query, left_count, right_count, behind, above)))
+                          | inl here ↦ by_unit one (first_output lefts rights one other id above after here)
+                          | inr not_here ↦ by_unit other (second_output lefts rights one other id above after (omega (arith, late, not_here, there, count_of graphs query, left_count, right_count, after, above)))
                         ]
                   ]
             ]
@@ -134,13 +134,13 @@ module _ (graphs : Graphs) (query : Query) (made : List SatLit) (begun : IsBegun
           subst (IsHeld made) at (next_held made n left query.left.feed (left_variables graphs query) t half r (omega (arith, early, left_count)) (omega arith) (ap (effect_of made) at ∙ neither))
 
       of_right : id ≢ 0 → length lefts ≤ id - 1 → id - 1 - length lefts < length rights → IsHeld made (clause_at (query_clauses graphs query) id)
-      of_right above behind below =
+      of_right above after below =
           let j = id - 1 - length lefts in
           let t = j / 3 in
           let r = j % 3 in
           let k : 3 * t + r ≡ j = omega arith in
-          let at = ap (clause_at rights) k ∙ clause_of_right lefts rights one other id above behind below in
-          let half = right_half id t (omega (arith, above)) (omega (arith, above, behind, left_count)) held in
+          let at = ap (clause_at rights) k ∙ clause_of_right lefts rights one other id above after below in
+          let half = right_half id t (omega (arith, above)) (omega (arith, above, after, left_count)) held in
           subst (IsHeld made) at (next_held made n right query.right.feed (right_variables graphs query) t half r (omega (arith, below, right_count)) (omega arith) (ap (effect_of made) at ∙ neither))
 
   -- the bits that make these literals true
@@ -179,7 +179,7 @@ module _ (graphs : Graphs) (query : Query) (made : List SatLit) (begun : IsBegun
   clause_met (l ∷ clause) known held =
       elim (or_cases (is_true made l) (list_any (is_true made) clause) held) [
         | inl truth ↦ or_left (literal_bit assignment l) (list_any (literal_bit assignment) clause) (literal_met l truth (known 0 l (omega arith)))
-        | inr behind ↦ or_right (literal_bit assignment l) (list_any (literal_bit assignment) clause) (clause_met clause (λ k d within. known (suc k) d (omega (arith, within))) behind)
+        | inr after ↦ or_right (literal_bit assignment l) (list_any (literal_bit assignment) clause) (clause_met clause (λ k d within. known (suc k) d (omega (arith, within))) after)
       ]
 
   -- all clauses are held: some vector is asked for

@@ -7,8 +7,8 @@ pub StandsIn-front : (text : List ℕ) (count : ℕ) (p : Piece) → StandsIn te
 StandsIn-front text count p h =
     record {
       before = h.before;
-      behind = drop count p.bytes ++ h.behind;
-      whole = h.whole ∙ ap (λ bytes. h.before ++ bytes) (ap (λ bytes. bytes ++ h.behind) (sym (take-append-drop count p.bytes)) ∙ append_assoc (take count p.bytes) (drop count p.bytes) h.behind);
+      after = drop count p.bytes ++ h.after;
+      whole = h.whole ∙ ap (λ bytes. h.before ++ bytes) (ap (λ bytes. bytes ++ h.after) (sym (take-append-drop count p.bytes)) ∙ append_assoc (take count p.bytes) (drop count p.bytes) h.after);
       offset = h.offset;
     }
 
@@ -16,7 +16,7 @@ pub StandsIn-past : (text : List ℕ) (count : ℕ) (p : Piece) → StandsIn tex
 StandsIn-past text count p h =
     record {
       before = h.before ++ take count p.bytes;
-      behind = h.behind;
-      whole = h.whole ∙ (ap (λ bytes. h.before ++ bytes) (ap (λ bytes. bytes ++ h.behind) (sym (take-append-drop count p.bytes)) ∙ append_assoc (take count p.bytes) (drop count p.bytes) h.behind) ∙ sym (append_assoc h.before (take count p.bytes) (drop count p.bytes ++ h.behind)));
+      after = h.after;
+      whole = h.whole ∙ (ap (λ bytes. h.before ++ bytes) (ap (λ bytes. bytes ++ h.after) (sym (take-append-drop count p.bytes)) ∙ append_assoc (take count p.bytes) (drop count p.bytes) h.after) ∙ sym (append_assoc h.before (take count p.bytes) (drop count p.bytes ++ h.after)));
       offset = omega (arith, h.offset, length-append h.before (take count p.bytes), length-take count p.bytes);
     }

@@ -26,27 +26,27 @@ words-blanks [] = refl
 words-blanks (b ∷ bs) = words-blanks_by_test (is_blank b) b bs (prefix_len is_blank bs) refl (words-blanks bs)
 
 -- the parts between blanks, after the blank that comes first
-abbrev pub parts_behind : List ℕ → List (List ℕ)
-parts_behind [] = []
-parts_behind (b ∷ bs) = slice_split is_blank bs
+abbrev pub parts_after : List ℕ → List (List ℕ)
+parts_after [] = []
+parts_after (b ∷ bs) = slice_split is_blank bs
 
 -- the first part ends before the first blank
-pub slice_split-front : (bs : List ℕ) → slice_split is_blank bs ≡ take (word_length bs) bs ∷ parts_behind (drop (word_length bs) bs)
+pub slice_split-front : (bs : List ℕ) → slice_split is_blank bs ≡ take (word_length bs) bs ∷ parts_after (drop (word_length bs) bs)
 slice_split-front [] = refl
 slice_split-front (b ∷ bs) =
-    elim (is_blank b) as (λ t. cond t ([] ∷ slice_split is_blank bs) (onto_first b (slice_split is_blank bs)) ≡ take (cond (not t) (1 + word_length bs) 0) (b ∷ bs) ∷ parts_behind (drop (cond (not t) (1 + word_length bs) 0) (b ∷ bs))) [
+    elim (is_blank b) as (λ t. cond t ([] ∷ slice_split is_blank bs) (onto_first b (slice_split is_blank bs)) ≡ take (cond (not t) (1 + word_length bs) 0) (b ∷ bs) ∷ parts_after (drop (cond (not t) (1 + word_length bs) 0) (b ∷ bs))) [
       | true ↦ refl
       | false ↦ let e : 1 + word_length bs ≡ suc (word_length bs) = omega arith in rw (slice_split-front bs, e) refl
     ]
 
 -- a blank, or nothing, stands after the first part
-words-behind_by_test : (t : Bool) (b : ℕ) (bs : List ℕ) (n : ℕ) → is_blank b ≡ t → filter is_not_empty (parts_behind (drop n bs)) ≡ words (drop n bs) → filter is_not_empty (parts_behind (drop (cond (not t) (1 + n) 0) (b ∷ bs))) ≡ words (drop (cond (not t) (1 + n) 0) (b ∷ bs))
-words-behind_by_test true b bs n e h = sym (words-blank b bs e)
-words-behind_by_test false b bs n e h = rw (drop-one_more n b bs) h
+words-after_by_test : (t : Bool) (b : ℕ) (bs : List ℕ) (n : ℕ) → is_blank b ≡ t → filter is_not_empty (parts_after (drop n bs)) ≡ words (drop n bs) → filter is_not_empty (parts_after (drop (cond (not t) (1 + n) 0) (b ∷ bs))) ≡ words (drop (cond (not t) (1 + n) 0) (b ∷ bs))
+words-after_by_test true b bs n e h = sym (words-blank b bs e)
+words-after_by_test false b bs n e h = rw (drop-one_more n b bs) h
 
-words-behind : (bs : List ℕ) → filter is_not_empty (parts_behind (drop (word_length bs) bs)) ≡ words (drop (word_length bs) bs)
-words-behind [] = refl
-words-behind (b ∷ bs) = words-behind_by_test (is_blank b) b bs (word_length bs) refl (words-behind bs)
+words-after : (bs : List ℕ) → filter is_not_empty (parts_after (drop (word_length bs) bs)) ≡ words (drop (word_length bs) bs)
+words-after [] = refl
+words-after (b ∷ bs) = words-after_by_test (is_blank b) b bs (word_length bs) refl (words-after bs)
 
 filter-cons : (part : List ℕ) (parts : List (List ℕ)) → 0 < length part → filter is_not_empty (part ∷ parts) ≡ part ∷ filter is_not_empty parts
 filter-cons [] parts h = absurd (omega arith)
@@ -56,35 +56,35 @@ filter-cons (b ∷ part) parts h = grind arith
 pub words-front : (bs : List ℕ) → 0 < length bs → 0 < word_length bs → words bs ≡ take (word_length bs) bs ∷ words (drop (word_length bs) bs)
 words-front bs some word =
     ap (filter is_not_empty) (slice_split-front bs)
-    ∙ (filter-cons (take (word_length bs) bs) (parts_behind (drop (word_length bs) bs)) (omega (arith, length-take (word_length bs) bs)) ∙ ap (λ rest. take (word_length bs) bs ∷ rest) (words-behind bs))
+    ∙ (filter-cons (take (word_length bs) bs) (parts_after (drop (word_length bs) bs)) (omega (arith, length-take (word_length bs) bs)) ∙ ap (λ rest. take (word_length bs) bs ∷ rest) (words-after bs))
 
 -- what stands after the blanks at the front begins with a word, if it isn't empty
 word_length-by_test : (t : Bool) (b : ℕ) (bs : List ℕ) (n : ℕ) → is_blank b ≡ t → (0 < length (drop n bs) → 0 < word_length (drop n bs)) → 0 < length (drop (cond t (1 + n) 0) (b ∷ bs)) → 0 < word_length (drop (cond t (1 + n) 0) (b ∷ bs))
 word_length-by_test true b bs n e h some = let e = drop-one_more n b bs in rw e (h (rw e at some))
 word_length-by_test false b bs n e h some = rw e (omega arith)
 
-pub word_length-behind_blanks : (bs : List ℕ) → 0 < length (drop (prefix_len is_blank bs) bs) → 0 < word_length (drop (prefix_len is_blank bs) bs)
-word_length-behind_blanks [] h = absurd (omega arith)
-word_length-behind_blanks (b ∷ bs) h =
-    word_length-by_test (is_blank b) b bs (prefix_len is_blank bs) refl (word_length-behind_blanks bs) h
+pub word_length-after_blanks : (bs : List ℕ) → 0 < length (drop (prefix_len is_blank bs) bs) → 0 < word_length (drop (prefix_len is_blank bs) bs)
+word_length-after_blanks [] h = absurd (omega arith)
+word_length-after_blanks (b ∷ bs) h =
+    word_length-by_test (is_blank b) b bs (prefix_len is_blank bs) refl (word_length-after_blanks bs) h
 
 -- the next word of a line, and the words after it
 pub words-next : (line rest word after : Piece) (blanks count : ℕ) → blanks ≡ prefix_len is_blank line.bytes → rest ≡ past blanks line → count ≡ word_length rest.bytes → word ≡ front count rest → after ≡ past count rest → 0 < length rest.bytes → words line.bytes ≡ word.bytes ∷ words after.bytes
 words-next line rest word after blanks count b r c w a some =
-    let behind : rest.bytes ≡ drop (prefix_len is_blank line.bytes) line.bytes = ap (λ p. p.bytes) r ∙ ap (λ n. drop n line.bytes) b in
-    let starts : 0 < word_length rest.bytes = rw behind (word_length-behind_blanks line.bytes (rw behind at some)) in
+    let following : rest.bytes ≡ drop (prefix_len is_blank line.bytes) line.bytes = ap (λ p. p.bytes) r ∙ ap (λ n. drop n line.bytes) b in
+    let starts : 0 < word_length rest.bytes = rw following (word_length-after_blanks line.bytes (rw following at some)) in
     let front_is : word.bytes ≡ take (word_length rest.bytes) rest.bytes = ap (λ p. p.bytes) w ∙ ap (λ n. take n rest.bytes) c in
     let after_is : after.bytes ≡ drop (word_length rest.bytes) rest.bytes = ap (λ p. p.bytes) a ∙ ap (λ n. drop n rest.bytes) c in
     let first : words rest.bytes ≡ take (word_length rest.bytes) rest.bytes ∷ words (drop (word_length rest.bytes) rest.bytes) = words-front rest.bytes some starts in
-    let all : words line.bytes ≡ words rest.bytes = words-blanks line.bytes ∙ ap words (sym behind) in
+    let all : words line.bytes ≡ words rest.bytes = words-blanks line.bytes ∙ ap words (sym following) in
     cc
 
 -- a line of blanks alone has no words
 pub words-none : (line rest : Piece) (blanks : ℕ) → blanks ≡ prefix_len is_blank line.bytes → rest ≡ past blanks line → length rest.bytes ≡ 0 → (words line.bytes ≡ []) × (rest.bytes ≡ [])
 words-none line rest blanks b r none =
-    let behind : rest.bytes ≡ drop (prefix_len is_blank line.bytes) line.bytes = ap (λ p. p.bytes) r ∙ ap (λ n. drop n line.bytes) b in
+    let following : rest.bytes ≡ drop (prefix_len is_blank line.bytes) line.bytes = ap (λ p. p.bytes) r ∙ ap (λ n. drop n line.bytes) b in
     let empty : rest.bytes ≡ [] = nil_from_length rest.bytes none in
-    (words-blanks line.bytes ∙ ap words (sym behind ∙ empty), empty)
+    (words-blanks line.bytes ∙ ap words (sym following ∙ empty), empty)
 
 pub words-first : (p word : Piece) → first_word p ≡ Some word → words p.bytes ≡ word.bytes ∷ words (after_word p).bytes
 words-first p word h =

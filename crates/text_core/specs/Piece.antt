@@ -24,6 +24,6 @@ past count p = record { bytes = drop count p.bytes; at = p.at + min count (lengt
 -- the piece stands in this text, at its offset
 pub record StandsIn (text : List ℕ) (p : Piece) : Type 0 where
   pub before : List ℕ
-  pub behind : List ℕ
-  pub whole : text ≡ before ++ (p.bytes ++ behind)
+  pub after : List ℕ
+  pub whole : text ≡ before ++ (p.bytes ++ after)
   pub offset : length before ≡ p.at

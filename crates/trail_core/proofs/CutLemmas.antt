@@ -122,13 +122,13 @@ kept_cut entries new places now old_level walked level kept is most cut unset it
     there : (k : ℕ) → k < kept → entry_at (take kept entries.items) k ≡ entry_at entries.items k
     there k below = get_or-take kept entries.items k nothing below
 
-    behind : (k : ℕ) → entry_at (drop kept entries.items) k ≡ entry_at entries.items (kept + k)
-    behind k = get_or-drop kept entries.items k nothing
+    after : (k : ℕ) → entry_at (drop kept entries.items) k ≡ entry_at entries.items (kept + k)
+    after k = get_or-drop kept entries.items k nothing
 
     -- a variable of a literal that is kept isn't that of one that is dropped
     stays : (j : ℕ) → j < kept → (k : ℕ) → k < length (drop kept entries.items) → variable_of (entry_at (drop kept entries.items) k).literal ≢ variable_of (entry_at entries.items j).literal
     stays j below k h same =
-        is.trail.distinct j (kept + k) (omega (arith, below)) (omega (arith, h, length-drop kept entries.items)) (sym (ap (λ (e : Assigned). variable_of e.literal) (sym (behind k)) ∙ same))
+        is.trail.distinct j (kept + k) (omega (arith, below)) (omega (arith, h, length-drop kept entries.items)) (sym (ap (λ (e : Assigned). variable_of e.literal) (sym (after k)) ∙ same))
 
     filled : (k : ℕ) → k < length (take kept entries.items) → place_at now (variable_of (entry_at (take kept entries.items) k).literal) ≡ Some k
     filled k h =
@@ -139,7 +139,7 @@ kept_cut entries new places now old_level walked level kept is most cut unset it
     by_old v p below None was at =
         let gone = unset.others v (λ k h same.
         let stood = is.filled (kept + k) (omega (arith, h, length-drop kept entries.items)) in
-        let here : place_at places v ≡ Some (kept + k) = ap (place_at places) (sym same) ∙ (ap (λ (e : Assigned). place_at places (variable_of e.literal)) (behind k) ∙ stood) in
+        let here : place_at places v ≡ Some (kept + k) = ap (place_at places) (sym same) ∙ (ap (λ (e : Assigned). place_at places (variable_of e.literal)) (after k) ∙ stood) in
         let clash : None ≡ Some (kept + k) = sym was ∙ here in cc) in
         absurd (let clash : None ≡ Some p = sym (gone ∙ was) ∙ at in cc)
     by_old v p below (Some q) was at =
@@ -157,7 +157,7 @@ kept_cut entries new places now old_level walked level kept is most cut unset it
           | inl (found, back) ↦
               let place : kept + (q - kept) ≡ q = omega (arith, back) in
               let gone = unset.none (q - kept) (omega (arith, back, old.within, length-drop kept entries.items)) in
-              let variable : variable_of (entry_at (drop kept entries.items) (q - kept)).literal ≡ v = ap (λ (e : Assigned). variable_of e.literal) (behind (q - kept)) ∙ (ap (λ n. variable_of (entry_at entries.items n).literal) place ∙ old.there) in
+              let variable : variable_of (entry_at (drop kept entries.items) (q - kept)).literal ≡ v = ap (λ (e : Assigned). variable_of e.literal) (after (q - kept)) ∙ (ap (λ n. variable_of (entry_at entries.items n).literal) place ∙ old.there) in
               absurd (let clash : None ≡ Some p = sym (sym (ap (place_at now) variable) ∙ gone) ∙ at in cc)
         ]
 

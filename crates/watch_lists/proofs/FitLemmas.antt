@@ -122,7 +122,7 @@ stayed clauses ws hs old new more f s out is new_is trail sound present low held
       subst (λ n. IsHeld new.entries (literal_at ws (partner t)) n) (sym (ap (λ (e : Assigned). e.level) same)) (grown (literal_at ws (partner t)) (entry_at old.entries j).level old_held));
   seen = λ t within attached mine. elim (is.seen t (omega (arith, within, alike.size)) (alike_attached ws put alike t attached) (sym (alike.same t) ∙ mine)) [
     | inl (inl this) ↦ inr (alike_held ws put alike new.entries t new.level (subst (λ k. IsHeld new.entries (literal_at ws (partner k)) new.level) (sym this) held))
-    | inl (inr behind) ↦ inl behind
+    | inl (inr following) ↦ inl following
     | inr before ↦ inr (alike_held ws put alike new.entries t new.level (subst (λ n. IsHeld new.entries (literal_at ws (partner t)) n) (sym level) (grown (literal_at ws (partner t)) old.level before)))
   ];
 }
@@ -195,7 +195,7 @@ moved clauses ws hs t f l s out is low beside = record {
         let old_f : literal_at ws k ≡ f = sym (literal_set_other ws s k w other) ∙ is_f in
         elim (is.seen k (omega (arith, within, size)) (before k other attached) old_f) [
           | inl (inl this) ↦ absurd (other this)
-          | inl (inr behind) ↦ inl behind
+          | inl (inr following) ↦ inl following
           | inr held ↦ elim (cases_eq (partner k) s) [
             | inl is_s ↦ absurd (differs (ap (λ (x : SatLit). x.0) (sym old_f) ∙ ap (λ n. (literal_at ws n).0) (sym (partner_twice k) ∙ ap partner is_s)))
             | inr apart ↦ inr (subst (λ x. IsHeld t.entries x t.level) (sym (literal_set_other ws s (partner k) w apart)) held)

@@ -89,7 +89,7 @@ elsewhere_at : (t : Trailing) (first : SatLit) (clause : List SatLit) (l : SatLi
 elsewhere_at t first [] l all e = absurd (false≢true e)
 elsewhere_at t first (m ∷ clause) l all e = elim (or_cases (is_same l m) (list_any (is_same l) clause) e) [
   | inl here ↦ subst (IsElsewhere t first) (sym (same_literal l m here)) (all 0 l (omega arith))
-  | inr behind ↦ elsewhere_at t first clause l (λ k d within. all (suc k) d (omega (arith, within))) behind
+  | inr following ↦ elsewhere_at t first clause l (λ k d within. all (suc k) d (omega (arith, within))) following
 ]
 
 -- a true literal that stands alone is true at level 0

@@ -216,7 +216,7 @@ pushed watches heads s out literal is there differ = record {
     in_new d t low here = elim (cases_eq d literal.0) [
       | inl mine ↦ elim (subst (IsIn t) (front d mine) here) [
         | inl is_s ↦ inl (is_s, mine)
-        | inr behind ↦ inr ((λ e. free literal.0 there (subst (λ k. IsIn k (list_of watches heads literal.0)) e behind)), subst (λ k. IsIn t (list_of watches heads k)) (sym mine) behind)
+        | inr after ↦ inr ((λ e. free literal.0 there (subst (λ k. IsIn k (list_of watches heads literal.0)) e after)), subst (λ k. IsIn t (list_of watches heads k)) (sym mine) after)
       ]
       | inr other ↦
           let old = subst (IsIn t) (same d low other) here in

@@ -58,7 +58,7 @@ fn expands_rows_of_two_names(rt: HostRuntime) -> Result<(), Fail> {
 }
 
 #[test]
-fn joins_each_row_behind_its_gates(rt: HostRuntime) -> Result<(), Fail> {
+fn joins_each_row_after_its_gates(rt: HostRuntime) -> Result<(), Fail> {
     // three inputs, signals 1 to 3; the first row's gates are signals 4 and 5, the second row's is 6, which 7
     // joins to the first, and 8 joins the row without literals to both
     let cover = OnSet(&[1, 2, 3], &["101", "-10", "---"]);

@@ -14,4 +14,4 @@ returns-clause-words c =
     let end = c.word_end-end.result in
     let parts = subst (λ n. words_of line ≡ take n line ∷ words_of (drop (n + 1) line)) (sym c.word_end-end.ensures) (words_cut line (omega (arith, c.word_end-end.ensures, c.if-end-line.false))) in
     let rest : take (length line - (end + 1)) (drop (end + 1) line) ≡ drop (end + 1) line = ap (λ n. take n (drop (end + 1) line)) (sym (length-drop (end + 1) line)) ∙ take-length (drop (end + 1) line) in
-    parts ∙ ap (λ behind. take end line ∷ words_of behind) (sym rest)
+    parts ∙ ap (λ after. take end line ∷ words_of after) (sym rest)

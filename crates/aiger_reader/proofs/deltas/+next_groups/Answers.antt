@@ -1,6 +1,6 @@
 -- A last group, and a group with a number after it.
 use Rattle.std.proofs.Common.{◌-◌, arith}
-use Rattle.aiger_reader.proofs.DeltaLemmas.{last_group, group_before, no_group_behind, four_groups, power_more, last_in_range}
+use Rattle.aiger_reader.proofs.DeltaLemmas.{last_group, group_before, no_group_after, four_groups, power_more, last_in_range}
 use Rattle.aiger_reader.proofs.deltas.+next_groups.Goals as goal
 
 pub returns-then-byte-lt128-clause-number : goal.returns-then-byte-lt128-clause-number
@@ -13,7 +13,7 @@ returns-then-byte-lt128-clause-range t c =
 
 pub returns-in_err-high-clause-none : goal.returns-in_err-high-clause-none
 returns-in_err-high-clause-none t c =
-    rw c.from_residual-in_err-high.ensures (λ n rest all. no_group_behind c.args.most (c.args.most - 1) c.in_ok-byte.byte n c.args.cursor.now.bytes c.next_byte.new.cursor.bytes rest c.in_ok-byte.ensures.byte (omega arith) (omega arith) c.in_err-high.ensures.none all)
+    rw c.from_residual-in_err-high.ensures (λ n rest all. no_group_after c.args.most (c.args.most - 1) c.in_ok-byte.byte n c.args.cursor.now.bytes c.next_byte.new.cursor.bytes rest c.in_ok-byte.ensures.byte (omega arith) (omega arith) c.in_err-high.ensures.none all)
 
 pub overflow_mul-result : goal.overflow_mul-result
 overflow_mul-result t c =

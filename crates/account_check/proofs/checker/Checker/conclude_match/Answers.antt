@@ -2,7 +2,7 @@
 use Rattle.std.proofs.Common.{◌≡◌, IsSome, sym, subst, ap, ◌∙◌, rules}
 use Rattle.account_core.specs.declared.conclusion.Conclusion.TheVariants as conclusion
 use Rattle.account_file.specs.declared.record.Record.TheVariants as entry
-use Rattle.account_file.specs.Order.{place_behind}
+use Rattle.account_file.specs.Order.{next_place}
 use Rattle.account_check.specs.Accounts.{Account, after}
 use Rattle.account_check.proofs.AfterLemmas.{kept, match_after}
 use Rattle.account_check.proofs.checker.Checker.conclude_match.Goals as goal
@@ -14,7 +14,7 @@ returns c =
     let pairs = c.args.pairs.now in
     let x = entry.Conclusion (conclusion.Match pairs) in
     let logs = c.in_ok-logs.logs in
-    let may = subst (λ (v : Account). IsSome (place_behind v.place x)) (sym c.self.view_is) c.requires in
+    let may = subst (λ (v : Account). IsSome (next_place v.place x)) (sym c.self.view_is) c.requires in
     let leads = match_after graphs inside.given inside.stage logs c.in_ok-matching.matching pairs may c.in_ok-logs.ensures c.in_ok-matching.ensures.matching c.in_ok-matching.ensures.order in
     record {
       refused = λ reject is. cc;

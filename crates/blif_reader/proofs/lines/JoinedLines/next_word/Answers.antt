@@ -11,15 +11,15 @@ returns-in-Some-clause-word c =
 pub returns-then-not-self-clause-word : goal.returns-then-not-self-clause-word
 returns-then-not-self-clause-word c =
     let before : words_at c.lines.self.line ≡ [] = words_at-no_first c.lines.self.line (sym c.in_default.ensures.word) in
-    let behind : words_at c.next_word.new.line ≡ [] = words_at-empty c.next_word.new.line c.in_default.ensures.none.1 in
-    (sym c.lines.invariant.words ∙ nothing_left c.lines.self.line c.lines.self.rest c.lines.self.goes_on c.if-not-self.true before, nothing_left c.next_word.new.line c.lines.self.rest c.lines.self.goes_on c.if-not-self.true behind)
+    let after : words_at c.next_word.new.line ≡ [] = words_at-empty c.next_word.new.line c.in_default.ensures.none.1 in
+    (sym c.lines.invariant.words ∙ nothing_left c.lines.self.line c.lines.self.rest c.lines.self.goes_on c.if-not-self.true before, nothing_left c.next_word.new.line c.lines.self.rest c.lines.self.goes_on c.if-not-self.true after)
 
 pub lines-preserved : goal.lines-preserved
 lines-preserved c =
     let before : words_at c.lines.self.line ≡ [] = words_at-no_first c.lines.self.line (sym c.in_default.ensures.word) in
-    let behind : words_at c.next_word.new.line ≡ [] = words_at-empty c.next_word.new.line c.in_default.ensures.none.1 in
+    let after : words_at c.next_word.new.line ≡ [] = words_at-empty c.next_word.new.line c.in_default.ensures.none.1 in
     record {
-      words = c.go_on.ensures.words behind ∙ (same_left c.next_word.new.line c.lines.self.line c.lines.self.rest c.lines.self.goes_on (behind ∙ sym before) ∙ c.lines.invariant.words);
+      words = c.go_on.ensures.words after ∙ (same_left c.next_word.new.line c.lines.self.line c.lines.self.rest c.lines.self.goes_on (after ∙ sym before) ∙ c.lines.invariant.words);
       lines = c.go_on.ensures.lines ∙ c.lines.invariant.lines;
       shorter = omega (arith, c.go_on.ensures.shorter, c.lines.invariant.shorter);
     }

@@ -3,7 +3,7 @@ use Rattle.std.specs.Option.{IfNone}
 use Rattle.cnf_core.specs.Derivations.{clauses_of}
 use Rattle.query_core.specs.Formulas.{query_clauses}
 use Rattle.table_oracle.specs.Splits.{IsNew, clauses_in}
-use Rattle.table_oracle.proofs.SplitLemmas.{covering_behind, new_both}
+use Rattle.table_oracle.proofs.SplitLemmas.{covering_after, new_both}
 use Rattle.table_oracle.proofs.splitting.Splitting.covering.Goals as goal
 
 pub returns-in_err-place-clause-none : goal.returns-in_err-place-clause-none
@@ -15,4 +15,4 @@ returns-in_err-place-clause-none c =
 pub returns-clause-found : goal.returns-clause-found
 returns-clause-found c =
     let base = c.args.self.now.base in
-    covering_behind (query_clauses base.graphs base.query) (clauses_of c.args.lines.now) c.args.clause.now c.count.result c.in_ok-place.place c.count.ensures.value c.in_ok-place.ensures.found
+    covering_after (query_clauses base.graphs base.query) (clauses_of c.args.lines.now) c.args.clause.now c.count.result c.in_ok-place.place c.count.ensures.value c.in_ok-place.ensures.found

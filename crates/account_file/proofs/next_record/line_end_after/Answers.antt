@@ -4,7 +4,7 @@ use Rattle.std.proofs.Math.Seq.{take-length}
 use Rattle.std.proofs.lemmas.List.Sums.{prefix_len-le-length}
 use Rattle.text_core.specs.Bytes.{is_line_feed}
 use Rattle.account_file.proofs.NextLemmas as next
-use Rattle.account_file.proofs.next_record.line_end_behind.Goals as goal
+use Rattle.account_file.proofs.next_record.line_end_after.Goals as goal
 
 module _ (c : goal.After-line_length) where
   whole : c.args.looked + c.line_length.result ≡ position_or_len is_line_feed c.args.bytes.now
@@ -13,7 +13,7 @@ module _ (c : goal.After-line_length) where
       let rest : take (length bytes - c.args.looked) (drop c.args.looked bytes) ≡ drop c.args.looked bytes =
       ap (λ n. take n (drop c.args.looked bytes)) (sym (length-drop c.args.looked bytes)) ∙ take-length (drop c.args.looked bytes) in
       let found = c.line_length.ensures.count ∙ ap (position_or_len is_line_feed) rest in
-      ap (λ n. c.args.looked + n) found ∙ next.line_end_behind bytes c.args.looked c.requires
+      ap (λ n. c.args.looked + n) found ∙ next.line_end_after bytes c.args.looked c.requires
 
 pub overflow_add-result : goal.overflow_add-result
 overflow_add-result c =
