@@ -8,13 +8,8 @@ use Rattle.account_core.specs.Given.{decided_by}
 use Rattle.account_core.specs.Steps.{AreValidBans}
 use Rattle.account_core.specs.Facts.{AreFacts}
 use Rattle.ban_book.specs.Vectors.{AreLastResorts}
-use Rattle.oracle_core.specs.Oracles.{Known, Grows, Suits, Keeps, Serves}
-
--- What an oracle and a ledger are after calls that were all answered.
-pub record HasServed (old new : Known) (before after : Ledgered) : Type 0 where
-  pub grows : Grows old new
-  pub suits : Suits new after
-  pub keeps : Keeps old before after
+pub use Rattle.oracle_core.specs.Oracles.{HasServed}
+use Rattle.oracle_core.specs.Oracles.{Known, Suits, Serves}
 
 -- What is known is of these circuits. Each ban is valid in view of the facts, and of the bans before it, and is by a vector
 -- only as a last resort.

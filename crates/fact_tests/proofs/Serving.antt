@@ -1,88 +1,18 @@
--- Calls of an oracle, one after the other.
-use Rattle.std.proofs.Common.{◌≡◌, [], ◌++◌, Result, Ok, Err, refl, sym, ap, subst, ◌∙◌, inl, inr, append_assoc, append-nil, ℕ, ◌+◌}
-use Rattle.cnf_core.specs.declared.stop.Stop.{Stop}
-use Rattle.cnf_core.specs.declared.stop.Stop.TheVariants.{Spent, Memory}
+-- Calls of an oracle, one after the other (`oracle_core`).
+use Rattle.std.proofs.Common.{◌∙◌}
 use Rattle.net_core.specs.Sides.{Graphs}
 use Rattle.query_core.specs.Ledgers.{Ledgered}
-use Rattle.oracle_core.specs.Work.{IsCharged, IsWorkOfClaimsAndMatches}
-use Rattle.account_core.specs.Facts.{AreFacts}
-use Rattle.oracle_core.specs.Oracles.{Grows, IsAnswered, IsStopped, Keeps, Known, Serves, entry_at}
-use Rattle.fact_tests.specs.Outputs.{MayAsk, Served}
-
-grows_same : (known : Known) → AreFacts known.graphs known.facts → Grows known known
-grows_same known facts = record {
-  graphs = refl;
-  added = [];
-  facts = sym (append-nil known.facts);
-  lawful = facts;
-  answered = λ query is. is;
-}
-
-grows_then : (old mid new : Known) → Grows old mid → Grows mid new → Grows old new
-grows_then old mid new one other = record {
-  graphs = other.graphs ∙ one.graphs;
-  added = one.added ++ other.added;
-  facts = other.facts ∙ (ap (λ facts. facts ++ other.added) one.facts ∙ append_assoc old.facts one.added other.added);
-  lawful = other.lawful;
-  answered = λ query is. other.answered query (one.answered query is);
-}
-
-keeps_same : (known : Known) (ledger : Ledgered) → Keeps known ledger ledger
-keeps_same known ledger = record {
-  budget = refl;
-  charged = λ k there is. (there, there, refl);
-  opened = λ k there. inl (there, there, refl);
-}
-
-keeps_then : (old mid : Known) (a b c : Ledgered) → Grows old mid → Keeps old a b → Keeps mid b c → Keeps old a c
-keeps_then old mid a b c grows one other = record {
-  budget = other.budget ∙ one.budget;
-  charged = λ k there is.
-      let first = one.charged k there is in
-      let then = other.charged k first.1 (subst IsCharged (sym first.2) is) in
-      (there, then.1, then.2 ∙ first.2);
-  opened = λ k there.
-      elim (other.opened k there) [
-        | inl same ↦ elim (one.opened k same.0) [
-          | inl before ↦ inl (before.0, same.1, same.2 ∙ before.2)
-          | inr new ↦ inr (λ answered. new (subst (λ entry. IsAnswered old entry.query) same.2 answered))
-        ]
-        | inr new ↦ inr (λ answered. new (grows.answered (entry_at c.asked k).query answered))
-      ];
-}
-
-stopped_then : (old mid : Known) (a b c : Ledgered) (stop : Stop) → Grows old mid → Keeps old a b → IsStopped mid b c stop → IsStopped old a c stop
-stopped_then old mid a b c Memory grows keeps is = tt
-stopped_then old mid a b c (Spent learned) grows keeps is = record {
-  learned_is = is.learned_is ∙ keeps.budget;
-  used = is.used ∙ keeps.budget;
-  made = is.made ∙ ap (λ (n : ℕ). n + 1) keeps.budget;
-  refused = is.refused;
-  work = subst (λ graphs. IsWorkOfClaimsAndMatches graphs c) grows.graphs is.work;
-  keeps = keeps_then old mid a b c grows keeps is.keeps;
-}
+use Rattle.oracle_core.specs.Oracles.{HasServed, Known}
+use Rattle.oracle_core.proofs.ServeLemmas.{served_same}
+pub use Rattle.oracle_core.proofs.ServeLemmas.{serves_err, serves_last, serves_memory, serves_ok, served_one, served_then}
+use Rattle.fact_tests.specs.Outputs.{MayAsk}
 
 -- nothing was asked yet
-pub served_same : (graphs : Graphs) (known : Known) (ledger : Ledgered) → MayAsk graphs known ledger → Served known known ledger ledger
-served_same graphs known ledger may = record {
-  grows = grows_same known may.facts;
-  suits = may.suits;
-  keeps = keeps_same known ledger;
-}
-
--- a call that was answered
-pub served_one : {X : Type 0} (old new : Known) (a b : Ledgered) (x : X) → Serves old new a b (Ok x) → Served old new a b
-served_one old new a b x serves = record { grows = serves.grows; suits = serves.suits; keeps = serves.keeps }
-
-pub served_then : (old mid new : Known) (a b c : Ledgered) → Served old mid a b → Served mid new b c → Served old new a c
-served_then old mid new a b c one other = record {
-  grows = grows_then old mid new one.grows other.grows;
-  suits = other.suits;
-  keeps = keeps_then old mid a b c one.grows one.keeps other.keeps;
-}
+pub served_none : (graphs : Graphs) (known : Known) (ledger : Ledgered) → MayAsk graphs known ledger → HasServed known known ledger ledger
+served_none graphs known ledger may = served_same known ledger may.facts may.suits
 
 -- the circuits are the same, and more may be asked
-pub may_then : (graphs : Graphs) (old new : Known) (a b : Ledgered) → MayAsk graphs old a → Served old new a b → MayAsk graphs new b
+pub may_then : (graphs : Graphs) (old new : Known) (a b : Ledgered) → MayAsk graphs old a → HasServed old new a b → MayAsk graphs new b
 may_then graphs old new a b may served = record {
   graphs_are = served.grows.graphs ∙ may.graphs_are;
   first = may.first;
@@ -90,45 +20,3 @@ may_then graphs old new a b may served = record {
   facts = served.grows.lawful;
   suits = served.suits;
 }
-
--- one result
-err_same : {X : Type 0} (result : Result X Stop) (one other : Stop) → result ≡ Err one → result ≡ Err other → other ≡ one
-err_same result one other is same = cc
-
-never_both : {X : Type 0} (result : Result X Stop) (x : X) (stop : Stop) → result ≡ Ok x → result ≡ Err stop → ⊥
-never_both result x stop is same = cc
-
--- what was answered so far ends well
-pub serves_ok : {X : Type 0} (old new : Known) (a b : Ledgered) (result : Result X Stop) (x : X) → result ≡ Ok x → Served old new a b → Serves old new a b result
-serves_ok old new a b (Ok y) x is served = record { grows = served.grows; suits = served.suits; keeps = served.keeps; stopped = tt }
-serves_ok old new a b (Err stop) x is served = absurd (never_both (Err stop) x stop is refl)
-
--- a call that ends the others without an answer, after some that were answered
-pub serves_err : {X Y : Type 0} (old mid new : Known) (a b c : Ledgered) (result : Result Y Stop) (stop : Stop) → result ≡ Err stop → Served old mid a b → Serves {X = X} mid new b c (Err stop) → Serves old new a c result
-serves_err old mid new a b c (Ok y) stop is served serves = absurd (never_both (Ok y) y stop refl is)
-serves_err old mid new a b c (Err other) stop is served serves =
-    let same : stop ≡ other = err_same (Err other) other stop refl is in
-    record {
-      grows = grows_then old mid new served.grows serves.grows;
-      suits = tt;
-      keeps = tt;
-      stopped = stopped_then old mid a b c other served.grows served.keeps (subst (IsStopped mid b c) same serves.stopped);
-    }
-
--- a call that is the last one
-pub serves_last : {X : Type 0} (old mid new : Known) (a b c : Ledgered) (result : Result X Stop) → Served old mid a b → Serves mid new b c result → Serves old new a c result
-serves_last old mid new a b c (Ok x) served serves =
-    serves_ok old new a c (Ok x) x refl (served_then old mid new a b c served (served_one mid new b c x serves))
-serves_last old mid new a b c (Err stop) served serves = serves_err old mid new a b c (Err stop) stop refl served serves
-
--- memory ran out after calls that were answered
-pub serves_memory : {Y : Type 0} (old new : Known) (a b : Ledgered) (result : Result Y Stop) → result ≡ Err Memory → Served old new a b → Serves old new a b result
-serves_memory old new a b (Ok y) is served = absurd (never_both (Ok y) y Memory refl is)
-serves_memory old new a b (Err other) is served =
-    let same : Memory ≡ other = err_same (Err other) other Memory refl is in
-    record {
-      grows = served.grows;
-      suits = tt;
-      keeps = tt;
-      stopped = subst (IsStopped old a b) same tt;
-    }

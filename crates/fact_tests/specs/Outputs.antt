@@ -4,7 +4,7 @@ use Rattle.net_core.specs.Graph.{IsGraph}
 use Rattle.net_core.specs.Sides.{Graphs}
 use Rattle.query_core.specs.Ledgers.{Ledgered}
 use Rattle.account_core.specs.Facts.{AreFacts}
-use Rattle.oracle_core.specs.Oracles.{Grows, Keeps, Known, Suits}
+use Rattle.oracle_core.specs.Oracles.{Known, Suits}
 use Rattle.account_core.specs.declared.fact.Evidence.{Evidence}
 use Rattle.account_core.specs.declared.fact.Evidence.TheVariants.{Fails, Holds}
 use Rattle.query_core.specs.declared.claims.Shape.{Shape}
@@ -24,12 +24,6 @@ pub record MayAsk (graphs : Graphs) (known : Known) (ledger : Ledgered) : Type 0
   pub second : IsGraph graphs.second
   pub facts : AreFacts known.graphs known.facts
   pub suits : Suits known ledger
-
--- What calls did that were all answered.
-pub record Served (old new : Known) (before after : Ledgered) : Type 0 where
-  pub grows : Grows old new
-  pub suits : Suits new after
-  pub keeps : Keeps old before after
 
 -- how many inputs the first circuit has, and the function of its output k
 abbrev pub inputs_in : Graphs → ℕ

@@ -1,7 +1,7 @@
 pub mod States
 pub mod Founds
 pub use Rattle.port_covers.specs.Held
-pub use Rattle.port_covers.specs.Levels
+pub use Rattle.port_covers.specs.Ways
 pub use Rattle.pair_search.specs.Progress
 pub use Rattle.pair_search.specs.Impasses
 pub use Rattle.conflict_core.specs.Conflicts

@@ -86,6 +86,12 @@ pub record Serves {X : Type 0} (old new : Known) (before after : Ledgered) (resu
   pub keeps : IfOk result (λ answer. Keeps old before after)
   pub stopped : IfErr result (IsStopped old before after)
 
+-- What an oracle and a ledger are after calls that were all answered.
+pub record HasServed (old new : Known) (before after : Ledgered) : Type 0 where
+  pub grows : Grows old new
+  pub suits : Suits new after
+  pub keeps : Keeps old before after
+
 -- Deciding a claim: the answer is the number of a fact of this claim. A claim that was decided before changes nothing.
 pub record Claims (claim : Claim) (old new : Known) (before after : Ledgered) (result : Result ℕ Stop) : Type 0 where
   pub serves : Serves old new before after result

@@ -3,7 +3,7 @@ use Rattle.std.proofs.Common.{◌+◌, refl, arith}
 use Rattle.std.proofs.lemmas.Result.{err_from_is_err_and}
 use Rattle.fact_tests.specs.Outputs.{function_at, inputs_in}
 use Rattle.fact_tests.proofs.RowLemmas.{input_at, pair_step, pairs_end, pairs_skip, support_first}
-use Rattle.fact_tests.proofs.Serving.{served_one, served_same, served_then, serves_err}
+use Rattle.fact_tests.proofs.Serving.{served_one, served_none, served_then, serves_err}
 use Rattle.fact_tests.proofs.symmetry_test.add_pairs.Goals as goal
 
 pub loop-entry-init : goal.loop-entry-init
@@ -12,7 +12,7 @@ loop-entry-init g c =
     let n = inputs_in graphs in
     let f = function_at graphs c.args.output.now.number in
     let later = c.args.later.now in (
-      served_same _ _ _ c.requires.may,
+      served_none _ _ _ c.requires.may,
       pairs_skip n f c.args.first.0 0 (input_at n later 0) c.args.pairs.now c.requires.pairs (omega arith) (λ b after low before inside. support_first n f (c.args.first.0 + 1) later b c.requires.later (omega (arith, after)) before inside),
     )
 

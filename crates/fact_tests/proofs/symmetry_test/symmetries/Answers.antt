@@ -2,13 +2,13 @@
 use Rattle.std.proofs.lemmas.Result.{err_from_is_err_and}
 use Rattle.fact_tests.specs.Outputs.{function_at, inputs_in}
 use Rattle.fact_tests.proofs.RowLemmas.{later_slice, first_step, input_step}
-use Rattle.fact_tests.proofs.Serving.{served_one, served_same, served_then, serves_err}
+use Rattle.fact_tests.proofs.Serving.{served_one, served_none, served_then, serves_err}
 use Rattle.fact_tests.proofs.symmetry_test.symmetries.Goals as goal
 
 pub loop-place-init : goal.loop-place-init
 loop-place-init g c =
     let graphs = c.args.output.now.graphs.now in (
-      served_same _ _ _ c.requires.may,
+      served_none _ _ _ c.requires.may,
       first_step (inputs_in graphs) (function_at graphs c.args.output.now.number) c.args.support.now c.new-pairs.result c.requires.support c.new-pairs.ensures,
     )
 

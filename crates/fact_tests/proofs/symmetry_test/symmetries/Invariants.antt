@@ -1,10 +1,11 @@
 -- The calls so far were answered, and the pairs before those of the next input are listed.
-use Rattle.fact_tests.specs.Outputs.{Served, function_at, inputs_in}
+use Rattle.oracle_core.specs.Oracles.{HasServed}
+use Rattle.fact_tests.specs.Outputs.{function_at, inputs_in}
 use Rattle.fact_tests.specs.Rows.{ListsPairs}
 use Rattle.fact_tests.proofs.RowLemmas.{input_at}
 use Rattle.fact_tests.proofs.symmetry_test.symmetries.Given as goal
 
 abbrev pub invariant-loop-place : goal.invariant-loop-place
 invariant-loop-place g l =
-    Served (g.O.Oracle.known l.fn.oracle) (g.O.Oracle.known l.oracle) l.fn.ledger l.ledger
+    HasServed (g.O.Oracle.known l.fn.oracle) (g.O.Oracle.known l.oracle) l.fn.ledger l.ledger
     × ListsPairs (inputs_in l.output.graphs.now) (function_at l.output.graphs.now l.output.number) (input_at (inputs_in l.output.graphs.now) l.support l.place) 0 l.pairs
