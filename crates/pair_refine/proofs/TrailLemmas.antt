@@ -20,14 +20,14 @@ use Rattle.fact_bans.proofs.HoldingLemmas.{HasHeld}
 use Rattle.class_refine.specs.declared.entry.Entry.{Entry}
 use Rattle.class_refine.specs.declared.entry.Fate.TheVariants.{Deleted}
 use Rattle.class_refine.specs.declared.entry.Reason.{Reason}
-use Rattle.class_refine.specs.Trails.{Domained, IsPairOf, held_in, ports_of}
+use Rattle.class_refine.specs.Trails.{AreDomains, Domained, IsOpen, IsPairOf, held_in, ports_of}
 use Rattle.conflict_core.specs.Conflicts.{FitPorts}
 use Rattle.conflict_core.specs.Grounded.{AreGrounded, IsGrounded, LearnsMore}
 use Rattle.conflict_core.specs.Justified.{IsTrail}
 use Rattle.conflict_core.specs.Named.{AreNamed, deleted}
 use Rattle.conflict_core.proofs.GroundedLemmas.{grounded_later, grounded_push}
 use Rattle.conflict_core.proofs.JustifiedLemmas.{held_append, justified_later}
-use Rattle.pair_search.proofs.StepLemmas.{HasOneMore, justified_one, one_more_of, trail_on}
+use Rattle.pair_search.proofs.StepLemmas.{HasOneMore, justified_one, less_one, one_more_of, trail_on}
 use Rattle.pair_refine.specs.Refining.{AddsShown, IsShownTrail, OnlyDeletes, Refines}
 
 -- bans that come change nothing of what follows
@@ -95,7 +95,7 @@ shown_learned graphs facts es before after shown learns = record {
 }
 
 pub deletes_none : (d : Domained) → OnlyDeletes d d
-deletes_none d = record { inputs = refl; outputs = refl; added = []; more = sym (append-nil d.entries); held = refl }
+deletes_none d = record { inputs = refl; outputs = refl; added = []; more = sym (append-nil d.entries); held = refl; less = omega arith }
 
 deletes_then : (first second third : Domained) → OnlyDeletes first second → OnlyDeletes second third → OnlyDeletes first third
 deletes_then first second third one other = record {
@@ -104,6 +104,7 @@ deletes_then first second third one other = record {
   added = one.added ++ other.added;
   more = other.more ∙ (ap (λ l. l ++ other.added) one.more ∙ append_assoc first.entries one.added other.added);
   held = other.held ∙ one.held;
+  less = omega (arith, one.less, other.less);
 }
 
 pub refines_none : (graphs : Graphs) (facts : List Decided) (bans : List Ban) (d : Domained) → Refines graphs facts bans bans d d
@@ -127,10 +128,11 @@ refines_bans graphs facts bans more d adds = record {
 }
 
 -- a pair is deleted, for what held pairs show
-pub refines_one : (graphs : Graphs) (facts : List Decided) (bans : List Ban) (before after : Domained) (way : Pair) (why : Reason) → after ≡ record before { entries = before.entries ++ deleted way why ∷ [] } → AreNamed bans (held_in before.entries) way why → IsGrounded graphs facts way (Deleted why) → Refines graphs facts bans bans before after
-refines_one graphs facts bans before after way why after_is named grounded =
+pub refines_one : (graphs : Graphs) (facts : List Decided) (bans : List Ban) (before after : Domained) (way : Pair) (why : Reason) → after ≡ record before { entries = before.entries ++ deleted way why ∷ [] } → AreDomains before → IsPairOf before.inputs before.outputs way → IsOpen before.entries way → AreNamed bans (held_in before.entries) way why → IsGrounded graphs facts way (Deleted why) → Refines graphs facts bans bans before after
+refines_one graphs facts bans before after way why after_is lawful known open' named grounded =
     let e : Entry = deleted way why in
     let more : HasOneMore before after e = one_more_of before after e after_is in
+    let fewer = less_one before after e more lawful known open' refl in
     record {
       adds = shown_none graphs facts bans;
       deletes = record {
@@ -139,6 +141,7 @@ refines_one graphs facts bans before after way why after_is named grounded =
         added = e ∷ [];
         more = more.entries;
         held = ap held_in more.entries ∙ (held_append before.entries (e ∷ []) ∙ append-nil (held_in before.entries));
+        less = omega (arith, fewer);
       };
       trail = λ is. trail_on graphs bans before after is more.inputs more.outputs (justified_one bans before after e more is.justified named);
       shown = λ are. subst (AreGrounded graphs facts) (sym more.entries) (grounded_push graphs facts before.entries e are grounded);

@@ -255,6 +255,7 @@ fn delete_by(
 {
     let _ = graphs;
     let _ = facts;
+    let _lawful = domains.entries();
     let number = book.hold(ban)?;
     if let Some(dead) = book.covering(domains.pairs()) {
         return Ok(Some(dead));
@@ -283,6 +284,7 @@ fn delete(
     let _ = graphs;
     let _ = facts;
     let _ = book;
+    let _lawful = domains.entries();
     domains.delete(way, reason)?;
     Ok(None)
 }

@@ -33,5 +33,5 @@ returns c =
     let why = reason.Ban c.in_ok-number.number in
     let held = refines_bans c.args.graphs.now facts c.args.book.now c.hold.new.self d (shown_one c.args.graphs.now facts c.args.book.now c.hold.new.self c.args.ban c.in_ok-number.ensures.held c.requires.shown.no_vector c.requires.shown.valid) in
     let covers = covers_last c.args.book.now c.hold.new.self c.args.ban (c.args.way ∷ held_in d.entries) c.in_ok-number.number c.in_ok-number.ensures.held c.in_ok-number.ensures.number c.requires.shown.within in
-    let gone = refines_one c.args.graphs.now facts c.hold.new.self d c.delete.new.self c.args.way why c.in_ok-delete.ensures.deleted covers tt in
+    let gone = refines_one c.args.graphs.now facts c.hold.new.self d c.delete.new.self c.args.way why c.in_ok-delete.ensures.deleted c.entries-lawful.ensures.lawful c.requires.known c.requires.open covers tt in
     settles_banned c.args.graphs.now facts c.args.book.now c.hold.new.self d c.delete.new.self c.args.way c.args.ban why c.in_ok-number.ensures.held c.in_ok-delete.ensures.deleted (refines_then c.args.graphs.now facts c.args.book.now c.hold.new.self c.hold.new.self d d c.delete.new.self held gone) c.requires.shown.within (subst (HaveNoBan c.hold.new.self) c.pairs.ensures.value c.in_default.ensures.none)
