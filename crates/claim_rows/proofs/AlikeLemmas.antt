@@ -51,16 +51,16 @@ apart_shown graphs facts pairs output one other ban known has first second is ro
     })
 
 -- A claim of one input and its image, by the pairs of the output and of the input.
-record IsCarried (pairs : List Pair) (claim image : Claim) : Type 0 where
-  output : Pair
-  input : Pair
-  value : Bool
-  output_held : Contains pairs output
-  output_kind : output.kind ≡ Output
-  input_held : Contains pairs input
-  input_kind : input.kind ≡ Input
-  claim_is : claim ≡ record { side = First; output = output.from; shape = one_input input.from value }
-  image_is : image ≡ record { side = Second; output = output.to; shape = one_input input.to (moved_value output.flip input value) }
+pub record IsCarried (pairs : List Pair) (claim image : Claim) : Type 0 where
+  pub output : Pair
+  pub input : Pair
+  pub value : Bool
+  pub output_held : Contains pairs output
+  pub output_kind : output.kind ≡ Output
+  pub input_held : Contains pairs input
+  pub input_kind : input.kind ≡ Input
+  pub claim_is : claim ≡ record { side = First; output = output.from; shape = one_input input.from value }
+  pub image_is : image ≡ record { side = Second; output = output.to; shape = one_input input.to (moved_value output.flip input value) }
 
 value_carried : (pairs : List Pair) (k i : ℕ) (value : Bool) (output : Pair) (shape : Shape) (image : Claim) → pair_of pairs Output k ≡ Some output → option_map (moved_one output.flip value) (pair_of pairs Input i) ≡ Some shape → claim_of_second output.to shape ≡ image → IsCarried pairs (record { side = First; output = k; shape = one_input i value }) image
 value_carried pairs k i value output shape image of_output moved is =
@@ -93,13 +93,13 @@ shape_carried pairs k (Down i) image one is =
 shape_carried pairs k (Swap i j a b) image one is = absurd one
 
 -- the claim of an image of one input is of one input
-one_back : (pairs : List Pair) (claim image : Claim) → IsImage pairs claim image → HasOneInput image.shape → HasOneInput claim.shape
+pub one_back : (pairs : List Pair) (claim image : Claim) → IsImage pairs claim image → HasOneInput image.shape → HasOneInput claim.shape
 one_back pairs claim image is one =
     let found = chained (λ output. option_map (claim_of_second output.to) (moved_shape pairs output.flip claim.shape)) (pair_of pairs Output claim.output) image is.1 in
     let moved = mapped (claim_of_second found.0.to) (moved_shape pairs found.0.flip claim.shape) image found.2 in
     (shape_moved pairs found.0.flip claim.shape moved.0 moved.1).1 (subst (λ (c : Claim). HasOneInput c.shape) (sym moved.2) one)
 
-carried_by : (pairs : List Pair) (claim image : Claim) → IsImage pairs claim image → HasOneInput claim.shape → IsCarried pairs claim image
+pub carried_by : (pairs : List Pair) (claim image : Claim) → IsImage pairs claim image → HasOneInput claim.shape → IsCarried pairs claim image
 carried_by pairs claim image is one =
     subst (λ (c : Claim). IsCarried pairs c image) (ap (λ (s : Side). record { side = s; output = claim.output; shape = claim.shape }) (sym is.0)) (shape_carried pairs claim.output claim.shape image one is.1)
 

@@ -1,7 +1,7 @@
 -- What pairs of an output and of one or two inputs carry claims of these to.
 use Rattle.std.proofs.Common.{◌≡◌, ◌≢◌, ◌⊎◌, ℕ, zero, suc, ◌<◌, ◌≤◌, Bool, true, false, cond, List, [], ◌∷◌, All, Some, nat_lt, refl, sym, ap, subst, ◌∙◌, inl, inr, arith, eq-eqb}
-use Rattle.std.specs.Prelude.{◌==◌, ◌&&◌, option_and_then, option_map}
-use Rattle.std.proofs.lemmas.Bool.{cases_lt, cond-false, cond-true, false≢true, lt-ltb, ltb-true, ne_eqb}
+use Rattle.std.specs.Prelude.{◌==◌, ◌&&◌, Contains, option_and_then, option_map}
+use Rattle.std.proofs.lemmas.Bool.{and_from, cases_Bool, cases_lt, cond-false, cond-true, false≢true, lt-ltb, ltb-true, ne_eqb}
 use Rattle.std.proofs.lemmas.List.Elements.{All-cons, All-nil}
 use Rattle.circuits.specs.declared.port.Pair.{Pair}
 use Rattle.circuits.specs.declared.port.PortKind.{PortKind}
@@ -15,6 +15,8 @@ use Rattle.query_core.specs.Claims.{IsClaim, IsPlaced}
 use Rattle.query_core.specs.Images.{claim_of_second, image_of, is_of, moved_one, moved_shape, moved_two, moved_value, one_input, pair_of, same_kind, two_inputs}
 use Rattle.account_core.specs.Mismatches.{IsImage}
 use Rattle.account_core.specs.Ports.{ports_in, AreOrdered, IsKnown, StandInOrder}
+use Rattle.account_core.proofs.Matched.{pair_of-held}
+use Rattle.account_core.proofs.OrderedPairs.{agree}
 
 kinds_differ : Input ≡ Output → ⊥
 kinds_differ e = cc
@@ -80,8 +82,38 @@ input_no_output pair port is = ap (λ k. same_kind k Output && (pair.from == por
 input_other : (pair : Pair) (port : ℕ) → pair.kind ≡ Input → pair.from ≢ port → is_of Input port pair ≡ false
 input_other pair port is apart = ap (λ k. same_kind k Input && (pair.from == port)) is ∙ ne_eqb pair.from port apart
 
+-- the pair of a port, where pairs are in order
+kind_same : (kind other : PortKind) → kind ≡ other → same_kind kind other ≡ true
+kind_same Input Input is = refl
+kind_same Input Output is = cc
+kind_same Output Input is = cc
+kind_same Output Output is = refl
+
+own : (pair : Pair) (kind : PortKind) (port : ℕ) → pair.kind ≡ kind → pair.from ≡ port → is_of kind port pair ≡ true
+own pair kind port kind_is from_is = and_from (same_kind pair.kind kind) (pair.from == port) (kind_same pair.kind kind kind_is) (eq-eqb pair.from port from_is)
+
+some_pair : (pairs : List Pair) (kind : PortKind) (port : ℕ) (pair : Pair) → Contains pairs pair → pair.kind ≡ kind → pair.from ≡ port → (other : Pair) × (pair_of pairs kind port ≡ Some other)
+some_pair [] kind port pair held kind_is from_is = absurd (omega (arith, held.1))
+some_pair (one ∷ pairs) kind port pair held kind_is from_is =
+    elim (cases_Bool (is_of kind port one)) [
+      | inl yes' ↦ (one, found_first kind port one pairs yes')
+      | inr no' ↦
+          let found = by_place held no' (λ later. some_pair pairs kind port pair later kind_is from_is) in
+          (found.0, found_later kind port one pairs no' ∙ found.1)
+    ]
+  where
+    by_place : Contains (one ∷ pairs) pair → is_of kind port one ≡ false → (Contains pairs pair → (other : Pair) × (pair_of pairs kind port ≡ Some other)) → (other : Pair) × (pair_of pairs kind port ≡ Some other)
+    by_place (zero, below, is) no' of_later = absurd (false≢true (sym no' ∙ (ap (is_of kind port) is ∙ own pair kind port kind_is from_is)))
+    by_place (suc k, below, is) no' of_later = of_later (k, omega (arith, below), is)
+
+pub pair_of-one : (pairs : List Pair) (pair : Pair) (kind : PortKind) (port : ℕ) → AreOrdered pairs → Contains pairs pair → pair.kind ≡ kind → pair.from ≡ port → pair_of pairs kind port ≡ Some pair
+pair_of-one pairs pair kind port ordered held kind_is from_is =
+    let found = some_pair pairs kind port pair held kind_is from_is in
+    let is = pair_of-held pairs kind port found.0 found.1 in
+    found.1 ∙ ap Some (agree pairs ordered found.0 pair is.0 held (is.1 ∙ sym kind_is) (inl (is.2 ∙ sym from_is)))
+
 -- the image of a claim of one input, and of a claim of two, whose ports have these pairs
-one_image : (pairs : List Pair) (input output : Pair) (k i : ℕ) (a : Bool) → pair_of pairs Output k ≡ Some output → pair_of pairs Input i ≡ Some input → image_of pairs (record { side = First; output = k; shape = one_input i a }) ≡ Some (claim_of_second output.to (one_input input.to (moved_value output.flip input a)))
+pub one_image : (pairs : List Pair) (input output : Pair) (k i : ℕ) (a : Bool) → pair_of pairs Output k ≡ Some output → pair_of pairs Input i ≡ Some input → image_of pairs (record { side = First; output = k; shape = one_input i a }) ≡ Some (claim_of_second output.to (one_input input.to (moved_value output.flip input a)))
 one_image pairs input output k i false of_output of_input =
     ap (λ found. option_and_then (λ (o : Pair). option_map (claim_of_second o.to) (moved_shape pairs o.flip (one_input i false))) found) of_output
     ∙ ap (λ found. option_map (claim_of_second output.to) (option_map (moved_one output.flip false) found)) of_input

@@ -1,7 +1,6 @@
 -- Calls that have claims decided and hold bans while pairs are held and deleted.
-use Rattle.std.proofs.Common.{◌≡◌, ◌≤◌, ◌<◌, ℕ, Bool, List, [], ◌∷◌, ◌++◌, map, Option, None, Some, Result, Ok, Err, refl, sym, ap, subst, ◌∙◌, arith}
+use Rattle.std.proofs.Common.{◌≡◌, ◌≤◌, ℕ, List, [], ◌∷◌, ◌++◌, map, Option, None, Some, Result, Ok, Err, refl, sym, ap, subst, ◌∙◌, arith}
 use Rattle.std.specs.Prelude.{Contains, IfOk, IfSome}
-use Rattle.std.proofs.lemmas.List.{map-append}
 use Rattle.std.proofs.lemmas.List.Elements.{Contains-append_left}
 use Rattle.std.proofs.lemmas.Result.{IfOk-weaker}
 use Rattle.cnf_core.specs.declared.stop.Stop.{Stop}
@@ -11,7 +10,6 @@ use Rattle.circuits.specs.declared.port.PortKind.TheVariants.{Input, Output}
 use Rattle.net_core.specs.Sides.{Graphs}
 use Rattle.query_core.specs.Ledgers.{Ledgered}
 use Rattle.account_core.specs.declared.step.Ban.{Ban}
-use Rattle.account_core.specs.Ports.{IsKnown}
 use Rattle.account_core.specs.Given.{Decided, decided_by, given_of}
 use Rattle.account_core.specs.Steps.{IsValidBan}
 use Rattle.account_core.specs.declared.step.Step.TheVariants as step
@@ -22,31 +20,24 @@ use Rattle.table_guess.specs.declared.trials.Trials.{Trials}
 use Rattle.table_guess.specs.Trials.{AreTrials}
 use Rattle.ban_book.specs.Vectors.{AreLastResorts}
 use Rattle.ban_book.proofs.VectorLemmas.{last_resorts_push_other}
-use Rattle.fact_bans.specs.Serving.{HasServed, OnlyAdds}
+use Rattle.fact_bans.specs.Serving.{HasServed}
 use Rattle.fact_bans.proofs.ServeLemmas.{served_then}
 use Rattle.fact_bans.proofs.HoldingLemmas.{HasHeld, adds_then}
 use Rattle.class_refine.specs.declared.entry.Entry.{Entry}
 use Rattle.class_refine.specs.declared.entry.Fate.TheVariants.{Deleted}
 use Rattle.class_refine.specs.declared.entry.Reason.TheVariants.{Mismatch}
-use Rattle.class_refine.specs.Trails.{AreEntries, Domained, IsOpen, IsPairOf, held_in, ports_of}
+use Rattle.class_refine.specs.Trails.{AreEntries, Domained, IsOpen, IsPairOf, held_in}
 use Rattle.conflict_core.specs.Grounded.{AreGrounded, IsGrounded, LearnsMore, StayGrounded, in_order}
 use Rattle.conflict_core.specs.Named.{deleted}
-use Rattle.conflict_core.proofs.GroundedLemmas.{grounded_later, grounded_push}
-use Rattle.conflict_core.specs.Conflicts.{FitPorts}
+use Rattle.conflict_core.proofs.GroundedLemmas.{grounded_push}
 use Rattle.conflict_core.specs.Justified.{AreJustified}
-use Rattle.conflict_core.proofs.JustifiedLemmas.{held_append, justified_later}
+use Rattle.conflict_core.proofs.JustifiedLemmas.{held_append}
 use Rattle.pair_search.specs.Progress.{IsTrail, Propagates, left}
 use Rattle.pair_search.proofs.StepLemmas.{HasOneMore, justified_one, less_one, one_more_of, trail_on}
+pub use Rattle.pair_refine.proofs.TrailLemmas.{known_of, shown_adds, shown_grows, trail_adds}
 use Rattle.match_search.specs.declared.ahead.Ahead.{Ahead}
 use Rattle.match_search.specs.declared.ahead.Ahead.TheVariants as ahead
 use Rattle.match_search.specs.States.{Deletes, IsAhead, IsShownTrail}
-
--- bans that come change nothing of what follows
-pub trail_adds : (graphs : Graphs) (before after : List Ban) (d : Domained) → OnlyAdds before after → IsTrail graphs before d → IsTrail graphs after d
-trail_adds graphs before after d adds is = record {
-  fit = is.fit;
-  justified = justified_later d.inputs d.outputs before adds.added after d.entries adds.more is.justified;
-}
 
 -- the trail after pairs were held and deleted in view of the bans as they were lent
 pub trail_beside : (graphs : Graphs) (bans lent : List Ban) (before after : Domained) → lent ≡ bans → IsTrail graphs bans before → after.inputs ≡ before.inputs → after.outputs ≡ before.outputs → AreJustified after.inputs after.outputs lent after.entries → IsTrail graphs bans after
@@ -55,18 +46,6 @@ trail_beside graphs bans lent before after same is inputs outputs are =
 
 pub trail_follows : (graphs : Graphs) (bans lent : List Ban) (before after : Domained) → lent ≡ bans → IsTrail graphs bans before → Propagates lent before after → IsTrail graphs bans after
 trail_follows graphs bans lent before after same is follows = trail_beside graphs bans lent before after same is follows.inputs follows.outputs follows.justified
-
--- facts that come after show what was shown
-pub shown_grows : (graphs : Graphs) (old new : Known) (es : List Entry) → Grows old new → AreGrounded graphs (map decided_by old.facts) es → AreGrounded graphs (map decided_by new.facts) es
-shown_grows graphs old new es grows is =
-    grounded_later graphs (map decided_by old.facts) (map decided_by grows.added) (map decided_by new.facts) es (ap (map decided_by) grows.facts ∙ map-append decided_by old.facts grows.added) is
-
--- a trail that is shown, after facts and bans came
-pub shown_adds : (graphs : Graphs) (old new : Known) (before after : List Ban) (d : Domained) → Grows old new → OnlyAdds before after → IsShownTrail graphs old before d → IsShownTrail graphs new after d
-shown_adds graphs old new before after d grows adds is = record {
-  trail = trail_adds graphs before after d adds is.trail;
-  shown = shown_grows graphs old new d.entries grows is.shown;
-}
 
 -- after pairs were held and deleted in view of the bans as they were lent
 pub shown_beside : (graphs : Graphs) (known : Known) (bans lent : List Ban) (before after : Domained) → lent ≡ bans → IsShownTrail graphs known bans before → after.inputs ≡ before.inputs → after.outputs ≡ before.outputs → AreJustified after.inputs after.outputs lent after.entries → StayGrounded before.entries after.entries → IsShownTrail graphs known bans after
@@ -142,14 +121,6 @@ deleting_then graphs old mid now a b c bans pair start before after one served d
   deletes = record { trail = deletes.trail; held = deletes.held; less = omega (arith, one.deletes.less, deletes.less) };
 }
 
-known_at : (graphs : Graphs) (n m : ℕ) (kind : PortKind) (from to : ℕ) (flip : Bool) → FitPorts graphs n m → from < ports_of n m kind → to < ports_of n m kind → IsKnown graphs (record { kind = kind; from = from; to = to; flip = flip })
-known_at graphs n m Input from to flip fit first second = record { from = omega (arith, first, fit.inputs_are); to = omega (arith, second, fit.inputs_are, fit.many.inputs) }
-known_at graphs n m Output from to flip fit first second = record { from = omega (arith, first, fit.outputs_are); to = omega (arith, second, fit.outputs_are, fit.many.outputs) }
-
--- ports that the domains have are ports of the circuits
-pub known_of : (graphs : Graphs) (n m : ℕ) (pair : Pair) → FitPorts graphs n m → IsPairOf n m pair → IsKnown graphs pair
-known_of graphs n m pair fit is = known_at graphs n m pair.kind pair.from pair.to pair.flip fit is.from is.to
-
 -- Bans were held, while pairs were held and deleted as it follows.
 pub record IsUnderWay (graphs : Graphs) (old now : Known) (a b : Ledgered) (bans more : List Ban) (domains : Domained) (vectors : Trials) : Type 0 where
   pub held : HasHeld graphs old now a b bans more
@@ -161,12 +132,12 @@ pub record IsSettling (graphs : Graphs) (old now : Known) (a b : Ledgered) (bans
   pub way : IsUnderWay graphs old now a b bans more domains vectors
   pub less : left domains ≤ left start
 
-step_later : (graphs : Graphs) (bans : List Ban) (start before after : Domained) (step : Ahead) → left before ≤ left start → IsAhead graphs bans before after step → IsAhead graphs bans start after step
-step_later graphs bans start before after ahead.Deeper less is = omega (arith, less, is)
-step_later graphs bans start before after (ahead.Match matching logs) less is = is
-step_later graphs bans start before after (ahead.Impasse impasse) less is = record { impasse_is = is.impasse_is; less = omega (arith, less, is.less) }
+step_later : (graphs : Graphs) (facts : List Decided) (bans : List Ban) (start before after : Domained) (step : Ahead) → left before ≤ left start → IsAhead graphs facts bans before after step → IsAhead graphs facts bans start after step
+step_later graphs facts bans start before after ahead.Deeper less is = omega (arith, less, is)
+step_later graphs facts bans start before after (ahead.Match matching logs) less is = is
+step_later graphs facts bans start before after (ahead.Impasse impasse) less is = record { impasse_is = is.impasse_is; less = omega (arith, less, is.less) }
 
 -- a step after others after which no more is left
-pub ahead_later : (graphs : Graphs) (bans : List Ban) (start before after : Domained) (result : Result Ahead Stop) → left before ≤ left start → IfOk result (IsAhead graphs bans before after) → IfOk result (IsAhead graphs bans start after)
-ahead_later graphs bans start before after result less is =
-    IfOk-weaker result (IsAhead graphs bans before after) (IsAhead graphs bans start after) (λ step. step_later graphs bans start before after step less) is
+pub ahead_later : (graphs : Graphs) (facts : List Decided) (bans : List Ban) (start before after : Domained) (result : Result Ahead Stop) → left before ≤ left start → IfOk result (IsAhead graphs facts bans before after) → IfOk result (IsAhead graphs facts bans start after)
+ahead_later graphs facts bans start before after result less is =
+    IfOk-weaker result (IsAhead graphs facts bans before after) (IsAhead graphs facts bans start after) (λ step. step_later graphs facts bans start before after step less) is

@@ -4,4 +4,3 @@ pub mod AskLemmas
 pub mod CompareLemmas
 pub mod SearchLemmas
 pub mod FreeLemmas
-pub mod ClaimLemmas

@@ -1,15 +1,13 @@
 -- What a search comes to.
-use Rattle.std.specs.Prelude.{◌≡◌, ℕ, ◌<◌, ⊤, Bool, List, [], ◌∷◌, ◌++◌, length, Option, Some, None}
+use Rattle.std.specs.Prelude.{◌≡◌, ℕ, ⊤, Bool, List, [], ◌∷◌, ◌++◌, Option, Some, None}
 use Rattle.cnf_core.specs.declared.log.Log.{Log}
-use Rattle.net_core.specs.Sides.{Graphs, graph_of}
-use Rattle.net_core.specs.declared.graphs.Side.{Side}
-use Rattle.net_core.specs.declared.graphs.Side.TheVariants.{First, Second}
+use Rattle.net_core.specs.Sides.{Graphs}
 use Rattle.net_core.specs.declared.matching.Matching.{Matching}
 use Rattle.account_core.specs.declared.step.Ban.{Ban}
 use Rattle.account_core.specs.Given.{Decided}
 use Rattle.account_core.specs.Shown.{AreSame, IsEmptyBan, IsShownMatch}
-use Rattle.ban_book.specs.Vectors.{AreInputsDecided}
 use Rattle.oracle_core.specs.Oracles.{IsDifference}
+pub use Rattle.pair_refine.specs.Stable.{AreDecidedOn, AreOutputsDecided}
 use Rattle.match_search.specs.declared.guessed.Guessed.{Guessed}
 use Rattle.match_search.specs.declared.guessed.Guessed.TheVariants as guessed
 use Rattle.match_search.specs.declared.found.Found.{Found}
@@ -37,17 +35,7 @@ abbrev pub IsFound : Graphs → List Ban → Found → Type 0
 IsFound graphs bans (found.Match matching logs) = IsShownMatch graphs matching logs
 IsFound graphs bans (found.None number) = IsEmptyBan bans number
 
--- a match was found
-abbrev pub IsMatch : Found → Type 0
-IsMatch (found.Match matching logs) = ⊤
-IsMatch (found.None number) = ⊥
-
--- the claims of one input of each output of a circuit are decided
-abbrev pub AreDecidedOn : Graphs → List Decided → Side → Type 0
-AreDecidedOn graphs facts side =
-    (output : ℕ) → output < length (graph_of graphs side).outputs → AreInputsDecided facts (graph_of graphs side).inputs side output
-
--- For each output of both circuits it was decided whether it may fall where an input goes up, and where one goes down.
-pub record AreOutputsDecided (graphs : Graphs) (facts : List Decided) : Type 0 where
-  pub first : AreDecidedOn graphs facts First
-  pub second : AreDecidedOn graphs facts Second
+-- where a match was found, the claims of one input of all outputs are decided
+abbrev pub IsDecidedFound : Graphs → List Decided → Found → Type 0
+IsDecidedFound graphs facts (found.Match matching logs) = AreOutputsDecided graphs facts
+IsDecidedFound graphs facts (found.None number) = ⊤

@@ -1,27 +1,23 @@
 -- What a step of a search leaves.
-use Rattle.std.specs.Prelude.{◌<◌, ◌≤◌, List, map, Contains}
+use Rattle.std.specs.Prelude.{◌<◌, ◌≤◌, List, Contains}
 use Rattle.circuits.specs.declared.port.Pair.{Pair}
 use Rattle.net_core.specs.Sides.{Graphs}
 use Rattle.account_core.specs.declared.step.Ban.{Ban}
-use Rattle.account_core.specs.Given.{decided_by}
+use Rattle.account_core.specs.Given.{Decided}
 use Rattle.account_core.specs.Shown.{IsShownMatch}
 use Rattle.ban_book.specs.Covering.{Covers}
 use Rattle.class_refine.specs.Trails.{Domained, held_in}
-use Rattle.conflict_core.specs.Grounded.{AreGrounded}
 use Rattle.oracle_core.specs.Oracles.{Known}
 use Rattle.pair_search.specs.declared.impasse.Impasse.{Impasse}
 use Rattle.pair_search.specs.Impasses.{IsImpasse}
-use Rattle.pair_search.specs.Progress.{IsTrail, left}
+use Rattle.pair_search.specs.Progress.{left}
+use Rattle.pair_refine.specs.Stable.{AreOutputsDecided}
 use Rattle.match_search.specs.declared.ahead.Ahead.{Ahead}
 use Rattle.match_search.specs.declared.ahead.Ahead.TheVariants as ahead
 use Rattle.match_search.specs.declared.ahead.Settled.{Settled}
 use Rattle.match_search.specs.declared.ahead.Settled.TheVariants as settled
 pub use Rattle.fact_bans.specs.Serving.{AreValid, HasServed}
-
--- A trail, and facts that show its deletions by mismatches.
-pub record IsShownTrail (graphs : Graphs) (known : Known) (bans : List Ban) (domains : Domained) : Type 0 where
-  pub trail : IsTrail graphs bans domains
-  pub shown : AreGrounded graphs (map decided_by known.facts) domains.entries
+pub use Rattle.pair_refine.specs.Refining.{IsShownTrail}
 
 -- More pairs may be deleted by mismatches beside one that stays held, no more is left than before, and facts show the trail.
 pub record Deletes (graphs : Graphs) (known : Known) (bans : List Ban) (pair : Pair) (before after : Domained) : Type 0 where
@@ -34,11 +30,11 @@ pub record IsStuck (bans : List Ban) (before after : Domained) (impasse : Impass
   pub impasse_is : IsImpasse after.inputs after.outputs bans after.entries impasse
   pub less : left after ≤ left before
 
--- a step ahead: less is left, a match was found, or it doesn't go on
-abbrev pub IsAhead : Graphs → List Ban → Domained → Domained → Ahead → Type 0
-IsAhead graphs bans before after ahead.Deeper = left after < left before
-IsAhead graphs bans before after (ahead.Match matching logs) = IsShownMatch graphs matching logs
-IsAhead graphs bans before after (ahead.Impasse impasse) = IsStuck bans before after impasse
+-- a step ahead: less is left, a match was found, with all claims of one input decided, or it doesn't go on
+abbrev pub IsAhead : Graphs → List Decided → List Ban → Domained → Domained → Ahead → Type 0
+IsAhead graphs facts bans before after ahead.Deeper = left after < left before
+IsAhead graphs facts bans before after (ahead.Match matching logs) = IsShownMatch graphs matching logs × AreOutputsDecided graphs facts
+IsAhead graphs facts bans before after (ahead.Impasse impasse) = IsStuck bans before after impasse
 
 -- a whole table is a match, or has all pairs of a ban
 abbrev pub IsSettled : Graphs → List Ban → List Pair → Settled → Type 0

@@ -1,10 +1,12 @@
 //! The search, step by step.
 
-ghost use Rattle.std.specs.Prelude.{◌≡◌, ◌<◌, ◌≤◌, [], List, IfNone, IfOk, IfSome, OnOk};
+ghost use Rattle.std.specs.Prelude.{◌≡◌, ◌<◌, ◌≤◌, [], List, IfNone, IfOk, IfSome, OnOk, map};
 ghost use Rattle.account_core.specs.declared.step.Ban.{Ban as AnyBan};
+ghost use Rattle.account_core.specs.Given.{decided_by};
+ghost use Rattle.account_core.specs.Shown.{IsShownMatch};
 ghost use Rattle.oracle_core.specs.Oracles.{Serves};
 ghost use Rattle.fact_bans.specs.Serving.{HoldsBans, MayHold};
-ghost use Rattle.match_search.specs.Founds.{IsFound};
+ghost use Rattle.match_search.specs.Founds.{IsDecidedFound, IsFound};
 ghost use Rattle.port_covers.specs.Held.{IsWhole};
 ghost use Rattle.class_refine.specs.Trails.{held_in};
 ghost use Rattle.pair_search.specs.Progress.{IsTrail, left};
@@ -20,8 +22,12 @@ use crate::next_port::next_port;
 use ban_book::BanBook;
 use circuits::PortKind;
 use class_refine::Domains;
-use cnf_core::Stop;
+use cnf_core::{Log, Stop};
+use fact_bans::Seen;
+use items::Items;
+use net_core::Matching;
 use oracle_core::Oracle;
+use pair_refine::{Refined, refine};
 use pair_search::{Impasse, Queue, branch, turn_back};
 use port_sides::PairableGraphs;
 use query_core::Ledger;
@@ -30,7 +36,8 @@ use watch_core::Stage;
 
 /// Decides ports one by one, as conflict-driven solvers decide variables, until a match is found, or a ban without pairs. What
 /// follows of bans and of ports with one way left is held and deleted; from an impasse a ban is learned that leads as far back as
-/// it can, and the outputs of whole tables are compared. What the search goes by comes from the caller, and bans may be held.
+/// it can, and the outputs of whole tables are compared. What the search goes by comes from the caller, and bans may be held. Where
+/// a match is found, the claims of one input of all outputs are decided.
 ///
 /// # Errors
 ///
@@ -48,6 +55,7 @@ pub(crate) fn explore<O: Oracle>(
     ensures serves { Serves (O.known oracle.old) (O.known oracle.new) ledger.old ledger.new result }
     ensures valid { AreValid graphs.now (O.known oracle.new) book.new }
     ensures found { IfOk result (IsFound graphs.now book.new) }
+    ensures decided { IfOk result (IsDecidedFound graphs.now (map decided_by (O.known oracle.new).facts)) }
 {
     let mut domains = open_domains(alloc, graphs)?;
     let mut queue = Queue::new(
@@ -103,6 +111,8 @@ fn turn<O: Oracle>(
     ensures trail { OnOk result (IsShownTrail graphs.now (O.known oracle.new) book.new domains.new) }
     ensures less { IfOk result (λ found. IfNone found (left domains.new < left domains.old)) }
     ensures found { IfOk result (λ found. IfSome found (IsFound graphs.now book.new)) }
+    ensures decided { IfOk result (λ found. IfSome found
+        (IsDecidedFound graphs.now (map decided_by (O.known oracle.new).facts))) }
 {
     oracle.at(Stage::Banning {
         bans: book.bans().len() as u64,
@@ -139,7 +149,7 @@ fn ahead<O: Oracle>(
     ensures holds { HoldsBans graphs.now (O.known oracle.old) (O.known oracle.new) ledger.old ledger.new book.old book.new result }
     ensures trials { OnOk result (AreTrials graphs.now.first guide.new.trials) }
     ensures trail { OnOk result (IsShownTrail graphs.now (O.known oracle.new) book.new domains.new) }
-    ensures ahead { IfOk result (IsAhead graphs.now book.new domains.old domains.new) }
+    ensures ahead { IfOk result (IsAhead graphs.now (map decided_by (O.known oracle.new).facts) book.new domains.old domains.new) }
 {
     if let Some(impasse) = follow(alloc, graphs, oracle, guide, domains, queue, book, ledger)? {
         return Ok(Ahead::Impasse(impasse));
@@ -163,7 +173,7 @@ fn go_on<O: Oracle>(
     ensures holds { HoldsBans graphs.now (O.known oracle.old) (O.known oracle.new) ledger.old ledger.new book.old book.new result }
     ensures trials { OnOk result (AreTrials graphs.now.first guide.new.trials) }
     ensures trail { OnOk result (IsShownTrail graphs.now (O.known oracle.new) book.new domains.new) }
-    ensures ahead { IfOk result (IsAhead graphs.now book.new domains.old domains.new) }
+    ensures ahead { IfOk result (IsAhead graphs.now (map decided_by (O.known oracle.new).facts) book.new domains.old domains.new) }
 {
     let Some(port) = next_port(alloc, graphs, &guide.reads, &guide.weights, domains)? else {
         return compare_held(alloc, graphs, oracle, guide, domains, book, ledger);
@@ -180,18 +190,18 @@ fn compare_held<O: Oracle>(
     graphs: &PairableGraphs<'_>,
     oracle: &mut O,
     guide: &mut Guide,
-    domains: &Domains,
+    domains: &mut Domains,
     book: &mut BanBook,
     ledger: &mut Ledger,
 ) -> Result<Ahead, Stop>
     requires may { MayHold graphs.now (O.known oracle.old) ledger.old book.old }
-    requires trail { IsTrail graphs.now book.old domains.now }
-    requires whole { IsWhole graphs.now (held_in domains.now.entries) }
+    requires trail { IsShownTrail graphs.now (O.known oracle.old) book.old domains.old }
+    requires whole { IsWhole graphs.now (held_in domains.old.entries) }
     requires trials { AreTrials graphs.now.first guide.old.trials }
     ensures holds { HoldsBans graphs.now (O.known oracle.old) (O.known oracle.new) ledger.old ledger.new book.old book.new result }
     ensures trials { OnOk result (AreTrials graphs.now.first guide.new.trials) }
-    ensures trail { OnOk result (IsTrail graphs.now book.new domains.now) }
-    ensures ahead { IfOk result (IsAhead graphs.now book.new domains.now domains.now) }
+    ensures trail { OnOk result (IsShownTrail graphs.now (O.known oracle.new) book.new domains.new) }
+    ensures ahead { IfOk result (IsAhead graphs.now (map decided_by (O.known oracle.new).facts) book.new domains.old domains.new) }
 {
     let _lawful = domains.entries();
     match compare_whole(
@@ -204,7 +214,38 @@ fn compare_held<O: Oracle>(
         book,
         ledger,
     )? {
-        Settled::Match(matching, logs) => Ok(Ahead::Match(matching, logs)),
+        Settled::Match(matching, logs) => {
+            let seen = &mut guide.seen;
+            confirm(
+                alloc, graphs, oracle, domains, matching, logs, seen, book, ledger,
+            )
+        }
         Settled::Ban(ban) => Ok(Ahead::Impasse(Impasse::Ban(ban))),
+    }
+}
+
+// Answers a match, once the claims of one input of all outputs are decided. Neither these nor bans exclude the pairs of a match, so
+// that the other answer of refining is not expected here; but it is no harm, and goes the way of any ban.
+fn confirm<O: Oracle>(
+    alloc: Global,
+    graphs: &PairableGraphs<'_>,
+    oracle: &mut O,
+    domains: &mut Domains,
+    matching: Matching,
+    logs: Items<Log>,
+    seen: &mut Seen,
+    book: &mut BanBook,
+    ledger: &mut Ledger,
+) -> Result<Ahead, Stop>
+    requires may { MayHold graphs.now (O.known oracle.old) ledger.old book.old }
+    requires trail { IsShownTrail graphs.now (O.known oracle.old) book.old domains.old }
+    requires shown { IsShownMatch graphs.now matching logs }
+    ensures holds { HoldsBans graphs.now (O.known oracle.old) (O.known oracle.new) ledger.old ledger.new book.old book.new result }
+    ensures trail { OnOk result (IsShownTrail graphs.now (O.known oracle.new) book.new domains.new) }
+    ensures ahead { IfOk result (IsAhead graphs.now (map decided_by (O.known oracle.new).facts) book.new domains.old domains.new) }
+{
+    match refine(alloc, graphs, oracle, domains, seen, book, ledger)? {
+        Refined::Stable => Ok(Ahead::Match(matching, logs)),
+        Refined::Dead(ban) => Ok(Ahead::Impasse(Impasse::Ban(ban))),
     }
 }

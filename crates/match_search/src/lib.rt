@@ -2,7 +2,6 @@
 #![tactic(auto)]
 
 mod ahead;
-mod all_claims;
 mod asking;
 mod branching;
 mod candidate;

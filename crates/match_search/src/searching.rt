@@ -6,11 +6,10 @@ ghost use Rattle.account_core.specs.Steps.{AreValidBans};
 ghost use Rattle.oracle_core.specs.Oracles.{Serves, Suits};
 ghost use Rattle.fact_bans.specs.Serving.{MayHold};
 ghost use Rattle.ban_book.specs.Vectors.{AreLastResorts};
-ghost use Rattle.match_search.specs.Founds.{AreOutputsDecided, IsFound, IsMatch};
+ghost use Rattle.match_search.specs.Founds.{IsDecidedFound, IsFound};
 ghost use Rattle.match_search.specs.States.{AreValid};
 ghost use Rattle.table_guess.specs.Trials.{AreTrials};
 
-use crate::all_claims::decide_found;
 use crate::branching::explore;
 use crate::found::Found;
 use crate::guide::Guide;
@@ -53,14 +52,11 @@ pub fn search<O: Oracle>(
     ensures bans { AreValidBans graphs.now (map decided_by (O.known oracle.new).facts) book.new }
     ensures last_resorts { AreLastResorts graphs.now (map decided_by (O.known oracle.new).facts) book.new }
     ensures found { IfOk result (IsFound graphs.now book.new) }
-    ensures decided { IfOk result (λ found. IsMatch found
-        → AreOutputsDecided graphs.now (map decided_by (O.known oracle.new).facts)) }
+    ensures decided { IfOk result (IsDecidedFound graphs.now (map decided_by (O.known oracle.new).facts)) }
 {
     let _facts = oracle.facts();
     let mut guide = Guide::new(alloc, graphs, seed)?;
-    let found = refuse_or_explore(alloc, graphs, oracle, &mut guide, book, ledger)?;
-    decide_found(alloc, graphs, oracle, &found, &mut guide.seen, ledger)?;
-    Ok(found)
+    refuse_or_explore(alloc, graphs, oracle, &mut guide, book, ledger)
 }
 
 /// Searches unless counts of inputs refuse a match. What the search goes by comes from the caller, and bans may be held.
@@ -77,6 +73,7 @@ pub(crate) fn refuse_or_explore<O: Oracle>(
     ensures serves { Serves (O.known oracle.old) (O.known oracle.new) ledger.old ledger.new result }
     ensures valid { AreValid graphs.now (O.known oracle.new) book.new }
     ensures found { IfOk result (IsFound graphs.now book.new) }
+    ensures decided { IfOk result (IsDecidedFound graphs.now (map decided_by (O.known oracle.new).facts)) }
 {
     let seen = &mut guide.seen;
     if let Some(ban) = refuse(alloc, graphs, oracle, MOST_TRIES, seen, book, ledger)? {

@@ -54,7 +54,7 @@ first_of x es true held = (0, omega arith, refl)
 first_of x es false held = absurd (false≢true held)
 
 -- the pair of an entry that holds it is held
-held_by : (es : List Entry) (k : ℕ) (d : Entry) → k < length es → is_held (get_or es k d).fate ≡ true → Contains (held_in es) (get_or es k d).pair
+pub held_by : (es : List Entry) (k : ℕ) (d : Entry) → k < length es → is_held (get_or es k d).fate ≡ true → Contains (held_in es) (get_or es k d).pair
 held_by [] k d below held = absurd (omega (arith, below))
 held_by (x ∷ es) zero d below held = first_of x es (is_held x.fate) held
 held_by (x ∷ es) (suc k) d below held = wider x es (get_or es k d).pair (is_held x.fate) (held_by es k d (omega (arith, below)) held)

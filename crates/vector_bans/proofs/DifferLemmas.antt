@@ -34,6 +34,7 @@ use Rattle.account_core.proofs.SentOnly.{sent_only}
 use Rattle.port_covers.specs.Held.{IsOf, IsWhole}
 use Rattle.vector_bans.specs.Differences.{of_bit, pair_from, pairs_from, IsShown}
 use Rattle.port_covers.proofs.ListLemmas.{cons_cases, contained_of_any}
+use Rattle.claim_rows.proofs.MismatchLemmas.{pair_of-one}
 use Rattle.vector_bans.proofs.DefiniteLemmas.{of_differ, of_bit_definite, of_bit_same, of_output}
 
 -- two pairs of a port that a matching has are one
@@ -190,33 +191,6 @@ module _ (graphs : Graphs) (matching : Matching) (output : ℕ) (ports : HavePor
       let other_held = contained_of_any (IsOf First x.kind x.from) held any in
       let other_has = All-contains (HasPair matching.inputs matching.outputs) held any.1 extends other_held in
       subst (Contains held) (same_pair matching.inputs matching.outputs any.1 x any.4.kind_is any.4.port_is other_has has) other_held
-
--- the pair of a port, where pairs are in order
-kind_same : (kind other : PortKind) → kind ≡ other → same_kind kind other ≡ true
-kind_same Input Input is = refl
-kind_same Input Output is = cc
-kind_same Output Input is = cc
-kind_same Output Output is = refl
-
-some_pair : (pairs : List Pair) (kind : PortKind) (port : ℕ) (pair : Pair) → Contains pairs pair → pair.kind ≡ kind → pair.from ≡ port → (other : Pair) × (pair_of pairs kind port ≡ Some other)
-some_pair [] kind port pair held kind_is from_is = absurd (omega (arith, held.1))
-some_pair (one ∷ pairs) kind port pair held kind_is from_is =
-    elim (cases_Bool (is_of kind port one)) [
-      | inl yes' ↦ (one, cond-true (is_of kind port one) (Some one) (find (is_of kind port) pairs) yes')
-      | inr no' ↦
-          elim (cons_cases pairs one pair held) [
-            | inl same ↦ absurd (false≢true (sym no' ∙ (ap (is_of kind port) same ∙ and_from (same_kind pair.kind kind) (eqb pair.from port) (kind_same pair.kind kind kind_is) (eq-eqb pair.from port from_is))))
-            | inr later ↦
-                let found = some_pair pairs kind port pair later kind_is from_is in
-                (found.0, cond-false (is_of kind port one) (Some one) (find (is_of kind port) pairs) no' ∙ found.1)
-          ]
-    ]
-
-pair_of-one : (pairs : List Pair) (pair : Pair) (kind : PortKind) (port : ℕ) → AreOrdered pairs → Contains pairs pair → pair.kind ≡ kind → pair.from ≡ port → pair_of pairs kind port ≡ Some pair
-pair_of-one pairs pair kind port ordered held kind_is from_is =
-    let found = some_pair pairs kind port pair held kind_is from_is in
-    let is = pair_of-held pairs kind port found.0 found.1 in
-    found.1 ∙ ap Some (agree pairs ordered found.0 pair is.0 held (is.1 ∙ sym kind_is) (inl (is.2 ∙ sym from_is)))
 
 -- the ban of what is shown
 pub vector_valid : (graphs : Graphs) (given : Given) (all_pairs pairs : List Pair) (pair : Pair) (taken : List Tri) → pair.from < length graphs.first.outputs → IsShown graphs all_pairs pair taken pairs → IsValidBan graphs given (record { pairs = pairs; step = step.Vector pair.from taken })

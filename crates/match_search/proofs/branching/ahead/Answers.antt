@@ -1,4 +1,5 @@
-use Rattle.std.proofs.Common.{refl}
+use Rattle.std.proofs.Common.{map, refl}
+use Rattle.account_core.specs.Given.{decided_by}
 use Rattle.std.proofs.lemmas.Result.{err_from_is_err_and}
 use Rattle.fact_bans.proofs.HoldingLemmas.{held_one, held_same, holds_err, holds_last, holds_ok, may_later}
 use Rattle.match_search.proofs.AskLemmas.{ahead_later}
@@ -25,4 +26,4 @@ pub returns-clause-holds : goal.returns-clause-holds
 returns-clause-holds g c = holds_last _ _ _ _ _ _ _ _ _ _ _ (held_one _ _ _ _ _ _ _ _ c.in_ok-impasse.ensures.holds) c.go_on.ensures.holds
 
 pub returns-clause-ahead : goal.returns-clause-ahead
-returns-clause-ahead g c = ahead_later c.args.graphs.now c.go_on.new.book c.args.domains.now c.follow.new.domains c.go_on.new.domains c.go_on.result c.in_ok-impasse.ensures.less c.go_on.ensures.ahead
+returns-clause-ahead g c = ahead_later c.args.graphs.now (map decided_by (g.O.Oracle.known c.go_on.new.oracle).facts) c.go_on.new.book c.args.domains.now c.follow.new.domains c.go_on.new.domains c.go_on.result c.in_ok-impasse.ensures.less c.go_on.ensures.ahead

@@ -1,10 +1,7 @@
 use Rattle.std.proofs.Common.{refl}
 use Rattle.std.proofs.lemmas.Result.{err_from_is_err_and}
 use Rattle.fact_bans.proofs.HoldingLemmas.{held_same, holds_ok, holds_stop}
-use Rattle.conflict_core.proofs.ConflictLemmas.{on_ok}
-use Rattle.pair_search.specs.Progress.{IsTrail}
-use Rattle.match_search.specs.States.{IsShownTrail}
-use Rattle.match_search.proofs.AskLemmas.{shown_beside, shown_grows}
+use Rattle.match_search.proofs.AskLemmas.{shown_beside}
 use Rattle.match_search.proofs.branching.go_on.Goals as goal
 
 pub returns-in_err-port-clause-holds : goal.returns-in_err-port-clause-holds
@@ -28,11 +25,3 @@ returns-in-None-clause-trail g c = shown_beside _ _ _ _ _ _ c.bans.ensures c.req
 
 pub returns-in-Some-2-clause-trail : goal.returns-in-Some-2-clause-trail
 returns-in-Some-2-clause-trail g c = shown_beside _ _ _ _ _ _ c.bans.ensures c.requires.trail c.in_ok-branch.ensures.inputs c.in_ok-branch.ensures.outputs c.in_ok-branch.ensures.justified c.in_ok-branch.ensures.grounded
-
-pub returns-in_default-clause-trail : goal.returns-in_default-clause-trail
-returns-in_default-clause-trail g c =
-    let graphs = c.args.graphs.now in
-    let d = c.args.domains.now in
-    let bans = c.compare_held.new.book in
-    let known = g.O.Oracle.known c.compare_held.new.oracle in
-    on_ok c.compare_held.result (IsTrail graphs bans d) (IsShownTrail graphs known bans d) (λ trail. record { trail = trail; shown = shown_grows _ _ _ _ c.compare_held.ensures.holds.serves.grows c.requires.trail.shown }) c.compare_held.ensures.trail

@@ -1,0 +1,7 @@
+pub mod ResultLemmas
+pub mod InputLemmas
+pub mod NothingLemmas
+pub mod RowsLemmas
+pub mod TrailLemmas
+pub mod SettleLemmas
+pub mod StableLemmas

@@ -1,0 +1,288 @@
+-- Pairs that are settled one after the other.
+use Rattle.std.proofs.Common.{◌≡◌, ◌≢◌, ◌⊎◌, ℕ, ◌+◌, ◌<◌, Bool, true, false, List, [], ◌∷◌, ◌++◌, map, AllPairs, get_or, Option, None, Some, Result, Ok, Err, refl, sym, ap, subst, ◌∙◌, inl, inr, arith}
+use Rattle.std.specs.Prelude.{Contains}
+use Rattle.std.proofs.lemmas.Bool.{cases_lt, cases_order}
+use Rattle.std.proofs.lemmas.List.Elements.{All-cons, All-contains, All-contains_itself, All-push, Contains-append_left, Contains-push}
+use Rattle.circuits.specs.declared.port.Pair.{Pair}
+use Rattle.circuits.specs.declared.port.PortKind.{PortKind}
+use Rattle.circuits.specs.declared.port.PortKind.TheVariants.{Input, Output}
+use Rattle.net_core.specs.Sides.{Graphs}
+use Rattle.account_core.specs.Covers.{IsImpossible}
+use Rattle.account_core.specs.Given.{Decided, decided_by}
+use Rattle.account_core.specs.Ports.{Clash}
+use Rattle.account_core.specs.declared.fact.Fact.{Fact}
+use Rattle.account_core.specs.declared.step.Ban.{Ban}
+use Rattle.ban_book.specs.Covering.{IsWithin}
+use Rattle.ban_book.specs.Vectors.{HaveNoFacts}
+use Rattle.class_refine.specs.declared.entry.Entry.{Entry}
+use Rattle.class_refine.specs.declared.entry.Fate.{Fate}
+use Rattle.class_refine.specs.declared.entry.Fate.TheVariants.{Held, Deleted}
+use Rattle.class_refine.specs.declared.entry.Reason.{Reason}
+use Rattle.class_refine.specs.Trails.{Domained, IsDeleted, IsPairOf, held_in, is_held}
+use Rattle.class_refine.proofs.NumberLemmas.{same_pair}
+use Rattle.conflict_core.specs.Named.{deleted}
+use Rattle.port_covers.specs.Held.{AreApart}
+use Rattle.port_covers.proofs.ListLemmas.{among_more, cons_cases, contained_of_any}
+use Rattle.port_covers.proofs.OrderLemmas.{held_apart}
+use Rattle.pair_search.proofs.PortLemmas.{held_by}
+use Rattle.pair_refine.specs.declared.rows.Rows.{Rows}
+use Rattle.pair_refine.specs.Refining.{OnlyDeletes, Refines}
+use Rattle.pair_refine.specs.Rows.{AreInputsOf, ShowNothingAt}
+use Rattle.pair_refine.specs.Settling.{IsBetween, IsClear, IsSettled, MaySettle, Settled, Settles}
+use Rattle.pair_refine.specs.Stable.{HaveNoBan}
+use Rattle.pair_refine.proofs.TrailLemmas.{refines_none, refines_then}
+
+-- whether two pairs are one
+kind_or_not : (a b : PortKind) → (a ≡ b) ⊎ (a ≢ b)
+kind_or_not Input Input = inl refl
+kind_or_not Input Output = inr (λ e. cc)
+kind_or_not Output Input = inr (λ e. cc)
+kind_or_not Output Output = inl refl
+
+number_or_not : (a b : ℕ) → (a ≡ b) ⊎ (a ≢ b)
+number_or_not a b =
+    elim (cases_order a b) [
+      | inl same ↦ inl same
+      | inr (inl less) ↦ inr (λ e. absurd (omega (arith, less, e)))
+      | inr (inr more) ↦ inr (λ e. absurd (omega (arith, more, e)))
+    ]
+
+flip_or_not : (a b : Bool) → (a ≡ b) ⊎ (a ≢ b)
+flip_or_not true true = inl refl
+flip_or_not true false = inr (λ e. cc)
+flip_or_not false true = inr (λ e. cc)
+flip_or_not false false = inl refl
+
+pair_or_not : (one other : Pair) → (one ≡ other) ⊎ (one ≢ other)
+pair_or_not one other =
+    elim (kind_or_not one.kind other.kind) [
+      | inr differ ↦ inr (λ e. differ (ap (λ (p : Pair). p.kind) e))
+      | inl kind ↦
+          elim (number_or_not one.from other.from) [
+            | inr differ ↦ inr (λ e. differ (ap (λ (p : Pair). p.from) e))
+            | inl from ↦
+                elim (number_or_not one.to other.to) [
+                  | inr differ ↦ inr (λ e. differ (ap (λ (p : Pair). p.to) e))
+                  | inl to ↦
+                      elim (flip_or_not one.flip other.flip) [
+                        | inr differ ↦ inr (λ e. differ (ap (λ (p : Pair). p.flip) e))
+                        | inl flip ↦ inl (same_pair one other kind from to flip)
+                      ]
+                ]
+          ]
+    ]
+
+-- held pairs stay so, and what was deleted stays deleted
+deleted_later : (before after : Domained) (pair : Pair) → OnlyDeletes before after → IsDeleted before.entries pair → IsDeleted after.entries pair
+deleted_later before after pair deletes gone =
+    (gone.0, subst (λ (l : List Entry). Contains l (deleted pair gone.0)) (sym deletes.more) (Contains-append_left before.entries deletes.added (deleted pair gone.0) gone.1))
+
+clear_later : (graphs : Graphs) (facts : List Decided) (bans : List Ban) (before after : Domained) (pair : Pair) → OnlyDeletes before after → IsClear graphs facts bans (held_in before.entries) pair → IsClear graphs facts bans (held_in after.entries) pair
+clear_later graphs facts bans before after pair deletes clear = subst (λ l. IsClear graphs facts bans l pair) (sym deletes.held) clear
+
+-- more may be settled after pairs were
+pub may_later : (graphs : Graphs) (facts : List Fact) (rows : Rows) (inputs : List Pair) (bans more : List Ban) (before after : Domained) → MaySettle graphs facts rows inputs bans before → Refines graphs (map decided_by facts) bans more before after → HaveNoBan more (held_in after.entries) → MaySettle graphs facts rows inputs more after
+may_later graphs facts rows inputs bans more before after may refines no_ban = record {
+  lawful = may.lawful;
+  rows_are = may.rows_are;
+  inputs_are = subst (λ l. AreInputsOf l inputs) (sym refines.deletes.held) may.inputs_are;
+  no_facts = subst (ShowNothingAt graphs (map decided_by facts) inputs) (sym refines.deletes.held) may.no_facts;
+  no_ban = no_ban;
+  trail = refines.trail may.trail;
+}
+
+-- a ban that isn't within pairs isn't within them and one of them
+pub no_ban_beside : (bans : List Ban) (held : List Pair) (pair : Pair) → Contains held pair → HaveNoBan bans held → HaveNoBan bans (pair ∷ held)
+no_ban_beside bans held pair there no_ban k d below within =
+    no_ban k d below (record { among = among_more (get_or bans k d).pairs (pair ∷ held) held within.among (All-cons (Contains held) pair held there (All-contains_itself held)) })
+
+-- a held pair clashes with none
+no_clash : (one other : Pair) → (one ≡ other) ⊎ AreApart one other → Clash one other → ⊥
+no_clash one other (inl same) clash = clash.differ same
+no_clash one other (inr apart) clash = elim clash.share [ inl from ↦ apart.from clash.same_kind from | inr to ↦ apart.to clash.same_kind to ]
+
+pub held_possible : (held : List Pair) (pair : Pair) → AllPairs AreApart held → Contains held pair → IsImpossible held pair → ⊥
+held_possible held pair apart there impossible =
+    no_clash impossible.1 pair (held_apart held impossible.1 pair apart (contained_of_any (λ (p : Pair). Clash p pair) held impossible) there) impossible.4
+
+-- Some pairs were settled.
+pub record IsUnderWay (graphs : Graphs) (facts : List Decided) (bans more : List Ban) (before after : Domained) (these : Pair → Type 0) : Type 0 where
+  pub refines : Refines graphs facts bans more before after
+  pub settled : Settled graphs facts bans more before after these
+
+pub way_none : (graphs : Graphs) (facts : List Decided) (bans : List Ban) (d : Domained) (these : Pair → Type 0) → HaveNoBan bans (held_in d.entries) → ((pair : Pair) → these pair → ⊥) → IsUnderWay graphs facts bans bans d d these
+way_none graphs facts bans d these no_ban none = record {
+  refines = refines_none graphs facts bans d;
+  settled = record { no_ban = no_ban; kept = λ pair is. is; settled = λ pair is. absurd (none pair is) };
+}
+
+-- those that were settled first and those that are settled then
+both : (graphs : Graphs) (facts : List Decided) (bans mid more : List Ban) (one two three : Domained) (these those all : Pair → Type 0) → Settled graphs facts bans mid one two these → Settled graphs facts mid more two three those → ((pair : Pair) → all pair → these pair ⊎ those pair) → Settled graphs facts bans more one three all
+both graphs facts bans mid more one two three these those all first later cases = record {
+  no_ban = later.no_ban;
+  kept = λ pair is. later.kept pair (first.kept pair is);
+  settled = λ pair is. elim (cases pair is) [ inl before ↦ later.kept pair (first.settled pair before) | inr now ↦ later.settled pair now ];
+}
+
+module _ {E : Type 0} (graphs : Graphs) (facts : List Decided) (bans mid more : List Ban) (one two three : Domained) (these those all : Pair → Type 0) (way : IsUnderWay graphs facts bans mid one two these) where
+  pub settles_dead : (dead : ℕ) → Settles {E = E} graphs facts mid more two three those (Ok (Some dead)) → Settles {E = E} graphs facts bans more one three all (Ok (Some dead))
+  settles_dead dead step = record { refines = refines_then graphs facts bans mid more one two three way.refines step.refines; settled = tt; dead = step.dead }
+
+  pub way_then : Settles {E = E} graphs facts mid more two three those (Ok None) → ((pair : Pair) → all pair → these pair ⊎ those pair) → IsUnderWay graphs facts bans more one three all
+  way_then step cases = record {
+    refines = refines_then graphs facts bans mid more one two three way.refines step.refines;
+    settled = both graphs facts bans mid more one two three these those all way.settled step.settled cases;
+  }
+
+  pub settles_last : (result : Result (Option ℕ) E) → Settles graphs facts mid more two three those result → ((pair : Pair) → all pair → these pair ⊎ those pair) → Settles graphs facts bans more one three all result
+  settles_last (Ok None) step cases = record {
+    refines = refines_then graphs facts bans mid more one two three way.refines step.refines;
+    settled = both graphs facts bans mid more one two three these those all way.settled step.settled cases;
+    dead = tt;
+  }
+  settles_last (Ok (Some dead)) step cases = record { refines = refines_then graphs facts bans mid more one two three way.refines step.refines; settled = tt; dead = step.dead }
+  settles_last (Err e) step cases = record { refines = refines_then graphs facts bans mid more one two three way.refines step.refines; settled = tt; dead = tt }
+
+  pub settles_err : (result : Result (Option ℕ) E) (e : E) → result ≡ Err e → Refines graphs facts mid more two three → Settles graphs facts bans more one three all result
+  settles_err (Ok x) e is refines = cc
+  settles_err (Err stop) e is refines = record { refines = refines_then graphs facts bans mid more one two three way.refines refines; settled = tt; dead = tt }
+
+-- all pairs were settled that were to be
+pub settles_ok : {E : Type 0} (graphs : Graphs) (facts : List Decided) (bans more : List Ban) (before after : Domained) (these all : Pair → Type 0) → IsUnderWay graphs facts bans more before after these → ((pair : Pair) → all pair → these pair) → Settles {E = E} graphs facts bans more before after all (Ok None)
+settles_ok graphs facts bans more before after these all way cases = record {
+  refines = way.refines;
+  settled = record { no_ban = way.settled.no_ban; kept = way.settled.kept; settled = λ pair is. way.settled.settled pair (cases pair is) };
+  dead = tt;
+}
+
+-- no answer, whatever was deleted and held
+pub stops : {E : Type 0} (graphs : Graphs) (facts : List Decided) (bans more : List Ban) (before after : Domained) (these : Pair → Type 0) (result : Result (Option ℕ) E) (e : E) → result ≡ Err e → Refines graphs facts bans more before after → Settles graphs facts bans more before after these result
+stops graphs facts bans more before after these (Ok x) e is refines = cc
+stops graphs facts bans more before after these (Err stop) e is refines = record { refines = refines; settled = tt; dead = tt }
+
+-- a pair that is settled as it is
+pub settles_now : {E : Type 0} (graphs : Graphs) (facts : List Decided) (bans : List Ban) (d : Domained) (way : Pair) → HaveNoBan bans (held_in d.entries) → IsSettled graphs facts bans d way → Settles {E = E} graphs facts bans bans d d (λ pair. pair ≡ way) (Ok None)
+settles_now graphs facts bans d way no_ban is = record {
+  refines = refines_none graphs facts bans d;
+  settled = record { no_ban = no_ban; kept = λ pair before. before; settled = λ pair same. subst (IsSettled graphs facts bans d) (sym same) is };
+  dead = tt;
+}
+
+-- a pair that is deleted
+pub settles_deleted : {E : Type 0} (graphs : Graphs) (facts : List Decided) (bans : List Ban) (before after : Domained) (way : Pair) (why : Reason) → after ≡ record before { entries = before.entries ++ deleted way why ∷ [] } → Refines graphs facts bans bans before after → HaveNoBan bans (held_in before.entries) → Settles {E = E} graphs facts bans bans before after (λ pair. pair ≡ way) (Ok None)
+settles_deleted graphs facts bans before after way why after_is refines no_ban = record {
+  refines = refines;
+  settled = record {
+    no_ban = subst (HaveNoBan bans) (sym refines.deletes.held) no_ban;
+    kept = λ pair is. elim is [
+      | inl gone ↦ inl (deleted_later before after pair refines.deletes gone)
+      | inr clear ↦ inr (clear_later graphs facts bans before after pair refines.deletes clear)
+    ];
+    settled = λ pair same. inl (subst (IsDeleted after.entries) (sym same) (deleted_now before after way why after_is));
+  };
+  dead = tt;
+}
+  where
+    deleted_now : (start end : Domained) (p : Pair) (reason : Reason) → end ≡ record start { entries = start.entries ++ deleted p reason ∷ [] } → IsDeleted end.entries p
+    deleted_now start end p reason is = (reason, subst (λ (l : List Entry). Contains l (deleted p reason)) (sym (ap (λ (d : Domained). d.entries) is)) (Contains-push start.entries (deleted p reason)))
+
+-- a ban within one pair and the held ones, and not within these, isn't within them and another one
+not_within : (held : List Pair) (way pair : Pair) (ban : Ban) → pair ≢ way → IsWithin (way ∷ held) ban → (IsWithin held ban → ⊥) → IsWithin (pair ∷ held) ban → ⊥
+not_within held way pair ban differ within alone other =
+    alone (record { among = λ k d below. in_both (get_or ban.pairs k d) (cons_cases held way (get_or ban.pairs k d) (within.among k d below)) (cons_cases held pair (get_or ban.pairs k d) (other.among k d below)) })
+  where
+    in_both : (x : Pair) → (way ≡ x) ⊎ Contains held x → (pair ≡ x) ⊎ Contains held x → Contains held x
+    in_both x (inr there) second = there
+    in_both x (inl same) (inr there) = there
+    in_both x (inl same) (inl also) = absurd (differ (also ∙ sym same))
+
+-- a pair that is deleted by a ban that is held for it
+pub settles_banned : {E : Type 0} (graphs : Graphs) (facts : List Decided) (bans more : List Ban) (before after : Domained) (way : Pair) (ban : Ban) (number : Reason) → more ≡ bans ++ ban ∷ [] → after ≡ record before { entries = before.entries ++ deleted way number ∷ [] } → Refines graphs facts bans more before after → IsWithin (way ∷ held_in before.entries) ban → HaveNoBan more (held_in before.entries) → Settles {E = E} graphs facts bans more before after (λ pair. pair ≡ way) (Ok None)
+settles_banned graphs facts bans more before after way ban number more_is after_is refines within no_ban = record {
+  refines = refines;
+  settled = record {
+    no_ban = subst (HaveNoBan more) (sym refines.deletes.held) no_ban;
+    kept = λ pair is. elim is [
+      | inl gone ↦ inl (deleted_later before after pair refines.deletes gone)
+      | inr clear ↦ by_pair pair clear (pair_or_not pair way)
+    ];
+    settled = λ pair same. inl (gone_as pair same);
+  };
+  dead = tt;
+}
+  where
+    held : List Pair
+    held = held_in before.entries
+
+    gone_as : (pair : Pair) → pair ≡ way → IsDeleted after.entries pair
+    gone_as pair same =
+        subst (IsDeleted after.entries) (sym same) (number, subst (λ (l : List Entry). Contains l (deleted way number)) (sym (ap (λ (d : Domained). d.entries) after_is)) (Contains-push before.entries (deleted way number)))
+
+    last_no : IsWithin held ban → ⊥
+    last_no = All-contains (λ (b : Ban). IsWithin held b → ⊥) (bans ++ ban ∷ []) ban (subst (λ l. HaveNoBan l held) more_is no_ban) (Contains-push bans ban)
+
+    by_pair : (pair : Pair) → IsClear graphs facts bans held pair → (pair ≡ way) ⊎ (pair ≢ way) → IsSettled graphs facts more after pair
+    by_pair pair clear (inl same) = inl (gone_as pair same)
+    by_pair pair clear (inr differ) = inr (clear_later graphs facts more before after pair refines.deletes (record {
+      possible = clear.possible;
+      clean = record {
+        no_ban = subst (λ l. HaveNoBan l (pair ∷ held)) (sym more_is) (All-push (λ (b : Ban). IsWithin (pair ∷ held) b → ⊥) bans ban clear.clean.no_ban (not_within held way pair ban differ within last_no));
+        no_facts = clear.clean.no_facts;
+      };
+    }))
+
+-- a pair that is held is settled
+held_entry : (es : List Entry) (pair : Pair) (fate : Fate) → Contains es (record { pair = pair; fate = fate }) → is_held fate ≡ true → Contains (held_in es) pair
+held_entry es pair fate there held =
+    let e : Entry = record { pair = pair; fate = fate } in
+    subst (Contains (held_in es)) (ap (λ (x : Entry). x.pair) there.2) (held_by es there.0 e there.1 (ap (λ (x : Entry). is_held x.fate) there.2 ∙ held))
+
+pub held_clear : (graphs : Graphs) (facts : List Decided) (bans : List Ban) (held : List Pair) (pair : Pair) → AllPairs AreApart held → Contains held pair → HaveNoBan bans held → HaveNoFacts graphs facts (pair ∷ held) → IsClear graphs facts bans held pair
+held_clear graphs facts bans held pair apart there no_ban nothing = record {
+  possible = held_possible held pair apart there;
+  clean = record { no_ban = no_ban_beside bans held pair there no_ban; no_facts = nothing };
+}
+
+-- and so is one that is deleted
+pub entry_settled : (graphs : Graphs) (facts : List Decided) (bans : List Ban) (d : Domained) (pair : Pair) (fate : Fate) → AllPairs AreApart (held_in d.entries) → HaveNoBan bans (held_in d.entries) → (Contains (held_in d.entries) pair → HaveNoFacts graphs facts (pair ∷ held_in d.entries)) → Contains d.entries (record { pair = pair; fate = fate }) → IsSettled graphs facts bans d pair
+entry_settled graphs facts bans d pair (Held cause) apart no_ban nothing there =
+    let held = held_entry d.entries pair (Held cause) there refl in
+    inr (held_clear graphs facts bans (held_in d.entries) pair apart held no_ban (nothing held))
+entry_settled graphs facts bans d pair (Deleted why) apart no_ban nothing there = inl (why, there)
+
+-- the pairs of two ports are two
+pub two_pairs : (kind : PortKind) (from to : ℕ) (pair : Pair) → IsBetween kind from to pair → (pair ≡ record { kind = kind; from = from; to = to; flip = false }) ⊎ (pair ≡ record { kind = kind; from = from; to = to; flip = true })
+two_pairs kind from to pair is = by_flip pair.flip refl
+  where
+    by_flip : (flip : Bool) → pair.flip ≡ flip → (pair ≡ record { kind = kind; from = from; to = to; flip = false }) ⊎ (pair ≡ record { kind = kind; from = from; to = to; flip = true })
+    by_flip false flip = inl (same_pair pair (record { kind = kind; from = from; to = to; flip = false }) is.0 is.1 is.2 flip)
+    by_flip true flip = inr (same_pair pair (record { kind = kind; from = from; to = to; flip = true }) is.0 is.1 is.2 flip)
+
+-- the pairs of a port so far, and those of a kind
+abbrev pub IsBefore : ℕ → ℕ → PortKind → ℕ → ℕ → Pair → Type 0
+IsBefore n m kind from to pair = (pair.kind ≡ kind) × (pair.from ≡ from) × (pair.to < to)
+
+abbrev pub IsFromBefore : ℕ → ℕ → PortKind → ℕ → Pair → Type 0
+IsFromBefore n m kind from pair = (pair.kind ≡ kind) × IsPairOf n m pair × (pair.from < from)
+
+pub before_more : (n m : ℕ) (kind : PortKind) (from to : ℕ) (pair : Pair) → IsBefore n m kind from (to + 1) pair → IsBefore n m kind from to pair ⊎ IsBetween kind from to pair
+before_more n m kind from to pair is =
+    elim (cases_lt pair.to to) [
+      | inl less ↦ inl (is.0, is.1, less)
+      | inr past ↦ inr (is.0, is.1, omega (arith, past, is.2))
+    ]
+
+pub from_more : (n m : ℕ) (kind : PortKind) (from : ℕ) (pair : Pair) → IsFromBefore n m kind (from + 1) pair → IsFromBefore n m kind from pair ⊎ ((pair.kind ≡ kind) × (pair.from ≡ from) × IsPairOf n m pair)
+from_more n m kind from pair is =
+    elim (cases_lt pair.from from) [
+      | inl less ↦ inl (is.0, is.1, less)
+      | inr past ↦ inr (is.0, omega (arith, past, is.2), is.1)
+    ]
+
+-- each pair is of one kind or the other
+pub either_kind : (pair : Pair) → (pair.kind ≡ Output) ⊎ (pair.kind ≡ Input)
+either_kind pair = by_kind pair.kind
+  where
+    by_kind : (kind : PortKind) → (kind ≡ Output) ⊎ (kind ≡ Input)
+    by_kind Input = inr refl
+    by_kind Output = inl refl

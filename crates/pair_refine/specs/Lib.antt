@@ -1,0 +1,15 @@
+pub mod Rows
+pub mod Stable
+pub mod Refining
+pub mod Settling
+pub use Rattle.port_covers.specs.Held
+pub use Rattle.conflict_core.specs.Grounded
+pub use Rattle.conflict_core.specs.Justified
+pub use Rattle.class_refine.specs.Trails
+pub use Rattle.pair_search.specs.Impasses
+pub use Rattle.fact_bans.specs.Serving
+pub use Rattle.oracle_core.specs.Oracles
+pub use Rattle.account_core.specs.Facts
+pub use Rattle.claim_rows.specs.Shown
+pub use Rattle.ban_book.specs.Covering
+pub use Rattle.ban_book.specs.Vectors

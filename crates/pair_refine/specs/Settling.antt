@@ -1,0 +1,63 @@
+-- Pairs that are settled one after the other: each is deleted, or nothing excludes it beside the held ones.
+use Rattle.std.specs.Prelude.{◌≡◌, ◌⊎◌, ℕ, List, ◌∷◌, Option, Result, IfNone, IfOk, IfSome, map}
+use Rattle.circuits.specs.declared.port.Pair.{Pair}
+use Rattle.circuits.specs.declared.port.PortKind.{PortKind}
+use Rattle.net_core.specs.Sides.{Graphs}
+use Rattle.net_core.specs.declared.graphs.Side.{Side}
+use Rattle.account_core.specs.Covers.{IsImpossible}
+use Rattle.account_core.specs.Facts.{AreFacts}
+use Rattle.account_core.specs.Given.{Decided, decided_by}
+use Rattle.account_core.specs.declared.fact.Fact.{Fact}
+use Rattle.account_core.specs.declared.step.Ban.{Ban}
+use Rattle.ban_book.specs.Covering.{Covers}
+use Rattle.port_covers.specs.Held.{IsOf}
+use Rattle.class_refine.specs.Trails.{Domained, IsDeleted, IsPairOf, held_in}
+use Rattle.conflict_core.specs.Justified.{IsTrail}
+use Rattle.pair_refine.specs.declared.rows.Rows.{Rows}
+use Rattle.pair_refine.specs.Rows.{AreAllRows, AreInputsOf, ShowNothingAt}
+use Rattle.pair_refine.specs.Stable.{AreClean, HaveNoBan}
+use Rattle.pair_refine.specs.Refining.{Refines}
+
+-- The rows tell of facts, which show nothing of the held pairs; nor is a ban within them.
+pub record MaySettle (graphs : Graphs) (facts : List Fact) (rows : Rows) (inputs : List Pair) (bans : List Ban)
+    (domains : Domained) : Type 0 where
+  pub lawful : AreFacts graphs facts
+  pub rows_are : AreAllRows graphs (map decided_by facts) rows
+  pub inputs_are : AreInputsOf (held_in domains.entries) inputs
+  pub no_facts : ShowNothingAt graphs (map decided_by facts) inputs (held_in domains.entries)
+  pub no_ban : HaveNoBan bans (held_in domains.entries)
+  pub trail : IsTrail graphs bans domains
+
+-- A pair clashes with no held one, and nothing excludes it beside them.
+pub record IsClear (graphs : Graphs) (facts : List Decided) (bans : List Ban) (held : List Pair) (pair : Pair) : Type 0 where
+  pub possible : IsImpossible held pair → ⊥
+  pub clean : AreClean graphs facts bans (pair ∷ held)
+
+-- a pair is deleted, or clear
+abbrev pub IsSettled : Graphs → List Decided → List Ban → Domained → Pair → Type 0
+IsSettled graphs facts bans domains pair = IsDeleted domains.entries pair ⊎ IsClear graphs facts bans (held_in domains.entries) pair
+
+-- No ban is within the held pairs, what was settled is, and so are these pairs.
+pub record Settled (graphs : Graphs) (facts : List Decided) (bans more : List Ban) (before after : Domained)
+    (these : Pair → Type 0) : Type 0 where
+  pub no_ban : HaveNoBan more (held_in after.entries)
+  pub kept : (pair : Pair) → IsSettled graphs facts bans before pair → IsSettled graphs facts more after pair
+  pub settled : (pair : Pair) → these pair → IsSettled graphs facts more after pair
+
+-- What settling pairs does: they are settled, unless a ban is answered that is within the held pairs.
+pub record Settles {E : Type 0} (graphs : Graphs) (facts : List Decided) (bans more : List Ban) (before after : Domained)
+    (these : Pair → Type 0) (result : Result (Option ℕ) E) : Type 0 where
+  pub refines : Refines graphs facts bans more before after
+  pub settled : IfOk result (λ dead. IfNone dead (Settled graphs facts bans more before after these))
+  pub dead : IfOk result (λ dead. IfSome dead (Covers more (held_in after.entries)))
+
+-- the pairs of two ports
+abbrev pub IsBetween : PortKind → ℕ → ℕ → Pair → Type 0
+IsBetween kind from to pair = (pair.kind ≡ kind) × (pair.from ≡ from) × (pair.to ≡ to)
+
+-- A port has a pair that isn't deleted.
+pub record HasLeft (domains : Domained) (side : Side) (kind : PortKind) (port : ℕ) : Type 0 where
+  pub pair : Pair
+  pub of_port : IsOf side kind port pair
+  pub known : IsPairOf domains.inputs domains.outputs pair
+  pub left : IsDeleted domains.entries pair → ⊥

@@ -1,0 +1,14 @@
+//! Refining the signed pairs of two circuits until nothing that is held or told excludes one that remains.
+#![tactic(auto)]
+
+mod alone;
+mod inputs;
+mod ports;
+mod refined;
+mod refining;
+mod rows;
+mod settling;
+mod shown;
+
+pub use refined::Refined;
+pub use refining::refine;

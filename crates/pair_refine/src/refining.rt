@@ -1,0 +1,136 @@
+//! Refining, from its beginning.
+
+ghost use Rattle.std.specs.Prelude.{◌≡◌, IfNone, IfOk, IfSome, map};
+ghost use Rattle.account_core.specs.Facts.{AreFacts};
+ghost use Rattle.account_core.specs.Given.{decided_by};
+ghost use Rattle.ban_book.specs.Covering.{Covers};
+ghost use Rattle.class_refine.specs.Trails.{held_in};
+ghost use Rattle.conflict_core.specs.Grounded.{AreGrounded};
+ghost use Rattle.conflict_core.specs.Justified.{IsTrail};
+ghost use Rattle.fact_bans.specs.Serving.{HoldsBans, MayHold};
+ghost use Rattle.pair_refine.specs.Refining.{IsShownTrail, Refines};
+ghost use Rattle.pair_refine.specs.Rows.{AreAllRows, AreInputsOf};
+ghost use Rattle.pair_refine.specs.Settling.{MaySettle};
+ghost use Rattle.pair_refine.specs.Stable.{IsRefined, IsStable};
+
+use crate::alone::exclude_held;
+use crate::inputs::inputs_of;
+use crate::ports::cover_empty;
+use crate::refined::Refined;
+use crate::rows::{Rows, rows_of};
+use crate::settling::settle_all;
+use account_core::Fact;
+use ban_book::BanBook;
+use circuits::Pair;
+use class_refine::Domains;
+use cnf_core::Stop;
+use fact_bans::Seen;
+use oracle_core::Oracle;
+use port_sides::PairableGraphs;
+use query_core::Ledger;
+use std::alloc::{AllocError, Global};
+
+/// Deletes, of two circuits' pairs, each that can't stand beside the held ones, until nothing excludes one that remains: no held ban
+/// is within them and it, and no mismatch of claims of one input and no tally is valid for them and it. The claims of one input of
+/// all outputs are decided first. Each deletion has a reason, and no pair is held, so that one pass is enough.
+///
+/// Where a ban is within the held pairs alone, or a port has no way left, its ban is answered, and the pass ends there.
+///
+/// It is complete, and expensive for it: each way is tried against all bans and all held pairs. The search propagates more cheaply,
+/// and refines whole tables alone, of which no way is left to try.
+///
+/// # Errors
+///
+/// `Spent` where a line had to be learned and the ledger's budget was spent. `Memory` when out of memory.
+pub fn refine<O: Oracle>(
+    alloc: Global,
+    graphs: &PairableGraphs<'_>,
+    oracle: &mut O,
+    domains: &mut Domains,
+    seen: &mut Seen,
+    book: &mut BanBook,
+    ledger: &mut Ledger,
+) -> Result<Refined, Stop>
+    requires may { MayHold graphs.now (O.known oracle.old) ledger.old book.old }
+    requires trail { IsShownTrail graphs.now (O.known oracle.old) book.old domains.old }
+    ensures holds { HoldsBans graphs.now (O.known oracle.old) (O.known oracle.new) ledger.old ledger.new book.old book.new result }
+    ensures refines { Refines graphs.now (map decided_by (O.known oracle.new).facts) book.old book.new domains.old domains.new }
+    ensures trail { IsShownTrail graphs.now (O.known oracle.new) book.new domains.new }
+    ensures refined { IfOk result (IsRefined graphs.now (map decided_by (O.known oracle.new).facts) book.new domains.new) }
+{
+    let _facts = oracle.facts();
+    let rows = rows_of(alloc, graphs, oracle, seen, ledger)?;
+    Ok(refine_by(alloc, graphs, oracle.facts(), &rows, domains, book)?)
+}
+
+// Refines by the rows of all outputs.
+fn refine_by(
+    alloc: Global,
+    graphs: &PairableGraphs<'_>,
+    facts: &[Fact],
+    rows: &Rows,
+    domains: &mut Domains,
+    book: &mut BanBook,
+) -> Result<Refined, AllocError>
+    requires lawful { AreFacts graphs.now facts.now }
+    requires rows { AreAllRows graphs.now (map decided_by facts.now) rows.now }
+    requires trail { IsTrail graphs.now book.old domains.old }
+    requires shown { AreGrounded graphs.now (map decided_by facts.now) domains.old.entries }
+    ensures refines { Refines graphs.now (map decided_by facts.now) book.old book.new domains.old domains.new }
+    ensures refined { IfOk result (IsRefined graphs.now (map decided_by facts.now) book.new domains.new) }
+{
+    let inputs = inputs_of(alloc, domains.pairs())?;
+    match exclude(alloc, graphs, facts, rows, &inputs, domains, book)? {
+        Some(ban) => Ok(Refined::Dead(ban)),
+        None => Ok(Refined::Stable),
+    }
+}
+
+// The number of a ban within the held pairs, where there is one that is held, that facts show, or that is found as pairs are settled.
+fn exclude(
+    alloc: Global,
+    graphs: &PairableGraphs<'_>,
+    facts: &[Fact],
+    rows: &Rows,
+    inputs: &[Pair],
+    domains: &mut Domains,
+    book: &mut BanBook,
+) -> Result<Option<u64>, AllocError>
+    requires lawful { AreFacts graphs.now facts.now }
+    requires rows { AreAllRows graphs.now (map decided_by facts.now) rows.now }
+    requires trail { IsTrail graphs.now book.old domains.old }
+    requires shown { AreGrounded graphs.now (map decided_by facts.now) domains.old.entries }
+    requires inputs { AreInputsOf (held_in domains.old.entries) inputs.now }
+    ensures refines { Refines graphs.now (map decided_by facts.now) book.old book.new domains.old domains.new }
+    ensures dead { IfOk result (λ dead. IfSome dead (Covers book.new (held_in domains.new.entries))) }
+    ensures stable { IfOk result (λ dead. IfNone dead (IsStable graphs.now (map decided_by facts.now) book.new domains.new)) }
+{
+    let _lawful = domains.entries();
+    match exclude_held(alloc, graphs, facts, rows, domains.pairs(), inputs, book)? {
+        Some(ban) => Ok(Some(ban)),
+        None => exclude_beside(alloc, graphs, facts, rows, inputs, domains, book),
+    }
+}
+
+// That of one that is found as pairs are settled, or of a port that then has no way left.
+fn exclude_beside(
+    alloc: Global,
+    graphs: &PairableGraphs<'_>,
+    facts: &[Fact],
+    rows: &Rows,
+    inputs: &[Pair],
+    domains: &mut Domains,
+    book: &mut BanBook,
+) -> Result<Option<u64>, AllocError>
+    requires may { MaySettle graphs.now facts.now rows.now inputs.now book.old domains.old }
+    requires shown { AreGrounded graphs.now (map decided_by facts.now) domains.old.entries }
+    ensures refines { Refines graphs.now (map decided_by facts.now) book.old book.new domains.old domains.new }
+    ensures dead { IfOk result (λ dead. IfSome dead (Covers book.new (held_in domains.new.entries))) }
+    ensures stable { IfOk result (λ dead. IfNone dead (IsStable graphs.now (map decided_by facts.now) book.new domains.new)) }
+{
+    let _lawful = domains.entries();
+    match settle_all(alloc, graphs, facts, rows, inputs, domains, book)? {
+        Some(ban) => Ok(Some(ban)),
+        None => cover_empty(alloc, graphs, domains, book),
+    }
+}

@@ -1,0 +1,314 @@
+//! Settling pairs: each is deleted, or nothing excludes it beside the held ones.
+
+ghost use Rattle.std.specs.Prelude.{◌≡◌, ◌<◌, ◌∷◌, IfNone, IfOk, IfSome, map};
+ghost use Rattle.account_core.specs.Covers.{IsImpossible};
+ghost use Rattle.account_core.specs.Given.{decided_by};
+ghost use Rattle.ban_book.specs.Covering.{Covers};
+ghost use Rattle.claim_rows.specs.Shown.{IsShownBan};
+ghost use Rattle.class_refine.specs.declared.entry.Fate.TheVariants.{Deleted};
+ghost use Rattle.class_refine.specs.Trails.{IsOpen, IsPairOf, held_in, ports_of};
+ghost use Rattle.conflict_core.specs.Grounded.{IsGrounded};
+ghost use Rattle.conflict_core.specs.Named.{AreNamed};
+ghost use Rattle.pair_refine.specs.Settling.{IsBetween, MaySettle, Settles};
+ghost use Rattle.pair_refine.specs.Stable.{HaveNoBan};
+
+use crate::rows::Rows;
+use crate::shown::way_ban;
+use account_core::{Ban, Fact};
+use ban_book::BanBook;
+use circuits::{Pair, PortKind};
+use class_refine::{Domains, Reason};
+use port_covers::clash::clashing;
+use port_sides::PairableGraphs;
+use std::alloc::{AllocError, Global};
+
+/// Settles all pairs, unless a ban within the held ones is found. It answers that one's number.
+pub(crate) fn settle_all(
+    alloc: Global,
+    graphs: &PairableGraphs<'_>,
+    facts: &[Fact],
+    rows: &Rows,
+    inputs: &[Pair],
+    domains: &mut Domains,
+    book: &mut BanBook,
+) -> Result<Option<u64>, AllocError>
+    requires may { MaySettle graphs.now facts.now rows.now inputs.now book.old domains.old }
+    ensures { Settles graphs.now (map decided_by facts.now) book.old book.new domains.old domains.new
+        (λ pair. IsPairOf domains.old.inputs domains.old.outputs pair) result }
+{
+    let outputs = PortKind::Output;
+    if let Some(dead) = settle_kind(alloc, graphs, facts, rows, inputs, domains, outputs, book)? {
+        return Ok(Some(dead));
+    }
+    settle_kind(
+        alloc,
+        graphs,
+        facts,
+        rows,
+        inputs,
+        domains,
+        PortKind::Input,
+        book,
+    )
+}
+
+// Settles the pairs of a kind.
+fn settle_kind(
+    alloc: Global,
+    graphs: &PairableGraphs<'_>,
+    facts: &[Fact],
+    rows: &Rows,
+    inputs: &[Pair],
+    domains: &mut Domains,
+    kind: PortKind,
+    book: &mut BanBook,
+) -> Result<Option<u64>, AllocError>
+    requires may { MaySettle graphs.now facts.now rows.now inputs.now book.old domains.old }
+    ensures { Settles graphs.now (map decided_by facts.now) book.old book.new domains.old domains.new
+        (λ pair. (pair.kind ≡ kind) × IsPairOf domains.old.inputs domains.old.outputs pair) result }
+{
+    for from in 0..domains.ports(kind) {
+        if let Some(dead) = settle_port(
+            alloc, graphs, facts, rows, inputs, domains, kind, from, book,
+        )? {
+            return Ok(Some(dead));
+        }
+    }
+    Ok(None)
+}
+
+// Settles the pairs of a port of the first circuit.
+fn settle_port(
+    alloc: Global,
+    graphs: &PairableGraphs<'_>,
+    facts: &[Fact],
+    rows: &Rows,
+    inputs: &[Pair],
+    domains: &mut Domains,
+    kind: PortKind,
+    from: u32,
+    book: &mut BanBook,
+) -> Result<Option<u64>, AllocError>
+    requires may { MaySettle graphs.now facts.now rows.now inputs.now book.old domains.old }
+    requires from { from < ports_of domains.old.inputs domains.old.outputs kind }
+    ensures { Settles graphs.now (map decided_by facts.now) book.old book.new domains.old domains.new
+        (λ pair. (pair.kind ≡ kind) × (pair.from ≡ from) × IsPairOf domains.old.inputs domains.old.outputs pair) result }
+{
+    for to in 0..domains.ports(kind) {
+        if let Some(dead) = settle_two(
+            alloc, graphs, facts, rows, inputs, domains, kind, from, to, book,
+        )? {
+            return Ok(Some(dead));
+        }
+    }
+    Ok(None)
+}
+
+// Settles the two pairs of two ports.
+fn settle_two(
+    alloc: Global,
+    graphs: &PairableGraphs<'_>,
+    facts: &[Fact],
+    rows: &Rows,
+    inputs: &[Pair],
+    domains: &mut Domains,
+    kind: PortKind,
+    from: u32,
+    to: u32,
+    book: &mut BanBook,
+) -> Result<Option<u64>, AllocError>
+    requires may { MaySettle graphs.now facts.now rows.now inputs.now book.old domains.old }
+    requires from { from < ports_of domains.old.inputs domains.old.outputs kind }
+    requires to { to < ports_of domains.old.inputs domains.old.outputs kind }
+    ensures { Settles graphs.now (map decided_by facts.now) book.old book.new domains.old domains.new
+        (IsBetween kind from to) result }
+{
+    let plain = Pair {
+        kind,
+        from,
+        to,
+        flip: false,
+    };
+    let negated = Pair {
+        kind,
+        from,
+        to,
+        flip: true,
+    };
+    if let Some(dead) = settle(alloc, graphs, facts, rows, inputs, domains, plain, book)? {
+        return Ok(Some(dead));
+    }
+    settle(alloc, graphs, facts, rows, inputs, domains, negated, book)
+}
+
+// Settles a pair. One that is held or deleted is settled.
+fn settle(
+    alloc: Global,
+    graphs: &PairableGraphs<'_>,
+    facts: &[Fact],
+    rows: &Rows,
+    inputs: &[Pair],
+    domains: &mut Domains,
+    way: Pair,
+    book: &mut BanBook,
+) -> Result<Option<u64>, AllocError>
+    requires may { MaySettle graphs.now facts.now rows.now inputs.now book.old domains.old }
+    requires known { IsPairOf domains.old.inputs domains.old.outputs way }
+    ensures { Settles graphs.now (map decided_by facts.now) book.old book.new domains.old domains.new
+        (λ pair. pair ≡ way) result }
+{
+    let _lawful = domains.entries();
+    match domains.fate(way) {
+        Some(_) => Ok(None),
+        None => settle_open(alloc, graphs, facts, rows, inputs, domains, way, book),
+    }
+}
+
+// Settles an open pair: deletes it where it clashes with a held one.
+fn settle_open(
+    alloc: Global,
+    graphs: &PairableGraphs<'_>,
+    facts: &[Fact],
+    rows: &Rows,
+    inputs: &[Pair],
+    domains: &mut Domains,
+    way: Pair,
+    book: &mut BanBook,
+) -> Result<Option<u64>, AllocError>
+    requires may { MaySettle graphs.now facts.now rows.now inputs.now book.old domains.old }
+    requires known { IsPairOf domains.old.inputs domains.old.outputs way }
+    requires open { IsOpen domains.old.entries way }
+    ensures { Settles graphs.now (map decided_by facts.now) book.old book.new domains.old domains.new
+        (λ pair. pair ≡ way) result }
+{
+    match clashing(domains.pairs(), way) {
+        Some(with) => delete(graphs, facts, domains, way, Reason::Clash(with), book),
+        None => settle_possible(alloc, graphs, facts, rows, inputs, domains, way, book),
+    }
+}
+
+// Settles one that clashes with none: deletes it where a held ban is within it and the held pairs.
+fn settle_possible(
+    alloc: Global,
+    graphs: &PairableGraphs<'_>,
+    facts: &[Fact],
+    rows: &Rows,
+    inputs: &[Pair],
+    domains: &mut Domains,
+    way: Pair,
+    book: &mut BanBook,
+) -> Result<Option<u64>, AllocError>
+    requires may { MaySettle graphs.now facts.now rows.now inputs.now book.old domains.old }
+    requires known { IsPairOf domains.old.inputs domains.old.outputs way }
+    requires open { IsOpen domains.old.entries way }
+    requires possible { IsImpossible (held_in domains.old.entries) way → ⊥ }
+    ensures { Settles graphs.now (map decided_by facts.now) book.old book.new domains.old domains.new
+        (λ pair. pair ≡ way) result }
+{
+    match ban_beside(alloc, domains, way, book)? {
+        Some(number) => delete(graphs, facts, domains, way, Reason::Ban(number), book),
+        None => settle_by_facts(alloc, graphs, facts, rows, inputs, domains, way, book),
+    }
+}
+
+// Settles one that no held ban excludes: deletes it by the ban that decided claims show of it and the held pairs, if there is one.
+fn settle_by_facts(
+    alloc: Global,
+    graphs: &PairableGraphs<'_>,
+    facts: &[Fact],
+    rows: &Rows,
+    inputs: &[Pair],
+    domains: &mut Domains,
+    way: Pair,
+    book: &mut BanBook,
+) -> Result<Option<u64>, AllocError>
+    requires may { MaySettle graphs.now facts.now rows.now inputs.now book.old domains.old }
+    requires known { IsPairOf domains.old.inputs domains.old.outputs way }
+    requires open { IsOpen domains.old.entries way }
+    requires possible { IsImpossible (held_in domains.old.entries) way → ⊥ }
+    requires no_ban { HaveNoBan book.old (way ∷ held_in domains.old.entries) }
+    ensures { Settles graphs.now (map decided_by facts.now) book.old book.new domains.old domains.new
+        (λ pair. pair ≡ way) result }
+{
+    let _lawful = domains.entries();
+    match way_ban(alloc, graphs, facts, rows, domains.pairs(), inputs, way)? {
+        Some(ban) => delete_by(graphs, facts, domains, way, ban, book),
+        None => Ok(None),
+    }
+}
+
+// Holds a ban that facts show, and deletes the pair that it excludes beside the held ones. A ban that is within these alone is
+// answered.
+fn delete_by(
+    graphs: &PairableGraphs<'_>,
+    facts: &[Fact],
+    domains: &mut Domains,
+    way: Pair,
+    ban: Ban,
+    book: &mut BanBook,
+) -> Result<Option<u64>, AllocError>
+    requires shown { IsShownBan graphs.now (map decided_by facts.now) (way ∷ held_in domains.old.entries) ban }
+    requires known { IsPairOf domains.old.inputs domains.old.outputs way }
+    requires open { IsOpen domains.old.entries way }
+    ensures { Settles graphs.now (map decided_by facts.now) book.old book.new domains.old domains.new
+        (λ pair. pair ≡ way) result }
+{
+    let _ = graphs;
+    let _ = facts;
+    let _lawful = domains.entries();
+    let number = book.hold(ban)?;
+    if let Some(dead) = book.covering(domains.pairs()) {
+        return Ok(Some(dead));
+    }
+    domains.delete(way, Reason::Ban(number))?;
+    Ok(None)
+}
+
+// Deletes a pair that clashes with a held one, or that a held ban excludes beside them.
+fn delete(
+    graphs: &PairableGraphs<'_>,
+    facts: &[Fact],
+    domains: &mut Domains,
+    way: Pair,
+    reason: Reason,
+    book: &BanBook,
+) -> Result<Option<u64>, AllocError>
+    requires no_ban { HaveNoBan book.now (held_in domains.old.entries) }
+    requires named { AreNamed book.now (held_in domains.old.entries) way reason }
+    requires shown { IsGrounded graphs.now (map decided_by facts.now) way (Deleted reason) }
+    requires known { IsPairOf domains.old.inputs domains.old.outputs way }
+    requires open { IsOpen domains.old.entries way }
+    ensures { Settles graphs.now (map decided_by facts.now) book.now book.now domains.old domains.new
+        (λ pair. pair ≡ way) result }
+{
+    let _ = graphs;
+    let _ = facts;
+    let _ = book;
+    let _lawful = domains.entries();
+    domains.delete(way, reason)?;
+    Ok(None)
+}
+
+// The number of a held ban that is within a pair and the held ones.
+fn ban_beside(
+    alloc: Global,
+    domains: &Domains,
+    way: Pair,
+    book: &BanBook,
+) -> Result<Option<u64>, AllocError>
+    ensures found { IfOk result (λ found. IfSome found (Covers book.now (way ∷ held_in domains.now.entries))) }
+    ensures none { IfOk result (λ found. IfNone found (HaveNoBan book.now (way ∷ held_in domains.now.entries))) }
+{
+    let pairs = beside(alloc, domains.pairs(), way)?;
+    Ok(book.covering(&pairs))
+}
+
+// A pair, and some after it.
+fn beside(alloc: Global, held: &[Pair], way: Pair) -> Result<Vec<Pair>, AllocError>
+    ensures { IfOk result (λ pairs. pairs.items ≡ way ∷ held.now) }
+{
+    let mut pairs = Vec::new(alloc);
+    pairs.push(way)?;
+    pairs.extend_from_slice(held)?;
+    Ok(pairs)
+}
