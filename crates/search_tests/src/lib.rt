@@ -1,4 +1,4 @@
-//! Tests of facts, bans and guesses, and of the search over two oracles.
+//! Tests of facts, bans, guesses and refining, and of the search over two oracles.
 #![tactic(auto)]
 
 #[cfg(test)]
@@ -11,6 +11,8 @@ mod comparisons;
 mod fillings;
 #[cfg(test)]
 mod guesses;
+#[cfg(test)]
+mod refinings;
 #[cfg(test)]
 mod sample_circuits;
 #[cfg(test)]

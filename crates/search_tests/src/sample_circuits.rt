@@ -50,6 +50,19 @@ pub(crate) const AND_OF_THREE: Sample = Sample {
     outputs: &[8],
 };
 
+/// One input, and an output that is always 0, or the input.
+pub(crate) const ZERO_OF_ONE: Sample = Sample {
+    inputs: 1,
+    gates: &[],
+    outputs: &[0],
+};
+
+pub(crate) const WIRE_OF_ONE: Sample = Sample {
+    inputs: 1,
+    gates: &[],
+    outputs: &[2],
+};
+
 fn graph_of(alloc: Global, sample: Sample) -> Result<Graph, SampleFault> {
     graph(alloc, sample.inputs, sample.gates, sample.outputs)
 }

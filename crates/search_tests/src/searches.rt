@@ -4,7 +4,7 @@ ghost use Rattle.std.specs.Prelude.{◌≡◌, [], false};
 ghost use Rattle.oracle_core.specs.Oracles.{Suits};
 ghost use Rattle.query_core.specs.Ledgers.{Ledgered};
 
-use crate::sample_circuits::{AND, OR, Sample, XOR, are_small, pair};
+use crate::sample_circuits::{AND, OR, Sample, WIRE_OF_ONE, XOR, ZERO_OF_ONE, are_small, pair};
 use account_core::{Ban, Fact, Step};
 use ban_book::BanBook;
 use cnf_core::Stop;
@@ -76,19 +76,6 @@ const ODD_OF_FOUR: Sample = Sample {
         (25, 23),
     ],
     outputs: &[26],
-};
-
-/// One input, and an output that is always 0, or the input.
-const ZERO_OF_ONE: Sample = Sample {
-    inputs: 1,
-    gates: &[],
-    outputs: &[0],
-};
-
-const WIRE_OF_ONE: Sample = Sample {
-    inputs: 1,
-    gates: &[],
-    outputs: &[2],
 };
 
 /// What a search comes to, with what it leaves.

@@ -1,0 +1,14 @@
+use Rattle.std.proofs.Common.{ap, subst, sym}
+use Rattle.class_refine.specs.declared.entry.Entry.{Entry}
+use Rattle.class_refine.specs.declared.entry.Fate.TheVariants.{Held}
+use Rattle.class_refine.specs.declared.entry.Cause.TheVariants.{Choice}
+use Rattle.class_refine.specs.Trails.{Domained}
+use Rattle.conflict_core.specs.Grounded.{AreGrounded}
+use Rattle.conflict_core.proofs.GroundedLemmas.{grounded_push}
+use Rattle.search_tests.proofs.refinings.hold.Goals as goal
+
+pub returns-clause-shown : goal.returns-clause-shown
+returns-clause-shown c = λ facts.
+    let d = c.args.domains.now in
+    let e : Entry = record { pair = c.args.pair; fate = Held Choice } in
+    subst (AreGrounded c.args.graphs.now facts) (sym (ap (λ (after : Domained). after.entries) c.in_ok-hold.ensures.held)) (grounded_push c.args.graphs.now facts d.entries e (c.requires.shown facts) tt)

@@ -1,0 +1,274 @@
+//! Refining whose answers are known.
+
+ghost use Rattle.std.specs.Prelude.{◌≡◌, [], IfOk, IsTrue, List, OnOk, false};
+ghost use Rattle.account_core.specs.Given.{Decided as AnyFact};
+ghost use Rattle.class_refine.specs.Trails.{IsFreePort, IsOpen, IsPairOf};
+ghost use Rattle.conflict_core.specs.Grounded.{AreGrounded};
+ghost use Rattle.conflict_core.specs.Justified.{IsTrail};
+ghost use Rattle.net_core.specs.declared.graphs.Side.TheVariants as AnySide;
+ghost use Rattle.oracle_core.specs.Oracles.{Suits};
+ghost use Rattle.query_core.specs.Ledgers.{Ledgered};
+
+use crate::sample_circuits::{AND, Sample, WIRE_OF_ONE, XOR, ZERO_OF_ONE, are_small, pair};
+use account_core::Ban;
+use ban_book::BanBook;
+use circuits::{Pair, PortKind};
+use class_refine::{Cause, Domains};
+use cnf_core::Stop;
+use fact_bans::Seen;
+use net_core::{Graphs, Side};
+use oracle_core::Oracle;
+use pair_refine::{Refined, refine};
+use pair_search::is_open;
+use port_sides::PairableGraphs;
+use query_core::Ledger;
+use std::alloc::{AllocError, Global};
+use std::test::Fail;
+use table_oracle::TableOracle;
+
+/// What refining comes to.
+#[derive(Clone, Copy, Debug, PartialEq, Eq)]
+enum Outcome {
+    /// It is stable, and so many pairs are held or deleted.
+    Stable(usize),
+    /// A ban of so many pairs is within the held ones.
+    Dead(usize),
+    /// Of another kind.
+    Other,
+}
+
+fn outcome_of(answer: &Result<Refined, Stop>, entries: usize, bans: &[Ban]) -> Outcome {
+    match answer {
+        Ok(Refined::Stable) => Outcome::Stable(entries),
+        Ok(Refined::Dead(number)) => dead_by(bans.get(*number as usize)),
+        Err(_) => Outcome::Other,
+    }
+}
+
+fn dead_by(ban: Option<&Ban>) -> Outcome {
+    match ban {
+        Some(ban) => Outcome::Dead(ban.pairs.len()),
+        None => Outcome::Other,
+    }
+}
+
+/// All pairs of two circuits are open.
+fn all_open(alloc: Global, graphs: &PairableGraphs<'_>) -> Result<Domains, AllocError>
+    ensures trail { IfOk result (λ domains. IsTrail graphs.now [] domains) }
+    ensures shown { IfOk result (λ domains. (facts : List AnyFact) → AreGrounded graphs.now facts domains.entries) }
+{
+    let _ports = graphs.graphs();
+    Domains::new(
+        alloc,
+        graphs.ports(PortKind::Input),
+        graphs.ports(PortKind::Output),
+    )
+}
+
+/// Whether a pair is open, and no pair of its ports is held.
+fn is_free(domains: &Domains, pair: Pair) -> bool
+    ensures known { IsTrue result → IsPairOf domains.now.inputs domains.now.outputs pair }
+    ensures open { IsTrue result → IsOpen domains.now.entries pair }
+    ensures from { IsTrue result → IsFreePort domains.now.entries AnySide.First pair.kind pair.from }
+    ensures to { IsTrue result → IsFreePort domains.now.entries AnySide.Second pair.kind pair.to }
+{
+    if !is_open(domains, pair) {
+        return false;
+    }
+    if domains.held(Side::First, pair.kind, pair.from).is_some() {
+        return false;
+    }
+    domains.held(Side::Second, pair.kind, pair.to).is_none()
+}
+
+/// Holds a pair, if it is free.
+fn hold(graphs: &PairableGraphs<'_>, domains: &mut Domains, pair: Pair) -> Result<(), AllocError>
+    requires trail { IsTrail graphs.now [] domains.old }
+    requires shown { (facts : List AnyFact) → AreGrounded graphs.now facts domains.old.entries }
+    ensures trail { OnOk result (IsTrail graphs.now [] domains.new) }
+    ensures shown { OnOk result ((facts : List AnyFact) → AreGrounded graphs.now facts domains.new.entries) }
+{
+    let _ = graphs;
+    if !is_free(domains, pair) {
+        return Ok(());
+    }
+    domains.hold(pair, Cause::Choice)?;
+    Ok(())
+}
+
+/// Holds some pairs, each if it is free.
+fn hold_all(
+    graphs: &PairableGraphs<'_>,
+    domains: &mut Domains,
+    pairs: &[Pair],
+) -> Result<(), AllocError>
+    requires trail { IsTrail graphs.now [] domains.old }
+    requires shown { (facts : List AnyFact) → AreGrounded graphs.now facts domains.old.entries }
+    ensures trail { OnOk result (IsTrail graphs.now [] domains.new) }
+    ensures shown { OnOk result ((facts : List AnyFact) → AreGrounded graphs.now facts domains.new.entries) }
+{
+    for pair in pairs.iter() {
+        hold(graphs, domains, *pair)?;
+    }
+    Ok(())
+}
+
+/// What refining over a new oracle comes to.
+fn refined_by<O: Oracle>(
+    alloc: Global,
+    graphs: &PairableGraphs<'_>,
+    oracle: &mut O,
+    domains: &mut Domains,
+) -> Result<Outcome, AllocError>
+    requires graphs { graphs.now ≡ (O.known oracle.old).graphs }
+    requires suits { (ledger : Ledgered)
+        → ledger.asked ≡ []
+        → ledger.spent ≡ false
+        → Suits (O.known oracle.old) ledger }
+    requires trail { IsTrail graphs.now [] domains.old }
+    requires shown { (facts : List AnyFact) → AreGrounded graphs.now facts domains.old.entries }
+{
+    let _facts = oracle.facts();
+    let mut seen = Seen::new(alloc, graphs, 1)?;
+    let mut book = BanBook::new(alloc);
+    let mut ledger = Ledger::new(alloc, 1_000_000);
+    let answer = refine(
+        alloc,
+        graphs,
+        oracle,
+        domains,
+        &mut seen,
+        &mut book,
+        &mut ledger,
+    );
+    Ok(outcome_of(&answer, domains.entries().len(), book.bans()))
+}
+
+/// What refining by all vectors comes to where pairs are held.
+fn refined_beside(
+    alloc: Global,
+    graphs: &PairableGraphs<'_>,
+    held: &[Pair],
+) -> Result<Outcome, AllocError> {
+    if !are_small(graphs) {
+        return Ok(Outcome::Other);
+    }
+    let mut oracle = TableOracle::new(alloc, graphs)?;
+    let mut domains = all_open(alloc, graphs)?;
+    hold_all(graphs, &mut domains, held)?;
+    refined_by(alloc, graphs, &mut oracle, &mut domains)
+}
+
+fn refined_of(alloc: Global, graphs: &Graphs<'_>, held: &[Pair]) -> Result<Outcome, AllocError> {
+    match PairableGraphs::new(graphs) {
+        Some(graphs) => refined_beside(alloc, &graphs, held),
+        None => Ok(Outcome::Other),
+    }
+}
+
+fn refined(alloc: Global, first: Sample, second: Sample, held: &[Pair]) -> Result<Outcome, Fail> {
+    let both = pair(alloc, first, second)?;
+    let graphs = both.graphs();
+    Ok(refined_of(alloc, &graphs, held)?)
+}
+
+const OUTPUT: Pair = Pair {
+    kind: PortKind::Output,
+    from: 0,
+    to: 0,
+    flip: false,
+};
+
+const ONE_TO_ONE: Pair = Pair {
+    kind: PortKind::Input,
+    from: 0,
+    to: 0,
+    flip: false,
+};
+
+const ONE_TO_ONE_NEGATED: Pair = Pair {
+    kind: PortKind::Input,
+    from: 0,
+    to: 0,
+    flip: true,
+};
+
+const OTHER_TO_OTHER: Pair = Pair {
+    kind: PortKind::Input,
+    from: 1,
+    to: 1,
+    flip: false,
+};
+
+const ONE_TO_OTHER: Pair = Pair {
+    kind: PortKind::Input,
+    from: 0,
+    to: 1,
+    flip: false,
+};
+
+const OTHER_TO_ONE: Pair = Pair {
+    kind: PortKind::Input,
+    from: 1,
+    to: 0,
+    flip: false,
+};
+
+/// Two circuits by name, the pairs that are held, and what refining comes to.
+const REFININGS: &[(&str, Sample, Sample, &[Pair], Outcome)] = &[
+    // both ways of the output are deleted: the one output depends on its input, and the other one doesn't
+    (
+        "a constant, an input",
+        ZERO_OF_ONE,
+        WIRE_OF_ONE,
+        &[],
+        Outcome::Dead(0),
+    ),
+    (
+        "with their outputs paired",
+        ZERO_OF_ONE,
+        WIRE_OF_ONE,
+        &[OUTPUT],
+        Outcome::Dead(1),
+    ),
+    // of the ten signed pairs three are held, and the others clash with them
+    (
+        "AND, AND",
+        AND,
+        AND,
+        &[ONE_TO_ONE, OTHER_TO_OTHER, OUTPUT],
+        Outcome::Stable(10),
+    ),
+    (
+        "XOR, XOR with its inputs exchanged",
+        XOR,
+        XOR,
+        &[ONE_TO_OTHER, OTHER_TO_ONE, OUTPUT],
+        Outcome::Stable(10),
+    ),
+    // the output's other way clashes, and rising outputs have no input negated
+    (
+        "AND, AND with the outputs paired",
+        AND,
+        AND,
+        &[OUTPUT],
+        Outcome::Stable(6),
+    ),
+    (
+        "AND, AND with an input negated",
+        AND,
+        AND,
+        &[ONE_TO_ONE_NEGATED, OUTPUT],
+        Outcome::Dead(2),
+    ),
+    ("AND, AND, all open", AND, AND, &[], Outcome::Stable(0)),
+];
+
+#[test]
+fn refines_small_circuits(rt: HostRuntime) -> Result<(), Fail> {
+    for (name, first, second, held, outcome) in REFININGS.iter() {
+        let found = refined(rt.alloc(), *first, *second, held)?;
+        assert_eq!(rt; (*name, found), (*name, *outcome));
+    }
+    Ok(())
+}
