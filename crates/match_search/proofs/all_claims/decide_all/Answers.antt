@@ -1,5 +1,4 @@
 use Rattle.std.proofs.Common.{◌∙◌, sym}
-use Rattle.std.proofs.lemmas.Result.{err_from_is_err_and}
 use Rattle.match_search.proofs.ClaimLemmas.{both_sides}
 use Rattle.match_search.proofs.ServeLemmas.{served_one, serves_last}
 use Rattle.match_search.proofs.all_claims.decide_all.Goals as goal

@@ -1,4 +1,4 @@
-use Rattle.std.proofs.Common.{◌∙◌, refl, sym}
+use Rattle.std.proofs.Common.{refl}
 use Rattle.std.proofs.lemmas.Result.{err_from_is_err_and}
 use Rattle.match_search.proofs.SearchLemmas.{may_start}
 use Rattle.match_search.proofs.ServeLemmas.{served_one, served_then, serves_err, serves_ok, valid_grows}
