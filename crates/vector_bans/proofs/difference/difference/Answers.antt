@@ -1,6 +1,5 @@
 use Rattle.std.proofs.Common.{◌∙◌, ◌++◌, ◌∷◌, [], All, map, sym, subst, ap}
 use Rattle.std.specs.Prelude.{Contains}
-use Rattle.circuits.specs.declared.port.Pair.{Pair}
 use Rattle.circuits.specs.declared.port.PortKind.TheVariants.{Input, Output}
 use Rattle.account_core.specs.Ports.{IsKnown}
 use Rattle.port_covers.proofs.ListLemmas.{among_more}

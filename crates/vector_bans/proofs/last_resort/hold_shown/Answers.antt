@@ -1,4 +1,4 @@
-use Rattle.std.proofs.Common.{refl, map, sym, subst}
+use Rattle.std.proofs.Common.{refl}
 use Rattle.std.proofs.lemmas.Result.{err_from_is_err_and}
 use Rattle.ban_book.proofs.BookLemmas.{covers_last}
 use Rattle.fact_bans.proofs.HoldingLemmas.{held_ban, held_kept, holds_fail, holds_ok, holds_stop}
