@@ -1,5 +1,5 @@
--- What refining comes to: nothing that is held or told excludes any pair that remains (arc consistency: Mackworth, Artif. Intell. 1977;
--- functional properties of ports: Katebi and Markov, DATE 2010).
+-- What refining comes to: nothing that is held or told excludes any pair that remains (arc consistency: Mackworth, Artif. Intell.
+-- 1977; functional properties of ports: Katebi and Markov, DATE 2010).
 use Rattle.std.specs.Prelude.{ℕ, ◌<◌, List, ◌∷◌, length, All}
 use Rattle.circuits.specs.declared.port.Pair.{Pair}
 use Rattle.circuits.specs.declared.port.PortKind.{PortKind}
