@@ -47,8 +47,8 @@ pub(crate) fn ask_output<O: Oracle>(
     Ok(())
 }
 
-/// Holds the bans that decided claims show of a held pair: by itself, or with another held one. Such bans have one pair or two, so
-/// that what refers to them needs few pairs too.
+/// Holds the bans that decided claims show of a held pair: by itself, or with another held one. Such bans have one pair or two,
+/// so that what refers to them needs few pairs too.
 pub(crate) fn ask_held<O: Oracle>(
     alloc: Global,
     graphs: &PairableGraphs<'_>,

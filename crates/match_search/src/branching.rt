@@ -35,9 +35,9 @@ use std::alloc::{AllocError, Global};
 use watch_core::Stage;
 
 /// Decides ports one by one, as conflict-driven solvers decide variables, until a match is found, or a ban without pairs. What
-/// follows of bans and of ports with one way left is held and deleted; from an impasse a ban is learned that leads as far back as
-/// it can, and the outputs of whole tables are compared. What the search goes by comes from the caller, and bans may be held. Where
-/// a match is found, the claims of one input of all outputs are decided.
+/// follows of bans and of ports with one way left is held and deleted; from an impasse a ban is learned that leads as far back
+/// as it can, and the outputs of whole tables are compared. What the search goes by comes from the caller, and bans may be
+/// held. Where a match is found, the claims of one input of all outputs are decided.
 ///
 /// # Errors
 ///
@@ -224,8 +224,8 @@ fn compare_held<O: Oracle>(
     }
 }
 
-// Answers a match, once the claims of one input of all outputs are decided. Neither these nor bans exclude the pairs of a match, so
-// that the other answer of refining is not expected here; but it is no harm, and goes the way of any ban.
+// Answers a match, once the claims of one input of all outputs are decided. Neither these nor bans exclude the pairs of a
+// match, so that the other answer of refining is not expected here; but it is no harm, and goes the way of any ban.
 fn confirm<O: Oracle>(
     alloc: Global,
     graphs: &PairableGraphs<'_>,

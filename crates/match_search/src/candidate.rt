@@ -35,8 +35,8 @@ pub(crate) struct Difference {
     pub(crate) vector: Bits,
 }
 
-/// Compares all outputs under the pairs that are held, one of each port. Where one differs, it keeps the vector, and holds a ban of
-/// which all pairs are held.
+/// Compares all outputs under the pairs that are held, one of each port. Where one differs, it keeps the vector, and holds a
+/// ban of which all pairs are held.
 pub(crate) fn compare_whole<O: Oracle>(
     alloc: Global,
     graphs: &PairableGraphs<'_>,

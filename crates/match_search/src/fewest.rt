@@ -13,9 +13,9 @@ use net_core::Side;
 use port_sides::port_on;
 use std::alloc::{AllocError, Global};
 
-/// An output counts as if it had so many times its ways. Once inputs have pairs, the partners of outputs that read them are known, so
-/// inputs come first where no conflict says otherwise. Counted alike, three of 11 near misses took 1.5 seconds and more that take
-/// less than one so; with ten times two weren't refused in 2 seconds.
+/// An output counts as if it had so many times its ways. Once inputs have pairs, the partners of outputs that read them are
+/// known, so inputs come first where no conflict says otherwise. Counted alike, three of 11 near misses took 1.5 seconds and
+/// more that take less than one so; with ten times two weren't refused in 2 seconds.
 const OUTPUT_FACTOR: u64 = 4;
 
 // A port, how many ways it has left, as they count, and its weight.
@@ -27,8 +27,8 @@ struct Candidate {
 }
 
 /// Of the ports that are in no pair the one of either circuit that has the fewest ways left for its weight: ports of the last
-/// conflicts are decided first, so that these come again sooner and lead to bans of few pairs. Of the inputs those alone are looked at
-/// that an output in a pair reads.
+/// conflicts are decided first, so that these come again sooner and lead to bans of few pairs. Of the inputs those alone are
+/// looked at that an output in a pair reads.
 pub(crate) fn fewest_ways(
     alloc: Global,
     reads: &Reads,

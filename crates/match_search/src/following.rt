@@ -198,9 +198,9 @@ fn ask_next_output<O: Oracle>(
     Ok(true)
 }
 
-// Holds the bans that decided claims show of the next held pair that wasn't compared with any, and deletes the ways that they tell
-// from it. Where there are such bans, what follows of them comes first, and the pair is compared again. Answers whether there is
-// such a pair.
+// Holds the bans that decided claims show of the next held pair that wasn't compared with any, and deletes the ways that they
+// tell from it. Where there are such bans, what follows of them comes first, and the pair is compared again. Answers whether
+// there is such a pair.
 fn ask_next_pair<O: Oracle>(
     alloc: Global,
     graphs: &PairableGraphs<'_>,

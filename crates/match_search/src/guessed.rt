@@ -31,8 +31,8 @@ pub(crate) enum Guessed {
     Nothing,
 }
 
-/// Compares tables that are guessed with so much effort, a bounded number of them, and answers one that is a match, with its logs. None
-/// says nothing of whether there is a match.
+/// Compares tables that are guessed with so much effort, a bounded number of them, and answers one that is a match, with its
+/// logs. None says nothing of whether there is a match.
 pub(crate) fn compare_guesses<O: Oracle>(
     alloc: Global,
     graphs: &PairableGraphs<'_>,

@@ -75,8 +75,8 @@ impl Guide {
         self.exchanged = self.exchanged.min(held);
     }
 
-    /// Notes the bans that the conflict of an impasse came to, those from a place on, the last of which was learned; where there are
-    /// none, the ban of the impasse was.
+    /// Notes the bans that the conflict of an impasse came to, those from a place on, the last of which was learned; where
+    /// there are none, the ban of the impasse was.
     pub(crate) fn learn(&mut self, bans: &[Ban], from: usize, impasse: Impasse)
         ensures { self.new.trials ≡ self.old.trials }
     {
@@ -106,7 +106,8 @@ fn ban_of(bans: &[Ban], impasse: Impasse) -> Option<&Ban> {
     }
 }
 
-// The outputs of the first circuit, those first that read the fewest inputs, whose claims are cheap; none where there are too many.
+// The outputs of the first circuit, those first that read the fewest inputs, whose claims are cheap; none where there are too
+// many.
 fn order_of(
     alloc: Global,
     reads: &Reads,

@@ -29,13 +29,14 @@ struct Beside {
     broken: u8,
 }
 
-/// Lists the ways of the other kind that vectors tell from a held pair and that aren't deleted: a vector breaks a claim of one input
-/// of the one circuit, and none does that which the pair and the way carry it to. Ports of which a pair is held are passed over:
-/// their other ways are deleted, and held pairs are compared for themselves.
+/// Lists the ways of the other kind that vectors tell from a held pair and that aren't deleted: a vector breaks a claim of one
+/// input of the one circuit, and none does that which the pair and the way carry it to. Ports of which a pair is held are
+/// passed over: their other ways are deleted, and held pairs are compared for themselves.
 ///
-/// Of a pair that was compared before the last ports come first: a port's first way is held when it is decided, so what follows of the
-/// last ones is followed before it. With the first ports first a near miss of 16 copies of a circuit of five inputs took more than 20 s in
-/// place of one; with the last ones first at the first time, too, that of an adder of 128 bits took 10 s in place of two.
+/// Of a pair that was compared before the last ports come first: a port's first way is held when it is decided, so what follows
+/// of the last ones is followed before it. With the first ports first a near miss of 16 copies of a circuit of five inputs took
+/// more than 20 s in place of one; with the last ones first at the first time, too, that of an adder of 128 bits took 10 s in
+/// place of two.
 pub(crate) fn list_unlike(
     alloc: Global,
     domains: &Domains,

@@ -57,8 +57,8 @@ impl Weights {
         }
     }
 
-    /// The weight of a port, with a tenth of a conflict for each, so that among ports that were in none the number of ways decides.
-    /// With a fiftieth a near miss of a funnel shifter took three times as many conflicts.
+    /// The weight of a port, with a tenth of a conflict for each, so that among ports that were in none the number of ways
+    /// decides. With a fiftieth a near miss of a funnel shifter took three times as many conflicts.
     pub(crate) fn of(&self, port: Port) -> u64 {
         let place = self.place(port.side, port.kind, port.number);
         let weight = match self.weights.get(place) {

@@ -47,7 +47,8 @@ pub record HasRemaining (domains : Domained) (side : Side) (kind : PortKind) (po
   pub of_port : IsOf side kind port pair
   pub remains : Remains domains pair
 
--- The claims of one input are decided, nothing excludes the held pairs nor any one that remains beside them, and each port has one.
+-- The claims of one input are decided, nothing excludes the held pairs nor any one that remains beside them, and each port has
+-- one.
 pub record IsStable (graphs : Graphs) (facts : List Decided) (bans : List Ban) (domains : Domained) : Type 0 where
   pub decided : AreOutputsDecided graphs facts
   pub alone : AreClean graphs facts bans (held_in domains.entries)

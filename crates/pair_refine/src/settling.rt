@@ -211,7 +211,8 @@ fn settle_possible(
     }
 }
 
-// Settles one that no held ban excludes: deletes it by the ban that decided claims show of it and the held pairs, if there is one.
+// Settles one that no held ban excludes: deletes it by the ban that decided claims show of it and the held pairs, if there is
+// one.
 fn settle_by_facts(
     alloc: Global,
     graphs: &PairableGraphs<'_>,

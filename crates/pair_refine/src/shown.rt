@@ -17,8 +17,8 @@ use claim_rows::ban_by_facts;
 use port_sides::PairableGraphs;
 use std::alloc::{AllocError, Global};
 
-/// The ban that decided claims show of a way beside the held pairs, of which they show none: of an input's with each held output's,
-/// of an output's with all held inputs'.
+/// The ban that decided claims show of a way beside the held pairs, of which they show none: of an input's with each held
+/// output's, of an output's with all held inputs'.
 pub(crate) fn way_ban(
     alloc: Global,
     graphs: &PairableGraphs<'_>,
