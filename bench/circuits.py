@@ -626,7 +626,8 @@ def boxes():
         chosen=" ".join(f"assign y[{i}] = a[{(i + 1) % 64}] ? a[{i}] : a[{i}] ^ a[{(i + 2) % 64}];" for i in range(64)))
     plain = []
     for k in range(16):
-        plain.append(f"always @* begin case (a[{4 * k + 3}:{4 * k}] ^ k[{4 * k + 3}:{4 * k}]) " + " ".join(f"{i}: t[{4 * k + 3}:{4 * k}] = {v};" for i, v in enumerate(PRESENT)) + " endcase end")
+        part = f"[{4 * k + 3}:{4 * k}]"
+        plain.append(f"always @* begin case (a{part} ^ k{part}) " + " ".join(f"{i}: t{part} = {v};" for i, v in enumerate(PRESENT)) + f" default: t{part} = 0; endcase end")
     moved = "assign y = {" + ", ".join(f"t[{(4 * k) % 63 if k < 63 else 63}]" for k in range(63, -1, -1)) + "};"
     add("present_round", "S-box", "input [63:0] a, k, output [63:0] y", table="reg [63:0] t; " + " ".join(plain) + " " + moved)
 
