@@ -3,5 +3,6 @@ pub mod InputLemmas
 pub mod NothingLemmas
 pub mod RowsLemmas
 pub mod TrailLemmas
+pub mod SwapLemmas
 pub mod SettleLemmas
 pub mod StableLemmas

@@ -29,7 +29,8 @@ use Rattle.pair_refine.specs.declared.rows.Rows.{Rows}
 use Rattle.pair_refine.specs.Refining.{OnlyDeletes, Refines}
 use Rattle.pair_refine.specs.Rows.{AreInputsOf, ShowNothingAt}
 use Rattle.pair_refine.specs.Settling.{IsBetween, IsClear, IsSettled, MaySettle, Settled, Settles}
-use Rattle.pair_refine.specs.Stable.{HaveNoBan}
+use Rattle.pair_refine.specs.Stable.{HaveNoBan, HaveNoSwapMismatch}
+use Rattle.pair_refine.proofs.SwapLemmas.{no_swap_beside}
 use Rattle.pair_refine.proofs.TrailLemmas.{refines_none, refines_then}
 
 -- whether two pairs are one
@@ -87,6 +88,7 @@ may_later graphs facts rows inputs bans more before after may refines no_ban = r
   rows_are = may.rows_are;
   inputs_are = subst (λ l. AreInputsOf l inputs) (sym refines.deletes.held) may.inputs_are;
   no_facts = subst (ShowNothingAt graphs (map decided_by facts) inputs) (sym refines.deletes.held) may.no_facts;
+  no_swap = subst (HaveNoSwapMismatch graphs (map decided_by facts)) (sym refines.deletes.held) may.no_swap;
   no_ban = no_ban;
   trail = refines.trail may.trail;
 }
@@ -228,6 +230,7 @@ settles_banned graphs facts bans more before after way ban number more_is after_
       clean = record {
         no_ban = subst (λ l. HaveNoBan l (pair ∷ held)) (sym more_is) (All-push (λ (b : Ban). IsWithin (pair ∷ held) b → ⊥) bans ban clear.clean.no_ban (not_within held way pair ban differ within last_no));
         no_facts = clear.clean.no_facts;
+        no_swap = clear.clean.no_swap;
       };
     }))
 
@@ -237,18 +240,18 @@ held_entry es pair fate there held =
     let e : Entry = record { pair = pair; fate = fate } in
     subst (Contains (held_in es)) (ap (λ (x : Entry). x.pair) there.2) (held_by es there.0 e there.1 (ap (λ (x : Entry). is_held x.fate) there.2 ∙ held))
 
-pub held_clear : (graphs : Graphs) (facts : List Decided) (bans : List Ban) (held : List Pair) (pair : Pair) → AllPairs AreApart held → Contains held pair → HaveNoBan bans held → HaveNoFacts graphs facts (pair ∷ held) → IsClear graphs facts bans held pair
-held_clear graphs facts bans held pair apart there no_ban nothing = record {
+pub held_clear : (graphs : Graphs) (facts : List Decided) (bans : List Ban) (held : List Pair) (pair : Pair) → AllPairs AreApart held → Contains held pair → HaveNoBan bans held → HaveNoSwapMismatch graphs facts held → HaveNoFacts graphs facts (pair ∷ held) → IsClear graphs facts bans held pair
+held_clear graphs facts bans held pair apart there no_ban no_swap nothing = record {
   possible = held_possible held pair apart there;
-  clean = record { no_ban = no_ban_beside bans held pair there no_ban; no_facts = nothing };
+  clean = record { no_ban = no_ban_beside bans held pair there no_ban; no_facts = nothing; no_swap = no_swap_beside graphs facts held pair apart there no_swap };
 }
 
 -- and so is one that is deleted
-pub entry_settled : (graphs : Graphs) (facts : List Decided) (bans : List Ban) (d : Domained) (pair : Pair) (fate : Fate) → AllPairs AreApart (held_in d.entries) → HaveNoBan bans (held_in d.entries) → (Contains (held_in d.entries) pair → HaveNoFacts graphs facts (pair ∷ held_in d.entries)) → Contains d.entries (record { pair = pair; fate = fate }) → IsSettled graphs facts bans d pair
-entry_settled graphs facts bans d pair (Held cause) apart no_ban nothing there =
+pub entry_settled : (graphs : Graphs) (facts : List Decided) (bans : List Ban) (d : Domained) (pair : Pair) (fate : Fate) → AllPairs AreApart (held_in d.entries) → HaveNoBan bans (held_in d.entries) → HaveNoSwapMismatch graphs facts (held_in d.entries) → (Contains (held_in d.entries) pair → HaveNoFacts graphs facts (pair ∷ held_in d.entries)) → Contains d.entries (record { pair = pair; fate = fate }) → IsSettled graphs facts bans d pair
+entry_settled graphs facts bans d pair (Held cause) apart no_ban no_swap nothing there =
     let held = held_entry d.entries pair (Held cause) there refl in
-    inr (held_clear graphs facts bans (held_in d.entries) pair apart held no_ban (nothing held))
-entry_settled graphs facts bans d pair (Deleted why) apart no_ban nothing there = inl (why, there)
+    inr (held_clear graphs facts bans (held_in d.entries) pair apart held no_ban no_swap (nothing held))
+entry_settled graphs facts bans d pair (Deleted why) apart no_ban no_swap nothing there = inl (why, there)
 
 -- the pairs of two ports are two
 pub two_pairs : (kind : PortKind) (from to : ℕ) (pair : Pair) → IsBetween kind from to pair → (pair ≡ record { kind = kind; from = from; to = to; flip = false }) ⊎ (pair ≡ record { kind = kind; from = from; to = to; flip = true })

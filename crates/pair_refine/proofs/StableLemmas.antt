@@ -54,6 +54,7 @@ module _ (graphs : Graphs) (facts : List Fact) (rows : Rows) (inputs : List Pair
     alone = subst (AreClean graphs (map decided_by facts) more) (sym refines.deletes.held) (record {
       no_ban = subst (HaveNoBan more) refines.deletes.held settled.no_ban;
       no_facts = nothing_held graphs (map decided_by facts) (held_in before.entries) inputs held may.inputs_are may.no_facts;
+      no_swap = may.no_swap;
     });
     beside = clean_beside;
     ports = λ side kind port below. remaining_of side kind port (left side kind port below);

@@ -1,5 +1,6 @@
 pub mod Rows
 pub mod Stable
+pub mod Swaps
 pub mod Refining
 pub mod Settling
 pub use Rattle.port_covers.specs.Held

@@ -15,7 +15,7 @@ use Rattle.class_refine.specs.Trails.{Domained, IsDeleted, IsPairOf, held_in}
 use Rattle.conflict_core.specs.Justified.{IsTrail}
 use Rattle.pair_refine.specs.declared.rows.Rows.{Rows}
 use Rattle.pair_refine.specs.Rows.{AreAllRows, AreInputsOf, ShowNothingAt}
-use Rattle.pair_refine.specs.Stable.{AreClean, HaveNoBan}
+use Rattle.pair_refine.specs.Stable.{AreClean, HaveNoBan, HaveNoSwapMismatch}
 use Rattle.pair_refine.specs.Refining.{Refines}
 
 -- The rows tell of facts, which show nothing of the held pairs; nor is a ban within them.
@@ -25,6 +25,7 @@ pub record MaySettle (graphs : Graphs) (facts : List Fact) (rows : Rows) (inputs
   pub rows_are : AreAllRows graphs (map decided_by facts) rows
   pub inputs_are : AreInputsOf (held_in domains.entries) inputs
   pub no_facts : ShowNothingAt graphs (map decided_by facts) inputs (held_in domains.entries)
+  pub no_swap : HaveNoSwapMismatch graphs (map decided_by facts) (held_in domains.entries)
   pub no_ban : HaveNoBan bans (held_in domains.entries)
   pub trail : IsTrail graphs bans domains
 

@@ -1,16 +1,19 @@
 -- What refining comes to: nothing that is held or told excludes any pair that remains (arc consistency: Mackworth, Artif. Intell.
 -- 1977; functional properties of ports: Katebi and Markov, DATE 2010).
-use Rattle.std.specs.Prelude.{ℕ, ◌<◌, List, ◌∷◌, length, All}
+use Rattle.std.specs.Prelude.{ℕ, ◌<◌, ⊤, List, [], ◌∷◌, length, All}
 use Rattle.circuits.specs.declared.port.Pair.{Pair}
 use Rattle.circuits.specs.declared.port.PortKind.{PortKind}
 use Rattle.net_core.specs.Sides.{Graphs, graph_of}
 use Rattle.net_core.specs.declared.graphs.Side.{Side}
 use Rattle.net_core.specs.declared.graphs.Side.TheVariants.{First, Second}
 use Rattle.account_core.specs.Covers.{IsImpossible}
-use Rattle.account_core.specs.Given.{Decided}
+use Rattle.query_core.specs.declared.claims.Shape.{Shape}
+use Rattle.query_core.specs.declared.claims.Shape.TheVariants.{Up, Down, Swap}
+use Rattle.account_core.specs.Given.{Decided, fact_at, given_of}
 use Rattle.account_core.specs.declared.step.Ban.{Ban}
+use Rattle.account_core.specs.declared.step.Step.TheVariants as step
 use Rattle.ban_book.specs.Covering.{Covers, IsWithin}
-use Rattle.ban_book.specs.Vectors.{AreInputsDecided, HaveNoFacts}
+use Rattle.ban_book.specs.Vectors.{AreInputsDecided, HaveNoFacts, IsShownBy}
 use Rattle.port_covers.specs.Held.{IsOf}
 use Rattle.class_refine.specs.Trails.{Domained, IsDeleted, IsPairOf, held_in, ports_of}
 use Rattle.pair_refine.specs.declared.refined.Refined.{Refined}
@@ -30,10 +33,25 @@ pub record AreOutputsDecided (graphs : Graphs) (facts : List Decided) : Type 0 w
 abbrev pub HaveNoBan : List Ban → List Pair → Type 0
 HaveNoBan bans pairs = All (λ ban. IsWithin pairs ban → ⊥) bans
 
--- No ban is within pairs, and no mismatch of claims of one input and no tally is valid for them.
+-- a shape has two inputs
+abbrev pub HasTwoInputs : Shape → Type 0
+HasTwoInputs (Up i) = ⊥
+HasTwoInputs (Down i) = ⊥
+HasTwoInputs (Swap i j a b) = ⊤
+
+-- no mismatch of claims of two inputs is valid for pairs
+abbrev pub HaveNoSwapMismatch : Graphs → List Decided → List Pair → Type 0
+HaveNoSwapMismatch graphs facts pairs =
+    (fails holds : ℕ)
+    → HasTwoInputs (fact_at (given_of facts []) fails).claim.shape
+    → IsShownBy graphs facts pairs (step.Mismatch fails holds)
+    → ⊥
+
+-- No ban is within pairs, and no mismatch and no tally is valid for them.
 pub record AreClean (graphs : Graphs) (facts : List Decided) (bans : List Ban) (pairs : List Pair) : Type 0 where
   pub no_ban : HaveNoBan bans pairs
   pub no_facts : HaveNoFacts graphs facts pairs
+  pub no_swap : HaveNoSwapMismatch graphs facts pairs
 
 -- A pair isn't deleted, and clashes with no held one.
 pub record Remains (domains : Domained) (pair : Pair) : Type 0 where

@@ -1,16 +1,17 @@
 //! Bans that are within the held pairs alone.
 
-ghost use Rattle.std.specs.Prelude.{IfNone, IfOk, IfSome, map};
+ghost use Rattle.std.specs.Prelude.{◌≡◌, IfNone, IfOk, IfSome, map};
 ghost use Rattle.account_core.specs.Facts.{AreFacts};
 ghost use Rattle.account_core.specs.Given.{decided_by};
 ghost use Rattle.ban_book.specs.Covering.{Covers};
 ghost use Rattle.port_covers.specs.Held.{AreHeld};
 ghost use Rattle.pair_refine.specs.Rows.{AreAllRows, AreInputsOf, ShowNothingAt};
 ghost use Rattle.pair_refine.specs.Refining.{AddsShown};
-ghost use Rattle.pair_refine.specs.Stable.{HaveNoBan};
+ghost use Rattle.pair_refine.specs.Stable.{HaveNoBan, HaveNoSwapMismatch};
 
 use crate::rows::Rows;
 use crate::shown::held_ban;
+use crate::swaps::swap_ban;
 use account_core::Fact;
 use ban_book::BanBook;
 use circuits::Pair;
@@ -36,12 +37,34 @@ pub(crate) fn exclude_held(
     ensures no_ban { IfOk result (λ dead. IfNone dead (HaveNoBan book.new held.now)) }
     ensures no_facts { IfOk result (λ dead. IfNone dead
         (ShowNothingAt graphs.now (map decided_by facts.now) inputs.now held.now)) }
+    ensures no_swap { IfOk result (λ dead. IfNone dead (HaveNoSwapMismatch graphs.now (map decided_by facts.now) held.now)) }
 {
     if let Some(number) = book.covering(held) {
         return Ok(Some(number));
     }
     match held_ban(alloc, graphs, facts, rows, held, inputs)? {
         Some(ban) => Ok(Some(book.hold(ban)?)),
-        None => Ok(None),
+        None => exclude_by_swaps(alloc, graphs, facts, held, book),
     }
+}
+
+// That of one that decided claims of two inputs show of them, which is held now. Where there is none, bans stay.
+fn exclude_by_swaps(
+    alloc: Global,
+    graphs: &PairableGraphs<'_>,
+    facts: &[Fact],
+    held: &[Pair],
+    book: &mut BanBook,
+) -> Result<Option<u64>, AllocError>
+    requires lawful { AreFacts graphs.now facts.now }
+    requires held { AreHeld graphs.now held.now }
+    ensures adds { AddsShown graphs.now (map decided_by facts.now) book.old book.new }
+    ensures found { IfOk result (λ dead. IfSome dead (Covers book.new held.now)) }
+    ensures same { IfOk result (λ dead. IfNone dead (book.new ≡ book.old)) }
+    ensures no_swap { IfOk result (λ dead. IfNone dead (HaveNoSwapMismatch graphs.now (map decided_by facts.now) held.now)) }
+{
+    let Some(ban) = swap_ban(alloc, graphs, facts, held)? else {
+        return Ok(None);
+    };
+    Ok(Some(book.hold(ban)?))
 }

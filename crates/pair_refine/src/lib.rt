@@ -9,6 +9,7 @@ mod refining;
 mod rows;
 mod settling;
 mod shown;
+mod swaps;
 
 pub use refined::Refined;
 pub use refining::refine;

@@ -3,6 +3,7 @@
 ghost use Rattle.std.specs.Prelude.{◌≡◌, ◌<◌, ◌∷◌, IfNone, IfOk, IfSome, map};
 ghost use Rattle.account_core.specs.Covers.{IsImpossible};
 ghost use Rattle.account_core.specs.Given.{decided_by};
+ghost use Rattle.account_core.specs.Ports.{IsKnown};
 ghost use Rattle.ban_book.specs.Covering.{Covers};
 ghost use Rattle.claim_rows.specs.Shown.{IsShownBan};
 ghost use Rattle.class_refine.specs.declared.entry.Fate.TheVariants.{Deleted};
@@ -11,9 +12,11 @@ ghost use Rattle.conflict_core.specs.Grounded.{IsGrounded};
 ghost use Rattle.conflict_core.specs.Named.{AreNamed};
 ghost use Rattle.pair_refine.specs.Settling.{IsBetween, MaySettle, Settles};
 ghost use Rattle.pair_refine.specs.Stable.{HaveNoBan};
+ghost use Rattle.ban_book.specs.Vectors.{HaveNoFacts};
 
 use crate::rows::Rows;
 use crate::shown::way_ban;
+use crate::swaps::swap_ban;
 use account_core::{Ban, Fact};
 use ban_book::BanBook;
 use circuits::{Pair, PortKind};
@@ -233,6 +236,38 @@ fn settle_by_facts(
 {
     let _lawful = domains.entries();
     match way_ban(alloc, graphs, facts, rows, domains.pairs(), inputs, way)? {
+        Some(ban) => delete_by(graphs, facts, domains, way, ban, book),
+        None => settle_by_swaps(alloc, graphs, facts, rows, inputs, domains, way, book),
+    }
+}
+
+// Settles one that claims of one input don't exclude: deletes it by the ban that decided claims of two inputs show of it and the
+// held pairs, if there is one.
+fn settle_by_swaps(
+    alloc: Global,
+    graphs: &PairableGraphs<'_>,
+    facts: &[Fact],
+    rows: &Rows,
+    inputs: &[Pair],
+    domains: &mut Domains,
+    way: Pair,
+    book: &mut BanBook,
+) -> Result<Option<u64>, AllocError>
+    requires may { MaySettle graphs.now facts.now rows.now inputs.now book.old domains.old }
+    requires known { IsPairOf domains.old.inputs domains.old.outputs way }
+    requires open { IsOpen domains.old.entries way }
+    requires possible { IsImpossible (held_in domains.old.entries) way → ⊥ }
+    requires no_ban { HaveNoBan book.old (way ∷ held_in domains.old.entries) }
+    requires there { IsKnown graphs.now way }
+    requires no_facts { HaveNoFacts graphs.now (map decided_by facts.now) (way ∷ held_in domains.old.entries) }
+    ensures { Settles graphs.now (map decided_by facts.now) book.old book.new domains.old domains.new
+        (λ pair. pair ≡ way) result }
+{
+    let _ = rows;
+    let _ = inputs;
+    let _lawful = domains.entries();
+    let pairs = beside(alloc, domains.pairs(), way)?;
+    match swap_ban(alloc, graphs, facts, &pairs)? {
         Some(ban) => delete_by(graphs, facts, domains, way, ban, book),
         None => Ok(None),
     }

@@ -1,10 +1,12 @@
-use Rattle.std.proofs.Common.{◌++◌, List, map, subst, sym}
+use Rattle.std.proofs.Common.{◌≡◌, ◌++◌, List, map, subst, sym}
 use Rattle.account_core.specs.Given.{decided_by}
 use Rattle.account_core.specs.declared.step.Ban.{Ban}
 use Rattle.ban_book.proofs.BookLemmas.{covers_last}
 use Rattle.pair_refine.specs.Refining.{AddsShown}
 use Rattle.pair_refine.proofs.InputLemmas.{both_among, inputs_known}
 use Rattle.pair_refine.proofs.NothingLemmas.{shown_more}
+use Rattle.pair_refine.specs.Stable.{HaveNoBan}
+use Rattle.pair_refine.proofs.ResultLemmas.{none_so}
 use Rattle.pair_refine.proofs.TrailLemmas.{shown_none, shown_one}
 use Rattle.pair_refine.proofs.alone.exclude_held.Goals as goal
 
@@ -27,3 +29,8 @@ returns-in_ok-hold-in-Some-2-clause-found c =
     let shown = rw c.in-Some-2.is at c.in_ok-ban.ensures.shown in
     let fewer = shown_more c.args.graphs.now facts (c.args.inputs.now ++ c.args.held.now) c.args.held.now c.in-Some-2.ban (both_among c.args.held.now c.args.inputs.now c.requires.inputs) shown in
     covers_last c.args.book.now c.hold.new.self c.in-Some-2.ban c.args.held.now _ c.in_ok-hold-in-Some-2.ensures.held c.in_ok-hold-in-Some-2.ensures.number fewer.within
+
+pub returns-in-None-clause-no_ban : goal.returns-in-None-clause-no_ban
+returns-in-None-clause-no_ban c =
+    let held = c.args.held.now in
+    none_so c.exclude_by_swaps.result (c.exclude_by_swaps.new.book ≡ c.args.book.now) (HaveNoBan c.exclude_by_swaps.new.book held) (λ same. subst (λ (l : List Ban). HaveNoBan l held) (sym same) c.in_default.ensures.none) c.exclude_by_swaps.ensures.same

@@ -3,7 +3,7 @@ use Rattle.account_core.specs.Given.{decided_by}
 use Rattle.port_covers.specs.Held.{AreHeld}
 use Rattle.conflict_core.proofs.PivotLemmas.{held_known}
 use Rattle.pair_refine.specs.Rows.{ShowNothingAt}
-use Rattle.pair_refine.specs.Stable.{HaveNoBan}
+use Rattle.pair_refine.specs.Stable.{HaveNoBan, HaveNoSwapMismatch}
 use Rattle.pair_refine.proofs.TrailLemmas.{refines_bans, refines_then}
 use Rattle.pair_refine.proofs.refining.exclude.Goals as goal
 
@@ -23,6 +23,7 @@ exclude_beside-requires-clause-may c =
       rows_are = c.requires.rows;
       inputs_are = c.requires.inputs;
       no_facts = subst (ShowNothingAt c.args.graphs.now facts c.args.inputs.now) c.pairs.ensures.value (rw c.in-None.is at c.in_ok-ban.ensures.no_facts);
+      no_swap = subst (HaveNoSwapMismatch c.args.graphs.now facts) c.pairs.ensures.value (rw c.in-None.is at c.in_ok-ban.ensures.no_swap);
       no_ban = subst (HaveNoBan c.exclude_held.new.book) c.pairs.ensures.value (rw c.in-None.is at c.in_ok-ban.ensures.no_ban);
       trail = (refines_bans c.args.graphs.now facts c.args.book.now c.exclude_held.new.book c.args.domains.now c.in_ok-ban.ensures.adds).trail c.requires.trail;
     }

@@ -12,4 +12,4 @@ returns-in-Some c =
     let d = c.args.domains.now in
     let may = c.requires.may in
     let held = held_known c.args.graphs.now d.inputs d.outputs d.entries may.trail.fit c.entries-lawful.ensures.lawful in
-    settles_now c.args.graphs.now facts c.args.book.now d c.args.way may.no_ban (entry_settled c.args.graphs.now facts c.args.book.now d c.args.way _ held.apart may.no_ban (λ there. nothing_beside c.args.graphs.now facts (held_in d.entries) c.args.inputs.now held may.inputs_are may.no_facts c.args.way there) c.in-Some.ensures.found)
+    settles_now c.args.graphs.now facts c.args.book.now d c.args.way may.no_ban (entry_settled c.args.graphs.now facts c.args.book.now d c.args.way _ held.apart may.no_ban may.no_swap (λ there. nothing_beside c.args.graphs.now facts (held_in d.entries) c.args.inputs.now held may.inputs_are may.no_facts c.args.way there) c.in-Some.ensures.found)

@@ -1,0 +1,191 @@
+//! Bans of pairs that decided claims of two inputs show.
+
+ghost use Rattle.std.specs.Prelude.{◌≡◌, ◌<◌, ℕ, [], All, Bool, IfNone, IfOk, IfSome, None as Nothing, length, map};
+ghost use Rattle.query_core.specs.declared.claims.Claim.{Claim as AnyClaim};
+ghost use Rattle.net_core.specs.declared.graphs.Side.TheVariants as AnySide;
+ghost use Rattle.query_core.specs.declared.claims.Shape.TheVariants as AnyShape;
+ghost use Rattle.query_core.specs.Images.{image_of};
+ghost use Rattle.account_core.specs.Facts.{AreFacts};
+ghost use Rattle.account_core.specs.Given.{decided_by, fact_at, given_of};
+ghost use Rattle.account_core.specs.Mismatches.{IsImage};
+ghost use Rattle.account_core.specs.Ports.{IsKnown};
+ghost use Rattle.claim_rows.specs.Shown.{IsShownBan};
+ghost use Rattle.claim_rows.specs.Told.{IsToldAs};
+ghost use Rattle.pair_refine.specs.Stable.{HasTwoInputs, HaveNoSwapMismatch};
+ghost use Rattle.pair_refine.specs.Swaps.{AgreesAt, IsExchange, SaysOf, carried_to};
+
+use account_core::{Ban, Evidence, Fact};
+use circuits::{Pair, PortKind};
+use claim_rows::{Told, mismatch_ban, moved_value, two_inputs, unlike_of};
+use net_core::Side;
+use port_sides::PairableGraphs;
+use query_core::{Claim, Shape, pair_of};
+use std::alloc::{AllocError, Global};
+
+/// The pairs of the output and of both inputs of a claim of the first circuit, with the inputs' values.
+#[derive(Clone, Copy, Debug, Drop)]
+pub(crate) struct Exchange {
+    pub(crate) one: Pair,
+    pub(crate) other: Pair,
+    pub(crate) output: Pair,
+    pub(crate) a: bool,
+    pub(crate) b: bool,
+}
+
+/// The ban of the pairs of an output and two inputs, by a claim of these that is decided otherwise than the one which the pairs
+/// carry it to.
+///
+/// All facts are searched for the claim that one is carried to: for n facts of two inputs whose ports have pairs, that is n times
+/// the number of all facts. An index of claims would be the next step.
+pub(crate) fn swap_ban(
+    alloc: Global,
+    graphs: &PairableGraphs<'_>,
+    facts: &[Fact],
+    pairs: &[Pair],
+) -> Result<Option<Ban>, AllocError>
+    requires lawful { AreFacts graphs.now facts.now }
+    requires known { All (IsKnown graphs.now) pairs.now }
+    ensures shown { IfOk result (λ found. IfSome found (IsShownBan graphs.now (map decided_by facts.now) pairs.now)) }
+    ensures none { IfOk result (λ found. IfNone found (HaveNoSwapMismatch graphs.now (map decided_by facts.now) pairs.now)) }
+{
+    for number in 0..facts.len() {
+        if let Some(ban) = ban_at(alloc, graphs, facts, pairs, number)? {
+            return Ok(Some(ban));
+        }
+    }
+    Ok(None)
+}
+
+// That by the claim of a fact.
+fn ban_at(
+    alloc: Global,
+    graphs: &PairableGraphs<'_>,
+    facts: &[Fact],
+    pairs: &[Pair],
+    number: usize,
+) -> Result<Option<Ban>, AllocError>
+    requires lawful { AreFacts graphs.now facts.now }
+    requires known { All (IsKnown graphs.now) pairs.now }
+    requires below { number < length facts.now }
+    ensures shown { IfOk result (λ found. IfSome found (IsShownBan graphs.now (map decided_by facts.now) pairs.now)) }
+    ensures none { IfOk result (λ found. IfNone found (AgreesAt (map decided_by facts.now) pairs.now number)) }
+{
+    let _ = graphs;
+    let fact = told_at(facts, number);
+    let Some(exchange) = exchange_of(pairs, claim_at(facts, number)) else {
+        return Ok(None);
+    };
+    let Some(image) = otherwise(facts, carry(exchange), fact.holds) else {
+        return Ok(None);
+    };
+    let Exchange {
+        one,
+        other,
+        output,
+        ..
+    } = exchange;
+    let ban = mismatch_ban(alloc, &[one, other, output], unlike_of(fact, image))?;
+    Ok(Some(ban))
+}
+
+// What a fact tells of its claim.
+fn told_at(facts: &[Fact], number: usize) -> Told
+    requires below { number < length facts.now }
+    ensures told { IsToldAs (map decided_by facts.now) (fact_at (given_of (map decided_by facts.now) []) number).claim
+        result.holds result.number }
+    ensures number { result.number ≡ number }
+{
+    let holds = match &facts[number].evidence {
+        Evidence::Fails(_) => false,
+        Evidence::Holds(_) => true,
+    };
+    Told {
+        holds,
+        number: number as u64,
+    }
+}
+
+// The claim that pairs carry one to.
+fn carry(exchange: Exchange) -> Claim
+    ensures { result ≡ carried_to exchange }
+{
+    let Exchange {
+        one,
+        other,
+        output,
+        a,
+        b,
+    } = exchange;
+    Claim {
+        side: Side::Second,
+        output: output.to,
+        shape: two_inputs(
+            one.to,
+            moved_value(output.flip, one, a),
+            other.to,
+            moved_value(output.flip, other, b),
+        ),
+    }
+}
+
+// The claim of a fact.
+fn claim_at(facts: &[Fact], number: usize) -> Claim
+    requires below { number < length facts.now }
+    ensures { result ≡ (fact_at (given_of (map decided_by facts.now) []) number).claim }
+{
+    facts[number].claim
+}
+
+// The first fact of a claim that says otherwise.
+fn otherwise(facts: &[Fact], claim: Claim, holds: bool) -> Option<Told>
+    ensures found { IfSome result (λ told. IsToldAs (map decided_by facts.now) claim told.holds told.number) }
+    ensures differ { IfSome result (λ told. told.holds ≡ holds → ⊥) }
+    ensures none { IfNone result ((k : ℕ) → k < length facts.now → SaysOf (map decided_by facts.now) claim holds k) }
+{
+    for number in 0..facts.len() {
+        if let Some(told) = otherwise_at(facts, claim, holds, number) {
+            return Some(told);
+        }
+    }
+    None
+}
+
+// What a fact tells, if it is of a claim and says otherwise.
+fn otherwise_at(facts: &[Fact], claim: Claim, holds: bool, number: usize) -> Option<Told>
+    requires below { number < length facts.now }
+    ensures found { IfSome result (λ told. IsToldAs (map decided_by facts.now) claim told.holds told.number) }
+    ensures differ { IfSome result (λ told. told.holds ≡ holds → ⊥) }
+    ensures none { IfNone result (SaysOf (map decided_by facts.now) claim holds number) }
+{
+    if claim_at(facts, number) != claim {
+        return None;
+    }
+    let told = told_at(facts, number);
+    if told.holds == holds {
+        return None;
+    }
+    Some(told)
+}
+
+// The pairs of a claim of two inputs of the first circuit. It is None where the claim is another one, or pairs carry it to none.
+fn exchange_of(pairs: &[Pair], claim: Claim) -> Option<Exchange>
+    ensures found { IfSome result (IsExchange pairs.now claim) }
+    ensures none { IfNone result ((image : AnyClaim) → HasTwoInputs claim.shape → IsImage pairs.now claim image → ⊥) }
+{
+    let Shape::Swap { i, j, a, b } = claim.shape else {
+        return None;
+    };
+    if claim.side != Side::First {
+        return None;
+    }
+    let output = pair_of(pairs, PortKind::Output, claim.output)?;
+    let one = pair_of(pairs, PortKind::Input, i)?;
+    let other = pair_of(pairs, PortKind::Input, j)?;
+    Some(Exchange {
+        one,
+        other,
+        output,
+        a,
+        b,
+    })
+}
