@@ -13,6 +13,7 @@ pub mod ModelLemmas
 pub mod AdvanceLemmas
 pub mod DecisionLemmas
 pub mod GoneLemmas
+pub mod HeapLemmas
 pub mod StartLemmas
 pub mod RunLemmas
 pub mod BoundLemmas

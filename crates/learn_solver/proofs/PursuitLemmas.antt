@@ -1,5 +1,5 @@
 -- A search that goes on from one part of the question to the next.
-use Rattle.std.proofs.Common.{◌≡◌, List, sym, subst, ◌∙◌}
+use Rattle.std.proofs.Common.{◌<◌, List, All, sym, subst, ◌∙◌}
 use Rattle.cnf_core.specs.declared.literal.SatLit.{SatLit}
 use Rattle.cnf_core.specs.Charges.{Charging}
 use Rattle.watch_lists.specs.Propagations.{IsSound}
@@ -31,6 +31,10 @@ can_turn s search is = record {
   fitting = fitting_of s search.trail search.watches search.tools is;
   order = subst (λ n. IsOrder n search.tools.order) (sym is.searching.variables) is.tools_are.order;
 }
+
+-- the variables that are decided are those of the trail
+pub decided_known : (s : Solving) (search : Search) → IsRunning s search.trail search.watches search.tools → All (λ v. v < search.trail.variables) search.tools.occurring.items
+decided_known s search is = subst (λ n. All (λ v. v < n) search.tools.occurring.items) (sym is.searching.variables) is.tools_are.variables.known
 
 pub under_way_from : {O : Type 0} (s : Solving) (first : Charging O) (search : Search) → IsRunning s search.trail search.watches search.tools → IsAsking first s.lines → IsUnderWay s s first first search
 under_way_from {O} s first search running asking = record {

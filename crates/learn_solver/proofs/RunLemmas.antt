@@ -136,7 +136,7 @@ pub stay_from : (n : ℕ) (old new : Tools) → new.occurring.items ≡ old.occu
 stay_from n old new occurring marks before after formula ids are = record {
   variables = subst (HaveVariables formula.variables (wanted formula ids)) (sym occurring) are.variables;
   unmarked = marks ∙ are.unmarked;
-  order = subst (λ k. IsOrder k new.order) (sym before.end_is ∙ are.order.end_is) after;
+  order = subst (λ k. IsOrder k new.order) (sym before.heap ∙ are.order.heap) after;
 }
 
 -- ---- going back with a learned line

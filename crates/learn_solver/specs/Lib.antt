@@ -1,6 +1,7 @@
 pub mod Analyses
 pub mod Solvers
 pub mod Findings
+pub mod Heaps
 pub mod Orders
 pub mod Searches
 pub mod Starts

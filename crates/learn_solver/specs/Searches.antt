@@ -121,6 +121,11 @@ pub record HasTurned (old new : Search) : Type 0 where
   pub variables : new.trail.variables ≡ old.trail.variables
   pub tools : StayTools old.tools new.tools
 
+-- A search that may go on: it is under way, and its lines are those that were charged.
+pub record CanGo {Others : Type 0} (solving : Solving) (charging : Charging Others) (search : Search) : Type 0 where
+  pub running : IsRunning solving search.trail search.watches search.tools
+  pub asking : IsAsking charging solving.lines
+
 -- A search went on: its lines were charged, and it is under way, or there is an answer.
 pub record HasGone {Others : Type 0} (old new : Solving) (before after : Charging Others) (search : Search)
     (answer : Option Finding) : Type 0 where

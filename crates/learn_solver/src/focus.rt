@@ -68,8 +68,13 @@ impl Focus {
         }
     }
 
-    /// Whether a variable is one of those from which the candidate's literals are computed.
+    /// Whether a variable is to be decided: all are for the whole question, and for a candidate those from which its literals are
+    /// computed.
     pub(crate) fn has(&self, variable: u64) -> bool {
+        self.candidate.is_none() || self.is_marked(variable)
+    }
+
+    fn is_marked(&self, variable: u64) -> bool {
         match self.turns.get(variable as usize) {
             Some(turn) => *turn == self.turn,
             None => false,
@@ -77,7 +82,7 @@ impl Focus {
     }
 
     fn add_operands(&mut self, gate: Operands) {
-        if self.has(gate.gate) {
+        if self.is_marked(gate.gate) {
             self.add(gate.first);
             self.add(gate.second);
         }

@@ -7,6 +7,7 @@ mod candidate;
 mod conflict;
 mod decision;
 mod focus;
+mod heap;
 mod order;
 mod pursuit;
 mod restarts;

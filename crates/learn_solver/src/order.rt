@@ -1,283 +1,169 @@
 //! The order in which variables are decided.
 
-ghost use Rattle.std.specs.Prelude.{◌≡◌, ◌+◌, ◌^◌, ◌<◌, ◌≤◌, All, IfOk, IfSome, OnOk, length, replicate};
+ghost use Rattle.std.specs.Prelude.{ℕ, ◌≡◌, ◌^◌, ◌<◌, All, IfOk, IfSome, length};
 ghost use Rattle.cnf_core.specs.Clauses.{variable_of};
 ghost use Rattle.trail_core.specs.Trails.{IsFree};
 ghost use Rattle.watch_lists.specs.Propagations.{AreKnown};
-ghost use Rattle.learn_solver.specs.Orders.{AreNamed, ArePlaces, IsOrder};
+ghost use Rattle.learn_solver.specs.Orders.{IsOrder};
 
 use crate::focus::Focus;
+use crate::heap::Heap;
 use cnf_core::{ClauseStore, SatLit};
 use std::alloc::{AllocError, Global};
 use trail_core::Trail;
 
-/// The neighbours of a variable in the order, which is a ring.
-#[derive(Clone, Copy)]
-pub(crate) struct Place {
-    pub(crate) before: usize,
-    pub(crate) after: usize,
-}
+/// A conflict counts more than the one before it by the weight of that one divided by this.
+const GROWTH: u64 = 16;
 
-/// The order in which variables are decided: those that conflicts named last come first (variable move to front: Ryan, 2004;
-/// Biere and Fröhlich, SAT 2015), and each gets the value that it had last (Pipatsrisawat and Darwiche, SAT 2007). It says
-/// what is tried first; no answer depends on it.
+/// What the first conflict counts.
+const LEAST: u64 = 1 << 16;
+
+/// What a conflict counts at most, so that sums of such weights stay within a word.
+const MOST: u64 = 1 << 56;
+
+/// By which power of two all is divided that was counted, once a conflict would count more.
+const BITS: u32 = 32;
+
+/// The order in which variables are decided: first those that conflicts named most, of which later ones count more (variable
+/// state independent decaying sum: Moskewicz and others, Chaff, 2001; with a heap: Eén and Sörensson, MiniSat, 2003). Each gets
+/// the value that it had last (Pipatsrisawat and Darwiche, SAT 2007), at first 0. It says what is tried first; no answer depends
+/// on it.
 #[derive(Drop)]
 pub(crate) struct Order {
-    /// The ring: a place for each variable, and one more.
-    pub(crate) places: Vec<Place>,
-    /// The place after which the ring begins: the number of variables.
-    pub(crate) end: usize,
-    /// When each variable was moved to the front.
-    pub(crate) moved: Vec<u64>,
+    /// Those that are to be decided, by what was counted for them. Of those that are assigned any may be among them.
+    pub(crate) heap: Heap,
     /// The value that each variable had last.
     pub(crate) phases: Vec<bool>,
-    /// Where the search for an unassigned variable goes on: those that come before are assigned.
-    pub(crate) next: usize,
-    pub(crate) moves: u64,
+    /// What the present conflict counts.
+    pub(crate) weight: u64,
     /// The last conflict that named each variable.
     pub(crate) named: Vec<u64>,
     pub(crate) conflicts: u64,
 }
 
 impl Order {
-    /// The order of these variables, the last of which is decided first: where they are those of gates in order, the gates next
-    /// to the outputs, by which adders take a tenth to a fifth fewer lines than by the inputs. Each gets the value 0 at first.
+    /// Of n variables those that occur are to be decided, if a focus has them.
     pub(crate) fn new(
         alloc: Global,
         variables: usize,
         occurring: &[u64],
+        focus: &Focus,
     ) -> Result<Order, AllocError>
-        requires known { All (λ v. v < variables) occurring.now }
-        requires few { variables < 2 ^ 63 }
+        requires { All (λ v. v < variables) occurring.now }
         ensures { IfOk result (IsOrder variables) }
     {
         let mut order = Order {
-            places: alone(alloc, variables + 1)?,
-            moved: zeros(alloc, variables + 1)?,
-            phases: falses(alloc, variables + 1)?,
-            end: variables,
-            next: variables,
-            moves: 0,
-            named: zeros(alloc, variables + 1)?,
+            heap: Heap::new(alloc, variables)?,
+            phases: falses(alloc, variables)?,
+            weight: LEAST,
+            named: zeros(alloc, variables)?,
             conflicts: 0,
         };
-        order.put_all(occurring);
+        order.turn_to(occurring, focus);
         Ok(order)
     }
 
-    // Moves variables to the front, the last one last.
-    fn put_all(&mut self, occurring: &[u64])
-        requires order { IsOrder self.old.end self.old }
-        requires known { All (λ v. v < self.old.end) occurring.now }
-        ensures { IsOrder self.old.end self.new }
+    /// Those of the variables that a focus has are to be decided, and no others. Of two for which nothing was counted the one
+    /// with the greater number comes first: where they are those of gates in order, the one next to the outputs, by which adders
+    /// take a tenth to a fifth fewer lines than by the inputs.
+    pub(crate) fn turn_to(&mut self, variables: &[u64], focus: &Focus)
+        requires order { IsOrder (length self.old.heap) self.old }
+        requires known { All (λ v. v < length self.old.heap) variables.now }
+        ensures { IsOrder (length self.old.heap) self.new }
     {
-        for variable in occurring.iter() {
-            self.bump(*variable);
-        }
-        self.next = self.places[self.end].after;
-    }
-
-    /// Moves a variable to the front.
-    pub(crate) fn bump(&mut self, variable: u64)
-        requires order { IsOrder self.old.end self.old }
-        requires known { variable < self.old.end }
-        ensures { IsOrder self.old.end self.new }
-    {
-        let variable = variable as usize;
-        unlink(&mut self.places, variable);
-        link(&mut self.places, variable, self.end);
-        self.moves = self.moves.saturating_add(1);
-        self.moved[variable] = self.moves;
-    }
-
-    // Moves these variables to the front, the last one last.
-    fn bump_named(&mut self, named: &[(u64, u64)])
-        requires order { IsOrder self.old.end self.old }
-        requires named { AreNamed self.old.end named.now }
-        ensures { IsOrder self.old.end self.new }
-    {
-        for (_, variable) in named.iter() {
-            self.bump(*variable);
+        self.heap.clear();
+        for variable in variables.iter().rev() {
+            self.hold(*variable as usize, focus);
         }
     }
 
-    // Adds the variables of a clause that the present conflict hasn't named yet.
-    fn name_all(&mut self, clause: &[SatLit], named: &mut Vec<(u64, u64)>) -> Result<(), AllocError>
-        requires order { IsOrder self.old.end self.old }
-        requires known { AreKnown self.old.end clause.now }
-        requires named { AreNamed self.old.end named.old.items }
-        ensures order { IsOrder self.old.end self.new }
-        ensures named { OnOk result (AreNamed self.old.end named.new.items) }
+    // A variable is to be decided, if a focus has it.
+    fn hold(&mut self, variable: usize, focus: &Focus)
+        requires order { IsOrder (length self.old.heap) self.old }
+        requires known { variable < length self.old.heap }
+        ensures { IsOrder (length self.old.heap) self.new }
     {
-        for literal in clause.iter() {
-            self.name(literal.variable(), named)?;
+        if focus.has(variable as u64) {
+            self.heap.insert(variable);
         }
-        Ok(())
-    }
-
-    // Adds a variable that the present conflict hasn't named yet.
-    fn name(&mut self, variable: u64, named: &mut Vec<(u64, u64)>) -> Result<(), AllocError>
-        requires order { IsOrder self.old.end self.old }
-        requires known { variable < self.old.end }
-        requires named { AreNamed self.old.end named.old.items }
-        ensures order { IsOrder self.old.end self.new }
-        ensures named { OnOk result (AreNamed self.old.end named.new.items) }
-    {
-        if self.named[variable as usize] == self.conflicts {
-            return Ok(());
-        }
-        self.named[variable as usize] = self.conflicts;
-        named.push((self.moved[variable as usize], variable))?;
-        Ok(())
     }
 
     /// Notes that a literal, which was true, is no longer assigned.
-    pub(crate) fn release(&mut self, literal: SatLit)
-        requires order { IsOrder self.old.end self.old }
-        requires known { variable_of literal < self.old.end }
-        ensures { IsOrder self.old.end self.new }
+    pub(crate) fn release(&mut self, literal: SatLit, focus: &Focus)
+        requires order { IsOrder (length self.old.heap) self.old }
+        requires known { variable_of literal < length self.old.heap }
+        ensures { IsOrder (length self.old.heap) self.new }
     {
         let variable = literal.variable() as usize;
         self.phases[variable] = !literal.is_negated();
-        if self.moved[variable] > self.moved[self.next] {
-            self.next = variable;
-        }
+        self.hold(variable, focus);
     }
 
-    /// The next literal to decide, if the order has an unassigned variable.
+    /// The next literal to decide, if there is one.
     pub(crate) fn pick(&mut self, trail: &Trail) -> Option<SatLit>
-        requires order { IsOrder trail.now.variables self.old }
+        requires { IsOrder trail.now.variables self.old }
         ensures order { IsOrder trail.now.variables self.new }
         ensures free { IfSome result (IsFree trail.now) }
     {
         let _len = trail.len();
-        for _turn in 0..self.end {
-            if self.next == self.end {
-                return None;
-            }
-            let literal = SatLit::of(self.next as u64, self.phases[self.next]);
+        while let Some(variable) = self.heap.pop() {
+            let literal = SatLit::of(variable as u64, self.phases[variable]);
             if trail.value(literal).is_none() {
                 return Some(literal);
             }
-            self.next = self.places[self.next].after;
         }
         None
     }
 
-    /// The next literal to decide among those that a focus has. The search for an unassigned variable doesn't go on from
-    /// there, since others that come before may be unassigned.
-    pub(crate) fn pick_within(&self, trail: &Trail, focus: &Focus) -> Option<SatLit>
-        requires { IsOrder trail.now.variables self.now }
-        ensures { IfSome result (IsFree trail.now) }
+    // Counts a conflict for the variables of a clause, once for each.
+    fn name_all(&mut self, clause: &[SatLit])
+        requires order { IsOrder (length self.old.heap) self.old }
+        requires known { AreKnown (length self.old.heap) clause.now }
+        ensures { IsOrder (length self.old.heap) self.new }
     {
-        let _len = trail.len();
-        let mut at = self.next;
-        for _turn in 0..self.end {
-            if at == self.end {
-                return None;
-            }
-            let literal = SatLit::of(at as u64, self.phases[at]);
-            if focus.has(at as u64) & trail.value(literal).is_none() {
-                return Some(literal);
-            }
-            at = self.places[at].after;
+        for literal in clause.iter() {
+            self.name(literal.variable() as usize);
         }
-        None
+    }
+
+    // Counts a conflict for a variable, unless it was named before.
+    fn name(&mut self, variable: usize)
+        requires order { IsOrder (length self.old.heap) self.old }
+        requires known { variable < length self.old.heap }
+        ensures { IsOrder (length self.old.heap) self.new }
+    {
+        if self.named[variable] == self.conflicts {
+            return;
+        }
+        self.named[variable] = self.conflicts;
+        self.heap.raise(variable, self.weight);
+    }
+
+    // A conflict more, which counts more.
+    fn grow(&mut self)
+        requires { IsOrder (length self.old.heap) self.old }
+        ensures { IsOrder (length self.old.heap) self.new }
+    {
+        self.conflicts = self.conflicts.saturating_add(1);
+        self.weight = self.weight.saturating_add(self.weight / GROWTH);
+        if self.weight > MOST {
+            self.heap.divide_keys(BITS);
+            self.weight >>= BITS;
+        }
     }
 }
 
-/// Moves the variables of the clauses that led to a conflict to the front, each once: they are decided soon. They keep the
-/// order in which they stood (Biere and Fröhlich, SAT 2015), by which multipliers take half as many lines as in the order of
-/// the clauses.
-pub(crate) fn bump_all(
-    alloc: Global,
-    order: &mut Order,
-    clauses: &ClauseStore,
-    steps: &[u64],
-) -> Result<(), AllocError>
-    requires order { IsOrder order.old.end order.old }
+/// Counts a conflict for the variables of the clauses that led to it.
+pub(crate) fn bump_all(order: &mut Order, clauses: &ClauseStore, steps: &[u64])
+    requires order { IsOrder (length order.old.heap) order.old }
     requires there { All (λ k. k < length clauses.now.clauses) steps.now }
-    requires known { All (AreKnown order.old.end) clauses.now.clauses }
-    ensures { IsOrder order.old.end order.new }
+    requires known { All (AreKnown (length order.old.heap)) clauses.now.clauses }
+    ensures { IsOrder (length order.old.heap) order.new }
 {
-    let mut named = named_in(alloc, order, clauses, steps)?;
-    named.sort_unstable();
-    order.bump_named(&named);
-    Ok(())
-}
-
-// The variables of clauses, each once, with when it was moved to the front.
-fn named_in(
-    alloc: Global,
-    order: &mut Order,
-    clauses: &ClauseStore,
-    steps: &[u64],
-) -> Result<Vec<(u64, u64)>, AllocError>
-    requires order { IsOrder order.old.end order.old }
-    requires there { All (λ k. k < length clauses.now.clauses) steps.now }
-    requires known { All (AreKnown order.old.end) clauses.now.clauses }
-    ensures order { IsOrder order.old.end order.new }
-    ensures named { IfOk result (λ named. AreNamed order.old.end named.items) }
-{
-    order.conflicts = order.conflicts.saturating_add(1);
-    let mut named = Vec::new(alloc);
+    order.grow();
     for step in steps.iter() {
-        order.name_all(clauses.get(*step), &mut named)?;
+        order.name_all(clauses.get(*step));
     }
-    Ok(named)
-}
-
-// Takes a variable out of the ring.
-fn unlink(places: &mut [Place], variable: usize)
-    requires known { variable < length places.old }
-    requires within { ArePlaces (length places.old) places.old }
-    ensures within { ArePlaces (length places.old) places.new }
-{
-    let place = places[variable];
-    follow(places, place.before, place.after);
-}
-
-// Puts a variable, which is in no ring, after another place.
-fn link(places: &mut [Place], variable: usize, before: usize)
-    requires known { variable < length places.old }
-    requires there { before < length places.old }
-    requires within { ArePlaces (length places.old) places.old }
-    ensures within { ArePlaces (length places.old) places.new }
-{
-    let after = places[before].after;
-    follow(places, before, variable);
-    follow(places, variable, after);
-}
-
-// Lets one place follow another one.
-fn follow(places: &mut [Place], before: usize, after: usize)
-    requires before { before < length places.old }
-    requires after { after < length places.old }
-    requires within { ArePlaces (length places.old) places.old }
-    ensures within { ArePlaces (length places.old) places.new }
-{
-    places[before] = Place {
-        before: places[before].before,
-        after,
-    };
-    places[after] = Place {
-        before,
-        after: places[after].after,
-    };
-}
-
-// Places each of which is a ring of its own.
-fn alone(alloc: Global, count: usize) -> Result<Vec<Place>, AllocError>
-    ensures { IfOk result (λ places. ArePlaces count places.items) }
-{
-    let mut places = Vec::new(alloc);
-    for place in 0..count {
-        places.push(Place {
-            before: place,
-            after: place,
-        })?;
-    }
-    Ok(places)
 }
 
 fn zeros(alloc: Global, count: usize) -> Result<Vec<u64>, AllocError>

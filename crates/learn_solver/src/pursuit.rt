@@ -2,7 +2,7 @@
 
 ghost use Rattle.std.specs.Prelude.{IfOk, IfErr};
 ghost use Rattle.learn_solver.specs.Findings.{IsFinding};
-ghost use Rattle.learn_solver.specs.Searches.{HasGone, IsRunning};
+ghost use Rattle.learn_solver.specs.Searches.{CanGo, HasGone};
 ghost use Rattle.learn_solver.specs.Solvers.{IsAsking, IsExtended, IsStopped};
 
 use crate::candidate::{Agenda, Candidate, Guide, Operands};
@@ -29,12 +29,9 @@ impl<'a, B: Base> Solver<'a, B> {
         guide: &mut G,
         ledger: &mut L,
     ) -> Result<Option<Finding>, Stop>
-        requires running { IsRunning self.old search.old.trail search.old.watches search.old.tools }
-        requires asking { IsAsking (L.charging ledger.old) self.old.lines }
-        ensures gone { IfOk result
-            (HasGone self.old self.new (L.charging ledger.old) (L.charging ledger.new) search.new) }
-        ensures stop { IfErr result
-            (IsStopped self.old self.new (L.charging ledger.old) (L.charging ledger.new)) }
+        requires { CanGo self.old (L.charging ledger.old) search.old }
+        ensures gone { IfOk result (HasGone self.old self.new (L.charging ledger.old) (L.charging ledger.new) search.new) }
+        ensures stop { IfErr result (IsStopped self.old self.new (L.charging ledger.old) (L.charging ledger.new)) }
     {
         if let Some(soon) = self.pursue(alloc, search, FIRST, ledger)? {
             return Ok(Some(soon));
@@ -61,12 +58,9 @@ impl<'a, B: Base> Solver<'a, B> {
         candidates: &[Candidate],
         ledger: &mut L,
     ) -> Result<Option<Finding>, Stop>
-        requires running { IsRunning self.old search.old.trail search.old.watches search.old.tools }
-        requires asking { IsAsking (L.charging ledger.old) self.old.lines }
-        ensures gone { IfOk result
-            (HasGone self.old self.new (L.charging ledger.old) (L.charging ledger.new) search.new) }
-        ensures stop { IfErr result
-            (IsStopped self.old self.new (L.charging ledger.old) (L.charging ledger.new)) }
+        requires { CanGo self.old (L.charging ledger.old) search.old }
+        ensures gone { IfOk result (HasGone self.old self.new (L.charging ledger.old) (L.charging ledger.new) search.new) }
+        ensures stop { IfErr result (IsStopped self.old self.new (L.charging ledger.old) (L.charging ledger.new)) }
     {
         for candidate in candidates.iter() {
             if let Some(found) = self.look_at(alloc, search, *candidate, gates, ledger)? {
@@ -86,12 +80,9 @@ impl<'a, B: Base> Solver<'a, B> {
         gates: &[Operands],
         ledger: &mut L,
     ) -> Result<Option<Finding>, Stop>
-        requires running { IsRunning self.old search.old.trail search.old.watches search.old.tools }
-        requires asking { IsAsking (L.charging ledger.old) self.old.lines }
-        ensures gone { IfOk result
-            (HasGone self.old self.new (L.charging ledger.old) (L.charging ledger.new) search.new) }
-        ensures stop { IfErr result
-            (IsStopped self.old self.new (L.charging ledger.old) (L.charging ledger.new)) }
+        requires { CanGo self.old (L.charging ledger.old) search.old }
+        ensures gone { IfOk result (HasGone self.old self.new (L.charging ledger.old) (L.charging ledger.new) search.new) }
+        ensures stop { IfErr result (IsStopped self.old self.new (L.charging ledger.old) (L.charging ledger.new)) }
     {
         search.narrow(candidate, gates);
         self.pursue(alloc, search, MOST, ledger)
@@ -105,12 +96,9 @@ impl<'a, B: Base> Solver<'a, B> {
         most: u64,
         ledger: &mut L,
     ) -> Result<Option<Finding>, Stop>
-        requires running { IsRunning self.old search.old.trail search.old.watches search.old.tools }
-        requires asking { IsAsking (L.charging ledger.old) self.old.lines }
-        ensures gone { IfOk result
-            (HasGone self.old self.new (L.charging ledger.old) (L.charging ledger.new) search.new) }
-        ensures stop { IfErr result
-            (IsStopped self.old self.new (L.charging ledger.old) (L.charging ledger.new)) }
+        requires { CanGo self.old (L.charging ledger.old) search.old }
+        ensures gone { IfOk result (HasGone self.old self.new (L.charging ledger.old) (L.charging ledger.new) search.new) }
+        ensures stop { IfErr result (IsStopped self.old self.new (L.charging ledger.old) (L.charging ledger.new)) }
     {
         let end = self.count().saturating_add(most);
         while !search.is_settled() & (self.count() < end) {
@@ -129,8 +117,7 @@ impl<'a, B: Base> Solver<'a, B> {
         guide: &mut G,
         ledger: &mut L,
     ) -> Result<Finding, Stop>
-        requires running { IsRunning self.old search.old.trail search.old.watches search.old.tools }
-        requires asking { IsAsking (L.charging ledger.old) self.old.lines }
+        requires { CanGo self.old (L.charging ledger.old) search.old }
         ensures extended { IfOk result
             (λ _. IsExtended self.old self.new (L.charging ledger.old) (L.charging ledger.new)) }
         ensures asking { IfOk result (λ _. IsAsking (L.charging ledger.new) self.new.lines) }

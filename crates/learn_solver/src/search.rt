@@ -43,46 +43,6 @@ pub(crate) struct Tools {
     pub(crate) focus: Focus,
 }
 
-impl Tools {
-    /// The next literal to decide. None: all variables of the clauses are assigned.
-    pub(crate) fn decision(&mut self, trail: &Trail) -> Option<SatLit>
-        requires order { IsOrder trail.now.variables self.old.order }
-        requires known { All (λ v. v < trail.now.variables) self.old.occurring.items }
-        ensures free { IfSome result (IsFree trail.now) }
-        ensures none { IfNone result (All (IsAssigned trail.now) self.old.occurring.items) }
-        ensures stay { StayTools self.old self.new }
-    {
-        let literal = self.wanted(trail);
-        if literal.is_some() {
-            return literal;
-        }
-        self.focus.exhausted = true;
-        let literal = self.order.pick(trail);
-        if literal.is_some() {
-            return literal;
-        }
-        next_decision(trail, &self.occurring)
-    }
-
-    // The next literal to decide before all others, or for the candidate that the search is after, if it is after one: its own
-    // ones are to be true, and then comes what they are computed from.
-    fn wanted(&self, trail: &Trail) -> Option<SatLit>
-        requires { IsOrder trail.now.variables self.now.order }
-        ensures { IfSome result (IsFree trail.now) }
-    {
-        let literal = self.focus.next_leading(trail, self.order.end);
-        if literal.is_some() {
-            return literal;
-        }
-        let candidate = self.focus.candidate?;
-        let literal = candidate.next(trail, self.order.end);
-        if literal.is_some() {
-            return literal;
-        }
-        self.order.pick_within(trail, &self.focus)
-    }
-}
-
 /// A search over the clauses of these numbers, then those of the lines, none of which is attached.
 pub(crate) fn begun<B: Base>(
     alloc: Global,
@@ -103,8 +63,8 @@ pub(crate) fn begun<B: Base>(
     let occurring = variables_of(alloc, watches.store(), base.variables())?;
     put_lines(lines, &mut watches)?;
     let marks = no_marks(alloc, base.variables() as usize)?;
-    let order = Order::new(alloc, base.variables() as usize, &occurring)?;
     let focus = Focus::new(alloc, base.variables() as usize)?;
+    let order = Order::new(alloc, base.variables() as usize, &occurring, &focus)?;
     Ok(Search {
         trail,
         watches,
@@ -116,6 +76,43 @@ pub(crate) fn begun<B: Base>(
             focus,
         },
     })
+}
+
+impl Tools {
+    /// The next literal to decide. None: all variables of the clauses are assigned.
+    pub(crate) fn decision(&mut self, trail: &Trail) -> Option<SatLit>
+        requires order { IsOrder trail.now.variables self.old.order }
+        requires known { All (λ v. v < trail.now.variables) self.old.occurring.items }
+        ensures free { IfSome result (IsFree trail.now) }
+        ensures none { IfNone result (All (IsAssigned trail.now) self.old.occurring.items) }
+        ensures stay { StayTools self.old self.new }
+    {
+        let literal = self.wanted(trail);
+        if literal.is_some() {
+            return literal;
+        }
+        let literal = self.order.pick(trail);
+        if literal.is_some() {
+            return literal;
+        }
+        self.focus.exhausted = true;
+        next_decision(trail, &self.occurring)
+    }
+
+    // The next literal to decide before all others: one of those that lead, or of the candidate that the search is after, if it
+    // is after one, both of which are to be true.
+    fn wanted(&self, trail: &Trail) -> Option<SatLit>
+        requires { IsOrder trail.now.variables self.now.order }
+        ensures { IfSome result (IsFree trail.now) }
+    {
+        let variables = self.order.heap.count();
+        let literal = self.focus.next_leading(trail, variables);
+        if literal.is_some() {
+            return literal;
+        }
+        let candidate = self.focus.candidate?;
+        candidate.next(trail, variables)
+    }
 }
 
 impl Search {
@@ -179,19 +176,27 @@ impl Search {
 
     /// Turns to a candidate, from level 0 on.
     pub(crate) fn narrow(&mut self, candidate: Candidate, gates: &[Operands])
-        requires { CanTurn self.old }
+        requires turn { CanTurn self.old }
+        requires known { All (λ v. v < self.old.trail.variables) self.old.tools.occurring.items }
         ensures { HasTurned self.old self.new }
     {
         self.tools.focus.narrow(candidate, gates);
+        self.tools
+            .order
+            .turn_to(&self.tools.occurring, &self.tools.focus);
         self.begin_anew();
     }
 
     /// Turns to the whole question, from level 0 on, in which these literals are decided before all other variables.
     pub(crate) fn widen(&mut self, leading: Vec<SatLit>)
-        requires { CanTurn self.old }
+        requires turn { CanTurn self.old }
+        requires known { All (λ v. v < self.old.trail.variables) self.old.tools.occurring.items }
         ensures { HasTurned self.old self.new }
     {
         self.tools.focus.widen(leading);
+        self.tools
+            .order
+            .turn_to(&self.tools.occurring, &self.tools.focus);
         self.begin_anew();
     }
 
@@ -212,7 +217,7 @@ impl Search {
         if self.trail.level() == 0 {
             return;
         }
-        release_above(&self.trail, 0, &mut self.tools.order);
+        release_above(&self.trail, 0, &self.tools.focus, &mut self.tools.order);
         self.trail.back_to(0);
     }
 
@@ -233,7 +238,7 @@ impl Search {
     {
         let id = self.watches.add(clause)?;
         let _walked = self.trail.walked();
-        release_above(&self.trail, level, &mut self.tools.order);
+        release_above(&self.trail, level, &self.tools.focus, &mut self.tools.order);
         self.trail.back_to(level);
         let None = self.watches.attach(id, &mut self.trail) else {
             unreachable!()
@@ -288,7 +293,7 @@ fn put_lines(lines: &[LogLine], watches: &mut Watches) -> Result<(), AllocError>
 }
 
 // Notes that the literals of greater levels are no longer assigned.
-fn release_above(trail: &Trail, level: u64, order: &mut Order)
+fn release_above(trail: &Trail, level: u64, focus: &Focus, order: &mut Order)
     requires { IsOrder trail.now.variables order.old }
     ensures { IsOrder trail.now.variables order.new }
 {
@@ -298,6 +303,6 @@ fn release_above(trail: &Trail, level: u64, order: &mut Order)
         if trail.level_at(place) <= level {
             return;
         }
-        order.release(trail.lit_at(place));
+        order.release(trail.lit_at(place), focus);
     }
 }

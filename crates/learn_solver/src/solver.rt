@@ -8,7 +8,7 @@ ghost use Rattle.trail_core.specs.Trails.{literals};
 ghost use Rattle.watch_lists.specs.Propagations.{IsConflict, IsQuiet};
 ghost use Rattle.learn_solver.specs.Analyses.{has_all};
 ghost use Rattle.cnf_core.specs.Charges.{IsCharged, IsRefused};
-ghost use Rattle.learn_solver.specs.Searches.{IsAdvanced, IsDecided, IsLearning, IsLearnt, IsLesson, IsRunning, IsSame, last_line};
+ghost use Rattle.learn_solver.specs.Searches.{CanGo, IsAdvanced, IsDecided, IsLearning, IsLearnt, IsLesson, IsRunning, IsSame, last_line};
 ghost use Rattle.learn_solver.specs.Solvers.{IsAsking, IsBounded, IsBoundedStop, IsExtended, IsModel, IsStopped, IsVerdict, ArePut, active, id_at, wanted};
 ghost use Rattle.learn_solver.specs.Findings.{IsFinding};
 
@@ -123,12 +123,7 @@ impl<'a, B: Base> Solver<'a, B> {
             &mut search.tools.marks,
             conflict,
         )?;
-        bump_all(
-            alloc,
-            &mut search.tools.order,
-            search.watches.store(),
-            &steps,
-        )?;
+        bump_all(&mut search.tools.order, search.watches.store(), &steps);
         let hints = self.hints(alloc, &steps)?;
         let line = LogLine { clause, hints };
         Ok(Lesson { line, level })
@@ -215,8 +210,7 @@ impl<'a, B: Base> Solver<'a, B> {
         search: &mut Search,
         ledger: &mut L,
     ) -> Result<Option<Finding>, Stop>
-        requires running { IsRunning self.old search.old.trail search.old.watches search.old.tools }
-        requires asking { IsAsking (L.charging ledger.old) self.old.lines }
+        requires { CanGo self.old (L.charging ledger.old) search.old }
         ensures extended { IfOk result
             (λ _. IsExtended self.old self.new (L.charging ledger.old) (L.charging ledger.new)) }
         ensures asking { IfOk result (λ _. IsAsking (L.charging ledger.new) self.new.lines) }

@@ -9,20 +9,26 @@ use Rattle.learn_solver.proofs.AdvanceLemmas.{extended_twice, stopped_after, und
 use Rattle.learn_solver.proofs.StepLemmas.{passed_on}
 use Rattle.learn_solver.proofs.solver.searched.Goals as goal
 
-pub prepare-requires-clause-running : goal.prepare-requires-clause-running
-prepare-requires-clause-running g c =
+pub prepare-requires : goal.prepare-requires
+prepare-requires g c =
     let s = c.args.solver.now in
     let formula = g.B.Base.formula c.solver.inside.base.now in
     let lines = c.deref-2.result.now in
     let idle = c.in_ok-search.search in
     let same : record { formula = formula; ids = c.deref.result.now; lines = lines } ≡ s = ap (λ ids. record { formula = formula; ids = ids; lines = lines }) c.deref.ensures.value ∙ (ap (λ ls. record { formula = formula; ids = c.solver.inside.ids.items; lines = ls }) c.deref-2.ensures.value ∙ c.solver.view_is) in
-    (under_way s (g.L.Charge.charging c.args.ledger.now) idle c.start.new.self (subst (λ (x : Solving). IsBegun x idle.trail idle.watches idle.tools) same c.in_ok-search.ensures) c.in_default.ensures.none c.start.ensures.tools c.requires.unrefuted c.requires.asking).running
+    record {
+      running = (under_way s (g.L.Charge.charging c.args.ledger.now) idle c.start.new.self (subst (λ (x : Solving). IsBegun x idle.trail idle.watches idle.tools) same c.in_ok-search.ensures) c.in_default.ensures.none c.start.ensures.tools c.requires.unrefuted c.requires.asking).running;
+      asking = c.requires.asking;
+    }
 
-pub finish-requires-clause-running : goal.finish-requires-clause-running
-finish-requires-clause-running g c =
+pub finish-requires : goal.finish-requires
+finish-requires g c =
     let s = c.prepare.new.self in
     let now = c.prepare.new.search in
-    subst (λ (a : Option Finding). MatchOption a (IsRunning s now.trail now.watches now.tools) (IsFinding s)) c.in_default-2.is c.in_ok-early.ensures.gone.answer_is
+    record {
+      running = subst (λ (a : Option Finding). MatchOption a (IsRunning s now.trail now.watches now.tools) (IsFinding s)) c.in_default-2.is c.in_ok-early.ensures.gone.answer_is;
+      asking = c.in_ok-early.ensures.gone.asking;
+    }
 
 pub returns-in_err-found-clause-stop : goal.returns-in_err-found-clause-stop
 returns-in_err-found-clause-stop g c =
