@@ -1,17 +1,18 @@
 -- What an answer to a query says, and what the ledger says of it.
 use Rattle.std.specs.Prelude.{◌≡◌, ℕ, ◌+◌, ◌^◌, ◌<◌, ◌≤◌, Bool, true, false, List, length, take, All, None, slice_index_or}
+use Rattle.std.specs.List.{list_any}
 use Rattle.cnf_core.specs.declared.log.LogLine.{LogLine}
 use Rattle.cnf_core.specs.declared.stop.Stop.{Stop}
 use Rattle.cnf_core.specs.declared.stop.Stop.TheVariants.{Spent, Memory}
-use Rattle.cnf_core.specs.Derivations.{AreDerived, IsRefutation, clauses_of, line_fault}
+use Rattle.cnf_core.specs.Derivations.{AreDerived, IsRefutation, clauses_of, is_empty, line_fault}
 use Rattle.joint_hash.specs.Merging.{AreLemmas}
 use Rattle.joint_hash.specs.Trees.{AreJoined}
 use Rattle.learn_solver.specs.Analyses.{has_all}
 use Rattle.net_core.specs.Sides.{Graphs}
 use Rattle.query_core.specs.declared.query.Query.{Query}
-use Rattle.query_core.specs.Queries.{MeetsQuery, bits_in}
+use Rattle.query_core.specs.Queries.{IsQuery, MeetsQuery, bits_in}
 use Rattle.query_core.specs.Formulas.{formula_of}
-use Rattle.query_core.specs.ConeClauses.{AllOfCones}
+use Rattle.query_core.specs.ConeClauses.{AllOfCones, Coned}
 use Rattle.query_core.specs.Ledgers.{Ledgered, charged_in, last_asked, learned_in, lines_in, opened, with_lines}
 use Rattle.ask_core.specs.declared.question.Answer.{Answer}
 use Rattle.ask_core.specs.declared.question.Answer.TheVariants.{Vector, Refuted}
@@ -54,6 +55,22 @@ pub record IsAskedWith (graphs : Graphs) (query : Query) (lemmas : List LogLine)
       → IsLearnedLine graphs query (take k lines) (slice_index_or lines k d)
   pub budget : new.budget ≡ old.budget
   pub asked : new.asked ≡ with_lines lines (opened query lemmas old.asked)
+
+-- A query may be asked by these lemmas, and by clauses that are those of its cones.
+pub record MayBeAsked (graphs : Graphs) (query : Query) (cones : Coned) (lemmas : List LogLine) (ledger : Ledgered) : Type 0 where
+  pub fits : IsQuery graphs query
+  pub of_graphs : cones.graphs ≡ graphs
+  pub of_query : cones.query ≡ query
+  pub derived : AreDerived (formula_of graphs query) lemmas
+  pub unclosed : list_any is_empty (clauses_of lemmas) ≡ false
+  pub not_spent : ledger.spent ≡ false
+
+-- It was answered by them.
+pub record IsAnsweredWith (graphs : Graphs) (query : Query) (lemmas : List LogLine) (old new : Ledgered) (answer : Answer)
+    : Type 0 where
+  pub right : IsAnswer graphs query answer
+  pub asked : IsAskedWith graphs query lemmas old new
+  pub not_spent : new.spent ≡ false
 
 -- The budget is spent, and the query's last line is the refused one.
 pub record IsSpentWith (graphs : Graphs) (query : Query) (lemmas : List LogLine) (old new : Ledgered) (learned : ℕ) : Type 0 where

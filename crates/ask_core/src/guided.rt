@@ -5,7 +5,7 @@ ghost use Rattle.std.specs.List.{list_any};
 ghost use Rattle.cnf_core.specs.Derivations.{AreDerived, clauses_of, is_empty};
 ghost use Rattle.query_core.specs.Formulas.{formula_of};
 ghost use Rattle.query_core.specs.Queries.{IsQuery};
-ghost use Rattle.ask_core.specs.Answers.{IsAnswer, IsAskedWith, IsBounded, IsBoundedStop, IsStoppedWith};
+ghost use Rattle.ask_core.specs.Answers.{IsAnswer, IsAnsweredWith, IsAskedWith, IsBounded, IsBoundedStop, IsStoppedWith, MayBeAsked};
 
 use crate::question::Answer;
 use crate::vector::vector_of;
@@ -59,15 +59,8 @@ fn search<G: Guide>(
     guide: &mut G,
     ledger: &mut Ledger,
 ) -> Result<Answer, Stop>
-    requires fits { IsQuery graphs.now query.now }
-    requires of_graphs { cones.now.graphs ≡ graphs.now }
-    requires of_query { cones.now.query ≡ query.now }
-    requires derived { AreDerived (formula_of graphs.now query.now) lemmas.now }
-    requires unclosed { list_any is_empty (clauses_of lemmas.now) ≡ false }
-    requires not_spent { ledger.old.spent ≡ false }
-    ensures answer { IfOk result (IsAnswer graphs.now query.now) }
-    ensures asked { IfOk result (λ _. IsAskedWith graphs.now query.now lemmas.now ledger.old ledger.new) }
-    ensures not_spent { IfOk result (λ _. ledger.new.spent ≡ false) }
+    requires { MayBeAsked graphs.now query.now cones.now lemmas.now ledger.old }
+    ensures answered { IfOk result (IsAnsweredWith graphs.now query.now lemmas.now ledger.old ledger.new) }
     ensures stop { IfErr result (IsStoppedWith graphs.now query.now lemmas.now ledger.old ledger.new) }
 {
     ledger.open(alloc, query, lemmas)?;

@@ -1,5 +1,5 @@
 -- A query's answer is that of a solver for the clauses of its cones.
-use Rattle.std.proofs.Common.{◌≡◌, Bool, List, sym, subst}
+use Rattle.std.proofs.Common.{Bool, List, rules, sym, subst}
 use Rattle.learn_solver.specs.declared.verdict.Finding.{Finding}
 use Rattle.learn_solver.specs.Findings.{IsFinding}
 use Rattle.learn_solver.proofs.StepLemmas.{passed_on}
@@ -31,22 +31,30 @@ vector_of-requires-clause-meets g c =
     let model = subst (λ (v : Finding). IsFinding new v) c.in-Model.is c.in_ok-values.ensures.found in
     subst (λ (bs : List Bool). MeetsCones graphs query bs) (sym c.deref.ensures.value) (meets_cones graphs query lemmas s new (charging_of c.open.new.self) (charging_of c.solve_guided.new.ledger) c.in-Model.values of c.in_ok-values.ensures.lines model.meets)
 
-pub returns-in-Model-clause-asked : goal.returns-in-Model-clause-asked
-returns-in-Model-clause-asked g c =
+pub returns-in-Model-clause-answered : goal.returns-in-Model-clause-answered
+returns-in-Model-clause-answered g c =
     let graphs = c.args.graphs.now in
     let query = c.args.query.now in
     let lemmas = c.args.lemmas.now in
     let s = c.in_ok-solver.solver in
     let new = c.solve_guided.new.solver in
     let of = made_of_base graphs query lemmas c.args.cones.now c.in_ok-base.base c.ids.result.now s c.requires.of_graphs c.requires.of_query c.in_ok-base.ensures c.ids.ensures.value c.ids.ensures.are c.requires.derived c.in_ok-solver.ensures in
-    asked_with graphs query lemmas s new c.args.ledger.now c.open.new.self c.solve_guided.new.ledger of c.in_ok-open.ensures.some c.in_ok-open.ensures.opened c.in_ok-values.ensures.lines
+    record {
+      right = c.in_ok-vector-in-Model.ensures;
+      asked = asked_with graphs query lemmas s new c.args.ledger.now c.open.new.self c.solve_guided.new.ledger of c.in_ok-open.ensures.some c.in_ok-open.ensures.opened c.in_ok-values.ensures.lines;
+      not_spent = search rules;
+    }
 
-pub returns-clause-asked : goal.returns-clause-asked
-returns-clause-asked g c =
+pub returns-clause-answered : goal.returns-clause-answered
+returns-clause-answered g c =
     let graphs = c.args.graphs.now in
     let query = c.args.query.now in
     let lemmas = c.args.lemmas.now in
     let s = c.in_ok-solver.solver in
     let new = c.solve_guided.new.solver in
     let of = made_of_base graphs query lemmas c.args.cones.now c.in_ok-base.base c.ids.result.now s c.requires.of_graphs c.requires.of_query c.in_ok-base.ensures c.ids.ensures.value c.ids.ensures.are c.requires.derived c.in_ok-solver.ensures in
-    asked_with graphs query lemmas s new c.args.ledger.now c.open.new.self c.solve_guided.new.ledger of c.in_ok-open.ensures.some c.in_ok-open.ensures.opened c.in_ok-values.ensures.lines
+    record {
+      right = search rules;
+      asked = asked_with graphs query lemmas s new c.args.ledger.now c.open.new.self c.solve_guided.new.ledger of c.in_ok-open.ensures.some c.in_ok-open.ensures.opened c.in_ok-values.ensures.lines;
+      not_spent = search rules;
+    }
