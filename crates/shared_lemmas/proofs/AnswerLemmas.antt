@@ -1,5 +1,5 @@
 -- Facts about an answer, one by one and together.
-use Rattle.std.proofs.Common.{◌≡◌, false, Result, Ok, Err, IfOk, IfErr}
+use Rattle.std.proofs.Common.{◌≡◌, false, Result, Ok, Err, IfOk, IfErr, subst}
 use Rattle.cnf_core.specs.declared.stop.Stop.{Stop}
 use Rattle.net_core.specs.Sides.{Graphs}
 use Rattle.query_core.specs.declared.query.Query.{Query}
@@ -15,3 +15,13 @@ answered_from graphs query old new (Err stop) right asked not_spent bounded = tt
 pub halted_from : (graphs : Graphs) (query : Query) (old new : Ledgered) (r : Result Answer Stop) → IfErr r (IsStoppedBy graphs query old new) → IfErr r (IsBoundedStop graphs query new) → IfErr r (IsHalted graphs query old new)
 halted_from graphs query old new (Ok answer) why bounded = tt
 halted_from graphs query old new (Err stop) why bounded = record { why = why; bounded = bounded }
+
+-- what an answer over the same circuits says
+pub says : (inside graphs : Graphs) (query : Query) (old new : Ledgered) (r : Result Answer Stop) (P : Answer → Type 0) → inside ≡ graphs → IfOk r (IsAnswered inside query old new) → ((answer : Answer) → IsAnswered graphs query old new answer → P answer) → IfOk r P
+says inside graphs query old new (Ok answer) P same is told = told answer (subst (λ over. IsAnswered over query old new answer) same is)
+says inside graphs query old new (Err stop) P same is told = tt
+
+-- what a stop over the same circuits says
+pub tells : (inside graphs : Graphs) (query : Query) (old new : Ledgered) (r : Result Answer Stop) (P : Stop → Type 0) → inside ≡ graphs → IfErr r (IsHalted inside query old new) → ((stop : Stop) → IsHalted graphs query old new stop → P stop) → IfErr r P
+tells inside graphs query old new (Ok answer) P same is told = tt
+tells inside graphs query old new (Err stop) P same is told = told stop (subst (λ over. IsHalted over query old new stop) same is)

@@ -198,12 +198,10 @@ fn ask_by<W: Watch>(
     };
     let tried = &mut stock.tried;
     let lines = &lemmas.lines;
-    match ask_new_pairs(
+    let answer = ask_new_pairs(
         alloc, graphs, query, cones, base, lines, tried, progress, ledger,
-    ) {
-        Ok(answer) => Ok(finish(alloc, cones, answer, &lemmas.numbers, stock)?),
-        Err(stop) => Err(stop),
-    }
+    )?;
+    Ok(finish(alloc, cones, answer, &lemmas.numbers, stock)?)
 }
 
 // Answers a query by lemmas, and looks at the pairs of gates that weren't looked at.

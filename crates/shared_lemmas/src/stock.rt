@@ -54,35 +54,6 @@ impl Tried {
     }
 }
 
-/// Lines that hold under the feeds of a query, whatever is asked of the outputs. It has lists and maps alone, and no enum:
-/// whoever owns a stock drops each of these in one step.
-#[derive(Drop)]
-pub(crate) struct Stock {
-    /// The query that was asked last, if one was: under its feeds the lines hold.
-    pub(crate) held: Vec<Query>,
-    pub(crate) lines: Vec<LogLine>,
-    pub(crate) twins: Twins,
-    pub(crate) tried: Tried,
-    /// How many lines questions got as lemmas, also of feeds that were left.
-    pub(crate) given: u64,
-}
-
-impl Stock {
-    /// No lines, where questions got so many before.
-    pub(crate) fn new(alloc: Global, given: u64) -> Stock
-        ensures held { result.held.items ≡ [] }
-        ensures lines { result.lines.items ≡ [] }
-    {
-        Stock {
-            held: Vec::new(alloc),
-            lines: Vec::new(alloc),
-            twins: Twins::new(alloc),
-            tried: Tried::new(alloc),
-            given,
-        }
-    }
-}
-
 /// The places of lines of two literals. They are found by these: the lemmas by which two gates are one come anew with each
 /// question.
 #[derive(Drop)]
@@ -119,5 +90,34 @@ impl Twins {
             self.places.insert((*one, *other), place)?;
         }
         Ok(())
+    }
+}
+
+/// Lines that hold under the feeds of a query, whatever is asked of the outputs. It has lists and maps alone, and no enum:
+/// whoever owns a stock drops each of these in one step.
+#[derive(Drop)]
+pub(crate) struct Stock {
+    /// The query that was asked last, if one was: under its feeds the lines hold.
+    pub(crate) held: Vec<Query>,
+    pub(crate) lines: Vec<LogLine>,
+    pub(crate) twins: Twins,
+    pub(crate) tried: Tried,
+    /// How many lines questions got as lemmas, also of feeds that were left.
+    pub(crate) given: u64,
+}
+
+impl Stock {
+    /// No lines, where questions got so many before.
+    pub(crate) fn new(alloc: Global, given: u64) -> Stock
+        ensures held { result.held.items ≡ [] }
+        ensures lines { result.lines.items ≡ [] }
+    {
+        Stock {
+            held: Vec::new(alloc),
+            lines: Vec::new(alloc),
+            twins: Twins::new(alloc),
+            tried: Tried::new(alloc),
+            given,
+        }
     }
 }
