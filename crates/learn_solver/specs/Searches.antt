@@ -132,3 +132,9 @@ pub record HasGone {Others : Type 0} (old new : Solving) (before after : Chargin
   pub extended : IsExtended old new before after
   pub asking : IsAsking after new.lines
   pub answer_is : MatchOption answer (IsRunning new search.trail search.watches search.tools) (IsFinding new)
+
+-- A search ended: its lines were charged, and there is an answer.
+pub record HasEnded {Others : Type 0} (old new : Solving) (before after : Charging Others) (found : Finding) : Type 0 where
+  pub extended : IsExtended old new before after
+  pub asking : IsAsking after new.lines
+  pub found_is : IsFinding new found

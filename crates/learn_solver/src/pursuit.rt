@@ -1,9 +1,8 @@
 //! Parts of the question, one after another, and the whole of it.
 
 ghost use Rattle.std.specs.Prelude.{IfOk, IfErr};
-ghost use Rattle.learn_solver.specs.Findings.{IsFinding};
-ghost use Rattle.learn_solver.specs.Searches.{CanGo, HasGone};
-ghost use Rattle.learn_solver.specs.Solvers.{IsAsking, IsExtended, IsStopped};
+ghost use Rattle.learn_solver.specs.Searches.{CanGo, HasEnded, HasGone};
+ghost use Rattle.learn_solver.specs.Solvers.{IsStopped};
 
 use crate::candidate::{Agenda, Candidate, Guide, Operands};
 use crate::search::Search;
@@ -118,12 +117,8 @@ impl<'a, B: Base> Solver<'a, B> {
         ledger: &mut L,
     ) -> Result<Finding, Stop>
         requires { CanGo self.old (L.charging ledger.old) search.old }
-        ensures extended { IfOk result
-            (λ _. IsExtended self.old self.new (L.charging ledger.old) (L.charging ledger.new)) }
-        ensures asking { IfOk result (λ _. IsAsking (L.charging ledger.new) self.new.lines) }
-        ensures found { IfOk result (IsFinding self.new) }
-        ensures stop { IfErr result
-            (IsStopped self.old self.new (L.charging ledger.old) (L.charging ledger.new)) }
+        ensures ended { IfOk result (HasEnded self.old self.new (L.charging ledger.old) (L.charging ledger.new)) }
+        ensures stop { IfErr result (IsStopped self.old self.new (L.charging ledger.old) (L.charging ledger.new)) }
     {
         loop {
             if let Some(found) = self.advance(alloc, search, ledger)? {

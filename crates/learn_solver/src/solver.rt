@@ -8,7 +8,7 @@ ghost use Rattle.trail_core.specs.Trails.{literals};
 ghost use Rattle.watch_lists.specs.Propagations.{IsConflict, IsQuiet};
 ghost use Rattle.learn_solver.specs.Analyses.{has_all};
 ghost use Rattle.cnf_core.specs.Charges.{IsCharged, IsRefused};
-ghost use Rattle.learn_solver.specs.Searches.{CanGo, IsAdvanced, IsDecided, IsLearning, IsLearnt, IsLesson, IsRunning, IsSame, last_line};
+ghost use Rattle.learn_solver.specs.Searches.{CanGo, HasEnded, IsAdvanced, IsDecided, IsLearning, IsLearnt, IsLesson, IsRunning, IsSame, last_line};
 ghost use Rattle.learn_solver.specs.Solvers.{IsAsking, IsBounded, IsBoundedStop, IsExtended, IsModel, IsStopped, IsVerdict, ArePut, active, id_at, wanted};
 ghost use Rattle.learn_solver.specs.Findings.{IsFinding};
 
@@ -244,12 +244,8 @@ impl<'a, B: Base> Solver<'a, B> {
         requires asking { IsAsking (L.charging ledger.old) self.old.lines }
         requires conflict { IsConflict (active self.old.formula self.old.ids self.old.lines)
             (literals search.old.trail.entries) conflict }
-        ensures found { IfOk result (IsFinding self.new) }
-        ensures extended { IfOk result
-            (λ _. IsExtended self.old self.new (L.charging ledger.old) (L.charging ledger.new)) }
-        ensures asking { IfOk result (λ _. IsAsking (L.charging ledger.new) self.new.lines) }
-        ensures stop { IfErr result
-            (IsStopped self.old self.new (L.charging ledger.old) (L.charging ledger.new)) }
+        ensures ended { IfOk result (HasEnded self.old self.new (L.charging ledger.old) (L.charging ledger.new)) }
+        ensures stop { IfErr result (IsStopped self.old self.new (L.charging ledger.old) (L.charging ledger.new)) }
     {
         let None = self.learn(alloc, search, conflict, ledger)? else {
             unreachable!()
@@ -339,9 +335,7 @@ fn searched<B: Base, G: Guide, L: Charge>(
 ) -> Result<Finding, Stop>
     requires unrefuted { list_any is_empty (clauses_of solver.old.lines) ≡ false }
     requires asking { IsAsking (L.charging ledger.old) solver.old.lines }
-    ensures found { IfOk result (IsFinding solver.new) }
-    ensures lines { IfOk result (λ _. IsExtended solver.old solver.new (L.charging ledger.old) (L.charging ledger.new)) }
-    ensures not_spent { IfOk result (λ _. IsAsking (L.charging ledger.new) solver.new.lines) }
+    ensures ended { IfOk result (HasEnded solver.old solver.new (L.charging ledger.old) (L.charging ledger.new)) }
     ensures stop { IfErr result (IsStopped solver.old solver.new (L.charging ledger.old) (L.charging ledger.new)) }
 {
     let mut search = begun(alloc, solver.base, &solver.ids, &solver.lines)?;

@@ -38,7 +38,12 @@ returns-in_err-found-clause-stop g c =
     let stop = c.in_err-found.field-0.0 in
     passed_on c.from_residual-in_err-found.result stop (IsStopped c.args.solver.now c.finish.new.self first after) c.from_residual-in_err-found.ensures.1 (stopped_after c.args.solver.now c.prepare.new.self c.finish.new.self first (charging c.prepare.new.ledger) after stop c.in_ok-early.ensures.gone.extended c.in_err-found.ensures.stop)
 
-pub returns-clause-lines : goal.returns-clause-lines
-returns-clause-lines g c =
+pub returns-clause-ended : goal.returns-clause-ended
+returns-clause-ended g c =
     let charging = g.L.Charge.charging in
-    extended_twice c.args.solver.now c.prepare.new.self c.finish.new.self (charging c.args.ledger.now) (charging c.prepare.new.ledger) (charging c.finish.new.ledger) c.in_ok-early.ensures.gone.extended c.in_ok-found.ensures.extended
+    let ended = c.in_ok-found.ensures.ended in
+    record {
+      extended = extended_twice c.args.solver.now c.prepare.new.self c.finish.new.self (charging c.args.ledger.now) (charging c.prepare.new.ledger) (charging c.finish.new.ledger) c.in_ok-early.ensures.gone.extended ended.extended;
+      asking = ended.asking;
+      found_is = ended.found_is;
+    }

@@ -1,5 +1,5 @@
 -- The search goes on from step to step.
-use Rattle.std.proofs.Common.{Option, MatchOption, subst}
+use Rattle.std.proofs.Common.{Option, MatchOption, rules, subst}
 use Rattle.learn_solver.specs.declared.verdict.Finding.{Finding}
 use Rattle.learn_solver.specs.Searches.{IsAdvanced}
 use Rattle.learn_solver.specs.Findings.{IsFinding}
@@ -18,11 +18,12 @@ returns-in_err-found-clause-stop g c =
     let stop = c.in_err-found.field-0.0 in
     passed_on c.from_residual.result stop (IsStopped c.args.self.now c.advance.new.self first after) c.from_residual.ensures.1 (stopped_after c.args.self.now l.self c.advance.new.self first (charging l.ledger) after stop l.invariant.extended c.in_err-found.ensures.stop)
 
-pub returns-in-Some-clause-extended : goal.returns-in-Some-clause-extended
-returns-in-Some-clause-extended g c =
+pub returns-in-Some-clause-ended : goal.returns-in-Some-clause-ended
+returns-in-Some-clause-ended g c =
     let charging = g.L.Charge.charging in
     let l = c.loop-found in
-    extended_twice c.args.self.now l.self c.advance.new.self (charging c.args.ledger.now) (charging l.ledger) (charging c.advance.new.ledger) l.invariant.extended c.in_ok-found.ensures.extended
+    let extended = extended_twice c.args.self.now l.self c.advance.new.self (charging c.args.ledger.now) (charging l.ledger) (charging c.advance.new.ledger) l.invariant.extended c.in_ok-found.ensures.extended in
+    record { extended = extended; asking = c.in_ok-found.ensures.asking; found_is = search rules }
 
 pub loop-found-init : goal.loop-found-init
 loop-found-init g c = under_way_from c.args.self.now (g.L.Charge.charging c.args.ledger.now) c.args.search.now c.requires.running c.requires.asking
