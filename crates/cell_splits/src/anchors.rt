@@ -8,8 +8,9 @@ use crate::state::State;
 use flip_sim::{FlipSim, Lanes, bit_of};
 use items::Items;
 use net_core::Side;
-use port_cells::{literal_of, mix, port_at};
+use port_cells::{literal_of, port_at};
 use std::alloc::{AllocError, Global};
+use word_sim::mix;
 
 /// The most blocks of 256 vectors that are drawn in each circuit.
 const MOST_BLOCKS: usize = 32;

@@ -4,8 +4,9 @@ use crate::patterns::Patterns;
 use crate::state::State;
 use flip_sim::{FlipSim, Lanes, ones_in};
 use net_core::Side;
-use port_cells::{Cells, literal_of, mix, mix_lanes, port_at};
+use port_cells::{Cells, literal_of, mix_lanes, port_at};
 use std::alloc::{AllocError, Global};
+use word_sim::mix;
 
 /// Keys by which literals may correspond.
 #[derive(Drop)]

@@ -9,9 +9,10 @@ use crate::patterns::Patterns;
 use crate::state::State;
 use flip_sim::{FlipSim, Lanes};
 use net_core::{Graph, Side};
-use port_cells::{mix, mix_lanes};
+use port_cells::mix_lanes;
 use std::alloc::{AllocError, Global};
 use std::cmp::Reverse;
+use word_sim::mix;
 
 /// From how many pairs of inputs on a feature tells nothing: nearly all inputs of circuits with fewer than 64 have it.
 const MOST_PAIRS: usize = 1 << 12;

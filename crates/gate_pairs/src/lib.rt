@@ -3,10 +3,10 @@
 //! DATE 2003). Nothing rests on it.
 #![tactic(auto)]
 
-mod blocks;
+mod classes;
 mod gates;
+mod joint;
 mod pairs;
-mod simulation;
 
 pub use gates::{Gate, gates_of, inputs_of};
 pub use pairs::{Pair, pairs_of};

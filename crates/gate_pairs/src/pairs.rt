@@ -1,10 +1,8 @@
 //! Pairs of literals that agree.
 
-ghost use Rattle.std.specs.Prelude.{◌<◌, ◌^◌};
-
-use crate::blocks::{Block, begins_with_one, signed};
+use crate::classes::{Member, classes_of};
 use crate::gates::Gate;
-use crate::simulation::{Row, Simulation};
+use crate::joint::{Joint, Signal};
 use cnf_core::SatLit;
 use indexmap::IndexMap;
 use std::alloc::{AllocError, Global};
@@ -18,71 +16,69 @@ pub struct Pair {
 
 /// A literal that is true on the first vector, of a gate, an input or the constant.
 #[derive(Clone, Copy, Drop)]
-struct Member {
+struct Candidate {
     depth: u64,
     literal: SatLit,
-    block: Block,
+    class: u64,
 }
 
-/// Pairs of literals that agree on 512 vectors drawn by a seed, of gates each of which stands after its operands, of their inputs
-/// and of the constant: for each gate the one that is nearest to the inputs, from the inputs on, so that those come first
-/// on which others rest.
+/// Pairs of literals that agree on vectors drawn by a seed, up to 32,768 of them, of gates each of which stands after its
+/// operands, of their inputs and of the constant: for each gate the one that is nearest to the inputs, from the inputs on,
+/// so that those come first on which others rest.
 ///
 /// # Errors
 ///
 /// Only when out of memory.
 pub fn pairs_of(alloc: Global, gates: &[Gate], seed: u64) -> Result<Vec<Pair>, AllocError> {
-    let mut members = members_of(alloc, gates, seed)?;
-    members.sort_unstable_by_key(|member| (member.depth, member.literal));
-    paired(alloc, &members)
+    let Some(joint) = Joint::of(alloc, gates)? else {
+        return Ok(Vec::new(alloc));
+    };
+    let classes = classes_of(alloc, &joint.graph, seed)?;
+    let mut candidates = candidates_of(alloc, &joint.signals, &classes.members)?;
+    candidates.sort_unstable_by_key(|candidate| (candidate.depth, candidate.literal));
+    paired(alloc, &candidates)
 }
 
-// The literals of all gates, of their inputs and of the constant.
-fn members_of(alloc: Global, gates: &[Gate], seed: u64) -> Result<Vec<Member>, AllocError> {
-    let simulation = simulated(alloc, gates, seed)?;
-    let mut members = Vec::new(alloc);
-    for (variable, row) in simulation.rows().iter() {
-        if *variable < 1 << 62 {
-            members.push(member_of(*variable, *row))?;
-        }
+// The literals of signals, by what is known of these.
+fn candidates_of(
+    alloc: Global,
+    signals: &[Signal],
+    members: &[Member],
+) -> Result<Vec<Candidate>, AllocError> {
+    let mut candidates = Vec::with_capacity(alloc, members.len())?;
+    for (signal, member) in signals.iter().zip(members.iter()) {
+        candidates.push(candidate_of(*signal, *member))?;
     }
-    Ok(members)
+    Ok(candidates)
 }
 
-// The gates on drawn vectors.
-fn simulated(alloc: Global, gates: &[Gate], seed: u64) -> Result<Simulation, AllocError> {
-    let mut simulation = Simulation::new(alloc, seed)?;
-    for gate in gates.iter() {
-        simulation.add(*gate)?;
-    }
-    Ok(simulation)
-}
-
-// The literal of a variable that is true on the first vector.
-fn member_of(variable: u64, row: Row) -> Member
-    requires { variable < 2 ^ 62 }
-{
-    let bit = begins_with_one(row.block);
-    Member {
-        depth: row.depth,
-        literal: SatLit::of(variable, bit),
-        block: signed(row.block, !bit),
+// The literal of a signal that is true on the first vector.
+fn candidate_of(signal: Signal, member: Member) -> Candidate {
+    let literal = if member.flip {
+        signal.literal.opposite()
+    } else {
+        signal.literal
+    };
+    Candidate {
+        depth: signal.depth,
+        literal,
+        class: member.class,
     }
 }
 
 // Each literal but the first of its class, with that one.
-fn paired(alloc: Global, members: &[Member]) -> Result<Vec<Pair>, AllocError> {
-    let mut firsts: IndexMap<Block, SatLit> = IndexMap::new(alloc);
+fn paired(alloc: Global, candidates: &[Candidate]) -> Result<Vec<Pair>, AllocError> {
+    let mut firsts: IndexMap<u64, SatLit> = IndexMap::new(alloc);
     let mut pairs = Vec::new(alloc);
-    for member in members.iter() {
-        let first = firsts.get(&member.block).copied();
+    for candidate in candidates.iter() {
+        let first = firsts.get(&candidate.class).copied();
         match first {
             Some(one) => pairs.push(Pair {
                 one,
-                other: member.literal,
+                other: candidate.literal,
             })?,
             None => {
-                firsts.insert(member.block, member.literal)?;
+                firsts.insert(candidate.class, candidate.literal)?;
             }
         }
     }

@@ -2,10 +2,10 @@
 
 ghost use Rattle.std.specs.Prelude.{◌≡◌, ◌<◌, length};
 
-use crate::mixing::mix;
 use items::Items;
 use net_core::Side;
 use std::alloc::{AllocError, Global};
+use word_sim::mix;
 
 /// The literals of the inputs of two circuits, or of their outputs, in cells: a literal of the first circuit may correspond
 /// to those of the second that are in its cell, of which there are as many. A literal is a port or its complement, and the

@@ -10,5 +10,5 @@ mod profiles;
 pub use cells::{Cells, literal_of, port_at};
 pub use counts::{Counts, Influence, Tally};
 pub use links::{input_keys, output_keys};
-pub use mixing::{mix, mix_lanes};
+pub use mixing::mix_lanes;
 pub use profiles::{Profile, Slack, input_profiles, near_keys, output_profiles};

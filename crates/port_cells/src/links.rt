@@ -3,8 +3,8 @@
 
 use crate::cells::literal_of;
 use crate::counts::{Counts, Influence};
-use crate::mixing::mix;
 use std::alloc::{AllocError, Global};
+use word_sim::mix;
 
 /// The keys of the inputs' literals, by the cells of the outputs' literals.
 ///

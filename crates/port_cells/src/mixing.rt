@@ -1,14 +1,7 @@
 //! Hashes of words.
 
 use flip_sim::Lanes;
-
-/// A hash of two words: SplitMix64's finalizer of what one of them times an odd number and the other make.
-pub fn mix(one: u64, other: u64) -> u64 {
-    let sum = one.wrapping_mul(0x9e37_79b9_7f4a_7c15) ^ other.wrapping_add(0x7f4a_7c15_9e37_79b9);
-    let high = (sum ^ (sum >> 30)).wrapping_mul(0xbf58_476d_1ce4_e5b9);
-    let low = (high ^ (high >> 27)).wrapping_mul(0x94d0_49bb_1331_11eb);
-    low ^ (low >> 31)
-}
+use word_sim::mix;
 
 /// A hash of a word and of 256 bits.
 pub fn mix_lanes(hash: u64, lanes: Lanes) -> u64 {

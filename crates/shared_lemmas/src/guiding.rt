@@ -1,6 +1,5 @@
 //! What the solver looks at first.
 
-use crate::stock::Tried;
 use dense_solver::agenda_of;
 use learn_solver::{Agenda, Candidate, Guide};
 use query_core::QueryBase;
@@ -11,13 +10,14 @@ use watch_core::{Stage, Watch};
 /// shown changes once in one.
 const TOLD_EVERY: u64 = 64;
 
-/// The pairs of a question's gates that seem to be equal and that no question before looked at. Each is two candidates.
+/// The pairs of a question's gates that seem to be equal, each of which is two candidates. Those that questions before
+/// looked at are looked at again: of what was learned there only lines are kept that rest on neither output, and a pair that
+/// is known by these is done with by propagation alone.
 #[derive(Drop)]
-pub(crate) struct NewPairs<'a, W: Watch> {
+pub(crate) struct QuestionPairs<'a, W: Watch> {
     pub(crate) base: &'a QueryBase<'a>,
     /// The numbers of the clauses that say what the gates are: after the first clause three for each.
     pub(crate) ids: &'a [u64],
-    pub(crate) tried: Tried,
     pub(crate) progress: Progress<'a, W>,
 }
 
@@ -53,24 +53,15 @@ impl<'a, W: Watch> Progress<'a, W> {
     }
 }
 
-impl<'a, W: Watch> Guide for NewPairs<'a, W> {
+impl<'a, W: Watch> Guide for QuestionPairs<'a, W> {
     fn agenda(&mut self, alloc: Global) -> Result<Agenda, AllocError> {
-        let Agenda {
-            gates,
-            candidates,
-            leading,
-        } = agenda_of(alloc, self.base, self.ids)?;
-        let candidates = self.tried.untried(alloc, &candidates)?;
-        Ok(Agenda {
-            gates,
-            candidates,
-            leading,
-        })
+        agenda_of(alloc, self.base, self.ids)
     }
 
     fn done_with(&mut self, candidate: Candidate, lines: u64) -> Result<(), AllocError> {
+        let _ = candidate;
         self.progress.tell(lines);
-        self.tried.add(candidate)
+        Ok(())
     }
 
     fn learned(&mut self, lines: u64) {

@@ -8,10 +8,10 @@ ghost use Rattle.log_parts.specs.Parts.{MayGoOn};
 ghost use Rattle.shared_lemmas.specs.Shared.{AreShared, HoldUnder, IsAnswered, IsAskedBy, IsHalted, IsStoppedBy, IsUnder};
 
 use crate::feeds::have_same_feeds;
-use crate::guiding::{NewPairs, Progress};
+use crate::guiding::{Progress, QuestionPairs};
 use crate::keeping::keep;
 use crate::lemmas::{Lemmas, lemmas_for};
-use crate::stock::{Stock, Tried};
+use crate::stock::Stock;
 use ask_core::{Answer, ask_guided, ask_watched};
 use cnf_core::{LogLine, Stop};
 use log_parts::trim;
@@ -19,7 +19,6 @@ use net_core::Graphs;
 use query_core::{ConeClauses, Ledger, Query, QueryBase};
 use std::alloc::{AllocError, Global};
 use std::marker::Model;
-use std::mem;
 use watch_core::Watch;
 
 /// A search over the formula's variables costs by the circuits. From this many clauses on, some 10,000 gates in either circuit,
@@ -196,24 +195,24 @@ fn ask_by<W: Watch>(
         lemmas: lemmas.lines.len() as u64,
         next: 0,
     };
-    let tried = &mut stock.tried;
+    let guide = QuestionPairs {
+        base,
+        ids: cones.ids(),
+        progress,
+    };
     let lines = &lemmas.lines;
-    let answer = ask_new_pairs(
-        alloc, graphs, query, cones, base, lines, tried, progress, ledger,
-    )?;
+    let answer = ask_pairs(alloc, graphs, query, cones, lines, guide, ledger)?;
     Ok(finish(alloc, cones, answer, &lemmas.numbers, stock)?)
 }
 
-// Answers a query by lemmas, and looks at the pairs of gates that weren't looked at.
-fn ask_new_pairs<W: Watch>(
+// Answers a query by lemmas, and looks at pairs of gates.
+fn ask_pairs<W: Watch>(
     alloc: Global,
     graphs: &Graphs<'_>,
     query: &Query,
     cones: &ConeClauses<'_>,
-    base: &QueryBase<'_>,
     lemmas: &[LogLine],
-    tried: &mut Tried,
-    progress: Progress<'_, W>,
+    guide: QuestionPairs<'_, W>,
     ledger: &mut Ledger,
 ) -> Result<Answer, Stop>
     requires fits { IsQuery graphs.now query.now }
@@ -224,15 +223,8 @@ fn ask_new_pairs<W: Watch>(
     ensures answered { IfOk result (IsAnswered graphs.now query.now ledger.old ledger.new) }
     ensures halted { IfErr result (IsHalted graphs.now query.now ledger.old ledger.new) }
 {
-    let mut guide = NewPairs {
-        base,
-        ids: cones.ids(),
-        tried: mem::replace(tried, Tried::new(alloc)),
-        progress,
-    };
-    let answer = ask_guided(alloc, graphs, query, cones, lemmas, &mut guide, ledger);
-    *tried = guide.tried;
-    answer
+    let mut guide = guide;
+    ask_guided(alloc, graphs, query, cones, lemmas, &mut guide, ledger)
 }
 
 // What is answered: of a refutation what its last line rests on. Lines of it that hold for other outputs too are kept.

@@ -1,58 +1,11 @@
-//! Lines, and what was looked at.
+//! Lines that are kept.
 
 ghost use Rattle.std.specs.Prelude.{◌≡◌, []};
 
 use cnf_core::{LogLine, SatLit};
 use indexmap::IndexMap;
-use learn_solver::Candidate;
 use query_core::Query;
 use std::alloc::{AllocError, Global};
-
-/// Candidates that were looked at.
-#[derive(Drop)]
-pub(crate) struct Tried {
-    pairs: IndexMap<(SatLit, SatLit), bool>,
-}
-
-impl Tried {
-    /// None.
-    pub(crate) fn new(alloc: Global) -> Tried {
-        Tried {
-            pairs: IndexMap::new(alloc),
-        }
-    }
-
-    /// A candidate was looked at.
-    pub(crate) fn add(&mut self, candidate: Candidate) -> Result<(), AllocError> {
-        self.pairs.insert((candidate.one, candidate.other), true)?;
-        Ok(())
-    }
-
-    /// Those that weren't looked at.
-    pub(crate) fn untried(
-        &self,
-        alloc: Global,
-        candidates: &[Candidate],
-    ) -> Result<Vec<Candidate>, AllocError> {
-        let mut left = Vec::new(alloc);
-        for candidate in candidates.iter() {
-            self.push_untried(*candidate, &mut left)?;
-        }
-        Ok(left)
-    }
-
-    fn push_untried(
-        &self,
-        candidate: Candidate,
-        left: &mut Vec<Candidate>,
-    ) -> Result<(), AllocError> {
-        let pair = (candidate.one, candidate.other);
-        if self.pairs.get(&pair).is_none() {
-            left.push(candidate)?;
-        }
-        Ok(())
-    }
-}
 
 /// The places of lines of two literals. They are found by these: the lemmas by which two gates are one come anew with each
 /// question.
@@ -101,7 +54,6 @@ pub(crate) struct Stock {
     pub(crate) held: Vec<Query>,
     pub(crate) lines: Vec<LogLine>,
     pub(crate) twins: Twins,
-    pub(crate) tried: Tried,
     /// How many lines questions got as lemmas, also of feeds that were left.
     pub(crate) given: u64,
 }
@@ -116,7 +68,6 @@ impl Stock {
             held: Vec::new(alloc),
             lines: Vec::new(alloc),
             twins: Twins::new(alloc),
-            tried: Tried::new(alloc),
             given,
         }
     }

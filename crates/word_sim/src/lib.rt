@@ -3,6 +3,7 @@
 
 mod blocks;
 pub mod laws;
+mod mixing;
 mod rails;
 mod simulation;
 mod three_values;
@@ -10,6 +11,7 @@ mod tri;
 mod words;
 
 pub use blocks::{and_lanes, gate_block, literal_block};
+pub use mixing::mix;
 pub use rails::{Rails, rails_eval};
 pub use simulation::{gate_word, literal_word, simulate};
 pub use three_values::tri_eval;

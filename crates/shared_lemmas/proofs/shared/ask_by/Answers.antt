@@ -12,7 +12,7 @@ finish-requires-clause-hold g c =
 pub returns-in_err-answer-clause-halted : goal.returns-in_err-answer-clause-halted
 returns-in_err-answer-clause-halted g c =
     let stop = c.in_err-answer.field-0.0 in
-    passed_on c.from_residual.result stop (IsHalted c.args.graphs.now c.args.query.now c.args.ledger.now c.ask_new_pairs.new.ledger) c.from_residual.ensures.1 c.in_err-answer.ensures.halted
+    passed_on c.from_residual.result stop (IsHalted c.args.graphs.now c.args.query.now c.args.ledger.now c.ask_pairs.new.ledger) c.from_residual.ensures.1 c.in_err-answer.ensures.halted
 
 pub returns-in_err-finish-clause-hold : goal.returns-in_err-finish-clause-hold
 returns-in_err-finish-clause-hold g c =

@@ -5,7 +5,7 @@ use Rattle.cnf_core.specs.declared.stop.Stop.{Stop}
 use Rattle.ask_core.specs.Answers.{IsAskedWith, IsStoppedWith}
 use Rattle.shared_lemmas.specs.Shared.{IsAskedBy, IsStoppedBy}
 use Rattle.shared_lemmas.proofs.AnswerLemmas.{answered_from, halted_from}
-use Rattle.shared_lemmas.proofs.shared.ask_new_pairs.Goals as goal
+use Rattle.shared_lemmas.proofs.shared.ask_pairs.Goals as goal
 
 pub returns-clause-answered : goal.returns-clause-answered
 returns-clause-answered g c =

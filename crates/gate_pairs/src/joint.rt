@@ -1,0 +1,125 @@
+//! The cones of a question as one netlist.
+
+ghost use Rattle.std.specs.Prelude.{◌≡◌, IfOk, length};
+
+use crate::gates::{Gate, inputs_of};
+use cnf_core::SatLit;
+use indexmap::IndexMap;
+use net_core::{Gate as NetGate, Graph, Lit};
+use std::alloc::{AllocError, Global};
+
+/// How many signals a netlist may have.
+const LIMIT: usize = 1 << 31;
+
+/// What a signal of the netlist is in the question.
+#[derive(Clone, Copy, Drop)]
+pub(crate) struct Signal {
+    /// The literal that is true where the signal is 1.
+    pub(crate) literal: SatLit,
+    /// How many gates there are at most from an input to it.
+    pub(crate) depth: u64,
+}
+
+/// The gates of two cones as one netlist, a gate that both have once. All signals are its outputs, the constant and the
+/// inputs too, so that a simulation tells what each of them has.
+#[derive(Drop)]
+pub(crate) struct Joint {
+    pub(crate) graph: Graph,
+    /// What each signal is.
+    pub(crate) signals: Vec<Signal>,
+}
+
+/// A netlist that is being put together.
+#[derive(Drop)]
+struct Parts {
+    /// The signal of each variable.
+    numbers: IndexMap<u64, usize>,
+    signals: Vec<Signal>,
+    gates: Vec<NetGate>,
+}
+
+impl Joint {
+    /// The netlist of gates each of which stands after its operands. None where there are too many.
+    ///
+    /// # Errors
+    ///
+    /// Only when out of memory.
+    pub(crate) fn of(alloc: Global, gates: &[Gate]) -> Result<Option<Joint>, AllocError> {
+        let inputs = inputs_of(alloc, gates)?;
+        let mut parts = Parts::new(alloc)?;
+        for input in inputs.iter() {
+            parts.add(*input, 0)?;
+        }
+        for gate in gates.iter() {
+            parts.add_gate(*gate)?;
+        }
+        let Parts { signals, gates, .. } = parts;
+        if (inputs.len() >= LIMIT / 2) | (gates.len() >= LIMIT / 2) | (signals.len() >= LIMIT) {
+            return Ok(None);
+        }
+        let outputs = plain_literals(alloc, signals.len())?;
+        let Some(graph) = Graph::new(inputs.len() as u32, gates, outputs) else {
+            return Ok(None);
+        };
+        Ok(Some(Joint { graph, signals }))
+    }
+}
+
+impl Parts {
+    /// The constant: signal 0 is 0, and variable 0 is true.
+    fn new(alloc: Global) -> Result<Parts, AllocError> {
+        let mut parts = Parts {
+            numbers: IndexMap::new(alloc),
+            signals: Vec::new(alloc),
+            gates: Vec::new(alloc),
+        };
+        parts.add(SatLit::of(0, false), 0)?;
+        Ok(parts)
+    }
+
+    // Adds a signal that is 1 where a literal is true.
+    fn add(&mut self, literal: SatLit, depth: u64) -> Result<(), AllocError> {
+        let number = self.signals.len();
+        self.numbers.insert(literal.variable(), number)?;
+        self.signals.push(Signal { literal, depth })?;
+        Ok(())
+    }
+
+    // Adds a gate that isn't there.
+    fn add_gate(&mut self, gate: Gate) -> Result<(), AllocError> {
+        if self.numbers.get(&gate.output.variable()).is_some() {
+            return Ok(());
+        }
+        let (a, first) = self.operand(gate.first);
+        let (b, second) = self.operand(gate.second);
+        self.gates.push(NetGate { a, b })?;
+        self.add(gate.output, first.max(second).saturating_add(1))
+    }
+
+    // The netlist's literal for an operand, and its depth. One that isn't there is taken for the constant.
+    fn operand(&self, operand: SatLit) -> (Lit, u64) {
+        let number = self.numbers.get(&operand.variable()).copied();
+        let number = number.unwrap_or(0);
+        match self.signals.get(number) {
+            Some(signal) => (literal(number, operand != signal.literal), signal.depth),
+            None => (Lit(0), 0),
+        }
+    }
+}
+
+// The literal of a signal. Where a netlist is made they are all below the limit.
+fn literal(signal: usize, negated: bool) -> Lit {
+    let number = (signal % LIMIT) as u32;
+    Lit(2 * number + negated as u32)
+}
+
+// A literal without complement for each of n signals.
+fn plain_literals(alloc: Global, count: usize) -> Result<Vec<Lit>, AllocError>
+    ensures { IfOk result (λ literals. length literals.items ≡ count) }
+{
+    let mut literals = Vec::with_capacity(alloc, count)?;
+    for signal in 0..count {
+        literals.push(literal(signal, false))?;
+    }
+    Ok(literals)
+}
