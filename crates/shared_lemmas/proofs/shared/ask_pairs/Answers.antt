@@ -13,9 +13,9 @@ returns-clause-answered g c =
     let query = c.args.query.now in
     let lemmas = c.args.lemmas.now in
     let before = c.args.ledger.now in
-    let after = c.ask_guided-answer.new.ledger in
-    let r = c.ask_guided-answer.result in
-    let e = c.ask_guided-answer.ensures in
+    let after = c.ask_guided.new.ledger in
+    let r = c.ask_guided.result in
+    let e = c.ask_guided.ensures in
     answered_from graphs query before after r e.answer (IfOk-weaker r (λ (a : Answer). IsAskedWith graphs query lemmas before after) (λ (a : Answer). IsAskedBy graphs query before after) (λ a is. record { lemmas = lemmas; with_them = is }) e.asked) e.not_spent e.bounded
 
 pub returns-clause-halted : goal.returns-clause-halted
@@ -24,7 +24,7 @@ returns-clause-halted g c =
     let query = c.args.query.now in
     let lemmas = c.args.lemmas.now in
     let before = c.args.ledger.now in
-    let after = c.ask_guided-answer.new.ledger in
-    let r = c.ask_guided-answer.result in
-    let e = c.ask_guided-answer.ensures in
+    let after = c.ask_guided.new.ledger in
+    let r = c.ask_guided.result in
+    let e = c.ask_guided.ensures in
     halted_from graphs query before after r (IfErr-weaker r (IsStoppedWith graphs query lemmas before after) (IsStoppedBy graphs query before after) (λ (s : Stop) is. record { lemmas = lemmas; with_them = is }) e.stop) e.bounded_stop
