@@ -17,6 +17,11 @@ pub(crate) struct Focus {
     pub(crate) candidate: Option<Candidate>,
     /// Whether all is assigned from which the literals are computed.
     pub(crate) exhausted: bool,
+    /// Whether it is known what the literals are computed from. Most candidates are over once both literals are decided, and
+    /// nothing is to be known of them: of a divider of 12 bits a question has 3,000, and gates as many.
+    pub(crate) is_spread: bool,
+    /// The gates of the question, each after its operands.
+    pub(crate) gates: Vec<Operands>,
     /// The last turn in which each variable was one of those from which the literals are computed.
     turns: Vec<u64>,
     turn: u64,
@@ -30,6 +35,8 @@ impl Focus {
         Ok(Focus {
             candidate: None,
             exhausted: false,
+            is_spread: true,
+            gates: Vec::new(alloc),
             turns: vec![in alloc; 0; variables]?,
             turn: 0,
             leading: Vec::new(alloc),
@@ -39,6 +46,7 @@ impl Focus {
     /// Turns to the whole question, in which these literals are decided before all other variables.
     pub(crate) fn widen(&mut self, leading: Vec<SatLit>) {
         self.candidate = None;
+        self.is_spread = false;
         self.leading = leading;
     }
 
@@ -56,41 +64,50 @@ impl Focus {
         None
     }
 
-    /// Turns to a candidate over these gates, each of which stands after its operands.
-    pub(crate) fn narrow(&mut self, candidate: Candidate, gates: &[Operands]) {
+    /// Turns to a candidate.
+    pub(crate) fn narrow(&mut self, candidate: Candidate) {
         self.candidate = Some(candidate);
         self.exhausted = false;
-        self.turn = self.turn.saturating_add(1);
-        self.add(candidate.one.variable());
-        self.add(candidate.other.variable());
-        for gate in gates.iter().rev() {
-            self.add_operands(*gate);
+        self.is_spread = false;
+    }
+
+    /// Marks all from which the candidate's literals are computed, if there is one.
+    pub(crate) fn spread(&mut self) {
+        self.is_spread = true;
+        if let Some(candidate) = self.candidate {
+            self.turn = self.turn.saturating_add(1);
+            mark(&mut self.turns, self.turn, candidate.one.variable());
+            mark(&mut self.turns, self.turn, candidate.other.variable());
+            mark_operands(&self.gates, &mut self.turns, self.turn);
         }
     }
 
     /// Whether a variable is to be decided: all are for the whole question, and for a candidate those from which its literals are
-    /// computed.
+    /// computed. None is before that is known.
     pub(crate) fn has(&self, variable: u64) -> bool {
-        self.candidate.is_none() || self.is_marked(variable)
+        self.is_spread & (self.candidate.is_none() || is_marked(&self.turns, self.turn, variable))
     }
+}
 
-    fn is_marked(&self, variable: u64) -> bool {
-        match self.turns.get(variable as usize) {
-            Some(turn) => *turn == self.turn,
-            None => false,
+// Marks the operands of marked gates, from the last gate on.
+fn mark_operands(gates: &[Operands], turns: &mut Vec<u64>, turn: u64) {
+    for gate in gates.iter().rev() {
+        if is_marked(turns, turn, gate.gate) {
+            mark(turns, turn, gate.first);
+            mark(turns, turn, gate.second);
         }
     }
+}
 
-    fn add_operands(&mut self, gate: Operands) {
-        if self.is_marked(gate.gate) {
-            self.add(gate.first);
-            self.add(gate.second);
-        }
+fn is_marked(turns: &[u64], turn: u64, variable: u64) -> bool {
+    match turns.get(variable as usize) {
+        Some(marked) => *marked == turn,
+        None => false,
     }
+}
 
-    fn add(&mut self, variable: u64) {
-        if variable < self.turns.len() as u64 {
-            self.turns[variable as usize] = self.turn;
-        }
+fn mark(turns: &mut Vec<u64>, turn: u64, variable: u64) {
+    if variable < turns.len() as u64 {
+        turns[variable as usize] = turn;
     }
 }

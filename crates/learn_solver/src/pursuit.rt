@@ -4,7 +4,7 @@ ghost use Rattle.std.specs.Prelude.{IfOk, IfErr};
 ghost use Rattle.learn_solver.specs.Searches.{CanGo, HasEnded, HasGone};
 ghost use Rattle.learn_solver.specs.Solvers.{IsStopped};
 
-use crate::candidate::{Agenda, Candidate, Guide, Operands};
+use crate::candidate::{Agenda, Candidate, Guide};
 use crate::search::Search;
 use crate::solver::Solver;
 use crate::verdict::Finding;
@@ -40,7 +40,8 @@ impl<'a, B: Base> Solver<'a, B> {
             candidates,
             leading,
         } = guide.agenda(alloc)?;
-        if let Some(found) = self.follow(alloc, search, guide, &gates, &candidates, ledger)? {
+        search.heed(gates);
+        if let Some(found) = self.follow(alloc, search, guide, &candidates, ledger)? {
             return Ok(Some(found));
         }
         search.widen(leading);
@@ -53,7 +54,6 @@ impl<'a, B: Base> Solver<'a, B> {
         alloc: Global,
         search: &mut Search,
         guide: &mut G,
-        gates: &[Operands],
         candidates: &[Candidate],
         ledger: &mut L,
     ) -> Result<Option<Finding>, Stop>
@@ -62,7 +62,7 @@ impl<'a, B: Base> Solver<'a, B> {
         ensures stop { IfErr result (IsStopped self.old self.new (L.charging ledger.old) (L.charging ledger.new)) }
     {
         for candidate in candidates.iter() {
-            if let Some(found) = self.look_at(alloc, search, *candidate, gates, ledger)? {
+            if let Some(found) = self.look_at(alloc, search, *candidate, ledger)? {
                 return Ok(Some(found));
             }
             guide.done_with(*candidate, self.count())?;
@@ -76,14 +76,13 @@ impl<'a, B: Base> Solver<'a, B> {
         alloc: Global,
         search: &mut Search,
         candidate: Candidate,
-        gates: &[Operands],
         ledger: &mut L,
     ) -> Result<Option<Finding>, Stop>
         requires { CanGo self.old (L.charging ledger.old) search.old }
         ensures gone { IfOk result (HasGone self.old self.new (L.charging ledger.old) (L.charging ledger.new) search.new) }
         ensures stop { IfErr result (IsStopped self.old self.new (L.charging ledger.old) (L.charging ledger.new)) }
     {
-        search.narrow(candidate, gates);
+        search.narrow(candidate);
         self.pursue(alloc, search, MOST, ledger)
     }
 

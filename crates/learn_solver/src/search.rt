@@ -91,12 +91,27 @@ impl Tools {
         if literal.is_some() {
             return literal;
         }
+        self.spread();
         let literal = self.order.pick(trail);
         if literal.is_some() {
             return literal;
         }
         self.focus.exhausted = true;
         next_decision(trail, &self.occurring)
+    }
+
+    // Has those variables in the order that the focus has, if they aren't.
+    fn spread(&mut self)
+        requires order { IsOrder (length self.old.order.heap) self.old.order }
+        requires known { All (λ v. v < length self.old.order.heap) self.old.occurring.items }
+        ensures order { IsOrder (length self.old.order.heap) self.new.order }
+        ensures same { self.new ≡ record self.old { order = self.new.order; focus = self.new.focus } }
+    {
+        if self.focus.is_spread {
+            return;
+        }
+        self.focus.spread();
+        self.order.turn_to(&self.occurring, &self.focus);
     }
 
     // The next literal to decide before all others: one of those that lead, or of the candidate that the search is after, if it
@@ -174,29 +189,29 @@ impl Search {
         self.begin_anew();
     }
 
-    /// Turns to a candidate, from level 0 on.
-    pub(crate) fn narrow(&mut self, candidate: Candidate, gates: &[Operands])
-        requires turn { CanTurn self.old }
-        requires known { All (λ v. v < self.old.trail.variables) self.old.tools.occurring.items }
+    /// What it is after may be over these gates, each of which stands after its operands.
+    pub(crate) fn heed(&mut self, gates: Vec<Operands>)
+        requires { CanTurn self.old }
         ensures { HasTurned self.old self.new }
     {
-        self.tools.focus.narrow(candidate, gates);
-        self.tools
-            .order
-            .turn_to(&self.tools.occurring, &self.tools.focus);
+        self.tools.focus.gates = gates;
+    }
+
+    /// Turns to a candidate, from level 0 on.
+    pub(crate) fn narrow(&mut self, candidate: Candidate)
+        requires { CanTurn self.old }
+        ensures { HasTurned self.old self.new }
+    {
+        self.tools.focus.narrow(candidate);
         self.begin_anew();
     }
 
     /// Turns to the whole question, from level 0 on, in which these literals are decided before all other variables.
     pub(crate) fn widen(&mut self, leading: Vec<SatLit>)
-        requires turn { CanTurn self.old }
-        requires known { All (λ v. v < self.old.trail.variables) self.old.tools.occurring.items }
+        requires { CanTurn self.old }
         ensures { HasTurned self.old self.new }
     {
         self.tools.focus.widen(leading);
-        self.tools
-            .order
-            .turn_to(&self.tools.occurring, &self.tools.focus);
         self.begin_anew();
     }
 

@@ -5,15 +5,21 @@ use Rattle.learn_solver.specs.Searches.{IsRunning}
 use Rattle.learn_solver.specs.Findings.{IsFinding}
 use Rattle.learn_solver.specs.Solvers.{IsStopped}
 use Rattle.learn_solver.proofs.AdvanceLemmas.{extended_twice, stopped_after}
-use Rattle.learn_solver.proofs.PursuitLemmas.{can_turn, decided_known, running_again}
+use Rattle.learn_solver.proofs.PursuitLemmas.{can_turn, running_again}
 use Rattle.learn_solver.proofs.StepLemmas.{passed_on}
 use Rattle.learn_solver.proofs.solver.Solver.prepare.Goals as goal
 
+pub heed-requires : goal.heed-requires
+heed-requires g c =
+    let now = c.pursue.new.search in
+    can_turn c.pursue.new.self now (subst (λ (a : Option Finding). MatchOption a (IsRunning c.pursue.new.self now.trail now.watches now.tools) (IsFinding c.pursue.new.self)) c.in_default.is c.in_ok-soon.ensures.gone.answer_is)
+
 pub follow-requires : goal.follow-requires
 follow-requires g c =
+    let s = c.pursue.new.self in
     let now = c.pursue.new.search in
     record {
-      running = subst (λ (a : Option Finding). MatchOption a (IsRunning c.pursue.new.self now.trail now.watches now.tools) (IsFinding c.pursue.new.self)) c.in_default.is c.in_ok-soon.ensures.gone.answer_is;
+      running = running_again s now c.heed.new.self (subst (λ (a : Option Finding). MatchOption a (IsRunning s now.trail now.watches now.tools) (IsFinding s)) c.in_default.is c.in_ok-soon.ensures.gone.answer_is) c.heed.ensures;
       asking = c.in_ok-soon.ensures.gone.asking;
     }
 
@@ -32,17 +38,11 @@ returns-in-Some-2-clause-gone g c =
     let extended = extended_twice c.args.self.now c.pursue.new.self c.follow.new.self (charging c.args.ledger.now) (charging c.pursue.new.ledger) (charging c.follow.new.ledger) c.in_ok-soon.ensures.gone.extended gone.extended in
     record { extended = extended; asking = gone.asking; answer_is = search rules }
 
-pub widen-requires-clause-turn : goal.widen-requires-clause-turn
-widen-requires-clause-turn g c =
+pub widen-requires : goal.widen-requires
+widen-requires g c =
     let s = c.follow.new.self in
     let now = c.follow.new.search in
     can_turn s now (subst (λ (a : Option Finding). MatchOption a (IsRunning s now.trail now.watches now.tools) (IsFinding s)) c.in_default-2.is c.in_ok-found.ensures.gone.answer_is)
-
-pub widen-requires-clause-known : goal.widen-requires-clause-known
-widen-requires-clause-known g c =
-    let s = c.follow.new.self in
-    let now = c.follow.new.search in
-    decided_known s now (subst (λ (a : Option Finding). MatchOption a (IsRunning s now.trail now.watches now.tools) (IsFinding s)) c.in_default-2.is c.in_ok-found.ensures.gone.answer_is)
 
 pub returns-clause-gone : goal.returns-clause-gone
 returns-clause-gone g c =
