@@ -86,10 +86,7 @@ of_two i (Up j) (Down k) e =
         let same : j ≡ k = grind (arith, nat_tests) in
         (ap Up (some_is j i e), ap Down (sym same ∙ some_is j i e))
     by false t e = cc
-of_two i (Up j) (Up k) e = cc
-of_two i (Up j) (Swap k l a b) e = cc
-of_two i (Down j) other e = cc
-of_two i (Swap j k a b) other e = cc
+of_two i one other e = cc
 
 to_two : (i : ℕ) → twin_input (Up i) (Down i) ≡ Some i
 to_two i =
