@@ -1,7 +1,7 @@
 -- What the numbers on the first line say of each header.
-use Rattle.std.proofs.Common.{◌≡◌, ℕ, suc, ◌-◌, ◌^◌, ◌<◌, ◌≤◌, ◌==◌, Bool, true, false, IsTrue, List, [], ◌∷◌, ◌++◌, length, map, take, drop, get_or, Option, Some, None, IfSome, IfNone, Result, Ok, Err, IfOk, nat_lt, refl, sym, ap, subst, ◌∙◌, arith, length-append, length-take, length-drop}
+use Rattle.std.proofs.Common.{◌≡◌, ℕ, suc, ◌-◌, ◌^◌, ◌<◌, ◌≤◌, ◌==◌, Bool, true, false, IsTrue, List, [], ◌∷◌, ◌++◌, length, map, take, drop, get_or, Option, Some, None, IfSome, IfNone, Result, Ok, Err, IfOk, nat_lt, refl, sym, ap, subst, ◌∙◌, arith, length-take, length-drop}
 use Rattle.std.specs.List.{list_any}
-use Rattle.std.proofs.lemmas.List.{length-map, nil_from_length}
+use Rattle.std.proofs.lemmas.List.{length-map}
 use Rattle.std.proofs.lemmas.List.Elements.{All-head, All-tail}
 use Rattle.text_core.specs.Lines.{lines}
 use Rattle.text_core.specs.Piece.{Piece}
@@ -9,11 +9,6 @@ use Rattle.aiger_reader.specs.declared.header.Numbers.{Numbers}
 use Rattle.aiger_reader.specs.Words.{numbers_on, AreSmall}
 use Rattle.aiger_reader.specs.Headers.{AigerHeader, header_numbers, keyword, line_after, WritesHeader, HasHeader}
 use Rattle.aiger_reader.specs.Numbers.{header_from, WritesNumbers, IsCounted}
-
--- after as many numbers as a row has, nothing is left
-none_left : (done numbers : List ℕ) (whole left : List (Option ℕ)) → whole ≡ map Some done ++ left → length numbers ≤ length done → whole ≡ map Some numbers → left ≡ []
-none_left done numbers whole left front all same =
-    nil_from_length left (omega (arith, ap length front, ap length same, length-append (map Some done) left, length-map done (λ (n : ℕ). Some n), length-map numbers (λ (n : ℕ). Some n)))
 
 -- a word that is no number of 32 bits stands in no row of them
 pub no_number : (done numbers : List ℕ) (word : Option ℕ) (rest : List (Option ℕ)) → AreSmall numbers → ((n : ℕ) → n < 2 ^ 32 → word ≡ Some n → ⊥) → map Some done ++ word ∷ rest ≡ map Some numbers → ⊥
@@ -23,10 +18,6 @@ no_number [] (n ∷ ns) word rest small none same =
 no_number (d ∷ ds) [] word rest small none same = cc
 no_number (d ∷ ds) (n ∷ ns) word rest small none same =
     no_number ds ns word rest (All-tail (λ n. n < 2 ^ 32) n ns small) none (cc)
-
--- numbers that fill a row with a word after them are more than the row has room for
-pub no_room : (done numbers : List ℕ) (whole left : List (Option ℕ)) → whole ≡ map Some done ++ left → (left ≡ [] → ⊥) → length numbers ≤ length done → whole ≡ map Some numbers → ⊥
-no_room done numbers whole left front some few same = some (none_left done numbers whole left front few same)
 
 -- the first of the lines
 pub line_after-first : (bytes left line : List ℕ) (rest : List (List ℕ)) → left ≡ drop 4 bytes → lines left ≡ line ∷ rest → line_after bytes ≡ line

@@ -2,7 +2,7 @@
 use Rattle.std.proofs.Common.{◌≡◌, ◌==◌, ℕ, ◌+◌, ◌⊎◌, Bool, true, false, cond, not, List, [], ◌∷◌, ◌++◌, length, take, All, Option, None, Some, inl, inr, refl, sym, ap, ◌∙◌, subst, arith, append-nil, length-append, append_assoc}
 use Rattle.std.specs.List.{take_while}
 use Rattle.std.proofs.lemmas.List.{drop_all, length-take-le, take_at, length_push}
-use Rattle.std.proofs.lemmas.List.Elements.{All-nil, All-push, All-head, All-tail}
+use Rattle.std.proofs.lemmas.List.Elements.{All-push, All-head, All-tail}
 use Rattle.std.proofs.lemmas.List.Sums.{take_while-cons}
 use Rattle.std.proofs.lemmas.Bool.{cases_lt}
 use Rattle.text_core.specs.Lines.{lines, text_of_lines, line_length, first_line, after_line}
@@ -21,18 +21,6 @@ pub record IsUnderWay (inputs outputs : ℕ) (text left : Piece) (input_slots ou
   pub given : GiveNames inputs outputs done [] entries
   pub ports : ArePortSlots entries input_slots output_slots
   pub offset : (left.bytes ≡ []) ⊎ (left.at ≡ text.at + length (text_of_lines done))
-
--- no line is read yet
-pub at_front : (inputs outputs : ℕ) (text : Piece) (input_slots output_slots : List (Option (List ℕ))) → ArePortSlots [] input_slots output_slots → IsUnderWay inputs outputs text text input_slots output_slots
-at_front inputs outputs text input_slots output_slots ports = record {
-  done = [];
-  entries = [];
-  split = refl;
-  symbols = All-nil (λ line. is_comment line ≡ false);
-  given = refl;
-  ports = ports;
-  offset = inr (omega arith);
-}
 
 some_of : (b : Bool) (x y : Piece) → cond b None (Some x) ≡ Some y → x ≡ y
 some_of true x y h = cc

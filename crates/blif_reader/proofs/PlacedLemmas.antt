@@ -121,8 +121,3 @@ lines_at-first p line h =
     ap (placed p.at) (lines-front p.bytes (filled_by_test p.bytes found.0))
     ∙ (ap (λ rest. piece (take n p.bytes) p.at ∷ rest) (rest_after_line p)
     ∙ ap (λ (l : Piece). l ∷ lines_at (after_line p)) found.1)
-
-pub lines_at-no_first : (p : Piece) → first_line p ≡ None → lines_at p ≡ []
-lines_at-no_first p h =
-    let none = empty_by_test p.bytes (none_by_test (length p.bytes == 0) (front (line_length p.bytes) p) h) in
-    ap (λ bytes. placed p.at (lines bytes)) (nil_from_length p.bytes none)

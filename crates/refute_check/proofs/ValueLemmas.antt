@@ -41,15 +41,6 @@ pub all_none : (bits : List (Option Bool)) → ((v : ℕ) → v < length bits �
 all_none [] none = refl
 all_none (b ∷ bits) none = ap (λ c. c ∷ bits) (none 0 (omega arith)) ∙ ap (λ bs. None ∷ bs) (all_none bits (λ v below. none (suc v) (omega (arith, below))))
 
-pub none_at : (n v : ℕ) → bit_at (replicate n None) v ≡ None
-none_at zero v = refl
-none_at (suc n) zero = refl
-none_at (suc n) (suc v) = none_at n v
-
-pub none_counted : (n : ℕ) → count_by (is_some {T = Bool}) (replicate n None) ≡ 0
-none_counted zero = refl
-none_counted (suc n) = none_counted n
-
 -- how many bits there are, with one more in front
 count_none : (bits : List (Option Bool)) → count_by (is_some {T = Bool}) (None ∷ bits) ≡ count_by (is_some {T = Bool}) bits
 count_none bits = let e : count_by (is_some {T = Bool}) (None ∷ bits) ≡ 0 + count_by (is_some {T = Bool}) bits = sum_by-cons (λ b. cond (is_some {T = Bool} b) 1 0) None bits in omega (arith, e)
