@@ -13,10 +13,6 @@ use Rattle.ban_check.proofs.AscentLemmas.{ascend_more, ascend_rest, none_ascend}
 some_is : (i j : ℕ) → Some i ≡ Some j → i ≡ j
 some_is i j e = cc
 
--- shapes of one input each
-pub no_inputs : (least : ℕ) → GoOverInputs least []
-no_inputs least = record { inputs = []; of_each = tt; ascend = none_ascend least }
-
 of_one : (i : ℕ) (shape : Shape) → one_input shape ≡ Some i → (shape ≡ Up i) ⊎ (shape ≡ Down i)
 of_one i (Up j) e = inl (ap Up (some_is j i e))
 of_one i (Down j) e = inr (ap Down (some_is j i e))
