@@ -11,6 +11,7 @@ use Rattle.account_file.specs.declared.place.Place.{Place}
 use Rattle.account_file.specs.declared.record.Record.{Record}
 use Rattle.account_file.specs.declared.record.Record.TheVariants as record_of
 use Rattle.account_file.specs.Order.{place_after, place_after_one, next_place}
+use Rattle.account_file.proofs.OrderLemmas.{none_stays}
 use Rattle.account_check.specs.Logs.{OpenFact}
 use Rattle.account_check.specs.Accounts.{Account, account_after, after, rest_after_line, empty_account}
 
@@ -28,15 +29,10 @@ line_graphs account None line = refl
 line_graphs account (Some fact) line = if_graphs (is_empty line.clause) _ _ account.graphs refl refl
 
 pub after_graphs : (account : Account) (entry : Record) → (after account entry).graphs ≡ account.graphs
-after_graphs account record_of.Header = refl
 after_graphs account (record_of.Fact (head.Fails claim bits)) = refl
-after_graphs account (record_of.Fact (head.Holds claim)) = refl
 after_graphs account (record_of.Line line) = line_graphs account account.fact line
-after_graphs account (record_of.Ban ban) = refl
 after_graphs account (record_of.Conclusion conclusion.NonePorts) = refl
-after_graphs account (record_of.Conclusion (conclusion.NoneBan ban)) = refl
-after_graphs account (record_of.Conclusion (conclusion.Match pairs)) = refl
-after_graphs account record_of.End = refl
+after_graphs account other = refl
 
 graphs_stay : (account : Account) (records : List Record) → (fold after account records).graphs ≡ account.graphs
 graphs_stay account [] = refl
@@ -45,15 +41,10 @@ graphs_stay account (entry ∷ records) = graphs_stay (after account entry) reco
 pub account_graphs : (graphs : Graphs) (records : List Record) → (account_after graphs records).graphs ≡ graphs
 account_graphs graphs records = graphs_stay (empty_account graphs) records
 
--- the account stands where its records lead
-none_stays : (records : List Record) → fold place_after_one None records ≡ None
-none_stays [] = refl
-none_stays (entry ∷ records) = none_stays records
-
-some_place : (p q : Place) → Some p ≡ Some q → p ≡ q
+pub some_place : (p q : Place) → Some p ≡ Some q → p ≡ q
 some_place p q e = cc
 
-no_place : (p : Place) → None ≡ Some p → ⊥
+pub no_place : (p : Place) → None ≡ Some p → ⊥
 no_place p e = cc
 
 places_follow : (account : Account) (records : List Record) (place : Place) → fold place_after_one (Some account.place) records ≡ Some place → (fold after account records).place ≡ place

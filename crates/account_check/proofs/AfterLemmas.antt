@@ -30,15 +30,10 @@ kept graphs given stage = record {
 
 -- a match, whose logs follow
 pub match_after : (graphs : Graphs) (given : Given) (now : Stage) (logs : MatchLogs) (matching : Matching) (pairs : List Pair) → IsSome (next_place (place_of now) (entry.Conclusion (conclusion.Match pairs))) → logs ≡ record { graphs = graphs; proof = unproved matching } → matching ≡ matching_of graphs.first.inputs pairs → AreInOrder graphs.first pairs → kept graphs given (stage.Proving logs) ≡ after (kept graphs given now) (entry.Conclusion (conclusion.Match pairs))
-match_after graphs given stage.Empty logs matching pairs may made is order = cc
 match_after graphs given stage.Begun logs matching pairs may made is order =
     let m = matching_of graphs.first.inputs pairs in
     let count : log_count m - 0 ≡ logs_asked (conclusion.Match pairs) = omega (arith, outputs_counted graphs.first pairs order) in
     ap (λ (l : MatchLogs). kept graphs given (stage.Proving l)) made
     ∙ (ap (λ (x : Matching). kept graphs given (stage.Proving (record { graphs = graphs; proof = unproved x }))) is
     ∙ ap (λ n. record (kept graphs given (stage.Proving (record { graphs = graphs; proof = unproved m }))) { place = place.Logs n }) count)
-match_after graphs given (stage.Showing log) logs matching pairs may made is order = cc
-match_after graphs given (stage.Proving other) logs matching pairs may made is order = cc
-match_after graphs given stage.Refusing logs matching pairs may made is order = cc
-match_after graphs given (stage.Proved other) logs matching pairs may made is order = cc
-match_after graphs given stage.Refused logs matching pairs may made is order = cc
+match_after graphs given other logs matching pairs may made is order = cc

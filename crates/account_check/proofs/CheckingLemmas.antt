@@ -2,6 +2,7 @@
 use Rattle.std.proofs.Common.{◌≡◌, ℕ, ◌+◌, ◌≤◌, Bool, true, false, cond, List, [], ◌∷◌, ◌++◌, length, take, Option, None, Some, IsSome, Result, Ok, Err, refl, sym, ap, subst, ◌∙◌, arith, length-append, length-take}
 use Rattle.std.specs.Prelude.{is_some}
 use Rattle.std.specs.Result.{IsErrAnd}
+use Rattle.std.proofs.lemmas.Result.{err_from_is_err_and}
 use Rattle.std.proofs.lemmas.List.{append-nil, take-append-le}
 use Rattle.circuits.specs.Matches.{IsMatchOfFunctions}
 use Rattle.net_core.specs.Sides.{Graphs}
@@ -209,38 +210,29 @@ out_of_memory finished graphs bytes reading account (Err handed) is = subst (λ 
 -- the reason that `?` hands on
 pub stopped : (finished : Bool) (graphs : Graphs) (bytes : List ℕ) (reading : Reading) (account : Account) (check_stop : CheckStop) (result : Result (Unit {0}) CheckStop) → Goes finished graphs bytes reading account (Err check_stop) → IsErrAnd result (λ handed. handed ≡ check_stop) → TakesAll finished graphs bytes reading account result
 stopped finished graphs bytes reading account check_stop result goes same =
-    by result same
+    let err = err_from_is_err_and result same in
+    subst (TakesAll finished graphs bytes reading account) (sym (err.1 ∙ ap Err err.2)) (told check_stop goes)
   where
     told : (s : CheckStop) → Goes finished graphs bytes reading account (Err s) → TakesAll finished graphs bytes reading account (Err s)
     told (Rejected line reason) rejected = rejected
     told Memory none = tt
 
-    by : (result : Result (Unit {0}) CheckStop) → IsErrAnd result (λ handed. handed ≡ check_stop) → TakesAll finished graphs bytes reading account result
-    by (Ok done) none = absurd none
-    by (Err handed) is = subst (λ (s : CheckStop). TakesAll finished graphs bytes reading account (Err s)) (sym is) (told check_stop goes)
-
 -- and its verdict
 pub stopped_whole : (graphs : Graphs) (bytes : List ℕ) (reading : Reading) (account : Account) (check_stop : CheckStop) (result : Result Verdict CheckStop) → TakesAll true graphs bytes reading account (Err check_stop) → IsErrAnd result (λ handed. handed ≡ check_stop) → IsVerdict graphs bytes result
 stopped_whole graphs bytes reading account check_stop result goes same =
-    by result same
+    let err = err_from_is_err_and result same in
+    subst (IsVerdict graphs bytes) (sym (err.1 ∙ ap Err err.2)) (told check_stop goes)
   where
     told : (s : CheckStop) → TakesAll true graphs bytes reading account (Err s) → IsVerdict graphs bytes (Err s)
     told (Rejected line reason) rejected = rejected
     told Memory none = tt
 
-    by : (result : Result Verdict CheckStop) → IsErrAnd result (λ handed. handed ≡ check_stop) → IsVerdict graphs bytes result
-    by (Ok verdict) none = absurd none
-    by (Err handed) is = subst (λ (s : CheckStop). IsVerdict graphs bytes (Err s)) (sym is) (told check_stop goes)
-
 -- a bad line of a whole text
 pub stopped_fed : (graphs : Graphs) (bytes : List ℕ) (reading : Reading) (account : Account) (check_stop : CheckStop) (result : Result Verdict CheckStop) → TakesAll false graphs bytes reading account (Err check_stop) → IsErrAnd result (λ handed. handed ≡ check_stop) → IsVerdict graphs bytes result
 stopped_fed graphs bytes reading account check_stop result goes same =
-    by result same
+    let err = err_from_is_err_and result same in
+    subst (IsVerdict graphs bytes) (sym (err.1 ∙ ap Err err.2)) (told check_stop goes)
   where
     told : (s : CheckStop) → TakesAll false graphs bytes reading account (Err s) → IsVerdict graphs bytes (Err s)
     told (Rejected line reason) rejected = subst (λ b. IsVerdict graphs b (Err (Rejected line reason))) (append-nil bytes) (rejected [])
     told Memory none = tt
-
-    by : (result : Result Verdict CheckStop) → IsErrAnd result (λ handed. handed ≡ check_stop) → IsVerdict graphs bytes result
-    by (Ok verdict) none = absurd none
-    by (Err handed) is = subst (λ (s : CheckStop). IsVerdict graphs bytes (Err s)) (sym is) (told check_stop goes)

@@ -17,7 +17,7 @@ use Rattle.account_check.specs.Accounts.{Account, HasFault}
 use Rattle.account_check.specs.Bans.{BanTests}
 use Rattle.account_check.specs.Conclusions.{ConclusionTests}
 use Rattle.account_check.specs.Facts.{ClaimTests, FactTests}
-use Rattle.account_check.proofs.TestLemmas.{one_passed, one_unless}
+use Rattle.account_check.proofs.TestLemmas.{one_passed, one_unless, some_none}
 
 one_claim_fault : (graphs : Graphs) (claim : Claim) (Behind : Option Reject → Type 0) → ((a b : Option Reject) → Behind a → Behind b → a ≡ b) → (a b : Option Reject) → ClaimTests graphs claim Behind a → ClaimTests graphs claim Behind b → a ≡ b
 one_claim_fault graphs claim Behind one = one_unless _ _ _ (one_unless _ _ Behind one)
@@ -46,9 +46,6 @@ one_fault account entry.End = one_passed
 -- the fault that an answer tells is the record's, and the record's fault is told
 pub refused_exactly : (account : Account) (record_ : Record) (result : Result (Unit {0}) RecordStop) (reject : Reject) → ((r : Reject) → result ≡ Err (stop.Reject r) → HasFault account record_ (Some r)) → OnOk result (HasFault account record_ None) → result ≢ Err stop.Memory → HasFault account record_ (Some reject) → result ≡ Err (stop.Reject reject)
 refused_exactly account record_ (Ok done) reject refused taken memory has = absurd (some_none (one_fault account record_ None (Some reject) taken has))
-  where
-    some_none : {r : Reject} → None ≡ Some r → ⊥
-    some_none {r} e = cc
 refused_exactly account record_ (Err (stop.Reject r)) reject refused taken memory has =
     ap (λ f. Err (stop.Reject f)) (same r reject (one_fault account record_ (Some r) (Some reject) (refused r refl) has))
   where
@@ -59,9 +56,6 @@ refused_exactly account record_ (Err stop.Memory) reject refused taken memory ha
 pub taken_exactly : (account : Account) (record_ : Record) (result : Result (Unit {0}) RecordStop) → ((r : Reject) → result ≡ Err (stop.Reject r) → HasFault account record_ (Some r)) → result ≢ Err stop.Memory → HasFault account record_ None → IsOk result
 taken_exactly account record_ (Ok done) refused memory has = refl
 taken_exactly account record_ (Err (stop.Reject r)) refused memory has = absurd (some_none (one_fault account record_ None (Some r) has (refused r refl)))
-  where
-    some_none : {r : Reject} → None ≡ Some r → ⊥
-    some_none {r} e = cc
 taken_exactly account record_ (Err stop.Memory) refused memory has = absurd (memory refl)
 
 pub taken_told : (account : Account) (record_ : Record) (result : Result (Unit {0}) RecordStop) → OnOk result (HasFault account record_ None) → IsOk result → HasFault account record_ None

@@ -1,15 +1,14 @@
 -- The logs of a match: what a line that is taken leaves, and what closed logs show.
-use Rattle.std.proofs.Common.{◌≡◌, ℕ, ◌+◌, ◌*◌, ◌/◌, ◌%◌, ◌==◌, ◌<◌, ◌||◌, Bool, true, false, List, [], ◌∷◌, ◌++◌, length, take, Option, None, Some, Result, Ok, Err, slice_index_or, inl, inr, refl, sym, ap, subst, ◌∙◌, arith}
+use Rattle.std.proofs.Common.{◌≡◌, ℕ, ◌+◌, ◌*◌, ◌/◌, ◌%◌, ◌==◌, ◌<◌, ◌||◌, Bool, true, false, List, [], ◌∷◌, ◌++◌, length, Option, None, Some, Result, Ok, Err, inl, inr, refl, sym, ap, subst, ◌∙◌, arith}
 use Rattle.std.specs.List.{list_any}
 use Rattle.std.proofs.lemmas.Bool.{cases_lt}
-use Rattle.std.proofs.lemmas.List.{map-append, length-append, get_or_append_left, get_or-append-add, take-append-le}
+use Rattle.std.proofs.lemmas.List.{map-append}
 use Rattle.std.proofs.lemmas.List.Folds.{list_any-append}
-use Rattle.std.proofs.Math.Seq.{take-length}
 use Rattle.circuits.specs.Matches.{HavePorts, IsMatchOfFunctions}
+use Rattle.circuits.proofs.Expansions.{or_false}
 use Rattle.cnf_core.specs.declared.literal.SatLit.{SatLit}
 use Rattle.cnf_core.specs.declared.log.LogLine.{LogLine}
-use Rattle.cnf_core.specs.Clauses.{Formula}
-use Rattle.cnf_core.specs.Derivations.{is_empty, line_fault, clauses_of, AreDerived}
+use Rattle.cnf_core.specs.Derivations.{is_empty, line_fault}
 use Rattle.net_core.specs.Sides.{Graphs}
 use Rattle.net_core.specs.declared.matching.Matching.{Matching}
 use Rattle.net_core.specs.Graph.{IsGraph}
@@ -19,30 +18,14 @@ use Rattle.query_core.specs.MatchQueries.{match_query}
 use Rattle.query_core.proofs.RefutedLemmas.{match_of_refuted}
 use Rattle.std.specs.Result.{IsErrAnd}
 use Rattle.cnf_core.specs.declared.fault.LineFault.{LineFault}
+use Rattle.cnf_core.proofs.LineLemmas.{derived_more}
 use Rattle.query_core.specs.Queries.{IsQuery}
 use Rattle.refute_check.specs.Refutations.{answer_of}
 use Rattle.account_check.specs.declared.reject.Reject.{Reject}
-use Rattle.account_check.specs.declared.reject.Reject.TheVariants as reject_of
 use Rattle.account_check.specs.declared.reject.RecordStop.{RecordStop}
 use Rattle.account_check.specs.declared.reject.RecordStop.TheVariants as stop
 use Rattle.account_check.specs.Logs.{Proof, match_reject, log_count, log_query, refutation_of}
 use Rattle.account_check.specs.Proofs.{AreRefuted, IsLogSoFar, IsOpen, LogSoFar}
-
--- one more line that is derived
-derived_more : (formula : Formula) (lines : List LogLine) (line : LogLine) → AreDerived formula lines → line_fault formula (clauses_of lines) line ≡ None → AreDerived formula (lines ++ line ∷ [])
-derived_more formula lines line derived none k d below =
-    elim (cases_lt k (length lines)) [
-      | inl before ↦
-          let here = get_or_append_left lines (line ∷ []) d k before in
-          let prior = take-append-le k lines (line ∷ []) (omega arith) in
-          subst (λ l. line_fault formula (clauses_of (take k (lines ++ line ∷ []))) l ≡ None) (sym here) (subst (λ ls. line_fault formula (clauses_of ls) (slice_index_or lines k d) ≡ None) (sym prior) (derived k d before))
-      | inr after ↦
-          let last : k ≡ length lines = omega (arith, below, length-append lines (line ∷ [])) in
-          let end : length lines + 0 ≡ k = omega (arith, last) in
-          let here : slice_index_or (lines ++ line ∷ []) k d ≡ line = ap (λ j. slice_index_or (lines ++ line ∷ []) j d) (sym end) ∙ get_or-append-add lines (line ∷ []) 0 d in
-          let prior : take k (lines ++ line ∷ []) ≡ lines = take-append-le k lines (line ∷ []) (omega arith) ∙ (ap (λ j. take j lines) last ∙ take-length lines) in
-          subst (λ l. line_fault formula (clauses_of (take k (lines ++ line ∷ []))) l ≡ None) (sym here) (subst (λ ls. line_fault formula (clauses_of ls) line ≡ None) (sym prior) none)
-    ]
 
 -- a log with one line more
 pub log_more : (graphs : Graphs) (query : Query) (taken : List (List SatLit)) (line : LogLine) → IsLogSoFar graphs query taken → line_fault (formula_of graphs query) taken line ≡ None → IsLogSoFar graphs query (taken ++ line.clause ∷ [])
@@ -64,11 +47,7 @@ refuted_by graphs query taken so_far closed = record {
 -- whether the empty line is among the lines with one more
 pub empty_more : (taken : List (List SatLit)) (clause : List SatLit) → list_any is_empty taken ≡ false → list_any is_empty (taken ++ clause ∷ []) ≡ is_empty clause
 empty_more taken clause so_far =
-    list_any-append is_empty taken (clause ∷ []) ∙ (ap (λ x. x || list_any is_empty (clause ∷ [])) so_far ∙ last (is_empty clause))
-  where
-    last : (x : Bool) → (x || false) ≡ x
-    last true = refl
-    last false = refl
+    list_any-append is_empty taken (clause ∷ []) ∙ (ap (λ x. x || list_any is_empty (clause ∷ [])) so_far ∙ or_false (is_empty clause))
 
 -- one more log refutes its query
 pub refuted_more : (graphs : Graphs) (matching : Matching) (c : ℕ) → AreRefuted graphs matching c → IsRefuted graphs (log_query graphs matching c) → AreRefuted graphs matching (c + 1)
@@ -126,13 +105,3 @@ handed_on {X} answer error reject is same =
 
 pub failed : {X : Type 0} (a b : RecordStop) → a ≡ b → ◌≡◌ {A = Result X RecordStop} (Err a) (Err b)
 failed {X} a b e = ap (λ (stop : RecordStop). Err stop) e
-
--- the fault that `?` hands on
-pub handed_fault : {X : Type 0} (answer : Result X RecordStop) (found : LineFault) (fault : Option LineFault) (reject : Reject) → answer ≡ Err (stop.Reject reject) → IsErrAnd answer (λ handed. handed ≡ stop.Reject (reject_of.Refutation found)) → Err found ≡ answer_of fault → Some reject ≡ refutation_of fault
-handed_fault {X} answer found fault reject is same told =
-    let rejected : stop.Reject (reject_of.Refutation found) ≡ stop.Reject reject = handed_on answer (stop.Reject (reject_of.Refutation found)) reject is same in
-    by fault rejected told
-  where
-    by : (fault : Option LineFault) → stop.Reject (reject_of.Refutation found) ≡ stop.Reject reject → Err found ≡ answer_of fault → Some reject ≡ refutation_of fault
-    by None rejected told = cc
-    by (Some other) rejected told = cc

@@ -28,7 +28,7 @@ use Rattle.account_check.specs.Conclusions.{AreWhole, ConclusionTests, matching_
 use Rattle.account_check.specs.Logs.{OpenFact, Proof, line_reject, log_count, with_fact, log_query, match_reject, unproved, with_line}
 use Rattle.account_check.specs.Proofs.{AreRefuted, IsLogSoFar}
 use Rattle.account_check.specs.Verdicts.{IsAccepted}
-use Rattle.account_check.proofs.AccountLemmas.{account_after-push, account_graphs}
+use Rattle.account_check.proofs.AccountLemmas.{account_after-push, account_graphs, some_place, no_place}
 use Rattle.account_check.proofs.LogLemmas.{log_begun, log_more, proved, refuted_by, refuted_more}
 use Rattle.account_check.proofs.PairLemmas.{outputs_counted}
 use Rattle.account_check.proofs.RefusalLemmas.{concluded_so}
@@ -177,17 +177,8 @@ fact_stays account (conclusion.Match pairs) e = e
 
 -- how a record leads on
 above : (left : ℕ) → (left == 0) ≡ false → 0 < left
-above zero e = absurd (true_false e)
-  where
-    true_false : true ≡ false → ⊥
-    true_false e = cc
+above zero e = cc
 above (suc left) e = omega arith
-
-some_place : (p q : Place) → Some p ≡ Some q → p ≡ q
-some_place p q e = cc
-
-no_place : (p : Place) → None ≡ Some p → ⊥
-no_place p e = cc
 
 known_there : (p q : Place) (account : Account) → Some p ≡ Some q → IsKnownAt p account → IsKnownAt q account
 known_there p q account e known = subst (λ (r : Place). IsKnownAt r account) (some_place p q e) known
@@ -215,32 +206,13 @@ known_after (place.Logs left) account entry_of.End next known fine e =
     by true zero_left e =
         known_there place.Ended next account e (subst (λ n. IsMatchSoFar account n) (eqb-true left 0 zero_left) known.1)
     by false some_left e = absurd (no_place next e)
-known_after place.Start account (entry_of.Fact _) next known fine e = absurd (no_place next e)
-known_after place.Start account (entry_of.Line line) next known fine e = absurd (no_place next e)
-known_after place.Start account (entry_of.Ban ban) next known fine e = absurd (no_place next e)
-known_after place.Start account (entry_of.Conclusion x) next known fine e = absurd (no_place next e)
-known_after place.Start account entry_of.End next known fine e = absurd (no_place next e)
-known_after place.Headed account entry_of.Header next known fine e = absurd (no_place next e)
-known_after place.Headed account (entry_of.Line line) next known fine e = absurd (no_place next e)
-known_after place.Headed account entry_of.End next known fine e = absurd (no_place next e)
-known_after place.FactLog account entry_of.Header next known fine e = absurd (no_place next e)
-known_after place.FactLog account (entry_of.Fact _) next known fine e = absurd (no_place next e)
-known_after place.FactLog account (entry_of.Ban ban) next known fine e = absurd (no_place next e)
-known_after place.FactLog account (entry_of.Conclusion x) next known fine e = absurd (no_place next e)
-known_after place.FactLog account entry_of.End next known fine e = absurd (no_place next e)
-known_after (place.Logs left) account entry_of.Header next known fine e = absurd (no_place next e)
-known_after (place.Logs left) account (entry_of.Fact _) next known fine e = absurd (no_place next e)
-known_after (place.Logs left) account (entry_of.Ban ban) next known fine e = absurd (no_place next e)
-known_after (place.Logs left) account (entry_of.Conclusion x) next known fine e = absurd (no_place next e)
-known_after place.Ended account entry next known fine e = absurd (no_place next e)
+known_after at account entry next known fine e = absurd (no_place next e)
 
 -- what is known stays so wherever the account is put
 placed : (at : Place) (account : Account) (place : Place) → IsKnownAt at account → IsKnownAt at (record account { place = place })
-placed place.Start account elsewhere known = known
-placed place.Headed account elsewhere known = known
-placed place.FactLog account elsewhere known = known
 placed (place.Logs left) account elsewhere known = (known.0, record { same = known.1.same; logs = known.1.logs })
 placed place.Ended account elsewhere known = record { same = known.same; logs = known.logs }
+placed at account elsewhere known = known
 
 -- an account after valid records, where it stands
 known_first : (graphs : Graphs) (records : List Record) (n : ℕ) (at : Place) → AreValid graphs records → n ≤ length records → place_after (take n records) ≡ Some at → IsKnownAt at (account_after graphs (take n records))

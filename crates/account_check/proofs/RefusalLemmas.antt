@@ -14,11 +14,8 @@ use Rattle.account_check.proofs.RightLemmas.{right_records}
 
 -- an account's verdict is its conclusion
 pub concluded_so : (place : Place) (concluded : Option Verdict) (told : Verdict) → verdict_at place concluded ≡ Some told → concluded ≡ Some told
-concluded_so place.Start concluded told e = cc
-concluded_so place.Headed concluded told e = cc
-concluded_so place.FactLog concluded told e = cc
-concluded_so (place.Logs left) concluded told e = cc
 concluded_so place.Ended concluded told e = e
+concluded_so other concluded told e = cc
 
 pub right_refusal : (graphs : Graphs) (bytes : List ℕ) → IsGraph graphs.first → IsGraph graphs.second → IsAccepted graphs bytes verdict.None → HaveNoMatch graphs
 right_refusal graphs bytes first second accepted =

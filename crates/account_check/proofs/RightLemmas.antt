@@ -9,7 +9,6 @@ use Rattle.cnf_core.specs.declared.fault.LineFault.{LineFault}
 use Rattle.cnf_core.specs.declared.literal.SatLit.{SatLit}
 use Rattle.cnf_core.specs.declared.log.LogLine.{LogLine}
 use Rattle.cnf_core.specs.Derivations.{is_empty}
-use Rattle.cnf_core.proofs.DerivationLaws.{refuted_unmet}
 use Rattle.net_core.specs.Sides.{Graphs}
 use Rattle.net_core.specs.declared.matching.Matching.{Matching}
 use Rattle.net_core.specs.Graph.{IsGraph}
@@ -17,13 +16,11 @@ use Rattle.net_core.specs.Sides.{graph_of}
 use Rattle.query_core.specs.declared.claims.Claim.{Claim}
 use Rattle.query_core.specs.declared.claims.Shape.{Shape}
 use Rattle.query_core.specs.declared.claims.Shape.TheVariants.{Up, Down, Swap}
-use Rattle.query_core.specs.declared.query.Query.{Query}
 use Rattle.query_core.specs.Claims.{Breaks, Holds, IsClaim, IsPlaced}
 use Rattle.query_core.specs.ClaimQueries.{claim_query}
-use Rattle.query_core.specs.Formulas.{formula_of, IsRefuted}
-use Rattle.query_core.specs.Queries.{IsUnmet}
-use Rattle.query_core.proofs.AssignmentLemmas.{assignment_there}
+use Rattle.query_core.specs.Formulas.{IsRefuted}
 use Rattle.query_core.proofs.ClaimQueryLemmas.{claim_query_fits, holds-unmet}
+use Rattle.query_core.proofs.RefutedLemmas.{unmet}
 use Rattle.account_core.specs.declared.conclusion.Conclusion.{Conclusion}
 use Rattle.account_core.specs.declared.conclusion.Conclusion.TheVariants as conclusion
 use Rattle.account_core.specs.declared.fact.FactHead.TheVariants as head
@@ -80,12 +77,6 @@ ban_passed graphs given ban tests =
     let rule = through names.1 in
     let shown = through rule.1 in
     record { known = known.0; ordered = ordered.0; names = names.0; rule = rule.0; shown = shown.0 }
-
--- a claim whose query is refuted holds
-unmet : (graphs : Graphs) (query : Query) → IsGraph graphs.first → IsGraph graphs.second → IsRefuted graphs query → IsUnmet graphs query
-unmet graphs query first second refuted x same meets =
-    let there = assignment_there graphs query x first second refuted.fits same meets in
-    refuted_unmet (formula_of graphs query) refuted.lines there.0 refuted.refuted there.1
 
 shown : (graphs : Graphs) (claim : Claim) → IsGraph graphs.first → IsGraph graphs.second → IsRefuted graphs (claim_query graphs claim) → Holds graphs claim
 shown graphs claim first second refuted = (holds-unmet graphs claim).1 (unmet graphs (claim_query graphs claim) first second refuted)
@@ -172,14 +163,10 @@ right_line account (Some fact) line first second right being none =
       refused = right.refused;
     }
 
--- a valid ban excludes its pairs
-valid_excludes : (graphs : Graphs) (given : Given) (ban : Ban) → IsGraph graphs.first → IsGraph graphs.second → AreRight graphs given → IsValidBan graphs given ban → Excludes graphs ban.pairs
-valid_excludes = ban_contradicts
-
 -- a ban
 right_ban : (account : Account) (ban : Ban) → IsGraph account.graphs.first → IsGraph account.graphs.second → IsRight account → BanTests account.graphs account.given ban None → IsRight (with_record account (entry_of.Ban ban))
 right_ban account ban first second right tests = record {
-  given = ban_more account.graphs account.given ban.pairs right.given (valid_excludes account.graphs account.given ban first second right.given (ban_passed account.graphs account.given ban tests));
+  given = ban_more account.graphs account.given ban.pairs right.given (ban_contradicts account.graphs account.given ban first second right.given (ban_passed account.graphs account.given ban tests));
   fact = right.fact;
   refused = right.refused;
 }

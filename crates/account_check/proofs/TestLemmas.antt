@@ -12,7 +12,7 @@ one_unless Test reject Behind one a b (inl first) (inr second) = absurd (first.0
 one_unless Test reject Behind one a b (inr first) (inl second) = absurd (second.0 first.0)
 one_unless Test reject Behind one a b (inr first) (inr second) = one a b first.1 second.1
 
-some_none : {r : Reject} → None ≡ Some r → ⊥
+pub some_none : {r : Reject} → None ≡ Some r → ⊥
 some_none {r} e = cc
 
 -- where no fault is told, the test is passed, and so are those after it

@@ -1,5 +1,5 @@
 -- The verdict of an account's bytes is one, and each step of the check tells it.
-use Rattle.std.proofs.Common.{◌≡◌, ◌≢◌, ℕ, zero, suc, ◌+◌, ◌<◌, ◌≤◌, true, List, [], ◌∷◌, ◌++◌, length, get_or, take, slice_index_or, Option, None, Some, Result, Ok, Err, refl, sym, ap, subst, ◌∙◌, arith, inl, inr, length-append, length-take, take-suc, take-take, take_all}
+use Rattle.std.proofs.Common.{◌≡◌, ◌≢◌, ℕ, suc, ◌+◌, ◌<◌, ◌≤◌, true, List, [], ◌∷◌, ◌++◌, length, get_or, take, slice_index_or, Option, None, Some, Result, Ok, Err, refl, sym, ap, subst, ◌∙◌, arith, inl, inr, length-append, length-take, take-suc, take-take, take_all}
 use Rattle.std.specs.List.{AllZip}
 use Rattle.std.proofs.lemmas.Bool.{cases_lt}
 use Rattle.std.proofs.lemmas.List.{get_or_append_left, get_or-append-add, take-append-le}
@@ -10,7 +10,7 @@ use Rattle.account_file.specs.declared.record.Record.TheVariants as record_of
 use Rattle.account_file.specs.declared.fault.RecordFault.{RecordFault}
 use Rattle.account_file.specs.Lines.{whole_lines}
 use Rattle.account_file.specs.Accounts.{AreRecords, HasForm, IsAccountOf, IsNextRecord}
-use Rattle.account_file.proofs.LawLemmas.{as_many, one_answer, same_records}
+use Rattle.account_file.proofs.LawLemmas.{as_many, one_answer, same_records, forms_of_front}
 use Rattle.account_file.proofs.OrderLemmas.{take_in_order}
 use Rattle.account_check.specs.declared.reject.Reject.{Reject}
 use Rattle.account_check.specs.declared.verdict.Verdict.{Verdict}
@@ -39,17 +39,9 @@ valid_more graphs records entry valid fine k d below =
           subst (λ e. HasFault (account_after graphs (take k (records ++ entry ∷ []))) e None) (sym here) (subst (λ rs. HasFault (account_after graphs rs) entry None) (sym prior) fine)
     ]
 
--- the first records of lines
-front_forms : (lines : List (List ℕ)) (records : List Record) (k : ℕ) → AllZip HasForm lines records → AllZip HasForm (take k lines) (take k records)
-front_forms lines records zero z = tt
-front_forms [] [] (suc k) z = tt
-front_forms [] (e ∷ es) (suc k) z = absurd z
-front_forms (line ∷ lines) [] (suc k) z = absurd z
-front_forms (line ∷ lines) (e ∷ es) (suc k) z = (z.0, front_forms lines es k z.1)
-
 pub front_records : (lines : List (List ℕ)) (records : List Record) (k n : ℕ) → AreRecords (take n lines) records → k ≤ n → AreRecords (take k lines) (take k records)
 front_records lines records k n are few = record {
-  form = subst (λ l. AllZip HasForm l (take k records)) (take-take k n lines few) (front_forms (take n lines) records k are.form);
+  form = subst (λ l. AllZip HasForm l (take k records)) (take-take k n lines few) (forms_of_front (take n lines) records k are.form);
   order = take_in_order k records are.order;
 }
 

@@ -107,11 +107,8 @@ AreValid graphs records = EachAt (λ k entry. HasFault (account_after graphs (ta
 
 -- the verdict of an account: none before its end
 abbrev pub verdict_at : Place → Option Verdict → Option Verdict
-verdict_at place.Start concluded = None
-verdict_at place.Headed concluded = None
-verdict_at place.FactLog concluded = None
-verdict_at (place.Logs left) concluded = None
 verdict_at place.Ended concluded = concluded
+verdict_at other concluded = None
 
 abbrev pub verdict_of : Account → Option Verdict
 verdict_of account = verdict_at account.place account.concluded

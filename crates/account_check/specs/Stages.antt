@@ -21,40 +21,26 @@ place_of stage.Refused = place.Ended
 
 -- the fact whose log is open
 abbrev pub fact_of : Stage → Option OpenFact
-fact_of stage.Empty = None
-fact_of stage.Begun = None
 fact_of (stage.Showing log) = Some log.fact
-fact_of (stage.Proving logs) = None
-fact_of stage.Refusing = None
-fact_of (stage.Proved logs) = None
-fact_of stage.Refused = None
+fact_of other = None
 
 -- the match that the account concludes in
 abbrev pub proof_of : Stage → Proof
-proof_of stage.Empty = nothing
-proof_of stage.Begun = nothing
-proof_of (stage.Showing log) = nothing
 proof_of (stage.Proving logs) = logs.proof
-proof_of stage.Refusing = nothing
 proof_of (stage.Proved logs) = logs.proof
-proof_of stage.Refused = nothing
+proof_of other = nothing
 
 -- the conclusion
 abbrev pub concluded_of : Stage → Option Verdict
-concluded_of stage.Empty = None
-concluded_of stage.Begun = None
-concluded_of (stage.Showing log) = None
 concluded_of (stage.Proving logs) = Some (verdict.Match logs.proof.matching)
 concluded_of stage.Refusing = Some verdict.None
 concluded_of (stage.Proved logs) = Some (verdict.Match logs.proof.matching)
 concluded_of stage.Refused = Some verdict.None
+concluded_of other = None
 
 -- What is kept of an account: logs are of its two circuits, and at the end all logs of a match are closed.
 abbrev pub IsStage : Graphs → Stage → Type 0
-IsStage graphs stage.Empty = Unit {0}
-IsStage graphs stage.Begun = Unit {0}
 IsStage graphs (stage.Showing log) = log.graphs ≡ graphs
 IsStage graphs (stage.Proving logs) = logs.graphs ≡ graphs
-IsStage graphs stage.Refusing = Unit {0}
 IsStage graphs (stage.Proved logs) = (logs.graphs ≡ graphs) × (logs.proof.closed ≡ log_count logs.proof.matching)
-IsStage graphs stage.Refused = Unit {0}
+IsStage graphs other = Unit {0}

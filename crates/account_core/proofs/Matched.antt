@@ -1,5 +1,5 @@
 -- What a match that extends pairs says of them.
-use Rattle.std.proofs.Common.{◌≡◌, ℕ, suc, ◌<◌, Bool, true, false, eqb, List, [], ◌∷◌, length, slice_index_or, Some, refl, sym, ap, subst, ◌∙◌, inl, inr, arith, eqb-true}
+use Rattle.std.proofs.Common.{◌≡◌, ℕ, suc, ◌<◌, Bool, false, eqb, List, [], ◌∷◌, length, slice_index_or, Some, sym, ap, subst, ◌∙◌, inl, inr, arith, eqb-true}
 use Rattle.std.specs.Prelude.{Contains, find}
 use Rattle.std.proofs.lemmas.Bool.{cases_Bool, cases_order, and_parts, cond-true, cond-false}
 use Rattle.std.proofs.lemmas.Option.{same_Some}
@@ -10,6 +10,7 @@ use Rattle.circuits.specs.Netlists.{Net}
 use Rattle.circuits.specs.Bijections.{IsSignedBijection, place_of, sign_of}
 use Rattle.circuits.specs.Matches.{IsMatchOfFunctions}
 use Rattle.query_core.specs.Images.{HasPair, entries_of, same_kind, is_of, pair_of}
+pub use Rattle.query_core.proofs.ImageLemmas.{kind_is}
 use Rattle.account_core.specs.Ports.{ports_in, Clash}
 
 -- the ports of each kind are as many, and go to one another by a signed bijection
@@ -62,12 +63,6 @@ no_clash first second p q one other match has_one has_other clash =
         let build : PortKind → ℕ → ℕ × Bool → Pair = λ kind from entry. record { kind = kind; from = from; to = entry.0; flip = entry.1 } in
         ap (λ kind. build kind one.from (one.to, one.flip)) clash.same_kind
         ∙ (ap (λ from. build other.kind from (one.to, one.flip)) same ∙ ap (build other.kind other.from) entry)
-
-pub kind_is : (one other : PortKind) → same_kind one other ≡ true → one ≡ other
-kind_is Input Input is = refl
-kind_is Input Output is = cc
-kind_is Output Input is = cc
-kind_is Output Output is = refl
 
 -- the pair that a port has is in the list, and is the port's
 pub pair_of-held : (pairs : List Pair) (kind : PortKind) (port : ℕ) (pair : Pair) → pair_of pairs kind port ≡ Some pair → Contains pairs pair × (pair.kind ≡ kind) × (pair.from ≡ port)

@@ -9,6 +9,7 @@ use Rattle.std.proofs.lemmas.List.{length-map}
 use Rattle.std.proofs.lemmas.Map.Keys.{IsDistinct-cons}
 use Rattle.std.proofs.lemmas.Map.Made.{IsDistinct-from_AllPairs}
 use Rattle.std.proofs.lemmas.Map.Steps.{length-le_from_distinct_below}
+use Rattle.circuits.proofs.LevelOrders.{Contains-from_any}
 
 -- a number of xs, and where it goes in ys
 abbrev pub Meets : (ℕ → ℕ) → List ℕ → List ℕ → Type 0
@@ -18,19 +19,11 @@ Meets f xs ys = (x : ℕ) × Contains xs x × Contains ys (f x)
 abbrev pub Misses : (ℕ → ℕ) → List ℕ → List ℕ → Type 0
 Misses f xs ys = (k : ℕ) → k < length xs → list_any (eqb (f (get_or xs k 0))) ys ≡ false
 
-contains_any : (y : ℕ) (ys : List ℕ) → list_any (eqb y) ys ≡ true → Contains ys y
-contains_any y [] any = cc
-contains_any y (z ∷ ys) any =
-    elim (or_cases (eqb y z) (list_any (eqb y) ys) any) [
-      | inl e ↦ (0, omega arith, sym (eqb-true y z e))
-      | inr e ↦ let later = contains_any y ys e in (suc later.0, omega (arith, later.1), later.2)
-    ]
-
 meets_or_misses : (f : ℕ → ℕ) (xs ys : List ℕ) → Meets f xs ys ⊎ Misses f xs ys
 meets_or_misses f [] ys = inr (λ k h. absurd (omega arith))
 meets_or_misses f (x ∷ xs) ys =
     elim (cases_Bool (list_any (eqb (f x)) ys)) [
-      | inl e ↦ inl (x, (0, omega arith, refl), contains_any (f x) ys e)
+      | inl e ↦ inl (x, (0, omega arith, refl), Contains-from_any (f x) ys e)
       | inr e ↦
           elim (meets_or_misses f xs ys) [
             | inl found ↦ inl (found.0, (suc found.1.0, omega (arith, found.1.1), found.1.2), found.2)

@@ -10,7 +10,7 @@ use Rattle.account_file.specs.declared.record.Record.TheVariants as record_of
 use Rattle.account_file.specs.declared.fault.RecordFault.{RecordFault}
 use Rattle.account_file.specs.declared.fault.RecordFault.TheVariants as fault
 use Rattle.account_file.specs.declared.place.Place.{Place}
-use Rattle.account_file.specs.declared.place.Place.TheVariants.{Start, Headed, FactLog, Logs, Ended}
+use Rattle.account_file.specs.declared.place.Place.TheVariants.{Start, Headed, Ended}
 use Rattle.account_file.specs.declared.next_record.NextRecord.{NextRecord}
 use Rattle.account_file.specs.declared.next_record.NextRecord.TheVariants.{Wait, Read, Refuse}
 use Rattle.account_file.specs.Forms.{record_in}
@@ -94,10 +94,8 @@ later_says place line later open' (Ok entry) e = by (next_place place entry) ref
 
 pub next_at_line_says : (place : Place) (line : List ℕ) → NextSays place line (next_at_line place line)
 next_at_line_says Start line = header_says line
-next_at_line_says Headed line = later_says Headed line (λ e. cc) (λ e. cc) (record_in (words_of line)) refl
-next_at_line_says FactLog line = later_says FactLog line (λ e. cc) (λ e. cc) (record_in (words_of line)) refl
-next_at_line_says (Logs logs) line = later_says (Logs logs) line (λ e. cc) (λ e. cc) (record_in (words_of line)) refl
 next_at_line_says Ended line = refl
+next_at_line_says place line = later_says place line (λ e. cc) (λ e. cc) (record_in (words_of line)) refl
 
 -- the fault of a line by where the account stands, and by the records before it
 pub fault_there : (before : List Record) (place : Place) (line : List ℕ) (fault : RecordFault) → place_after before ≡ Some place → LineFault before line fault → FaultThere place line fault

@@ -6,7 +6,6 @@ use Rattle.std.proofs.Math.Seq.{get_or-append_seam, take-append_seam}
 use Rattle.std.proofs.lemmas.Bool.{cases_lt, false≢true}
 use Rattle.std.proofs.lemmas.Slice.Zip.{all_zipped_more}
 use Rattle.std.proofs.lemmas.Slice.Eq.{bytes_eq-Decides}
-use Rattle.account_core.specs.declared.fact.FactHead.TheVariants.{Fails, Holds}
 use Rattle.account_file.specs.declared.record.Record.{Record}
 use Rattle.account_file.specs.declared.record.Record.TheVariants as record_of
 use Rattle.account_file.specs.declared.fault.RecordFault.{RecordFault}
@@ -53,7 +52,7 @@ form_at (line ∷ lines) [] k z below = absurd z
 form_at (line ∷ lines) (e ∷ es) zero z below = z.0
 form_at (line ∷ lines) (e ∷ es) (suc k) z below = form_at lines es k z.1 (omega (arith, below))
 
-forms_of_front : (lines : List (List ℕ)) (records : List Record) (k : ℕ) → AllZip HasForm lines records → AllZip HasForm (take k lines) (take k records)
+pub forms_of_front : (lines : List (List ℕ)) (records : List Record) (k : ℕ) → AllZip HasForm lines records → AllZip HasForm (take k lines) (take k records)
 forms_of_front lines records zero z = tt
 forms_of_front [] [] (suc k) z = tt
 forms_of_front [] (e ∷ es) (suc k) z = absurd z
@@ -61,15 +60,6 @@ forms_of_front (line ∷ lines) [] (suc k) z = absurd z
 forms_of_front (line ∷ lines) (e ∷ es) (suc k) z = (z.0, forms_of_front lines es k z.1)
 
 -- what the code does at a line that has a record's form, or a fault
-
-nothing_after_end : (entry : Record) (after : Place) → next_place Ended entry ≡ Some after → ⊥
-nothing_after_end record_of.Header after e = cc
-nothing_after_end (record_of.Fact (Fails claim bits)) after e = cc
-nothing_after_end (record_of.Fact (Holds claim)) after e = cc
-nothing_after_end (record_of.Line line) after e = cc
-nothing_after_end (record_of.Ban ban) after e = cc
-nothing_after_end (record_of.Conclusion conclusion) after e = cc
-nothing_after_end record_of.End after e = cc
 
 header_line : (line : List ℕ) → line ≡ codes "npnp 1" → bytes_eq line (codes "npnp 1") ≡ true
 header_line line same = (bytes_eq-Decides line (codes "npnp 1")).1 same
@@ -88,54 +78,26 @@ said_record Start line record_of.Header after form e =
     let headed : Headed ≡ after = cc in
     ap (λ b. next_from (length line + 1) (cond b (Ok (record_of.Header, Headed)) (Err fault.Header))) (header_line line same)
     ∙ ap (λ p. Read record_of.Header p (length line + 1)) headed
-said_record Start line (record_of.Fact (Fails claim bits)) after form e = cc
-said_record Start line (record_of.Fact (Holds claim)) after form e = cc
-said_record Start line (record_of.Line l) after form e = cc
-said_record Start line (record_of.Ban ban) after form e = cc
-said_record Start line (record_of.Conclusion c) after form e = cc
-said_record Start line record_of.End after form e = cc
-said_record Headed line entry after form e =
-    ap (λ r. next_from (length line + 1) (in_place Headed r)) (form_is_read line entry form) ∙ ap (λ p. next_from (length line + 1) (placed entry p)) e
-said_record FactLog line entry after form e =
-    ap (λ r. next_from (length line + 1) (in_place FactLog r)) (form_is_read line entry form) ∙ ap (λ p. next_from (length line + 1) (placed entry p)) e
-said_record (Logs logs) line entry after form e =
-    ap (λ r. next_from (length line + 1) (in_place (Logs logs) r)) (form_is_read line entry form) ∙ ap (λ p. next_from (length line + 1) (placed entry p)) e
-said_record Ended line entry after form e = absurd (nothing_after_end entry after e)
+said_record Start line entry after form e = cc
+said_record Ended line entry after form e = cc
+said_record place line entry after form e =
+    ap (λ r. next_from (length line + 1) (in_place place r)) (form_is_read line entry form) ∙ ap (λ p. next_from (length line + 1) (placed entry p)) e
 
 said_fault : (place : Place) (line : List ℕ) (fault : RecordFault) → FaultThere place line fault → next_at_line place line ≡ Refuse fault
 said_fault Start line fault.Header h = ap (λ b. next_from (length line + 1) (cond b (Ok (record_of.Header, Headed)) (Err fault.Header))) (other_line line h.1)
-said_fault Start line fault.Word h = absurd (h.0 refl)
-said_fault Start line fault.Number h = absurd (h.0 refl)
-said_fault Start line fault.Order h = absurd (h.0 refl)
 said_fault Start line fault.Truncated h = absurd h
 said_fault Start line fault.Trailing h = cc
-said_fault Headed line fault.Header h = let e = h.0 in cc
-said_fault Headed line fault.Word h = ap (λ r. next_from (length line + 1) (in_place Headed r)) h.2
-said_fault Headed line fault.Number h = ap (λ r. next_from (length line + 1) (in_place Headed r)) h.2
-said_fault Headed line fault.Order h =
-    ap (λ r. next_from (length line + 1) (in_place Headed r)) (form_is_read line h.2.0 h.2.1) ∙ ap (λ p. next_from (length line + 1) (placed h.2.0 p)) h.2.2
-said_fault Headed line fault.Truncated h = absurd h
-said_fault Headed line fault.Trailing h = cc
-said_fault FactLog line fault.Header h = let e = h.0 in cc
-said_fault FactLog line fault.Word h = ap (λ r. next_from (length line + 1) (in_place FactLog r)) h.2
-said_fault FactLog line fault.Number h = ap (λ r. next_from (length line + 1) (in_place FactLog r)) h.2
-said_fault FactLog line fault.Order h =
-    ap (λ r. next_from (length line + 1) (in_place FactLog r)) (form_is_read line h.2.0 h.2.1) ∙ ap (λ p. next_from (length line + 1) (placed h.2.0 p)) h.2.2
-said_fault FactLog line fault.Truncated h = absurd h
-said_fault FactLog line fault.Trailing h = cc
-said_fault (Logs logs) line fault.Header h = let e = h.0 in cc
-said_fault (Logs logs) line fault.Word h = ap (λ r. next_from (length line + 1) (in_place (Logs logs) r)) h.2
-said_fault (Logs logs) line fault.Number h = ap (λ r. next_from (length line + 1) (in_place (Logs logs) r)) h.2
-said_fault (Logs logs) line fault.Order h =
-    ap (λ r. next_from (length line + 1) (in_place (Logs logs) r)) (form_is_read line h.2.0 h.2.1) ∙ ap (λ p. next_from (length line + 1) (placed h.2.0 p)) h.2.2
-said_fault (Logs logs) line fault.Truncated h = absurd h
-said_fault (Logs logs) line fault.Trailing h = cc
+said_fault Start line other h = absurd (h.0 refl)
 said_fault Ended line fault.Header h = let e = h.0 in cc
-said_fault Ended line fault.Word h = absurd (h.1 refl)
-said_fault Ended line fault.Number h = absurd (h.1 refl)
-said_fault Ended line fault.Order h = absurd (h.1 refl)
 said_fault Ended line fault.Truncated h = absurd h
 said_fault Ended line fault.Trailing h = refl
+said_fault Ended line other h = absurd (h.1 refl)
+said_fault place line fault.Header h = let e = h.0 in cc
+said_fault place line fault.Order h =
+    ap (λ r. next_from (length line + 1) (in_place place r)) (form_is_read line h.2.0 h.2.1) ∙ ap (λ p. next_from (length line + 1) (placed h.2.0 p)) h.2.2
+said_fault place line fault.Truncated h = absurd h
+said_fault place line fault.Trailing h = cc
+said_fault place line other h = ap (λ r. next_from (length line + 1) (in_place place r)) h.2
 
 -- what is read at a line after records
 line_next : (before : List Record) (place : Place) (line : List ℕ) (entry : Record) → place_after before ≡ Some place → HasForm line entry → MayStand before entry
@@ -169,12 +131,9 @@ same_end_fault before rest fault.Truncated fault.Truncated f s = refl
 same_end_fault before rest fault.Truncated fault.Trailing f s = absurd (f s.0)
 same_end_fault before rest fault.Trailing fault.Truncated f s = absurd (s f.0)
 same_end_fault before rest fault.Trailing fault.Trailing f s = refl
-same_end_fault before rest fault.Header second f s = absurd f
-same_end_fault before rest fault.Word second f s = absurd f
-same_end_fault before rest fault.Number second f s = absurd f
-same_end_fault before rest fault.Order second f s = absurd f
 same_end_fault before rest fault.Truncated second f s = absurd s
 same_end_fault before rest fault.Trailing second f s = absurd s
+same_end_fault before rest other second f s = absurd f
 
 -- After the lines of some records stands the line of another, which may stand there.
 record IsNext (lines : List (List ℕ)) (before : List Record) (entry : Record) : Type 0 where

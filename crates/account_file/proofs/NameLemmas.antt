@@ -1,5 +1,6 @@
 -- Words that are names or bits: as they are written they are read.
-use Rattle.std.proofs.Common.{◌≡◌, ℕ, ◌<◌, eqb, Bool, true, false, cond, codes, List, [], ◌∷◌, map, Result, Ok, Err, refl, sym, ap, ◌∙◌, arith}
+use Rattle.std.proofs.Common.{◌≡◌, ℕ, ◌<◌, eqb, ltb, Bool, true, false, cond, codes, List, [], ◌∷◌, map, Result, Ok, Err, refl, sym, ap, subst, ◌∙◌, arith}
+use Rattle.std.specs.List.{list_all}
 use Rattle.std.specs.Str.{bytes_eq}
 use Rattle.std.proofs.lemmas.Bool.{eqb-true}
 use Rattle.std.proofs.lemmas.List.Elements.{All-nil, All-cons}
@@ -45,29 +46,30 @@ table_faults {X} (row ∷ rows) word fault e = by (bytes_eq word row.0) e (λ re
     by true e more = absurd (let clash : ⊥ = cc in clash)
     by false e more = more e
 
-table_word : {X : Type 0} (row : List ℕ × X) (rows : List (List ℕ × X)) → look_up (row ∷ rows) (codes "0") ≡ Err Word → IsWord (look_up (row ∷ rows))
-table_word {X} row rows zero =
-    plain_word (look_up (row ∷ rows)) row.0 row.1 (ap (λ b. cond b (Ok row.1) (look_up rows row.0)) ((bytes_eq-Decides row.0 row.0).1 refl))
-    (λ word fault e. table_faults (row ∷ rows) word fault e) zero
+table_word : {X : Type 0} (rows : List (List ℕ × X)) (word : List ℕ) (x : X) → look_up rows word ≡ Ok x → look_up rows (codes "0") ≡ Err Word → IsWord (look_up rows)
+table_word {X} rows word x some zero = plain_word (look_up rows) word x some (table_faults rows) zero
 
-abbrev pub AreNames : {X : Type 0} → (X → List ℕ) → List (List ℕ × X) → Type 0
+-- each row has the name of its value, which has no blank and no control
+abbrev AreNames : {X : Type 0} → (X → List ℕ) → List (List ℕ × X) → Type 0
 AreNames {X} spell [] = Unit {0}
-AreNames {X} spell (row ∷ rows) = (row.0 ≡ spell row.1) × AreNames spell rows
+AreNames {X} spell (row ∷ rows) = (row.0 ≡ spell row.1) × (list_all (λ byte. ltb 32 byte) row.0 ≡ true) × AreNames spell rows
 
-table_written : {X : Type 0} (rows : List (List ℕ × X)) (spell : X → List ℕ) → AreNames spell rows → (word : List ℕ) (x : X) → look_up rows word ≡ Ok x → word ≡ spell x
+table_written : {X : Type 0} (rows : List (List ℕ × X)) (spell : X → List ℕ) → AreNames spell rows → (word : List ℕ) (x : X) → look_up rows word ≡ Ok x → (word ≡ spell x) × IsVisible word
 table_written {X} [] spell all word x e = absurd (let clash : ⊥ = cc in clash)
-table_written {X} (row ∷ rows) spell all word x e = by (bytes_eq word row.0) refl e (λ rest. table_written rows spell all.1 word x rest)
+table_written {X} (row ∷ rows) spell all word x e = by (bytes_eq word row.0) refl e (λ rest. table_written rows spell all.2 word x rest)
   where
-    by : (b : Bool) → bytes_eq word row.0 ≡ b → cond b (Ok row.1) (look_up rows word) ≡ Ok x → (look_up rows word ≡ Ok x → word ≡ spell x) → word ≡ spell x
-    by true is e more = let same : row.1 ≡ x = cc in (bytes_eq-Decides word row.0).0 is ∙ all.0 ∙ ap spell same
+    by : (b : Bool) → bytes_eq word row.0 ≡ b → cond b (Ok row.1) (look_up rows word) ≡ Ok x → (look_up rows word ≡ Ok x → (word ≡ spell x) × IsVisible word) → (word ≡ spell x) × IsVisible word
+    by true is e more =
+        let here = (bytes_eq-Decides word row.0).0 is in
+        let same : row.1 ≡ x = cc in
+        (here ∙ all.0 ∙ ap spell same, subst IsVisible (sym here) (shown row.0 all.1))
     by false is e more = more e
 
-table_spelled : {X : Type 0} (rows : List (List ℕ × X)) (spell : X → List ℕ) → AreNames spell rows → ((x : X) → look_up rows (spell x) ≡ Ok x) → ((x : X) → IsVisible (spell x))
-    → IsSpelled (look_up rows) spell Any
-table_spelled {X} rows spell all back visible = record {
-  written = λ word x e. (table_written rows spell all word x e, tt);
+table_spelled : {X : Type 0} (rows : List (List ℕ × X)) (spell : X → List ℕ) → AreNames spell rows → ((x : X) → look_up rows (spell x) ≡ Ok x) → IsSpelled (look_up rows) spell Any
+table_spelled {X} rows spell all back = record {
+  written = λ word x e. ((table_written rows spell all word x e).0, tt);
   back = λ x fit. back x;
-  visible = λ x fit. visible x;
+  visible = λ x fit. (table_written rows spell all (spell x) x (back x)).1;
 }
 
 -- which circuit
@@ -76,18 +78,14 @@ abbrev sides : List (List ℕ × Side)
 sides = (codes "a", First) ∷ (codes "b", Second) ∷ []
 
 pub side_is_word : IsWord side_of
-side_is_word = table_word (codes "a", First) ((codes "b", Second) ∷ []) refl
+side_is_word = table_word sides (codes "a") First refl refl
 
 pub side_spelled : IsSpelled side_of side_word Any
-side_spelled = table_spelled sides side_word (refl, (refl, tt)) back visible
+side_spelled = table_spelled sides side_word (refl, refl, (refl, refl, tt)) back
   where
     back : (x : Side) → side_of (side_word x) ≡ Ok x
     back First = refl
     back Second = refl
-
-    visible : (x : Side) → IsVisible (side_word x)
-    visible First = shown (codes "a") refl
-    visible Second = shown (codes "b") refl
 
 -- which ports
 
@@ -95,18 +93,14 @@ abbrev kinds : List (List ℕ × PortKind)
 kinds = (codes "in", Input) ∷ (codes "out", Output) ∷ []
 
 pub kind_is_word : IsWord kind_of
-kind_is_word = table_word (codes "in", Input) ((codes "out", Output) ∷ []) refl
+kind_is_word = table_word kinds (codes "in") Input refl refl
 
 pub kind_spelled : IsSpelled kind_of kind_word Any
-kind_spelled = table_spelled kinds kind_word (refl, (refl, tt)) back visible
+kind_spelled = table_spelled kinds kind_word (refl, refl, (refl, refl, tt)) back
   where
     back : (x : PortKind) → kind_of (kind_word x) ≡ Ok x
     back Input = refl
     back Output = refl
-
-    visible : (x : PortKind) → IsVisible (kind_word x)
-    visible Input = shown (codes "in") refl
-    visible Output = shown (codes "out") refl
 
 -- what is counted
 
@@ -114,18 +108,14 @@ abbrev tallies : List (List ℕ × Tallied)
 tallies = (codes "support", Support) ∷ (codes "binate", Binate) ∷ []
 
 pub tallied_is_word : IsWord tallied_of
-tallied_is_word = table_word (codes "support", Support) ((codes "binate", Binate) ∷ []) refl
+tallied_is_word = table_word tallies (codes "support") Support refl refl
 
 pub tallied_spelled : IsSpelled tallied_of tallied_word Any
-tallied_spelled = table_spelled tallies tallied_word (refl, (refl, tt)) back visible
+tallied_spelled = table_spelled tallies tallied_word (refl, refl, (refl, refl, tt)) back
   where
     back : (x : Tallied) → tallied_of (tallied_word x) ≡ Ok x
     back Support = refl
     back Binate = refl
-
-    visible : (x : Tallied) → IsVisible (tallied_word x)
-    visible Support = shown (codes "support") refl
-    visible Binate = shown (codes "binate") refl
 
 -- shapes of claims
 
@@ -138,20 +128,15 @@ abbrev shapes : List (List ℕ × ShapeName)
 shapes = (codes "up", shape_name.Up) ∷ (codes "down", shape_name.Down) ∷ (codes "swap", shape_name.Swap) ∷ []
 
 pub shape_name_is_word : IsWord shape_name_of
-shape_name_is_word = table_word (codes "up", shape_name.Up) ((codes "down", shape_name.Down) ∷ (codes "swap", shape_name.Swap) ∷ []) refl
+shape_name_is_word = table_word shapes (codes "up") shape_name.Up refl refl
 
 pub shape_name_spelled : IsSpelled shape_name_of shape_word Any
-shape_name_spelled = table_spelled shapes shape_word (refl, (refl, (refl, tt))) back visible
+shape_name_spelled = table_spelled shapes shape_word (refl, refl, (refl, refl, (refl, refl, tt))) back
   where
     back : (x : ShapeName) → shape_name_of (shape_word x) ≡ Ok x
     back shape_name.Up = refl
     back shape_name.Down = refl
     back shape_name.Swap = refl
-
-    visible : (x : ShapeName) → IsVisible (shape_word x)
-    visible shape_name.Up = shown (codes "up") refl
-    visible shape_name.Down = shown (codes "down") refl
-    visible shape_name.Swap = shown (codes "swap") refl
 
 -- steps
 
@@ -165,22 +150,16 @@ abbrev steps : List (List ℕ × StepName)
 steps = (codes "vector", step_name.Vector) ∷ (codes "mismatch", step_name.Mismatch) ∷ (codes "tally", step_name.Tally) ∷ (codes "cover", step_name.Cover) ∷ []
 
 pub step_name_is_word : IsWord step_name_of
-step_name_is_word = table_word (codes "vector", step_name.Vector) ((codes "mismatch", step_name.Mismatch) ∷ (codes "tally", step_name.Tally) ∷ (codes "cover", step_name.Cover) ∷ []) refl
+step_name_is_word = table_word steps (codes "vector") step_name.Vector refl refl
 
 pub step_name_spelled : IsSpelled step_name_of step_word Any
-step_name_spelled = table_spelled steps step_word (refl, (refl, (refl, (refl, tt)))) back visible
+step_name_spelled = table_spelled steps step_word (refl, refl, (refl, refl, (refl, refl, (refl, refl, tt)))) back
   where
     back : (x : StepName) → step_name_of (step_word x) ≡ Ok x
     back step_name.Vector = refl
     back step_name.Mismatch = refl
     back step_name.Tally = refl
     back step_name.Cover = refl
-
-    visible : (x : StepName) → IsVisible (step_word x)
-    visible step_name.Vector = shown (codes "vector") refl
-    visible step_name.Mismatch = shown (codes "mismatch") refl
-    visible step_name.Tally = shown (codes "tally") refl
-    visible step_name.Cover = shown (codes "cover") refl
 
 -- why there is no match
 
@@ -192,18 +171,14 @@ abbrev nones : List (List ℕ × NoneName)
 nones = (codes "ports", none_name.Ports) ∷ (codes "ban", none_name.Ban) ∷ []
 
 pub none_name_is_word : IsWord none_name_of
-none_name_is_word = table_word (codes "ports", none_name.Ports) ((codes "ban", none_name.Ban) ∷ []) refl
+none_name_is_word = table_word nones (codes "ports") none_name.Ports refl refl
 
 pub none_name_spelled : IsSpelled none_name_of none_word Any
-none_name_spelled = table_spelled nones none_word (refl, (refl, tt)) back visible
+none_name_spelled = table_spelled nones none_word (refl, refl, (refl, refl, tt)) back
   where
     back : (x : NoneName) → none_name_of (none_word x) ≡ Ok x
     back none_name.Ports = refl
     back none_name.Ban = refl
-
-    visible : (x : NoneName) → IsVisible (none_word x)
-    visible none_name.Ports = shown (codes "ports") refl
-    visible none_name.Ban = shown (codes "ban") refl
 
 -- records
 
@@ -221,10 +196,10 @@ abbrev records : List (List ℕ × RecordName)
 records = (codes "l", record_name.Line) ∷ (codes "fails", record_name.Fails) ∷ (codes "holds", record_name.Holds) ∷ (codes "ban", record_name.Ban) ∷ (codes "match", record_name.Match) ∷ (codes "none", record_name.None) ∷ (codes "end", record_name.End) ∷ (codes "npnp", record_name.Header) ∷ []
 
 pub record_name_is_word : IsWord record_name_of
-record_name_is_word = table_word (codes "l", record_name.Line) ((codes "fails", record_name.Fails) ∷ (codes "holds", record_name.Holds) ∷ (codes "ban", record_name.Ban) ∷ (codes "match", record_name.Match) ∷ (codes "none", record_name.None) ∷ (codes "end", record_name.End) ∷ (codes "npnp", record_name.Header) ∷ []) refl
+record_name_is_word = table_word records (codes "l") record_name.Line refl refl
 
 pub record_name_spelled : IsSpelled record_name_of record_word Any
-record_name_spelled = table_spelled records record_word (refl, (refl, (refl, (refl, (refl, (refl, (refl, (refl, tt)))))))) back visible
+record_name_spelled = table_spelled records record_word (refl, refl, (refl, refl, (refl, refl, (refl, refl, (refl, refl, (refl, refl, (refl, refl, (refl, refl, tt)))))))) back
   where
     back : (x : RecordName) → record_name_of (record_word x) ≡ Ok x
     back record_name.Line = refl
@@ -236,20 +211,11 @@ record_name_spelled = table_spelled records record_word (refl, (refl, (refl, (re
     back record_name.End = refl
     back record_name.Header = refl
 
-    visible : (x : RecordName) → IsVisible (record_word x)
-    visible record_name.Line = shown (codes "l") refl
-    visible record_name.Fails = shown (codes "fails") refl
-    visible record_name.Holds = shown (codes "holds") refl
-    visible record_name.Ban = shown (codes "ban") refl
-    visible record_name.Match = shown (codes "match") refl
-    visible record_name.None = shown (codes "none") refl
-    visible record_name.End = shown (codes "end") refl
-    visible record_name.Header = shown (codes "npnp") refl
-
 -- this very word
 
 pub named_is_word : (name : List ℕ) → named name (codes "0") ≡ Err Word → IsWord (named name)
-named_is_word name zero = table_word (name, true) [] zero
+named_is_word name zero =
+    table_word ((name, true) ∷ []) name true (ap (λ b. cond b (Ok true) (Err Word)) ((bytes_eq-Decides name name).1 refl)) zero
 
 pub named_written : (name word : List ℕ) (x : Bool) → named name word ≡ Ok x → word ≡ name
 named_written name word x e = by (bytes_eq word name) refl e
@@ -405,9 +371,6 @@ abbrev pub two_bits_word : Bool × Bool → List ℕ
 two_bits_word bits = bit_digit bits.0 ∷ bit_digit bits.1 ∷ []
 
 two_bits_written : (word : List ℕ) (bits : Bool × Bool) → two_bits_of word ≡ Ok bits → word ≡ two_bits_word bits
-two_bits_written [] bits e = absurd (let clash : ⊥ = cc in clash)
-two_bits_written (x ∷ []) bits e = absurd (let clash : ⊥ = cc in clash)
-two_bits_written (x ∷ y ∷ z ∷ word) bits e = absurd (let clash : ⊥ = cc in clash)
 two_bits_written (x ∷ y ∷ []) bits e = by (bit_of x) (bit_of y) refl refl e
   where
     by : (a b : Result Bool RecordFault) → bit_of x ≡ a → bit_of y ≡ b → both_bits a b ≡ Ok bits → x ∷ y ∷ [] ≡ two_bits_word bits
@@ -416,17 +379,16 @@ two_bits_written (x ∷ y ∷ []) bits e = by (bit_of x) (bit_of y) refl refl e
     by (Ok a) (Ok b) ea eb e =
         let same : (a, b) ≡ bits = cc in
         ap (λ d. d ∷ y ∷ []) (bit_is_digit.written x a ea) ∙ ap (λ d. bit_digit a ∷ d ∷ []) (bit_is_digit.written y b eb) ∙ ap two_bits_word same
+two_bits_written word bits e = absurd (let clash : ⊥ = cc in clash)
 
 two_bits_faults : (word : List ℕ) (fault : RecordFault) → two_bits_of word ≡ Err fault → fault ≡ Word
-two_bits_faults [] fault e = let same : Word ≡ fault = cc in sym same
-two_bits_faults (x ∷ []) fault e = let same : Word ≡ fault = cc in sym same
-two_bits_faults (x ∷ y ∷ z ∷ word) fault e = let same : Word ≡ fault = cc in sym same
 two_bits_faults (x ∷ y ∷ []) fault e = by (bit_of x) (bit_of y) refl refl e
   where
     by : (a b : Result Bool RecordFault) → bit_of x ≡ a → bit_of y ≡ b → both_bits a b ≡ Err fault → fault ≡ Word
     by (Err f) b ea eb e = let same : f ≡ fault = cc in bit_is_digit.faults x fault (ea ∙ ap Err same)
     by (Ok a) (Err f) ea eb e = let same : f ≡ fault = cc in bit_is_digit.faults y fault (eb ∙ ap Err same)
     by (Ok a) (Ok b) ea eb e = absurd (let clash : ⊥ = cc in clash)
+two_bits_faults word fault e = let same : Word ≡ fault = cc in sym same
 
 pub two_bits_is_word : IsWord two_bits_of
 two_bits_is_word = plain_word two_bits_of (codes "00") (false, false) refl two_bits_faults refl

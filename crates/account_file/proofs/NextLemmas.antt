@@ -9,7 +9,7 @@ use Rattle.text_core.specs.Bytes.{is_line_feed}
 use Rattle.account_file.specs.declared.record.Record.{Record}
 use Rattle.account_file.specs.declared.fault.RecordFault.{RecordFault}
 use Rattle.account_file.specs.declared.place.Place.{Place}
-use Rattle.account_file.specs.declared.place.Place.TheVariants.{Start, Headed, FactLog, Logs, Ended}
+use Rattle.account_file.specs.declared.place.Place.TheVariants.{Start, Ended}
 use Rattle.account_file.specs.declared.next_record.NextRecord.{NextRecord}
 use Rattle.account_file.specs.declared.next_record.NextRecord.TheVariants.{Wait, Read}
 use Rattle.account_file.specs.Forms.{record_in}
@@ -22,23 +22,13 @@ by_used used (Ok found) entry place n e = cc
 by_used used (Err fault) entry place n e = cc
 
 at_line : (place : Place) (line : List ℕ) (entry : Record) (after : Place) (n : ℕ) → next_at_line place line ≡ Read entry after n → (2 ≤ n) × (n ≡ length line + 1)
-at_line Start [] entry after n e = cc
-at_line Headed [] entry after n e = cc
-at_line FactLog [] entry after n e = cc
-at_line (Logs logs) [] entry after n e = cc
 at_line Ended line entry after n e = cc
-at_line Start (b ∷ line) entry after n e = let u = by_used (length (b ∷ line) + 1) (line_at Start (b ∷ line)) entry after n e in (omega (arith, u), sym u)
-at_line Headed (b ∷ line) entry after n e = let u = by_used (length (b ∷ line) + 1) (line_at Headed (b ∷ line)) entry after n e in (omega (arith, u), sym u)
-at_line FactLog (b ∷ line) entry after n e = let u = by_used (length (b ∷ line) + 1) (line_at FactLog (b ∷ line)) entry after n e in (omega (arith, u), sym u)
-at_line (Logs logs) (b ∷ line) entry after n e = let u = by_used (length (b ∷ line) + 1) (line_at (Logs logs) (b ∷ line)) entry after n e in (omega (arith, u), sym u)
+at_line place [] entry after n e = cc
+at_line place (b ∷ line) entry after n e = let u = by_used (length (b ∷ line) + 1) (line_at place (b ∷ line)) entry after n e in (omega (arith, u), sym u)
 
 at_end : (place : Place) (left : List ℕ) (entry : Record) (after : Place) (n : ℕ) → next_at_end place left ≡ Read entry after n → ⊥
-at_end Start left entry after n e = cc
-at_end Headed left entry after n e = cc
-at_end FactLog left entry after n e = cc
-at_end (Logs logs) left entry after n e = cc
-at_end Ended [] entry after n e = cc
 at_end Ended (b ∷ left) entry after n e = cc
+at_end place left entry after n e = cc
 
 pub used_within : (left : List ℕ) (finished : Bool) (place : Place) (entry : Record) (after : Place) (n : ℕ) → next_of left finished place ≡ Read entry after n → (2 ≤ n) × (n ≤ length left)
 used_within left finished place entry after n e =
@@ -104,7 +94,4 @@ reader_fed bytes piece start looked line given total reader =
 -- what a line is where one record was read at least
 pub later_line : (place : Place) (line : List ℕ) → (place ≡ Start → ⊥) → line_at place line ≡ in_place place (record_in (words_of line))
 later_line Start line later = absurd (later refl)
-later_line Headed line later = refl
-later_line FactLog line later = refl
-later_line (Logs logs) line later = refl
-later_line Ended line later = refl
+later_line other line later = refl

@@ -6,13 +6,10 @@ use Rattle.std.specs.Str.Parse.{digits_value}
 use Rattle.std.proofs.lemmas.Bool.{and_parts, cases_Bool, ltb-true, lt-ltb}
 use Rattle.std.proofs.lemmas.Bool.Decides.{nat_tests}
 use Rattle.std.proofs.lemmas.Fmt.{decimal_nonempty, first_decimal, digits_decimal, digits_value-decimal, decimal-digits_value}
-use Rattle.std.proofs.lemmas.Str.Parse.{IsNumeralModel, numerals_by_value, tells_all_ascii_digits}
 use Rattle.text_core.specs.Words.{is_not_empty}
 use Rattle.text_core.specs.Numbers.{is_numeral}
+use Rattle.text_core.proofs.NumberLemmas.{numerals}
 use Rattle.account_file.specs.Forms.{is_plain, number_below}
-
-numerals : IsNumeralModel (λ ds. all_ascii_digits ds ≡ true) (digits_value 10)
-numerals = numerals_by_value (λ ds. all_ascii_digits ds ≡ true) tells_all_ascii_digits
 
 pub decimal_digits : (n : ℕ) → n < 2 ^ 64 → all_ascii_digits (decimal n) ≡ true
 decimal_digits n small = digits_decimal numerals n small

@@ -3,7 +3,7 @@ use Rattle.std.proofs.Common.{◌≡◌, ℕ, eqb, Bool, true, false, cond, List
 use Rattle.std.proofs.lemmas.Bool.{false≢true}
 use Rattle.std.proofs.lemmas.List.Sums.{fold_push, fold-append}
 use Rattle.cnf_core.specs.declared.literal.SatLit.{SatLit}
-use Rattle.account_core.specs.declared.fact.FactHead.TheVariants.{Fails, Holds}
+use Rattle.account_core.specs.declared.fact.FactHead.TheVariants.{Fails}
 use Rattle.account_file.specs.declared.record.Record.{Record}
 use Rattle.account_file.specs.declared.record.Record.TheVariants as record_of
 use Rattle.account_file.specs.declared.place.Place.{Place}
@@ -17,7 +17,7 @@ pub place_after_last : (records : List Record) (entry : Record) (place : Place) 
 place_after_last records entry place e = place_after-push records entry ∙ ap (λ p. place_after_one p entry) e
 
 -- no order comes after none
-none_stays : (records : List Record) → fold place_after_one None records ≡ None
+pub none_stays : (records : List Record) → fold place_after_one None records ≡ None
 none_stays [] = refl
 none_stays (entry ∷ records) = none_stays records
 
@@ -55,42 +55,13 @@ not_start (Logs logs) record_of.End e = by (eqb logs 0) e
     by true e = cc
     by false e = cc
 not_start Start record_of.Header e = cc
-not_start Start (record_of.Fact (Fails claim bits)) e = cc
-not_start Start (record_of.Fact (Holds claim)) e = cc
-not_start Start (record_of.Line line) e = cc
-not_start Start (record_of.Ban ban) e = cc
-not_start Start (record_of.Conclusion conclusion) e = cc
-not_start Start record_of.End e = cc
-not_start Headed record_of.Header e = cc
 not_start Headed (record_of.Fact (Fails claim bits)) e = cc
-not_start Headed (record_of.Fact (Holds claim)) e = cc
-not_start Headed (record_of.Line line) e = cc
-not_start Headed (record_of.Ban ban) e = cc
-not_start Headed (record_of.Conclusion conclusion) e = cc
-not_start Headed record_of.End e = cc
-not_start FactLog record_of.Header e = cc
-not_start FactLog (record_of.Fact (Fails claim bits)) e = cc
-not_start FactLog (record_of.Fact (Holds claim)) e = cc
 not_start FactLog (record_of.Line line) e = by line.clause e
   where
     by : (clause : List SatLit) → Some (place_in_log clause) ≡ Some Start → ⊥
     by [] e = cc
     by (literal ∷ clause) e = cc
-not_start FactLog (record_of.Ban ban) e = cc
-not_start FactLog (record_of.Conclusion conclusion) e = cc
-not_start FactLog record_of.End e = cc
-not_start (Logs logs) record_of.Header e = cc
-not_start (Logs logs) (record_of.Fact (Fails claim bits)) e = cc
-not_start (Logs logs) (record_of.Fact (Holds claim)) e = cc
-not_start (Logs logs) (record_of.Ban ban) e = cc
-not_start (Logs logs) (record_of.Conclusion conclusion) e = cc
-not_start Ended record_of.Header e = cc
-not_start Ended (record_of.Fact (Fails claim bits)) e = cc
-not_start Ended (record_of.Fact (Holds claim)) e = cc
-not_start Ended (record_of.Line line) e = cc
-not_start Ended (record_of.Ban ban) e = cc
-not_start Ended (record_of.Conclusion conclusion) e = cc
-not_start Ended record_of.End e = cc
+not_start place entry e = cc
 
 starts_with_nothing : (records : List Record) (place : Place) → fold place_after_one (Some place) records ≡ Some Start → (records ≡ []) × (place ≡ Start)
 starts_with_nothing [] place e = (refl, cc)

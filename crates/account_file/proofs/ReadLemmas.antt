@@ -1,8 +1,8 @@
 -- Readers that go through a line word by word: their faults, and the words at which they find a bad number.
-use Rattle.std.proofs.Common.{◌≡◌, ◌⊎◌, ℕ, ◌<◌, ◌^◌, ◌||◌, Bool, true, false, cond, codes, List, [], ◌∷◌, ◌++◌, length, get_or, Result, Ok, Err, refl, sym, ap, ◌∙◌, arith, inl, inr, length-append}
+use Rattle.std.proofs.Common.{◌≡◌, ◌⊎◌, ℕ, ◌<◌, ◌^◌, Bool, true, false, cond, codes, List, [], ◌∷◌, ◌++◌, length, get_or, Result, Ok, Err, refl, sym, ap, ◌∙◌, arith, inl, inr, length-append}
 use Rattle.std.specs.Fmt.{decimal}
 use Rattle.std.specs.Str.{bytes_eq}
-use Rattle.std.proofs.lemmas.Bool.{false≢true}
+use Rattle.std.proofs.lemmas.Bool.{false≢true, or_from}
 use Rattle.std.proofs.lemmas.Slice.Eq.{bytes_eq-Decides}
 use Rattle.text_core.specs.Numbers.{is_numeral}
 use Rattle.account_file.specs.declared.record.Record.{Record}
@@ -71,6 +71,23 @@ pub record IsWord {X : Type 0} (read : List ℕ → Result X RecordFault) : Type
 no_front : (front : List (List ℕ)) (word : List ℕ) (more : List (List ℕ)) → [] ≡ front ++ word ∷ more → ⊥
 no_front front word more e = omega (arith, ap length e, length-append front (word ∷ more))
 
+-- what stands after a word that is passed over
+stuck_behind : (p q : Behind) (word : List ℕ) (words : List (List ℕ)) → ((after : List (List ℕ)) → p (word ∷ after) ≡ q after) → IsStuck q words → IsStuck p (word ∷ words)
+stuck_behind p q word words passed s = record {
+  front = word ∷ s.front;
+  word = s.word;
+  more = s.more;
+  words_are = ap (λ l. word ∷ l) s.words_are;
+  digits = s.digits;
+  stuck = λ after. passed (s.front ++ s.word ∷ after) ∙ s.stuck after;
+  fits = λ n small. let c = s.fits n small in record { words = c.words; entry = c.entry; read = passed (s.front ++ decimal n ∷ c.words) ∙ c.read };
+}
+
+-- a word of digits that is no number here
+stuck_here : (p : Behind) (word : List ℕ) (words : List (List ℕ)) → is_numeral word ≡ true → ((after : List (List ℕ)) → p (word ∷ after) ≡ Err Number)
+    → ((n : ℕ) → n < 2 ^ 32 → CanRead (λ after. p (decimal n ∷ after))) → IsStuck p (word ∷ words)
+stuck_here p word words digits stuck fits = record { front = []; word = word; more = words; words_are = refl; digits = digits; stuck = stuck; fits = fits }
+
 -- one word, and what follows it
 
 pub next_read : {X : Type 0} (read : List ℕ → Result X RecordFault) (k : X → Behind) → IsWord read → ((x : X) → IsRead (k x)) → IsRead (λ words. followed (next_by read words) k)
@@ -103,29 +120,11 @@ next_read {X} read k w r = record {
     stuck (word ∷ words) e = by (read word) refl e
       where
         by : (a : Result X RecordFault) → read word ≡ a → followed (with_words a words) k ≡ Err Number → IsStuck P (word ∷ words)
-        by (Ok x) is e =
-            let s = (r x).stuck words e in
-            record {
-              front = word ∷ s.front;
-              word = s.word;
-              more = s.more;
-              words_are = ap (λ l. word ∷ l) s.words_are;
-              digits = s.digits;
-              stuck = λ after. at' word (Ok x) is (s.front ++ s.word ∷ after) ∙ s.stuck after;
-              fits = λ n small. let c = s.fits n small in record { words = c.words; entry = c.entry; read = at' word (Ok x) is (s.front ++ decimal n ∷ c.words) ∙ c.read };
-            }
+        by (Ok x) is e = stuck_behind P (k x) word words (at' word (Ok x) is) ((r x).stuck words e)
         by (Err f) is e =
             let same : f ≡ Number = cc in
             let bad = is ∙ ap Err same in
-            record {
-              front = [];
-              word = word;
-              more = words;
-              words_are = refl;
-              digits = w.digits word bad;
-              stuck = λ after. at' word (Err Number) bad after;
-              fits = λ n small. reads (decimal n) (w.fits word bad n small);
-            }
+            stuck_here P word words (w.digits word bad) (at' word (Err Number) bad) (λ n small. reads (decimal n) (w.fits word bad n small))
 
     zero : (front more : List (List ℕ)) (word : List ℕ) (entry : Record) → P (front ++ codes "0" ∷ more) ≡ Ok entry → is_numeral word ≡ true → Decides P front word
     zero [] more word entry e digits = by (read (codes "0")) refl e
@@ -147,9 +146,6 @@ next_read {X} read k w r = record {
 
 -- a list of words, and what follows it
 
-either : (a b : Bool) → a ≡ false → b ≡ false → (a || b) ≡ false
-either a b e f = ap (λ x. x || b) e ∙ f
-
 no_name : (word name : List ℕ) → is_numeral word ≡ true → is_numeral name ≡ false → bytes_eq word name ≡ false
 no_name word name digits none = by (bytes_eq word name) refl
   where
@@ -159,7 +155,7 @@ no_name word name digits none = by (bytes_eq word name) refl
 
 pub digits_no_separator : (word : List ℕ) → is_numeral word ≡ true → is_separator word ≡ false
 digits_no_separator word digits =
-    either (bytes_eq word (codes ":")) (bytes_eq word (codes "/")) (no_name word (codes ":") digits refl) (no_name word (codes "/") digits refl)
+    or_from (bytes_eq word (codes ":")) (bytes_eq word (codes "/")) (no_name word (codes ":") digits refl) (no_name word (codes "/") digits refl)
 
 pub list_stops : {X : Type 0} (read : List ℕ → Result X RecordFault) (words : List (List ℕ)) → stops words ≡ true → list_by read words ≡ Ok ([], words)
 list_stops {X} read [] e = refl
@@ -231,29 +227,12 @@ module _ {X : Type 0} (read : List ℕ → Result X RecordFault) (w : IsWord rea
           → ((x : X) → ListThen (λ xs. k (x ∷ xs)) words ≡ Err Number → IsStuck (ListThen (λ xs. k (x ∷ xs))) words) → IsStuck (ListThen k) (word ∷ words)
       by true is a ra more = let s = (r []).stuck (word ∷ words) (sym (at_stop k (word ∷ words) is) ∙ e) in at_front is s s.front refl
       by false is (Ok x) ra more =
-          let s = more x (sym (at_item k word words x is ra) ∙ e) in
-          record {
-            front = word ∷ s.front;
-            word = s.word;
-            more = s.more;
-            words_are = ap (λ l. word ∷ l) s.words_are;
-            digits = s.digits;
-            stuck = λ after. at_item k word (s.front ++ s.word ∷ after) x is ra ∙ s.stuck after;
-            fits = λ n small. let f = s.fits n small in record { words = f.words; entry = f.entry; read = at_item k word (s.front ++ decimal n ∷ f.words) x is ra ∙ f.read };
-          }
+          stuck_behind (ListThen k) (ListThen (λ xs. k (x ∷ xs))) word words (λ after. at_item k word after x is ra) (more x (sym (at_item k word words x is ra) ∙ e))
       by false is (Err f) ra more =
           let both : Err f ≡ Err Number = sym (at_word k word words (Err f) is ra) ∙ e in
           let same : f ≡ Number = cc in
           let bad = ra ∙ ap Err same in
-          record {
-            front = [];
-            word = word;
-            more = words;
-            words_are = refl;
-            digits = w.digits word bad;
-            stuck = λ after. at_word k word after (Err Number) is bad;
-            fits = λ n small. reads_item k c (decimal n) (numbers n small) (w.fits word bad n small);
-          }
+          stuck_here (ListThen k) word words (w.digits word bad) (λ after. at_word k word after (Err Number) is bad) (λ n small. reads_item k c (decimal n) (numbers n small) (w.fits word bad n small))
 
   list_zero : (k : List X → Behind) → ((xs : List X) → IsRead (k xs)) → ((xs : List X) → CanEnd (k xs)) → (front more : List (List ℕ)) (word : List ℕ) (entry : Record)
       → ListThen k (front ++ codes "0" ∷ more) ≡ Ok entry → is_numeral word ≡ true → Decides (ListThen k) front word
@@ -292,9 +271,6 @@ module _ {X : Type 0} (read : List ℕ → Result X RecordFault) (w : IsWord rea
 
 pub end_named : (name : List ℕ) (k : Bool → Behind) → is_separator name ≡ true → named name name ≡ Ok true → IsRead (k true) → CanEnd (λ words. followed (next_by (named name) words) k)
 end_named name k ends same r = record { words = name ∷ r.some.words; entry = r.some.entry; ends = ends; read = ap (λ a. followed (with_words a r.some.words) k) same ∙ r.some.read }
-
-pub end_list : {X : Type 0} (read : List ℕ → Result X RecordFault) (k : List X → Behind) → CanEnd (k []) → CanEnd (λ words. followed (list_by read words) k)
-end_list {X} read k c = record { words = c.words; entry = c.entry; ends = c.ends; read = ap (λ a. followed a k) (list_stops read c.words c.ends) ∙ c.read }
 
 pub end_last : (entry : Record) → CanEnd (λ words. last_part entry words)
 end_last entry = record { words = []; entry = entry; ends = refl; read = refl }

@@ -170,10 +170,6 @@ fault_stays bytes piece records wrong said =
       longer,
     )
 
-fault_at_end : (bytes : List ℕ) (finished : Bool) (records : List Record) (wrong : RecordFault) → SaysNext bytes finished records (Err wrong) → SaysNext bytes true records (Err wrong)
-fault_at_end bytes true records wrong said = said
-fault_at_end bytes false records wrong said = said.0
-
 if_some : {X : Type 0} (P Q : X → Type 0) (o : Option X) → ((x : X) → P x → Q x) → IfSome o P → IfSome o Q
 if_some {X} P Q None more h = tt
 if_some {X} P Q (Some x) more h = more x h
@@ -189,17 +185,6 @@ read_feed reading bytes piece records more has = record {
   fault = if_some (λ wrong. SaysNext bytes reading.finished records (Err wrong)) (λ wrong. SaysNext (bytes ++ piece) reading.finished records (Err wrong)) reading.fault
       (λ wrong said. subst (λ f. SaysNext (bytes ++ piece) f records (Err wrong)) (sym more) (fault_stays bytes piece records wrong (subst (λ f. SaysNext bytes f records (Err wrong)) more said)))
       has.fault;
-}
-
-pub read_finish : (reading : Reading) (bytes : List ℕ) (records : List Record) → HasRead reading bytes records → HasRead (record reading { finished = true }) bytes records
-read_finish reading bytes records has = record {
-  text = has.text;
-  writable = has.writable;
-  place = has.place;
-  line = has.line;
-  total = has.total;
-  fault = if_some (λ wrong. SaysNext bytes reading.finished records (Err wrong)) (λ wrong. SaysNext bytes true records (Err wrong)) reading.fault
-      (λ wrong said. fault_at_end bytes reading.finished records wrong said) has.fault;
 }
 
 -- what the next record says, and leaves
@@ -245,12 +230,8 @@ next_leaves : (place : Place) (left : List ℕ) (finished : Bool) → Leaves pla
 next_leaves place left finished = by (has_line left) refl
   where
     ended : (p : Place) (l : List ℕ) → Leaves p l (next_at_end p l)
-    ended Start l = tt
-    ended Headed l = tt
-    ended FactLog l = tt
-    ended (Logs logs) l = tt
-    ended Ended [] = tt
     ended Ended (byte ∷ l) = tt
+    ended p l = tt
 
     at_end : (f : Bool) → Leaves place left (cond f (next_at_end place left) Wait)
     at_end true = ended place left

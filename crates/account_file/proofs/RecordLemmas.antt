@@ -155,23 +155,19 @@ claim_part words part e =
 abbrev StepIs : List (List ℕ) → Step × List (List ℕ) → Type 0
 StepIs words part = (words ≡ step_words part.0 ++ part.1) × StepHasNumbers part.0
 
-step_vector : (words : List (List ℕ)) (part : Step × List (List ℕ)) → step_by step_name.Vector words ≡ Ok part → StepIs (codes "vector" ∷ words) part
-step_vector words part e =
+step_named : (name : StepName) (words : List (List ℕ)) (part : Step × List (List ℕ)) → step_by name words ≡ Ok part → StepIs (step_word name ∷ words) part
+step_named step_name.Vector words part e =
     let output = port words _ part e in
     let tris = take_word tris_of tris_word Any tris_spelled output.after _ part output.rest in
     let same : (Vector output.value tris.value, tris.after) ≡ part = let last = tris.rest in cc in
     subst (StepIs (codes "vector" ∷ words)) same (ap (λ l. codes "vector" ∷ l) output.words_are ∙ ap (λ l. codes "vector" ∷ decimal output.value ∷ l) tris.words_are, output.fit)
-
-step_mismatch : (words : List (List ℕ)) (part : Step × List (List ℕ)) → step_by step_name.Mismatch words ≡ Ok part → StepIs (codes "mismatch" ∷ words) part
-step_mismatch words part e =
+step_named step_name.Mismatch words part e =
     let fails = number words _ part e in
     let holds = number fails.after _ part fails.rest in
     let same : (Mismatch fails.value holds.value, holds.after) ≡ part = let last = holds.rest in cc in
     subst (StepIs (codes "mismatch" ∷ words)) same
     (ap (λ l. codes "mismatch" ∷ l) fails.words_are ∙ ap (λ l. codes "mismatch" ∷ decimal fails.value ∷ l) holds.words_are, (fails.fit, holds.fit))
-
-step_tally : (words : List (List ℕ)) (part : Step × List (List ℕ)) → step_by step_name.Tally words ≡ Ok part → StepIs (codes "tally" ∷ words) part
-step_tally words part e =
+step_named step_name.Tally words part e =
     let kind = take_word tallied_of tallied_word Any tallied_spelled words _ part e in
     let have = take_list number_of decimal IsNumber number_is_spelled kind.after _ part kind.rest in
     let slash = take_name (codes "/") have.after _ part have.rest in
@@ -184,9 +180,7 @@ step_tally words part e =
           ∙ ap front (sym (append_assoc (map decimal have.value) (codes "/" ∷ map decimal lack.value) lack.after)),
       (have.fit, lack.fit),
     )
-
-step_cover : (words : List (List ℕ)) (part : Step × List (List ℕ)) → step_by step_name.Cover words ≡ Ok part → StepIs (codes "cover" ∷ words) part
-step_cover words part e =
+step_named step_name.Cover words part e =
     let kind = take_word kind_of kind_word Any kind_spelled words _ part e in
     let from = take_list port_of decimal IsPort port_spelled kind.after _ part kind.rest in
     let slash = take_name (codes "/") from.after _ part from.rest in
@@ -205,12 +199,6 @@ step_cover words part e =
       (from.fit, (to.fit, refs.fit)),
     )
 
-step_named : (name : StepName) (words : List (List ℕ)) (part : Step × List (List ℕ)) → step_by name words ≡ Ok part → StepIs (step_word name ∷ words) part
-step_named step_name.Vector words part e = step_vector words part e
-step_named step_name.Mismatch words part e = step_mismatch words part e
-step_named step_name.Tally words part e = step_tally words part e
-step_named step_name.Cover words part e = step_cover words part e
-
 step_part : IsPart step_of step_words StepHasNumbers
 step_part words part e =
     let name = take_word step_name_of step_word Any step_name_spelled words _ part e in
@@ -224,49 +212,6 @@ record_words entry = first_word entry ∷ other_words entry
 
 abbrev RecordIs : List (List ℕ) → Record × List (List ℕ) → Type 0
 RecordIs words part = (words ≡ record_words part.0 ++ part.1) × IsWritable part.0
-
-record_fails : (words : List (List ℕ)) (part : Record × List (List ℕ)) → record_by record_name.Fails words ≡ Ok part → RecordIs (codes "fails" ∷ words) part
-record_fails words part e =
-    let claim = take_part claim_of claim_words ClaimHasPorts claim_part words _ part e in
-    let bits = take_word bits_of bits_word Any bits_spelled claim.after _ part claim.rest in
-    let same : (record_of.Fact (Fails claim.value bits.value), bits.after) ≡ part = let last = bits.rest in cc in
-    subst (RecordIs (codes "fails" ∷ words)) same (
-      ap (λ l. codes "fails" ∷ l) claim.words_are ∙ ap (λ l. codes "fails" ∷ claim_words claim.value ++ l) bits.words_are
-          ∙ ap (λ l. codes "fails" ∷ l) (sym (append_assoc (claim_words claim.value) (bits_word bits.value ∷ []) bits.after)),
-      claim.fit,
-    )
-
-record_holds : (words : List (List ℕ)) (part : Record × List (List ℕ)) → record_by record_name.Holds words ≡ Ok part → RecordIs (codes "holds" ∷ words) part
-record_holds words part e =
-    let claim = take_part claim_of claim_words ClaimHasPorts claim_part words _ part e in
-    let same : (record_of.Fact (Holds claim.value), claim.after) ≡ part = let last = claim.rest in cc in
-    subst (RecordIs (codes "holds" ∷ words)) same (ap (λ l. codes "holds" ∷ l) claim.words_are, claim.fit)
-
-record_log : (words : List (List ℕ)) (part : Record × List (List ℕ)) → record_by record_name.Line words ≡ Ok part → RecordIs (codes "l" ∷ words) part
-record_log words part e =
-    let clause = take_list literal_of literal_word (λ literal. IsNumber literal.0) literal_spelled words _ part e in
-    let colon = take_name (codes ":") clause.after _ part clause.rest in
-    let hints = take_list number_of decimal IsNumber number_is_spelled colon.after _ part colon.rest in
-    let same : (record_of.Line (record { clause = clause.value; hints = hints.value }), hints.after) ≡ part = let last = hints.rest in cc in
-    subst (RecordIs (codes "l" ∷ words)) same (
-      ap (λ l. codes "l" ∷ l) clause.words_are
-          ∙ ap (λ l. codes "l" ∷ map literal_word clause.value ++ l) (colon.words_are ∙ ap (λ l. codes ":" ∷ l) hints.words_are)
-          ∙ ap (λ l. codes "l" ∷ l) (sym (append_assoc (map literal_word clause.value) (codes ":" ∷ map decimal hints.value) hints.after)),
-      record { literals = clause.fit; hints = hints.fit },
-    )
-
-record_ban : (words : List (List ℕ)) (part : Record × List (List ℕ)) → record_by record_name.Ban words ≡ Ok part → RecordIs (codes "ban" ∷ words) part
-record_ban words part e =
-    let pairs = take_list pair_of pair_word HasPorts pair_spelled words _ part e in
-    let colon = take_name (codes ":") pairs.after _ part pairs.rest in
-    let step = take_part step_of step_words StepHasNumbers step_part colon.after _ part colon.rest in
-    let same : (record_of.Ban (record { pairs = pairs.value; step = step.value }), step.after) ≡ part = let last = step.rest in cc in
-    subst (RecordIs (codes "ban" ∷ words)) same (
-      ap (λ l. codes "ban" ∷ l) pairs.words_are
-          ∙ ap (λ l. codes "ban" ∷ map pair_word pairs.value ++ l) (colon.words_are ∙ ap (λ l. codes ":" ∷ l) step.words_are)
-          ∙ ap (λ l. codes "ban" ∷ l) (sym (append_assoc (map pair_word pairs.value) (codes ":" ∷ step_words step.value) step.after)),
-      record { pairs = pairs.fit; step = step.fit },
-    )
 
 record_none : (name : NoneName) (words : List (List ℕ)) (part : Record × List (List ℕ)) → none_by name words ≡ Ok part → RecordIs (codes "none" ∷ none_word name ∷ words) part
 record_none none_name.Ports words part e =
@@ -282,10 +227,41 @@ record_named record_name.Header words part e =
     let version = take_name (codes "1") words _ part e in
     let same : (record_of.Header, version.after) ≡ part = let last = version.rest in cc in
     subst (RecordIs (codes "npnp" ∷ words)) same (ap (λ l. codes "npnp" ∷ l) version.words_are, tt)
-record_named record_name.Fails words part e = record_fails words part e
-record_named record_name.Holds words part e = record_holds words part e
-record_named record_name.Line words part e = record_log words part e
-record_named record_name.Ban words part e = record_ban words part e
+record_named record_name.Fails words part e =
+    let claim = take_part claim_of claim_words ClaimHasPorts claim_part words _ part e in
+    let bits = take_word bits_of bits_word Any bits_spelled claim.after _ part claim.rest in
+    let same : (record_of.Fact (Fails claim.value bits.value), bits.after) ≡ part = let last = bits.rest in cc in
+    subst (RecordIs (codes "fails" ∷ words)) same (
+      ap (λ l. codes "fails" ∷ l) claim.words_are ∙ ap (λ l. codes "fails" ∷ claim_words claim.value ++ l) bits.words_are
+          ∙ ap (λ l. codes "fails" ∷ l) (sym (append_assoc (claim_words claim.value) (bits_word bits.value ∷ []) bits.after)),
+      claim.fit,
+    )
+record_named record_name.Holds words part e =
+    let claim = take_part claim_of claim_words ClaimHasPorts claim_part words _ part e in
+    let same : (record_of.Fact (Holds claim.value), claim.after) ≡ part = let last = claim.rest in cc in
+    subst (RecordIs (codes "holds" ∷ words)) same (ap (λ l. codes "holds" ∷ l) claim.words_are, claim.fit)
+record_named record_name.Line words part e =
+    let clause = take_list literal_of literal_word (λ literal. IsNumber literal.0) literal_spelled words _ part e in
+    let colon = take_name (codes ":") clause.after _ part clause.rest in
+    let hints = take_list number_of decimal IsNumber number_is_spelled colon.after _ part colon.rest in
+    let same : (record_of.Line (record { clause = clause.value; hints = hints.value }), hints.after) ≡ part = let last = hints.rest in cc in
+    subst (RecordIs (codes "l" ∷ words)) same (
+      ap (λ l. codes "l" ∷ l) clause.words_are
+          ∙ ap (λ l. codes "l" ∷ map literal_word clause.value ++ l) (colon.words_are ∙ ap (λ l. codes ":" ∷ l) hints.words_are)
+          ∙ ap (λ l. codes "l" ∷ l) (sym (append_assoc (map literal_word clause.value) (codes ":" ∷ map decimal hints.value) hints.after)),
+      record { literals = clause.fit; hints = hints.fit },
+    )
+record_named record_name.Ban words part e =
+    let pairs = take_list pair_of pair_word HasPorts pair_spelled words _ part e in
+    let colon = take_name (codes ":") pairs.after _ part pairs.rest in
+    let step = take_part step_of step_words StepHasNumbers step_part colon.after _ part colon.rest in
+    let same : (record_of.Ban (record { pairs = pairs.value; step = step.value }), step.after) ≡ part = let last = step.rest in cc in
+    subst (RecordIs (codes "ban" ∷ words)) same (
+      ap (λ l. codes "ban" ∷ l) pairs.words_are
+          ∙ ap (λ l. codes "ban" ∷ map pair_word pairs.value ++ l) (colon.words_are ∙ ap (λ l. codes ":" ∷ l) step.words_are)
+          ∙ ap (λ l. codes "ban" ∷ l) (sym (append_assoc (map pair_word pairs.value) (codes ":" ∷ step_words step.value) step.after)),
+      record { pairs = pairs.fit; step = step.fit },
+    )
 record_named record_name.None words part e =
     let name = take_word none_name_of none_word Any none_name_spelled words _ part e in
     let is = record_none name.value name.after part name.rest in
@@ -368,7 +344,6 @@ step_back (Cover kind from to refs) fit =
     ∙ give_last reference_of reference_word IsReference reference_spelled reference_items refs _ fit.1.1
 
 front_back : (entry : Record) → IsWritable entry → record_in_front (record_words entry) ≡ Ok (entry, [])
-front_back record_of.Header w = refl
 front_back (record_of.Fact (Fails claim bits)) w =
     ap (λ (a : Parsed Claim). followed a (λ claim words. followed (next_by bits_of words) (λ bits words. Ok (record_of.Fact (Fails claim bits), words)))) (claim_back claim (bits_word bits ∷ []) w)
     ∙ give bits_of bits_word Any bits_spelled bits [] _ tt
@@ -381,10 +356,9 @@ front_back (record_of.Line line) w =
 front_back (record_of.Ban ban) w =
     give_list pair_of pair_word HasPorts pair_spelled pair_items ban.pairs (codes ":" ∷ step_words ban.step) _ w.pairs refl
     ∙ ap (λ (a : Parsed Step). followed a (λ step words. Ok (record_of.Ban (record { pairs = ban.pairs; step = step }), words))) (step_back ban.step w.step)
-front_back (record_of.Conclusion NonePorts) w = refl
 front_back (record_of.Conclusion (NoneBan ban)) w = give number_of decimal IsNumber number_is_spelled ban [] _ w
 front_back (record_of.Conclusion (Match pairs)) w = give_last pair_of pair_word HasPorts pair_spelled pair_items pairs _ w
-front_back record_of.End w = refl
+front_back other w = refl
 
 pub record_read : (entry : Record) → IsWritable entry → record_in (record_words entry) ≡ Ok entry
 record_read entry w = ap (λ (a : Parsed Record). followed a (λ entry words. last_part entry words)) (front_back entry w)

@@ -296,10 +296,7 @@ by_fields letter front sign back (Some kind) (Some from) (Some flip) (Some to) p
           ∙ ap (λ s. kind_letter kind ∷ decimal from ++ s ∷ back) (flip_written sign flip ef) ∙ ap (λ l. kind_letter kind ∷ decimal from ++ sign_of flip ∷ l) second.0,
       record { from = first.1; to = second.1 },
     )
-by_fields letter front sign back None m f n pair ek em ef en e = cc
-by_fields letter front sign back (Some kind) None f n pair ek em ef en e = cc
-by_fields letter front sign back (Some kind) (Some from) None n pair ek em ef en e = cc
-by_fields letter front sign back (Some kind) (Some from) (Some flip) None pair ek em ef en e = cc
+by_fields letter front sign back k m f n pair ek em ef en e = cc
 
 by_parts : (letter : ℕ) (front after : List ℕ) (pair : Pair) → pair_after (kind_of_letter letter) front after ≡ Some pair → IsPairWord (letter ∷ front ++ after) pair
 by_parts letter front [] pair e = cc

@@ -65,12 +65,9 @@ LineFault before line fault.Trailing = HaveEnded before
 
 -- what is wrong where no whole line is left after records, but this rest
 abbrev pub EndFault : List Record → List ℕ → RecordFault → Type 0
-EndFault before rest fault.Header = ⊥
-EndFault before rest fault.Word = ⊥
-EndFault before rest fault.Number = ⊥
-EndFault before rest fault.Order = ⊥
 EndFault before rest fault.Truncated = HaveEnded before → ⊥
 EndFault before rest fault.Trailing = HaveEnded before × (rest ≢ [])
+EndFault before rest other = ⊥
 
 -- The first fault of form of a text is after the lines of these records: at the next line, or where the whole lines
 -- end.

@@ -22,6 +22,7 @@ pub fn one_list_of_records()
 {}
 
 /// A text says one thing after the records that were read of it: the next record, the first fault, or nothing.
+#[tactic(auto, using(crate::proofs::LawLemmas::one_answer))]
 pub fn one_answer()
     ensures { (bytes : List ℕ) (finished : Bool) (before : List Entry)
         → (first second : Result (Option Entry) AnyFault)

@@ -1,6 +1,6 @@
 //! The lines that records are written as.
 
-ghost use Rattle.std.specs.Prelude.{◌≡◌, [], ◌∷◌, ◌++◌, codes, All, OnOk, OnErr, map};
+ghost use Rattle.std.specs.Prelude.{◌≡◌, ℕ, List, [], ◌∷◌, ◌++◌, codes, All, OnOk, OnErr, map};
 ghost use Rattle.std.specs.Fmt.{decimal as digits_of_number};
 ghost use Rattle.account_file.specs.Spelling.{BanHasNumbers, ClaimHasPorts, HasNumbers, HasPorts, IsNumber, IsPort, IsReference, IsWritable, ShapeHasPorts, StepHasNumbers};
 ghost use Rattle.account_file.specs.Spelling.{bit_digit, bits_word, claim_words, kind_letter, kind_word, line_text, pair_word, record_line, reference_word, shape_words, side_word, sign_of, spaced, step_words, tallied_word, tri_digit, tris_word};
@@ -188,45 +188,87 @@ fn put_tris(tris: &[Tri], out: &mut Vec<u8>) -> Result<(), AllocError>
     Ok(())
 }
 
+// What is written as one word of a list.
+trait Spell {
+    // The word.
+    ghost word: { Self → List ℕ };
+
+    // What is known of all that is written so.
+    ghost fits: { Self → Type 0 };
+
+    fn put(&self, out: &mut Vec<u8>) -> Result<(), AllocError>
+        ensures fits { OnOk result (fits self.now) }
+        ensures text { OnOk result (out.new.items ≡ out.old.items ++ 32 ∷ word self.now) };
+}
+
+impl Spell for SatLit {
+    ghost word = { λ literal. digits_of_number literal.0 };
+
+    ghost fits = { λ literal. IsNumber literal.0 };
+
+    fn put(&self, out: &mut Vec<u8>) -> Result<(), AllocError> {
+        put_number(self.0, out)
+    }
+}
+
+impl Spell for u64 {
+    ghost word = { digits_of_number };
+
+    ghost fits = { IsNumber };
+
+    fn put(&self, out: &mut Vec<u8>) -> Result<(), AllocError> {
+        put_number(*self, out)
+    }
+}
+
+impl Spell for u32 {
+    ghost word = { digits_of_number };
+
+    ghost fits = { IsPort };
+
+    fn put(&self, out: &mut Vec<u8>) -> Result<(), AllocError> {
+        put_number(u64::from(*self), out)
+    }
+}
+
+impl Spell for Option<u64> {
+    ghost word = { reference_word };
+
+    ghost fits = { IsReference };
+
+    fn put(&self, out: &mut Vec<u8>) -> Result<(), AllocError> {
+        put_reference(*self, out)
+    }
+}
+
+impl Spell for Pair {
+    ghost word = { pair_word };
+
+    ghost fits = { HasPorts };
+
+    fn put(&self, out: &mut Vec<u8>) -> Result<(), AllocError> {
+        put_pair(*self, out)
+    }
+}
+
+fn put_list<T: Spell>(list: &[T], out: &mut Vec<u8>) -> Result<(), AllocError>
+    ensures fits { OnOk result (All T.fits list.now) }
+    ensures text { OnOk result (out.new.items ≡ out.old.items ++ spaced (map T.word list.now)) }
+{
+    for item in list.iter() {
+        item.put(out)?;
+    }
+    Ok(())
+}
+
 fn put_log_text(line: &LogLine, out: &mut Vec<u8>) -> Result<(), AllocError>
     ensures text { OnOk result (out.new.items ≡ out.old.items ++ line_text (Record.Line line.now)) }
     ensures numbers { OnOk result (HasNumbers line.now) }
 {
     out.extend_from_slice(b"l")?;
-    put_literals(&line.clause, out)?;
+    put_list(&line.clause, out)?;
     out.extend_from_slice(b" :")?;
-    put_numbers(&line.hints, out)
-}
-
-fn put_literals(literals: &[SatLit], out: &mut Vec<u8>) -> Result<(), AllocError>
-    ensures numbers { OnOk result (All (λ literal. IsNumber literal.0) literals.now) }
-    ensures text { OnOk result (out.new.items ≡ out.old.items
-        ++ spaced (map (λ literal. digits_of_number literal.0) literals.now)) }
-{
-    for literal in literals.iter() {
-        put_number(literal.0, out)?;
-    }
-    Ok(())
-}
-
-fn put_numbers(numbers: &[u64], out: &mut Vec<u8>) -> Result<(), AllocError>
-    ensures numbers { OnOk result (All IsNumber numbers.now) }
-    ensures text { OnOk result (out.new.items ≡ out.old.items ++ spaced (map digits_of_number numbers.now)) }
-{
-    for number in numbers.iter() {
-        put_number(*number, out)?;
-    }
-    Ok(())
-}
-
-fn put_ports(ports: &[u32], out: &mut Vec<u8>) -> Result<(), AllocError>
-    ensures ports { OnOk result (All IsPort ports.now) }
-    ensures text { OnOk result (out.new.items ≡ out.old.items ++ spaced (map digits_of_number ports.now)) }
-{
-    for port in ports.iter() {
-        put_number(u64::from(*port), out)?;
-    }
-    Ok(())
+    put_list(&line.hints, out)
 }
 
 fn put_number(number: u64, out: &mut Vec<u8>) -> Result<(), AllocError>
@@ -242,7 +284,7 @@ fn put_ban_text(ban: &Ban, out: &mut Vec<u8>) -> Result<(), AllocError>
     ensures numbers { OnOk result (BanHasNumbers ban.now) }
 {
     out.extend_from_slice(b"ban")?;
-    put_pairs(&ban.pairs, out)?;
+    put_list(&ban.pairs, out)?;
     out.extend_from_slice(b" :")?;
     put_step(&ban.step, out)
 }
@@ -279,9 +321,9 @@ fn put_tally(kind: Tallied, have: &[u64], lack: &[u64], out: &mut Vec<u8>) -> Re
 {
     out.extend_from_slice(b" tally")?;
     put_tallied(kind, out)?;
-    put_numbers(have, out)?;
+    put_list(have, out)?;
     out.extend_from_slice(b" /")?;
-    put_numbers(lack, out)
+    put_list(lack, out)
 }
 
 fn put_cover(
@@ -297,11 +339,11 @@ fn put_cover(
 {
     out.extend_from_slice(b" cover")?;
     put_port_kind(kind, out)?;
-    put_ports(from, out)?;
+    put_list(from, out)?;
     out.extend_from_slice(b" /")?;
-    put_ports(to, out)?;
+    put_list(to, out)?;
     out.extend_from_slice(b" /")?;
-    put_references(refs, out)
+    put_list(refs, out)
 }
 
 fn put_tallied(kind: Tallied, out: &mut Vec<u8>) -> Result<(), AllocError>
@@ -320,16 +362,6 @@ fn put_port_kind(kind: PortKind, out: &mut Vec<u8>) -> Result<(), AllocError>
         PortKind::Input => out.extend_from_slice(b" in"),
         PortKind::Output => out.extend_from_slice(b" out"),
     }
-}
-
-fn put_references(references: &[Option<u64>], out: &mut Vec<u8>) -> Result<(), AllocError>
-    ensures numbers { OnOk result (All IsReference references.now) }
-    ensures text { OnOk result (out.new.items ≡ out.old.items ++ spaced (map reference_word references.now)) }
-{
-    for reference in references.iter() {
-        put_reference(*reference, out)?;
-    }
-    Ok(())
 }
 
 fn put_reference(reference: Option<u64>, out: &mut Vec<u8>) -> Result<(), AllocError>
@@ -354,19 +386,9 @@ fn put_conclusion(conclusion: &Conclusion, out: &mut Vec<u8>) -> Result<(), Allo
         }
         Conclusion::Match(pairs) => {
             out.extend_from_slice(b"match")?;
-            put_pairs(pairs, out)
+            put_list(pairs, out)
         }
     }
-}
-
-fn put_pairs(pairs: &[Pair], out: &mut Vec<u8>) -> Result<(), AllocError>
-    ensures ports { OnOk result (All HasPorts pairs.now) }
-    ensures text { OnOk result (out.new.items ≡ out.old.items ++ spaced (map pair_word pairs.now)) }
-{
-    for pair in pairs.iter() {
-        put_pair(*pair, out)?;
-    }
-    Ok(())
 }
 
 fn put_pair(pair: Pair, out: &mut Vec<u8>) -> Result<(), AllocError>

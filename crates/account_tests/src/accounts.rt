@@ -2,7 +2,6 @@
 
 use crate::graphs::{and_or, zero_wire};
 use account_check::{CheckStop, Verdict, check};
-use items::Text;
 use net_core::{Graphs, Matching};
 use std::alloc::{AllocError, Global};
 use std::test::Fail;
@@ -98,13 +97,13 @@ static REFUSAL: [&str; 13] = [
     "end",
 ];
 
-fn put_line(line: &str, account: &mut Text) -> Result<(), AllocError> {
+fn put_line(line: &str, account: &mut String) -> Result<(), AllocError> {
     account.push_str(line)?;
     account.push_str("\n")
 }
 
 /// Writes the refusal with another line in the place of one, counted from 1; with none for 0.
-fn put_refusal_with(line: usize, text: &str, account: &mut Text) -> Result<(), AllocError> {
+fn put_refusal_with(line: usize, text: &str, account: &mut String) -> Result<(), AllocError> {
     for (k, old) in REFUSAL.iter().enumerate() {
         if k + 1 == line {
             put_line(text, account)?;
@@ -117,7 +116,7 @@ fn put_refusal_with(line: usize, text: &str, account: &mut Text) -> Result<(), A
 
 /// Whether the refusal proves that there is no match.
 fn proves_refusal(alloc: Global, graphs: &Graphs<'_>) -> bool {
-    let mut account = Text::new(alloc);
+    let mut account = String::new(alloc);
     if put_refusal_with(0, "", &mut account).is_err() {
         return false;
     }
@@ -134,7 +133,7 @@ fn bad_line_with(
     line: usize,
     text: &str,
 ) -> Option<(u64, &'static str)> {
-    let mut account = Text::new(alloc);
+    let mut account = String::new(alloc);
     if put_refusal_with(line, text, &mut account).is_err() {
         return None;
     }

@@ -29,10 +29,6 @@ adds_one marks n below = record {
   ];
 }
 
--- none
-pub adds_none : (marks : List Bool) → Adds [] marks marks
-adds_none marks = record { as_many = refl; marked = All-nil (λ k. bit marks k ≡ true); stay = λ k was. was; only = λ k is. inl is }
-
 stay_marked : (marks others : List Bool) (numbers : List ℕ) → AreAmong marks others → AreMarked marks numbers → AreMarked others numbers
 stay_marked marks others numbers among each k d below = among (slice_index_or numbers k d) (each k d below)
 

@@ -1,8 +1,7 @@
 -- Bans are marked from the last to the first.
-use Rattle.std.proofs.Common.{◌≡◌, ℕ, ◌+◌, ◌<◌, ◌≤◌, inl, inr, Bool, true, false, List, length, replicate, slice_index_or, slice_set, sym, ap, subst, ◌∙◌, arith}
-use Rattle.std.proofs.lemmas.Bool.{cases_lt, false≢true}
-use Rattle.std.proofs.lemmas.Bool.Decides.{eqb_tells}
-use Rattle.std.proofs.lemmas.List.{get_or-replicate, get_or-set_other, get_or-set_same, get_or_default, get_or_past, length-replicate, length-set}
+use Rattle.std.proofs.Common.{◌≡◌, ℕ, ◌+◌, ◌<◌, ◌≤◌, inl, inr, Bool, true, List, length, slice_index_or, sym, ap, subst, ◌∙◌, arith}
+use Rattle.std.proofs.lemmas.Bool.{cases_lt}
+use Rattle.std.proofs.lemmas.List.{get_or_default}
 use Rattle.std.proofs.lemmas.List.Elements.{All-contains}
 use Rattle.circuits.specs.Literals.{bit}
 use Rattle.account_core.specs.declared.step.Ban.{Ban}
@@ -19,34 +18,6 @@ pub record IsMarking (all : List Ban) (count number left : ℕ) (marks : Marks) 
   pub named : (k : ℕ) (d : Ban) → left ≤ k → k < length all → bit marks.bans.items k ≡ true → HasMarked marks.facts.items marks.bans.items (slice_index_or all k d).step
   pub least_facts : (of_facts of_bans : List Bool) → IsClosed all number of_facts of_bans → AreAmong marks.facts.items of_facts
   pub least_bans : (of_facts of_bans : List Bool) → IsClosed all number of_facts of_bans → AreAmong marks.bans.items of_bans
-
-unmarked : (n k : ℕ) → bit (replicate n false) k ≡ true → ⊥
-unmarked n k is =
-    elim (cases_lt k n) [
-      | inl below ↦ false≢true (sym (get_or-replicate n k false false below) ∙ is)
-      | inr past ↦ false≢true (sym (get_or_past (replicate n false) k false (omega (arith, past, length-replicate n false))) ∙ is)
-    ]
-
--- one ban is marked alone
-pub marking_first : (all : List Ban) (count number : ℕ) (marks : Marks)
-    → number < length all
-    → marks.facts.items ≡ replicate count false
-    → marks.bans.items ≡ slice_set (replicate (length all) false) number true
-    → IsMarking all count number (number + 1) marks
-marking_first all count number marks held facts bans = record {
-  as_many_facts = ap length facts ∙ length-replicate count false;
-  as_many_bans = ap length bans ∙ (length-set (replicate (length all) false) number true ∙ length-replicate (length all) false);
-  concluded = ap (λ l. bit l number) bans ∙ get_or-set_same (replicate (length all) false) number true false (omega (arith, held, length-replicate (length all) false));
-  named = λ k d later below is. absurd (omega (arith, later, only k is));
-  least_facts = λ of_facts of_bans closed k is. absurd (unmarked count k (sym (ap (λ l. bit l k) facts) ∙ is));
-  least_bans = λ of_facts of_bans closed k is. subst (λ n. bit of_bans n ≡ true) (sym (only k is)) closed.concluded;
-}
-  where
-    only : (k : ℕ) → bit marks.bans.items k ≡ true → k ≡ number
-    only k is = elim (eqb_tells k number) [
-      | inl (test, e) ↦ e
-      | inr (test, other) ↦ absurd (unmarked (length all) k (sym (get_or-set_other (replicate (length all) false) number k true false other) ∙ (sym (ap (λ l. bit l k) bans) ∙ is)))
-    ]
 
 grown : (facts more_facts bans more_bans : List Bool) (step : Step) → AreAmong facts more_facts → AreAmong bans more_bans → HasMarked facts bans step → HasMarked more_facts more_bans step
 grown facts more_facts bans more_bans step of_facts of_bans has = record {

@@ -168,9 +168,7 @@ module _ (graphs : Graphs) (old new : Given) (facts bans : List Bool) where
 
       shown : (step : Step) → HasShown graphs ban.pairs step → HasShown graphs ban.pairs (renumbered facts bans step)
       shown (Vector output values) has = has
-      shown (Mismatch fails holds) has = has
-      shown (Tally kind have lack) has = has
-      shown (Cover kind from to refs) has = has
+      shown step has = has
 
 -- facts stay facts
 pub facts_kept : (graphs : Graphs) (facts : List Fact) (bans : List Ban) (number : ℕ) (core : Core) → IsTrimmed facts bans number core → AreFacts graphs facts → AreFacts graphs core.facts

@@ -1,8 +1,8 @@
 -- The lines of an account, one after another.
-use Rattle.std.proofs.Common.{◌≡◌, ℕ, ◌+◌, ◌<◌, ◌≤◌, ◌==◌, ◌&&◌, Bool, true, IsFalse, List, [], ◌∷◌, ◌++◌, length, map, All, Result, Ok, Err, OnOk, refl, sym, ap, subst, ◌∙◌, arith, append_assoc}
+use Rattle.std.proofs.Common.{◌≡◌, ℕ, ◌+◌, ◌<◌, ◌≤◌, ◌==◌, ◌&&◌, Bool, IsFalse, List, [], ◌∷◌, ◌++◌, length, map, All, Result, Ok, Err, OnOk, refl, sym, ap, subst, ◌∙◌, arith, append_assoc}
 use Rattle.std.specs.List.{flat_map}
-use Rattle.std.proofs.lemmas.Bool.{false≢true}
-use Rattle.std.proofs.lemmas.List.Elements.{All-cons, All-nil}
+use Rattle.std.proofs.lemmas.Bool.{false≢true, and_from}
+use Rattle.std.proofs.lemmas.List.Elements.{All-cons}
 use Rattle.cnf_core.specs.declared.log.Log.{Log}
 use Rattle.cnf_core.specs.declared.log.LogLine.{LogLine}
 use Rattle.query_core.specs.declared.claims.Claim.{Claim}
@@ -14,7 +14,7 @@ use Rattle.account_file.specs.declared.record.Record.{Record}
 use Rattle.account_file.specs.declared.record.Record.TheVariants as entry
 use Rattle.account_file.specs.Spelling.{record_line, IsWritable}
 use Rattle.account_write.specs.declared.lines.Lines.{Lines}
-use Rattle.account_write.specs.Records.{Steps, fact_records, head_of, in_order, lines_of, log_lines, log_records, records_left, shown_records, steps_left}
+use Rattle.account_write.specs.Records.{Steps, fact_records, head_of, in_order, lines_of, log_lines, log_records, records_left, shown_records}
 
 -- a fact's records are its line and those of its log
 shown_is : (claim : Claim) (e : Evidence) → shown_records claim e ≡ head_of claim e ∷ map (λ line. entry.Line line) (log_lines e)
@@ -22,9 +22,6 @@ shown_is claim (evidence.Fails bits) = refl
 shown_is claim (evidence.Holds log) = refl
 
 -- the next record in order, where nothing is left of what comes before it
-
-pub front_first : (front rest : List Record) (log : List LogLine) (facts : List Fact) (logs : List Log) (bans : List Ban) (back : List Record) (one : Record) → front ≡ one ∷ rest → in_order front log facts logs bans back ≡ one ∷ in_order rest log facts logs bans back
-front_first front rest log facts logs bans back one is = ap (λ f. in_order f log facts logs bans back) is
 
 pub line_first : (log rest : List LogLine) (facts : List Fact) (logs : List Log) (bans : List Ban) (back : List Record) (one : LogLine) → log ≡ one ∷ rest → in_order [] log facts logs bans back ≡ entry.Line one ∷ in_order [] rest facts logs bans back
 line_first log rest facts logs bans back one is = ap (λ l. in_order [] l facts logs bans back) is
@@ -80,9 +77,6 @@ back_next (x ∷ front) log facts logs bans back rest one none no_line no_fact n
 
 -- where one of the lists isn't empty a step is left
 
-both_true : (b c : Bool) → b ≡ true → c ≡ true → (b && c) ≡ true
-both_true b c is also = ap (λ d. d && c) is ∙ also
-
 pub some_left : (front : List Record) (log : List LogLine) (facts : List Fact) (logs : List Log) (bans : List Ban) (back : List Record) (a b c d e f : Bool)
     → a ≡ (length front == 0)
     → b ≡ (length log == 0)
@@ -93,14 +87,10 @@ pub some_left : (front : List Record) (log : List LogLine) (facts : List Fact) (
     → IsFalse (a && b && c && d && e && f)
     → 0 < length (in_order front log facts logs bans back) + length logs
 some_left [] [] [] [] [] [] a b c d e f one two three four five six is =
-    absurd (false≢true (sym is ∙ both_true (a && b && c && d && e) f (both_true (a && b && c && d) e (both_true (a && b && c) d (both_true (a && b) c (both_true a b one two) three) four) five) six))
-some_left (x ∷ front) log facts logs bans back a b c d e f one two three four five six is = omega arith
-some_left [] (x ∷ log) facts logs bans back a b c d e f one two three four five six is = omega arith
+    absurd (false≢true (sym is ∙ and_from (a && b && c && d && e) f (and_from (a && b && c && d) e (and_from (a && b && c) d (and_from (a && b) c (and_from a b one two) three) four) five) six))
 some_left [] [] (x ∷ facts) logs bans back a b c d e f one two three four five six is =
     let first = fact_first (x ∷ facts) facts logs bans back x refl in omega (arith, ap length first)
-some_left [] [] [] (x ∷ logs) bans back a b c d e f one two three four five six is = omega arith
-some_left [] [] [] [] (x ∷ bans) back a b c d e f one two three four five six is = omega arith
-some_left [] [] [] [] [] (x ∷ back) a b c d e f one two three four five six is = omega arith
+some_left front log facts logs bans back a b c d e f one two three four five six is = omega arith
 
 -- a line was printed
 pub printed : {E : Type 0} (result : Result (Unit {0}) E) (old new : Lines) (before after : List ℕ) (one : Record)
@@ -126,7 +116,3 @@ begun old new text same fewer = record {
   writable = λ each. subst (All IsWritable) (sym same) each;
   fewer = λ some. omega (arith, fewer, ap length same);
 }
-
--- all can be read back, where each that was printed can
-pub all_read_back : (lines : List Record) → lines ≡ [] → All IsWritable lines
-all_read_back lines none = subst (All IsWritable) (sym none) (All-nil IsWritable)

@@ -11,6 +11,7 @@ use Rattle.std.proofs.Math.Seq.{drop-append_seam, take-append_seam}
 use Rattle.circuits.specs.declared.netlist.Lit.{Lit}
 use Rattle.circuits.specs.declared.definition.Def.{Def}
 use Rattle.circuits.specs.declared.definition.Def.TheVariants.{And}
+use Rattle.circuits.proofs.Expansions.{map-agree}
 use Rattle.aiger_reader.specs.declared.body.Literals.{Literals}
 use Rattle.aiger_reader.specs.Headers.{AigerHeader}
 use Rattle.aiger_reader.specs.Bodies.{roles_of, defined, first_of, IsKnown, IsKnownRow, literal_of, text_circuit}
@@ -22,12 +23,6 @@ use Rattle.aiger_reader.proofs.NumberingLemmas.{output_reads, gate_reads}
 
 pub same_test : (n : ℕ) → (n == n) ≡ true
 same_test n = grind (arith, nat_tests)
-
--- functions that agree on a list's elements
-map_on : {X Y : Type 0} (f g : X → Y) (xs : List X) → All (λ x. f x ≡ g x) xs → map f xs ≡ map g xs
-map_on f g [] same = refl
-map_on f g (x ∷ xs) same =
-    ap₂ (λ y ys. y ∷ ys) (All-head (λ x. f x ≡ g x) x xs same) (map_on f g xs (All-tail (λ x. f x ≡ g x) x xs same))
 
 -- the place of a variable that is there
 place_is : (greatest : ℕ) (variables signals : List ℕ) (v : ℕ) → IsNumbering greatest variables signals → Contains variables v → get_or signals v 0 ≡ 1 + position_or_len (λ w. w == v) variables
@@ -106,6 +101,6 @@ circuit_is h literals signals text sound rows =
     let and_same : All (λ line. def_in signals line ≡ and_row (row_of line)) literals.gates.items = λ k d below. let known = gates_are_known h literals signals sound rows k d below in ap₂ And (literal_is h.variables variables signals (get_or literals.gates.items k d).a sound.numbered known.0) (literal_is h.variables variables signals (get_or literals.gates.items k d).b sound.numbered known.1) in
     let out_count : h.outputs ≡ length (map single literals.outputs.items) = omega (arith, sound.counts.outputs_read, length-map literals.outputs.items single) in
     let taken : take h.outputs (drop h.inputs (rows_of literals)) ≡ map single literals.outputs.items = ap (take h.outputs) (after_inputs h literals count) ∙ (ap (λ n. take n (map single literals.outputs.items ++ map row_of literals.gates.items)) out_count ∙ take-append_seam (map single literals.outputs.items) (map row_of literals.gates.items)) in
-    let outputs : map (lit_in signals) literals.outputs.items ≡ map out_row (take h.outputs (drop h.inputs (rows_of literals))) = map_on (lit_in signals) (literal_of variables) literals.outputs.items out_same ∙ (sym (map-map out_row single literals.outputs.items) ∙ ap (map out_row) (sym taken)) in
-    let defs : map (def_in signals) literals.gates.items ≡ map and_row (drop (h.inputs + h.outputs) (rows_of literals)) = map_on (def_in signals) (λ line. and_row (row_of line)) literals.gates.items and_same ∙ (sym (map-map and_row row_of literals.gates.items) ∙ ap (map and_row) (sym (after_outputs h literals count sound.counts.outputs_read))) in
+    let outputs : map (lit_in signals) literals.outputs.items ≡ map out_row (take h.outputs (drop h.inputs (rows_of literals))) = map-agree (lit_in signals) (literal_of variables) literals.outputs.items out_same ∙ (sym (map-map out_row single literals.outputs.items) ∙ ap (map out_row) (sym taken)) in
+    let defs : map (def_in signals) literals.gates.items ≡ map and_row (drop (h.inputs + h.outputs) (rows_of literals)) = map-agree (def_in signals) (λ line. and_row (row_of line)) literals.gates.items and_same ∙ (sym (map-map and_row row_of literals.gates.items) ∙ ap (map and_row) (sym (after_outputs h literals count sound.counts.outputs_read))) in
     ap₂ (circuit_from h.inputs) defs outputs

@@ -8,7 +8,7 @@ use Rattle.net_file.specs.declared.fault.NetKind.{NetKind}
 use Rattle.net_file.specs.declared.fault.NetKind.TheVariants as kind
 use Rattle.aiger_reader.specs.Words.{numbers_on}
 use Rattle.aiger_reader.specs.Headers.{AigerHeader}
-use Rattle.aiger_reader.specs.Bodies.{Role, Output, roles_of, role_at, defines, defined, body_lines, line_offset, first_of, Writes, IsGoodRow, AreGood, IsBodyFault}
+use Rattle.aiger_reader.specs.Bodies.{Role, Output, roles_of, role_at, defines, defined, body_lines, first_of, Writes, IsGoodRow, AreGood, IsBodyFault}
 use Rattle.aiger_reader.specs.Reading.{IsAtLine, IsReading, IsWanted, IsRowOn, IsNextFault, IsNumbering, IsRowRead, next_line_of}
 use Rattle.aiger_reader.proofs.PlaceLemmas.{place_more, next_is, there, offset_is, body_ends, file_ends}
 use Rattle.aiger_reader.proofs.SignalLemmas.{place_cases, signals_more, distinct}
@@ -141,24 +141,4 @@ reading_definition bytes h rows p rest signals count width row reading next wide
       left = subst (λ n. IsAtLine bytes n rest) (omega (arith, length-append rows (row ∷ []))) read.left;
       numbered = after;
       counted = omega (arith, reading.counted, ap length more, length-append before (v ∷ []));
-    }
-
--- a line that defines what is defined
-pub redefined : (bytes : List ℕ) (h : AigerHeader) (rows : List (List ℕ)) (p rest : Piece) (signals : List ℕ) (count width : ℕ) (row : List ℕ) (at : ℕ) → IsReading bytes h rows p signals count → IsWanted h rows width true → length row ≡ width → IsRowRead bytes h rows true row rest → at ≡ line_offset bytes (length rows + 1) → 0 < get_or signals (first_of row / 2) 0 → IsBodyFault bytes h kind.Redefined at
-redefined bytes h rows p rest signals count width row at reading next wide read is taken =
-    record {
-      rows = rows;
-      good = reading.good;
-      wanted_line = next.announced;
-      why = (
-        record {
-          row = row;
-          there = read.there;
-          written = record { numbers = read.on.written; width = wide ∙ sym next.wide };
-          good = good_row h rows (get_or (body_lines bytes) (length rows) []) row width true next read.on;
-          defining = sym (sym next.role);
-          before = reading.numbered.others (first_of row / 2) taken;
-        },
-        is,
-      );
     }

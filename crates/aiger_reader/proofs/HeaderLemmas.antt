@@ -1,19 +1,14 @@
 -- What the numbers on the first line say of each header.
-use Rattle.std.proofs.Common.{◌≡◌, ℕ, suc, ◌+◌, ◌-◌, ◌^◌, ◌<◌, ◌≤◌, ◌==◌, Bool, true, false, IsTrue, List, [], ◌∷◌, ◌++◌, length, map, take, drop, get_or, set, Option, Some, None, IfSome, IfNone, Result, Ok, Err, IfOk, nat_lt, refl, sym, ap, subst, ◌∙◌, arith, length-append, length-take, length-drop}
+use Rattle.std.proofs.Common.{◌≡◌, ℕ, suc, ◌-◌, ◌^◌, ◌<◌, ◌≤◌, ◌==◌, Bool, true, false, IsTrue, List, [], ◌∷◌, ◌++◌, length, map, take, drop, get_or, Option, Some, None, IfSome, IfNone, Result, Ok, Err, IfOk, nat_lt, refl, sym, ap, subst, ◌∙◌, arith, length-take, length-drop}
 use Rattle.std.specs.List.{list_any}
-use Rattle.std.proofs.lemmas.List.{length-map, nil_from_length, take_more_set}
-use Rattle.std.proofs.lemmas.List.Elements.{All-nil, All-cons, All-head, All-tail, All-append}
+use Rattle.std.proofs.lemmas.List.{length-map}
+use Rattle.std.proofs.lemmas.List.Elements.{All-head, All-tail}
 use Rattle.text_core.specs.Lines.{lines}
 use Rattle.text_core.specs.Piece.{Piece}
 use Rattle.aiger_reader.specs.declared.header.Numbers.{Numbers}
 use Rattle.aiger_reader.specs.Words.{numbers_on, AreSmall}
 use Rattle.aiger_reader.specs.Headers.{AigerHeader, header_numbers, keyword, line_after, WritesHeader, HasHeader}
 use Rattle.aiger_reader.specs.Numbers.{header_from, WritesNumbers, IsCounted}
-
--- after as many numbers as a row has, nothing is left
-none_left : (done numbers : List ℕ) (whole left : List (Option ℕ)) → whole ≡ map Some done ++ left → length numbers ≤ length done → whole ≡ map Some numbers → left ≡ []
-none_left done numbers whole left front all same =
-    nil_from_length left (omega (arith, ap length front, ap length same, length-append (map Some done) left, length-map done (λ (n : ℕ). Some n), length-map numbers (λ (n : ℕ). Some n)))
 
 -- a word that is no number of 32 bits stands in no row of them
 pub no_number : (done numbers : List ℕ) (word : Option ℕ) (rest : List (Option ℕ)) → AreSmall numbers → ((n : ℕ) → n < 2 ^ 32 → word ≡ Some n → ⊥) → map Some done ++ word ∷ rest ≡ map Some numbers → ⊥
@@ -23,15 +18,6 @@ no_number [] (n ∷ ns) word rest small none same =
 no_number (d ∷ ds) [] word rest small none same = cc
 no_number (d ∷ ds) (n ∷ ns) word rest small none same =
     no_number ds ns word rest (All-tail (λ n. n < 2 ^ 32) n ns small) none (cc)
-
--- one number more at the front of a row
-pub small_more : (row : List ℕ) (i n : ℕ) → i < length row → n < 2 ^ 32 → AreSmall (take i row) → AreSmall (take (i + 1) (set row i n))
-small_more row i n h small front =
-    subst AreSmall (sym (take_more_set row i n h)) (All-append (λ n. n < 2 ^ 32) (take i row) (n ∷ []) front (All-cons (λ n. n < 2 ^ 32) n [] small (All-nil (λ n. n < 2 ^ 32))))
-
--- numbers that fill a row with a word after them are more than the row has room for
-pub no_room : (done numbers : List ℕ) (whole left : List (Option ℕ)) → whole ≡ map Some done ++ left → (left ≡ [] → ⊥) → length numbers ≤ length done → whole ≡ map Some numbers → ⊥
-no_room done numbers whole left front some few same = some (none_left done numbers whole left front few same)
 
 -- the first of the lines
 pub line_after-first : (bytes left line : List ℕ) (rest : List (List ℕ)) → left ≡ drop 4 bytes → lines left ≡ line ∷ rest → line_after bytes ≡ line
@@ -61,12 +47,8 @@ too_few line row count h numbers few writes =
 
 -- five numbers at the front, and the others
 take_five : (row : List ℕ) (k : ℕ) → 5 ≤ length row → take (suc (suc (suc (suc (suc k))))) row ≡ get_or row 0 0 ∷ get_or row 1 0 ∷ get_or row 2 0 ∷ get_or row 3 0 ∷ get_or row 4 0 ∷ take k (drop 5 row)
-take_five [] k h = absurd (omega arith)
-take_five (a ∷ []) k h = absurd (omega arith)
-take_five (a ∷ b ∷ []) k h = absurd (omega arith)
-take_five (a ∷ b ∷ c ∷ []) k h = absurd (omega arith)
-take_five (a ∷ b ∷ c ∷ d ∷ []) k h = absurd (omega arith)
 take_five (a ∷ b ∷ c ∷ d ∷ e ∷ rest) k h = refl
+take_five row k h = absurd (omega arith)
 
 -- five numbers or more that are read are those of a header
 pub numbers_read : (line row : List ℕ) (count : ℕ) (any : Bool) → numbers_on line ≡ map Some (take count row) → 5 ≤ count → count ≤ length row → length row ≡ 9 → AreSmall (take count row) → any ≡ list_any (nat_lt 0) (take (count - 5) (drop 5 row)) → WritesNumbers line (record { variables = get_or row 0 0; inputs = get_or row 1 0; latches = get_or row 2 0; outputs = get_or row 3 0; gates = get_or row 4 0; has_property = any })

@@ -1,5 +1,5 @@
 -- An accepted header has no latches, and keeps the limits.
-use Rattle.std.proofs.Common.{◌≡◌, ◌≤◌, ◌||◌, Bool, true, false, nat_lt, None, Some, if◌then◌else◌, refl, arith}
+use Rattle.std.proofs.Common.{◌≡◌, ◌≤◌, ◌||◌, Bool, false, nat_lt, None, Some, if◌then◌else◌, refl, arith}
 use Rattle.std.specs.List.{list_any}
 use Rattle.std.proofs.lemmas.Bool.{ltb-false}
 use Rattle.net_file.specs.declared.fault.NetKind.{NetKind}
@@ -7,12 +7,8 @@ use Rattle.aiger_reader.specs.Headers.{AigerHeader, header_fault}
 
 -- where none of six tests passes, four of them fail
 none_passes : (a b c d e f : Bool) (p q r s t : NetKind) → (if a then Some p else if b then Some q else if c then Some r else if d then Some s else if e || f then Some t else None) ≡ None → (a ≡ false) × (c ≡ false) × (d ≡ false) × (e ≡ false)
-none_passes true b c d e f p q r s t none = cc
-none_passes false true c d e f p q r s t none = cc
-none_passes false false true d e f p q r s t none = cc
-none_passes false false false true e f p q r s t none = cc
-none_passes false false false false true f p q r s t none = cc
 none_passes false false false false false f p q r s t none = (refl, refl, refl, refl)
+none_passes a b c d e f p q r s t none = cc
 
 pub record KeepsLimits (h : AigerHeader) : Type 0 where
   pub latches : h.latches ≡ 0

@@ -1,9 +1,10 @@
 -- The lines of the symbols, one after another.
-use Rattle.std.proofs.Common.{◌≡◌, ◌==◌, ℕ, zero, suc, ◌+◌, ◌<◌, ◌≤◌, ◌⊎◌, Bool, true, false, cond, not, List, [], ◌∷◌, ◌++◌, length, take, All, Option, None, Some, inl, inr, refl, sym, ap, ◌∙◌, subst, arith, append-nil, length-append, append_assoc}
+use Rattle.std.proofs.Common.{◌≡◌, ◌==◌, ℕ, ◌+◌, ◌⊎◌, Bool, true, false, cond, not, List, [], ◌∷◌, ◌++◌, length, take, All, Option, None, Some, inl, inr, refl, sym, ap, ◌∙◌, subst, arith, append-nil, length-append, append_assoc}
 use Rattle.std.specs.List.{take_while}
 use Rattle.std.proofs.lemmas.List.{drop_all, length-take-le, take_at, length_push}
-use Rattle.std.proofs.lemmas.List.Elements.{All-nil, All-push, All-head, All-tail}
+use Rattle.std.proofs.lemmas.List.Elements.{All-push, All-head, All-tail}
 use Rattle.std.proofs.lemmas.List.Sums.{take_while-cons}
+use Rattle.std.proofs.lemmas.Bool.{cases_lt}
 use Rattle.text_core.specs.Lines.{lines, text_of_lines, line_length, first_line, after_line}
 use Rattle.text_core.specs.Piece.{Piece, front}
 use Rattle.aiger_reader.specs.declared.symbols.SymbolStop.{SymbolStop}
@@ -21,18 +22,6 @@ pub record IsUnderWay (inputs outputs : ℕ) (text left : Piece) (input_slots ou
   pub ports : ArePortSlots entries input_slots output_slots
   pub offset : (left.bytes ≡ []) ⊎ (left.at ≡ text.at + length (text_of_lines done))
 
--- no line is read yet
-pub at_front : (inputs outputs : ℕ) (text : Piece) (input_slots output_slots : List (Option (List ℕ))) → ArePortSlots [] input_slots output_slots → IsUnderWay inputs outputs text text input_slots output_slots
-at_front inputs outputs text input_slots output_slots ports = record {
-  done = [];
-  entries = [];
-  split = refl;
-  symbols = All-nil (λ line. is_comment line ≡ false);
-  given = refl;
-  ports = ports;
-  offset = inr (omega arith);
-}
-
 some_of : (b : Bool) (x y : Piece) → cond b None (Some x) ≡ Some y → x ≡ y
 some_of true x y h = cc
 some_of false x y h = cc
@@ -41,18 +30,12 @@ line_is : (left line : Piece) → first_line left ≡ Some line → front (line_
 line_is left line h =
     some_of (length left.bytes == 0) (front (line_length left.bytes) left) line h
 
-below_or_not : (a b : ℕ) → (a < b) ⊎ (b ≤ a)
-below_or_not a zero = inr (omega arith)
-below_or_not zero (suc b) = inl (omega arith)
-below_or_not (suc a) (suc b) =
-    elim (below_or_not a b) [ inl h ↦ inl (omega arith) | inr h ↦ inr (omega arith) ]
-
 -- the offset after a line, where anything is left there
 offset_after : (left line : Piece) → first_line left ≡ Some line → ((after_line left).bytes ≡ []) ⊎ ((after_line left).at ≡ left.at + (length line.bytes + 1))
 offset_after left line first =
     let n = line_length left.bytes in
     let bytes : take n left.bytes ≡ line.bytes = ap (λ (p : Piece). p.bytes) (line_is left line first) in
-    elim (below_or_not n (length left.bytes)) [
+    elim (cases_lt n (length left.bytes)) [
       | inl h ↦ inr (omega (arith, length-take-le n left.bytes (omega arith), ap length bytes))
       | inr h ↦ inl (drop_all (n + 1) left.bytes (omega arith))
     ]

@@ -1,5 +1,5 @@
 -- The numbers on a line, and the same numbers up to a limit.
-use Rattle.std.proofs.Common.{◌≡◌, ℕ, ◌+◌, ◌<◌, ◌≤◌, min, Bool, List, [], ◌∷◌, ◌++◌, length, length-append, map, All, Option, Some, None, refl, sym, ap, ap₂, subst, ◌∙◌, arith}
+use Rattle.std.proofs.Common.{◌≡◌, ℕ, ◌+◌, ◌≤◌, min, Bool, List, [], ◌∷◌, ◌++◌, length, map, All, Option, Some, None, refl, sym, ap, ap₂, subst, ◌∙◌, arith}
 use Rattle.std.specs.Option.{option_map}
 use Rattle.std.proofs.lemmas.List.{length-map}
 use Rattle.std.proofs.lemmas.List.Elements.{All-nil, All-cons, All-head, All-tail}
@@ -7,19 +7,14 @@ use Rattle.net_file.specs.declared.fault.NetKind.TheVariants as kind
 use Rattle.aiger_reader.specs.Words.{numbers_on}
 use Rattle.aiger_reader.specs.Reading.{capped_on, IsRowFault}
 
--- too few words on a line
-pub no_word : (done numbers : List ℕ) (whole left : List (Option ℕ)) → whole ≡ map Some done ++ left → left ≡ [] → length done < length numbers → whole ≡ map Some numbers → ⊥
-no_word done numbers whole left front none fewer same =
-    omega (arith, ap length front, ap length none, ap length same, length-append (map Some done) left, length-map done (λ (n : ℕ). Some n), length-map numbers (λ (n : ℕ). Some n))
-
 -- a word that is no number
 pub not_written : (done numbers : List ℕ) (whole rest : List (Option ℕ)) → whole ≡ map Some done ++ None ∷ rest → whole ≡ map Some numbers → ⊥
-not_written [] [] whole rest front same = cc
-not_written [] (n ∷ ns) whole rest front same = cc
-not_written (d ∷ ds) [] whole rest front same = cc
 not_written (d ∷ ds) (n ∷ ns) whole rest front same =
     let all : map Some (d ∷ ds) ++ None ∷ rest ≡ map Some (n ∷ ns) = sym front ∙ same in
     not_written ds ns (map Some ns) rest (cc) refl
+not_written [] [] whole rest front same = cc
+not_written [] (n ∷ ns) whole rest front same = cc
+not_written (d ∷ ds) [] whole rest front same = cc
 
 -- each number, up to a limit
 abbrev pub capped : ℕ → List ℕ → List ℕ
@@ -31,14 +26,13 @@ all_capped limit words = map (option_map (λ n. min n limit)) words
 -- where the limit leaves numbers, there are numbers
 uncapped : (limit : ℕ) (words : List (Option ℕ)) (row : List ℕ) → all_capped limit words ≡ map Some row → (numbers : List ℕ) × (words ≡ map Some numbers) × (row ≡ capped limit numbers)
 uncapped limit [] [] e = ([], refl, refl)
-uncapped limit [] (n ∷ row) e = cc
-uncapped limit (word ∷ words) [] e = cc
-uncapped limit (None ∷ words) (n ∷ row) e = cc
 uncapped limit (Some m ∷ words) (n ∷ row) e =
     let tails : all_capped limit words ≡ map Some row = cc in
     let head : n ≡ min m limit = cc in
     let rest = uncapped limit words row tails in
     (m ∷ rest.0, ap (λ ws. Some m ∷ ws) rest.1, ap₂ (λ one more. one ∷ more) head rest.2)
+uncapped limit (None ∷ words) (n ∷ row) e = cc
+uncapped limit words row e = cc
 
 -- numbers are capped as numbers
 pub all_capped-map : (limit : ℕ) (numbers : List ℕ) → all_capped limit (map Some numbers) ≡ map Some (capped limit numbers)

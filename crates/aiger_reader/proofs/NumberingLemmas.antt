@@ -1,7 +1,7 @@
 -- What the lines read, by the signals of the variables.
-use Rattle.std.proofs.Common.{◌≡◌, ◌≢◌, ℕ, ◌+◌, ◌-◌, ◌*◌, ◌/◌, ◌<◌, ◌≤◌, ◌⊎◌, Bool, true, false, List, [], ◌∷◌, ◌++◌, length, length-append, map, get_or, All, inl, inr, refl, sym, ap, subst, ◌∙◌, arith}
+use Rattle.std.proofs.Common.{◌≡◌, ◌≢◌, ℕ, ◌+◌, ◌-◌, ◌*◌, ◌/◌, ◌<◌, ◌≤◌, true, false, List, [], ◌∷◌, ◌++◌, length, length-append, map, get_or, All, inl, inr, sym, ap, subst, ◌∙◌, arith}
 use Rattle.std.specs.List.{prefix_len}
-use Rattle.std.proofs.lemmas.Bool.{cases_lt}
+use Rattle.std.proofs.lemmas.Bool.{cases_lt, cases_Bool}
 use Rattle.std.proofs.Math.Bool.{and-eq-true_iff}
 use Rattle.std.proofs.lemmas.Bool.Decides.{nat_tests}
 use Rattle.std.proofs.lemmas.List.{length-map, get_or-map, get_or-append-add, get_or_append_left}
@@ -68,10 +68,6 @@ no_place_tells greatest variables signals literal numbering has is =
     let free : get_or signals (literal / 2) 0 ≡ 0 = grind (arith, nat_tests) in
     known greatest variables signals (literal / 2) numbering free (is some)
 
-bool_cases : (t : Bool) → (t ≡ true) ⊎ (t ≡ false)
-bool_cases true = inl refl
-bool_cases false = inr refl
-
 -- the lines of the inputs, and of the first outputs, read what is there
 pub outputs_known : (h : AigerHeader) (literals : Literals) (signals : List ℕ) (n : ℕ) → IsSound h literals signals → n ≡ prefix_len (has_place signals) literals.outputs.items → n ≤ length literals.outputs.items → (k : ℕ) → k < input_lines_of h + n → IsKnownRow h (rows_of literals) k
 outputs_known h literals signals n sound is within k below =
@@ -112,7 +108,7 @@ gates_known h literals signals n m sound is all_outputs gates_is within k below 
 
 known_tells : (greatest : ℕ) (variables signals : List ℕ) (literal : ℕ) → IsNumbering greatest variables signals → IsKnown variables literal → has_place signals literal ≡ true
 known_tells greatest variables signals literal numbering is =
-    elim (bool_cases (has_place signals literal)) [ inl has ↦ has | inr free ↦ absurd (no_place_tells greatest variables signals literal numbering free is) ]
+    elim (cases_Bool (has_place signals literal)) [ inl has ↦ has | inr free ↦ absurd (no_place_tells greatest variables signals literal numbering free is) ]
 
 pub gate_unknown : (h : AigerHeader) (literals : Literals) (signals : List ℕ) (n m : ℕ) → IsSound h literals signals → n ≡ length literals.outputs.items → m ≡ prefix_len (have_places signals) literals.gates.items → input_lines_of h + n + m < length (rows_of literals) → IsKnownRow h (rows_of literals) (input_lines_of h + n + m) → ⊥
 gate_unknown h literals signals n m sound all_outputs gates_is below row =

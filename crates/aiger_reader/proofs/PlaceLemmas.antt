@@ -92,8 +92,3 @@ some_bytes (b ∷ bs) some = omega arith
 pub some_left : (bytes : List ℕ) (k : ℕ) (p : Piece) → IsAtLine bytes k p → k < length (lines bytes) → 0 < length p.bytes
 some_left bytes k p at below =
     some_bytes p.bytes (omega (arith, ap length at.left, length-drop k (lines bytes)))
-
--- the place at the front
-pub place_zero : (bytes : List ℕ) (p : Piece) → p ≡ record { bytes = bytes; at = 0 } → IsAtLine bytes 0 p
-place_zero bytes p is =
-    subst (IsAtLine bytes 0) (sym is) (record { left = refl; rest = refl; offset = omega arith })

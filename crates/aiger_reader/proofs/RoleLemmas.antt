@@ -6,7 +6,7 @@ use Rattle.aiger_reader.specs.declared.body.AndLine.{AndLine}
 use Rattle.aiger_reader.specs.declared.body.Literals.{Literals}
 use Rattle.aiger_reader.specs.Headers.{AigerHeader}
 use Rattle.aiger_reader.specs.Bodies.{Role, Input, Output, Gate, roles_of, role_at, wanted, defines}
-use Rattle.aiger_reader.specs.Reading.{row_of, rows_of, input_lines_of, gate_lines_of, IsWanted, IsAtInput, IsAtOutput, IsAtGate}
+use Rattle.aiger_reader.specs.Reading.{row_of, rows_of, input_lines_of, gate_lines_of, IsWanted, IsAtOutput}
 
 -- n inputs, then outputs, then gates
 abbrev roles : ℕ → ℕ → ℕ → List Role
@@ -62,17 +62,9 @@ wanted_as h rows role announced is =
 pub role_is : (h : AigerHeader) (k : ℕ) → role_at h k ≡ get_or (roles (input_lines_of h) h.outputs (gate_lines_of h)) k Output
 role_is h k = ap (λ rs. get_or rs k Output) (roles_by h.binary h.inputs h.outputs h.gates)
 
-pub wanted_input : (h : AigerHeader) (literals : Literals) → IsAtInput h literals → IsWanted h (rows_of literals) 1 true
-wanted_input h literals at =
-    wanted_as h (rows_of literals) Input (omega (arith, length-rows_of literals, length-roles_of h, at.inputs, at.outputs, at.gates)) (role_is h (length (rows_of literals)) ∙ input_role (input_lines_of h) h.outputs (gate_lines_of h) (length (rows_of literals)) (omega (arith, length-rows_of literals, at.inputs, at.outputs, at.gates)))
-
 pub wanted_output : (h : AigerHeader) (literals : Literals) → IsAtOutput h literals → IsWanted h (rows_of literals) 1 false
 wanted_output h literals at =
     wanted_as h (rows_of literals) Output (omega (arith, length-rows_of literals, length-roles_of h, at.inputs, at.outputs, at.gates)) (role_is h (length (rows_of literals)) ∙ output_role (input_lines_of h) h.outputs (gate_lines_of h) (length (rows_of literals)) (omega (arith, length-rows_of literals, at.inputs, at.outputs, at.gates)) (omega (arith, length-rows_of literals, at.inputs, at.outputs, at.gates)))
-
-pub wanted_gate : (h : AigerHeader) (literals : Literals) → IsAtGate h literals → IsWanted h (rows_of literals) 3 true
-wanted_gate h literals at =
-    wanted_as h (rows_of literals) Gate (omega (arith, length-rows_of literals, length-roles_of h, at.inputs, at.outputs, at.gates)) (role_is h (length (rows_of literals)) ∙ gate_role (input_lines_of h) h.outputs (gate_lines_of h) (length (rows_of literals)) (omega (arith, length-rows_of literals, at.inputs, at.outputs, at.gates)) (omega (arith, length-rows_of literals, at.inputs, at.outputs, at.gates)))
 
 abbrev rows_from : List ℕ → List ℕ → List AndLine → List (List ℕ)
 rows_from inputs outputs gates =
@@ -98,16 +90,12 @@ more_gate inputs outputs gates gate =
     ap (λ rows. front ++ rows) (map-append row_of gates (gate ∷ [])) ∙ sym (append_assoc front (map row_of gates) (row_of gate ∷ []))
 
 one_of : (row : List ℕ) → length row ≡ 1 → get_or row 0 0 ∷ [] ≡ row
-one_of [] h = absurd (omega arith)
 one_of (a ∷ []) h = refl
-one_of (a ∷ b ∷ row) h = absurd (omega arith)
+one_of row h = absurd (omega arith)
 
 three_of : (row : List ℕ) → length row ≡ 3 → get_or row 0 0 ∷ get_or row 1 0 ∷ get_or row 2 0 ∷ [] ≡ row
-three_of [] h = absurd (omega arith)
-three_of (a ∷ []) h = absurd (omega arith)
-three_of (a ∷ b ∷ []) h = absurd (omega arith)
 three_of (a ∷ b ∷ c ∷ []) h = refl
-three_of (a ∷ b ∷ c ∷ d ∷ row) h = absurd (omega arith)
+three_of row h = absurd (omega arith)
 
 -- one line more
 pub rows_input : (old new : Literals) (row : List ℕ) → length row ≡ 1 → new.inputs.items ≡ old.inputs.items ++ get_or row 0 0 ∷ [] → new.outputs.items ≡ old.outputs.items → new.gates.items ≡ old.gates.items → length old.outputs.items ≡ 0 → length old.gates.items ≡ 0 → rows_of new ≡ rows_of old ++ row ∷ []

@@ -1,5 +1,5 @@
 -- Each file begins with a header that is accepted, or has a fault there.
-use Rattle.std.proofs.Common.{◌≡◌, ℕ, ◌+◌, ◌^◌, ◌<◌, ◌≤◌, ◌⊎◌, Bool, true, false, List, [], ◌∷◌, length, map, take, Option, None, Some, inl, inr, refl, sym, ap, ap₂, ◌∙◌, subst, arith}
+use Rattle.std.proofs.Common.{◌≡◌, ℕ, ◌+◌, ◌^◌, ◌<◌, ◌≤◌, ◌⊎◌, Bool, true, false, List, ◌∷◌, length, map, take, Option, None, Some, inl, inr, refl, sym, ap, ap₂, ◌∙◌, subst, arith}
 use Rattle.net_file.specs.declared.fault.NetKind.{NetKind}
 use Rattle.net_file.specs.declared.fault.NetKind.TheVariants as kind
 use Rattle.aiger_reader.specs.Words.{numbers_on}
@@ -15,12 +15,8 @@ header_is bytes binary row h begins written has =
     ap₂ header_from_row (keyword_same h.binary binary (sym has.begins ∙ begins)) (map_same (header_numbers h) row (sym has.numbers.written ∙ written))
 
 five_numbers : (binary : Bool) (row : List ℕ) → 5 ≤ length row → header_numbers (header_from_row binary row) ≡ row
-five_numbers binary [] enough = absurd (omega arith)
-five_numbers binary (a ∷ []) enough = absurd (omega arith)
-five_numbers binary (a ∷ b ∷ []) enough = absurd (omega arith)
-five_numbers binary (a ∷ b ∷ c ∷ []) enough = absurd (omega arith)
-five_numbers binary (a ∷ b ∷ c ∷ d ∷ []) enough = absurd (omega arith)
 five_numbers binary (a ∷ b ∷ c ∷ d ∷ e ∷ rest) enough = refl
+five_numbers binary row enough = absurd (omega arith)
 
 told_enough : (bytes : List ℕ) (binary : Bool) (row : List ℕ) → take 4 bytes ≡ keyword binary → numbers_on (line_after bytes) ≡ map Some row → 5 ≤ length row → Told (HasHeader bytes (header_from_row binary row))
 told_enough bytes binary row begins written enough =

@@ -1,5 +1,5 @@
 -- What stands between a file's parts and the whole.
-use Rattle.std.proofs.Common.{◌≡◌, ℕ, ◌+◌, ◌*◌, ◌<◌, ◌≤◌, Bool, true, false, not, List, [], ◌∷◌, length, map, drop, inl, inr, if◌then◌else◌, refl, sym, ap, subst, ◌∙◌, arith, length-drop, All}
+use Rattle.std.proofs.Common.{◌≡◌, ℕ, ◌+◌, ◌*◌, ◌<◌, ◌≤◌, Bool, true, false, List, [], ◌∷◌, length, map, drop, inl, inr, if◌then◌else◌, refl, sym, ap, subst, ◌∙◌, arith, length-drop, All}
 use Rattle.std.specs.List.{sum_by}
 use Rattle.std.proofs.lemmas.List.{drop_min, length-map}
 use Rattle.std.proofs.lemmas.List.Sums.{sum_by-cons}
@@ -213,7 +213,3 @@ names_fault bytes header circuit rest fault net acyclic end is why =
       why = why;
     } in
     inr (inr (inr (inr (inr found))))
-
-pub not_false : (t : Bool) → not t ≡ false → t ≡ true
-not_false true e = refl
-not_false false e = cc

@@ -12,9 +12,7 @@ mod symbols;
 mod whole;
 mod words;
 
-pub use laws::{
-    aiger_or_fault, aiger_or_its_fault, closed_aiger, few_ports, one_aiger, one_aiger_fault,
-};
+pub use laws::aiger_is_a_format;
 pub use net_core::{Gate, Graph, Lit};
 pub use net_file::{Name, Named, NetFault, NetKind, NetStop};
 pub use whole::read;

@@ -40,11 +40,6 @@ ascent_step P least x xs ys is within so_far = (
   (λ p. (ascend_rest least x xs (subst (AscendFrom least) is (so_far.1 p))).1),
 )
 
-pub ascent_stop : (P : Type 0) (least x : ℕ) (xs ys : List ℕ) → ys ≡ x ∷ xs → x < least → (AscendFrom least ys ↔ P) → P → ⊥
-ascent_stop P least x xs ys is below so_far p =
-    let e = (ascend_rest least x xs (subst (AscendFrom least) is (so_far.1 p))).0 in
-    omega (arith, e, below)
-
 -- all numbers are read
 pub ascent_end : (P : Type 0) (least : ℕ) (numbers : List ℕ) (k : ℕ) → length numbers ≤ k → (AscendFrom least (drop k numbers) ↔ P) → IsTrue true ↔ P
 ascent_end P least numbers k all so_far =

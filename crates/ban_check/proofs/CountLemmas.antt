@@ -13,10 +13,6 @@ use Rattle.ban_check.proofs.AscentLemmas.{ascend_more, ascend_rest, none_ascend}
 some_is : (i j : ℕ) → Some i ≡ Some j → i ≡ j
 some_is i j e = cc
 
--- shapes of one input each
-pub no_inputs : (least : ℕ) → GoOverInputs least []
-no_inputs least = record { inputs = []; of_each = tt; ascend = none_ascend least }
-
 of_one : (i : ℕ) (shape : Shape) → one_input shape ≡ Some i → (shape ≡ Up i) ⊎ (shape ≡ Down i)
 of_one i (Up j) e = inl (ap Up (some_is j i e))
 of_one i (Down j) e = inr (ap Down (some_is j i e))
@@ -86,10 +82,7 @@ of_two i (Up j) (Down k) e =
         let same : j ≡ k = grind (arith, nat_tests) in
         (ap Up (some_is j i e), ap Down (sym same ∙ some_is j i e))
     by false t e = cc
-of_two i (Up j) (Up k) e = cc
-of_two i (Up j) (Swap k l a b) e = cc
-of_two i (Down j) other e = cc
-of_two i (Swap j k a b) other e = cc
+of_two i one other e = cc
 
 to_two : (i : ℕ) → twin_input (Up i) (Down i) ≡ Some i
 to_two i =

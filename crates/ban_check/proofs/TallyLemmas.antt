@@ -1,5 +1,5 @@
 -- What the tests of a tally come to.
-use Rattle.std.proofs.Common.{◌≡◌, ℕ, ◌<◌, ◌&&◌, ◌↔◌, Bool, true, false, List, [], ◌∷◌, length, get_or, Any, refl, sym, ap, subst, ◌∙◌, arith}
+use Rattle.std.proofs.Common.{◌≡◌, ℕ, ◌+◌, ◌<◌, ◌&&◌, ◌↔◌, Bool, true, false, List, [], ◌∷◌, length, get_or, Any, refl, sym, ap, subst, ◌∙◌, arith}
 use Rattle.std.specs.Bool.{IsTrue}
 use Rattle.std.proofs.lemmas.List.{length-map}
 use Rattle.circuits.specs.declared.port.Pair.{Pair}
@@ -9,7 +9,7 @@ use Rattle.query_core.specs.declared.claims.Claim.{Claim}
 use Rattle.account_core.specs.declared.step.Tallied.{Tallied}
 use Rattle.account_core.specs.declared.step.Tallied.TheVariants.{Support, Binate}
 use Rattle.account_core.specs.Given.{Given, fact_at}
-use Rattle.account_core.specs.Tallies.{other_side, port_on, shapes_of, IsTally, SayOf}
+use Rattle.account_core.specs.Tallies.{other_side, port_on, shapes_of, IsTally, SayOf, HaveShapes, LackShapes, Ascend}
 use Rattle.ban_check.specs.Counted.{ArePaired, GoOverInputs, GoOverTwice, HaveTooMany}
 use Rattle.ban_check.proofs.AscentLemmas.{all_ascend}
 use Rattle.ban_check.proofs.BoolLemmas.{both_tests, same_test}
@@ -30,53 +30,46 @@ of_port : (given : Given) (numbers : List ℕ) (holds : Bool) (side other : Side
 of_port given numbers holds side other output port sides ports say =
     subst (λ s. SayOf given numbers holds s port) sides (subst (SayOf given numbers holds side) ports say)
 
-pub tally_from : (graphs : Graphs) (given : Given) (pairs : List Pair) (kind : Tallied) (have lack : List ℕ) (one other : Claim) → 0 < length have → 0 < length lack → IsTested graphs given pairs kind have lack one other → IsTally graphs given pairs kind have lack
-tally_from graphs given pairs Support have lack one other some_have some_lack t =
+-- a tally by the inputs that are counted
+tally_by : (graphs : Graphs) (given : Given) (pairs : List Pair) (kind : Tallied) (have lack : List ℕ) (one other : Claim) (having lacking : List ℕ) → IsTested graphs given pairs kind have lack one other
+    → HaveShapes kind having (shapes_of given have) → LackShapes kind lacking (shapes_of given lack) → Ascend having → Ascend lacking → 0 < length having → 0 < length lacking
+    → graphs.first.inputs < length having + length lacking → IsTally graphs given pairs kind have lack
+tally_by graphs given pairs kind have lack one other having lacking t have_shapes lack_shapes having_ascends lacking_ascends some_having some_lacking too_many =
     let pair = t.paired.1 in
     let paired = t.paired.4 in
+    record {
+      side = one.side;
+      pair = pair;
+      having = having;
+      lacking = lacking;
+      paired = (t.paired.0, t.paired.2, t.paired.3);
+      of_outputs = paired.of_outputs;
+      fail = of_port given have false one.side one.side one.output (port_on one.side pair) refl (sym paired.one_output) t.fail;
+      hold = of_port given lack true other.side (other_side one.side) other.output (port_on (other_side one.side) pair) paired.apart (sym paired.other_output ∙ ap (λ s. port_on s pair) paired.apart) t.hold;
+      have_shapes = have_shapes;
+      lack_shapes = lack_shapes;
+      having_ascends = having_ascends;
+      lacking_ascends = lacking_ascends;
+      some_have = some_having;
+      some_lack = some_lacking;
+      too_many = too_many;
+    }
+
+pub tally_from : (graphs : Graphs) (given : Given) (pairs : List Pair) (kind : Tallied) (have lack : List ℕ) (one other : Claim) → 0 < length have → 0 < length lack → IsTested graphs given pairs kind have lack one other → IsTally graphs given pairs kind have lack
+tally_from graphs given pairs Support have lack one other some_have some_lack t =
     let m = t.too_many in
     let each = inputs_count 0 (shapes_of given have) m.go_over in
     let twice = twos_count 0 (shapes_of given lack) m.go_over_twice in
-    record {
-      side = one.side;
-      pair = pair;
-      having = m.go_over.inputs;
-      lacking = m.go_over_twice.inputs;
-      paired = (t.paired.0, t.paired.2, t.paired.3);
-      of_outputs = paired.of_outputs;
-      fail = of_port given have false one.side one.side one.output (port_on one.side pair) refl (sym paired.one_output) t.fail;
-      hold = of_port given lack true other.side (other_side one.side) other.output (port_on (other_side one.side) pair) paired.apart (sym paired.other_output ∙ ap (λ s. port_on s pair) paired.apart) t.hold;
-      have_shapes = m.go_over.of_each;
-      lack_shapes = m.go_over_twice.both_of_each;
-      having_ascends = m.go_over.ascend.ascend;
-      lacking_ascends = m.go_over_twice.ascend.ascend;
-      some_have = omega (arith, each, shapes_count given have, some_have);
-      some_lack = omega (arith, twice, shapes_count given lack, some_lack);
-      too_many = omega (arith, each, twice, shapes_count given have, shapes_count given lack, m.too_many);
-    }
+    tally_by graphs given pairs Support have lack one other m.go_over.inputs m.go_over_twice.inputs t m.go_over.of_each m.go_over_twice.both_of_each m.go_over.ascend.ascend m.go_over_twice.ascend.ascend
+    (omega (arith, each, shapes_count given have, some_have)) (omega (arith, twice, shapes_count given lack, some_lack))
+    (omega (arith, each, twice, shapes_count given have, shapes_count given lack, m.too_many))
 tally_from graphs given pairs Binate have lack one other some_have some_lack t =
-    let pair = t.paired.1 in
-    let paired = t.paired.4 in
     let m = t.too_many in
     let each = inputs_count 0 (shapes_of given lack) m.go_over in
     let twice = twos_count 0 (shapes_of given have) m.go_over_twice in
-    record {
-      side = one.side;
-      pair = pair;
-      having = m.go_over_twice.inputs;
-      lacking = m.go_over.inputs;
-      paired = (t.paired.0, t.paired.2, t.paired.3);
-      of_outputs = paired.of_outputs;
-      fail = of_port given have false one.side one.side one.output (port_on one.side pair) refl (sym paired.one_output) t.fail;
-      hold = of_port given lack true other.side (other_side one.side) other.output (port_on (other_side one.side) pair) paired.apart (sym paired.other_output ∙ ap (λ s. port_on s pair) paired.apart) t.hold;
-      have_shapes = m.go_over_twice.both_of_each;
-      lack_shapes = m.go_over.of_each;
-      having_ascends = m.go_over_twice.ascend.ascend;
-      lacking_ascends = m.go_over.ascend.ascend;
-      some_have = omega (arith, twice, shapes_count given have, some_have);
-      some_lack = omega (arith, each, shapes_count given lack, some_lack);
-      too_many = omega (arith, each, twice, shapes_count given have, shapes_count given lack, m.too_many);
-    }
+    tally_by graphs given pairs Binate have lack one other m.go_over_twice.inputs m.go_over.inputs t m.go_over_twice.both_of_each m.go_over.of_each m.go_over_twice.ascend.ascend m.go_over.ascend.ascend
+    (omega (arith, twice, shapes_count given have, some_have)) (omega (arith, each, shapes_count given lack, some_lack))
+    (omega (arith, each, twice, shapes_count given have, shapes_count given lack, m.too_many))
 
 -- a tally's lists have members
 pub tally_have : (graphs : Graphs) (given : Given) (pairs : List Pair) (kind : Tallied) (have lack : List ℕ) → IsTally graphs given pairs kind have lack → (0 < length have) × (0 < length lack)

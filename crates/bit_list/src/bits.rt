@@ -101,16 +101,6 @@ impl Bits {
     {
         (self.words[place / 64] >> (place % 64)) % 2 == 1
     }
-
-    /// Writes the bits to a slice of as many places.
-    pub fn copy_into(&self, out: &mut [bool])
-        requires { length out.old ≡ length self.now }
-        ensures { out.new ≡ self.now }
-    {
-        for place in 0..self.len() {
-            out[place] = self.get(place);
-        }
-    }
 }
 
 /// Adds a word of 0 where all words are full.

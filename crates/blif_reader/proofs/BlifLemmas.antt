@@ -35,6 +35,7 @@ use Rattle.blif_reader.proofs.NumberLemmas.{list_any-map, length-map}
 use Rattle.blif_reader.proofs.ClosedLemmas.{closed_circuit, length-names, length-covers_of, output_words-outputs_in}
 use Rattle.std.proofs.lemmas.List.{get_or-map}
 use Rattle.std.proofs.Math.Seq.{take-length, get_or-append_seam}
+use borrow.Author.Tests.{not-false}
 
 pub port_names-bytes : (kind : PortKind) (ports : List Port) → port_names kind ports ≡ bytes_of (words_of_kind kind ports)
 port_names-bytes kind ports = sym (map-map (λ (w : Piece). w.bytes) (λ (p : Port). p.word) _)
@@ -111,15 +112,10 @@ undefined_name lines kind at single found = record {
   why = first_unknown lines (read_words lines) at found.why;
 }
 
--- a name that is not undefined is that of a signal
-known_by_test : (t : Bool) → not t ≡ false → t ≡ true
-known_by_test true h = refl
-known_by_test false h = cc h
-
 signals_known : (lines : List (List Piece)) → AreKnown lines → All (IsKnownIn (signal_names lines)) (read_words lines)
 signals_known lines known k d below =
     let word = get_or (read_words lines) k d in
-    known_by_test _ (sym (undefined_by lines (take k (read_words lines)) word) ∙ known.known k d below)
+    not-false _ (sym (undefined_by lines (take k (read_words lines)) word) ∙ known.known k d below)
 
 -- the netlist that a file is
 pub closed_lines : (lines : List (List Piece)) → AreFew lines → IsClosed (blif_circuit lines)

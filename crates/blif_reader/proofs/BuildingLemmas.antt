@@ -8,6 +8,7 @@ use Rattle.text_core.specs.Piece.{Piece}
 use Rattle.circuits.specs.declared.definition.Trit.{Trit}
 use Rattle.circuits.specs.declared.definition.Def.{Def}
 use Rattle.circuits.specs.declared.definition.Def.TheVariants.{Cover}
+use Rattle.circuits.proofs.Expansions.{and_true}
 use Rattle.net_file.specs.declared.fault.NetKind.{NetKind}
 use Rattle.net_file.specs.declared.fault.NetKind.TheVariants as fault
 use Rattle.blif_reader.specs.declared.directive.Directive.{Directive}
@@ -27,10 +28,6 @@ pub ends_more : (last : Option Piece) (word : Piece) (left new all : List Piece)
 ends_more None word left new all e h = ([], e ∙ h)
 ends_more (Some last) word left new all e h =
     (e.0 ++ last ∷ [], e.1 ∙ (ap (λ ws. e.0 ++ last ∷ ws) h ∙ sym (append_assoc e.0 (last ∷ []) (word ∷ new))))
-
--- what is found of words goes on
-pub Continues-all : (names : List (List ℕ)) (all : List Piece) → Continues names all all
-Continues-all names all = record { known = λ h. h; unknown = λ at h. h }
 
 pub unknown_later : (names : List (List ℕ)) (word : Piece) (words : List Piece) (at : ℕ) → IsKnownIn names word → IsUnknownAt names words at → IsUnknownAt names (word ∷ words) at
 unknown_later names word words at k u = record {
@@ -66,9 +63,6 @@ pub but_last-cons : (word next : Piece) (words : List Piece) → but_last (word 
 but_last-cons word next words =
     let e : length (word ∷ next ∷ words) - 1 ≡ suc (length (next ∷ words) - 1) = omega arith in
     ap (λ n. take n (word ∷ next ∷ words)) e
-
-pub but_last-one : (word : Piece) → but_last (word ∷ []) ≡ []
-but_last-one word = refl
 
 -- what is read of one output more
 pub read_more : {X : Type 0} (f : Piece → X) (after new old : List X) (word : Piece) (left rest all : List Piece) (x : X) → after ≡ new ++ x ∷ [] → new ++ map f left ≡ old ++ map f all → left ≡ word ∷ rest → x ≡ f word → after ++ map f rest ≡ old ++ map f all
@@ -134,10 +128,6 @@ covers_skip names line left h =
 pub covers_take : (names : List (List ℕ)) (line : List Piece) (left : List (List Piece)) → is_names (directive_of line) ≡ true → covers_of names (line ∷ left) ≡ cover_of names line (leading_rows left) ∷ covers_of names left
 covers_take names line left h =
     ap (λ t. cond t (cover_of names line (leading_rows left) ∷ covers_of names left) (covers_of names left)) h
-
-and_true : (t : Bool) → (t && true) ≡ t
-and_true true = refl
-and_true false = refl
 
 and_assoc : (s t u : Bool) → (s && (t && u)) ≡ ((s && t) && u)
 and_assoc true t u = refl

@@ -6,7 +6,7 @@ use Rattle.std.specs.Str.{bytes_eq}
 use Rattle.std.proofs.lemmas.Bool.Decides.{nat_tests}
 use Rattle.std.proofs.lemmas.Slice.Eq.{bytes_eq-Decides}
 use Rattle.std.proofs.lemmas.List.{length-append}
-use Rattle.std.proofs.lemmas.List.Elements.{All-nil, All-cons, All-head, All-tail}
+use Rattle.std.proofs.lemmas.List.Elements.{All-nil, All-cons, All-head, All-tail, All-append}
 use Rattle.text_core.specs.Piece.{Piece}
 use Rattle.circuits.specs.declared.port.PortKind.{PortKind}
 use Rattle.circuits.specs.declared.port.PortKind.TheVariants.{Input, Output}
@@ -143,14 +143,9 @@ wide_rows (row ∷ rest) pre line o sound =
 
 -- the bytes for the operands are as many as these
 widths_by_test : (t : Bool) (n : ℕ) (row : List Piece) → (n == 0) ≡ t → map (λ word. length word.bytes) row ≡ cond t (1 ∷ []) (n ∷ 1 ∷ []) → length (literal_bytes row) ≡ n
-widths_by_test true n [] e h = cc h
-widths_by_test false n [] e h = cc h
 widths_by_test true n (output ∷ []) e h = sym (eqb-true n 0 e)
-widths_by_test false n (output ∷ []) e h = cc h
-widths_by_test true n (literals ∷ output ∷ []) e h = cc h
 widths_by_test false n (literals ∷ output ∷ []) e h = cc h
-widths_by_test true n (literals ∷ output ∷ more ∷ words) e h = cc h
-widths_by_test false n (literals ∷ output ∷ more ∷ words) e h = cc h
+widths_by_test t n row e h = cc h
 
 literal_widths : (n : ℕ) (row : List Piece) → HasWidths n row → length (literal_bytes row) ≡ n
 literal_widths n row h =
@@ -185,11 +180,6 @@ wide_covers names (line ∷ rest) pre sound =
 outputs_by_directive : (names : List (List ℕ)) (directive : Directive) (line : List Piece) → All (IsKnownIn names) (read_on directive line) → All (IsKnownIn names) (outputs_by directive line)
 outputs_by_directive names Outputs line known = known
 outputs_by_directive names other line known = All-nil (IsKnownIn names)
-
-All-append : {X : Type 0} (P : X → Type 0) (xs ys : List X) → All P xs → All P ys → All P (xs ++ ys)
-All-append P [] ys one two = two
-All-append P (x ∷ xs) ys one two =
-    All-cons P x (xs ++ ys) (All-head P x xs one) (All-append P xs ys (All-tail P x xs one) two)
 
 known_outputs : (names : List (List ℕ)) (lines : List (List Piece)) → All (IsKnownIn names) (read_words lines) → All (IsKnownIn names) (outputs_in lines)
 known_outputs names [] known = All-nil (IsKnownIn names)

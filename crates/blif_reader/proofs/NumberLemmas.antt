@@ -79,10 +79,6 @@ NoneBefore-more found xs x k is before h j d below =
     ]
 
 -- a port has the name of an earlier one exactly where its name is among those of its kind
-either : (t s r : Bool) → ((t && s) || r) ≡ (t && s || r)
-either true s r = refl
-either false s r = refl
-
 repeats_by_test : (t : Bool) (name other : List ℕ) (rest : List (List ℕ)) (r : Bool) → r ≡ list_any (bytes_eq name) rest → ((t && bytes_eq name other) || r) ≡ list_any (bytes_eq name) (cond t (other ∷ rest) rest)
 repeats_by_test true name other rest r h = ap (λ q. bytes_eq name other || q) h
 repeats_by_test false name other rest r h = h

@@ -28,11 +28,11 @@ abbrev IsOne : (NetKind → ℕ → Type 0) → Type 0
 IsOne A = (f g : NetKind) (a b : ℕ) → A f a → A g b → (f ≡ g) × (a ≡ b)
 
 -- faults of a first sort, and of further ones that come only where there is none of the first
-one_of : (A R : NetKind → ℕ → Type 0) (Good : Type 0) → IsOne A → IsOne R → ((f : NetKind) (a : ℕ) → A f a → Good → ⊥) → ((f : NetKind) (a : ℕ) → R f a → Good) → IsOne (λ f a. A f a ⊎ R f a)
-one_of A R Good first rest bad good f g a b (inl x) (inl y) = first f g a b x y
-one_of A R Good first rest bad good f g a b (inl x) (inr y) = absurd (bad f a x (good g b y))
-one_of A R Good first rest bad good f g a b (inr x) (inl y) = absurd (bad g b y (good f a x))
-one_of A R Good first rest bad good f g a b (inr x) (inr y) = rest f g a b x y
+one_of : (A R : NetKind → ℕ → Type 0) (Good : Type 0) → IsOne A → ((f : NetKind) (a : ℕ) → A f a → Good → ⊥) → ((f : NetKind) (a : ℕ) → R f a → Good) → IsOne R → IsOne (λ f a. A f a ⊎ R f a)
+one_of A R Good first bad good rest f g a b (inl x) (inl y) = first f g a b x y
+one_of A R Good first bad good rest f g a b (inl x) (inr y) = absurd (bad f a x (good g b y))
+one_of A R Good first bad good rest f g a b (inr x) (inl y) = absurd (bad g b y (good f a x))
+one_of A R Good first bad good rest f g a b (inr x) (inr y) = rest f g a b x y
 
 nothing : Piece
 nothing = record { bytes = []; at = 0 }
@@ -155,37 +155,17 @@ module _ (end : ℕ) (lines : List (List Piece)) where
   no_cycle : (f : NetKind) (a : ℕ) → IsCycleFault lines f a → IsAcyclic (blif_circuit lines) → ⊥
   no_cycle f a fault good = acyclic_not_looped (blif_circuit lines) fault.definition good fault.why
 
-  one_from_cycle : IsOne FromCycle
-  one_from_cycle =
-      one_of (IsCycleFault lines) (IsGatesFault end lines) (IsAcyclic (blif_circuit lines)) (one_cycle lines) (one_gates end lines) no_cycle (λ f a fault. fault.acyclic)
-
-  one_from_outputs : IsOne FromOutputs
-  one_from_outputs =
-      one_of (IsOutputsFault lines) FromCycle (AreFew lines) (one_outputs lines) one_from_cycle no_outputs few
-
-  one_from_inputs : IsOne FromInputs
-  one_from_inputs =
-      one_of (IsInputsFault lines) FromOutputs (length (input_words lines) ≤ 1024) (one_inputs lines) one_from_outputs no_inputs few_inputs
-
-  one_from_undefined : IsOne FromUndefined
-  one_from_undefined =
-      one_of (IsUndefinedFault lines) FromInputs (AreKnown lines) (one_undefined lines) one_from_inputs no_undefined known
-
-  one_from_redefined : IsOne FromRedefined
-  one_from_redefined =
-      one_of (IsRedefinedFault lines) FromUndefined (AreDefinedOnce lines) (one_redefined lines) one_from_undefined no_redefined single
-
-  one_from_ports : IsOne FromPorts
-  one_from_ports =
-      one_of (IsPortFault lines) FromRedefined (AreDistinct lines) (one_port lines) one_from_redefined no_port distinct
-
-  one_from_port_lines : IsOne FromPortLines
-  one_from_port_lines =
-      one_of (IsPortLineFault end lines) FromPorts (AreDeclared lines) (one_port_line end lines) one_from_ports (λ f a fault. fault.missing) declared
-
   pub one_fault_of_lines : IsOne (IsFaultOfLines end lines)
   one_fault_of_lines =
-      one_of (IsLineFault lines) FromPortLines (NoneIs is_faulty lines) (one_line lines) one_from_port_lines no_line sound
+      one_of (IsLineFault lines) FromPortLines (NoneIs is_faulty lines) (one_line lines) no_line sound
+      (one_of (IsPortLineFault end lines) FromPorts (AreDeclared lines) (one_port_line end lines) (λ f a fault. fault.missing) declared
+      (one_of (IsPortFault lines) FromRedefined (AreDistinct lines) (one_port lines) no_port distinct
+      (one_of (IsRedefinedFault lines) FromUndefined (AreDefinedOnce lines) (one_redefined lines) no_redefined single
+      (one_of (IsUndefinedFault lines) FromInputs (AreKnown lines) (one_undefined lines) no_undefined known
+      (one_of (IsInputsFault lines) FromOutputs (length (input_words lines) ≤ 1024) (one_inputs lines) no_inputs few_inputs
+      (one_of (IsOutputsFault lines) FromCycle (AreFew lines) (one_outputs lines) no_outputs few
+      (one_of (IsCycleFault lines) (IsGatesFault end lines) (IsAcyclic (blif_circuit lines)) (one_cycle lines) no_cycle (λ f a fault. fault.acyclic)
+      (one_gates end lines))))))))
 
   pub lines_or_fault : (circuit : Circuit) (i o : List (List ℕ)) (f : NetKind) (a : ℕ) → AreBlif lines circuit i o → IsFaultOfLines end lines f a → ⊥
   lines_or_fault circuit i o f a is (inl fault) = no_line f a fault is.names.known.single.distinct.declared.sound

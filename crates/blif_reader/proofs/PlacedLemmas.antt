@@ -4,11 +4,12 @@ use Rattle.std.specs.List.{filter, prefix_len, slice_split}
 use Rattle.std.proofs.lemmas.List.Splits.{slice_split-cons_yes}
 use Rattle.std.proofs.lemmas.List.Sums.{prefix_len-le-length}
 use Rattle.std.proofs.lemmas.Bool.{cases_lt}
+use Rattle.std.proofs.lemmas.List.{nil_from_length}
 use Rattle.text_core.specs.Bytes.{is_blank}
 use Rattle.text_core.specs.Piece.{Piece, front}
 use Rattle.text_core.specs.Lines.{lines, line_length, first_line, after_line}
 use Rattle.text_core.specs.Words.{is_not_empty, word_length, without_blanks, first_word, after_word}
-use Rattle.text_core.proofs.EmptyTests.{filled_by_test, empty_by_test, nil_from_length, some_by_test, none_by_test}
+use Rattle.text_core.proofs.EmptyTests.{filled_by_test, empty_by_test, some_by_test, none_by_test}
 use Rattle.text_core.proofs.LineLemmas.{lines-front}
 use Rattle.text_core.proofs.WordLemmas.{drop-one_more, parts_after, slice_split-front, word_length-after_blanks}
 use Rattle.blif_reader.specs.JoinedLines.{placed, lines_at, words_at}
@@ -94,17 +95,14 @@ words_at-first p word h =
     ∙ ap (λ (w : Piece). w ∷ words_at (after_word p)) found.1))
 
 -- a line of blanks alone has no words
-no_words : (p : Piece) → p.bytes ≡ [] → words_at p ≡ []
-no_words p h = ap (words_from p.at) h
+pub words_at-empty : (p : Piece) → p.bytes ≡ [] → words_at p ≡ []
+words_at-empty p h = ap (words_from p.at) h
 
 pub words_at-no_first : (p : Piece) → first_word p ≡ None → words_at p ≡ []
 words_at-no_first p h =
     let rest = without_blanks p in
     let none = empty_by_test rest.bytes (none_by_test (length rest.bytes == 0) (front (word_length rest.bytes) rest) h) in
-    words_at-blanks p ∙ no_words rest (nil_from_length rest.bytes none)
-
-pub words_at-empty : (p : Piece) → p.bytes ≡ [] → words_at p ≡ []
-words_at-empty p h = no_words p h
+    words_at-blanks p ∙ words_at-empty rest (nil_from_length rest.bytes none)
 
 -- the offset of what stands after the last line makes no difference
 rest_after_line : (p : Piece) → placed (p.at + length (take (line_length p.bytes) p.bytes) + 1) (lines (drop (line_length p.bytes + 1) p.bytes)) ≡ lines_at (after_line p)
@@ -123,14 +121,3 @@ lines_at-first p line h =
     ap (placed p.at) (lines-front p.bytes (filled_by_test p.bytes found.0))
     ∙ (ap (λ rest. piece (take n p.bytes) p.at ∷ rest) (rest_after_line p)
     ∙ ap (λ (l : Piece). l ∷ lines_at (after_line p)) found.1)
-
-pub lines_at-no_first : (p : Piece) → first_line p ≡ None → lines_at p ≡ []
-lines_at-no_first p h =
-    let none = empty_by_test p.bytes (none_by_test (length p.bytes == 0) (front (line_length p.bytes) p) h) in
-    ap (λ bytes. placed p.at (lines bytes)) (nil_from_length p.bytes none)
-
--- a line that is taken leaves less
-pub after_line-shorter : (p line : Piece) → first_line p ≡ Some line → length (after_line p).bytes < length p.bytes
-after_line-shorter p line h =
-    let found = some_by_test (length p.bytes == 0) (front (line_length p.bytes) p) line h in
-    omega (arith, filled_by_test p.bytes found.0, length-drop (line_length p.bytes + 1) p.bytes)

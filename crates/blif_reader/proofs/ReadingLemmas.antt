@@ -1,5 +1,5 @@
 -- For `lines`: what is left to read after a word, or a line, was taken.
-use Rattle.std.proofs.Common.{◌≡◌, Bool, true, false, cond, List, [], ◌∷◌, ◌++◌, Some, None, drop, get_or, refl, ap, sym, ◌∙◌, arith, append-nil}
+use Rattle.std.proofs.Common.{◌≡◌, Bool, true, false, cond, List, [], ◌∷◌, ◌++◌, Some, drop, get_or, refl, ap, sym, ◌∙◌, arith, append-nil}
 use Rattle.std.specs.List.{filter}
 use Rattle.text_core.specs.Piece.{Piece}
 use Rattle.text_core.specs.Lines.{first_line, after_line}
@@ -7,7 +7,7 @@ use Rattle.text_core.specs.Words.{first_word, after_word}
 use Rattle.blif_reader.specs.declared.lines.JoinedLines.{JoinedLines}
 use Rattle.blif_reader.specs.JoinedLines.{lines_at, words_at, line_words, goes_on, onto_next, joined, has_words}
 use Rattle.blif_reader.specs.Reading.{words_left, lines_left}
-use Rattle.blif_reader.proofs.PlacedLemmas.{lines_at-first, lines_at-no_first, words_at-first}
+use Rattle.blif_reader.proofs.PlacedLemmas.{lines_at-first, words_at-first}
 
 -- a line is being read, that goes on or not, and this is after it
 abbrev reading : Piece → Bool → Piece → JoinedLines
@@ -25,9 +25,6 @@ parts false words lines = ap (λ ws. ws ∷ lines) (sym (append-nil words))
 pub joined-first : (p line : Piece) → first_line p ≡ Some line → joined (lines_at p) ≡ (line_words line ++ cond (goes_on line.bytes) (get_or (joined (lines_at (after_line p))) 0 []) []) ∷ lines_left (reading line (goes_on line.bytes) (after_line p))
 joined-first p line h =
     ap joined (lines_at-first p line h) ∙ parts (goes_on line.bytes) (line_words line) (joined (lines_at (after_line p)))
-
-pub joined-no_first : (p : Piece) → first_line p ≡ None → joined (lines_at p) ≡ []
-joined-no_first p h = ap joined (lines_at-no_first p h)
 
 -- a line that was entered
 pub entered : (p line content : Piece) → first_line p ≡ Some line → words_at content ≡ line_words line → joined (lines_at p) ≡ words_left (reading content (goes_on line.bytes) (after_line p)) ∷ lines_left (reading line (goes_on line.bytes) (after_line p))

@@ -24,14 +24,12 @@ use Rattle.blif_reader.specs.Names.{ports_on, defined_on}
 use Rattle.blif_reader.specs.Faults.{has_line, fault_by_directive, fault_before_end, fault_after_end, line_fault, is_faulty, IsLineFault}
 use Rattle.blif_reader.specs.Surveys.{is_mixed, fault_by_cover, fault_known, fault_of, cover_after, Advances, HaveOutput, IsOpen, IsSurveyed, IsUnderWay}
 use Rattle.blif_reader.proofs.FirstLemmas.{found-seam, NoneIs-push, IsFirst-seam}
+use Rattle.circuits.proofs.Expansions.{or_false}
+use borrow.Author.Tests.{not-false}
 
 or_same : (b : Bool) → (b || b) ≡ b
 or_same true = refl
 or_same false = refl
-
-or_false : (b : Bool) → (b || false) ≡ b
-or_false true = refl
-or_false false = refl
 
 differs-all : (byte other : ℕ) (row : List Piece) (rows : List (List Piece)) → All (λ r. output_byte r ≡ other) (row ∷ rows) → list_any (differs_from byte) (row ∷ rows) ≡ not (other == byte)
 differs-all byte other row [] all =
@@ -115,11 +113,7 @@ closed_as nearest line directive k h n = closed nearest line (ap is_row k ∙ h)
 -- a row's byte is that of the rows before
 unmixed : (output : Option ℕ) (byte : ℕ) (rows : List (List Piece)) → HaveOutput output rows → is_mixed output byte ≡ false → All (λ r. output_byte r ≡ byte) rows
 unmixed None byte rows none h = subst (All (λ r. output_byte r ≡ byte)) (sym none) (All-nil (λ r. output_byte r ≡ byte))
-unmixed (Some other) byte rows have h = λ k d below. have.1 k d below ∙ eqb-true other byte (not_false (other == byte) h)
-  where
-    not_false : (t : Bool) → not t ≡ false → t ≡ true
-    not_false true h = refl
-    not_false false h = cc h
+unmixed (Some other) byte rows have h = λ k d below. have.1 k d below ∙ eqb-true other byte (not-false (other == byte) h)
 
 -- a row without a fault in a cover has the byte of those before
 no_mixed : (widths bytes mixed : Bool)
@@ -215,7 +209,3 @@ failed answer = Err answer
 -- a fault that is answered
 pub fault_told : {T : Type 0} (made told : NetFault) → failed {T = T} (stop.Fault made) ≡ failed {T = T} (stop.Fault told) → made ≡ told
 fault_told made told h = cc h
-
--- an answer that is passed on
-pub told_again : {T U : Type 0} (one other : NetStop) → failed {T = T} one ≡ failed {T = T} other → failed {T = U} one ≡ failed {T = U} other
-told_again {T} {U} one other h = let same : one ≡ other = cc h in ap (failed {T = U}) same

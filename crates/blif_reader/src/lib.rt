@@ -11,7 +11,5 @@ mod rows;
 mod survey;
 mod whole;
 
-pub use laws::{
-    blif_or_fault, blif_or_its_fault, closed_blif, few_ports, one_blif, one_blif_fault,
-};
+pub use laws::blif_is_a_format;
 pub use whole::read;

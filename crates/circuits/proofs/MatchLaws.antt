@@ -1,5 +1,5 @@
 -- That a match of circuits is one of the functions that they compute, and each circuit matches itself.
-use Rattle.std.proofs.Common.{◌↔◌, ◌≤◌, ◌*◌, ◌%◌, ◌^◌, Result, Ok, Err, IfOk, IsTrue, subst, shl_exact, one-mul, ℕ, ◌<◌, ◌≡◌, Bool, true, false, List, length, get_or, map, refl, sym, ap, ◌∙◌, arith, ext_get_or}
+use Rattle.std.proofs.Common.{◌↔◌, ◌≤◌, ◌*◌, ◌%◌, ◌^◌, Result, Ok, Err, IfOk, IsTrue, subst, shl_exact, one-mul, ℕ, ◌<◌, ◌≡◌, Bool, false, List, length, get_or, map, refl, sym, ap, ◌∙◌, arith, ext_get_or}
 use Rattle.std.proofs.lemmas.List.FromFn.{length-map-range_with_len, get_or-map-range_with_len}
 use Rattle.std.specs.List.{range_with_len}
 use Rattle.circuits.specs.Literals.{bit, differ, vector_of}
@@ -12,6 +12,7 @@ use Rattle.circuits.specs.Matches.{OutputsAgree, HavePorts, AgreeOn, AgreeOnAll,
 use Rattle.circuits.proofs.Codes.{code_of, code_of-below, vector_of-code_of}
 use Rattle.circuits.proofs.CircuitValuations.{some_valuation, one_valuation}
 use Rattle.circuits.proofs.Places.{moved-moves, moved-only, length-moved}
+use Rattle.circuits.proofs.Expansions.{differ_false}
 
 pub IsSignedBijection-at : (m n : ℕ) (p : List (ℕ × Bool)) → m ≡ n → IsSignedBijection n p → IsSignedBijection m p
 IsSignedBijection-at m n p same bijection = record {
@@ -87,20 +88,16 @@ unmoved-bijection n = record {
       omega (arith, ap (λ entry. entry.0) (unmoved-at n i d (omega arith)), ap (λ entry. entry.0) (unmoved-at n j d m), e);
 }
 
-pub differ-false : (b : Bool) → differ b false ≡ b
-differ-false true = refl
-differ-false false = refl
-
 pub unmoved-agree : (n k : ℕ) (x : List Bool) → k < n → differ (bit x (place_of (unmoved n) k)) (sign_of (unmoved n) k) ≡ bit x k
 unmoved-agree n k x h =
-    ap (λ entry. differ (bit x entry.0) entry.1) (unmoved-at n k (0, false) h) ∙ differ-false (bit x k)
+    ap (λ entry. differ (bit x entry.0) entry.1) (unmoved-at n k (0, false) h) ∙ differ_false (bit x k)
 
 pub moves-unmoved : (n : ℕ) (x y : List Bool) → length x ≡ n → Moves (unmoved n) x y → y ≡ x
 moves-unmoved n x y len moves =
     ext_get_or false y x moves.same_length (λ k h.
     let l : k < n = omega (arith, moves.same_length, len) in
     let at = unmoved-at n k (0, false) l in
-    ap (λ (entry : ℕ × Bool). bit y entry.0) (sym at) ∙ (moves.bits k (omega (arith, length-unmoved n)) ∙ (ap (λ (entry : ℕ × Bool). differ (bit x k) entry.1) at ∙ differ-false (bit x k))))
+    ap (λ (entry : ℕ × Bool). bit y entry.0) (sym at) ∙ (moves.bits k (omega (arith, length-unmoved n)) ∙ (ap (λ (entry : ℕ × Bool). differ (bit x k) entry.1) at ∙ differ_false (bit x k))))
 
 pub match-unmoved : (circuit : Circuit) → IsAcyclic circuit → IsMatch circuit circuit (unmoved circuit.inputs) (unmoved (length circuit.outputs))
 match-unmoved circuit acyclic = record {

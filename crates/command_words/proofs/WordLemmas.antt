@@ -19,25 +19,16 @@ not_empty text empty test refused e = false≢true (sym refused ∙ test ∙ ap 
 
 -- four words that were read by their places
 pub four : {X : Type 0} (xs : List X) (a b c d : X) → 4 ≤ length xs → length xs < 5 → a ≡ get_or xs 0 a → b ≡ get_or xs 1 b → c ≡ get_or xs 2 c → d ≡ get_or xs 3 d → xs ≡ a ∷ b ∷ c ∷ d ∷ []
-four [] a b c d low high ea eb ec ed = absurd (omega arith)
-four (x ∷ []) a b c d low high ea eb ec ed = absurd (omega arith)
-four (x ∷ y ∷ []) a b c d low high ea eb ec ed = absurd (omega arith)
-four (x ∷ y ∷ z ∷ []) a b c d low high ea eb ec ed = absurd (omega arith)
 four (x ∷ y ∷ z ∷ w ∷ []) a b c d low high ea eb ec ed = cc
-four (x ∷ y ∷ z ∷ w ∷ v ∷ rest) a b c d low high ea eb ec ed = absurd (omega arith)
+four xs a b c d low high ea eb ec ed = absurd (omega arith)
 
 pub two : {X : Type 0} (xs : List X) (a b : X) → 2 ≤ length xs → length xs < 3 → a ≡ get_or xs 0 a → b ≡ get_or xs 1 b → xs ≡ a ∷ b ∷ []
-two [] a b low high ea eb = absurd (omega arith)
-two (x ∷ []) a b low high ea eb = absurd (omega arith)
 two (x ∷ y ∷ []) a b low high ea eb = cc
-two (x ∷ y ∷ z ∷ rest) a b low high ea eb = absurd (omega arith)
+two xs a b low high ea eb = absurd (omega arith)
 
 pub three : {X : Type 0} (xs : List X) (a b c : X) → 3 ≤ length xs → length xs < 4 → a ≡ get_or xs 0 a → b ≡ get_or xs 1 b → c ≡ get_or xs 2 c → xs ≡ a ∷ b ∷ c ∷ []
-three [] a b c low high ea eb ec = absurd (omega arith)
-three (x ∷ []) a b c low high ea eb ec = absurd (omega arith)
-three (x ∷ y ∷ []) a b c low high ea eb ec = absurd (omega arith)
 three (x ∷ y ∷ z ∷ []) a b c low high ea eb ec = cc
-three (x ∷ y ∷ z ∷ w ∷ rest) a b c low high ea eb ec = absurd (omega arith)
+three xs a b c low high ea eb ec = absurd (omega arith)
 
 -- what a name makes of words of the form
 pub asks_if : (words : List (List ℕ)) (file : List ℕ) (budget : ℕ) (result : Option InfoWords) → HaveInfoForm words file budget → IfSome result (λ info. (info.file.now ≡ file) × (info.budget ≡ budget) × (file ≢ [])) → IfSome result (λ info. AsksInfo words info.file.now info.budget)
@@ -48,11 +39,8 @@ asks_if words file budget (Some info) form is = record {
 }
 
 four_up : {X : Type 0} (xs : List X) (a b c d : X) → 4 ≤ length xs → a ≡ get_or xs 0 a → b ≡ get_or xs 1 b → c ≡ get_or xs 2 c → d ≡ get_or xs 3 d → xs ≡ a ∷ b ∷ c ∷ d ∷ drop 4 xs
-four_up [] a b c d low ea eb ec ed = absurd (omega arith)
-four_up (x ∷ []) a b c d low ea eb ec ed = absurd (omega arith)
-four_up (x ∷ y ∷ []) a b c d low ea eb ec ed = absurd (omega arith)
-four_up (x ∷ y ∷ z ∷ []) a b c d low ea eb ec ed = absurd (omega arith)
 four_up (x ∷ y ∷ z ∷ w ∷ rest) a b c d low ea eb ec ed = cc
+four_up xs a b c d low ea eb ec ed = absurd (omega arith)
 
 pub four_after : {X : Type 0} (xs : List X) (a b c d : X) → 4 ≤ length xs → a ≡ get_or xs 0 a → b ≡ get_or xs 1 b → c ≡ get_or xs 2 c → d ≡ get_or xs 3 d → xs ≡ a ∷ b ∷ c ∷ d ∷ between 4 (length xs) xs
 four_after xs a b c d low ea eb ec ed = four_up xs a b c d low ea eb ec ed ∙ ap (λ rest. a ∷ b ∷ c ∷ d ∷ rest) (sym (between_to_end xs 4 (length xs) (omega arith)))
@@ -78,11 +66,6 @@ is_nothing (x ∷ text) e = elim (eqb_tells (length (x ∷ text)) 0) [ inl (t, s
 
 names_if : (first second account : List ℕ) (a b c d e : Bool) → a ≡ (length first == 0) → b ≡ (length second == 0) → c ≡ (length account == 0) → d ≡ bytes_eq account first → e ≡ bytes_eq account second
     → IsTrue (not ((((a || b) || c) || d) || e)) → AreNames first second account
-names_if first second account true b c d e ea eb ec ed ee t = absurd (false≢true t)
-names_if first second account false true c d e ea eb ec ed ee t = absurd (false≢true t)
-names_if first second account false false true d e ea eb ec ed ee t = absurd (false≢true t)
-names_if first second account false false false true e ea eb ec ed ee t = absurd (false≢true t)
-names_if first second account false false false false true ea eb ec ed ee t = absurd (false≢true t)
 names_if first second account false false false false false ea eb ec ed ee t = record {
   first_named = not_empty first false ea refl;
   second_named = not_empty second false eb refl;
@@ -90,6 +73,7 @@ names_if first second account false false false false false ea eb ec ed ee t = r
   not_first = λ same. false≢true (ed ∙ (bytes_eq-Decides account first).1 same);
   not_second = λ same. false≢true (ee ∙ (bytes_eq-Decides account second).1 same);
 }
+names_if first second account a b c d e ea eb ec ed ee t = absurd (false≢true t)
 
 only_names : (first second account : List ℕ) (a b c d e : Bool) → a ≡ (length first == 0) → b ≡ (length second == 0) → c ≡ (length account == 0) → d ≡ bytes_eq account first → e ≡ bytes_eq account second
     → AreNames first second account → IsTrue (not ((((a || b) || c) || d) || e))
@@ -131,14 +115,12 @@ none_says P None holds = holds
 none_says P (Some x) holds = tt
 
 two_names_if : (first second : List ℕ) (a b c : Bool) → a ≡ (length first == 0) → b ≡ (length second == 0) → c ≡ bytes_eq second first → IsTrue (not ((a || b) || c)) → AreTwoNames first second
-two_names_if first second true b c ea eb ec t = absurd (false≢true t)
-two_names_if first second false true c ea eb ec t = absurd (false≢true t)
-two_names_if first second false false true ea eb ec t = absurd (false≢true t)
 two_names_if first second false false false ea eb ec t = record {
   first_named = not_empty first false ea refl;
   second_named = not_empty second false eb refl;
   apart = λ same. false≢true (ec ∙ (bytes_eq-Decides second first).1 same);
 }
+two_names_if first second a b c ea eb ec t = absurd (false≢true t)
 
 only_two_names : (first second : List ℕ) (a b c : Bool) → a ≡ (length first == 0) → b ≡ (length second == 0) → c ≡ bytes_eq second first → AreTwoNames first second → IsTrue (not ((a || b) || c))
 only_two_names first second true b c ea eb ec are = absurd (are.first_named (is_nothing first ea))

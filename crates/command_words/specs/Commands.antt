@@ -48,19 +48,15 @@ asked_trial trial = Trial trial
 
 -- a command writes no file of this name
 abbrev pub IsNotWritten : Command → List ℕ → Type 0
-IsNotWritten (Check check) name = Unit {0}
 IsNotWritten (Match match_words) name = name ≢ match_words.account.now
-IsNotWritten (Info info) name = Unit {0}
 IsNotWritten (Make make_words) name = (name ≢ make_words.first.now) × (name ≢ make_words.second.now)
-IsNotWritten (Trial trial) name = Unit {0}
+IsNotWritten other name = Unit {0}
 
 -- a command writes a file
 abbrev pub IsWritingCommand : Command → Type 0
-IsWritingCommand (Check check) = ⊥
 IsWritingCommand (Match match_words) = Unit {0}
-IsWritingCommand (Info info) = ⊥
 IsWritingCommand (Make make_words) = Unit {0}
-IsWritingCommand (Trial trial) = ⊥
+IsWritingCommand other = ⊥
 
 -- a command reads files
 abbrev pub IsReadingCommand : Command → Type 0

@@ -1,11 +1,11 @@
-use items::{Few, Items, Text};
+use items::{Few, Items};
 use std::alloc::{AllocError, Global};
 use std::collections::HashMap;
 
 /// A clause with its name: a struct of lists and a text that is compared, hashed and cloned by derives.
 #[derive(Debug, Clone, PartialEq, Eq, Hash, Drop)]
 struct Clause {
-    name: Text,
+    name: String,
     literals: Items<Items<u32>>,
     sources: Few<u8, 1>,
 }
@@ -15,7 +15,7 @@ fn make_clause(rt: &HostRuntime, name: &str, literals: &[u32]) -> Result<Clause,
     let mut rows = Items::with_capacity(alloc, 1)?;
     rows.push(Items::from_slice(alloc, literals)?)?;
     Ok(Clause {
-        name: Text::from_str(alloc, name)?,
+        name: String::from_str(alloc, name)?,
         literals: rows,
         sources: Few::from_slice(alloc, &[8, 9])?,
     })
@@ -70,14 +70,6 @@ fn set_and_turned(list: &mut Items<u32>) -> Option<u32> {
     list.pop()
 }
 
-fn is_below(alloc: Global, list: &Items<u32>, item: u32) -> Result<bool, AllocError> {
-    Ok(*list < Items::from_vec(vec![in alloc; item]?))
-}
-
-fn doubled(alloc: Global, list: &Items<u32>) -> Result<Items<u32>, AllocError> {
-    Items::from_iter(alloc, list.iter().map(|item| item.wrapping_mul(2)))
-}
-
 fn sum(list: Items<u32>) -> u32 {
     let mut total = 0u32;
     for item in list {
@@ -99,29 +91,8 @@ fn lists_edit_in_place(rt: HostRuntime) -> Result<(), AllocError> {
 }
 
 #[test]
-fn lists_compare_and_collect(rt: HostRuntime) -> Result<(), AllocError> {
-    let list = list_of(rt.alloc(), &[7, 60])?;
-    assert!(rt; is_below(rt.alloc(), &list, 8)?);
-    assert_eq!(rt; sum(doubled(rt.alloc(), &list)?), 134);
-    Ok(())
-}
-
-fn text_of(alloc: Global, number: u32) -> Result<Text, AllocError> {
-    let mut text = Text::from_string(format!(in alloc; "g{number}")?);
-    text.push_str("é")?;
-    Ok(text)
-}
-
-fn shown(alloc: Global, text: &Text) -> Result<String, AllocError> {
-    format!(in alloc; "{text}|{text:>4}|{text:?}")
-}
-
-#[test]
-fn texts_print(rt: HostRuntime) -> Result<(), AllocError> {
-    let alloc = rt.alloc();
-    let text = text_of(alloc, 1)?;
-    assert!(rt; (text.len() == 4) & (Text::new(alloc) < text));
-    assert_eq!(rt; shown(alloc, &text)?.as_str(), "g1é| g1é|\"g1é\"");
+fn lists_are_gone_over(rt: HostRuntime) -> Result<(), AllocError> {
+    assert_eq!(rt; sum(list_of(rt.alloc(), &[7, 60])?), 67);
     Ok(())
 }
 
@@ -137,16 +108,10 @@ fn equals_its_copy(few: &Few<u32, 2>) -> Result<bool, AllocError> {
     Ok(few.clone()? == *few)
 }
 
-fn into_vec(few: Few<u32, 2>) -> Result<Vec<u32>, AllocError> {
-    Ok(few.into_small_vec().into_vec()?)
-}
-
 #[test]
 fn short_lists_grow(rt: HostRuntime) -> Result<(), AllocError> {
-    let mut few = short_list(rt.alloc())?;
-    let last = few.pop();
-    assert_eq!(rt; (last, few.as_slice()), (Some(5), [3, 4].as_slice()));
+    let few = short_list(rt.alloc())?;
+    assert_eq!(rt; few.as_slice(), [3, 4, 5].as_slice());
     assert!(rt; equals_its_copy(&few)?);
-    assert_eq!(rt; into_vec(few)?.as_slice(), [3, 4].as_slice());
     Ok(())
 }

@@ -3,8 +3,6 @@
 
 mod list;
 mod small;
-mod string;
 
 pub use list::Items;
 pub use small::Few;
-pub use string::Text;

@@ -2,7 +2,7 @@
 ghost use Rattle.std.specs.Prelude.{◌≡◌, ◌^◌, ◌-◌, ◌<◌, ◌==◌, ◌↔◌, ◌∷◌, [], ◌++◌, length, take, slice_index_or, slice_set, option_to_list, IsSome, IfOk, OnOk, OnErr, IfErr};
 ghost use Rattle.std.specs.List.{AllZip};
 ghost use Rattle.std.specs.Borrow.{sem};
-ghost use Rattle.std.specs.Cmp.Lexicographic.{pointwise, slice_cmp, slice_partial_cmp, lists_per, lists_equiv, lists_po, lists_total, lists_agrees, lists_ties};
+ghost use Rattle.std.specs.Cmp.Lexicographic.{pointwise, lists_per, lists_equiv};
 ghost use Rattle.std.specs.Fmt.{debug_list};
 ghost use Rattle.std.specs.Hash as fed;
 ghost use Rattle.std.specs.Hash.{items_Alike};
@@ -13,7 +13,6 @@ ghost use Rattle.std.specs.declared.alloc.Global.{Global};
 ghost use Rattle.items.specs.ListLends.{lends_elements};
 
 use std::alloc::{AllocError, AllocFailed, Global};
-use std::cmp::Ordering;
 use std::convert::AsSlice;
 use std::hash::{Hash, Hasher};
 use std::marker::Model;
@@ -232,20 +231,6 @@ impl<'a, T> IntoIterator for &'a Items<T> {
     }
 }
 
-impl<T: Drop> FromIterator<T> for Items<T> {
-    type Alloc = Global;
-
-    ghost from_iter_gives = { λ taken items. items ≡ taken };
-
-    fn from_iter<U: IntoIterator<Item = T>>(
-        alloc: Global,
-        iter: U,
-    ) -> Result<Items<T>, AllocError> {
-        let inside = Vec::from_iter(alloc, iter)?;
-        Ok(Items { inside })
-    }
-}
-
 impl<T: Clone> Clone for Items<T> {
     ghost is_clone = { λ items copy. AllZip T.is_clone items copy };
 
@@ -267,30 +252,6 @@ impl<T: PartialEq> PartialEq for Items<T> {
 
 impl<T: Eq> Eq for Items<T> {
     ghost laws = { lists_equiv T.Eq.laws };
-}
-
-impl<T: PartialOrd> PartialOrd for Items<T> {
-    ghost partial_cmp = { λ a b. slice_partial_cmp T.partial_cmp a b };
-
-    ghost laws = { lists_po T.PartialOrd.laws };
-
-    fn partial_cmp(&self, other: &Self) -> Option<Ordering> {
-        self.as_slice().partial_cmp(&other.as_slice())
-    }
-}
-
-impl<T: Ord> Ord for Items<T> {
-    ghost cmp = { λ a b. slice_cmp T.cmp a b };
-
-    ghost total = { lists_total T.total };
-
-    ghost matches_partial_cmp = { λ a b. lists_agrees T.matches_partial_cmp a b };
-
-    ghost matches_eq = { λ a b. lists_ties T.cmp T.matches_eq a b };
-
-    fn cmp(&self, other: &Self) -> Ordering {
-        self.as_slice().cmp(&other.as_slice())
-    }
 }
 
 impl<T: Hash> Hash for Items<T> {

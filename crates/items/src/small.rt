@@ -1,5 +1,5 @@
 //! The short list type and the standard traits at it. Comparisons and hashes are those of the slice.
-ghost use Rattle.std.specs.Prelude.{◌≡◌, ◌^◌, ◌-◌, ◌<◌, ◌==◌, ◌↔◌, ◌∷◌, [], ◌++◌, length, take, slice_index_or, option_to_list, IsSome, IfOk, OnOk, OnErr, IfErr};
+ghost use Rattle.std.specs.Prelude.{◌≡◌, ◌^◌, ◌<◌, ◌==◌, ◌∷◌, [], ◌++◌, length, slice_index_or, IfOk, OnOk, OnErr, IfErr};
 ghost use Rattle.std.specs.List.{AllZip};
 ghost use Rattle.std.specs.Cmp.Lexicographic.{pointwise, lists_per, lists_equiv};
 ghost use Rattle.std.specs.Hash as fed;
@@ -32,21 +32,6 @@ impl<T, const N: usize> Model for Few<T, N> {
 }
 
 impl<T, const N: usize> Few<T, N> {
-    /// The list of a small vector's elements. It takes no memory.
-    pub fn from_small_vec(vec: SmallVec<T, N>) -> Few<T, N>
-        ensures { result ≡ vec.items }
-    {
-        Few { inside: vec }
-    }
-
-    /// The elements as a small vector. It takes no memory.
-    pub fn into_small_vec(self) -> SmallVec<T, N>
-        ensures { result.items ≡ self }
-    {
-        let Few { inside } = self;
-        inside
-    }
-
     /// The number of elements.
     pub fn len(&self) -> usize
         ensures { result ≡ length self.now }
@@ -87,15 +72,6 @@ impl<T: MadeWith<Global> + Drop, const N: usize> Few<T, N> {
     {
         self.inside.push(item)
     }
-
-    /// Takes the last element off, if there is one.
-    pub fn pop(&mut self) -> Option<T>
-        ensures items { self.old ≡ self.new ++ option_to_list result }
-        ensures rest { self.new ≡ take (length self.old - 1) self.old }
-        ensures variant { IsSome result ↔ (0 < length self.old) }
-    {
-        self.inside.pop()
-    }
 }
 
 impl<T: MadeWith<Global> + Copy, const N: usize> Few<T, N> {
@@ -105,14 +81,6 @@ impl<T: MadeWith<Global> + Copy, const N: usize> Few<T, N> {
     {
         let inside = SmallVec::from_slice(alloc, slice)?;
         Ok(Few { inside })
-    }
-}
-
-impl<T, const N: usize> From<SmallVec<T, N>> for Few<T, N> {
-    ghost from_gives = { λ vec items. items ≡ vec.items };
-
-    fn from(vec: SmallVec<T, N>) -> Few<T, N> {
-        Few::from_small_vec(vec)
     }
 }
 

@@ -14,14 +14,10 @@ use Rattle.std.proofs.lemmas.List.FromFn.{length-range_with_len, get_or-range_wi
 use Rattle.std.proofs.lemmas.Map.Keys.{IsDistinct-IsPermutation, ge_from_not_lt}
 use Rattle.std.proofs.lemmas.Map.Made.{AllPairs-from_IsDistinct, IsDistinct-from_AllPairs}
 use Rattle.circuits.specs.Circuits.{Circuit, signal_at}
-use Rattle.circuits.specs.Expansion.{gates_in}
-use Rattle.circuits.specs.Levels.{HasLevel, IsAcyclic, IsFirstLooped, IsLevelOrder}
+use Rattle.circuits.specs.Levels.{HasLevel, IsAcyclic, IsLevelOrder}
 use Rattle.circuits.proofs.LevelLaws.{HasLevel-only}
 use Rattle.net_core.specs.declared.levels.Placed.{Placed}
 use Rattle.net_core.specs.declared.levels.Visit.TheVariants.{Level}
-use Rattle.net_core.specs.declared.order_fault.OrderFault.{OrderFault}
-use Rattle.net_core.specs.declared.order_fault.OrderFault.TheVariants.{Cycle, TooManyGates}
-use Rattle.net_core.specs.Search.{IsFaultOf}
 use Rattle.net_core.specs.Orders.{AreListed, AreLevels, IsSortedOrder, placed_cmp}
 
 abbrev IsListedAs : Circuit → ℕ → Placed → Type 0
@@ -129,10 +125,3 @@ IsLevelOrder-sorted circuit placed order levels is = record {
         let at : get_or order k d ≡ (get_or is.sorted k default).position = ap (λ xs. get_or xs k d) is.positions ∙ get_or-map (λ (entry : Placed). entry.position) is.sorted k default d within in
         let entry = All-permutation (IsEntry circuit) placed is.sorted is.permutation entries k default within in
         (at, entry.0, subst (λ n. HasLevel circuit (signal_at circuit n) (get_or is.sorted k default).level) (sym at) entry.1)
-
--- what a search that failed says of the whole
-pub cycle_from_fault : (circuit : Circuit) (fault : OrderFault) (d : ℕ) → IsFaultOf circuit fault → fault ≡ Cycle d → IsFirstLooped circuit d
-cycle_from_fault circuit fault d is same = subst (IsFaultOf circuit) same is
-
-pub too_many_from_fault : (circuit : Circuit) (fault : OrderFault) → IsFaultOf circuit fault → fault ≡ TooManyGates → IsAcyclic circuit × (1000000 < gates_in circuit)
-too_many_from_fault circuit fault is same = subst (IsFaultOf circuit) same is

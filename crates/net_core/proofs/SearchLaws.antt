@@ -1,10 +1,10 @@
 -- That each step of the search keeps what is known, and that a loop is one.
-use Rattle.std.proofs.Common.{ℕ, suc, ◌+◌, ◌-◌, ◌*◌, ◌<◌, ◌≤◌, ◌≡◌, ◌≢◌, ◌⊎◌, max, cond, List, [], ◌∷◌, ◌++◌, length, get_or, set, take, replicate, Contains, refl, sym, ap, subst, ◌∙◌, inl, inr, arith}
+use Rattle.std.proofs.Common.{ℕ, suc, ◌+◌, ◌-◌, ◌*◌, ◌<◌, ◌≤◌, ◌≡◌, ◌≢◌, ◌⊎◌, max, cond, List, [], ◌∷◌, ◌++◌, length, get_or, set, take, Contains, refl, sym, ap, subst, ◌∙◌, inl, inr, arith}
 use Rattle.std.proofs.Math.Seq.{map-set_same, take-suc}
 use Rattle.std.proofs.lemmas.Bool.{cases_eq, cases_lt}
-use Rattle.std.proofs.lemmas.List.{get_or_default, get_or-set_same, get_or-set_other, get_or_append_left, get_or_push, get_or-take, get_or-map, get_or-replicate, get_or_past, length_push, length-map, length-set, length-take-le, length-replicate, map-append, take-map, take_all}
+use Rattle.std.proofs.lemmas.List.{get_or_default, get_or-set_same, get_or-set_other, get_or_append_left, get_or_push, get_or-take, get_or-map, length_push, length-map, length-set, length-take-le, map-append, take-map, take_all}
 use Rattle.std.proofs.lemmas.List.Elements.{All-push, All-set, All-take, Contains-push, Contains-append_left}
-use Rattle.std.proofs.lemmas.List.Sums.{sum_by-set, count_by-le-length}
+use Rattle.std.proofs.lemmas.List.Sums.{sum_by-set}
 use Rattle.circuits.specs.Circuits.{Circuit, names_of, signal_at}
 use Rattle.circuits.specs.Levels.{HasLevel, HaveLevel, HasNoLevel, Names}
 use Rattle.circuits.proofs.LevelLaws.{no_level, HasLevel-above, HaveLevel-none, HaveLevel-more}
@@ -14,7 +14,7 @@ use Rattle.net_core.specs.declared.levels.Visit.TheVariants.{New, Open, Level}
 use Rattle.net_core.specs.declared.levels.SearchEvent.TheVariants.{Enter, Close, Loop}
 use Rattle.net_core.specs.declared.order_fault.OrderFault.{OrderFault}
 use Rattle.net_core.specs.declared.order_fault.OrderFault.TheVariants.{Cycle, TooManyGates, Memory}
-use Rattle.net_core.specs.Search.{visit_of, is_new, left, positions, IsFound, IsLooked, Knows, AreMet, IsPath, IsUnderWay, IsReady, IsAt, IsNextEvent, IsFaultAt, IsFaultOf}
+use Rattle.net_core.specs.Search.{visit_of, is_new, left, positions, IsFound, IsLooked, Knows, AreMet, IsPath, IsUnderWay, IsReady, IsNextEvent, IsFaultAt, IsFaultOf}
 
 abbrev pub weight : Visit → ℕ
 weight v = cond (is_new v) 1 0
@@ -171,19 +171,6 @@ pub seen_level : (circuit : Circuit) (visits : List Visit) (stack : List ℕ) (s
 seen_level circuit visits stack s k level visit h at is same knows =
     subst (λ u. IsFound circuit (left visits stack) u level) (sym same) (knows.levels k level (get_or_default visits k New visit h ∙ (sym at ∙ is)))
 
--- the definition at a place of its names
-pub Names-at : (circuit : Circuit) (d k s : ℕ) → d < length circuit.defs → k < length (names_of circuit d) → s ≡ get_or (names_of circuit d) k s → Names circuit (signal_at circuit d) s
-Names-at circuit d k s h k_in same = record { place = d; there = h; at = refl; named = (k, k_in, sym same) }
-
--- what is to be done where a name was new, is on the stack, or where all names have levels
-pub event_enter : (circuit : Circuit) (visits : List Visit) (stack : List ℕ) (d e s : ℕ) (looked : Frame) → Names circuit (signal_at circuit d) s → IsAt circuit visits New s e → IsLooked circuit (left visits stack) looked → looked.position ≡ d → IsNextEvent circuit visits stack d (Enter e looked)
-event_enter circuit visits stack d e s looked names at is same =
-    (at.there, at.is, subst (Names circuit (signal_at circuit d)) at.at names, is, same)
-
-pub event_loop : (circuit : Circuit) (visits : List Visit) (stack : List ℕ) (d s : ℕ) → Names circuit (signal_at circuit d) s → ((e : ℕ) × IsAt circuit visits Open s e) → IsNextEvent circuit visits stack d Loop
-event_loop circuit visits stack d s names seen =
-    (seen.0, seen.1.is, subst (Names circuit (signal_at circuit d)) seen.1.at names)
-
 pub event_close : (circuit : Circuit) (visits : List Visit) (stack : List ℕ) (d n highest level : ℕ) → level ≡ highest + 1 → d < length circuit.defs → length (names_of circuit d) ≤ n → HaveLevel circuit (take n (names_of circuit d)) highest → highest + left visits stack ≤ 2 * length circuit.defs → IsNextEvent circuit visits stack d (Close level)
 event_close circuit visits stack d n highest level is h past have few =
     let e : suc highest ≡ level = omega (arith, is) in
@@ -246,13 +233,6 @@ IsUnderWay-enter circuit root visits stack frame looked e more top step way = re
     later : (f : Frame) → IsLooked circuit (left visits (positions stack)) f → IsLooked circuit (left (set visits e Open) (positions (set stack (length stack - 1) looked ++ fresh e ∷ []))) f
     later f is =
         IsLooked-later circuit (left visits (positions stack)) (left (set visits e Open) (positions (set stack (length stack - 1) looked ++ fresh e ∷ []))) f (omega (arith, less)) is
-
--- what is left where one was entered
-pub left-entered : (circuit : Circuit) (root : ℕ) (visits : List Visit) (stack : List Frame) (frame looked : Frame) (e : ℕ) → frame ≡ get_or stack (length stack - 1) frame → IsNextEvent circuit visits (positions stack) frame.position (Enter e looked) → IsUnderWay circuit root visits stack → left (set visits e Open) (positions (set stack (length stack - 1) looked ++ fresh e ∷ [])) < left visits (positions stack)
-left-entered circuit root visits stack frame looked e top step way =
-    let h : e < length visits = omega (arith, step.0, way.knows.entries) in
-    let same = positions-push (set stack (length stack - 1) looked) (fresh e) ∙ ap (λ xs. xs ++ e ∷ []) (positions-set_top stack (length stack - 1) frame looked top step.4) in
-    omega (arith, ap (λ xs. left (set visits e Open) xs) same, left-enter visits (positions stack) e h step.1)
 
 pub positions-take : (stack : List Frame) (n : ℕ) → positions (take n stack) ≡ take n (positions stack)
 positions-take stack n = sym (take-map (λ (f : Frame). f.position) n stack)
@@ -330,13 +310,6 @@ IsUnderWay-start circuit root visits stack h new ready =
       met = AreMet-more (set visits root Open) root (λ is. met (sym (get_or-set_same visits root Open New there) ∙ is)) (AreMet-set visits root root Open there met ready.met);
     }
 
-pub IsReady-end : (circuit : Circuit) (root : ℕ) (visits : List Visit) (stack : List Frame) → length stack ≡ 0 → IsUnderWay circuit root visits stack → IsReady circuit (root + 1) visits stack
-IsReady-end circuit root visits stack none way = record {
-  knows = way.knows;
-  no_stack = none;
-  met = way.met;
-}
-
 pub visit_cases : (v : Visit) → (v ≡ New) ⊎ ((v ≡ Open) ⊎ ((level : ℕ) × (v ≡ Level level)))
 visit_cases New = inl refl
 visit_cases Open = inr (inl refl)
@@ -360,26 +333,3 @@ fault_at_root circuit root visits stack (Cycle d) h ready at = record {
 }
 fault_at_root circuit root visits stack TooManyGates h ready at = absurd at
 fault_at_root circuit root visits stack Memory h ready at = tt
-
-pub get_or-all_new : (n k : ℕ) → visit_of (replicate n New) k ≡ New
-get_or-all_new n k =
-    elim (cases_lt k n) [
-      | inl less ↦ get_or-replicate n k New New less
-      | inr past ↦ get_or_past (replicate n New) k New (omega (arith, length-replicate n New))
-    ]
-
-pub IsReady-start : (circuit : Circuit) (visits : List Visit) (stack : List Frame) → visits ≡ replicate (length circuit.defs) New → stack ≡ [] → IsReady circuit 0 visits stack
-IsReady-start circuit visits stack all none =
-    subst (λ xs. IsReady circuit 0 visits xs) (sym none) (subst (λ vs. IsReady circuit 0 vs []) (sym all) start)
-  where
-    start : IsReady circuit 0 (replicate (length circuit.defs) New) []
-    start = record {
-      knows = record {
-        entries = length-replicate (length circuit.defs) New;
-        room = omega (arith, count_by-le-length is_new (replicate (length circuit.defs) New), length-replicate (length circuit.defs) New);
-        levels = λ k level is. let new = get_or-all_new (length circuit.defs) k in absurd cc;
-        opens = λ k is. let new = get_or-all_new (length circuit.defs) k in absurd cc;
-      };
-      no_stack = refl;
-      met = λ k l. absurd (omega arith);
-    }

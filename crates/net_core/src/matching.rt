@@ -1,7 +1,7 @@
 //! Port tables of two circuits.
 
-ghost use Rattle.std.specs.Prelude.{◌≡◌, ◌↔◌, IsTrue, length};
-ghost use Rattle.circuits.specs.Bijections.{IsSignedBijection, moved};
+ghost use Rattle.std.specs.Prelude.{◌↔◌, IsTrue};
+ghost use Rattle.circuits.specs.Bijections.{IsSignedBijection};
 
 use circuits::plain::is_signed_bijection;
 use items::Items;
@@ -22,25 +22,5 @@ impl Matching {
             ↔ (IsSignedBijection n self.now.inputs × IsSignedBijection m self.now.outputs) }
     {
         is_signed_bijection(&self.inputs, n) && is_signed_bijection(&self.outputs, m)
-    }
-
-    /// Writes to `out` the vector of the second circuit's inputs that `vector`, of the first one's, becomes.
-    pub fn move_into(&self, vector: &[bool], out: &mut [bool])
-        requires shape { IsSignedBijection (length vector.now) self.now.inputs }
-        requires room { length out.old ≡ length vector.now }
-        ensures { out.new ≡ moved self.now.inputs vector.now }
-    {
-        move_bits(&self.inputs, vector, out);
-    }
-}
-
-fn move_bits(entries: &[(u32, bool)], vector: &[bool], out: &mut [bool])
-    requires shape { IsSignedBijection (length vector.now) entries.now }
-    requires room { length out.old ≡ length vector.now }
-    ensures { out.new ≡ moved entries.now vector.now }
-{
-    for (i, bit) in vector.iter().enumerate() {
-        let (place, sign) = entries[i];
-        out[place as usize] = *bit != sign;
     }
 }

@@ -145,7 +145,6 @@ impl<'a> Parts for GateRows<'a> {
     }
 }
 
-#[tactic(auto, using(text_out::proofs::Extending::extends_same, text_out::proofs::Extending::extends_twice))]
 fn put_gate_row(variable: u64, gate: Gate, out: &mut Vec<u8>) -> Result<(), AllocError>
     requires { variable < 2 ^ 32 }
     ensures ok { OnOk result (out.new.items ≡ out.old.items ++ rows_text (gate_row variable gate ∷ [])) }

@@ -103,7 +103,6 @@ impl<'a> Parts for Deltas<'a> {
     }
 }
 
-#[tactic(auto, using(text_out::proofs::Extending::extends_same, text_out::proofs::Extending::extends_twice))]
 fn put_gate(variable: u64, gate: Gate, out: &mut Vec<u8>) -> Result<(), AllocError>
     requires few { variable < 2 ^ 32 }
     requires order { max gate.a.0 gate.b.0 < 2 * variable }
@@ -117,7 +116,6 @@ fn put_gate(variable: u64, gate: Gate, out: &mut Vec<u8>) -> Result<(), AllocErr
 }
 
 // Writes a number in groups of seven bits.
-#[tactic(auto, using(text_out::proofs::Extending::extends_same, text_out::proofs::Extending::extends_twice))]
 fn put_delta(delta: u64, out: &mut Vec<u8>) -> Result<(), AllocError>
     requires { delta < 2 ^ 34 }
     ensures ok { OnOk result (out.new.items ≡ out.old.items ++ delta_groups delta) }

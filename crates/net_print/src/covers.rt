@@ -94,7 +94,6 @@ impl<'a> Parts for OutputCovers<'a> {
 }
 
 // Writes the cover of a gate: its operands, its own name, and a row.
-#[tactic(auto, using(text_out::proofs::Extending::extends_same, text_out::proofs::Extending::extends_twice))]
 fn put_gate(inputs: u32, t: u64, gate: Gate, out: &mut Vec<u8>) -> Result<(), AllocError>
     ensures ok { OnOk result (out.new.items ≡ out.old.items ++ words_text (gate_lines inputs t gate)) }
     ensures kept { Extends out.old.items out.new.items }
@@ -106,7 +105,6 @@ fn put_gate(inputs: u32, t: u64, gate: Gate, out: &mut Vec<u8>) -> Result<(), Al
 }
 
 // Writes the directive of a gate's cover and its operands.
-#[tactic(auto, using(text_out::proofs::Extending::extends_same, text_out::proofs::Extending::extends_twice))]
 fn put_operands(inputs: u32, gate: Gate, out: &mut Vec<u8>) -> Result<(), AllocError>
     ensures ok { OnOk result (out.new.items ≡ out.old.items ++ operands_text inputs gate) }
     ensures kept { Extends out.old.items out.new.items }
@@ -117,7 +115,6 @@ fn put_operands(inputs: u32, gate: Gate, out: &mut Vec<u8>) -> Result<(), AllocE
 }
 
 // Writes the row of a gate's cover.
-#[tactic(auto, using(text_out::proofs::Extending::extends_same, text_out::proofs::Extending::extends_twice))]
 fn put_row(gate: Gate, out: &mut Vec<u8>) -> Result<(), AllocError>
     ensures ok { OnOk result (out.new.items ≡ out.old.items ++ row_byte gate.a ∷ row_byte gate.b ∷ 32 ∷ 49 ∷ 10 ∷ []) }
     ensures kept { Extends out.old.items out.new.items }
@@ -127,7 +124,6 @@ fn put_row(gate: Gate, out: &mut Vec<u8>) -> Result<(), AllocError>
 }
 
 // Writes the cover of an output: its signal, its own name, and a row.
-#[tactic(auto, using(text_out::proofs::Extending::extends_same, text_out::proofs::Extending::extends_twice))]
 fn put_output(inputs: u32, k: u64, output: Lit, out: &mut Vec<u8>) -> Result<(), AllocError>
     ensures ok { OnOk result (out.new.items ≡ out.old.items ++ words_text (output_lines inputs k output)) }
     ensures kept { Extends out.old.items out.new.items }
@@ -139,7 +135,6 @@ fn put_output(inputs: u32, k: u64, output: Lit, out: &mut Vec<u8>) -> Result<(),
 }
 
 // Writes the name of an output at the end of a line.
-#[tactic(auto, using(text_out::proofs::Extending::extends_same, text_out::proofs::Extending::extends_twice))]
 fn put_output_name(k: u64, out: &mut Vec<u8>) -> Result<(), AllocError>
     ensures ok { OnOk result (out.new.items ≡ out.old.items ++ (111 ∷ decimal k ++ 10 ∷ [])) }
     ensures kept { Extends out.old.items out.new.items }
@@ -149,7 +144,6 @@ fn put_output_name(k: u64, out: &mut Vec<u8>) -> Result<(), AllocError>
 }
 
 // Writes the row of an output's cover.
-#[tactic(auto, using(text_out::proofs::Extending::extends_same, text_out::proofs::Extending::extends_twice))]
 fn put_output_row(output: Lit, out: &mut Vec<u8>) -> Result<(), AllocError>
     ensures ok { OnOk result (out.new.items ≡ out.old.items ++ row_byte output ∷ 32 ∷ 49 ∷ 10 ∷ []) }
     ensures kept { Extends out.old.items out.new.items }
@@ -159,7 +153,6 @@ fn put_output_row(output: Lit, out: &mut Vec<u8>) -> Result<(), AllocError>
 }
 
 // Writes the name of a literal's signal, with a blank after it.
-#[tactic(auto, using(text_out::proofs::Extending::extends_same, text_out::proofs::Extending::extends_twice))]
 fn put_operand(inputs: u32, literal: Lit, out: &mut Vec<u8>) -> Result<(), AllocError>
     ensures ok { OnOk result (out.new.items ≡ out.old.items ++ (signal_name inputs (signal_of literal) ++ 32 ∷ [])) }
     ensures kept { Extends out.old.items out.new.items }

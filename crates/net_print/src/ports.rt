@@ -78,7 +78,6 @@ impl Parts for PortNames {
 }
 
 // Writes a port's name, with a blank before it.
-#[tactic(auto, using(text_out::proofs::Extending::extends_same, text_out::proofs::Extending::extends_twice))]
 fn put_port_name(letter: u8, port: u32, out: &mut Vec<u8>) -> Result<(), AllocError>
     ensures ok { OnOk result (out.new.items ≡ out.old.items ++ 32 ∷ letter ∷ decimal port) }
     ensures kept { Extends out.old.items out.new.items }
@@ -88,7 +87,6 @@ fn put_port_name(letter: u8, port: u32, out: &mut Vec<u8>) -> Result<(), AllocEr
 }
 
 /// Writes a letter and a number.
-#[tactic(auto, using(text_out::proofs::Extending::extends_same, text_out::proofs::Extending::extends_twice))]
 pub(crate) fn put_name(letter: u8, number: u64, out: &mut Vec<u8>) -> Result<(), AllocError>
     ensures ok { OnOk result (out.new.items ≡ out.old.items ++ letter ∷ decimal number) }
     ensures kept { Extends out.old.items out.new.items }

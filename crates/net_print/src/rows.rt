@@ -48,7 +48,6 @@ impl<'a> Parts for Header<'a> {
 }
 
 // Writes the header's line.
-#[tactic(auto, using(text_out::proofs::Extending::extends_same, text_out::proofs::Extending::extends_twice))]
 fn put_header(keyword: &[u8], graph: &Graph, out: &mut Vec<u8>) -> Result<(), AllocError>
     ensures ok { OnOk result (out.new.items ≡ out.old.items ++ header_text keyword.now graph.now) }
     ensures kept { Extends out.old.items out.new.items }
@@ -61,7 +60,6 @@ fn put_header(keyword: &[u8], graph: &Graph, out: &mut Vec<u8>) -> Result<(), Al
 }
 
 // Writes the greatest variable, the number of inputs, and that there are no latches.
-#[tactic(auto, using(text_out::proofs::Extending::extends_same, text_out::proofs::Extending::extends_twice))]
 fn put_counts(variables: u64, inputs: u32, out: &mut Vec<u8>) -> Result<(), AllocError>
     ensures ok { OnOk result (out.new.items ≡ out.old.items ++ counts_text variables inputs) }
     ensures kept { Extends out.old.items out.new.items }

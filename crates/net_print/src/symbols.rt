@@ -60,7 +60,6 @@ impl<'a> Parts for Names<'a> {
     }
 }
 
-#[tactic(auto, using(text_out::proofs::Extending::extends_same, text_out::proofs::Extending::extends_twice))]
 fn put_symbol(letter: u8, position: u64, name: &[u8], out: &mut Vec<u8>) -> Result<(), AllocError>
     ensures ok { OnOk result (out.new.items ≡ out.old.items ++ symbol_text letter position name.now) }
     ensures kept { Extends out.old.items out.new.items }

@@ -41,26 +41,6 @@ fn evaluates(rt: HostRuntime) -> Result<(), Fail> {
     Ok(())
 }
 
-// Whether a table of two inputs and an output moves a vector to another.
-fn moves(table: &Matching, vector: [bool; 2], moved: [bool; 2]) -> bool {
-    if !table.check_shape(2, 1) {
-        return false;
-    }
-    let mut out = [false; 2];
-    table.move_into(vector.as_slice(), out.as_mut_slice());
-    out == moved
-}
-
-#[test]
-fn moves_vectors(rt: HostRuntime) -> Result<(), Fail> {
-    // input 0 goes to input 1 inverted, input 1 to input 0
-    let table = matching(rt.alloc(), &[(1, true), (0, false)], &[(0, false)])?;
-    let first = moves(&table, [true, false], [false, false]);
-    let second = moves(&table, [false, true], [true, true]);
-    assert_eq!(rt; (first, second), (true, true));
-    Ok(())
-}
-
 // Whether a table with these entries of inputs, and one of an output, is one of n inputs and m outputs.
 fn has_shape(alloc: Global, inputs: &[(u32, bool)], n: u32, m: u32) -> Result<bool, AllocError> {
     Ok(matching(alloc, inputs, &[(0, false)])?.check_shape(n, m))

@@ -34,7 +34,6 @@ fn word_of_sym(sym: Sym) -> &'static [u8]
 /// Writes at the end of `out` how many inputs, outputs and gates the circuit has, and then of each output how it
 /// depends on which inputs, and which pairs of them may be exchanged. Names are written byte for byte.
 /// When out of memory, a first part of the text may stand after what stood in `out`.
-#[tactic(auto, using(text_out::proofs::Extending::extends_same, text_out::proofs::Extending::extends_twice))]
 pub fn put_info(named: &Named, rows: &[OutputInfo], out: &mut Vec<u8>) -> Result<(), AllocError>
     requires rows { length rows.now ≡ length named.now.graph.outputs }
     requires inputs { All (IsInRange named.now.graph.inputs) rows.now }
@@ -47,7 +46,6 @@ pub fn put_info(named: &Named, rows: &[OutputInfo], out: &mut Vec<u8>) -> Result
     put_outputs(named, rows, out)
 }
 
-#[tactic(auto, using(text_out::proofs::Extending::extends_same, text_out::proofs::Extending::extends_twice))]
 fn put_count(word: &[u8], count: usize, out: &mut Vec<u8>) -> Result<(), AllocError>
     ensures ok { OnOk result (out.new.items ≡ out.old.items ++ count_line word.now count) }
     ensures kept { Extends out.old.items out.new.items }
@@ -57,7 +55,6 @@ fn put_count(word: &[u8], count: usize, out: &mut Vec<u8>) -> Result<(), AllocEr
 }
 
 // Writes what is known of each output.
-#[tactic(auto, using(text_out::proofs::Extending::extends_same, text_out::proofs::Extending::extends_twice))]
 fn put_outputs(named: &Named, rows: &[OutputInfo], out: &mut Vec<u8>) -> Result<(), AllocError>
     requires rows { length rows.now ≤ length named.now.output_names }
     requires inputs { All (IsInRange (length named.now.input_names)) rows.now }
@@ -70,7 +67,6 @@ fn put_outputs(named: &Named, rows: &[OutputInfo], out: &mut Vec<u8>) -> Result<
     Ok(())
 }
 
-#[tactic(auto, using(text_out::proofs::Extending::extends_same, text_out::proofs::Extending::extends_twice))]
 fn put_output(
     inputs: &[Name],
     outputs: &[Name],
@@ -88,7 +84,6 @@ fn put_output(
     put_pairs(&row.pairs, out)
 }
 
-#[tactic(auto, using(text_out::proofs::Extending::extends_same, text_out::proofs::Extending::extends_twice))]
 fn put_output_line(
     names: &[Name],
     port: usize,
@@ -104,7 +99,6 @@ fn put_output_line(
     put_last_number(support as u64, out)
 }
 
-#[tactic(auto, using(text_out::proofs::Extending::extends_same, text_out::proofs::Extending::extends_twice))]
 fn put_inputs(names: &[Name], support: &[(u32, Unate)], out: &mut Vec<u8>) -> Result<(), AllocError>
     requires { All (λ entry. entry.0 < length names.now) support.now }
     ensures ok { OnOk result (out.new.items ≡ out.old.items ++ input_lines names.now support.now) }
@@ -116,7 +110,6 @@ fn put_inputs(names: &[Name], support: &[(u32, Unate)], out: &mut Vec<u8>) -> Re
     Ok(())
 }
 
-#[tactic(auto, using(text_out::proofs::Extending::extends_same, text_out::proofs::Extending::extends_twice))]
 fn put_input(names: &[Name], entry: (u32, Unate), out: &mut Vec<u8>) -> Result<(), AllocError>
     requires { entry.0 < length names.now }
     ensures ok { OnOk result (out.new.items ≡ out.old.items ++ input_line names.now entry) }
@@ -128,7 +121,6 @@ fn put_input(names: &[Name], entry: (u32, Unate), out: &mut Vec<u8>) -> Result<(
     put_last_word(word_of_unate(unate), out)
 }
 
-#[tactic(auto, using(text_out::proofs::Extending::extends_same, text_out::proofs::Extending::extends_twice))]
 fn put_pairs(pairs: &[(u32, u32, Sym)], out: &mut Vec<u8>) -> Result<(), AllocError>
     ensures ok { OnOk result (out.new.items ≡ out.old.items ++ pair_lines pairs.now) }
     ensures kept { Extends out.old.items out.new.items }
@@ -139,7 +131,6 @@ fn put_pairs(pairs: &[(u32, u32, Sym)], out: &mut Vec<u8>) -> Result<(), AllocEr
     Ok(())
 }
 
-#[tactic(auto, using(text_out::proofs::Extending::extends_same, text_out::proofs::Extending::extends_twice))]
 fn put_pair(pair: (u32, u32, Sym), out: &mut Vec<u8>) -> Result<(), AllocError>
     ensures ok { OnOk result (out.new.items ≡ out.old.items ++ pair_line pair) }
     ensures kept { Extends out.old.items out.new.items }

@@ -11,7 +11,6 @@ use text_out::{put_number, put_text, put_word};
 /// Writes at the end of `out` where each port of the first circuit goes: a line for each input in order, then one for
 /// each output, as `input 0 a = not input 1 b`. Names are written byte for byte.
 /// When out of memory, a first part of the lines may stand after what stood in `out`.
-#[tactic(auto, using(text_out::proofs::Extending::extends_same, text_out::proofs::Extending::extends_twice))]
 pub fn put_match(
     first: &Named,
     second: &Named,
@@ -42,7 +41,6 @@ pub fn put_match(
 }
 
 // Writes where each port of a kind goes, on a line of its own.
-#[tactic(auto, using(text_out::proofs::Extending::extends_same, text_out::proofs::Extending::extends_twice))]
 fn put_entries(
     kind: &[u8],
     firsts: &[Name],
@@ -61,7 +59,6 @@ fn put_entries(
     Ok(())
 }
 
-#[tactic(auto, using(text_out::proofs::Extending::extends_same, text_out::proofs::Extending::extends_twice))]
 fn put_entry(
     kind: &[u8],
     firsts: &[Name],
@@ -81,7 +78,6 @@ fn put_entry(
 }
 
 // Writes where a port goes, to the end of its line.
-#[tactic(auto, using(text_out::proofs::Extending::extends_same, text_out::proofs::Extending::extends_twice))]
 fn put_place(
     kind: &[u8],
     seconds: &[Name],
@@ -105,7 +101,6 @@ fn sign(inverted: bool) -> &'static [u8]
 }
 
 // Writes a port by its kind, its number and its name.
-#[tactic(auto, using(text_out::proofs::Extending::extends_same, text_out::proofs::Extending::extends_twice))]
 pub(crate) fn put_port(
     kind: &[u8],
     names: &[Name],

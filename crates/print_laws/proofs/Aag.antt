@@ -1,8 +1,8 @@
 -- What is printed in the ASCII form of AIGER is a file of the same netlist.
-use Rattle.std.proofs.Common.{◌≡◌, ◌≢◌, ℕ, ◌+◌, ◌*◌, ◌/◌, ◌^◌, ◌<◌, ◌≤◌, Bool, false, not, List, [], ◌∷◌, ◌++◌, length, map, get_or, take, drop, replicate, All, AllPairs, Some, None, nat_lt, refl, sym, ap, subst, ◌∙◌, arith, append_assoc, length-append}
+use Rattle.std.proofs.Common.{◌≡◌, ◌≢◌, ℕ, ◌+◌, ◌*◌, ◌/◌, ◌^◌, ◌<◌, ◌≤◌, Bool, true, false, not, List, [], ◌∷◌, ◌++◌, length, map, get_or, take, drop, replicate, All, AllPairs, Some, None, nat_lt, refl, sym, ap, subst, ◌∙◌, arith, append_assoc, length-append}
 use Rattle.std.specs.Prelude.{codes}
 use Rattle.std.specs.List.{range_with_len, Contains, take_while}
-use Rattle.std.proofs.lemmas.Bool.{le-ltb, false≢true}
+use Rattle.std.proofs.lemmas.Bool.{le-ltb}
 use Rattle.std.proofs.lemmas.List.{length-map, append-nil, length-replicate, get_or_append_left, get_or_default, get_or-map}
 use Rattle.std.proofs.lemmas.List.Elements.{All-nil, All-cons, All-append, All-map, All-drop}
 use Rattle.std.proofs.lemmas.Grind.{flat_map-append}
@@ -21,7 +21,7 @@ use Rattle.circuits.specs.declared.port.PortKind.TheVariants.{Input as InputPort
 use Rattle.circuits.proofs.AsCircuit.{as_circuit-acyclic}
 use Rattle.net_file.specs.declared.named.Named.{Named}
 use Rattle.aiger_reader.specs.Words.{numbers_on, AreSmall}
-use Rattle.aiger_reader.specs.Headers.{AigerHeader, header_numbers, header_fault, line_after, Begins}
+use Rattle.aiger_reader.specs.Headers.{AigerHeader, header_numbers, header_fault, line_after, Begins, keyword}
 use Rattle.aiger_reader.specs.Bodies.{Role, Input, Output, Gate as GateLine, roles_of, role_at, defined, body_lines, line_offset, IsBody, IsKnown, IsKnownRow, reads, text_circuit, literal_of, and_on, first_of}
 use Rattle.aiger_reader.specs.Symbols.{AreNames, ArePortNames, GiveNames, is_comment, port_at}
 use Rattle.aiger_reader.specs.Aiger.{IsAiger}
@@ -147,13 +147,57 @@ variables_are net ordered =
 abbrev aag_lines : Named → List (List ℕ)
 aag_lines named = header_line (codes "aag ") named.graph ∷ body_of named
 
-rows_wide : (net : Net) → IsWithinLimits net → (k : ℕ) → k < length (aag_rows net) → AreWords (get_or (aag_rows net) k [])
-rows_wide net within k h i d there =
-    let fit = fit_at (greatest_of net) (roles_of (aag_header net)) (aag_rows net) k (rows_fit net within.ordered) h in
-    omega (arith, fit.in_range i d there, within.inputs, within.gates)
+-- Rows that fit the lines of a header: their numbers are small, and the lines that write them are the body's.
+module _ (binary : Bool) (net : Net) (within : IsWithinLimits net) (rows : List (List ℕ)) (fits : AreFit (greatest_of net) (roles_of (header_of_net binary net)) rows) where
+  rows_wide : (k : ℕ) → k < length rows → AreWords (get_or rows k [])
+  rows_wide k h i d there =
+      let fit = fit_at (greatest_of net) (roles_of (header_of_net binary net)) rows k fits h in
+      omega (arith, fit.in_range i d there, within.inputs, within.gates)
 
-rows_on_lines : (net : Net) → IsWithinLimits net → All IsLine (map numbers_line (aag_rows net))
-rows_on_lines net within = All-map IsLine numbers_line (aag_rows net) (λ k d h. subst IsLine (ap numbers_line (get_or_default (aag_rows net) k [] d h)) (IsLine-numbers_line (get_or (aag_rows net) k []) (rows_wide net within k h)))
+  pub rows_on_lines : All IsLine (map numbers_line rows)
+  rows_on_lines = All-map IsLine numbers_line rows (λ k d h. subst IsLine (ap numbers_line (get_or_default rows k [] d h)) (IsLine-numbers_line (get_or rows k []) (rows_wide k h)))
+
+  pub rows_are_body : (bytes : List ℕ) (after : List (List ℕ)) → body_lines bytes ≡ map numbers_line rows ++ after
+      → AllPairs (λ one other. one ≢ other) (defined (roles_of (header_of_net binary net)) rows) → IsBody bytes (header_of_net binary net) rows
+  rows_are_body bytes after body distinct =
+      let roles = roles_of (header_of_net binary net) in
+      let whole = fit_length (greatest_of net) roles rows fits in
+      let lined = map numbers_line rows in
+      let row_line : (k : ℕ) → k < length rows → get_or (body_lines bytes) k [] ≡ numbers_line (get_or rows k []) =
+      λ k h. ap (λ (ls : List (List ℕ)). get_or ls k []) body
+      ∙ get_or_append_left lined after [] k (omega (arith, h, length-map rows numbers_line))
+      ∙ get_or-map numbers_line rows k [] [] h in
+      record {
+        good = record {
+          announced = omega (arith, whole);
+          there = omega (arith, ap length body, length-append lined after, length-map rows numbers_line);
+          written = λ k h. record {
+            numbers = ap numbers_on (row_line k h) ∙ numbers_on-numbers_line (get_or rows k []) (rows_wide k h);
+            width = (fit_at (greatest_of net) roles rows k fits h).width;
+          };
+          good = λ k h.
+              let row = fit_at (greatest_of net) roles rows k fits h in
+              record { in_range = row.in_range; plain = row.plain };
+          distinct = distinct;
+        };
+        whole = whole;
+      }
+
+-- a text begins with the header of its first line
+pub begins_with : (binary : Bool) (net : Net) → IsWithinLimits net → (bytes : List ℕ) → take 4 bytes ≡ keyword binary → line_after bytes ≡ numbers_line (printed_numbers net) → Begins bytes (header_of_net binary net)
+begins_with binary net within bytes first line = record {
+  header = record {
+    begins = first;
+    numbers = record {
+      written = ap numbers_on line ∙ header_written binary net within;
+      few = omega arith;
+      small = numbers_small binary net within;
+    };
+    counted = omega arith;
+    no_gaps = λ _. omega arith;
+  };
+  accepted = accepted binary net within;
+}
 
 pub names_on_lines : (named : Named) → IsPrintable named → All IsSymbol (symbols named)
 names_on_lines named good =
@@ -168,10 +212,13 @@ symbols_on_lines named good = λ k d h. (names_on_lines named good k d h).0
 pub header_on_line : (net : Net) → IsWithinLimits net → IsLine (first_line net)
 header_on_line net within = IsLine-numbers_line (printed_numbers net) (wider (printed_numbers net) (numbers_small false net within))
 
-keyword_on_line : IsLine (codes "aag ")
-keyword_on_line =
+pub keyword_on_line : (binary : Bool) → IsLine (keyword binary)
+keyword_on_line false =
     let P : ℕ → Type 0 = λ byte. is_line_feed byte ≡ false in
     All-cons P 97 (97 ∷ 103 ∷ 32 ∷ []) refl (All-cons P 97 (103 ∷ 32 ∷ []) refl (All-cons P 103 (32 ∷ []) refl (All-cons P 32 [] refl (All-nil P))))
+keyword_on_line true =
+    let P : ℕ → Type 0 = λ byte. is_line_feed byte ≡ false in
+    All-cons P 97 (105 ∷ 103 ∷ 32 ∷ []) refl (All-cons P 105 (103 ∷ 32 ∷ []) refl (All-cons P 103 (32 ∷ []) refl (All-cons P 32 [] refl (All-nil P))))
 
 pub lines_of : (parts : List (List ℕ)) → All IsLine parts → lines (text_of_lines parts) ≡ parts
 lines_of parts all =
@@ -179,12 +226,12 @@ lines_of parts all =
 
 body_on_lines : (named : Named) → IsPrintable named → All IsLine (body_of named)
 body_on_lines named good =
-    All-append IsLine (map numbers_line (aag_rows named.graph)) (symbols named) (rows_on_lines named.graph good.within) (symbols_on_lines named good)
+    All-append IsLine (map numbers_line (aag_rows named.graph)) (symbols named) (rows_on_lines false named.graph good.within (aag_rows named.graph) (rows_fit named.graph good.within.ordered)) (symbols_on_lines named good)
 
 lines_are : (named : Named) → IsPrintable named → lines (aag_text named) ≡ aag_lines named
 lines_are named good =
     let P : ℕ → Type 0 = λ byte. is_line_feed byte ≡ false in
-    let head = All-append P (codes "aag ") (first_line named.graph) keyword_on_line (header_on_line named.graph good.within) in
+    let head = All-append P (codes "aag ") (first_line named.graph) (keyword_on_line false) (header_on_line named.graph good.within) in
     lines_of (aag_lines named) (All-cons IsLine (header_line (codes "aag ") named.graph) (body_of named) head (body_on_lines named good))
 
 -- the first line after the keyword
@@ -192,51 +239,11 @@ line_is : (named : Named) → IsPrintable named → line_after (aag_text named) 
 line_is named good =
     ap (λ (ls : List (List ℕ)). get_or ls 0 []) (lines_of (first_line named.graph ∷ body_of named) (All-cons IsLine (first_line named.graph) (body_of named) (header_on_line named.graph good.within) (body_on_lines named good)))
 
-aag_begins : (named : Named) → IsPrintable named → Begins (aag_text named) (aag_header named.graph)
-aag_begins named good = record {
-  header = record {
-    begins = refl;
-    numbers = record {
-      written = ap numbers_on (line_is named good) ∙ header_written false named.graph good.within;
-      few = omega arith;
-      small = numbers_small false named.graph good.within;
-    };
-    counted = omega arith;
-    no_gaps = λ h. absurd (false≢true h);
-  };
-  accepted = accepted false named.graph good.within;
-}
-
-body_is : (named : Named) → IsPrintable named → body_lines (aag_text named) ≡ body_of named
-body_is named good = ap (drop 1) (lines_are named good)
-
 aag_body : (named : Named) → IsPrintable named → IsBody (aag_text named) (aag_header named.graph) (aag_rows named.graph)
 aag_body named good =
     let net = named.graph in
-    let rows = aag_rows net in
-    let roles = roles_of (aag_header net) in
-    let fit = rows_fit net good.within.ordered in
-    let whole = fit_length (greatest_of net) roles rows fit in
-    let lined = map numbers_line rows in
-    let row_line : (k : ℕ) → k < length rows → get_or (body_lines (aag_text named)) k [] ≡ numbers_line (get_or rows k []) =
-    λ k h. ap (λ (ls : List (List ℕ)). get_or ls k []) (body_is named good)
-    ∙ get_or_append_left lined (symbols named) [] k (omega (arith, h, length-map rows numbers_line))
-    ∙ get_or-map numbers_line rows k [] [] h in
-    record {
-      good = record {
-        announced = omega (arith, whole);
-        there = omega (arith, ap length (body_is named good), length-append lined (symbols named), length-map rows numbers_line);
-        written = λ k h. record {
-          numbers = ap numbers_on (row_line k h) ∙ numbers_on-numbers_line (get_or rows k []) (rows_wide net good.within k h);
-          width = (fit_at (greatest_of net) roles rows k fit h).width;
-        };
-        good = λ k h.
-            let row = fit_at (greatest_of net) roles rows k fit h in
-            record { in_range = row.in_range; plain = row.plain };
-        distinct = subst (λ (vs : List ℕ). AllPairs (λ one other. one ≢ other) vs) (sym (variables_are net good.within.ordered)) (range_distinct 1 (greatest_of net));
-      };
-      whole = whole;
-    }
+    rows_are_body false net good.within (aag_rows net) (rows_fit net good.within.ordered) (aag_text named) (symbols named) (ap (drop 1) (lines_are named good))
+    (subst (λ (vs : List ℕ). AllPairs (λ one other. one ≢ other) vs) (sym (variables_are net good.within.ordered)) (range_distinct 1 (greatest_of net)))
 
 -- a literal in range is known
 known : (net : Net) (literal : ℕ) → IsOrdered net → literal ≤ 2 * greatest_of net + 1 → IsKnown (defined (roles_of (aag_header net)) (aag_rows net)) literal
@@ -324,7 +331,7 @@ aag_is named good = record {
   h = aag_header named.graph;
   rest = text_of_lines (symbols named);
   netlist = record {
-    begins = aag_begins named good;
+    begins = begins_with false named.graph good.within (aag_text named) refl (line_is named good);
     rows = aag_rows named.graph;
     body = aag_body named good;
     form = record {

@@ -1,10 +1,10 @@
 -- What is printed in the binary form of AIGER is a file of the same netlist, with the greater operand of each gate first.
-use Rattle.std.proofs.Common.{◌≡◌, ◌≢◌, ℕ, ◌+◌, ◌*◌, ◌/◌, ◌<◌, true, false, List, [], ◌∷◌, ◌++◌, length, map, get_or, take, drop, replicate, All, AllPairs, refl, sym, ap, subst, ◌∙◌, arith, length-append}
+use Rattle.std.proofs.Common.{◌≡◌, ◌≢◌, ℕ, ◌+◌, ◌*◌, ◌/◌, ◌<◌, true, false, List, [], ◌∷◌, ◌++◌, length, map, get_or, take, drop, replicate, All, AllPairs, refl, sym, ap, subst, ◌∙◌, arith}
 use Rattle.std.specs.Prelude.{codes}
 use Rattle.std.proofs.Math.Nat.{lt-div-mul-add}
 use Rattle.std.proofs.Math.Seq.{drop-append_seam}
-use Rattle.std.proofs.lemmas.List.{length-map, append-nil, get_or_append_left, get_or_default, get_or-map}
-use Rattle.std.proofs.lemmas.List.Elements.{All-nil, All-cons, All-append, All-map}
+use Rattle.std.proofs.lemmas.List.{length-map, append-nil}
+use Rattle.std.proofs.lemmas.List.Elements.{All-cons, All-append}
 use Rattle.text_core.specs.Bytes.{is_line_feed}
 use Rattle.text_core.specs.Lines.{lines, text_of_lines, IsLine}
 use Rattle.text_core.proofs.LineLemmas.{lines-text_of_lines}
@@ -15,9 +15,8 @@ use Rattle.circuits.specs.declared.netlist.Lit.{Lit}
 use Rattle.circuits.specs.declared.definition.Def.{Def}
 use Rattle.circuits.proofs.AsCircuit.{as_circuit-acyclic}
 use Rattle.net_file.specs.declared.named.Named.{Named}
-use Rattle.aiger_reader.specs.Words.{numbers_on}
-use Rattle.aiger_reader.specs.Headers.{AigerHeader, line_after, Begins}
-use Rattle.aiger_reader.specs.Bodies.{Role, Output, roles_of, defined, body_lines, line_offset, IsBody, first_of, lit_from}
+use Rattle.aiger_reader.specs.Headers.{AigerHeader, line_after}
+use Rattle.aiger_reader.specs.Bodies.{Role, Output, roles_of, defined, line_offset, IsBody, first_of, lit_from}
 use Rattle.aiger_reader.specs.Deltas.{AreGates, BeginsGates, and_from}
 use Rattle.aiger_reader.specs.Aiger.{IsAiger}
 use Rattle.net_print.specs.Rows.{numbers_line, header_numbers as printed_numbers, header_line, output_row, symbols}
@@ -25,12 +24,11 @@ use Rattle.net_print.specs.Deltas.{deltas}
 use Rattle.net_print.specs.Files.{aig_text}
 use Rattle.print_laws.specs.Ordered.{greater_first, with_greater_first}
 use Rattle.print_laws.specs.Printable.{IsWithinLimits, IsPrintable}
-use Rattle.print_laws.proofs.NumberLines.{AreWords, IsLine-numbers_line, numbers_on-numbers_line}
-use Rattle.print_laws.proofs.Fitting.{AreFit, fit_length, fit_at, fit_outputs, defined_outputs}
+use Rattle.print_laws.proofs.Fitting.{AreFit, fit_outputs, defined_outputs}
 use Rattle.print_laws.proofs.Circuits.{rows_before}
 use Rattle.print_laws.proofs.Deltas.{operands_of, gates_begin}
 use Rattle.print_laws.proofs.OperandOrder.{ordered_too}
-use Rattle.print_laws.proofs.Aag.{greatest_of, header_of_net, numbers_small, accepted, header_written, header_on_line, outputs_read, circuit_of, symbols_read}
+use Rattle.print_laws.proofs.Aag.{greatest_of, header_of_net, header_on_line, outputs_read, circuit_of, symbols_read, rows_on_lines, rows_are_body, begins_with, keyword_on_line}
 
 abbrev aig_header : Net → AigerHeader
 aig_header net = header_of_net true net
@@ -55,25 +53,11 @@ outs_fit net ordered =
 none_defined : (net : Net) → defined (roles_of (aig_header net)) (outs net) ≡ []
 none_defined net = ap (λ (roles : List Role). defined roles (outs net)) (roles_are net) ∙ defined_outputs net.outputs
 
-outs_wide : (net : Net) → IsWithinLimits net → (k : ℕ) → k < length (outs net) → AreWords (get_or (outs net) k [])
-outs_wide net within k h i d there =
-    let fit = fit_at (greatest_of net) (roles_of (aig_header net)) (outs net) k (outs_fit net within.ordered) h in
-    omega (arith, fit.in_range i d there, within.inputs, within.gates)
-
-outs_on_lines : (net : Net) → IsWithinLimits net → All IsLine (map numbers_line (outs net))
-outs_on_lines net within =
-    All-map IsLine numbers_line (outs net) (λ k d h. subst IsLine (ap numbers_line (get_or_default (outs net) k [] d h)) (IsLine-numbers_line (get_or (outs net) k []) (outs_wide net within k h)))
-
-keyword_on_line : IsLine (codes "aig ")
-keyword_on_line =
-    let P : ℕ → Type 0 = λ byte. is_line_feed byte ≡ false in
-    All-cons P 97 (105 ∷ 103 ∷ 32 ∷ []) refl (All-cons P 105 (103 ∷ 32 ∷ []) refl (All-cons P 103 (32 ∷ []) refl (All-cons P 32 [] refl (All-nil P))))
-
 front_on_lines : (net : Net) → IsWithinLimits net → All IsLine (front_lines net)
 front_on_lines net within =
     let P : ℕ → Type 0 = λ byte. is_line_feed byte ≡ false in
-    let head = All-append P (codes "aig ") (numbers_line (printed_numbers net)) keyword_on_line (header_on_line net within) in
-    All-cons IsLine (header_line (codes "aig ") net) (map numbers_line (outs net)) head (outs_on_lines net within)
+    let head = All-append P (codes "aig ") (numbers_line (printed_numbers net)) (keyword_on_line true) (header_on_line net within) in
+    All-cons IsLine (header_line (codes "aig ") net) (map numbers_line (outs net)) head (rows_on_lines true net within (outs net) (outs_fit net within.ordered))
 
 lines_are : (named : Named) → IsWithinLimits named.graph → lines (aig_text named) ≡ front_lines named.graph ++ lines (back named)
 lines_are named within = lines-text_of_lines (front_lines named.graph) (back named) (front_on_lines named.graph within)
@@ -83,51 +67,13 @@ line_is named within =
     let line = numbers_line (printed_numbers named.graph) in
     let rest = map numbers_line (outs named.graph) in
     ap (λ (ls : List (List ℕ)). get_or ls 0 [])
-    (lines-text_of_lines (line ∷ rest) (back named) (All-cons IsLine line rest (header_on_line named.graph within) (outs_on_lines named.graph within)))
-
-aig_begins : (named : Named) → IsWithinLimits named.graph → Begins (aig_text named) (aig_header named.graph)
-aig_begins named within = record {
-  header = record {
-    begins = refl;
-    numbers = record {
-      written = ap numbers_on (line_is named within) ∙ header_written true named.graph within;
-      few = omega arith;
-      small = numbers_small true named.graph within;
-    };
-    counted = omega arith;
-    no_gaps = λ _. omega arith;
-  };
-  accepted = accepted true named.graph within;
-}
+    (lines-text_of_lines (line ∷ rest) (back named) (All-cons IsLine line rest (header_on_line named.graph within) (rows_on_lines true named.graph within (outs named.graph) (outs_fit named.graph within.ordered))))
 
 aig_body : (named : Named) → IsWithinLimits named.graph → IsBody (aig_text named) (aig_header named.graph) (outs named.graph)
 aig_body named within =
     let net = named.graph in
-    let rows = outs net in
-    let roles = roles_of (aig_header net) in
-    let fit = outs_fit net within.ordered in
-    let whole = fit_length (greatest_of net) roles rows fit in
-    let lined = map numbers_line rows in
-    let body : body_lines (aig_text named) ≡ lined ++ lines (back named) = ap (drop 1) (lines_are named within) in
-    let row_line : (k : ℕ) → k < length rows → get_or (body_lines (aig_text named)) k [] ≡ numbers_line (get_or rows k []) =
-    λ k h. ap (λ (ls : List (List ℕ)). get_or ls k []) body
-    ∙ get_or_append_left lined (lines (back named)) [] k (omega (arith, h, length-map rows numbers_line))
-    ∙ get_or-map numbers_line rows k [] [] h in
-    record {
-      good = record {
-        announced = omega (arith, whole);
-        there = omega (arith, ap length body, length-append lined (lines (back named)), length-map rows numbers_line);
-        written = λ k h. record {
-          numbers = ap numbers_on (row_line k h) ∙ numbers_on-numbers_line (get_or rows k []) (outs_wide net within k h);
-          width = (fit_at (greatest_of net) roles rows k fit h).width;
-        };
-        good = λ k h.
-            let row = fit_at (greatest_of net) roles rows k fit h in
-            record { in_range = row.in_range; plain = row.plain };
-        distinct = subst (λ (vs : List ℕ). AllPairs (λ one other. one ≢ other) vs) (sym (none_defined net)) (λ i j d before there. absurd (omega (arith, there)));
-      };
-      whole = whole;
-    }
+    rows_are_body true net within (outs net) (outs_fit net within.ordered) (aig_text named) (lines (back named)) (ap (drop 1) (lines_are named within))
+    (subst (λ (vs : List ℕ). AllPairs (λ one other. one ≢ other) vs) (sym (none_defined net)) (λ i j d before there. absurd (omega (arith, there))))
 
 gates_after : (named : Named) → IsWithinLimits named.graph → back named ≡ drop (line_offset (aig_text named) (1 + length named.graph.outputs)) (aig_text named)
 gates_after named within =
@@ -167,7 +113,7 @@ aig_is named good = record {
   h = aig_header named.graph;
   rest = text_of_lines (symbols named);
   netlist = record {
-    begins = aig_begins named good.within;
+    begins = begins_with true named.graph good.within (aig_text named) refl (line_is named good.within);
     rows = outs named.graph;
     body = aig_body named good.within;
     form = record {

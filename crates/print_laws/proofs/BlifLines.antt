@@ -1,5 +1,5 @@
 -- The lines of a printed BLIF file, each with its offsets: what the reader's definitions make of them.
-use Rattle.std.proofs.Common.{◌≡◌, ℕ, ◌+◌, ◌-◌, ◌==◌, ◌||◌, Bool, true, false, not, List, [], ◌∷◌, ◌++◌, length, map, drop, reverse, codes, if◌then◌else◌, All, Option, None, Some, is_some, refl, sym, ap, subst, ◌∙◌, append_assoc}
+use Rattle.std.proofs.Common.{◌≡◌, ℕ, ◌+◌, ◌-◌, ◌==◌, ◌||◌, Bool, true, false, not, List, [], ◌∷◌, ◌++◌, length, map, drop, reverse, codes, if◌then◌else◌, All, Option, None, Some, is_some, refl, sym, ap, subst, ◌∙◌, append_assoc, append-nil}
 use Rattle.std.specs.List.{list_any, join_with_byte}
 use Rattle.std.proofs.lemmas.List.Folds.{list_any-append}
 use Rattle.std.proofs.lemmas.List.Elements.{All-cons, All-head, All-tail}
@@ -289,11 +289,7 @@ NoneFrom found earlier [] = Unit {0}
 NoneFrom found earlier (x ∷ rest) = (found earlier x ≡ false) × NoneFrom found (earlier ++ x ∷ []) rest
 
 pub none_from : {X : Type 0} (found : List X → X → Bool) (earlier rest : List X) → NoneIs found earlier → NoneFrom found earlier rest → NoneIs found (earlier ++ rest)
-none_from found earlier [] before after = subst (NoneIs found) (sym (nothing earlier)) before
-  where
-    nothing : {X : Type 0} (xs : List X) → xs ++ [] ≡ xs
-    nothing [] = refl
-    nothing (x ∷ xs) = ap (λ l. x ∷ l) (nothing xs)
+none_from found earlier [] before after = subst (NoneIs found) (sym (append-nil earlier)) before
 none_from found earlier (x ∷ rest) before after =
     subst (NoneIs found) (append_assoc earlier (x ∷ []) rest) (none_from found (earlier ++ x ∷ []) rest (NoneIs-push found earlier x before after.0) after.1)
 

@@ -1,10 +1,10 @@
 -- A printed BLIF file is read as the netlist that it is a text of.
-use Rattle.std.proofs.Common.{◌≡◌, ℕ, zero, suc, ◌+◌, ◌-◌, ◌^◌, ◌<◌, ◌≤◌, ◌==◌, ◌&&◌, ◌||◌, Bool, true, false, not, List, [], ◌∷◌, ◌++◌, length, map, take, drop, get_or, codes, nat_lt, if◌then◌else◌, All, refl, sym, ap, subst, ◌∙◌, append_assoc, take-append-drop, inl, inr, arith}
+use Rattle.std.proofs.Common.{◌≡◌, ℕ, zero, suc, ◌+◌, ◌-◌, ◌^◌, ◌<◌, ◌≤◌, ◌==◌, ◌&&◌, ◌||◌, Bool, true, false, not, List, [], ◌∷◌, ◌++◌, length, map, take, drop, get_or, codes, nat_lt, if◌then◌else◌, All, refl, sym, ap, subst, ◌∙◌, append_assoc, take-append-drop, inl, inr, arith, append-nil}
 use Rattle.std.specs.Fmt.{decimal}
 use Rattle.std.specs.Int.{IsInRange}
 use Rattle.std.specs.List.{range_with_len, position_or_len, list_any, list_all, sum_by, join_with_byte}
 use Rattle.std.specs.Str.{bytes_eq}
-use Rattle.std.proofs.lemmas.Bool.{cases_lt}
+use Rattle.std.proofs.lemmas.Bool.{cases_lt, and_parts}
 use Rattle.std.proofs.lemmas.Bool.Decides.{nat_tests}
 use Rattle.std.proofs.lemmas.Fmt.{digits_decimal}
 use Rattle.std.proofs.lemmas.Str.Parse.{digit_at}
@@ -43,10 +43,6 @@ use Rattle.print_laws.proofs.PrintedMeaning.{constant_signal, input_signal, gate
 use Rattle.print_laws.proofs.BlifWords.{IsPlainByte, IsPlain, IsPlainLine, lined, blif_lines_are}
 use Rattle.print_laws.proofs.BlifNames.{name, names, defined_names, all_names, length-names, apart_names, constant_place, gate_place, output_place, signal_place, known_name, none_before}
 use Rattle.print_laws.proofs.BlifLines.{none_ahead_gates, none_ahead_outputs, none_ahead_end, IsPlaced, IsGatePlaced, covers_gates, covers_outputs, no_ports_in_gates, no_ports_in_outputs, defined_in_gates, defined_in_outputs, HoldsOf, HoldsOfGate, read_in_gates, read_in_outputs, NoneFrom, none_from, sound_gates, sound_outputs, sound_end}
-
-nothing : {X : Type 0} (xs : List X) → xs ++ [] ≡ xs
-nothing [] = refl
-nothing (x ∷ xs) = ap (λ l. x ∷ l) (nothing xs)
 
 bytes_placed : (at : ℕ) (ws : List (List ℕ)) → map (λ (w : Piece). w.bytes) (placed at ws) ≡ ws
 bytes_placed at [] = refl
@@ -188,11 +184,8 @@ plain_byte : (byte : ℕ) → (not (is_blank byte) && (not (is_line_feed byte) &
 plain_byte byte h = by_tests (is_blank byte) (is_line_feed byte) (is_comment_sign byte) (byte == 92) refl refl refl refl h
   where
     by_tests : (a b c d : Bool) → is_blank byte ≡ a → is_line_feed byte ≡ b → is_comment_sign byte ≡ c → (byte == 92) ≡ d → (not a && (not b && (not c && not d))) ≡ true → IsPlainByte byte
-    by_tests true b c d p q r s h = cc h
-    by_tests false true c d p q r s h = cc h
-    by_tests false false true d p q r s h = cc h
-    by_tests false false false true p q r s h = cc h
     by_tests false false false false p q r s h = record { no_blank = p; no_line_feed = q; no_comment = r; no_backslash = s }
+    by_tests a b c d p q r s h = cc h
 
 digit_plain : (x : ℕ) → IsInRange 48 57 x → IsPlainByte x
 digit_plain x h = record { no_blank = grind (arith, nat_tests); no_line_feed = grind (arith, nat_tests); no_comment = grind (arith, nat_tests); no_backslash = grind (arith, nat_tests) }
@@ -209,12 +202,8 @@ tests_plain word = list_all (λ byte. not (is_blank byte) && (not (is_line_feed 
 all_plain : (word : List ℕ) → tests_plain word ≡ true → All IsPlainByte word
 all_plain [] h = All-nil IsPlainByte
 all_plain (byte ∷ word) h =
-    let both = parts (not (is_blank byte) && (not (is_line_feed byte) && (not (is_comment_sign byte) && not (byte == 92)))) (tests_plain word) h in
+    let both = and_parts (not (is_blank byte) && (not (is_line_feed byte) && (not (is_comment_sign byte) && not (byte == 92)))) (tests_plain word) h in
     All-cons IsPlainByte byte word (plain_byte byte both.0) (all_plain word both.1)
-  where
-    parts : (a b : Bool) → (a && b) ≡ true → (a ≡ true) × (b ≡ true)
-    parts true b h = (refl, h)
-    parts false b h = cc h
 
 word_plain : (word : List ℕ) → 0 < length word → tests_plain word ≡ true → IsPlain word
 word_plain word some h = record { filled = some; plain = all_plain word h }
@@ -360,7 +349,7 @@ says net =
       input_place = i + length (codes ".inputs") + 1;
       output_place = o + length (codes ".outputs") + 1;
       ports = ap (λ ps. named_ports Input inputs ++ (named_ports Output outputs ++ ps)) (no_ports_in_gates n 0 net.gates rest (no_ports_in_outputs n 0 net.outputs end (λ at. refl)) b);
-      defined = ap (λ ws. codes "z" ∷ ws) (defined_in_gates n 0 net.gates rest (names 111 0 m) (λ at. defined_in_outputs n 0 net.outputs end [] (λ at. refl) at ∙ nothing (names 111 0 m)) b);
+      defined = ap (λ ws. codes "z" ∷ ws) (defined_in_gates n 0 net.gates rest (names 111 0 m) (λ at. defined_in_outputs n 0 net.outputs end [] (λ at. refl) at ∙ append-nil (names 111 0 m)) b);
       read = λ own gates covers.
           let P : Piece → Type 0 = IsFileName net in
           All-append P outputs (read_words (lined b (gates_lines n 0 net.gates ++ rest))) own
@@ -369,7 +358,7 @@ says net =
           let none = none_ahead_gates n 0 net.gates rest (none_ahead_outputs n 0 net.outputs end none_ahead_end) b in
           let left = lined b (gates_lines n 0 net.gates ++ rest) in
           ap (λ rs. cover_of all (placed z (codes ".names" ∷ codes "z" ∷ [])) rs ∷ covers_of all left) none
-          ∙ ap (λ ds. Cover [] [] true ∷ ds) (covers_gates all n 0 net.gates rest (map (output_cover n) net.outputs) gates (none_ahead_outputs n 0 net.outputs end none_ahead_end) (λ at. covers_outputs all n 0 net.outputs end [] covers none_ahead_end (end_says_nothing all) at ∙ nothing (map (output_cover n) net.outputs)) b);
+          ∙ ap (λ ds. Cover [] [] true ∷ ds) (covers_gates all n 0 net.gates rest (map (output_cover n) net.outputs) gates (none_ahead_outputs n 0 net.outputs end none_ahead_end) (λ at. covers_outputs all n 0 net.outputs end [] covers none_ahead_end (end_says_nothing all) at ∙ append-nil (map (output_cover n) net.outputs)) b);
       sound = none_from is_faulty [] (lined 0 (blif_words net)) (λ k d h. absurd (omega (arith, h))) (refl, (refl, (refl, (refl, sound_gates n 0 net.gates rest (sound_outputs n 0 net.outputs end sound_end) b _ refl))));
       has_inputs = refl;
       has_outputs = refl;
@@ -410,12 +399,12 @@ are_blif net lines within said =
     (once_names repeats_port (λ w. record { kind = Input; word = w }) (λ ports. map B (words_of_kind Input ports)) (λ ports. map B (words_of_kind Output ports))
     (λ earlier w. repeats_named earlier (record { kind = Input; word = w }) ∙ ap (list_any (bytes_eq w.bytes)) (port_names-bytes Input earlier))
     (λ earlier w. ap (map B) (words_of_kind-append Input earlier (record { kind = Input; word = w } ∷ [])) ∙ map-append B (words_of_kind Input earlier) (w ∷ []))
-    (λ earlier w. ap (map B) (words_of_kind-append Output earlier (record { kind = Input; word = w } ∷ []) ∙ nothing (words_of_kind Output earlier)))
+    (λ earlier w. ap (map B) (words_of_kind-append Output earlier (record { kind = Input; word = w } ∷ []) ∙ append-nil (words_of_kind Output earlier)))
     105 0 n said.input_place [] [] own (omega (arith, few)) refl refl
     (λ earlier full none. once_names repeats_port (λ w. record { kind = Output; word = w }) (λ ports. map B (words_of_kind Output ports)) (λ ports. map B (words_of_kind Input ports))
     (λ earlier w. repeats_named earlier (record { kind = Output; word = w }) ∙ ap (list_any (bytes_eq w.bytes)) (port_names-bytes Output earlier))
     (λ earlier w. ap (map B) (words_of_kind-append Output earlier (record { kind = Output; word = w } ∷ [])) ∙ map-append B (words_of_kind Output earlier) (w ∷ []))
-    (λ earlier w. ap (map B) (words_of_kind-append Input earlier (record { kind = Output; word = w } ∷ []) ∙ nothing (words_of_kind Input earlier)))
+    (λ earlier w. ap (map B) (words_of_kind-append Input earlier (record { kind = Output; word = w } ∷ []) ∙ append-nil (words_of_kind Input earlier)))
     111 0 m said.output_place (names 105 0 (0 + n)) earlier [] (omega (arith, few)) none full (λ e a b. tt)))) in
     let distinct : AreDistinct lines = record { declared = declared; once = once } in
     let single : AreDefinedOnce lines = record { distinct = distinct; once = defined_once n g m (input_words lines) (defined_words lines) few input_bytes said.defined } in

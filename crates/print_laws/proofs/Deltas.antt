@@ -36,7 +36,7 @@ few_by_test : (t : Bool) (more n : ℕ) → length (groups more (n / 128)) ≤ m
 few_by_test true more n few = omega arith
 few_by_test false more n few = omega (arith, few)
 
-few_groups : (more n : ℕ) → length (groups more n) ≤ more + 1
+pub few_groups : (more n : ℕ) → length (groups more n) ≤ more + 1
 few_groups zero n = omega arith
 few_groups (suc more) n = few_by_test (nat_lt n 128) more n (few_groups more (n / 128))
 

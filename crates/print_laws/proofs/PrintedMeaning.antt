@@ -1,5 +1,5 @@
 -- A netlist computes what its printed BLIF file means, and the file's covers have no cycle.
-use Rattle.std.proofs.Common.{◌≡◌, ℕ, zero, suc, ◌+◌, ◌-◌, ◌*◌, ◌%◌, ◌<◌, ◌≤◌, ◌&&◌, ◌||◌, Bool, true, false, List, [], ◌∷◌, ◌++◌, length, map, get_or, All, if◌then◌else◌, refl, sym, ap, subst, ◌∙◌, inl, inr, arith, ext_get_or, length-append}
+use Rattle.std.proofs.Common.{◌≡◌, ℕ, zero, suc, ◌+◌, ◌-◌, ◌<◌, ◌≤◌, ◌&&◌, ◌||◌, Bool, true, false, List, [], ◌∷◌, ◌++◌, length, map, get_or, All, if◌then◌else◌, refl, sym, ap, subst, ◌∙◌, inl, inr, arith, ext_get_or, length-append}
 use Rattle.std.proofs.lemmas.Bool.{cases_lt, ne_eqb, le-ltb, lt-ltb}
 use Rattle.std.proofs.lemmas.List.{length-map, get_or-map, get_or_append_left, get_or-append-add}
 use Rattle.std.proofs.lemmas.List.Elements.{All-nil, All-cons}
@@ -16,6 +16,7 @@ use Rattle.circuits.specs.Functions.{Computes}
 use Rattle.circuits.specs.Levels.{IsWithin, IsAcyclic}
 use Rattle.circuits.proofs.Valuations.{valuation_of-fits}
 use Rattle.circuits.proofs.LevelLaws.{least_level}
+use Rattle.circuits.proofs.Expansions.{literal_bit-plain}
 use Rattle.print_laws.specs.PrintedCircuits.{printed_signal, wanted_of, gate_cover, output_cover, printed_circuit}
 
 pub constant_signal : (inputs : ℕ) → printed_signal inputs 0 ≡ 1 + inputs
@@ -121,16 +122,6 @@ same_below net x v (suc t) ordered long fits few s h =
           ∙ sym (ap (bit w) here ∙ own.gates t no_gate there)
     ]
 
-unsigned : (b : Bool) → differ b false ≡ b
-unsigned true = refl
-unsigned false = refl
-
-plain_bit : (v : List Bool) (s : ℕ) → literal_bit v (plain_literal s) ≡ bit v s
-plain_bit v s =
-    let signal : signal_of (plain_literal s) ≡ s = omega arith in
-    let sign : is_negated (plain_literal s) ≡ false = ne_eqb (2 * s % 2) 1 (λ clash. omega (arith, clash)) in
-    ap (λ n. differ (bit v n) (is_negated (plain_literal s))) signal ∙ ap (differ (bit v s)) sign ∙ unsigned (bit v s)
-
 -- the literal of output k
 abbrev number : Net → ℕ → Lit
 number net k = plain_literal (2 + net.inputs + length net.gates + k)
@@ -150,7 +141,7 @@ same_output net x v k ordered long fits h =
     get_or-map (literal_bit w) net.outputs k none false h
     ∙ sym (get_or-map (literal_bit v) (printed_circuit net).outputs k none false wide
     ∙ ap (literal_bit v) (get_or-map-range_with_len (number net) 0 (length net.outputs) k k none h (omega arith))
-    ∙ plain_bit v (2 + net.inputs + g + k)
+    ∙ literal_bit-plain v (2 + net.inputs + g + k)
     ∙ ap (bit v) at
     ∙ fits.defs (suc (g + k)) no_def (omega (arith, h, length-printed net))
     ∙ ap (def_bit v) (output_at net k no_def none h)

@@ -1,5 +1,5 @@
 -- How long printed files are.
-use Rattle.std.proofs.Common.{◌≡◌, ℕ, zero, suc, ◌+◌, ◌-◌, ◌*◌, ◌/◌, ◌%◌, ◌^◌, ◌<◌, ◌≤◌, ◌==◌, Bool, true, false, List, [], ◌∷◌, ◌++◌, length, map, All, nat_lt, if◌then◌else◌, refl, ap, ◌∙◌, arith, length-append}
+use Rattle.std.proofs.Common.{◌≡◌, ℕ, zero, suc, ◌+◌, ◌-◌, ◌*◌, ◌^◌, ◌<◌, ◌≤◌, ◌==◌, Bool, true, false, List, [], ◌∷◌, ◌++◌, length, map, All, nat_lt, if◌then◌else◌, ap, arith, length-append}
 use Rattle.std.specs.Prelude.{codes, max, min}
 use Rattle.std.specs.Fmt.{decimal}
 use Rattle.std.specs.List.{join_with_byte, range_with_len}
@@ -12,11 +12,12 @@ use Rattle.circuits.specs.Netlists.{Net}
 use Rattle.circuits.specs.declared.netlist.Lit.{Lit}
 use Rattle.circuits.specs.declared.netlist.Gate.{Gate}
 use Rattle.net_file.specs.declared.named.Named.{Named}
-use Rattle.net_print.specs.BlifLines.{signal_name, gate_name, input_name, gate_lines, gates_lines, outputs_lines, ports_line, words_text, blif_text, row_byte}
-use Rattle.net_print.specs.Deltas.{groups, delta_groups, deltas}
+use Rattle.net_print.specs.BlifLines.{signal_name, gate_name, input_name, gates_lines, outputs_lines, ports_line, words_text, blif_text, row_byte}
+use Rattle.net_print.specs.Deltas.{delta_groups, deltas}
 use Rattle.net_print.specs.Files.{aig_text}
 use Rattle.net_print.specs.Rows.{numbers_line, header_numbers, header_line, output_row, symbol_lines, symbols}
 use Rattle.print_laws.specs.Printable.{IsPrintable, IsShortName, IsWithinLimits}
+use Rattle.print_laws.proofs.Deltas.{few_groups}
 
 -- a number of 32 bits has ten digits at most
 digits_few : (n : ℕ) → n < 2 ^ 32 → length (decimal n) ≤ 10
@@ -131,14 +132,6 @@ blif_short net within =
 text_size : (line : List ℕ) (lines : List (List ℕ)) → length (text_of_lines (line ∷ lines)) ≡ length line + 1 + length (text_of_lines lines)
 text_size line lines = omega (arith, length-append (line ++ 10 ∷ []) (text_of_lines lines), length-append line (10 ∷ []))
 
-groups_size : (more n : ℕ) → length (groups more n) ≤ more + 1
-groups_size zero n = omega arith
-groups_size (suc more) n = by_test (nat_lt n 128) (groups_size more (n / 128))
-  where
-    by_test : (low : Bool) → length (groups more (n / 128)) ≤ more + 1 → length (if low then n ∷ [] else (128 + n % 128) ∷ groups more (n / 128)) ≤ suc more + 1
-    by_test true rest = omega arith
-    by_test false rest = omega (arith, rest)
-
 deltas_size : (variable : ℕ) (gates : List Gate) → length (deltas variable gates) ≤ 10 * length gates
 deltas_size variable [] = omega arith
 deltas_size variable (gate ∷ gates) =
@@ -148,8 +141,8 @@ deltas_size variable (gate ∷ gates) =
       arith,
       length-append (first ++ second) (deltas (variable + 1) gates),
       length-append first second,
-      groups_size 4 (2 * variable - max gate.a.0 gate.b.0),
-      groups_size 4 (max gate.a.0 gate.b.0 - min gate.a.0 gate.b.0),
+      few_groups 4 (2 * variable - max gate.a.0 gate.b.0),
+      few_groups 4 (max gate.a.0 gate.b.0 - min gate.a.0 gate.b.0),
       deltas_size (variable + 1) gates,
     )
 

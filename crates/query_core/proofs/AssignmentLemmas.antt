@@ -2,7 +2,7 @@
 use Rattle.std.proofs.Common.{◌≡◌, ℕ, zero, suc, ◌+◌, ◌-◌, ◌<◌, ◌&&◌, ◌||◌, not, cond, Bool, true, false, List, [], ◌∷◌, ◌++◌, length, map, drop, All, slice_index_or, inl, inr, refl, sym, ◌∙◌, ap, subst, arith}
 use Rattle.std.specs.List.{range_with_len}
 use Rattle.std.specs.Bool.{beq}
-use Rattle.std.proofs.lemmas.Bool.{cases_lt, cases_Bool, false≢true}
+use Rattle.std.proofs.lemmas.Bool.{cases_lt, cases_Bool, false≢true, or_parts}
 use Rattle.std.proofs.lemmas.Bool.Decides.{eqb_tells}
 use Rattle.std.proofs.lemmas.List.{get_or-map, get_or_append_left, get_or-append-add, get_or_push, length_push, get_or-drop, length-map, length-drop}
 use Rattle.std.proofs.lemmas.List.Elements.{All-from_recursion}
@@ -28,6 +28,7 @@ use Rattle.query_core.specs.Formulas.{false_literal, feed_literal, plain, signal
 use Rattle.query_core.proofs.FormulaLemmas.{signal_count, right_variable_count, reached_count, length-feeds_differ}
 use Rattle.query_core.proofs.LawLemmas.{AreMet, literal_of_bit, is_itself, fed_bit, false_there, signal_there, literal_there, ordered_side}
 use Rattle.query_core.proofs.MatchLemmas.{list_by_bits}
+use borrow.Author.Tests.{not-false}
 
 -- v is the AND of a and b: its three clauses are met
 gate_holds : (a : List Bool) (v l m : SatLit) → literal_bit a v ≡ (literal_bit a l && literal_bit a m) → AreMet a (and_clauses v l m)
@@ -117,11 +118,6 @@ output_holds a net literals x output value first same there given =
     by_value true l e = ap (λ t. t || false) e
     by_value false l e = ap (λ t. t || false) (opposite_bit a l ∙ ap not e)
 
--- signals that reach no input whose feeds differ have the same bits
-or_false : (b c : Bool) → (b || c) ≡ false → (b ≡ false) × (c ≡ false)
-or_false true c e = cc
-or_false false c e = (refl, e)
-
 gate_agrees : (v w : List Bool) (gate : Gate) → bit v (signal_of gate.a) ≡ bit w (signal_of gate.a) → bit v (signal_of gate.b) ≡ bit w (signal_of gate.b) → gate_bit v gate ≡ gate_bit w gate
 gate_agrees v w gate one other =
     ap (λ y. differ y (inverts gate.a) && signal_bit v gate.b) one ∙ ap (λ y. signal_bit w gate.a && differ y (inverts gate.b)) other
@@ -141,7 +137,7 @@ agree_more flags v w gate lf lw a b same s below free =
           let here : s ≡ length v = omega (arith, last, below, length_push v (gate_bit v gate)) in
           let here_w : s ≡ length w = omega (arith, here, lw) in
           let here_f : s ≡ length flags = omega (arith, here, lf) in
-          let neither = or_false (bit flags (signal_of gate.a)) (bit flags (signal_of gate.b)) (sym (get_or_push flags flag false s (sym here_f)) ∙ free) in
+          let neither = or_parts (bit flags (signal_of gate.a)) (bit flags (signal_of gate.b)) (sym (get_or_push flags flag false s (sym here_f)) ∙ free) in
           get_or_push v (gate_bit v gate) false s (sym here)
           ∙ (gate_agrees v w gate (same (signal_of gate.a) a neither.0) (same (signal_of gate.b) b neither.1) ∙ sym (get_or_push w (gate_bit w gate) false s (sym here_w)))
     ]
@@ -155,33 +151,25 @@ agree_through flags v w (gate ∷ gates) lf lw a b same =
     agree_through (flags ++ flag ∷ []) (v ++ gate_bit v gate ∷ []) (w ++ gate_bit w gate ∷ []) gates (omega (arith, lf, length_push flags flag, length_push v (gate_bit v gate))) (omega (arith, lw, length_push w (gate_bit w gate), length_push v (gate_bit v gate))) (ReadsBelow-tail v (gate_bit v gate) first_operand gate gates a) (ReadsBelow-tail v (gate_bit v gate) second_operand gate gates b) (agree_more flags v w gate lf lw one other same)
 
 -- feeds that are the same give the same bit
+same_flip : (a b : Bool) → beq a b ≡ true → a ≡ b
+same_flip true true e = refl
+same_flip false false e = refl
+same_flip a b e = cc
+
 same_bit : (x : List Bool) (feed other : Feed) → same_feed feed other ≡ true → feed_bit x feed ≡ feed_bit x other
 same_bit x (Fixed true) (Fixed true) same = refl
-same_bit x (Fixed true) (Fixed false) same = cc
-same_bit x (Fixed false) (Fixed true) same = cc
 same_bit x (Fixed false) (Fixed false) same = refl
-same_bit x (Fixed b) (Wire place flip) same = cc
-same_bit x (Wire place flip) (Fixed b) same = cc
 same_bit x (Wire place flip) (Wire other sign) same =
     elim (eqb_tells place other) [
       | inl (found, e) ↦ ap (λ p. differ (bit x p) flip) e ∙ ap (differ (bit x other)) (same_flip flip sign (sym (ap (λ t. t && beq flip sign) found) ∙ same))
       | inr (found, e) ↦ absurd (false≢true (sym (ap (λ t. t && beq flip sign) found) ∙ same))
     ]
-  where
-    same_flip : (a b : Bool) → beq a b ≡ true → a ≡ b
-    same_flip true true e = refl
-    same_flip true false e = cc
-    same_flip false true e = cc
-    same_flip false false e = refl
-
-not_false : (b : Bool) → not b ≡ false → b ≡ true
-not_false true e = refl
-not_false false e = cc
+same_bit x feed other same = cc
 
 feeds_agree : (x : List Bool) (left right : List Feed) (i : ℕ) → length left ≡ length right → i < length left → bit (feeds_differ left right) i ≡ false → bit (map (feed_bit x) left) i ≡ bit (map (feed_bit x) right) i
 feeds_agree x [] right i same below free = absurd (omega (arith, below))
 feeds_agree x (feed ∷ left) [] i same below free = absurd (omega (arith, same))
-feeds_agree x (feed ∷ left) (other ∷ right) zero same below free = same_bit x feed other (not_false (same_feed feed other) free)
+feeds_agree x (feed ∷ left) (other ∷ right) zero same below free = same_bit x feed other (not-false (same_feed feed other) free)
 feeds_agree x (feed ∷ left) (other ∷ right) (suc i) same below free = feeds_agree x left right i (omega (arith, same)) (omega (arith, below)) free
 
 start_agrees : (x : List Bool) (left right : List Feed) → length left ≡ length right → Agree (false ∷ feeds_differ left right) (false ∷ map (feed_bit x) left) (false ∷ map (feed_bit x) right)

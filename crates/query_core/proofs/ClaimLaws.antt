@@ -1,6 +1,6 @@
 -- Claims and the vectors that break them.
 use Rattle.std.proofs.Common.{ℕ, zero, suc, ◌^◌, ◌<◌, ◌≤◌, ◌≡◌, ◌≢◌, ◌⊎◌, ◌↔◌, Bool, true, false, not, List, length, set, refl, sym, ap, subst, ◌∙◌, inl, inr, arith}
-use Rattle.std.proofs.lemmas.Bool.{cases_lt, false≢true}
+use Rattle.std.proofs.lemmas.Bool.{cases_lt, false≢true, cases_Bool}
 use Rattle.std.proofs.lemmas.List.{length-set, get_or-set_same, get_or-set_other, set-set, set_comm, set-get_or}
 use Rattle.circuits.specs.Literals.{bit, vector_of}
 use Rattle.circuits.specs.Netlists.{Net}
@@ -45,10 +45,6 @@ opposites-after_values (Down i) x placed = set-set x i true false
 opposites-after_values (Swap i j a b) x placed =
     let apart : j ≢ i = omega (arith, placed.0) in
     ap (λ y. set y j (not b)) (set_comm (set x i a) j i b (not a) apart) ∙ (set-set (set (set x i a) i (not a)) j b (not b) ∙ ap (λ y. set y j (not b)) (set-set x i a (not a)))
-
-two : (b : Bool) → (b ≡ true) ⊎ (b ≡ false)
-two true = inl refl
-two false = inr refl
 
 -- a claim that holds has no vector that breaks it
 pub no_break : (net : Net) (k : ℕ) (shape : Shape) → ShapeHolds net k shape → ShapeFails net k shape → ⊥
@@ -136,7 +132,7 @@ binate-fails net k i there = (
 pub outside-holds : (net : Net) (k i : ℕ) → i < net.inputs → OutsideSupport net k i ↔ (ShapeHolds net k (Up i) × ShapeHolds net k (Down i))
 outside-holds net k i there = (
   λ same. (λ x len. no_fall_same (output_bit net k (set x i false)) (output_bit net k (set x i true)) (changed false same x len), λ x len. no_fall_same (output_bit net k (set x i true)) (output_bit net k (set x i false)) (changed true same x len)),
-  λ both x len. unchanged both x len (two (bit x i)),
+  λ both x len. unchanged both x len (cases_Bool (bit x i)),
 )
   where
     changed : (b : Bool) → OutsideSupport net k i → (x : List Bool) → length x ≡ net.inputs → output_bit net k (set x i b) ≡ output_bit net k (set x i (not b))

@@ -10,7 +10,7 @@ use Rattle.query_core.specs.declared.claims.Shape.TheVariants.{Up, Down, Swap}
 use Rattle.query_core.specs.declared.claims.Claim.{Claim}
 use Rattle.query_core.specs.declared.query.Feed.{Feed}
 use Rattle.query_core.specs.declared.query.Feed.TheVariants.{Fixed}
-use Rattle.query_core.specs.Claims.{Breaks, Holds, IsClaim, IsPlaced, output_bit, with_input, with_opposites, with_values}
+use Rattle.query_core.specs.Claims.{Breaks, Holds, IsClaim, output_bit, with_input, with_opposites, with_values}
 use Rattle.query_core.specs.ClaimQueries.{claim_query, opposite_shape, values_feed, with_fixed}
 use Rattle.query_core.specs.MatchQueries.{straight}
 use Rattle.query_core.specs.Queries.{IsQuery, IsUnmet, IsWired, MeetsQuery, cone_bit, feed_bit}
@@ -86,9 +86,3 @@ claim_query_fits graphs claim is =
         wires = values_wired n (opposite_shape claim.shape);
       };
     }
-
--- opposite values stand at the same inputs
-pub opposite_placed : (n : ℕ) (shape : Shape) → IsPlaced n shape → IsPlaced n (opposite_shape shape)
-opposite_placed n (Up i) placed = placed
-opposite_placed n (Down i) placed = placed
-opposite_placed n (Swap i j a b) placed = placed

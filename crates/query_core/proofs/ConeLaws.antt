@@ -1,5 +1,5 @@
 -- What meets the clauses of the cones alone has a vector that is asked for: each signal that an output reaches has its bit.
-use Rattle.std.proofs.Common.{◌≡◌, ◌≢◌, ℕ, zero, suc, ◌+◌, ◌*◌, ◌-◌, ◌<◌, ◌≤◌, ◌&&◌, ◌||◌, not, cond, Bool, true, false, List, [], ◌∷◌, length, map, All, slice_index_or, inl, inr, refl, sym, ap, subst, ◌∙◌, arith}
+use Rattle.std.proofs.Common.{◌≡◌, ◌≢◌, ℕ, zero, suc, ◌+◌, ◌*◌, ◌-◌, ◌<◌, ◌≤◌, ◌&&◌, Bool, true, false, List, [], ◌∷◌, length, map, All, slice_index_or, inl, inr, refl, sym, ap, subst, ◌∙◌, arith}
 use Rattle.std.proofs.lemmas.Bool.{cases_lt}
 use Rattle.std.proofs.lemmas.List.{get_or-map, get_or_append_left, length-map}
 use Rattle.std.proofs.lemmas.List.FromFn.{length-range_with_len}
@@ -8,9 +8,9 @@ use Rattle.circuits.specs.declared.netlist.Gate.{Gate}
 use Rattle.circuits.specs.Literals.{bit, differ, signal_of, is_negated as inverts, literal_bit as signal_bit}
 use Rattle.circuits.specs.Netlists.{Net, IsOrdered, signals_of, valuation_of, function_of}
 use Rattle.circuits.proofs.Valuations.{valuation_of-fits}
+use Rattle.circuits.proofs.Expansions.{or_false}
 use Rattle.cnf_core.specs.declared.literal.SatLit.{SatLit}
-use Rattle.cnf_core.specs.Clauses.{clause_at, is_met, literal_bit, opposite}
-use Rattle.cnf_core.proofs.DerivationLaws.{opposite_bit}
+use Rattle.cnf_core.specs.Clauses.{clause_at, is_met, literal_bit}
 use Rattle.net_core.specs.Sides.{Graphs}
 use Rattle.net_core.specs.Graph.{IsGraph}
 use Rattle.net_core.specs.Cones.{Reaches, ReachesGate, output_signal}
@@ -21,7 +21,7 @@ use Rattle.query_core.specs.Queries.{feed_bit, circuit_of, bits_in, vector_in, I
 use Rattle.query_core.specs.Formulas.{feed_literal, plain, signal_literals, stand_in, stands_for, and_clauses, half_clauses, left_variables, right_variables, left_literals, right_literals, output_literal}
 use Rattle.query_core.specs.ConeClauses.{IsConeId, MeetsCones, left_gates, right_gates}
 use Rattle.query_core.proofs.FormulaLemmas.{gate_clause_at, gate_clause_count, clause_of_left, clause_of_right, first_output, second_output, right_variable_count}
-use Rattle.query_core.proofs.LawLemmas.{by_sign, fed_bit, false_there, gate_met, is_itself, literal_of_bit, ordered_side, value_there}
+use Rattle.query_core.proofs.LawLemmas.{by_sign, fed_bit, false_there, gate_met, is_itself, literal_of_bit, ordered_side, value_there, chosen}
 
 -- what an output reaches has its operands' signals too
 pub first_reached : (net : Net) (k t : ℕ) (d : Gate) → t < length net.gates → ReachesGate net k t → Reaches net k (signal_of (slice_index_or net.gates t d).a)
@@ -33,11 +33,7 @@ second_reached net k t d within reached other fan_in = (fan_in.operands t d with
 -- where a signal's literal has its bit, so has each literal of it
 literal_valued : (a : List Bool) (literals : List SatLit) (v : List Bool) (l : Lit) → literal_bit a (stand_in literals (signal_of l)) ≡ bit v (signal_of l) → literal_bit a (stands_for literals l) ≡ signal_bit v l
 literal_valued a literals v l is =
-    sym (chosen (inverts l)) ∙ (sym (by_sign (inverts l) (literal_bit a (stand_in literals (signal_of l)))) ∙ ap (λ y. differ y (inverts l)) is)
-  where
-    chosen : (s : Bool) → cond s (not (literal_bit a (stand_in literals (signal_of l)))) (literal_bit a (stand_in literals (signal_of l))) ≡ literal_bit a (cond s (opposite (stand_in literals (signal_of l))) (stand_in literals (signal_of l)))
-    chosen true = sym (opposite_bit a (stand_in literals (signal_of l)))
-    chosen false = refl
+    sym (chosen a literals l (inverts l)) ∙ (sym (by_sign (inverts l) (literal_bit a (stand_in literals (signal_of l)))) ∙ ap (λ y. differ y (inverts l)) is)
 
 -- One circuit of a query: its literals, and an assignment that meets the clauses of the gates that output k reaches.
 record IsHalfMet (a : List Bool) (n : ℕ) (net : Net) (feed : List Feed) (variables : List ℕ) (k : ℕ) : Type 0 where
@@ -159,12 +155,8 @@ cone_vector_there graphs query a first second fits meets = record {
     right_count : length rights ≡ 3 * right_gates graphs query
     right_count = gate_clause_count rs (right.inputs + 1) right.gates
 
-    or_false : (t : Bool) → t ≡ (t || false)
-    or_false true = refl
-    or_false false = refl
-
     start : bit a 0 ≡ true
-    start = is_itself (bit a 0) ∙ (sym (literal_of_bit a 0 true) ∙ (or_false (literal_bit a (record { 0 = 0 })) ∙ meets 0 (inl refl)))
+    start = is_itself (bit a 0) ∙ (sym (literal_of_bit a 0 true) ∙ (sym (or_false (literal_bit a (record { 0 = 0 }))) ∙ meets 0 (inl refl)))
 
     left_met : (t r : ℕ) → t < length left.gates → ReachesGate left query.left.output t → r < 3 → is_met a (clause_at lefts (3 * t + r)) ≡ true
     left_met t r within reached small =

@@ -112,6 +112,10 @@ record IsMovedShape (p : List (ℕ × Bool)) (exchanged : Bool) (n : ℕ) (shape
   opposites : (x : List Bool) → length x ≡ n → with_opposites image (moved p x) ≡ moved p (cond exchanged (with_values shape x) (with_opposites shape x))
   placed : IsPlaced n image
 
+twice : (b : Bool) → b ≡ not (not b)
+twice true = refl
+twice false = refl
+
 -- the value of an input at its place
 value_is : (exchanged a s : Bool) → differ (differ a s) exchanged ≡ cond exchanged (differ (not a) s) (differ a s)
 value_is true true true = refl
@@ -165,10 +169,6 @@ one-image p exchanged n i a pair bijection entry = record {
     value : Bool
     value = moved_value exchanged pair a
 
-    twice : (b : Bool) → b ≡ not (not b)
-    twice true = refl
-    twice false = refl
-
     swapped : (e : Bool) → cond e (differ a (sign_of p i)) (differ (not a) (sign_of p i)) ≡ cond e (differ (not (not a)) (sign_of p i)) (differ (not a) (sign_of p i))
     swapped true = ap (λ b. differ b (sign_of p i)) (twice a)
     swapped false = refl
@@ -210,10 +210,6 @@ two-image p exchanged n i j a b first second bijection apart one other = record 
   where
     places : first.to ≢ second.to
     places e = places_differ n p i j bijection one.there other.there apart (one.place ∙ (e ∙ sym other.place))
-
-    twice : (b : Bool) → b ≡ not (not b)
-    twice true = refl
-    twice false = refl
 
     swapped : (e c s : Bool) → cond e (differ c s) (differ (not c) s) ≡ cond e (differ (not (not c)) s) (differ (not c) s)
     swapped true c s = ap (λ b. differ b s) (twice c)

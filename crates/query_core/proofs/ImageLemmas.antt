@@ -21,23 +21,17 @@ none-passes : (p : Pair → Bool) (pairs : List Pair) → find p pairs ≡ None 
 none-passes p [] none k d within = absurd (omega (arith, within))
 none-passes p (pair ∷ pairs) none k d within =
     elim (cases_Bool (p pair)) [
-      | inl passes ↦ absurd (clash (sym (cond-true (p pair) (Some pair) (find p pairs) passes) ∙ none))
+      | inl passes ↦ cc (sym (cond-true (p pair) (Some pair) (find p pairs) passes) ∙ none)
       | inr fails ↦ at k within fails (none-passes p pairs (sym (cond-false (p pair) (Some pair) (find p pairs) fails) ∙ none))
     ]
   where
-    clash : Some pair ≡ None → ⊥
-    clash e = cc
-
     at : (k : ℕ) → k < length (pair ∷ pairs) → p pair ≡ false → All (λ pair. p pair ≡ false) pairs → p (slice_index_or (pair ∷ pairs) k d) ≡ false
     at zero within fails rest = fails
     at (suc k) within fails rest = rest k d (omega (arith, within))
 
 -- what is found passes, and is one of them
 pub found-is : (P : Pair → Type 0) (p : Pair → Bool) (pairs : List Pair) (pair : Pair) → All P pairs → find p pairs ≡ Some pair → P pair × (p pair ≡ true)
-found-is P p [] pair all found = absurd (clash found)
-  where
-    clash : None ≡ Some pair → ⊥
-    clash e = cc
+found-is P p [] pair all found = cc
 found-is P p (one ∷ pairs) pair all found =
     elim (cases_Bool (p one)) [
       | inl passes ↦
@@ -48,25 +42,16 @@ found-is P p (one ∷ pairs) pair all found =
 
 -- what an option is by a function of what it holds
 pub mapped : {X Y : Type 0} (f : X → Y) (o : Option X) (y : Y) → option_map f o ≡ Some y → (x : X) × (o ≡ Some x) × (f x ≡ y)
-mapped f None y e = absurd (clash e)
-  where
-    clash : None ≡ Some y → ⊥
-    clash e = cc
+mapped f None y e = cc
 mapped f (Some x) y e = (x, refl, ap (λ o. unwrap_or o y) e)
 
 pub chained : {X Y : Type 0} (f : X → Option Y) (o : Option X) (y : Y) → option_and_then f o ≡ Some y → (x : X) × (o ≡ Some x) × (f x ≡ Some y)
-chained f None y e = absurd (clash e)
-  where
-    clash : None ≡ Some y → ⊥
-    clash e = cc
+chained f None y e = cc
 chained f (Some x) y e = (x, refl, e)
 
 map-none : {X Y : Type 0} (f : X → Y) (o : Option X) → option_map f o ≡ None → o ≡ None
 map-none f None e = refl
-map-none f (Some x) e = absurd (clash e)
-  where
-    clash : Some (f x) ≡ None → ⊥
-    clash e = cc
+map-none f (Some x) e = cc
 
 chain-none : {X Y : Type 0} (f : X → Option Y) (o : Option X) → ((x : X) → f x ≡ None) → option_and_then f o ≡ None
 chain-none f None each = refl
@@ -121,11 +106,11 @@ none_lacks pairs claim result is = (
     empty (Some x) e = cc
 
 -- a matching that has all pairs has the pair of a port
-kinds_same : (kind other : PortKind) → same_kind kind other ≡ true → kind ≡ other
-kinds_same Input Input e = refl
-kinds_same Input Output e = cc
-kinds_same Output Input e = cc
-kinds_same Output Output e = refl
+pub kind_is : (kind other : PortKind) → same_kind kind other ≡ true → kind ≡ other
+kind_is Input Input e = refl
+kind_is Input Output e = cc
+kind_is Output Input e = cc
+kind_is Output Output e = refl
 
 pub record IsEntry (entries : List (ℕ × Bool)) (port : ℕ) (pair : Pair) : Type 0 where
   pub there : port < length entries
@@ -136,7 +121,7 @@ pub pair-goes : (pairs : List Pair) (p q : List (ℕ × Bool)) (kind : PortKind)
 pair-goes pairs p q kind port pair extends found =
     let is = found-is (HasPair p q) (is_of kind port) pairs pair extends found in
     let parts = and_parts (same_kind pair.kind kind) (pair.from == port) is.1 in
-    let kinds = kinds_same pair.kind kind parts.0 in
+    let kinds = kind_is pair.kind kind parts.0 in
     let ports : pair.from ≡ port = eqb-true pair.from port parts.1 in
     let goes = ap (λ n. slice_index_or (entries_of kind p q) n (0, false)) (sym ports) ∙ (ap (λ k. slice_index_or (entries_of k p q) pair.from (0, false)) (sym kinds) ∙ is.0.goes) in
     record {

@@ -11,7 +11,7 @@ use Rattle.circuits.specs.declared.netlist.Lit.{Lit}
 use Rattle.circuits.specs.declared.netlist.Gate.{Gate}
 use Rattle.circuits.specs.Literals.{bit, differ, signal_of, plain_literal, is_negated as inverts, literal_bit as signal_bit}
 use Rattle.circuits.specs.Netlists.{Net, IsOrdered, Fits, valuation_of, function_of}
-use Rattle.circuits.proofs.Expansions.{literal_bit-plain, literal_bit-inverse}
+use Rattle.circuits.proofs.Expansions.{literal_bit-plain, literal_bit-inverse, or_false}
 use Rattle.circuits.proofs.Valuations.{valuation_of-only}
 use Rattle.cnf_core.specs.declared.literal.SatLit.{SatLit}
 use Rattle.cnf_core.specs.Clauses.{Meets, is_met, literal_bit, literal_of, opposite}
@@ -74,13 +74,13 @@ by_sign true false = refl
 by_sign false true = refl
 by_sign false false = refl
 
+pub chosen : (a : List Bool) (literals : List SatLit) (l : Lit) (s : Bool) → cond s (not (literal_bit a (stand_in literals (signal_of l)))) (literal_bit a (stand_in literals (signal_of l))) ≡ literal_bit a (cond s (opposite (stand_in literals (signal_of l))) (stand_in literals (signal_of l)))
+chosen a literals l true = sym (opposite_bit a (stand_in literals (signal_of l)))
+chosen a literals l false = refl
+
 pub literal_there : (a : List Bool) (literals : List SatLit) (l : Lit) → bit a 0 ≡ true → signal_bit (map (literal_bit a) literals) l ≡ literal_bit a (stands_for literals l)
 literal_there a literals l first =
-    ap (λ y. differ y (inverts l)) (signal_there a literals (signal_of l) first) ∙ (by_sign (inverts l) (literal_bit a (stand_in literals (signal_of l))) ∙ chosen (inverts l))
-  where
-    chosen : (s : Bool) → cond s (not (literal_bit a (stand_in literals (signal_of l)))) (literal_bit a (stand_in literals (signal_of l))) ≡ literal_bit a (cond s (opposite (stand_in literals (signal_of l))) (stand_in literals (signal_of l)))
-    chosen true = sym (opposite_bit a (stand_in literals (signal_of l)))
-    chosen false = refl
+    ap (λ y. differ y (inverts l)) (signal_there a literals (signal_of l) first) ∙ (by_sign (inverts l) (literal_bit a (stand_in literals (signal_of l))) ∙ chosen a literals l (inverts l))
 
 -- three clauses say that v is the AND of a and b
 and_by : (v a b : Bool) → (not v || (a || false)) ≡ true → (not v || (b || false)) ≡ true → (v || (not a || (not b || false))) ≡ true → v ≡ (a && b)
@@ -175,14 +175,10 @@ vector_there graphs query a first second fits meets =
     let rights = half_clauses right rs in
     let outputs = (output_literal left ls query.left.output query.left_value ∷ []) ∷ (output_literal right rs query.right.output query.right_value ∷ []) ∷ [] in
     let met = recursion_from_All (λ clause. is_met a clause ≡ true) (query_clauses graphs query) meets in
-    let start : bit a 0 ≡ true = is_itself (bit a 0) ∙ (sym (literal_of_bit a 0 true) ∙ (or_false (literal_bit a true_literal) ∙ met.0)) in
+    let start : bit a 0 ≡ true = is_itself (bit a 0) ∙ (sym (literal_of_bit a 0 true) ∙ (sym (or_false (literal_bit a true_literal)) ∙ met.0)) in
     let after = second_part a lefts (rights ++ outputs) met.1 in
     let outs = second_part a rights outputs after in
     record {
       left = output_there a n left query.left.feed (left_variables graphs query) query.left.output query.left_value start (ordered_side graphs query.left.side first second) fits.left.inputs fits.left.feed (length-range_with_len (n + 1) (length left.gates)) fits.left.wires fits.left.output (first_part a lefts (rights ++ outputs) met.1) outs.0;
       right = output_there a n right query.right.feed (right_variables graphs query) query.right.output query.right_value start (ordered_side graphs query.right.side first second) fits.right.inputs fits.right.feed (right_variable_count graphs query fits) fits.right.wires fits.right.output (first_part a rights outputs after) outs.1.0;
     }
-  where
-    or_false : (t : Bool) → t ≡ (t || false)
-    or_false true = refl
-    or_false false = refl

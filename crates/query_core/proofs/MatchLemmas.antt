@@ -10,6 +10,7 @@ use Rattle.circuits.specs.Netlists.{function_of}
 use Rattle.circuits.specs.Bijections.{IsSignedBijection, Moves, moved, place_of, sign_of}
 use Rattle.circuits.specs.Matches.{HavePorts, IsMatchOfFunctions}
 use Rattle.circuits.proofs.Places.{moved-only, IsSignedBijection-onto}
+use Rattle.circuits.proofs.Expansions.{differ_false}
 use Rattle.net_core.specs.Sides.{Graphs}
 use Rattle.net_core.specs.declared.matching.Matching.{Matching}
 use Rattle.net_core.specs.Graph.{IsGraph}
@@ -40,10 +41,6 @@ straight_bits x n same =
     let none : Feed = Wire 0 false in
     get_or-map (feed_bit x) (straight n) i none false (omega (arith, here, straight_count n))
     ∙ (ap (feed_bit x) (get_or-map-range_with_len (λ i. Wire i false) 0 n i i none here (omega arith)) ∙ differ_false (bit x i)))
-  where
-    differ_false : (b : Bool) → differ b false ≡ b
-    differ_false true = refl
-    differ_false false = refl
 
 -- what the place of entry j gets
 wire_to-place : (i : ℕ) (p : List (ℕ × Bool)) (j : ℕ) → AllPairs (λ (one other : ℕ × Bool). one.0 ≢ other.0) p → j < length p → wire_to i p (place_of p j) ≡ Wire (i + j) (sign_of p j)

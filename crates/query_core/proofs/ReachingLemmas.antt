@@ -1,7 +1,7 @@
 -- Which signals reach an input whose feeds differ: all of them, and those of one cone.
-use Rattle.std.proofs.Common.{◌≡◌, ℕ, zero, suc, ◌+◌, ◌-◌, ◌<◌, ◌≤◌, ◌||◌, Bool, false, List, [], ◌∷◌, ◌++◌, length, take, set, All, slice_index_or, inl, inr, refl, sym, ap, subst, ◌∙◌, arith}
+use Rattle.std.proofs.Common.{◌≡◌, ℕ, zero, suc, ◌+◌, ◌-◌, ◌<◌, ◌≤◌, ◌||◌, Bool, false, List, [], ◌∷◌, ◌++◌, length, set, All, slice_index_or, inl, inr, refl, sym, ap, subst, ◌∙◌, arith}
 use Rattle.std.proofs.lemmas.Bool.{cases_lt}
-use Rattle.std.proofs.lemmas.List.{get_or-set_same, get_or-set_other, get_or_append_left, get_or_default, get_or_push, get_or-take, length-set, length_push}
+use Rattle.std.proofs.lemmas.List.{get_or-set_same, get_or-set_other, get_or_append_left, get_or_default, get_or_push, length-set, length_push}
 use Rattle.circuits.specs.declared.netlist.Gate.{Gate}
 use Rattle.circuits.specs.Literals.{bit, signal_of}
 use Rattle.circuits.specs.Netlists.{Net}
@@ -49,13 +49,6 @@ pub record AreMarking (net : Net) (start : List Bool) (gates : List ℕ) (count 
   pub size : length marked ≡ net.inputs + 1 + length net.gates
   pub before : (s : ℕ) → s < net.inputs + 1 → bit marked s ≡ bit start s
   pub done : (k : ℕ) → k < count → bit marked (net.inputs + 1 + slice_index_or gates k 0) ≡ bit (reaching start net.gates) (net.inputs + 1 + slice_index_or gates k 0)
-
-pub marking_start : (net : Net) (gates : List ℕ) (marked : List Bool) → length marked ≡ net.inputs + 1 + length net.gates → AreMarking net (take (net.inputs + 1) marked) gates 0 marked
-marking_start net gates marked size = record {
-  size = size;
-  before = λ s less. sym (get_or-take (net.inputs + 1) marked s false less);
-  done = λ k less. absurd (omega (arith, less));
-}
 
 -- one gate more
 pub marking_more : (net : Net) (output : ℕ) (start : List Bool) (gates : List ℕ) (i t : ℕ) (row : Gate) (marked new : List Bool) → IsGraph net → AreReached net output gates → length start ≡ net.inputs + 1 → i < length gates → t ≡ slice_index_or gates i 0 → ((d : Gate) → row ≡ slice_index_or net.gates t d) → new ≡ set marked (net.inputs + 1 + t) (bit marked (signal_of row.a) || bit marked (signal_of row.b)) → AreMarking net start gates i marked → AreMarking net start gates (i + 1) new

@@ -12,7 +12,7 @@ use Rattle.query_core.specs.MatchQueries.{match_query}
 use Rattle.query_core.proofs.AssignmentLemmas.{assignment_there}
 use Rattle.query_core.proofs.MatchLemmas.{match_of_unmet}
 
-unmet : (graphs : Graphs) (query : Query) → IsGraph graphs.first → IsGraph graphs.second → IsRefuted graphs query → IsUnmet graphs query
+pub unmet : (graphs : Graphs) (query : Query) → IsGraph graphs.first → IsGraph graphs.second → IsRefuted graphs query → IsUnmet graphs query
 unmet graphs query first second refuted x same meets =
     let there = assignment_there graphs query x first second refuted.fits same meets in
     refuted_unmet (formula_of graphs query) refuted.lines there.0 refuted.refuted there.1

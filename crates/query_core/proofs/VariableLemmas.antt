@@ -30,15 +30,6 @@ variable_count (Own first) count for = length-range_with_len first count
 variable_count (Shared first own marked) count for =
     omega (arith, length-shared_from first own (drop first marked), length-drop first marked, for.marks)
 
--- each of the gates has one
-pub gate_there : (variables : Variables) (count t : ℕ) → AreFor count variables → t < count → HasGate variables t
-gate_there (Own first) count t for below = omega (arith, for, below)
-gate_there (Shared first own marked) count t for below = record {
-  there = omega (arith, for.marks, below);
-  first_few = omega (arith, for.first_few, below);
-  own_few = omega (arith, for.own_few, below);
-}
-
 -- it stands at the gate's place
 pub variable_in : (variables : Variables) (count t : ℕ) → AreFor count variables → t < count → slice_index_or (variables_in variables count) t 0 ≡ variable_at variables t
 variable_in (Own first) count t for below = get_or-range_with_len first count t 0 below
@@ -244,13 +235,6 @@ cone_clause graphs query left right ids id one_ordered ordered coning cone =
         let here : (rs : List SatLit) → id - 1 - length lefts ≡ length (half_clauses other rs) + 1 = λ rs. omega (arith, e, left_count, right_count rs) in
         let same = same_output other k query.right.feed vs ws query.right_value ordered feeds agree coning.fits.right.output in
         sym (second_output lefts (half_clauses other given) first (last given) id some following (here given)) ∙ (ap (λ b. b ∷ []) same ∙ second_output lefts (half_clauses other wanted) first (last wanted) id some following (here wanted))
-
--- each circuit of a query, with variables for its gates
-pub left_half : (graphs : Graphs) (query : Query) (variables : Variables) → IsQuery graphs query → AreFor (left_gates graphs query) variables → IsHalf (circuit_of graphs query.left) query.left.feed variables query.left.output
-left_half graphs query variables fits for = record { feeds = fits.left.feed; gates = for; there = fits.left.output }
-
-pub right_half : (graphs : Graphs) (query : Query) (variables : Variables) → IsQuery graphs query → AreFor (right_gates graphs query) variables → IsHalf (circuit_of graphs query.right) query.right.feed variables query.right.output
-right_half graphs query variables fits for = record { feeds = fits.right.feed ∙ sym fits.right.inputs; gates = for; there = fits.right.output }
 
 -- a gate that may be shared has the query's variable where its mark is right
 pub shared_right : (first own t : ℕ) (marked whole : List Bool) → first + t < length whole → bit marked (first + t) ≡ bit whole (first + t) → variable_at (Shared first own marked) t ≡ slice_index_or (shared_from first own (drop first whole)) t 0

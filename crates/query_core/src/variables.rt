@@ -40,19 +40,6 @@ impl Variables {
     }
 }
 
-// The variable of a gate that has one of its own where it is marked.
-fn shared(marked: &[bool], first: u64, own: u64, gate: usize) -> u64
-    requires marks { HasGate (Variables.Shared first own marked.now) gate }
-    ensures value { result ≡ variable_at (Variables.Shared first own marked.now) gate }
-    ensures few { result < 2 ^ 63 }
-{
-    if marked[first as usize + gate] {
-        own + gate as u64
-    } else {
-        first + gate as u64
-    }
-}
-
 /// The variables of the left circuit's gates.
 pub(crate) fn left_variables(graphs: &Graphs<'_>, query: &Query) -> Variables
     requires { IsQuery graphs.now query.now }
@@ -113,6 +100,19 @@ pub(crate) fn cone_variables(
         own,
         marked: Items::from_vec(marked),
     })
+}
+
+// The variable of a gate that has one of its own where it is marked.
+fn shared(marked: &[bool], first: u64, own: u64, gate: usize) -> u64
+    requires marks { HasGate (Variables.Shared first own marked.now) gate }
+    ensures value { result ≡ variable_at (Variables.Shared first own marked.now) gate }
+    ensures few { result < 2 ^ 63 }
+{
+    if marked[first as usize + gate] {
+        own + gate as u64
+    } else {
+        first + gate as u64
+    }
 }
 
 // The variable of the left circuit's first gate.

@@ -1,5 +1,5 @@
 -- Literals that were made true, by the bits of their variables.
-use Rattle.std.proofs.Common.{◌≡◌, ℕ, zero, suc, ◌+◌, ◌<◌, ◌||◌, not, cond, Bool, true, false, List, [], ◌∷◌, ◌++◌, length, drop, Option, None, Some, is_some, count_by, slice_index_or, slice_set, replicate, Vec, vec_capacity, inl, inr, refl, sym, ◌∙◌, ap, subst, arith}
+use Rattle.std.proofs.Common.{◌≡◌, ℕ, zero, suc, ◌+◌, ◌<◌, ◌||◌, not, cond, Bool, true, false, List, [], ◌∷◌, ◌++◌, length, drop, Option, None, Some, is_some, count_by, slice_set, replicate, Vec, vec_capacity, inl, inr, refl, sym, ◌∙◌, ap, subst, arith}
 use Rattle.std.specs.Bool.{beq}
 use Rattle.std.specs.List.{list_any}
 use Rattle.std.proofs.lemmas.Bool.{cases_eq, false≢true}
@@ -8,7 +8,6 @@ use Rattle.std.proofs.lemmas.List.{get_or-set_same, get_or-set_other, length-set
 use Rattle.std.proofs.lemmas.List.Folds.{list_any-append}
 use Rattle.std.proofs.lemmas.List.Sums.{count_by-le-length, sum_by-cons}
 use Rattle.std.proofs.lemmas.List.Elements.{All-append, All-cons, All-nil}
-use Rattle.std.proofs.Math.Seq.{drop-cons}
 use Rattle.std.specs.declared.alloc.Global.{Global}
 use Rattle.cnf_core.specs.declared.literal.SatLit.{SatLit}
 use Rattle.cnf_core.specs.Clauses.{variable_of, is_negated, literal_of, opposite}
@@ -38,28 +37,9 @@ pub record IsUnsetting (old now : List (Option Bool)) (made : List SatLit) (coun
   pub same_length : length now ≡ length old
   pub none : (v : ℕ) → v < length now → list_any (is_of v) (drop count made) ≡ false → bit_at now v ≡ None
 
-pub none_step : (now : List (Option Bool)) (made : List SatLit) (k : ℕ) (d : SatLit) → k < length made → variable_of (slice_index_or made k d) < length now → ((v : ℕ) → v < length now → list_any (is_of v) (drop k made) ≡ false → bit_at now v ≡ None) → (v : ℕ) → v < length now → list_any (is_of v) (drop (suc k) made) ≡ false → bit_at (slice_set now (variable_of (slice_index_or made k d)) None) v ≡ None
-none_step now made k d within known before v below none =
-    let l = slice_index_or made k d in
-    elim (eqb_tells (variable_of l) v) [
-      | inl (found, e) ↦ ap (λ w. bit_at (slice_set now w None) v) e ∙ get_or-set_same now v None None below
-      | inr (found, e) ↦
-          get_or-set_other now (variable_of l) v None None (λ same. e (sym same))
-          ∙ before v below (ap (list_any (is_of v)) (drop-cons made k d within) ∙ (ap (λ t. t || list_any (is_of v) (drop (suc k) made)) found ∙ none))
-    ]
-
 pub all_none : (bits : List (Option Bool)) → ((v : ℕ) → v < length bits → bit_at bits v ≡ None) → bits ≡ replicate (length bits) None
 all_none [] none = refl
 all_none (b ∷ bits) none = ap (λ c. c ∷ bits) (none 0 (omega arith)) ∙ ap (λ bs. None ∷ bs) (all_none bits (λ v below. none (suc v) (omega (arith, below))))
-
-pub none_at : (n v : ℕ) → bit_at (replicate n None) v ≡ None
-none_at zero v = refl
-none_at (suc n) zero = refl
-none_at (suc n) (suc v) = none_at n v
-
-pub none_counted : (n : ℕ) → count_by (is_some {T = Bool}) (replicate n None) ≡ 0
-none_counted zero = refl
-none_counted (suc n) = none_counted n
 
 -- how many bits there are, with one more in front
 count_none : (bits : List (Option Bool)) → count_by (is_some {T = Bool}) (None ∷ bits) ≡ count_by (is_some {T = Bool}) bits

@@ -6,7 +6,7 @@ use Rattle.std.proofs.lemmas.Slice.{between_is}
 use Rattle.shelf_files.specs.Files.{HoldsFirst, WritesFile, WritesOn}
 use Rattle.shelf_core.proofs.FaultLemmas.{rose_later}
 use Rattle.shelf_core.specs.Calls.{Appends, Closes, Creates}
-use Rattle.shelf_core.specs.State.{ShelfState, Writing, grown}
+use Rattle.shelf_core.specs.State.{ShelfState, grown}
 use Rattle.shelf_core.specs.declared.outside.ShelfStop.{ShelfStop}
 use Rattle.shelf_core.specs.declared.outside.ShelfStop.TheVariants.{Memory}
 
@@ -27,18 +27,6 @@ first_after text more k =
 
 whole_first : (text : List ℕ) (content : Option (List ℕ)) → content ≡ Some text → HoldsFirst text content
 whole_first text content is = (length text, is ∙ ap Some (sym (take_all (length text) text (omega arith))))
-
--- nothing was written yet
-pub written_none : (tells : Bool) (pending : List ℕ) (now : ShelfState) → now.mode ≡ Writing → WritesOn tells pending pending now now (Ok tt)
-written_none tells pending now writing = record {
-  others = λ t n other. refl;
-  writing = writing;
-  named = refl;
-  whole = λ t there is. ([], refl, is ∙ ap Some (sym (append-nil there)));
-  part = λ t there is. tt;
-  faults = omega arith;
-  failed = λ e. cc;
-}
 
 -- a piece was appended, or a first part of it
 pub written_one : (tells : Bool) (piece left : List ℕ) (old new : ShelfState) (result : Result (Unit {0}) ShelfStop)

@@ -1,5 +1,5 @@
 -- What a test for an empty list tells.
-use Rattle.std.proofs.Common.{◌≡◌, ◌==◌, ◌<◌, Bool, true, false, cond, List, [], ◌∷◌, length, Some, None, refl, arith}
+use Rattle.std.proofs.Common.{◌≡◌, ◌==◌, ◌<◌, Bool, true, false, cond, List, length, Some, None, refl, arith}
 use Rattle.std.proofs.lemmas.Bool.Decides.{nat_tests}
 
 pub empty_by_test : {X : Type 0} (xs : List X) → (length xs == 0) ≡ true → length xs ≡ 0
@@ -7,10 +7,6 @@ empty_by_test xs h = grind (arith, nat_tests)
 
 pub filled_by_test : {X : Type 0} (xs : List X) → (length xs == 0) ≡ false → 0 < length xs
 filled_by_test xs h = grind (arith, nat_tests)
-
-pub nil_from_length : {X : Type 0} (xs : List X) → length xs ≡ 0 → xs ≡ []
-nil_from_length [] h = refl
-nil_from_length (x ∷ xs) h = absurd (omega arith)
 
 -- an answer that is there unless a test holds
 pub some_by_test : {X : Type 0} (t : Bool) (x y : X) → cond t None (Some x) ≡ Some y → (t ≡ false) × (x ≡ y)

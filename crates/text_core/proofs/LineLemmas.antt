@@ -2,10 +2,11 @@
 use Rattle.std.proofs.Common.{◌≡◌, ◌==◌, ℕ, suc, ◌+◌, ◌<◌, Bool, true, false, cond, not, List, [], ◌∷◌, ◌++◌, length, take, drop, Some, None, refl, ap, sym, ◌∙◌, arith, append_assoc, eqb-true}
 use Rattle.std.specs.List.{All, onto_first}
 use Rattle.std.proofs.lemmas.List.Elements.{All-nil, All-cons, All-head, All-tail}
+use Rattle.std.proofs.lemmas.List.{nil_from_length}
 use Rattle.text_core.specs.Bytes.{is_line_feed}
 use Rattle.text_core.specs.Piece.{Piece, front}
 use Rattle.text_core.specs.Lines.{lines, line_length, text_of_lines, first_line, after_line, IsLine}
-use Rattle.text_core.proofs.EmptyTests.{filled_by_test, empty_by_test, nil_from_length, some_by_test, none_by_test}
+use Rattle.text_core.proofs.EmptyTests.{filled_by_test, empty_by_test, some_by_test, none_by_test}
 
 -- a byte that is no line feed goes onto the first line
 onto_first-front : (byte : ℕ) (bytes : List ℕ) (n : ℕ) → (0 < length bytes → lines bytes ≡ take n bytes ∷ lines (drop (n + 1) bytes)) → (bytes ≡ [] → n ≡ 0) → onto_first byte (lines bytes) ≡ take (1 + n) (byte ∷ bytes) ∷ lines (drop (1 + n + 1) (byte ∷ bytes))

@@ -4,10 +4,11 @@ use Rattle.std.specs.List.{All, filter, onto_first, prefix_len, slice_split}
 use Rattle.std.proofs.lemmas.List.Splits.{slice_split-cons_yes, slice_split_at, slice_split_none}
 use Rattle.std.proofs.lemmas.List.Elements.{All-nil, All-cons, All-head, All-tail, All-filter, filter_passes}
 use Rattle.std.proofs.lemmas.Bool.{not-true}
+use Rattle.std.proofs.lemmas.List.{nil_from_length}
 use Rattle.text_core.specs.Bytes.{is_blank}
 use Rattle.text_core.specs.Piece.{Piece, front, past}
 use Rattle.text_core.specs.Words.{is_not_empty, words, word_length, without_blanks, first_word, after_word, IsWord}
-use Rattle.text_core.proofs.EmptyTests.{filled_by_test, empty_by_test, nil_from_length, some_by_test, none_by_test}
+use Rattle.text_core.proofs.EmptyTests.{filled_by_test, empty_by_test, some_by_test, none_by_test}
 
 -- a blank at the front changes no word
 pub words-blank : (b : ℕ) (bs : List ℕ) → is_blank b ≡ true → words (b ∷ bs) ≡ words bs

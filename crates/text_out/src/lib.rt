@@ -2,7 +2,7 @@
 //!
 //! Each call says what was appended, and that what stood in the buffer stands there still, also when out of memory.
 
-#![tactic(auto)]
+#![tactic(auto, using(crate::proofs::Extending::extends_same, crate::proofs::Extending::extends_twice))]
 
 mod chain;
 mod parts;

@@ -35,7 +35,6 @@ pub trait Parts {
 /// # Errors
 ///
 /// Only when out of memory. A first part of the text may stand in `out` then.
-#[tactic(auto, using(crate::proofs::Extending::extends_same, crate::proofs::Extending::extends_twice))]
 pub fn put_all<P: Parts + Drop>(parts: P, out: &mut Vec<u8>) -> Result<(), AllocError>
     ensures ok { OnOk result (out.new.items ≡ out.old.items ++ P.left parts) }
     ensures kept { Extends out.old.items out.new.items }

@@ -16,7 +16,6 @@ pub fn put_text(text: &[u8], out: &mut Vec<u8>) -> Result<(), AllocError>
 }
 
 /// Writes a word with a blank after it.
-#[tactic(auto, using(crate::proofs::Extending::extends_same, crate::proofs::Extending::extends_twice))]
 pub fn put_word(word: &[u8], out: &mut Vec<u8>) -> Result<(), AllocError>
     ensures ok { OnOk result (out.new.items ≡ out.old.items ++ (word.now ++ 32 ∷ [])) }
     ensures kept { Extends out.old.items out.new.items }
@@ -26,7 +25,6 @@ pub fn put_word(word: &[u8], out: &mut Vec<u8>) -> Result<(), AllocError>
 }
 
 /// Writes a number with a blank after it.
-#[tactic(auto, using(crate::proofs::Extending::extends_same, crate::proofs::Extending::extends_twice))]
 pub fn put_number(number: u64, out: &mut Vec<u8>) -> Result<(), AllocError>
     ensures ok { OnOk result (out.new.items ≡ out.old.items ++ (decimal number ++ 32 ∷ [])) }
     ensures kept { Extends out.old.items out.new.items }
@@ -36,7 +34,6 @@ pub fn put_number(number: u64, out: &mut Vec<u8>) -> Result<(), AllocError>
 }
 
 /// Writes the last word of a line.
-#[tactic(auto, using(crate::proofs::Extending::extends_same, crate::proofs::Extending::extends_twice))]
 pub fn put_last_word(word: &[u8], out: &mut Vec<u8>) -> Result<(), AllocError>
     ensures ok { OnOk result (out.new.items ≡ out.old.items ++ (word.now ++ 10 ∷ [])) }
     ensures kept { Extends out.old.items out.new.items }
@@ -46,7 +43,6 @@ pub fn put_last_word(word: &[u8], out: &mut Vec<u8>) -> Result<(), AllocError>
 }
 
 /// Writes the number at the end of a line.
-#[tactic(auto, using(crate::proofs::Extending::extends_same, crate::proofs::Extending::extends_twice))]
 pub fn put_last_number(number: u64, out: &mut Vec<u8>) -> Result<(), AllocError>
     ensures ok { OnOk result (out.new.items ≡ out.old.items ++ (decimal number ++ 10 ∷ [])) }
     ensures kept { Extends out.old.items out.new.items }

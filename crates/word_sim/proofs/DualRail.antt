@@ -1,5 +1,5 @@
 -- Two bits for each of three values: the gates of rails are those of the values.
-use Rattle.std.proofs.Common.{ℕ, zero, suc, ◌+◌, ◌<◌, ◌≡◌, ◌⊎◌, Bool, true, false, ◌&&◌, ◌||◌, cond, eqb, List, [], ◌∷◌, ◌++◌, length, get_or, map, take, drop, replicate, set, refl, sym, ap, ◌∙◌, inl, inr, arith, bit_or, max}
+use Rattle.std.proofs.Common.{ℕ, zero, suc, ◌+◌, ◌<◌, ◌≡◌, Bool, true, false, ◌&&◌, ◌||◌, cond, eqb, List, [], ◌∷◌, ◌++◌, length, get_or, map, take, drop, replicate, set, refl, sym, ap, ◌∙◌, inl, inr, arith, bit_or, max}
 use Rattle.std.specs.Int.{bit_at}
 use Rattle.std.specs.Prelude.{Result, Ok, Err, IfOk}
 use Rattle.std.proofs.lemmas.Nat.Bits.{bit_at_or, bit_at-lt, bit_at-zero}
@@ -14,11 +14,7 @@ use Rattle.word_sim.specs.declared.tri.Tri.TheVariants.{Zero, One, X}
 use Rattle.word_sim.specs.Columns.{word_bit, word_of}
 use Rattle.word_sim.specs.Rails.{Rail, rail_and, rail_at, rail_gate, rail_literal, rail_not, rail_of, rails_at, signed_rail, value_of}
 use Rattle.word_sim.specs.ThreeValues.{tri_and, tri_gate, tri_literal, tri_not, with_tri_gates}
-
-two : (n : ℕ) → n < 2 → (n ≡ 0) ⊎ (n ≡ 1)
-two zero h = inl refl
-two (suc zero) h = inr refl
-two (suc (suc n)) h = absurd (omega arith)
+use Rattle.word_sim.proofs.Lanes.{two}
 
 -- digits of base two: the greater one
 greater : (m n : ℕ) → m < 2 → n < 2 → eqb (max m n) 1 ≡ eqb m 1 || eqb n 1

@@ -8,7 +8,7 @@ use Rattle.circuits.specs.Literals.{bit, differ, signal_of, is_negated, literal_
 use Rattle.circuits.specs.Netlists.{Net, gate_bit, with_gates, function_of}
 use Rattle.word_sim.specs.Columns.{word_bit, lane, literal_word, gate_word, with_gate_words}
 
-two : (n : ℕ) → n < 2 → (n ≡ 0) ⊎ (n ≡ 1)
+pub two : (n : ℕ) → n < 2 → (n ≡ 0) ⊎ (n ≡ 1)
 two zero h = inl refl
 two (suc zero) h = inr refl
 two (suc (suc n)) h = absurd (omega arith)

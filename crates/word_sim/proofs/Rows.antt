@@ -110,12 +110,3 @@ AreEvaluated-more net inputs outputs next word more done table words columns oth
         subst (λ w. vector_at next w v ≡ function_of net (vector_at inputs w v)) e (here (w - word) v (omega (arith, h, past)) bits)
   ];
 }
-
--- no vector is left out where none is asked for
-pub AreEvaluated-none : (net : Net) (inputs outputs : Table) → IsTable outputs → outputs.words ≡ inputs.words → length outputs.columns ≡ length net.outputs → AreEvaluated net inputs 0 outputs
-AreEvaluated-none net inputs outputs table words columns = record {
-  table = table;
-  words = words;
-  columns = columns;
-  vectors = λ w v h bits. absurd (omega (arith, h));
-}

@@ -1,5 +1,0 @@
-use Rattle.account_file.proofs.LawLemmas as law
-use Rattle.account_file.proofs.laws.one_answer.Goals as goal
-
-pub returns : goal.returns
-returns c = law.one_answer
