@@ -122,7 +122,7 @@ or_false : (b c : Bool) → (b || c) ≡ false → (b ≡ false) × (c ≡ false
 or_false true c e = cc
 or_false false c e = (refl, e)
 
-gate_agrees : (v w : List Bool) (gate : Gate) → bit v (signal_of gate.a) ≡ bit w (signal_of gate.a) → bit v (signal_of gate.b) ≡ bit w (signal_of gate.b) → gate_bit v gate ≡ gate_bit w gate
+pub gate_agrees : (v w : List Bool) (gate : Gate) → bit v (signal_of gate.a) ≡ bit w (signal_of gate.a) → bit v (signal_of gate.b) ≡ bit w (signal_of gate.b) → gate_bit v gate ≡ gate_bit w gate
 gate_agrees v w gate one other =
     ap (λ y. differ y (inverts gate.a) && signal_bit v gate.b) one ∙ ap (λ y. signal_bit w gate.a && differ y (inverts gate.b)) other
 
