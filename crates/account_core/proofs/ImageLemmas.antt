@@ -72,7 +72,7 @@ by_signs graphs i j k l false true law = inr (law false, law true)
 by_signs graphs i j k l true false law = inr (law false, law true)
 by_signs graphs i j k l true true law = inl (law false, law true)
 
-is_placed : (n i : ℕ) (a : Bool) → i < n → IsPlaced n (one_input i a)
+pub is_placed : (n i : ℕ) (a : Bool) → i < n → IsPlaced n (one_input i a)
 is_placed n i false below = below
 is_placed n i true below = below
 

@@ -19,7 +19,7 @@ use Rattle.account_core.proofs.OrderedPairs.{agree}
 abbrev pub goes_to : ℕ → Pair → Bool
 goes_to place pair = same_kind pair.kind Input && eqb pair.to place
 
-kind_same : (kind other : PortKind) → kind ≡ other → same_kind kind other ≡ true
+pub kind_same : (kind other : PortKind) → kind ≡ other → same_kind kind other ≡ true
 kind_same Input Input is = refl
 kind_same Input Output is = cc
 kind_same Output Input is = cc

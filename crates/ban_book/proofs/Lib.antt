@@ -1,4 +1,3 @@
-pub mod ContainsLemmas
 pub mod BookLemmas
 pub mod ShownLemmas
 pub mod VectorLemmas

@@ -1,5 +1,6 @@
 -- Steps that facts show: that of more facts those show them that they name.
 use Rattle.std.proofs.Common.{◌≡◌, ◌⊎◌, ℕ, suc, Bool, List, [], ◌∷◌, All, refl, sym, ap, subst, ◌∙◌, arith}
+use Rattle.std.specs.Prelude.{Contains}
 use Rattle.circuits.specs.declared.port.Pair.{Pair}
 use Rattle.net_core.specs.Sides.{Graphs}
 use Rattle.net_core.specs.declared.graphs.Side.{Side}
@@ -41,17 +42,19 @@ module _ (one other : Given) where
     of_output = λ k d h. ap (λ (fact : Decided). fact.claim.output) (sym (same k d h)) ∙ say.of_output k d h;
   }
 
-  pub tally_in : (graphs : Graphs) (pairs : List Pair) (kind : Tallied) (have lack : List ℕ)
+  -- also of other pairs, among which is the one that it is of
+  pub tally_in : (graphs : Graphs) (pairs others : List Pair) (kind : Tallied) (have lack : List ℕ)
       → All IsSame have
       → All IsSame lack
-      → IsTally graphs one pairs kind have lack
-      → IsTally graphs other pairs kind have lack
-  tally_in graphs pairs kind have lack first second is = record {
+      → (is : IsTally graphs one pairs kind have lack)
+      → Contains others is.pair
+      → IsTally graphs other others kind have lack
+  tally_in graphs pairs others kind have lack first second is paired = record {
     side = is.side;
     pair = is.pair;
     having = is.having;
     lacking = is.lacking;
-    paired = is.paired;
+    paired = paired;
     of_outputs = is.of_outputs;
     fail = say_in have _ _ _ first is.fail;
     hold = say_in lack _ _ _ second is.hold;

@@ -312,7 +312,7 @@ module _ (graphs : Graphs) (facts added : List Decided) (are : AreDecided graphs
       let second = numbers_before is.pair (other_side is.side) true lack pair_ends shown.names.1 is.hold (lack_one kind is.lacking (shapes_of after lack) is.lack_shapes) in
       none.no_tally kind have lack (record {
         names = (first, second);
-        rule = tally_in after before graphs pairs kind have lack (λ k d below. same_at (get_or have k d) (first k d below)) (λ k d below. same_at (get_or lack k d) (second k d below)) is;
+        rule = tally_in after before graphs pairs pairs kind have lack (λ k d below. same_at (get_or have k d) (first k d below)) (λ k d below. same_at (get_or lack k d) (second k d below)) is is.paired;
       })
 
   pub last_resort_grows : (ban : Ban) → IsLastResort graphs facts ban → IsLastResort graphs (facts ++ added) ban
@@ -346,14 +346,6 @@ pub last_resorts_push_other : (graphs : Graphs) (facts : List Decided) (bans add
     → AreLastResorts graphs facts (bans ++ added)
 last_resorts_push_other graphs facts bans added none resorts = record {
   each = All-append (λ (ban : Ban). IsVector ban.step → IsLastResort graphs facts ban) bans added resorts.each (λ k d below vector. absurd (none k d below vector));
-}
-
-pub last_resorts_push : (graphs : Graphs) (facts : List Decided) (bans : List Ban) (ban : Ban)
-    → IsLastResort graphs facts ban
-    → AreLastResorts graphs facts bans
-    → AreLastResorts graphs facts (bans ++ ban ∷ [])
-last_resorts_push graphs facts bans ban is resorts = record {
-  each = All-push (λ (b : Ban). IsVector b.step → IsLastResort graphs facts b) bans ban resorts.each (λ vector. is);
 }
 
 -- one ban that no vector shows

@@ -1,6 +1,6 @@
 //! The bans that are held, and how they are looked up.
 
-ghost use Rattle.std.specs.Prelude.{◌≡◌, ◌↔◌, [], ◌∷◌, ◌++◌, All, Any, Contains, IfNone, IfOk, IfSome, IsTrue, OnErr, OnOk, length};
+ghost use Rattle.std.specs.Prelude.{◌≡◌, ◌↔◌, [], ◌∷◌, ◌++◌, All, Contains, IfNone, IfOk, IfSome, IsTrue, OnErr, OnOk, length};
 ghost use Rattle.ban_book.specs.Covering.{Covers, IsWithin};
 
 use account_core::Ban;
@@ -105,11 +105,5 @@ fn are_among(pairs: &[Pair], others: &[Pair]) -> bool
 fn contains(pairs: &[Pair], pair: Pair) -> bool
     ensures { IsTrue result ↔ Contains pairs.now pair }
 {
-    equals_one(pairs, pair)
-}
-
-fn equals_one(pairs: &[Pair], pair: Pair) -> bool
-    ensures { IsTrue result ↔ Any (λ other. other ≡ pair) pairs.now }
-{
-    pairs.iter().any(|other| *other == pair)
+    pairs.contains(&pair)
 }

@@ -11,3 +11,4 @@ pub mod OneOrder
 pub mod Looped
 pub mod AsCircuit
 pub mod MatchLaws
+pub mod EachLemmas

@@ -25,13 +25,7 @@ use Rattle.claim_rows.specs.Rows.{no_told, row_on, says_both, says_one, told_at,
 use Rattle.claim_rows.proofs.PlaceLemmas.{ascending_count}
 use Rattle.claim_rows.proofs.RowLemmas.{length_of_side, row_of_side, row_tells, same_said}
 use Rattle.claim_rows.proofs.UnevenLemmas.{both_or_one}
-
-beq_self : (b : Bool) → beq b b ≡ true
-beq_self true = refl
-beq_self false = refl
-
-same_beq : (a b : Bool) → a ≡ b → beq a b ≡ true
-same_beq a b e = ap (λ c. beq c b) e ∙ beq_self b
+use Rattle.query_core.proofs.EqualLemmas.{bool_decides}
 
 -- a claim's inputs are its circuit's
 placed_at : (n input : ℕ) (value : Bool) → IsPlaced n (one_input input value) → input < n
@@ -65,10 +59,10 @@ module _ (graphs : Graphs) (facts : List Decided) (side : Side) (output : ℕ) (
       elim found.2 [
         | inl same ↦
             let so = told_so input false (subst (Contains (shapes_of (given_of facts []) numbers)) same found.1) in
-            (so.0, ap (λ b. b || beq told.down.holds holds) (same_beq told.up.holds holds so.1))
+            (so.0, ap (λ b. b || beq told.down.holds holds) ((bool_decides told.up.holds holds).1 so.1))
         | inr same ↦
             let so = told_so input true (subst (Contains (shapes_of (given_of facts []) numbers)) same found.1) in
-            (so.0, ap (λ b. beq told.up.holds holds || b) (same_beq told.down.holds holds so.1) ∙ or_true (beq told.up.holds holds))
+            (so.0, ap (λ b. beq told.up.holds holds || b) ((bool_decides told.down.holds holds).1 so.1) ∙ or_true (beq told.up.holds holds))
       ]
     where
       or_true : (b : Bool) → (b || true) ≡ true
@@ -81,7 +75,7 @@ module _ (graphs : Graphs) (facts : List Decided) (side : Side) (output : ℕ) (
       let told = get_or row input no_told in
       let up = told_so input false (subst (λ s. Contains s (Up input)) (sym are_both) (given_by both inputs input (Up input) held (0, omega arith, refl))) in
       let down = told_so input true (subst (λ s. Contains s (Down input)) (sym are_both) (given_by both inputs input (Down input) held (1, omega arith, refl))) in
-      (up.0, ap₂ (λ a b. a && b) (same_beq told.up.holds holds up.1) (same_beq told.down.holds holds down.1))
+      (up.0, ap₂ (λ a b. a && b) ((bool_decides told.up.holds holds).1 up.1) ((bool_decides told.down.holds holds).1 down.1))
 
   -- there are no more such inputs than in the row
   ones_most : (inputs : List ℕ) → Ascend inputs → AreOfEach inputs (shapes_of (given_of facts []) numbers) → length inputs ≤ count_by (says_one holds) row

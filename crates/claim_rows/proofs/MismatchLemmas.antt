@@ -17,6 +17,8 @@ use Rattle.account_core.specs.Mismatches.{IsImage}
 use Rattle.account_core.specs.Ports.{ports_in, AreOrdered, IsKnown, StandInOrder}
 use Rattle.account_core.proofs.Matched.{pair_of-held}
 use Rattle.account_core.proofs.OrderedPairs.{agree}
+use Rattle.account_core.proofs.SentOnly.{kind_same}
+pub use Rattle.account_core.proofs.ImageLemmas.{is_placed as one_placed}
 
 kinds_differ : Input ≡ Output → ⊥
 kinds_differ e = cc
@@ -83,32 +85,27 @@ input_other : (pair : Pair) (port : ℕ) → pair.kind ≡ Input → pair.from �
 input_other pair port is apart = ap (λ k. same_kind k Input && (pair.from == port)) is ∙ ne_eqb pair.from port apart
 
 -- the pair of a port, where pairs are in order
-kind_same : (kind other : PortKind) → kind ≡ other → same_kind kind other ≡ true
-kind_same Input Input is = refl
-kind_same Input Output is = cc
-kind_same Output Input is = cc
-kind_same Output Output is = refl
-
 own : (pair : Pair) (kind : PortKind) (port : ℕ) → pair.kind ≡ kind → pair.from ≡ port → is_of kind port pair ≡ true
 own pair kind port kind_is from_is = and_from (same_kind pair.kind kind) (pair.from == port) (kind_same pair.kind kind kind_is) (eq-eqb pair.from port from_is)
 
-some_pair : (pairs : List Pair) (kind : PortKind) (port : ℕ) (pair : Pair) → Contains pairs pair → pair.kind ≡ kind → pair.from ≡ port → (other : Pair) × (pair_of pairs kind port ≡ Some other)
-some_pair [] kind port pair held kind_is from_is = absurd (omega (arith, held.1))
-some_pair (one ∷ pairs) kind port pair held kind_is from_is =
+-- a port that is of one of some pairs has a pair
+pub some_pair : (pairs : List Pair) (kind : PortKind) (port : ℕ) (pair : Pair) → Contains pairs pair → is_of kind port pair ≡ true → (other : Pair) × (pair_of pairs kind port ≡ Some other)
+some_pair [] kind port pair held is = absurd (omega (arith, held.1))
+some_pair (one ∷ pairs) kind port pair held is =
     elim (cases_Bool (is_of kind port one)) [
       | inl yes' ↦ (one, found_first kind port one pairs yes')
       | inr no' ↦
-          let found = by_place held no' (λ later. some_pair pairs kind port pair later kind_is from_is) in
+          let found = by_place held no' (λ later. some_pair pairs kind port pair later is) in
           (found.0, found_later kind port one pairs no' ∙ found.1)
     ]
   where
     by_place : Contains (one ∷ pairs) pair → is_of kind port one ≡ false → (Contains pairs pair → (other : Pair) × (pair_of pairs kind port ≡ Some other)) → (other : Pair) × (pair_of pairs kind port ≡ Some other)
-    by_place (zero, below, is) no' of_later = absurd (false≢true (sym no' ∙ (ap (is_of kind port) is ∙ own pair kind port kind_is from_is)))
-    by_place (suc k, below, is) no' of_later = of_later (k, omega (arith, below), is)
+    by_place (zero, below, same) no' of_later = absurd (false≢true (sym no' ∙ (ap (is_of kind port) same ∙ is)))
+    by_place (suc k, below, same) no' of_later = of_later (k, omega (arith, below), same)
 
 pub pair_of-one : (pairs : List Pair) (pair : Pair) (kind : PortKind) (port : ℕ) → AreOrdered pairs → Contains pairs pair → pair.kind ≡ kind → pair.from ≡ port → pair_of pairs kind port ≡ Some pair
 pair_of-one pairs pair kind port ordered held kind_is from_is =
-    let found = some_pair pairs kind port pair held kind_is from_is in
+    let found = some_pair pairs kind port pair held (own pair kind port kind_is from_is) in
     let is = pair_of-held pairs kind port found.0 found.1 in
     found.1 ∙ ap Some (agree pairs ordered found.0 pair is.0 held (is.1 ∙ sym kind_is) (inl (is.2 ∙ sym from_is)))
 
@@ -139,10 +136,6 @@ inputs_image one other output a b one_kind other_kind output_kind less =
     (found_later Output output.from one (other ∷ output ∷ []) (input_no_output one output.from one_kind) ∙ (found_later Output output.from other (output ∷ []) (input_no_output other output.from other_kind) ∙ found_first Output output.from output [] (output_own output output_kind)))
     (found_first Input one.from one (other ∷ output ∷ []) (input_own one one_kind))
     (found_later Input other.from one (other ∷ output ∷ []) (input_other one other.from one_kind (λ e. omega (arith, e, less))) ∙ found_first Input other.from other (output ∷ []) (input_own other other_kind))
-
-pub one_placed : (n i : ℕ) (a : Bool) → i < n → IsPlaced n (one_input i a)
-one_placed n i false below = below
-one_placed n i true below = below
 
 pub two_placed : (n i j : ℕ) (a b : Bool) → i < n → j < n → i ≢ j → IsPlaced n (two_inputs i a j b)
 two_placed n i j a b one other apart = chosen (nat_lt i j) refl

@@ -1,8 +1,7 @@
 -- Rows of outputs, and the facts that they tell of.
-use Rattle.std.proofs.Common.{◌≡◌, ℕ, ◌<◌, Bool, true, false, List, [], ◌∷◌, ◌++◌, length, get_or, sym, ap, subst, ◌∙◌, inl, inr, arith}
-use Rattle.std.proofs.lemmas.Bool.{cases_lt, cases_order}
-use Rattle.std.proofs.lemmas.List.{get_or_append_left, get_or_default, get_or_push, length_push}
-use Rattle.circuits.specs.Literals.{EachAt}
+use Rattle.std.proofs.Common.{◌≡◌, ℕ, ◌<◌, Bool, true, false, List, [], ◌∷◌, ◌++◌, length, get_or, sym, ap, ◌∙◌, inl, inr, arith}
+use Rattle.std.proofs.lemmas.Bool.{cases_order}
+use Rattle.std.proofs.lemmas.List.{get_or_default}
 use Rattle.circuits.specs.declared.port.Pair.{Pair}
 use Rattle.net_core.specs.Sides.{Graphs}
 use Rattle.net_core.specs.declared.graphs.Side.{Side}
@@ -13,6 +12,7 @@ use Rattle.query_core.specs.Images.{one_input}
 use Rattle.account_core.specs.Given.{Decided, decided, fact_at, given_of, no_fact}
 use Rattle.account_core.specs.Tallies.{port_on}
 use Rattle.ban_book.specs.Vectors.{AreDecided, AreEndsDecided, AreInputsDecided, IsDecided}
+use Rattle.circuits.proofs.EachLemmas.{each_push}
 use Rattle.claim_rows.specs.declared.told.InputTold.{InputTold}
 use Rattle.claim_rows.specs.Told.{IsToldAs}
 use Rattle.claim_rows.specs.Rows.{no_told, row_on, told_at, AreRows, IsRow, IsTold}
@@ -20,15 +20,6 @@ use Rattle.claim_rows.proofs.ListedLemmas.{told_stays}
 
 pub row_none : (facts : List Decided) (side : Side) (output : ℕ) → IsRow facts side output []
 row_none facts side output = record { each = λ k d below. absurd (omega (arith, below)) }
-
-each_push : {X : Type 0} (P : ℕ → X → Type 0) (xs : List X) (x : X) → EachAt P xs → P (length xs) x → EachAt P (xs ++ x ∷ [])
-each_push P xs x each last k d below =
-    elim (cases_lt k (length xs)) [
-      | inl less ↦ subst (P k) (sym (get_or_append_left xs (x ∷ []) d k less)) (each k d less)
-      | inr past ↦
-          let e : length xs ≡ k = omega (arith, below, past, length_push xs x) in
-          subst (P k) (sym (get_or_push xs x d k e)) (subst (λ n. P n x) e last)
-    ]
 
 pub row_push : (facts : List Decided) (side : Side) (output : ℕ) (row : List InputTold) (told : InputTold) → IsRow facts side output row → IsTold facts side output (length row) told → IsRow facts side output (row ++ told ∷ [])
 row_push facts side output row told is next = record { each = each_push (IsTold facts side output) row told is.each next }
@@ -42,12 +33,6 @@ input_stays facts added side output input told is = record {
 pub row_stays : (facts added : List Decided) (side : Side) (output : ℕ) (row : List InputTold) → IsRow facts side output row → IsRow (facts ++ added) side output row
 row_stays facts added side output row is = record {
   each = λ k d below. input_stays facts added side output k (get_or row k d) (is.each k d below);
-}
-
-pub rows_stay : (facts added : List Decided) (pair : Pair) (one other : List InputTold) → AreRows facts pair one other → AreRows (facts ++ added) pair one other
-rows_stay facts added pair one other are = record {
-  first = row_stays facts added First pair.from one are.first;
-  second = row_stays facts added Second pair.to other are.second;
 }
 
 -- what a fact says was decided

@@ -7,12 +7,16 @@ use Rattle.net_core.specs.Sides.{Graphs}
 use Rattle.net_core.specs.declared.graphs.Side.{Side}
 use Rattle.net_core.specs.declared.graphs.Side.TheVariants.{First, Second}
 use Rattle.account_core.specs.declared.step.Ban.{Ban}
+use Rattle.query_core.specs.declared.claims.Shape.{Shape}
+use Rattle.account_core.specs.declared.step.Step.TheVariants as step
+use Rattle.account_core.specs.declared.step.Tallied.{Tallied}
+use Rattle.account_core.specs.declared.step.Tallied.TheVariants.{Support, Binate}
 use Rattle.account_core.specs.Given.{Decided, given_of}
 use Rattle.account_core.specs.Ports.{AreOrdered, IsKnown}
 use Rattle.account_core.specs.Steps.{IsValidBan}
-use Rattle.account_core.specs.Tallies.{other_side, port_on, SayOf}
+use Rattle.account_core.specs.Tallies.{other_side, port_on, shapes_of, AreBothOfEach, AreOfEach, HaveShapes, LackShapes, SayOf}
 use Rattle.claim_rows.specs.declared.tallies.Lists.{Lists}
-use Rattle.claim_rows.specs.Listed.{tally_of, AreLists}
+use Rattle.claim_rows.specs.Listed.{tally_of, AreLists, ListsOf, ListsOne}
 use Rattle.claim_rows.proofs.ListedLemmas.{both_count, one_count}
 
 one_ordered : (pair : Pair) → AreOrdered (pair ∷ [])
@@ -28,56 +32,40 @@ other_twice : (side : Side) → other_side (other_side side) ≡ side
 other_twice First = refl
 other_twice Second = refl
 
+-- of an output facts say that it is of a kind in some inputs, and of the other one that it isn't in others
+by_lists : (graphs : Graphs) (facts : List Decided) (bans : List Ban) (pair : Pair) (side : Side) (kind : Tallied) (these those : List ℕ → List Shape → Type 0) (n m : ℕ) (have lack : List ℕ) → pair.kind ≡ Output → IsKnown graphs pair → (one : ListsOf these facts false side (port_on side pair) n have) → (other : ListsOf those facts true (other_side side) (port_on (other_side side) pair) m lack) → HaveShapes kind one.inputs (shapes_of (given_of facts []) have) → LackShapes kind other.inputs (shapes_of (given_of facts []) lack) → 0 < length one.inputs → 0 < length other.inputs → graphs.first.inputs < length one.inputs + length other.inputs → IsValidBan graphs (given_of facts bans) (record { pairs = pair ∷ []; step = step.Tally kind have lack })
+by_lists graphs facts bans pair side kind these those n m have lack output known one other have_shapes lack_shapes some_one some_other many = record {
+  known = All-cons (IsKnown graphs) pair [] known (All-nil (IsKnown graphs));
+  ordered = one_ordered pair;
+  names = (one.known, other.known);
+  rule = record {
+    side = side;
+    pair = pair;
+    having = one.inputs;
+    lacking = other.inputs;
+    paired = first_of pair;
+    of_outputs = output;
+    fail = say_any facts bans have false side (port_on side pair) one.say;
+    hold = say_any facts bans lack true (other_side side) (port_on (other_side side) pair) other.say;
+    have_shapes = have_shapes;
+    lack_shapes = lack_shapes;
+    having_ascends = one.ascends;
+    lacking_ascends = other.ascends;
+    some_have = some_one;
+    some_lack = some_other;
+    too_many = many;
+  };
+  shown = tt;
+}
+
 pub tally_valid : (graphs : Graphs) (facts : List Decided) (bans : List Ban) (pair : Pair) (side : Side) (holds : Bool) (lists : Lists) → pair.kind ≡ Output → IsKnown graphs pair → AreLists facts pair side holds lists → 0 < length lists.one → 1 < length lists.both → graphs.first.inputs < length lists.one + length lists.both / 2 → IsValidBan graphs (given_of facts bans) (tally_of pair holds lists)
 tally_valid graphs facts bans pair side false lists output known are some_one some_both many =
     let ones = one_count facts false side (port_on side pair) are.bound lists.one are.one in
     let boths = both_count facts true (other_side side) (port_on (other_side side) pair) are.bound_both lists.both are.both in
-    record {
-      known = All-cons (IsKnown graphs) pair [] known (All-nil (IsKnown graphs));
-      ordered = one_ordered pair;
-      names = (are.one.known, are.both.known);
-      rule = record {
-        side = side;
-        pair = pair;
-        having = are.one.inputs;
-        lacking = are.both.inputs;
-        paired = first_of pair;
-        of_outputs = output;
-        fail = say_any facts bans lists.one false side (port_on side pair) are.one.say;
-        hold = say_any facts bans lists.both true (other_side side) (port_on (other_side side) pair) are.both.say;
-        have_shapes = are.one.shapes;
-        lack_shapes = are.both.shapes;
-        having_ascends = are.one.ascends;
-        lacking_ascends = are.both.ascends;
-        some_have = omega (arith, ones, some_one);
-        some_lack = omega (arith, boths, some_both);
-        too_many = omega (arith, ones, boths, many);
-      };
-      shown = tt;
-    }
+    by_lists graphs facts bans pair side Support AreOfEach AreBothOfEach are.bound are.bound_both lists.one lists.both output known are.one are.both are.one.shapes are.both.shapes (omega (arith, ones, some_one)) (omega (arith, boths, some_both)) (omega (arith, ones, boths, many))
 tally_valid graphs facts bans pair side true lists output known are some_one some_both many =
-    let ones = one_count facts true side (port_on side pair) are.bound lists.one are.one in
-    let boths = both_count facts false (other_side side) (port_on (other_side side) pair) are.bound_both lists.both are.both in
-    record {
-      known = All-cons (IsKnown graphs) pair [] known (All-nil (IsKnown graphs));
-      ordered = one_ordered pair;
-      names = (are.both.known, are.one.known);
-      rule = record {
-        side = other_side side;
-        pair = pair;
-        having = are.both.inputs;
-        lacking = are.one.inputs;
-        paired = first_of pair;
-        of_outputs = output;
-        fail = say_any facts bans lists.both false (other_side side) (port_on (other_side side) pair) are.both.say;
-        hold = subst (λ s. SayOf (given_of facts bans) lists.one true s (port_on s pair)) (sym (other_twice side)) (say_any facts bans lists.one true side (port_on side pair) are.one.say);
-        have_shapes = are.both.shapes;
-        lack_shapes = are.one.shapes;
-        having_ascends = are.both.ascends;
-        lacking_ascends = are.one.ascends;
-        some_have = omega (arith, boths, some_both);
-        some_lack = omega (arith, ones, some_one);
-        too_many = omega (arith, ones, boths, many);
-      };
-      shown = tt;
-    }
+    let other = other_side side in
+    let one = subst (λ (s : Side). ListsOne facts true s (port_on s pair) are.bound lists.one) (sym (other_twice side)) are.one in
+    let ones = one_count facts true (other_side other) (port_on (other_side other) pair) are.bound lists.one one in
+    let boths = both_count facts false other (port_on other pair) are.bound_both lists.both are.both in
+    by_lists graphs facts bans pair other Binate AreBothOfEach AreOfEach are.bound_both are.bound lists.both lists.one output known are.both one are.both.shapes one.shapes (omega (arith, boths, some_both)) (omega (arith, ones, some_one)) (omega (arith, ones, boths, many))

@@ -29,17 +29,12 @@ use Rattle.claim_rows.proofs.ListLemmas.{flat_push}
 use Rattle.claim_rows.proofs.ListedLemmas.{lists_both, lists_none, lists_one, lists_skip}
 use Rattle.claim_rows.proofs.RowLemmas.{length_of_side, row_of_side}
 use Rattle.claim_rows.proofs.TallyLemmas.{tally_valid}
-
-pub beq_is : (b c : Bool) → beq b c ≡ true → b ≡ c
-beq_is true true is = refl
-beq_is true false is = cc
-beq_is false true is = cc
-beq_is false false is = refl
+use Rattle.query_core.proofs.EqualLemmas.{bool_decides}
 
 adds : (facts : List Decided) (claim : Claim) (told holds : Bool) (number : ℕ) (before after : List ℕ) → IsToldAs facts claim told number → beq told holds ≡ true → after ≡ before ++ number ∷ [] → AddsFact facts claim holds before after
 adds facts claim told holds number before after is same more = record {
   number = number;
-  told = subst (λ h. IsToldAs facts claim h number) (beq_is told holds same) is;
+  told = subst (λ h. IsToldAs facts claim h number) ((bool_decides told holds).0 same) is;
   more = more;
 }
 

@@ -1,19 +1,16 @@
 -- Facts that were decided, and lists of their numbers.
-use Rattle.std.proofs.Common.{◌≡◌, ℕ, zero, suc, ◌+◌, ◌<◌, Bool, List, [], ◌∷◌, ◌++◌, length, map, get_or, refl, sym, ap, subst, ◌∙◌, arith}
-use Rattle.std.proofs.lemmas.List.{length-append, length-map, map-append}
+use Rattle.std.proofs.Common.{◌≡◌, ℕ, ◌+◌, Bool, List, [], ◌∷◌, ◌++◌, length, map, sym, ap, subst, ◌∙◌, arith}
+use Rattle.std.proofs.lemmas.List.{length-append, map-append}
 use Rattle.net_core.specs.declared.graphs.Side.{Side}
 use Rattle.query_core.specs.declared.claims.Claim.{Claim}
 use Rattle.query_core.specs.declared.claims.Shape.{Shape}
 use Rattle.query_core.specs.declared.claims.Shape.TheVariants.{Up, Down}
 use Rattle.query_core.specs.Images.{one_input}
-use Rattle.account_core.specs.declared.fact.Evidence.{Evidence}
-use Rattle.account_core.specs.declared.fact.Evidence.TheVariants as evidence
-use Rattle.account_core.specs.declared.fact.Fact.{Fact}
-use Rattle.account_core.specs.Given.{Decided, decided, decided_by, no_fact, shown_by}
+use Rattle.account_core.specs.Given.{Decided, decided_by}
 use Rattle.std.specs.Prelude.{IfOk, IsTrue, Result}
 use Rattle.cnf_core.specs.declared.stop.Stop.{Stop}
 use Rattle.query_core.specs.Ledgers.{Ledgered}
-use Rattle.oracle_core.specs.Oracles.{Grows, IsNumberOf, Known, Suits}
+use Rattle.oracle_core.specs.Oracles.{Grows, Known, Suits}
 use Rattle.account_core.specs.Facts.{AreFacts}
 use Rattle.std.proofs.lemmas.Result.{IfOk-weaker}
 use Rattle.claim_rows.specs.declared.told.InputTold.{InputTold}
@@ -23,29 +20,7 @@ use Rattle.claim_rows.specs.Listed.{ListsBoth, ListsOf, ListsOne}
 use Rattle.claim_rows.proofs.ListedLemmas.{lists_both, lists_none, lists_one, lists_stay, told_stays}
 use Rattle.claim_rows.proofs.RowLemmas.{row_none, row_push, row_stays}
 use Rattle.fact_bans.specs.Serving.{HasServed}
-use Rattle.fact_bans.specs.Evidence.{holds_by}
 use Rattle.fact_bans.proofs.ServeLemmas.{served_same, served_then}
-
--- what evidence decides
-by_evidence : (claim : Claim) (e : Evidence) → shown_by claim e ≡ decided claim (holds_by e)
-by_evidence claim (evidence.Fails bits) = refl
-by_evidence claim (evidence.Holds log) = refl
-
-get_decided : (facts : List Fact) (k : ℕ) (d : Decided) (e : Fact) → k < length facts → get_or (map decided_by facts) k d ≡ decided_by (get_or facts k e)
-get_decided [] k d e below = absurd (omega (arith, below))
-get_decided (fact ∷ facts) zero d e below = refl
-get_decided (fact ∷ facts) (suc k) d e below = get_decided facts k d e (omega (arith, below))
-
--- the fact of a claim's number says what its evidence decides
-pub told_as : (facts : List Fact) (claim : Claim) (number : ℕ) (fact : Fact) (holds : Bool) → IsNumberOf facts claim number → fact ≡ get_or facts number fact → holds ≡ holds_by fact.evidence → IsToldAs (map decided_by facts) claim holds number
-told_as facts claim number fact holds is same holds_is = record {
-  within = omega (arith, is.within, length-map facts decided_by);
-  says =
-      get_decided facts number no_fact fact is.within
-      ∙ (ap decided_by (sym same)
-      ∙ (by_evidence fact.claim fact.evidence
-      ∙ (ap (λ (c : Claim). decided c (holds_by fact.evidence)) (ap (λ (f : Fact). f.claim) same ∙ is.claim_is fact) ∙ ap (decided claim) (sym holds_is))));
-}
 
 grown : (old new : Known) → Grows old new → (P : List Decided → Type 0) → ((added : List Decided) → P (map decided_by old.facts ++ added)) → P (map decided_by new.facts)
 grown old new grows P is = subst P (sym (ap (map decided_by) grows.facts ∙ map-append decided_by old.facts grows.added)) (is (map decided_by grows.added))

@@ -1,5 +1,6 @@
 -- Calls that have claims decided and hold bans, one after the other.
 use Rattle.std.proofs.Common.{◌≡◌, Bool, true, false, List, [], ◌∷◌, ◌++◌, map, Result, Ok, Err, sym, ap, subst, ◌∙◌, append_assoc, append-nil}
+use Rattle.std.specs.Prelude.{IsErrAnd}
 use Rattle.std.proofs.lemmas.List.Elements.{All-push}
 use Rattle.cnf_core.specs.declared.stop.Stop.{Stop}
 use Rattle.cnf_core.specs.declared.stop.Stop.TheVariants.{Memory}
@@ -77,7 +78,7 @@ holds_ok graphs old new a b bans more result x is held = record {
 }
 
 -- a call that ends the others without an answer
-pub holds_err : {X Y : Type 0} (graphs : Graphs) (old mid new : Known) (a b c : Ledgered) (first second third : List Ban) (result : Result Y Stop) (stop : Stop) → result ≡ Err stop → HasHeld graphs old mid a b first second → HoldsBans {X = X} graphs mid new b c second third (Err stop) → HoldsBans graphs old new a c first third result
+pub holds_err : {X Y : Type 0} (graphs : Graphs) (old mid new : Known) (a b c : Ledgered) (first second third : List Ban) (result : Result Y Stop) (stop : Stop) → IsErrAnd result (λ e. e ≡ stop) → HasHeld graphs old mid a b first second → HoldsBans {X = X} graphs mid new b c second third (Err stop) → HoldsBans graphs old new a c first third result
 holds_err graphs old mid new a b c first second third result stop is held holds = record {
   serves = serves_err old mid new a b c result stop is held.served holds.serves;
   valid = holds.valid;
@@ -128,7 +129,7 @@ held_kept graphs old new a b bans more valid served same = record {
 }
 
 -- memory ran out after calls that were answered
-pub holds_stop : {Y : Type 0} (graphs : Graphs) (old new : Known) (a b : Ledgered) (bans more : List Ban) (result : Result Y Stop) → result ≡ Err Memory → HasHeld graphs old new a b bans more → HoldsBans graphs old new a b bans more result
+pub holds_stop : {Y : Type 0} (graphs : Graphs) (old new : Known) (a b : Ledgered) (bans more : List Ban) (result : Result Y Stop) → IsErrAnd result (λ e. e ≡ Memory) → HasHeld graphs old new a b bans more → HoldsBans graphs old new a b bans more result
 holds_stop graphs old new a b bans more result is held = record {
   serves = serves_memory old new a b result is held.served;
   valid = held.valid;
@@ -136,7 +137,7 @@ holds_stop graphs old new a b bans more result is held = record {
 }
 
 -- the first call wasn't answered, and holds no ban
-pub holds_fail : {X Y : Type 0} (graphs : Graphs) (old new : Known) (a b : Ledgered) (bans : List Ban) (result : Result Y Stop) (stop : Stop) → result ≡ Err stop → MayHold graphs old a bans → Serves {X = X} old new a b (Err stop) → HoldsBans graphs old new a b bans bans result
+pub holds_fail : {X Y : Type 0} (graphs : Graphs) (old new : Known) (a b : Ledgered) (bans : List Ban) (result : Result Y Stop) (stop : Stop) → IsErrAnd result (λ e. e ≡ stop) → MayHold graphs old a bans → Serves {X = X} old new a b (Err stop) → HoldsBans graphs old new a b bans bans result
 holds_fail graphs old new a b bans result stop is may serves = record {
   serves = serves_err old old new a a b result stop is (served_same old a (lawful_of graphs old a bans may) may.suits) serves;
   valid = valid_grows old new graphs bans serves.grows may.valid;

@@ -1,5 +1,5 @@
 -- References to bans of ways, and the cover that has them all.
-use Rattle.std.proofs.Common.{◌≡◌, ℕ, zero, suc, ◌+◌, ◌<◌, true, false, List, [], ◌∷◌, ◌++◌, length, get_or, All, Contains, Option, Some, refl, sym, ap, subst, ◌∙◌, append_assoc, arith}
+use Rattle.std.proofs.Common.{◌≡◌, ℕ, zero, suc, ◌+◌, ◌<◌, true, false, List, [], ◌∷◌, ◌++◌, length, get_or, All, Contains, Option, Some, sym, ap, subst, ◌∙◌, append_assoc, arith}
 use Rattle.std.proofs.lemmas.List.{length-map, length_push, get_or-map, get_or_push}
 use Rattle.std.proofs.lemmas.Option.{same_Some}
 use Rattle.circuits.specs.declared.port.Pair.{Pair}
@@ -14,7 +14,6 @@ use Rattle.account_core.specs.Ports.{AreOrdered, IsKnown}
 use Rattle.account_core.specs.Shown.{IsEmptyBan}
 use Rattle.account_core.specs.Steps.{IsValidBan}
 use Rattle.account_core.specs.Tallies.{Ascend}
-use Rattle.ban_book.specs.Covering.{Covers}
 use Rattle.fact_bans.specs.Serving.{OnlyAdds}
 use Rattle.fact_bans.specs.Referred.{row, AddsRef, AddsTwo, AreReferred, IsReferred}
 use Rattle.ban_book.proofs.BookLemmas.{covers_later}
@@ -30,13 +29,6 @@ referred_later bans more pair ref adds is = record {
 
 pub all_later : (bans more : List Ban) (ways : List Pair) (refs : List (Option ℕ)) → OnlyAdds bans more → AreReferred bans ways refs → AreReferred more ways refs
 all_later bans more ways refs adds are = zip_map (IsReferred bans) (IsReferred more) ways refs (λ pair ref is. referred_later bans more pair ref adds is) are
-
-pub adds_ref : (bans : List Ban) (pair : Pair) (before after : List (Option ℕ)) (number : ℕ) → Covers bans (pair ∷ []) number → after ≡ before ++ Some number ∷ [] → AddsRef bans pair before after
-adds_ref bans pair before after number covers is = record {
-  ref = Some number;
-  is = record { number = number; ref_is = refl; covers = covers };
-  more = is;
-}
 
 pub adds_two : (bans more : List Ban) (kind : PortKind) (from to : ℕ) (before mid after : List (Option ℕ)) → OnlyAdds bans more → AddsRef bans (way kind from to false) before mid → AddsRef more (way kind from to true) mid after → AddsTwo more kind from to before after
 adds_two bans more kind from to before mid after adds one other = record {

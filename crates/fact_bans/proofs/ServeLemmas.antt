@@ -10,7 +10,7 @@ use Rattle.account_core.specs.Given.{Decided, decided_by, given_of, pairs_of}
 use Rattle.account_core.specs.Steps.{AreValidBans, IsValidBan}
 use Rattle.account_core.proofs.Growing.{ban_stays_valid}
 use Rattle.oracle_core.specs.Oracles.{Grows, Known}
-pub use Rattle.oracle_core.proofs.ServeLemmas.{grows_same, served_one, served_same, served_then, serves_after, serves_err, serves_last, serves_memory, serves_ok}
+pub use Rattle.oracle_core.proofs.ServeLemmas.{grows_same, served_one, served_same, served_then, serves_err, serves_last, serves_memory, serves_ok}
 use Rattle.ban_book.specs.Vectors.{AreLastResorts}
 use Rattle.ban_book.proofs.VectorLemmas.{last_resorts_later}
 use Rattle.fact_bans.specs.Serving.{AreValid}

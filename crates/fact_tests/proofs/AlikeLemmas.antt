@@ -11,7 +11,8 @@ use Rattle.output_info.specs.declared.info.Unate.TheVariants.{Positive, Negative
 use Rattle.fact_tests.specs.Functions.{cofactor}
 use Rattle.fact_tests.specs.Outputs.{IsAlike, may_be_alike}
 use Rattle.fact_tests.specs.Rows.{IsEntry, IsUnate}
-use Rattle.fact_tests.proofs.OneRow.{one_unate, set-here}
+use Rattle.query_core.proofs.ClaimLaws.{set-here}
+use Rattle.fact_tests.proofs.OneRow.{one_unate}
 
 -- the function never falls where the input goes from this bit to the other one
 abbrev IsMonotone : ℕ → (List Bool → Bool) → ℕ → Bool → Type 0

@@ -6,16 +6,12 @@ use Rattle.std.proofs.lemmas.List.{map_push}
 use Rattle.std.specs.Map.{lookup}
 use Rattle.std.specs.Option.{IfSome, IfNone, option_copied, unwrap_or}
 use Rattle.std.specs.Borrow.{Bor}
-use Rattle.std.proofs.lemmas.Bool.{false≢true}
+use Rattle.std.proofs.lemmas.Bool.{false≢true, false_from_ne_true}
 use Rattle.std.proofs.lemmas.Map.{NonePasses, none_passes_from_lookup}
 use Rattle.indexmap.specs.IndexMap.{insert_entry}
 use Rattle.query_core.specs.declared.query.Query.{Query}
 use Rattle.ask_core.specs.declared.question.Answer.{Answer}
 use Rattle.fact_tests.specs.Kept.{Kept, kept_of}
-
-is_false : (b : Bool) → (b ≡ true → ⊥) → b ≡ false
-is_false true fails = absurd (fails refl)
-is_false false fails = refl
 
 module _ (eq : Query → Query → Bool) (decides : (x y : Query) → Decides (eq x y) (x ≡ y)) where
   -- the first entry has the query, or a later one
@@ -43,7 +39,7 @@ module _ (eq : Query → Query → Bool) (decides : (x y : Query) → Decides (e
   pub added : (es : List (Query × Answer)) (k : Query) (a : Answer) → All (λ entry. entry.query ≢ k) (map kept_of es) → insert_entry eq es k a ≡ es ++ (k, a) ∷ []
   added [] k a apart = refl
   added (e ∷ es) k a apart =
-      let differs : eq k e.0 ≡ false = is_false (eq k e.0) (λ here. apart 0 (kept_of e) (omega arith) (sym ((decides k e.0).0 here))) in
+      let differs : eq k e.0 ≡ false = false_from_ne_true (eq k e.0) (λ here. apart 0 (kept_of e) (omega arith) (sym ((decides k e.0).0 here))) in
       ap (λ b. cond b ((e.0, a) ∷ es) (e ∷ insert_entry eq es k a)) differs ∙ ap (λ l. e ∷ l) (added es k a (λ i d below. apart (suc i) d (omega (arith, below))))
 
   -- what a look-up tells of the queries that were answered

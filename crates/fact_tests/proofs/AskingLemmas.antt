@@ -5,7 +5,7 @@ use Rattle.circuits.specs.Netlists.{signals_of}
 use Rattle.cnf_core.specs.declared.log.LogLine.{LogLine}
 use Rattle.cnf_core.specs.declared.stop.Stop.{Stop}
 use Rattle.cnf_core.specs.declared.stop.Stop.TheVariants.{Spent, Memory}
-use Rattle.cnf_core.specs.Derivations.{IsRefutation, clauses_of}
+use Rattle.cnf_core.specs.Derivations.{IsRefutation}
 use Rattle.net_core.specs.Sides.{Graphs}
 use Rattle.net_core.specs.Cones.{output_signal}
 use Rattle.net_core.specs.Graph.{IsGraph}

@@ -3,11 +3,9 @@ use Rattle.std.proofs.Common.{◌≡◌, ◌≢◌, ◌⊎◌, ℕ, ◌+◌, ◌
 use Rattle.std.specs.List.{Any}
 use Rattle.std.specs.Result.{IsErr, IsErrAnd}
 use Rattle.std.proofs.lemmas.Bool.{cases_eq, cases_lt, false≢true}
-use Rattle.std.proofs.lemmas.List.{get_or_append_left, get_or-append-add, get_or-map, get_or-set_same, get_or-set_other, length-append, length-map, length-set, map_push, append-nil, append_assoc}
-use Rattle.std.proofs.lemmas.List.FromFn.{get_or-map-range_with_len}
-use Rattle.std.proofs.lemmas.Result.{IfOk-weaker, IfErr-weaker}
+use Rattle.std.proofs.lemmas.List.{get_or_append_left, get_or-append-add, get_or-map, get_or-set_same, get_or-set_other, length-append, length-map, length-set, map_push, append-nil}
 use Rattle.std.proofs.lemmas.List.Elements.{All-push}
-use Rattle.std.proofs.lemmas.List.Quantifiers.{all_pairs_push}
+use Rattle.std.proofs.lemmas.List.Quantifiers.{Any-push, all_pairs_push}
 use Rattle.cnf_core.specs.declared.stop.Stop.{Stop}
 use Rattle.cnf_core.specs.declared.stop.Stop.TheVariants.{Spent, Memory}
 use Rattle.net_core.specs.Sides.{Graphs}
@@ -19,7 +17,6 @@ use Rattle.query_core.specs.declared.claims.Shape.TheVariants.{Up, Down, Swap}
 use Rattle.query_core.specs.declared.query.Feed.{Feed}
 use Rattle.query_core.specs.declared.query.Feed.TheVariants.{Fixed, Wire}
 use Rattle.query_core.specs.declared.query.Query.{Query}
-use Rattle.query_core.specs.declared.ledger.Asked.{Asked}
 use Rattle.query_core.specs.Claims.{IsClaim, IsPlaced}
 use Rattle.query_core.specs.ClaimQueries.{claim_query, values_feed, with_fixed}
 use Rattle.query_core.specs.MatchQueries.{straight}
@@ -28,9 +25,10 @@ use Rattle.query_core.proofs.MatchLemmas.{straight_count}
 use Rattle.account_core.specs.declared.fact.Evidence.{Evidence}
 use Rattle.account_core.specs.declared.fact.Evidence.TheVariants.{Fails}
 use Rattle.account_core.specs.declared.fact.Fact.{Fact}
-use Rattle.oracle_core.specs.Work.{IsCharged, IsOfClaim, IsOfMatch, IsWorkOfClaimsAndMatches}
+use Rattle.oracle_core.specs.Work.{IsOfClaim, IsOfMatch, IsWorkOfClaimsAndMatches}
 use Rattle.account_core.specs.Facts.{AreFacts, IsEvidence, IsFact}
-use Rattle.oracle_core.specs.Oracles.{Claims, Grows, IsAnswered, IsNumberOf, IsStopped, Keeps, Known, Serves, Suits, entry_at}
+use Rattle.oracle_core.specs.Oracles.{Claims, Grows, IsAnswered, IsNumberOf, IsStopped, Keeps, Known, Serves, Suits}
+use Rattle.oracle_core.proofs.ServeLemmas.{grows_same, keeps_same, served_one, serves_last, serves_ok}
 use Rattle.ask_core.specs.declared.question.Answer.{Answer}
 use Rattle.ask_core.specs.declared.question.Answer.TheVariants.{Vector}
 use Rattle.ask_core.specs.Answers.{IsAnswer}
@@ -39,11 +37,9 @@ use Rattle.fact_tests.specs.Asking.{IsAsked, IsDecided, IsHalted}
 use Rattle.fact_tests.specs.Books.{IsKept, known_by}
 use Rattle.fact_tests.proofs.StructureLemmas.{first_of, second_of, apart_from, own_bit}
 use Rattle.fact_tests.proofs.WorkLemmas.{IsAskedNew, asked_keeps, asked_suits, asked_work}
+use Rattle.query_core.proofs.FeedLemmas.{straight_at}
 
 -- ---- different claims ask different queries
-
-straight_at : (n k : ℕ) (d : Feed) → k < n → slice_index_or (straight n) k d ≡ Wire k false
-straight_at n k d below = get_or-map-range_with_len (λ i. Wire i false) 0 n k k d below (omega arith)
 
 abbrev first_value : Shape → Bool
 first_value (Up i) = false
@@ -175,9 +171,6 @@ any_split {X} P xs ys (k, x, below, at, p) =
           inr (j, x, omega (arith, n, below, length-append xs ys), sym (get_or-append-add xs ys j x) ∙ (ap (λ i. slice_index_or (xs ++ ys) i x) (sym n) ∙ at), p)
     ]
 
-any_last : {X : Type 0} (P : X → Type 0) (xs : List X) (x : X) → P x → Any P (xs ++ x ∷ [])
-any_last {X} P xs x p = any_right P xs (x ∷ []) (0, x, omega arith, refl, p)
-
 -- some element of a list is mapped there
 any_map : {X Y : Type 0} (f : X → Y) (y : Y) (e : X) (xs : List X) → Any (λ other. other ≡ y) (map f xs) → (k : ℕ) × (k < length xs) × (f (slice_index_or xs k e) ≡ y)
 any_map {X} {Y} f y e xs (k, x, below, at, p) =
@@ -230,7 +223,7 @@ module _ (graphs : Graphs) (facts : List Fact) (kept : List Kept) where
   pub new_fact : (fact : Fact) → IsAnswered (known_by graphs (facts ++ fact ∷ []) kept) (of_fact fact)
   new_fact fact =
       let P : Query → Type 0 = λ other. other ≡ of_fact fact in
-      subst (λ qs. Any P (qs ++ map of_kept kept)) (sym (map_push of_fact facts fact)) (any_left P (map of_fact facts ++ of_fact fact ∷ []) (map of_kept kept) (any_last P (map of_fact facts) (of_fact fact) refl))
+      subst (λ qs. Any P (qs ++ map of_kept kept)) (sym (map_push of_fact facts fact)) (any_left P (map of_fact facts ++ of_fact fact ∷ []) (map of_kept kept) (Any-push P (map of_fact facts) (of_fact fact) refl))
 
   -- an answer more
   pub more_kept : (entry : Kept) (query : Query) → IsAnswered (known_by graphs facts kept) query → IsAnswered (known_by graphs facts (kept ++ entry ∷ [])) query
@@ -245,7 +238,7 @@ module _ (graphs : Graphs) (facts : List Fact) (kept : List Kept) where
   pub new_kept : (entry : Kept) → IsAnswered (known_by graphs facts (kept ++ entry ∷ [])) entry.query
   new_kept entry =
       let P : Query → Type 0 = λ other. other ≡ entry.query in
-      subst (λ qs. Any P (map of_fact facts ++ qs)) (sym (map_push of_kept kept entry)) (any_right P (map of_fact facts) (map of_kept kept ++ of_kept entry ∷ []) (any_last P (map of_kept kept) (of_kept entry) refl))
+      subst (λ qs. Any P (map of_fact facts ++ qs)) (sym (map_push of_kept kept entry)) (any_right P (map of_fact facts) (map of_kept kept ++ of_kept entry ∷ []) (Any-push P (map of_kept kept) (of_kept entry) refl))
 
 -- ---- what a call does
 
@@ -253,22 +246,6 @@ facts_more : (graphs : Graphs) (facts : List Fact) (fact : Fact) → AreFacts gr
 facts_more graphs facts fact are missing is = record {
   each = All-push (IsFact graphs) facts fact are.each is;
   distinct = all_pairs_push (λ (one other : Fact). one.claim ≢ other.claim) facts fact are.distinct missing;
-}
-
-grows_same : (known : Known) → AreFacts known.graphs known.facts → Grows known known
-grows_same known lawful = record {
-  graphs = refl;
-  added = [];
-  facts = sym (append-nil known.facts);
-  lawful = lawful;
-  answered = λ query answered. answered;
-}
-
-keeps_same : (known : Known) (ledger : Ledgered) → Keeps known ledger ledger
-keeps_same known ledger = record {
-  budget = refl;
-  charged = λ k below charged. (below, below, refl);
-  opened = λ k below. inl (below, below, refl);
 }
 
 asked_new : (known : Known) (query : Query) (before after : Ledgered) → (IsAnswered known query → ⊥) → IsOfClaim known.graphs query ⊎ IsOfMatch known.graphs query → IsAsked known.graphs query before after → IsAskedNew known query before after
@@ -329,65 +306,18 @@ serves_halted {X} known query before after stop lawful unanswered kind halted su
 }
 
 -- another answer in the place of one
-pub serves_ok : {X Y : Type 0} (old new : Known) (before after : Ledgered) (r : Result X Stop) (x : X) (y : Y) → r ≡ Ok x → Serves {X = X} old new before after r → Serves {X = Y} old new before after (Ok y)
-serves_ok {X} {Y} old new before after r x y is serves =
-    let s : Serves {X = X} old new before after (Ok x) = subst (λ (q : Result X Stop). Serves {X = X} old new before after q) is serves in
-    record { grows = s.grows; suits = s.suits; keeps = s.keeps; stopped = tt }
+pub answers_ok : {X Y : Type 0} (old new : Known) (before after : Ledgered) (r : Result X Stop) (x : X) (y : Y) → r ≡ Ok x → Serves {X = X} old new before after r → Serves {X = Y} old new before after (Ok y)
+answers_ok {X} old new before after r x y is serves =
+    serves_ok old new before after (Ok y) y refl (served_one old new before after x (subst (λ (q : Result X Stop). Serves {X = X} old new before after q) is serves))
 
--- ---- one call after another
-
-keeps_then : (old mid : Known) (before between after : Ledgered) → Grows old mid → Keeps old before between → Keeps mid between after → Keeps old before after
-keeps_then old mid before between after grows one other = record {
-  budget = other.budget ∙ one.budget;
-  charged = λ k below charged.
-      let first = one.charged k below charged in
-      let still : IsCharged (entry_at between.asked k) = subst IsCharged (sym first.2) charged in
-      let second = other.charged k first.1 still in
-      (first.0, second.1, second.2 ∙ first.2);
-  opened = λ k below. elim (other.opened k below) [
-    | inr new ↦ inr (λ answered. new (grows.answered (entry_at after.asked k).query answered))
-    | inl same ↦
-        elim (one.opened k same.0) [
-          | inl before_too ↦ inl (before_too.0, same.1, same.2 ∙ before_too.2)
-          | inr new ↦ inr (λ answered. new (subst (λ (e : Asked). IsAnswered old e.query) same.2 answered))
-        ]
-  ];
-}
-
-stopped_then : (old mid : Known) (before between after : Ledgered) (stop : Stop) → Grows old mid → Keeps old before between → IsStopped mid between after stop → IsStopped old before after stop
-stopped_then old mid before between after Memory grows keeps stopped = tt
-stopped_then old mid before between after (Spent learned) grows keeps stopped = record {
-  learned_is = stopped.learned_is ∙ keeps.budget;
-  used = stopped.used ∙ keeps.budget;
-  made = stopped.made ∙ ap (λ (n : ℕ). n + 1) keeps.budget;
-  refused = stopped.refused;
-  work = subst (λ (g : Graphs). IsWorkOfClaimsAndMatches g after) grows.graphs stopped.work;
-  keeps = keeps_then old mid before between after grows keeps stopped.keeps;
-}
-
-pub serves_then : {X Y : Type 0} (old mid new : Known) (before between after : Ledgered) (r : Result X Stop) (x : X) (s : Result Y Stop) → r ≡ Ok x → Serves {X = X} old mid before between r → Serves {X = Y} mid new between after s → Serves {X = Y} old new before after s
-serves_then {X} {Y} old mid new before between after r x s is one other =
-    let first : Serves {X = X} old mid before between (Ok x) = subst (λ (q : Result X Stop). Serves {X = X} old mid before between q) is one in
-    let keeps : Keeps old before between = first.keeps in
-    record {
-      grows = record {
-        graphs = other.grows.graphs ∙ first.grows.graphs;
-        added = first.grows.added ++ other.grows.added;
-        facts = other.grows.facts ∙ (ap (λ (fs : List Fact). fs ++ other.grows.added) first.grows.facts ∙ append_assoc old.facts first.grows.added other.grows.added);
-        lawful = other.grows.lawful;
-        answered = λ query answered. other.grows.answered query (first.grows.answered query answered);
-      };
-      suits = other.suits;
-      keeps = IfOk-weaker s (λ (y : Y). Keeps mid between after) (λ (y : Y). Keeps old before after) (λ y later. keeps_then old mid before between after first.grows keeps later) other.keeps;
-      stopped = IfErr-weaker s (IsStopped mid between after) (IsStopped old before after) (λ stop stopped. stopped_then old mid before between after stop first.grows keeps stopped) other.stopped;
-    }
+-- one call after another
+pub answers_then : {X Y : Type 0} (old mid new : Known) (before between after : Ledgered) (r : Result X Stop) (x : X) (s : Result Y Stop) → r ≡ Ok x → Serves {X = X} old mid before between r → Serves {X = Y} mid new between after s → Serves {X = Y} old new before after s
+answers_then {X} old mid new before between after r x s is one other =
+    serves_last old mid new before between after s (served_one old mid before between x (subst (λ (q : Result X Stop). Serves {X = X} old mid before between q) is one)) other
 
 -- ---- a claim is decided
 
 module _ (graphs : Graphs) (facts : List Fact) (kept : List Kept) (claim : Claim) (known : Known) (is : known_by graphs facts kept ≡ known) (are : AreFacts graphs facts) (keeps : All (IsKept graphs) kept) (placed : IsClaim known.graphs claim) (missing : All (λ fact. fact.claim ≢ claim) known.facts) where
-  here : Known
-  here = known_by graphs facts kept
-
   placed_here : IsClaim graphs claim
   placed_here = subst (λ (k : Known). IsClaim k.graphs claim) (sym is) placed
 

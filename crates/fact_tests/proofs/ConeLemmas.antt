@@ -1,17 +1,12 @@
 -- The clauses of a query's cones, and lines that say something new beside them.
-use Rattle.std.proofs.Common.{◌≡◌, ℕ, ◌+◌, ◌<◌, Bool, true, false, List, [], ◌∷◌, ◌++◌, length, replicate, inl, inr, refl, sym, ◌∙◌, arith}
+use Rattle.std.proofs.Common.{ℕ, ◌+◌, ◌<◌, List, [], ◌∷◌, ◌++◌, length, inl, inr, refl, arith}
 use Rattle.std.specs.List.{AllByRecursion}
-use Rattle.std.proofs.lemmas.Bool.{cases_lt, false≢true}
-use Rattle.std.proofs.lemmas.List.{get_or_past, length-replicate, get_or-replicate}
 use Rattle.std.proofs.lemmas.List.Elements.{All-from_recursion}
 use Rattle.circuits.specs.declared.netlist.Gate.{Gate}
-use Rattle.circuits.specs.Literals.{bit}
-use Rattle.circuits.specs.Netlists.{Net, IsOrdered, signals_of}
 use Rattle.cnf_core.specs.declared.literal.SatLit.{SatLit}
 use Rattle.net_core.specs.Sides.{Graphs}
 use Rattle.net_core.specs.declared.graphs.Side.{Side}
 use Rattle.net_core.specs.declared.graphs.Side.TheVariants.{First, Second}
-use Rattle.net_core.specs.Cones.{ReachesGate, IsFanIn, output_signal}
 use Rattle.net_core.specs.Graph.{IsGraph}
 use Rattle.net_core.specs.Sides.{graph_of}
 use Rattle.query_core.specs.declared.query.Query.{Query}
@@ -20,29 +15,7 @@ use Rattle.query_core.specs.Formulas.{query_clauses, gate_clauses, half_clauses,
 use Rattle.query_core.specs.ConeClauses.{AllOfCones, IsConeId}
 use Rattle.query_core.proofs.FormulaLemmas.{count_of}
 use Rattle.oracle_core.specs.Work.{IsNewBeside}
-
--- an output reaches no gate that isn't there
-gate_there : (net : Net) (k t : ℕ) → IsOrdered net → k < length net.outputs → ReachesGate net k t → t < length net.gates
-gate_there net k t ordered there reached =
-    elim (cases_lt t (length net.gates)) [
-      | inl below ↦ below
-      | inr past ↦ absurd (false≢true (sym (get_or_past all (1 + net.inputs + t) false (omega (arith, past, size))) ∙ reached all fan_in))
-    ]
-  where
-    all : List Bool
-    all = replicate (signals_of net) true
-
-    size : length all ≡ signals_of net
-    size = length-replicate (signals_of net) true
-
-    set : (s : ℕ) → s < signals_of net → bit all s ≡ true
-    set s below = get_or-replicate (signals_of net) s true false below
-
-    fan_in : IsFanIn net k all
-    fan_in = record {
-      output = set (output_signal net k) (ordered.outputs k (record { 0 = 0 }) there);
-      operands = λ j d within is. (set _ (omega (arith, ordered.first_operands j d within, within)), set _ (omega (arith, ordered.second_operands j d within, within)));
-    }
+use Rattle.query_core.proofs.VariableLemmas.{reached_there}
 
 pub graph_is : (graphs : Graphs) (side : Side) → IsGraph graphs.first → IsGraph graphs.second → IsGraph (graph_of graphs side)
 graph_is graphs First first second = first
@@ -51,10 +24,10 @@ graph_is graphs Second first second = second
 pub cone_id_below : (graphs : Graphs) (query : Query) (id : ℕ) → IsGraph graphs.first → IsGraph graphs.second → IsQuery graphs query → IsConeId graphs query id → id < length (query_clauses graphs query)
 cone_id_below graphs query id first second fits (inl zero_is) = omega (arith, zero_is, count_of graphs query)
 cone_id_below graphs query id first second fits (inr (inl reached)) =
-    let there = gate_there (circuit_of graphs query.left) query.left.output reached.gate (graph_is graphs query.left.side first second).ordered fits.left.output reached.reached in
+    let there = reached_there (circuit_of graphs query.left) query.left.output reached.gate (graph_is graphs query.left.side first second).ordered fits.left.output reached.reached in
     omega (arith, there, reached.to, count_of graphs query)
 cone_id_below graphs query id first second fits (inr (inr (inl reached))) =
-    let there = gate_there (circuit_of graphs query.right) query.right.output reached.gate (graph_is graphs query.right.side first second).ordered fits.right.output reached.reached in
+    let there = reached_there (circuit_of graphs query.right) query.right.output reached.gate (graph_is graphs query.right.side first second).ordered fits.right.output reached.reached in
     omega (arith, there, reached.to, count_of graphs query)
 cone_id_below graphs query id first second fits (inr (inr (inr (inl is)))) = omega (arith, is, count_of graphs query)
 cone_id_below graphs query id first second fits (inr (inr (inr (inr is)))) = omega (arith, is, count_of graphs query)

@@ -1,6 +1,5 @@
 mod AnswerLemmas
 mod NumberLemmas
-mod EqualLemmas
 mod WorkLemmas
 mod StructureLemmas
 mod ReachLemmas

@@ -1,8 +1,8 @@
 -- A function has one row at most.
 use Rattle.std.proofs.Common.{◌≡◌, ◌⊎◌, ℕ, zero, suc, ◌<◌, Bool, true, false, not, List, [], ◌∷◌, length, set, AllPairs, Contains, get_or, refl, sym, subst, ap, ◌∙◌, inl, inr, arith}
-use Rattle.std.proofs.lemmas.List.{get_or_default, set-get_or}
+use Rattle.std.proofs.lemmas.List.{get_or_default}
 use Rattle.circuits.specs.Literals.{bit}
-use Rattle.query_core.specs.Claims.{NoFall, with_input}
+use Rattle.query_core.specs.Claims.{with_input}
 use Rattle.output_info.specs.declared.info.OutputInfo.{OutputInfo}
 use Rattle.output_info.specs.declared.info.Unate.{Unate}
 use Rattle.output_info.specs.declared.info.Unate.TheVariants.{Positive, Negative, Binate}
@@ -10,6 +10,7 @@ use Rattle.output_info.specs.declared.info.Sym.{Sym}
 use Rattle.output_info.specs.declared.info.Sym.TheVariants.{Symmetric, Skew, Both}
 use Rattle.fact_tests.specs.Functions.{InSupport, IsPositive, IsNegative, IsSymmetric, IsSkew}
 use Rattle.fact_tests.specs.Rows.{IsUnate, IsSym, IsEntry, ListsSupport, IsPair, IsBefore, ListsPairs, IsRow}
+use Rattle.query_core.proofs.ClaimLaws.{no_fall_both, set-here}
 
 -- lists that ascend and have the same elements
 module _ {X : Type 0} (R : X → X → Type 0) (one_way : (x y : X) → R x y → R y x → ⊥) where
@@ -52,15 +53,6 @@ module _ {X : Type 0} (R : X → X → Type 0) (one_way : (x y : X) → R x y �
       let head = heads x y xs ys one other (in_tail x y ys (there x (first x xs))) (in_tail y x xs (back y (first y ys))) in
       let tail = same_lists xs ys (rest x xs one) (rest y ys other) (tails x y xs ys head one there) (tails y x ys xs (sym head) other back) in
       ap (λ x. x ∷ xs) head ∙ ap (λ xs. y ∷ xs) tail
-
-no_fall_both : (one other : Bool) → NoFall one other → NoFall other one → one ≡ other
-no_fall_both true true there back = refl
-no_fall_both true false there back = sym (there refl)
-no_fall_both false true there back = back refl
-no_fall_both false false there back = refl
-
-pub set-here : (x : List Bool) (i : ℕ) (b : Bool) → bit x i ≡ b → with_input i b x ≡ x
-set-here x i b is = ap (λ b. set x i b) (sym is) ∙ set-get_or x i false
 
 -- a function that neither falls nor rises doesn't depend on the input
 unchanged : (n : ℕ) (f : List Bool → Bool) (i : ℕ) (x : List Bool) (b : Bool) → IsPositive n f i → IsNegative n f i → length x ≡ n → bit x i ≡ b → f x ≡ f (with_input i (not (bit x i)) x)

@@ -1,6 +1,6 @@
 -- An output has the same bit on two vectors that agree on the inputs that it reaches.
-use Rattle.std.proofs.Common.{◌≡◌, ◌≢◌, ℕ, zero, suc, ◌<◌, ◌||◌, ◌&&◌, not, Bool, true, false, List, [], ◌∷◌, ◌++◌, length, slice_index_or, inl, inr, refl, sym, ap, ◌∙◌, arith}
-use Rattle.std.proofs.lemmas.Bool.{cases_lt, false≢true}
+use Rattle.std.proofs.Common.{◌≡◌, ◌≢◌, ℕ, zero, suc, ◌<◌, ◌||◌, not, Bool, true, false, List, [], ◌∷◌, ◌++◌, length, slice_index_or, inl, inr, refl, sym, ap, ◌∙◌, arith}
+use Rattle.std.proofs.lemmas.Bool.{cases_lt, false≢true, or_left, or_right}
 use Rattle.std.proofs.lemmas.List.{get_or_append_left, get_or_push, get_or-map, get_or-set_other, length-set, length_push}
 use Rattle.circuits.specs.declared.netlist.Gate.{Gate}
 use Rattle.circuits.specs.declared.netlist.Lit.{Lit}
@@ -12,7 +12,8 @@ use Rattle.query_core.specs.Claims.{output_bit, with_input}
 use Rattle.query_core.specs.Formulas.{reaching}
 use Rattle.fact_tests.specs.Functions.{InSupport}
 use Rattle.net_supports.specs.Supports.{only_input, output_reaches}
-use Rattle.fact_tests.proofs.StructureLemmas.{length-only_input, only_at, or_left, or_right}
+use Rattle.fact_tests.proofs.StructureLemmas.{length-only_input, only_at}
+use Rattle.query_core.proofs.AssignmentLemmas.{gate_agrees}
 
 -- two valuations have the same bit at each signal that only marks inputs of which P is said
 abbrev SameWhere : (ℕ → List Bool) → (ℕ → Type 0) → List Bool → List Bool → Type 0
@@ -20,10 +21,6 @@ SameWhere marks P v w = (s : ℕ) → s < length v → ((i : ℕ) → bit (marks
 
 abbrev either : List Bool → Gate → Bool
 either marks gate = bit marks (signal_of gate.a) || bit marks (signal_of gate.b)
-
-same_gate : (v w : List Bool) (gate : Gate) → bit v (signal_of gate.a) ≡ bit w (signal_of gate.a) → bit v (signal_of gate.b) ≡ bit w (signal_of gate.b) → gate_bit v gate ≡ gate_bit w gate
-same_gate v w gate one other =
-    ap (λ b. differ b (inverts gate.a) && literal_bit v gate.b) one ∙ ap (λ b. literal_bit w gate.a && differ b (inverts gate.b)) other
 
 same_more : (marks : ℕ → List Bool) (P : ℕ → Type 0) (v w : List Bool) (gate : Gate) → ((i : ℕ) → length (marks i) ≡ length v) → length w ≡ length v → first_operand gate < length v → second_operand gate < length v → SameWhere marks P v w → SameWhere (λ i. marks i ++ either (marks i) gate ∷ []) P (v ++ gate_bit v gate ∷ []) (w ++ gate_bit w gate ∷ [])
 same_more marks P v w gate counts count a b same s below on =
@@ -38,7 +35,7 @@ same_more marks P v w gate counts count a b same s below on =
           let marked : (i : ℕ) → either (marks i) gate ≡ true → P i = λ i is. on i (get_or_push (marks i) (either (marks i) gate) false s (counts i ∙ sym here) ∙ is) in
           let one = same (signal_of gate.a) a (λ i is. marked i (or_left (bit (marks i) (signal_of gate.a)) (bit (marks i) (signal_of gate.b)) is)) in
           let other = same (signal_of gate.b) b (λ i is. marked i (or_right (bit (marks i) (signal_of gate.a)) (bit (marks i) (signal_of gate.b)) is)) in
-          get_or_push v (gate_bit v gate) false s (sym here) ∙ (same_gate v w gate one other ∙ sym (get_or_push w (gate_bit w gate) false s (sym here_too)))
+          get_or_push v (gate_bit v gate) false s (sym here) ∙ (gate_agrees v w gate one other ∙ sym (get_or_push w (gate_bit w gate) false s (sym here_too)))
     ]
 
 same_through : (marks : ℕ → List Bool) (P : ℕ → Type 0) (v w : List Bool) (gates : List Gate) → ((i : ℕ) → length (marks i) ≡ length v) → length w ≡ length v → ReadsBelow (length v) first_operand gates → ReadsBelow (length v) second_operand gates → SameWhere marks P v w → SameWhere (λ i. reaching (marks i) gates) P (with_gates v gates) (with_gates w gates)

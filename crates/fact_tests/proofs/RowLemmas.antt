@@ -1,9 +1,10 @@
 -- Rows that grow entry by entry.
 use Rattle.std.proofs.Common.{◌≡◌, ◌⊎◌, ℕ, ◌+◌, ◌-◌, ◌<◌, ◌≤◌, Bool, List, [], ◌∷◌, ◌++◌, length, take, drop, Option, None, Some, Any, get_or, refl, sym, subst, ap, ◌∙◌, inl, inr, arith}
 use Rattle.std.proofs.lemmas.Bool.{cases_lt}
-use Rattle.std.proofs.lemmas.List.{append-nil, get_or_append_left, get_or_default, get_or_past, get_or_push, get_or-drop, length-drop, length_push, take_all}
+use Rattle.std.proofs.lemmas.List.{append-nil, get_or_append_left, get_or_default, get_or_past, get_or-drop, length-drop, length_push, take_all}
 use Rattle.std.proofs.lemmas.List.Elements.{All-drop, All-push}
 use Rattle.std.proofs.lemmas.List.Quantifiers.{Any-push, all_pairs_push}
+use Rattle.circuits.proofs.EachLemmas.{each_push}
 use Rattle.circuits.specs.Circuits.{Circuit}
 use Rattle.circuits.specs.Functions.{Computes}
 use Rattle.circuits.specs.Literals.{EachAt, bit}
@@ -20,14 +21,6 @@ use Rattle.fact_tests.specs.Outputs.{IsDependence, IsSymmetry, entry_of, pair_of
 -- what is among the first entries is among more
 any_more : {X : Type 0} (P : X → Type 0) (xs : List X) (x : X) → Any P xs → Any P (xs ++ x ∷ [])
 any_more P xs x (k, found, h, at, is) = (k, found, omega (arith, h, length_push xs x), get_or_append_left xs (x ∷ []) found k h ∙ at, is)
-
-pub support_none : (n : ℕ) (f : List Bool → Bool) → ListsSupport n f 0 0 []
-support_none n f = record {
-  right = λ k d h. absurd (omega (arith, h));
-  within = λ k d h. absurd (omega (arith, h));
-  ascending = λ i j d less h. absurd (omega (arith, h));
-  whole = λ i low high. absurd (omega (arith, high));
-}
 
 -- the next input is decided
 pub support_more : (n : ℕ) (f : List Bool → Bool) (start end : ℕ) (entries : List (ℕ × Unate)) (unate : Option Unate)
@@ -336,10 +329,6 @@ input_step n f support t pairs lists there so_far =
     (omega (arith, here, support_above n f 0 support t lists there))
     (λ a low before. support_next n f 0 support t a lists there (omega (arith, low, here)) before)
 
--- all inputs have their pairs
-pub inputs_end : (n : ℕ) (f : List Bool → Bool) (support : List (ℕ × Unate)) (t : ℕ) (pairs : List (ℕ × ℕ × Sym)) → length support ≤ t → ListsPairs n f (input_at n support t) 0 pairs → ListsPairs n f n 0 pairs
-inputs_end n f support t pairs past so_far = subst (λ i. ListsPairs n f i 0 pairs) (ap (λ (entry : ℕ × Unate). entry.0) (get_or_past support t (n, Positive) past)) so_far
-
 -- what is after an entry, as a slice of the support
 pub later_slice : (n : ℕ) (f : List Bool → Bool) (support : List (ℕ × Unate)) (t : ℕ) → ListsSupport n f 0 n support → t < length support → ListsSupport n f ((get_or support t (0, Positive)).0 + 1) n (take (length support - (t + 1)) (drop (t + 1) support))
 later_slice n f support t lists there =
@@ -356,11 +345,4 @@ support_step n f i entries new unate lists there decided is =
 -- one row more
 pub rows_step : (P : ℕ → OutputInfo → Type 0) (rows new : List OutputInfo) (row : OutputInfo) (k : ℕ) → length rows ≡ k → EachAt P rows → P k row → new ≡ rows ++ row ∷ [] → (length new ≡ k + 1) × EachAt P new
 rows_step P rows new row k count each here is =
-    subst (λ (new : List OutputInfo). (length new ≡ k + 1) × EachAt P new) (sym is) (omega (arith, length_push rows row, count), λ j d h. at j d h (cases_lt j (length rows)))
-  where
-    at : (j : ℕ) (d : OutputInfo) → j < length (rows ++ row ∷ []) → (j < length rows) ⊎ (length rows ≤ j) → P j (get_or (rows ++ row ∷ []) j d)
-    at j d h (inl less) = subst (P j) (sym (get_or_append_left rows (row ∷ []) d j less)) (each j d less)
-    at j d h (inr past) =
-        let last : j ≡ length rows = omega (arith, h, length_push rows row, past) in
-        let same : j ≡ k = last ∙ count in
-        subst (P j) (sym (get_or_push rows row d j (sym last))) (subst (λ k. P k row) (sym same) here)
+    subst (λ (new : List OutputInfo). (length new ≡ k + 1) × EachAt P new) (sym is) (omega (arith, length_push rows row, count), each_push P rows row each (subst (λ n. P n row) (sym count) here))

@@ -2,7 +2,7 @@
 use Rattle.std.proofs.Common.{◌≡◌, ◌≢◌, ◌⊎◌, ℕ, zero, suc, ◌+◌, ◌-◌, ◌*◌, ◌<◌, ◌≤◌, eqb, cond, ◌||◌, ◌&&◌, not, Bool, true, false, Option, None, Some, List, [], ◌∷◌, ◌++◌, length, map, drop, take, slice_index_or, nat_lt, inl, inr, refl, sym, ap, ◌∙◌, arith, eq-eqb}
 use Rattle.std.specs.Bool.{beq}
 use Rattle.std.specs.List.{range_with_len}
-use Rattle.std.proofs.lemmas.Bool.{cases_eq, cases_lt, false≢true}
+use Rattle.std.proofs.lemmas.Bool.{and_parts, cases_eq, cases_lt, eqb-true, false≢true, not-false, or_cases, or_left, or_right}
 use Rattle.std.proofs.lemmas.Bool.Decides.{nat_tests}
 use Rattle.std.proofs.lemmas.List.{get_or_append_left, get_or-append-add, get_or_past, get_or-map, get_or-drop, get_or-set_other, length-append, length-map, length-drop, append-nil}
 use Rattle.std.proofs.lemmas.List.FromFn.{get_or-map-range_with_len, get_or-range_with_len, length-range_with_len, length-map-range_with_len}
@@ -33,27 +33,17 @@ use Rattle.query_core.specs.MatchQueries.{straight}
 use Rattle.query_core.specs.ClaimQueries.{claim_query, opposite_shape, values_feed, with_fixed}
 use Rattle.query_core.specs.Formulas.{feed_literal, feeds_differ, false_literal, formula_of, plain, query_clauses, reaching, reaches, same_feed, same_side, shared_from, signal_literals, stand_in, stands_for, left_literals, right_literals, half_clauses}
 use Rattle.query_core.proofs.ClaimQueryLemmas.{values_count}
-use Rattle.query_core.proofs.FormulaLemmas.{count_of, first_output, second_output, gate_clause_count, length-reaching, length-feeds_differ}
+use Rattle.query_core.proofs.EqualLemmas.{bool_decides}
+use Rattle.query_core.proofs.FormulaLemmas.{count_of, first_output, second_output, gate_clause_count, length-reaching, length-feeds_differ, length-shared_from}
 use Rattle.net_supports.specs.Supports.{only_input, output_reaches, reaches_input}
 use Rattle.fact_tests.specs.Supports.{IsOutside, closing_line}
+use Rattle.query_core.proofs.ReachingLemmas.{reaching_keeps}
 
 -- ---- what reaches what
 
 -- what one list marks, one of two others marks
 abbrev Covered : List Bool → List Bool → List Bool → Type 0
 Covered xs ys zs = (s : ℕ) → bit xs s ≡ true → (bit ys s ≡ true) ⊎ (bit zs s ≡ true)
-
-or_true : (b c : Bool) → (b || c) ≡ true → (b ≡ true) ⊎ (c ≡ true)
-or_true true c is = inl refl
-or_true false c is = inr is
-
-pub or_left : (b c : Bool) → b ≡ true → (b || c) ≡ true
-or_left true c is = refl
-or_left false c is = absurd (false≢true is)
-
-pub or_right : (b c : Bool) → c ≡ true → (b || c) ≡ true
-or_right true c is = refl
-or_right false c is = is
 
 bit_here : (xs : List Bool) (b : Bool) → bit (xs ++ b ∷ []) (length xs) ≡ b
 bit_here xs b =
@@ -96,7 +86,7 @@ covered_more xs ys zs gate l m covered s is =
         let here = sym (bit_here xs (bit xs (signal_of gate.a) || bit xs (signal_of gate.b))) ∙ (ap (bit (xs ++ (bit xs (signal_of gate.a) || bit xs (signal_of gate.b)) ∷ [])) (sym same) ∙ is) in
         let at_y : s ≡ length ys = omega (arith, same, l) in
         let at_z : s ≡ length zs = omega (arith, same, m) in
-        elim (of_operand (or_true (bit xs (signal_of gate.a)) (bit xs (signal_of gate.b)) here)) [
+        elim (of_operand (or_cases (bit xs (signal_of gate.a)) (bit xs (signal_of gate.b)) here)) [
           | inl q ↦ inl (ap (bit (ys ++ (bit ys (signal_of gate.a) || bit ys (signal_of gate.b)) ∷ [])) at_y ∙ (bit_here ys (bit ys (signal_of gate.a) || bit ys (signal_of gate.b)) ∙ q))
           | inr q ↦ inr (ap (bit (zs ++ (bit zs (signal_of gate.a) || bit zs (signal_of gate.b)) ∷ [])) at_z ∙ (bit_here zs (bit zs (signal_of gate.a) || bit zs (signal_of gate.b)) ∙ q))
         ]
@@ -112,13 +102,6 @@ covered_through xs ys zs (gate ∷ gates) l m covered =
     let z = (bit zs (signal_of gate.a) || bit zs (signal_of gate.b)) ∷ [] in
     covered_through (xs ++ x) (ys ++ y) (zs ++ z) gates (omega (arith, l, length-append xs x, length-append ys y)) (omega (arith, m, length-append xs x, length-append zs z)) (covered_more xs ys zs gate l m covered)
 
--- what stands before the gates stays
-reaching_start : (so_far : List Bool) (gates : List Gate) (s : ℕ) → s < length so_far → bit (reaching so_far gates) s ≡ bit so_far s
-reaching_start so_far [] s below = refl
-reaching_start so_far (gate ∷ gates) s below =
-    let last = (bit so_far (signal_of gate.a) || bit so_far (signal_of gate.b)) ∷ [] in
-    reaching_start (so_far ++ last) gates s (omega (arith, below, length-append so_far last)) ∙ get_or_append_left so_far last false s below
-
 -- ---- the feeds of a claim's query
 
 feeds_at : (left right : List Feed) (k : ℕ) (d : Feed) → length left ≡ length right → k < length left → bit (feeds_differ left right) k ≡ not (same_feed (slice_index_or left k d) (slice_index_or right k d))
@@ -127,35 +110,18 @@ feeds_at (feed ∷ left) [] k d same below = absurd (omega (arith, same))
 feeds_at (feed ∷ left) (other ∷ right) zero d same below = refl
 feeds_at (feed ∷ left) (other ∷ right) (suc k) d same below = feeds_at left right k d (omega (arith, same)) (omega (arith, below))
 
-beq_self : (b : Bool) → beq b b ≡ true
-beq_self true = refl
-beq_self false = refl
-
-beq_is : (b c : Bool) → beq b c ≡ true → b ≡ c
-beq_is true true is = refl
-beq_is true false is = cc
-beq_is false true is = cc
-beq_is false false is = refl
-
-and_parts : (b c : Bool) → (b && c) ≡ true → (b ≡ true) × (c ≡ true)
-and_parts true c is = (refl, is)
-and_parts false c is = absurd (false≢true is)
-
-eqb_is : (m n : ℕ) → eqb m n ≡ true → m ≡ n
-eqb_is m n is = grind (arith, nat_tests)
-
 same_self : (feed : Feed) → same_feed feed feed ≡ true
-same_self (Fixed b) = beq_self b
-same_self (Wire place flip) = ap (λ b. b && beq flip flip) (eq-eqb place place refl) ∙ beq_self flip
+same_self (Fixed b) = (bool_decides b b).1 refl
+same_self (Wire place flip) = ap (λ b. b && beq flip flip) (eq-eqb place place refl) ∙ (bool_decides flip flip).1 refl
 
 same_is : (feed other : Feed) → same_feed feed other ≡ true → feed ≡ other
-same_is (Fixed b) (Fixed c) is = ap Fixed (beq_is b c is)
+same_is (Fixed b) (Fixed c) is = ap Fixed ((bool_decides b c).0 is)
 same_is (Fixed b) (Wire place flip) is = absurd (false≢true is)
 same_is (Wire place flip) (Fixed b) is = absurd (false≢true is)
 same_is (Wire place flip) (Wire other sign) is =
     let both = and_parts (eqb place other) (beq flip sign) is in
-    let e = eqb_is place other both.0 in
-    let f = beq_is flip sign both.1 in
+    let e = eqb-true place other both.0 in
+    let f = (bool_decides flip sign).0 both.1 in
     cc
 
 -- input k isn't one of the shape's
@@ -259,10 +225,6 @@ shared_own first own (flag ∷ flags) (suc t) below unset =
     let n : first + 1 + t ≡ first + suc t = omega arith in
     shared_own (first + 1) (own + 1) flags t (omega (arith, below)) unset ∙ n
 
-length-shared : (first own : ℕ) (flags : List Bool) → length (shared_from first own flags) ≡ length flags
-length-shared first own [] = refl
-length-shared first own (flag ∷ flags) = ap suc (length-shared (first + 1) (own + 1) flags)
-
 -- an unreached signal has one literal in both halves
 same_literal : (left right : List Feed) (gates : List Gate) (n own s : ℕ) → length left ≡ n → length right ≡ n → s < 1 + n + length gates → bit (reaching (false ∷ feeds_differ left right) gates) s ≡ false → stand_in (signal_literals left (range_with_len (n + 1) (length gates))) s ≡ stand_in (signal_literals right (shared_from (n + 1) own (drop (n + 1) (reaching (false ∷ feeds_differ left right) gates)))) s
 same_literal left right gates n own zero l r below unset = refl
@@ -271,8 +233,8 @@ same_literal left right gates n own (suc k) l r below unset =
       | inl input ↦
           let a : k < length left = omega (arith, input, l) in
           let b : k < length right = omega (arith, input, r) in
-          let before = sym (reaching_start (false ∷ feeds_differ left right) gates (suc k) (omega (arith, a, fd))) ∙ unset in
-          let alike = not_not (same_feed (slice_index_or left k none) (slice_index_or right k none)) (sym (feeds_at left right k none (l ∙ sym r) a) ∙ before) in
+          let before = sym (reaching_keeps (false ∷ feeds_differ left right) gates (suc k) (omega (arith, a, fd))) ∙ unset in
+          let alike = not-false (same_feed (slice_index_or left k none) (slice_index_or right k none)) (sym (feeds_at left right k none (l ∙ sym r) a) ∙ before) in
           let same = same_is (slice_index_or left k none) (slice_index_or right k none) alike in
           get_or_append_left (map feed_literal left) (map plain lefts) false_literal k (omega (arith, a, length-map left feed_literal))
           ∙ (get_or-map feed_literal left k none false_literal a
@@ -287,7 +249,7 @@ same_literal left right gates n own (suc k) l r below unset =
           let at_right : k ≡ length (map feed_literal right) + t = omega (arith, at, r, length-map right feed_literal) in
           let left_size : t < length lefts = omega (arith, small, length-range_with_len (n + 1) (length gates)) in
           let flag_size : t < length flags = omega (arith, small, size) in
-          let right_size : t < length rights = omega (arith, flag_size, length-shared (n + 1) own flags) in
+          let right_size : t < length rights = omega (arith, flag_size, length-shared_from (n + 1) own flags) in
           let place : n + 1 + t ≡ suc k = omega (arith, at) in
           let flag : bit flags t ≡ false = get_or-drop (n + 1) marks t false ∙ (ap (bit marks) place ∙ unset) in
           ap (λ j. slice_index_or (map feed_literal left ++ map plain lefts) j false_literal) at_left
@@ -319,10 +281,6 @@ same_literal left right gates n own (suc k) l r below unset =
 
     size : length flags ≡ length gates
     size = omega (arith, length-drop (n + 1) marks, length-reaching (false ∷ feeds_differ left right) gates, fd, l)
-
-    not_not : (b : Bool) → not b ≡ false → b ≡ true
-    not_not true is = refl
-    not_not false is = absurd (false≢true (sym is))
 
 -- ---- the two clauses
 

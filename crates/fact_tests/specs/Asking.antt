@@ -1,12 +1,16 @@
 -- What deciding a query makes of a ledger.
-use Rattle.std.specs.Prelude.{◌≡◌, ◌⊎◌, ℕ, ◌+◌, true, List, [], ◌∷◌, ◌++◌}
+use Rattle.std.specs.Prelude.{◌≡◌, ◌⊎◌, ℕ, ◌+◌, true, false, List, [], ◌∷◌, ◌++◌, Result, IfOk, IfErr}
 use Rattle.cnf_core.specs.declared.log.LogLine.{LogLine}
 use Rattle.cnf_core.specs.declared.stop.Stop.{Stop}
 use Rattle.cnf_core.specs.declared.stop.Stop.TheVariants.{Spent, Memory}
 use Rattle.net_core.specs.Sides.{Graphs}
+use Rattle.query_core.specs.declared.claims.Claim.{Claim}
 use Rattle.query_core.specs.declared.query.Query.{Query}
 use Rattle.query_core.specs.declared.ledger.Asked.{Asked}
+use Rattle.query_core.specs.ClaimQueries.{claim_query}
 use Rattle.query_core.specs.Ledgers.{Ledgered, charged_front, learned_in, lines_in}
+use Rattle.account_core.specs.declared.fact.Evidence.{Evidence}
+use Rattle.account_core.specs.Facts.{IsEvidence}
 use Rattle.oracle_core.specs.Work.{IsWorkOn}
 
 -- the entry of a query with lines, of which the first n are lemmas and the others were learned for it
@@ -37,3 +41,10 @@ IsHalted graphs query before after Memory = Unit {0}
 -- a query was decided, and asked where that was needed
 abbrev pub IsDecided : Graphs → Query → Ledgered → Ledgered → Type 0
 IsDecided graphs query before after = (after ≡ before) ⊎ IsAsked graphs query before after
+
+-- What deciding a claim comes to: evidence, with its query decided in a ledger that isn't spent, or no answer.
+pub record Decides (graphs : Graphs) (claim : Claim) (before after : Ledgered) (result : Result Evidence Stop) : Type 0 where
+  pub evidence : IfOk result (IsEvidence graphs claim)
+  pub decided : IfOk result (λ _. IsDecided graphs (claim_query graphs claim) before after)
+  pub unspent : IfOk result (λ _. after.spent ≡ false)
+  pub stop : IfErr result (IsHalted graphs (claim_query graphs claim) before after)

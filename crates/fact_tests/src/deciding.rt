@@ -6,7 +6,7 @@ ghost use Rattle.query_core.specs.Claims.{BreaksShape, IsClaim, IsPlaced, with_v
 ghost use Rattle.query_core.specs.ClaimQueries.{claim_query};
 ghost use Rattle.account_core.specs.Facts.{IsEvidence};
 ghost use Rattle.ask_core.specs.Answers.{IsAnswer};
-ghost use Rattle.fact_tests.specs.Asking.{IsDecided, IsHalted};
+ghost use Rattle.fact_tests.specs.Asking.{Decides};
 ghost use Rattle.fact_tests.specs.Books.{IsSource};
 ghost use Rattle.fact_tests.specs.Supports.{IsOutside};
 
@@ -143,11 +143,7 @@ fn decide<W: Watch>(
     requires source { IsSource (graph_of graphs.now claim.now.side) source.old }
     requires unspent { ledger.old.spent ≡ false }
     ensures source { IsSource (graph_of graphs.now claim.now.side) source.new }
-    ensures evidence { IfOk result (IsEvidence graphs.now claim.now) }
-    ensures decided { IfOk result
-        (λ _. IsDecided graphs.now (claim_query graphs.now claim.now) ledger.old ledger.new) }
-    ensures unspent { IfOk result (λ _. ledger.new.spent ≡ false) }
-    ensures stop { IfErr result (IsHalted graphs.now (claim_query graphs.now claim.now) ledger.old ledger.new) }
+    ensures decides { Decides graphs.now claim.now ledger.old ledger.new result }
 {
     if is_outside(&source.supports, claim.output, &claim.shape) {
         return by_structure(alloc, graphs, claim, ledger);
@@ -205,11 +201,7 @@ fn by_structure(
     requires placed { IsClaim graphs.now claim.now }
     requires outside { IsOutside (graph_of graphs.now claim.now.side) claim.now.output claim.now.shape }
     requires unspent { ledger.old.spent ≡ false }
-    ensures evidence { IfOk result (IsEvidence graphs.now claim.now) }
-    ensures decided { IfOk result
-        (λ _. IsDecided graphs.now (claim_query graphs.now claim.now) ledger.old ledger.new) }
-    ensures unspent { IfOk result (λ _. ledger.new.spent ≡ false) }
-    ensures stop { IfErr result (IsHalted graphs.now (claim_query graphs.now claim.now) ledger.old ledger.new) }
+    ensures { Decides graphs.now claim.now ledger.old ledger.new result }
 {
     match refute_outside(alloc, graphs, claim, ledger) {
         Ok(log) => Ok(Evidence::Holds(log)),
@@ -230,11 +222,7 @@ fn by_asking<W: Watch>(
     requires nearby { nearby.old ≡ graph_of graphs.now claim.now.side }
     requires unspent { ledger.old.spent ≡ false }
     ensures nearby { nearby.new ≡ nearby.old }
-    ensures evidence { IfOk result (IsEvidence graphs.now claim.now) }
-    ensures decided { IfOk result
-        (λ _. IsDecided graphs.now (claim_query graphs.now claim.now) ledger.old ledger.new) }
-    ensures unspent { IfOk result (λ _. ledger.new.spent ≡ false) }
-    ensures stop { IfErr result (IsHalted graphs.now (claim_query graphs.now claim.now) ledger.old ledger.new) }
+    ensures decides { Decides graphs.now claim.now ledger.old ledger.new result }
 {
     match asked(alloc, graphs, claim, ledger, watch) {
         Ok(Evidence::Fails(vector)) => {
@@ -256,11 +244,7 @@ fn asked<W: Watch>(
 ) -> Result<Evidence, Stop>
     requires placed { IsClaim graphs.now claim.now }
     requires unspent { ledger.old.spent ≡ false }
-    ensures evidence { IfOk result (IsEvidence graphs.now claim.now) }
-    ensures decided { IfOk result
-        (λ _. IsDecided graphs.now (claim_query graphs.now claim.now) ledger.old ledger.new) }
-    ensures unspent { IfOk result (λ _. ledger.new.spent ≡ false) }
-    ensures stop { IfErr result (IsHalted graphs.now (claim_query graphs.now claim.now) ledger.old ledger.new) }
+    ensures { Decides graphs.now claim.now ledger.old ledger.new result }
 {
     let query = of_claim(alloc, graphs, claim)?;
     match answer_to(alloc, graphs, &query, ledger, watch) {

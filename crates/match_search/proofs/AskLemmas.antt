@@ -44,9 +44,6 @@ pub trail_beside : (graphs : Graphs) (bans lent : List Ban) (before after : Doma
 trail_beside graphs bans lent before after same is inputs outputs are =
     trail_on graphs bans before after is inputs outputs (subst (λ (l : List Ban). AreJustified after.inputs after.outputs l after.entries) same are)
 
-pub trail_follows : (graphs : Graphs) (bans lent : List Ban) (before after : Domained) → lent ≡ bans → IsTrail graphs bans before → Propagates lent before after → IsTrail graphs bans after
-trail_follows graphs bans lent before after same is follows = trail_beside graphs bans lent before after same is follows.inputs follows.outputs follows.justified
-
 -- after pairs were held and deleted in view of the bans as they were lent
 pub shown_beside : (graphs : Graphs) (known : Known) (bans lent : List Ban) (before after : Domained) → lent ≡ bans → IsShownTrail graphs known bans before → after.inputs ≡ before.inputs → after.outputs ≡ before.outputs → AreJustified after.inputs after.outputs lent after.entries → StayGrounded before.entries after.entries → IsShownTrail graphs known bans after
 shown_beside graphs known bans lent before after same is inputs outputs are stay = record {

@@ -65,7 +65,10 @@ pub(crate) fn ask_held<O: Oracle>(
     ensures { HoldsBans graphs.now (O.known oracle.old) (O.known oracle.new) ledger.old ledger.new book.old book.new result }
 {
     ask_alone(alloc, graphs, oracle, pair, seen, book, ledger)?;
-    ask_beside(alloc, graphs, oracle, held, pair, seen, book, ledger)
+    for other in held.iter() {
+        ask_two(alloc, graphs, oracle, pair, *other, seen, book, ledger)?;
+    }
+    Ok(())
 }
 
 // Holds the tally of a pair of outputs.
@@ -86,28 +89,6 @@ fn ask_alone<O: Oracle>(
         PortKind::Output => tally(alloc, graphs, oracle, pair, seen, book, ledger),
         PortKind::Input => Ok(None),
     }
-}
-
-// Holds the mismatches of a pair and held ones of the other kind.
-fn ask_beside<O: Oracle>(
-    alloc: Global,
-    graphs: &PairableGraphs<'_>,
-    oracle: &mut O,
-    held: &[Pair],
-    pair: Pair,
-    seen: &mut Seen,
-    book: &mut BanBook,
-    ledger: &mut Ledger,
-) -> Result<(), Stop>
-    requires may { MayHold graphs.now (O.known oracle.old) ledger.old book.old }
-    requires held { All (IsKnown graphs.now) held.now }
-    requires known { IsKnown graphs.now pair }
-    ensures { HoldsBans graphs.now (O.known oracle.old) (O.known oracle.new) ledger.old ledger.new book.old book.new result }
-{
-    for other in held.iter() {
-        ask_two(alloc, graphs, oracle, pair, *other, seen, book, ledger)?;
-    }
-    Ok(())
 }
 
 // Holds a mismatch of two pairs, if they are of different kinds.

@@ -25,36 +25,9 @@ use query_core::Ledger;
 use std::alloc::Global;
 use vector_bans::foresee;
 
-/// Holds and deletes what follows, and tries the pairs that are held on vectors.
+/// Holds and deletes what follows of bans and of claims, those of one input first, which are fewer and whose bans are shorter,
+/// and tries the pairs that are held on vectors.
 pub(crate) fn follow<O: Oracle>(
-    alloc: Global,
-    graphs: &PairableGraphs<'_>,
-    oracle: &mut O,
-    guide: &mut Guide,
-    domains: &mut Domains,
-    queue: &mut Queue,
-    book: &mut BanBook,
-    ledger: &mut Ledger,
-) -> Result<Option<Impasse>, Stop>
-    requires may { MayHold graphs.now (O.known oracle.old) ledger.old book.old }
-    requires trail { IsShownTrail graphs.now (O.known oracle.old) book.old domains.old }
-    requires trials { AreTrials graphs.now.first guide.old.trials }
-    ensures holds { HoldsBans graphs.now (O.known oracle.old) (O.known oracle.new) ledger.old ledger.new book.old book.new result }
-    ensures trials { OnOk result (AreTrials graphs.now.first guide.new.trials) }
-    ensures trail { OnOk result (IsShownTrail graphs.now (O.known oracle.new) book.new domains.new) }
-    ensures less { OnOk result (left domains.new ≤ left domains.old) }
-    ensures impasse { IfOk result (λ found. IfSome found
-        (IsImpasse domains.new.inputs domains.new.outputs book.new domains.new.entries)) }
-{
-    if let Some(impasse) = settle_all(alloc, graphs, oracle, guide, domains, queue, book, ledger)? {
-        return Ok(Some(impasse));
-    }
-    let found = foresee_held(alloc, graphs, oracle, guide, domains, book, ledger)?;
-    Ok(found)
-}
-
-// Holds and deletes what follows of bans and of claims, those of one input first, which are fewer and whose bans are shorter.
-fn settle_all<O: Oracle>(
     alloc: Global,
     graphs: &PairableGraphs<'_>,
     oracle: &mut O,
@@ -77,7 +50,10 @@ fn settle_all<O: Oracle>(
     if let Some(impasse) = settle(alloc, graphs, oracle, guide, domains, queue, book, ledger)? {
         return Ok(Some(impasse));
     }
-    let found = exchange_held(alloc, graphs, oracle, guide, domains, book, ledger)?;
+    if let Some(exchanged) = exchange_held(alloc, graphs, oracle, guide, domains, book, ledger)? {
+        return Ok(Some(exchanged));
+    }
+    let found = foresee_held(alloc, graphs, oracle, guide, domains, book, ledger)?;
     Ok(found)
 }
 
@@ -150,8 +126,8 @@ fn settle<O: Oracle>(
     Ok(None)
 }
 
-// Holds the bans that decided claims show of the next output, or else of the next held pair, and deletes the ways that they tell
-// from it. Answers whether there is one.
+// Holds the tallies of the next output that none were held of, or else the bans that decided claims show of the next held pair,
+// and deletes the ways that they tell from it. Answers whether there is one.
 fn ask_next<O: Oracle>(
     alloc: Global,
     graphs: &PairableGraphs<'_>,
@@ -168,30 +144,8 @@ fn ask_next<O: Oracle>(
     ensures trail { OnOk result (IsShownTrail graphs.now (O.known oracle.new) book.new domains.new) }
     ensures less { OnOk result (left domains.new ≤ left domains.old) }
 {
-    let asked = ask_next_output(alloc, graphs, oracle, guide, domains, book, ledger)?;
-    if asked {
-        return Ok(true);
-    }
-    ask_next_pair(alloc, graphs, oracle, guide, domains, book, ledger)
-}
-
-// Holds the tallies of the next output that none were held of. Answers whether there is one.
-fn ask_next_output<O: Oracle>(
-    alloc: Global,
-    graphs: &PairableGraphs<'_>,
-    oracle: &mut O,
-    guide: &mut Guide,
-    domains: &Domains,
-    book: &mut BanBook,
-    ledger: &mut Ledger,
-) -> Result<bool, Stop>
-    requires may { MayHold graphs.now (O.known oracle.old) ledger.old book.old }
-    requires trail { IsTrail graphs.now book.old domains.now }
-    ensures holds { HoldsBans graphs.now (O.known oracle.old) (O.known oracle.new) ledger.old ledger.new book.old book.new result }
-    ensures trials { OnOk result (guide.new.trials ≡ guide.old.trials) }
-{
     let Some(output) = guide.next_output(domains.ports(PortKind::Output)) else {
-        return Ok(false);
+        return ask_next_pair(alloc, graphs, oracle, guide, domains, book, ledger);
     };
     let seen = &mut guide.seen;
     ask_output(alloc, graphs, oracle, domains, output, seen, book, ledger)?;

@@ -1,19 +1,19 @@
 -- The bits of words, and which inputs signals reach.
-use Rattle.std.proofs.Common.{◌≡◌, ◌≢◌, ◌⊎◌, ℕ, zero, suc, ◌+◌, ◌-◌, ◌*◌, ◌%◌, ◌^◌, ◌<◌, ◌≤◌, ◌==◌, max, eqb, ◌||◌, Bool, false, List, [], ◌∷◌, ◌++◌, length, map, drop, slice_index_or, bit_or, inl, inr, refl, sym, ap, subst, ◌∙◌, arith, eq-eqb}
+use Rattle.std.proofs.Common.{◌≡◌, ◌≢◌, ◌⊎◌, ℕ, zero, suc, ◌+◌, ◌-◌, ◌*◌, ◌%◌, ◌^◌, ◌<◌, ◌≤◌, ◌==◌, max, eqb, ◌||◌, Bool, false, List, [], ◌∷◌, ◌++◌, length, map, drop, slice_index_or, bit_or, inl, inr, refl, sym, ap, ◌∙◌, arith, eq-eqb}
 use Rattle.std.specs.Prelude.{cond, filter}
 use Rattle.std.specs.List.{range_with_len}
 use Rattle.std.specs.Int.{bit_at}
-use Rattle.std.proofs.lemmas.Bool.{ne_eqb, cases_eq, cases_lt}
+use Rattle.std.proofs.lemmas.Bool.{ne_eqb, cases_eq}
 use Rattle.net_core.specs.Graph.{AreInOrder}
 use Rattle.std.proofs.lemmas.Nat.{pow_below}
 use Rattle.std.proofs.lemmas.Nat.Bits.{bit_at_or, bit_at-lt, bit_at-zero, bit_at-pow_same, bit_at-pow_other}
 use Rattle.std.proofs.Math.Nat.{mod-eq_of_lt}
-use Rattle.std.proofs.lemmas.List.{append_assoc, get_or-map, length-map, map-id, length-append, get_or_append_left, get_or-append-add, get_or_default}
+use Rattle.std.proofs.lemmas.List.{append_assoc, get_or-map, length-map, map-id, get_or_default}
 use Rattle.std.proofs.lemmas.List.FromFn.{filter_of_map_range_with_len_more, map-range_with_len_more}
 use Rattle.std.proofs.Math.Seq.{drop-cons}
 use Rattle.circuits.specs.declared.netlist.Gate.{Gate}
 use Rattle.circuits.specs.declared.netlist.Lit.{Lit}
-use Rattle.circuits.specs.Literals.{EachAt, bit, signal_of}
+use Rattle.circuits.specs.Literals.{bit, signal_of}
 use Rattle.circuits.specs.Netlists.{Net}
 use Rattle.query_core.specs.Formulas.{reaching}
 use Rattle.word_sim.specs.Columns.{lane, word_bit}
@@ -59,11 +59,6 @@ one_bit first input v after within =
         let apart : input ≢ first + v = λ e. other (omega (arith, e)) in
         ap (λ m. eqb m 1) (bit_at-pow_other (input - first) v other) ∙ sym (ne_eqb input (first + v) apart)
 
-pub no_bit : (first input v : ℕ) → (input < first) ⊎ (first + 64 ≤ input) → v < 64 → word_bit v 0 ≡ (input == first + v)
-no_bit first input v outside below =
-    let apart : input ≢ first + v = λ e. elim outside [ inl h ↦ omega (arith, e, h) | inr h ↦ omega (arith, e, h, below) ] in
-    zero_bit v ∙ sym (ne_eqb input (first + v) apart)
-
 -- one input more
 pub inputs_more : (first v n : ℕ) (old words : List ℕ) (word : ℕ) → lane v words ≡ lane v old ++ map (λ k. k == first + v) (range_with_len 0 n) → word_bit v word ≡ (n == first + v) → lane v (words ++ word ∷ []) ≡ lane v old ++ map (λ k. k == first + v) (range_with_len 0 (n + 1))
 inputs_more first v n old words word so_far is =
@@ -101,18 +96,6 @@ block_is net first start inputs words list start_is inputs_are words_are list_is
       ∙ (ap (word_bit v) (get_or-map (λ (l : Lit). slice_index_or words (signal_of l) 0) net.outputs k none d below)
       ∙ (lane-bit v words (signal_of literal) ∙ ap (λ bs. bit bs (signal_of literal)) bits));
 }
-
--- one block more
-pub EachAt-push : {X : Type 0} (P : ℕ → X → Type 0) (xs : List X) (x : X) → EachAt P xs → P (length xs) x → EachAt P (xs ++ x ∷ [])
-EachAt-push {X} P xs x each last k d below =
-    by_place (cases_lt k (length xs))
-  where
-    by_place : (k < length xs) ⊎ (length xs ≤ k) → P k (slice_index_or (xs ++ x ∷ []) k d)
-    by_place (inl less) = subst (P k) (sym (get_or_append_left xs (x ∷ []) d k less)) (each k d less)
-    by_place (inr past) =
-        let n : k ≡ length xs + 0 = omega (arith, below, past, length-append xs (x ∷ [])) in
-        let m : length xs ≡ k = omega (arith, n) in
-        subst (P k) (sym (ap (λ j. slice_index_or (xs ++ x ∷ []) j d) n ∙ get_or-append-add xs (x ∷ []) 0 d)) (subst (λ j. P j x) m last)
 
 -- the inputs below one that are reached, and it
 pub reached_more : (net : Net) (output input : ℕ) (inputs more : List ℕ) (reached : Bool) → inputs ≡ filter (output_reaches net output) (range_with_len 0 input) → reached ≡ output_reaches net output input → more ≡ inputs ++ cond reached (input ∷ []) [] → more ≡ filter (output_reaches net output) (range_with_len 0 (input + 1))

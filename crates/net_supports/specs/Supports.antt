@@ -1,5 +1,5 @@
 -- Which inputs an output reaches through gates (structural support, as in textbooks of logic synthesis).
-use Rattle.std.specs.Prelude.{◌≡◌, ℕ, ◌+◌, ◌*◌, ◌<◌, ◌≤◌, ◌==◌, Bool, false, List, [], ◌∷◌, length, map, filter, slice_index_or}
+use Rattle.std.specs.Prelude.{◌≡◌, ℕ, ◌+◌, ◌*◌, ◌<◌, ◌≤◌, ◌==◌, Bool, false, List, ◌∷◌, length, map, filter, slice_index_or}
 use Rattle.std.specs.List.{range_with_len}
 use Rattle.circuits.specs.Literals.{EachAt, bit}
 use Rattle.circuits.specs.Netlists.{Net}

@@ -1,5 +1,6 @@
 -- Calls of an oracle, one after the other.
 use Rattle.std.proofs.Common.{◌≡◌, [], ◌++◌, Result, Ok, Err, refl, sym, ap, subst, ◌∙◌, inl, inr, append_assoc, append-nil, ℕ, ◌+◌}
+use Rattle.std.specs.Prelude.{IsErrAnd}
 use Rattle.cnf_core.specs.declared.stop.Stop.{Stop}
 use Rattle.cnf_core.specs.declared.stop.Stop.TheVariants.{Spent, Memory}
 use Rattle.query_core.specs.Ledgers.{Ledgered}
@@ -25,7 +26,7 @@ grows_then old mid new one other = record {
   answered = λ query is. other.answered query (one.answered query is);
 }
 
-keeps_same : (known : Known) (ledger : Ledgered) → Keeps known ledger ledger
+pub keeps_same : (known : Known) (ledger : Ledgered) → Keeps known ledger ledger
 keeps_same known ledger = record {
   budget = refl;
   charged = λ k there is. (there, there, refl);
@@ -79,56 +80,33 @@ served_then old mid new a b c one other = record {
   keeps = keeps_then old mid a b c one.grows one.keeps other.keeps;
 }
 
--- a call after others that were answered
-pub serves_after : {X : Type 0} (old mid new : Known) (a b c : Ledgered) (result : Result X Stop) → HasServed old mid a b → Serves mid new b c result → Serves old new a c result
-serves_after old mid new a b c (Ok x) one other =
-    let then = served_then old mid new a b c one (served_one mid new b c x other) in
-    record { grows = then.grows; suits = then.suits; keeps = then.keeps; stopped = tt }
-serves_after old mid new a b c (Err stop) one other = record {
-  grows = grows_then old mid new one.grows other.grows;
-  suits = tt;
-  keeps = tt;
-  stopped = stopped_then old mid a b c stop one.grows one.keeps other.stopped;
-}
-
--- one result
-err_same : {X : Type 0} (result : Result X Stop) (one other : Stop) → result ≡ Err one → result ≡ Err other → other ≡ one
-err_same result one other is same = cc
-
-never_both : {X : Type 0} (result : Result X Stop) (x : X) (stop : Stop) → result ≡ Ok x → result ≡ Err stop → ⊥
-never_both result x stop is same = cc
-
 -- what was answered so far ends well
 pub serves_ok : {X : Type 0} (old new : Known) (a b : Ledgered) (result : Result X Stop) (x : X) → result ≡ Ok x → HasServed old new a b → Serves old new a b result
 serves_ok old new a b (Ok y) x is served = record { grows = served.grows; suits = served.suits; keeps = served.keeps; stopped = tt }
-serves_ok old new a b (Err stop) x is served = absurd (never_both (Err stop) x stop is refl)
+serves_ok old new a b (Err stop) x is served = cc
 
 -- a call that ends the others without an answer, after some that were answered
-pub serves_err : {X Y : Type 0} (old mid new : Known) (a b c : Ledgered) (result : Result Y Stop) (stop : Stop) → result ≡ Err stop → HasServed old mid a b → Serves {X = X} mid new b c (Err stop) → Serves old new a c result
-serves_err old mid new a b c (Ok y) stop is served serves = absurd (never_both (Ok y) y stop refl is)
-serves_err old mid new a b c (Err other) stop is served serves =
-    let same : stop ≡ other = err_same (Err other) other stop refl is in
-    record {
-      grows = grows_then old mid new served.grows serves.grows;
-      suits = tt;
-      keeps = tt;
-      stopped = stopped_then old mid a b c other served.grows served.keeps (subst (IsStopped mid b c) same serves.stopped);
-    }
+pub serves_err : {X Y : Type 0} (old mid new : Known) (a b c : Ledgered) (result : Result Y Stop) (stop : Stop) → IsErrAnd result (λ e. e ≡ stop) → HasServed old mid a b → Serves {X = X} mid new b c (Err stop) → Serves old new a c result
+serves_err old mid new a b c (Ok y) stop is served serves = absurd is
+serves_err old mid new a b c (Err other) stop is served serves = record {
+  grows = grows_then old mid new served.grows serves.grows;
+  suits = tt;
+  keeps = tt;
+  stopped = stopped_then old mid a b c other served.grows served.keeps (subst (IsStopped mid b c) (sym is) serves.stopped);
+}
 
--- a call that is the last one
+-- a call that is the last one, after others that were answered
 pub serves_last : {X : Type 0} (old mid new : Known) (a b c : Ledgered) (result : Result X Stop) → HasServed old mid a b → Serves mid new b c result → Serves old new a c result
 serves_last old mid new a b c (Ok x) served serves =
     serves_ok old new a c (Ok x) x refl (served_then old mid new a b c served (served_one mid new b c x serves))
 serves_last old mid new a b c (Err stop) served serves = serves_err old mid new a b c (Err stop) stop refl served serves
 
 -- memory ran out after calls that were answered
-pub serves_memory : {Y : Type 0} (old new : Known) (a b : Ledgered) (result : Result Y Stop) → result ≡ Err Memory → HasServed old new a b → Serves old new a b result
-serves_memory old new a b (Ok y) is served = absurd (never_both (Ok y) y Memory refl is)
-serves_memory old new a b (Err other) is served =
-    let same : Memory ≡ other = err_same (Err other) other Memory refl is in
-    record {
-      grows = served.grows;
-      suits = tt;
-      keeps = tt;
-      stopped = subst (IsStopped old a b) same tt;
-    }
+pub serves_memory : {Y : Type 0} (old new : Known) (a b : Ledgered) (result : Result Y Stop) → IsErrAnd result (λ e. e ≡ Memory) → HasServed old new a b → Serves old new a b result
+serves_memory old new a b (Ok y) is served = absurd is
+serves_memory old new a b (Err other) is served = record {
+  grows = served.grows;
+  suits = tt;
+  keeps = tt;
+  stopped = subst (IsStopped old a b) (sym is) tt;
+}

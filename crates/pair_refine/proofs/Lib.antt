@@ -4,5 +4,6 @@ pub mod NothingLemmas
 pub mod RowsLemmas
 pub mod TrailLemmas
 pub mod SwapLemmas
+pub mod SwapIndexLemmas
 pub mod SettleLemmas
 pub mod StableLemmas

@@ -10,11 +10,11 @@ use Rattle.query_core.specs.Images.{image_of}
 use Rattle.account_core.specs.declared.step.Ban.{Ban}
 use Rattle.account_core.specs.declared.step.Step.TheVariants as step
 use Rattle.account_core.specs.declared.step.Tallied.{Tallied}
-use Rattle.account_core.specs.Given.{Decided, Given, fact_at, given_of}
+use Rattle.account_core.specs.Given.{Decided, fact_at, given_of}
 use Rattle.account_core.specs.Mismatches.{IsImage}
 use Rattle.account_core.specs.Ports.{AreOrdered, IsKnown}
-use Rattle.account_core.specs.Tallies.{IsTally}
 use Rattle.ban_book.specs.Vectors.{HasOneInput, HaveNoFacts, IsShownBy}
+use Rattle.ban_book.proofs.ShownLemmas.{tally_in}
 use Rattle.claim_rows.specs.Shown.{IsShownBan}
 use Rattle.claim_rows.proofs.AlikeLemmas.{IsCarried, carried_by, one_back}
 use Rattle.claim_rows.proofs.MismatchLemmas.{one_image, pair_of-one}
@@ -49,25 +49,6 @@ image_in few pairs claim image ordered is has_input has_output =
     let input = pair_of-one few is.input Input is.input.from ordered has_input is.input_kind refl in
     (ap (λ (c : Claim). c.side) is.claim_is, ap (image_of few) is.claim_is ∙ (one_image few is.input is.output is.output.from is.input.from is.value output input ∙ ap (λ (c : Claim). Some c) (sym is.image_is)))
 
-tally_in : (graphs : Graphs) (given : Given) (few pairs : List Pair) (kind : Tallied) (have lack : List ℕ) → (is : IsTally graphs given pairs kind have lack) → Contains few is.pair → IsTally graphs given few kind have lack
-tally_in graphs given few pairs kind have lack is there = record {
-  side = is.side;
-  pair = is.pair;
-  having = is.having;
-  lacking = is.lacking;
-  paired = there;
-  of_outputs = is.of_outputs;
-  fail = is.fail;
-  hold = is.hold;
-  have_shapes = is.have_shapes;
-  lack_shapes = is.lack_shapes;
-  having_ascends = is.having_ascends;
-  lacking_ascends = is.lacking_ascends;
-  some_have = is.some_have;
-  some_lack = is.some_lack;
-  too_many = is.too_many;
-}
-
 module _ (graphs : Graphs) (facts : List Decided) (pairs : List Pair) (are : AreCleared graphs facts pairs) where
   abbrev fact : ℕ → Decided
   fact k = fact_at (given_of facts []) k
@@ -94,7 +75,7 @@ module _ (graphs : Graphs) (facts : List Decided) (pairs : List Pair) (are : Are
   no_tally : (kind : Tallied) (have lack : List ℕ) → IsShownBy graphs facts pairs (step.Tally kind have lack) → ⊥
   no_tally kind have lack shown =
       let few = are.one shown.rule.pair shown.rule.paired shown.rule.of_outputs in
-      few.nothing.no_tally kind have lack (record { names = shown.names; rule = tally_in graphs (given_of facts []) few.pairs pairs kind have lack shown.rule few.has })
+      few.nothing.no_tally kind have lack (record { names = shown.names; rule = tally_in (given_of facts []) (given_of facts []) graphs pairs few.pairs kind have lack (λ k d below. refl) (λ k d below. refl) shown.rule few.has })
 
   nothing_of : HaveNoFacts graphs facts pairs
   nothing_of = record { no_mismatch = no_mismatch; no_tally = no_tally }

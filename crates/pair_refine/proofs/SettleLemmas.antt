@@ -1,16 +1,15 @@
 -- Pairs that are settled one after the other.
-use Rattle.std.proofs.Common.{◌≡◌, ◌≢◌, ◌⊎◌, ℕ, ◌+◌, ◌<◌, Bool, true, false, List, [], ◌∷◌, ◌++◌, map, AllPairs, get_or, Option, None, Some, Result, Ok, Err, refl, sym, ap, subst, ◌∙◌, inl, inr, arith}
-use Rattle.std.specs.Prelude.{Contains}
-use Rattle.std.proofs.lemmas.Bool.{cases_lt, cases_order}
+use Rattle.std.proofs.Common.{◌≡◌, ◌≢◌, ◌⊎◌, ℕ, ◌+◌, ◌<◌, Bool, true, false, List, [], ◌∷◌, ◌++◌, AllPairs, get_or, Option, None, Some, Result, Ok, Err, refl, sym, ap, subst, ◌∙◌, inl, inr, arith}
+use Rattle.std.specs.Prelude.{Contains, IsErr}
+use Rattle.std.proofs.lemmas.Bool.{cases_eq, cases_lt, false≢true}
 use Rattle.std.proofs.lemmas.List.Elements.{All-cons, All-contains, All-contains_itself, All-push, Contains-append_left, Contains-push}
 use Rattle.circuits.specs.declared.port.Pair.{Pair}
 use Rattle.circuits.specs.declared.port.PortKind.{PortKind}
 use Rattle.circuits.specs.declared.port.PortKind.TheVariants.{Input, Output}
 use Rattle.net_core.specs.Sides.{Graphs}
 use Rattle.account_core.specs.Covers.{IsImpossible}
-use Rattle.account_core.specs.Given.{Decided, decided_by}
+use Rattle.account_core.specs.Given.{Decided}
 use Rattle.account_core.specs.Ports.{Clash}
-use Rattle.account_core.specs.declared.fact.Fact.{Fact}
 use Rattle.account_core.specs.declared.step.Ban.{Ban}
 use Rattle.ban_book.specs.Covering.{IsWithin}
 use Rattle.ban_book.specs.Vectors.{HaveNoFacts}
@@ -25,10 +24,8 @@ use Rattle.port_covers.specs.Held.{AreApart}
 use Rattle.port_covers.proofs.ListLemmas.{among_more, cons_cases, contained_of_any}
 use Rattle.port_covers.proofs.OrderLemmas.{held_apart}
 use Rattle.pair_search.proofs.PortLemmas.{held_by}
-use Rattle.pair_refine.specs.declared.rows.Rows.{Rows}
 use Rattle.pair_refine.specs.Refining.{OnlyDeletes, Refines}
-use Rattle.pair_refine.specs.Rows.{AreInputsOf, ShowNothingAt}
-use Rattle.pair_refine.specs.Settling.{IsBetween, IsClear, IsSettled, MaySettle, Settled, Settles}
+use Rattle.pair_refine.specs.Settling.{IsBetween, IsClear, IsSettled, Settled, Settles}
 use Rattle.pair_refine.specs.Stable.{HaveNoBan, HaveNoSwapMismatch}
 use Rattle.pair_refine.proofs.SwapLemmas.{no_swap_beside}
 use Rattle.pair_refine.proofs.TrailLemmas.{refines_none, refines_then}
@@ -39,14 +36,6 @@ kind_or_not Input Input = inl refl
 kind_or_not Input Output = inr (λ e. cc)
 kind_or_not Output Input = inr (λ e. cc)
 kind_or_not Output Output = inl refl
-
-number_or_not : (a b : ℕ) → (a ≡ b) ⊎ (a ≢ b)
-number_or_not a b =
-    elim (cases_order a b) [
-      | inl same ↦ inl same
-      | inr (inl less) ↦ inr (λ e. absurd (omega (arith, less, e)))
-      | inr (inr more) ↦ inr (λ e. absurd (omega (arith, more, e)))
-    ]
 
 flip_or_not : (a b : Bool) → (a ≡ b) ⊎ (a ≢ b)
 flip_or_not true true = inl refl
@@ -59,10 +48,10 @@ pair_or_not one other =
     elim (kind_or_not one.kind other.kind) [
       | inr differ ↦ inr (λ e. differ (ap (λ (p : Pair). p.kind) e))
       | inl kind ↦
-          elim (number_or_not one.from other.from) [
+          elim (cases_eq one.from other.from) [
             | inr differ ↦ inr (λ e. differ (ap (λ (p : Pair). p.from) e))
             | inl from ↦
-                elim (number_or_not one.to other.to) [
+                elim (cases_eq one.to other.to) [
                   | inr differ ↦ inr (λ e. differ (ap (λ (p : Pair). p.to) e))
                   | inl to ↦
                       elim (flip_or_not one.flip other.flip) [
@@ -80,18 +69,6 @@ deleted_later before after pair deletes gone =
 
 clear_later : (graphs : Graphs) (facts : List Decided) (bans : List Ban) (before after : Domained) (pair : Pair) → OnlyDeletes before after → IsClear graphs facts bans (held_in before.entries) pair → IsClear graphs facts bans (held_in after.entries) pair
 clear_later graphs facts bans before after pair deletes clear = subst (λ l. IsClear graphs facts bans l pair) (sym deletes.held) clear
-
--- more may be settled after pairs were
-pub may_later : (graphs : Graphs) (facts : List Fact) (rows : Rows) (inputs : List Pair) (bans more : List Ban) (before after : Domained) → MaySettle graphs facts rows inputs bans before → Refines graphs (map decided_by facts) bans more before after → HaveNoBan more (held_in after.entries) → MaySettle graphs facts rows inputs more after
-may_later graphs facts rows inputs bans more before after may refines no_ban = record {
-  lawful = may.lawful;
-  rows_are = may.rows_are;
-  inputs_are = subst (λ l. AreInputsOf l inputs) (sym refines.deletes.held) may.inputs_are;
-  no_facts = subst (ShowNothingAt graphs (map decided_by facts) inputs) (sym refines.deletes.held) may.no_facts;
-  no_swap = subst (HaveNoSwapMismatch graphs (map decided_by facts)) (sym refines.deletes.held) may.no_swap;
-  no_ban = no_ban;
-  trail = refines.trail may.trail;
-}
 
 -- a ban that isn't within pairs isn't within them and one of them
 pub no_ban_beside : (bans : List Ban) (held : List Pair) (pair : Pair) → Contains held pair → HaveNoBan bans held → HaveNoBan bans (pair ∷ held)
@@ -145,9 +122,9 @@ module _ {E : Type 0} (graphs : Graphs) (facts : List Decided) (bans mid more : 
   settles_last (Ok (Some dead)) step cases = record { refines = refines_then graphs facts bans mid more one two three way.refines step.refines; settled = tt; dead = step.dead }
   settles_last (Err e) step cases = record { refines = refines_then graphs facts bans mid more one two three way.refines step.refines; settled = tt; dead = tt }
 
-  pub settles_err : (result : Result (Option ℕ) E) (e : E) → result ≡ Err e → Refines graphs facts mid more two three → Settles graphs facts bans more one three all result
-  settles_err (Ok x) e is refines = cc
-  settles_err (Err stop) e is refines = record { refines = refines_then graphs facts bans mid more one two three way.refines refines; settled = tt; dead = tt }
+  pub settles_err : (result : Result (Option ℕ) E) → IsErr result → Refines graphs facts mid more two three → Settles graphs facts bans more one three all result
+  settles_err (Ok x) is refines = absurd (false≢true is)
+  settles_err (Err stop) is refines = record { refines = refines_then graphs facts bans mid more one two three way.refines refines; settled = tt; dead = tt }
 
 -- all pairs were settled that were to be
 pub settles_ok : {E : Type 0} (graphs : Graphs) (facts : List Decided) (bans more : List Ban) (before after : Domained) (these all : Pair → Type 0) → IsUnderWay graphs facts bans more before after these → ((pair : Pair) → all pair → these pair) → Settles {E = E} graphs facts bans more before after all (Ok None)
@@ -158,9 +135,9 @@ settles_ok graphs facts bans more before after these all way cases = record {
 }
 
 -- no answer, whatever was deleted and held
-pub stops : {E : Type 0} (graphs : Graphs) (facts : List Decided) (bans more : List Ban) (before after : Domained) (these : Pair → Type 0) (result : Result (Option ℕ) E) (e : E) → result ≡ Err e → Refines graphs facts bans more before after → Settles graphs facts bans more before after these result
-stops graphs facts bans more before after these (Ok x) e is refines = cc
-stops graphs facts bans more before after these (Err stop) e is refines = record { refines = refines; settled = tt; dead = tt }
+pub stops : {E : Type 0} (graphs : Graphs) (facts : List Decided) (bans more : List Ban) (before after : Domained) (these : Pair → Type 0) (result : Result (Option ℕ) E) → IsErr result → Refines graphs facts bans more before after → Settles graphs facts bans more before after these result
+stops graphs facts bans more before after these (Ok x) is refines = absurd (false≢true is)
+stops graphs facts bans more before after these (Err stop) is refines = record { refines = refines; settled = tt; dead = tt }
 
 -- a pair that is settled as it is
 pub settles_now : {E : Type 0} (graphs : Graphs) (facts : List Decided) (bans : List Ban) (d : Domained) (way : Pair) → HaveNoBan bans (held_in d.entries) → IsSettled graphs facts bans d way → Settles {E = E} graphs facts bans bans d d (λ pair. pair ≡ way) (Ok None)

@@ -1,7 +1,7 @@
 -- Bans by claims of two inputs.
-use Rattle.std.proofs.Common.{◌≡◌, ◌≢◌, ◌⊎◌, ℕ, zero, suc, ◌+◌, ◌<◌, Bool, true, false, cond, List, [], ◌∷◌, length, All, AllPairs, Option, None, Some, nat_lt, refl, sym, ap, subst, ◌∙◌, inl, inr, arith}
+use Rattle.std.proofs.Common.{◌≡◌, ◌≢◌, ◌⊎◌, ℕ, ◌<◌, Bool, true, false, cond, List, [], ◌∷◌, All, AllPairs, Option, None, Some, nat_lt, refl, sym, ap, subst, ◌∙◌, inl, inr, arith}
 use Rattle.std.specs.Prelude.{Contains, option_and_then, option_map}
-use Rattle.std.proofs.lemmas.Bool.{cases_Bool, cases_lt, cond-false, cond-true, false≢true}
+use Rattle.std.proofs.lemmas.Bool.{cases_Bool, cond-false, cond-true}
 use Rattle.std.proofs.lemmas.List.Elements.{All-cons, All-contains, All-nil}
 use Rattle.circuits.specs.declared.port.Pair.{Pair}
 use Rattle.circuits.specs.declared.port.PortKind.{PortKind}
@@ -12,76 +12,22 @@ use Rattle.query_core.specs.declared.claims.Claim.{Claim}
 use Rattle.query_core.specs.declared.claims.Shape.{Shape}
 use Rattle.query_core.specs.declared.claims.Shape.TheVariants.{Up, Down, Swap}
 use Rattle.query_core.specs.Claims.{IsClaim, IsPlaced}
-use Rattle.query_core.specs.Images.{claim_of_second, image_of, is_of, moved_one, moved_shape, moved_two, moved_value, one_input, pair_of, two_inputs}
+use Rattle.query_core.specs.Images.{claim_of_second, image_of, is_of, moved_one, moved_shape, moved_two, moved_value, pair_of, two_inputs}
 use Rattle.account_core.specs.Given.{Decided, fact_at, given_of}
 use Rattle.account_core.specs.Mismatches.{IsImage}
 use Rattle.account_core.specs.Ports.{IsKnown}
 use Rattle.account_core.proofs.Matched.{pair_of-held}
-use Rattle.ban_book.specs.Vectors.{AreDecided, HasOneInput}
+use Rattle.ban_book.specs.Vectors.{AreDecided}
 use Rattle.claim_rows.specs.Mismatched.{mismatch_of, unlike_of}
 use Rattle.claim_rows.specs.Shown.{IsShownBan}
 use Rattle.claim_rows.specs.Told.{IsToldAs}
-use Rattle.claim_rows.proofs.AlikeLemmas.{carried_by}
-use Rattle.claim_rows.proofs.MismatchLemmas.{inputs_image, three_known, three_ordered}
+use Rattle.claim_rows.proofs.MismatchLemmas.{inputs_image, some_pair, three_known, three_ordered}
 use Rattle.claim_rows.proofs.MismatchedLemmas.{mismatch_valid}
 use Rattle.port_covers.specs.Held.{AreApart}
 use Rattle.port_covers.proofs.OrderLemmas.{held_apart}
 use Rattle.pair_refine.specs.declared.swaps.Exchange.{Exchange}
-use Rattle.pair_refine.specs.Stable.{HasTwoInputs, HaveNoSwapMismatch}
-use Rattle.pair_refine.specs.Swaps.{AgreesAt, IsExchange, SaysOf, carried_to}
-
--- the claim of an image of two inputs is of two inputs
-one_not_two : (i : ℕ) (a : Bool) → HasTwoInputs (one_input i a) → ⊥
-one_not_two i true is = is
-one_not_two i false is = is
-
-one_or_two : (shape : Shape) → HasOneInput shape ⊎ HasTwoInputs shape
-one_or_two (Up i) = inl tt
-one_or_two (Down i) = inl tt
-one_or_two (Swap i j a b) = inr tt
-
-pub two_back : (pairs : List Pair) (claim image : Claim) → IsImage pairs claim image → HasTwoInputs image.shape → HasTwoInputs claim.shape
-two_back pairs claim image is two =
-    elim (one_or_two claim.shape) [
-      | inl one ↦
-          let carried = carried_by pairs claim image is one in
-          absurd (one_not_two carried.input.to (moved_value carried.output.flip carried.input carried.value) (subst (λ (c : Claim). HasTwoInputs c.shape) carried.image_is two))
-      | inr both ↦ both
-    ]
-
--- where each fact says what its image does, no mismatch of claims of two inputs is valid
-pub no_swap_of : (graphs : Graphs) (facts : List Decided) (pairs : List Pair) → ((k : ℕ) → k < length facts → AgreesAt facts pairs k) → HaveNoSwapMismatch graphs facts pairs
-no_swap_of graphs facts pairs agree fails holds two shown =
-    elim shown.rule.image [
-      | inl image ↦ false≢true (sym shown.rule.one_fails ∙ (agree fails shown.names.0 holds shown.names.1 two image ∙ shown.rule.other_holds))
-      | inr image ↦ false≢true (sym shown.rule.one_fails ∙ (sym (agree holds shown.names.1 fails shown.names.0 (two_back pairs _ _ image two) image) ∙ shown.rule.other_holds))
-    ]
-
--- numbers so far, and one more
-pub below_more : (P : ℕ → Type 0) (n : ℕ) → ((k : ℕ) → k < n → P k) → P n → (k : ℕ) → k < n + 1 → P k
-below_more P n before here k below =
-    elim (cases_lt k n) [
-      | inl less ↦ before k less
-      | inr past ↦ let e : n ≡ k = omega (arith, past, below) in subst P e here
-    ]
-
--- what a claim of two inputs is carried to
-two_image : (pairs : List Pair) (one other output : Pair) (k i j : ℕ) (a b : Bool) → pair_of pairs Output k ≡ Some output → pair_of pairs Input i ≡ Some one → pair_of pairs Input j ≡ Some other → image_of pairs (record { side = First; output = k; shape = Swap i j a b }) ≡ Some (claim_of_second output.to (two_inputs one.to (moved_value output.flip one a) other.to (moved_value output.flip other b)))
-two_image pairs one other output k i j a b of_output of_one of_other =
-    ap (λ found. option_and_then (λ (o : Pair). option_map (claim_of_second o.to) (moved_shape pairs o.flip (Swap i j a b))) found) of_output
-    ∙ (ap (λ found. option_map (claim_of_second output.to) (option_and_then (λ (first : Pair). option_map (moved_two output.flip a b first) (pair_of pairs Input j)) found)) of_one
-    ∙ ap (λ found. option_map (claim_of_second output.to) (option_map (moved_two output.flip a b one) found)) of_other)
-
-exchange_image : (pairs : List Pair) (claim : Claim) (e : Exchange) → IsExchange pairs claim e → image_of pairs claim ≡ Some (carried_to e)
-exchange_image pairs claim e is = ap (image_of pairs) is.claim_is ∙ two_image pairs e.one e.other e.output claim.output is.i is.j e.a e.b is.of_output is.of_one is.of_other
-
-same_some : (one other : Claim) → Some one ≡ Some other → one ≡ other
-same_some one other is = cc
-
--- a fact that says what each fact of its image says
-pub agrees_by : (facts : List Decided) (pairs : List Pair) (k : ℕ) (claim : Claim) (holds : Bool) (e : Exchange) → claim ≡ (fact_at (given_of facts []) k).claim → (fact_at (given_of facts []) k).holds ≡ holds → IsExchange pairs claim e → ((l : ℕ) → l < length facts → SaysOf facts (carried_to e) holds l) → AgreesAt facts pairs k
-agrees_by facts pairs k claim holds e claim_is says is none other below two image =
-    says ∙ sym (none other below (same_some _ _ (sym image.1 ∙ (ap (image_of pairs) (sym claim_is) ∙ exchange_image pairs claim e is))))
+use Rattle.pair_refine.specs.Stable.{HaveNoSwapMismatch}
+use Rattle.pair_refine.specs.Swaps.{IsExchange, carried_to}
 
 -- two inputs of a shape that is placed differ
 two_apart : (n i j : ℕ) (a b : Bool) → IsPlaced n (two_inputs i a j b) → i ≢ j
@@ -136,20 +82,6 @@ image_same few more same claim =
     by_output (Some o) = ap (option_map (claim_of_second o.to)) (shape_same few more same o.flip claim.shape)
 
 -- the pair of a port stays where a pair comes once more
-some_pair : (pairs : List Pair) (kind : PortKind) (port : ℕ) (pair : Pair) → Contains pairs pair → is_of kind port pair ≡ true → (other : Pair) × (pair_of pairs kind port ≡ Some other)
-some_pair [] kind port pair held is = absurd (omega (arith, held.1))
-some_pair (one ∷ pairs) kind port pair held is =
-    elim (cases_Bool (is_of kind port one)) [
-      | inl yes' ↦ (one, cond-true (is_of kind port one) (Some one) (pair_of pairs kind port) yes')
-      | inr no' ↦
-          let found = by_place held no' (λ later. some_pair pairs kind port pair later is) in
-          (found.0, cond-false (is_of kind port one) (Some one) (pair_of pairs kind port) no' ∙ found.1)
-    ]
-  where
-    by_place : Contains (one ∷ pairs) pair → is_of kind port one ≡ false → (Contains pairs pair → (other : Pair) × (pair_of pairs kind port ≡ Some other)) → (other : Pair) × (pair_of pairs kind port ≡ Some other)
-    by_place (zero, below, same) no' of_later = absurd (false≢true (sym no' ∙ (ap (is_of kind port) same ∙ is)))
-    by_place (suc k, below, same) no' of_later = of_later (k, omega (arith, below), same)
-
 pair_same : (held : List Pair) (pair : Pair) → AllPairs AreApart held → Contains held pair → (kind : PortKind) (port : ℕ) → pair_of (pair ∷ held) kind port ≡ pair_of held kind port
 pair_same held pair apart there kind port =
     elim (cases_Bool (is_of kind port pair)) [

@@ -1,15 +1,13 @@
 -- Trails and bans while pairs are deleted and bans are held.
-use Rattle.std.proofs.Common.{◌≡◌, ℕ, ◌<◌, Bool, List, [], ◌∷◌, ◌++◌, map, refl, sym, ap, subst, ◌∙◌, arith}
+use Rattle.std.proofs.Common.{◌≡◌, ℕ, ◌<◌, List, [], ◌∷◌, ◌++◌, map, refl, sym, ap, subst, ◌∙◌, arith}
 use Rattle.std.proofs.lemmas.List.{append-nil, append_assoc, map-append}
 use Rattle.std.proofs.lemmas.List.Elements.{All-append, All-nil, All-cons}
 use Rattle.circuits.specs.declared.port.Pair.{Pair}
 use Rattle.circuits.specs.declared.port.PortKind.{PortKind}
-use Rattle.circuits.specs.declared.port.PortKind.TheVariants.{Input, Output}
 use Rattle.net_core.specs.Sides.{Graphs}
 use Rattle.query_core.specs.Ledgers.{Ledgered}
 use Rattle.account_core.specs.declared.step.Ban.{Ban}
 use Rattle.account_core.specs.Given.{Decided, decided_by, given_of}
-use Rattle.account_core.specs.Ports.{IsKnown}
 use Rattle.account_core.specs.Steps.{AreValidBans, IsValidBan}
 use Rattle.ban_book.specs.Vectors.{AreLastResorts, IsVector}
 use Rattle.ban_book.proofs.BookLemmas.{valid_push}
@@ -21,7 +19,6 @@ use Rattle.class_refine.specs.declared.entry.Entry.{Entry}
 use Rattle.class_refine.specs.declared.entry.Fate.TheVariants.{Deleted}
 use Rattle.class_refine.specs.declared.entry.Reason.{Reason}
 use Rattle.class_refine.specs.Trails.{AreDomains, Domained, IsOpen, IsPairOf, held_in, ports_of}
-use Rattle.conflict_core.specs.Conflicts.{FitPorts}
 use Rattle.conflict_core.specs.Grounded.{AreGrounded, IsGrounded, LearnsMore}
 use Rattle.conflict_core.specs.Justified.{IsTrail}
 use Rattle.conflict_core.specs.Named.{AreNamed, deleted}
@@ -29,6 +26,7 @@ use Rattle.conflict_core.proofs.GroundedLemmas.{grounded_later, grounded_push}
 use Rattle.conflict_core.proofs.JustifiedLemmas.{held_append, justified_later}
 use Rattle.pair_search.proofs.StepLemmas.{HasOneMore, justified_one, less_one, one_more_of, trail_on}
 use Rattle.pair_refine.specs.Refining.{AddsShown, IsShownTrail, OnlyDeletes, Refines}
+pub use Rattle.conflict_core.proofs.ConflictLemmas.{known_of}
 
 -- bans that come change nothing of what follows
 trail_after : (graphs : Graphs) (before added after : List Ban) (d : Domained) → after ≡ before ++ added → IsTrail graphs before d → IsTrail graphs after d
@@ -51,14 +49,6 @@ shown_adds graphs old new before after d grows adds is = record {
   trail = trail_adds graphs before after d adds is.trail;
   shown = shown_grows graphs old new d.entries grows is.shown;
 }
-
-known_at : (graphs : Graphs) (n m : ℕ) (kind : PortKind) (from to : ℕ) (flip : Bool) → FitPorts graphs n m → from < ports_of n m kind → to < ports_of n m kind → IsKnown graphs (record { kind = kind; from = from; to = to; flip = flip })
-known_at graphs n m Input from to flip fit first second = record { from = omega (arith, first, fit.inputs_are); to = omega (arith, second, fit.inputs_are, fit.many.inputs) }
-known_at graphs n m Output from to flip fit first second = record { from = omega (arith, first, fit.outputs_are); to = omega (arith, second, fit.outputs_are, fit.many.outputs) }
-
--- ports that the domains have are ports of the circuits
-pub known_of : (graphs : Graphs) (n m : ℕ) (pair : Pair) → FitPorts graphs n m → IsPairOf n m pair → IsKnown graphs pair
-known_of graphs n m pair fit is = known_at graphs n m pair.kind pair.from pair.to pair.flip fit is.from is.to
 
 pub shown_none : (graphs : Graphs) (facts : List Decided) (bans : List Ban) → AddsShown graphs facts bans bans
 shown_none graphs facts bans = record {
@@ -159,10 +149,6 @@ held_refined graphs old new a b bans more before after valid served refines = re
   adds = record { added = refines.adds.added; more = refines.adds.more };
 }
 
-pub ports_same : (before after : Domained) (kind : PortKind) → OnlyDeletes before after → ports_of after.inputs after.outputs kind ≡ ports_of before.inputs before.outputs kind
-ports_same before after Input deletes = deletes.inputs
-ports_same before after Output deletes = deletes.outputs
-
 pub pair_of_same : (before after : Domained) (pair : Pair) → OnlyDeletes before after → IsPairOf after.inputs after.outputs pair → IsPairOf before.inputs before.outputs pair
 pair_of_same before after pair deletes known =
     subst (λ n. IsPairOf n before.outputs pair) deletes.inputs (subst (λ m. IsPairOf after.inputs m pair) deletes.outputs known)
@@ -173,9 +159,6 @@ pair_of_later before after pair deletes known =
 
 pub to_below : (n m : ℕ) (kind : PortKind) (pair : Pair) → pair.kind ≡ kind → IsPairOf n m pair → pair.to < ports_of n m kind
 to_below n m kind pair is known = subst (λ k. pair.to < ports_of n m k) is known.to
-
-pub from_below : (n m : ℕ) (kind : PortKind) (pair : Pair) → pair.kind ≡ kind → IsPairOf n m pair → pair.from < ports_of n m kind
-from_below n m kind pair is known = subst (λ k. pair.from < ports_of n m k) is known.from
 
 -- a trail that facts show stays one as pairs are refined in view of more facts
 pub shown_refined : (graphs : Graphs) (old new : Known) (bans more : List Ban) (before after : Domained) → Grows old new → IsShownTrail graphs old bans before → Refines graphs (map decided_by new.facts) bans more before after → IsShownTrail graphs new more after

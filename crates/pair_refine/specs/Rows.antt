@@ -13,6 +13,7 @@ use Rattle.claim_rows.specs.declared.told.InputTold.{InputTold}
 use Rattle.claim_rows.specs.Rows.{IsRow}
 use Rattle.port_covers.specs.Held.{IsPart}
 use Rattle.pair_refine.specs.declared.rows.Rows.{Rows}
+use Rattle.pair_refine.specs.Swaps.{IsSwapIndex}
 
 -- The row of an output, with an entry for each input.
 pub record IsWholeRow (graphs : Graphs) (facts : List Decided) (side : Side) (output : ℕ) (row : List InputTold) : Type 0 where
@@ -24,10 +25,11 @@ pub record AreRowsOf (graphs : Graphs) (facts : List Decided) (side : Side) (cou
   pub many : length rows ≡ count
   pub each : EachAt (IsWholeRow graphs facts side) rows
 
--- The rows of all outputs of both circuits.
+-- The rows of all outputs of both circuits, and an index of the facts of two inputs.
 pub record AreAllRows (graphs : Graphs) (facts : List Decided) (rows : Rows) : Type 0 where
   pub first : AreRowsOf graphs facts First (length graphs.first.outputs) rows.first
   pub second : AreRowsOf graphs facts Second (length graphs.second.outputs) rows.second
+  pub swaps : IsSwapIndex facts rows.swaps.entries
 
 -- Pairs of inputs, in order.
 pub record AreInputs (graphs : Graphs) (pairs : List Pair) : Type 0 where

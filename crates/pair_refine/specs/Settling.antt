@@ -10,10 +10,16 @@ use Rattle.account_core.specs.Given.{Decided, decided_by}
 use Rattle.account_core.specs.declared.fact.Fact.{Fact}
 use Rattle.account_core.specs.declared.step.Ban.{Ban}
 use Rattle.ban_book.specs.Covering.{Covers}
+use Rattle.claim_rows.specs.Shown.{IsShownBan}
 use Rattle.port_covers.specs.Held.{IsOf}
+use Rattle.class_refine.specs.declared.entry.Fate.TheVariants.{Deleted}
 use Rattle.class_refine.specs.Trails.{Domained, IsDeleted, IsPairOf, held_in}
+use Rattle.conflict_core.specs.Grounded.{IsGrounded}
 use Rattle.conflict_core.specs.Justified.{IsTrail}
+use Rattle.conflict_core.specs.Named.{AreNamed}
 use Rattle.pair_refine.specs.declared.rows.Rows.{Rows}
+use Rattle.pair_refine.specs.declared.settling.Exclusion.{Exclusion}
+use Rattle.pair_refine.specs.declared.settling.Exclusion.TheVariants as exclusion
 use Rattle.pair_refine.specs.Rows.{AreAllRows, AreInputsOf, ShowNothingAt}
 use Rattle.pair_refine.specs.Stable.{AreClean, HaveNoBan, HaveNoSwapMismatch}
 use Rattle.pair_refine.specs.Refining.{Refines}
@@ -33,6 +39,11 @@ pub record MaySettle (graphs : Graphs) (facts : List Fact) (rows : Rows) (inputs
 pub record IsClear (graphs : Graphs) (facts : List Decided) (bans : List Ban) (held : List Pair) (pair : Pair) : Type 0 where
   pub possible : IsImpossible held pair → ⊥
   pub clean : AreClean graphs facts bans (pair ∷ held)
+
+-- a reason that stands excludes a pair beside the held ones, or a ban that facts show
+abbrev pub Excludes : Graphs → List Decided → List Ban → List Pair → Pair → Exclusion → Type 0
+Excludes graphs facts bans held pair (exclusion.Known why) = AreNamed bans held pair why × IsGrounded graphs facts pair (Deleted why)
+Excludes graphs facts bans held pair (exclusion.Shown ban) = IsShownBan graphs facts (pair ∷ held) ban
 
 -- a pair is deleted, or clear
 abbrev pub IsSettled : Graphs → List Decided → List Ban → Domained → Pair → Type 0

@@ -1,10 +1,12 @@
 -- Claims of two inputs that pairs carry to the second circuit.
-use Rattle.std.specs.Prelude.{◌≡◌, ℕ, ◌<◌, Bool, List, [], length, Some}
+use Rattle.std.specs.Prelude.{◌≡◌, ℕ, ◌<◌, Bool, List, [], Option, Some, IfSome, IsSome, length}
+use Rattle.std.specs.Map.{lookup}
 use Rattle.circuits.specs.declared.port.Pair.{Pair}
 use Rattle.circuits.specs.declared.port.PortKind.TheVariants.{Input, Output}
 use Rattle.net_core.specs.declared.graphs.Side.TheVariants.{First}
 use Rattle.query_core.specs.declared.claims.Claim.{Claim}
 use Rattle.query_core.specs.declared.claims.Shape.TheVariants.{Swap}
+use Rattle.query_core.specs.contracts.claims.ClaimPartialEq.TheImpl.{eq-value as claim_eq}
 use Rattle.query_core.specs.Images.{claim_of_second, moved_value, pair_of, two_inputs}
 use Rattle.account_core.specs.Given.{Decided, fact_at, given_of}
 use Rattle.account_core.specs.Mismatches.{IsImage}
@@ -39,3 +41,19 @@ AgreesAt facts pairs k =
 abbrev pub SaysOf : List Decided → Claim → Bool → ℕ → Type 0
 SaysOf facts claim holds k =
     (fact_at (given_of facts []) k).claim ≡ claim → (fact_at (given_of facts []) k).holds ≡ holds
+
+-- the number that an index has for a claim
+abbrev pub number_in : List (Claim × ℕ) → Claim → Option ℕ
+number_in entries claim = lookup (claim_eq.it claim) entries
+
+-- What an index has for a claim is the number of a fact of it, and it has one for each of the first facts that is of two inputs.
+pub record IsIndexOfFirst (facts : List Decided) (count : ℕ) (entries : List (Claim × ℕ)) : Type 0 where
+  pub each : (claim : Claim) → IfSome (number_in entries claim) (λ number.
+      (number < length facts) × ((fact_at (given_of facts []) number).claim ≡ claim))
+  pub all : (k : ℕ)
+      → k < count
+      → HasTwoInputs (fact_at (given_of facts []) k).claim.shape
+      → IsSome (number_in entries (fact_at (given_of facts []) k).claim)
+
+abbrev pub IsSwapIndex : List Decided → List (Claim × ℕ) → Type 0
+IsSwapIndex facts entries = IsIndexOfFirst facts (length facts) entries

@@ -8,6 +8,7 @@ ghost use Rattle.port_covers.specs.Held.{AreHeld};
 ghost use Rattle.pair_refine.specs.Rows.{AreAllRows, AreInputsOf, ShowNothingAt};
 ghost use Rattle.pair_refine.specs.Refining.{AddsShown};
 ghost use Rattle.pair_refine.specs.Stable.{HaveNoBan, HaveNoSwapMismatch};
+ghost use Rattle.pair_refine.specs.Swaps.{IsSwapIndex};
 
 use crate::rows::Rows;
 use crate::shown::held_ban;
@@ -15,7 +16,9 @@ use crate::swaps::swap_ban;
 use account_core::Fact;
 use ban_book::BanBook;
 use circuits::Pair;
+use indexmap::IndexMap;
 use port_sides::PairableGraphs;
+use query_core::Claim;
 use std::alloc::{AllocError, Global};
 
 /// The number of a ban within the held pairs: one that was held, or that decided claims show of them, which is held now.
@@ -44,7 +47,7 @@ pub(crate) fn exclude_held(
     }
     match held_ban(alloc, graphs, facts, rows, held, inputs)? {
         Some(ban) => Ok(Some(book.hold(ban)?)),
-        None => exclude_by_swaps(alloc, graphs, facts, held, book),
+        None => exclude_by_swaps(alloc, graphs, facts, &rows.swaps, held, book),
     }
 }
 
@@ -53,17 +56,19 @@ fn exclude_by_swaps(
     alloc: Global,
     graphs: &PairableGraphs<'_>,
     facts: &[Fact],
+    swaps: &IndexMap<Claim, u64>,
     held: &[Pair],
     book: &mut BanBook,
 ) -> Result<Option<u64>, AllocError>
     requires lawful { AreFacts graphs.now facts.now }
+    requires index { IsSwapIndex (map decided_by facts.now) swaps.now.entries }
     requires held { AreHeld graphs.now held.now }
     ensures adds { AddsShown graphs.now (map decided_by facts.now) book.old book.new }
     ensures found { IfOk result (λ dead. IfSome dead (Covers book.new held.now)) }
     ensures same { IfOk result (λ dead. IfNone dead (book.new ≡ book.old)) }
     ensures no_swap { IfOk result (λ dead. IfNone dead (HaveNoSwapMismatch graphs.now (map decided_by facts.now) held.now)) }
 {
-    let Some(ban) = swap_ban(alloc, graphs, facts, held)? else {
+    let Some(ban) = swap_ban(alloc, graphs, facts, swaps, held)? else {
         return Ok(None);
     };
     Ok(Some(book.hold(ban)?))

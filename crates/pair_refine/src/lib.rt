@@ -9,6 +9,7 @@ mod refining;
 mod rows;
 mod settling;
 mod shown;
+mod swap_index;
 mod swaps;
 
 pub use refined::Refined;

@@ -6,14 +6,16 @@ ghost use Rattle.account_core.specs.Given.{decided_by};
 ghost use Rattle.oracle_core.specs.Oracles.{Serves, Suits};
 ghost use Rattle.pair_refine.specs.Rows.{AreAllRows, AreRowsOf};
 
+use crate::swap_index::swaps_of;
 use claim_rows::InputTold;
 use cnf_core::Stop;
 use fact_bans::{Seen, claims_of};
+use indexmap::IndexMap;
 use items::Items;
 use net_core::Side;
 use oracle_core::Oracle;
 use port_sides::PairableGraphs;
-use query_core::Ledger;
+use query_core::{Claim, Ledger};
 use std::alloc::Global;
 
 /// What is told of each output of both circuits: a row with its claims of one input, in the order of the outputs.
@@ -21,6 +23,8 @@ use std::alloc::Global;
 pub(crate) struct Rows {
     pub(crate) first: Items<Items<InputTold>>,
     pub(crate) second: Items<Items<InputTold>>,
+    /// The numbers of the facts of claims of two inputs, by claim.
+    pub(crate) swaps: IndexMap<Claim, u64>,
 }
 
 /// Has the claims of one input of all outputs decided. Each output has to go to one of the other circuit, so that none of them is
@@ -40,7 +44,12 @@ pub(crate) fn rows_of<O: Oracle>(
     let _facts = oracle.facts();
     let first = side_rows(alloc, graphs, oracle, Side::First, seen, ledger)?;
     let second = side_rows(alloc, graphs, oracle, Side::Second, seen, ledger)?;
-    Ok(Rows { first, second })
+    let swaps = swaps_of(alloc, oracle.facts())?;
+    Ok(Rows {
+        first,
+        second,
+        swaps,
+    })
 }
 
 // Has those of one circuit decided.

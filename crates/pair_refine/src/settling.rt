@@ -1,18 +1,15 @@
 //! Settling pairs: each is deleted, or nothing excludes it beside the held ones.
 
 ghost use Rattle.std.specs.Prelude.{◌≡◌, ◌<◌, ◌∷◌, IfNone, IfOk, IfSome, map};
-ghost use Rattle.account_core.specs.Covers.{IsImpossible};
 ghost use Rattle.account_core.specs.Given.{decided_by};
-ghost use Rattle.account_core.specs.Ports.{IsKnown};
 ghost use Rattle.ban_book.specs.Covering.{Covers};
 ghost use Rattle.claim_rows.specs.Shown.{IsShownBan};
 ghost use Rattle.class_refine.specs.declared.entry.Fate.TheVariants.{Deleted};
 ghost use Rattle.class_refine.specs.Trails.{IsOpen, IsPairOf, held_in, ports_of};
 ghost use Rattle.conflict_core.specs.Grounded.{IsGrounded};
 ghost use Rattle.conflict_core.specs.Named.{AreNamed};
-ghost use Rattle.pair_refine.specs.Settling.{IsBetween, MaySettle, Settles};
+ghost use Rattle.pair_refine.specs.Settling.{Excludes, IsBetween, IsClear, MaySettle, Settles};
 ghost use Rattle.pair_refine.specs.Stable.{HaveNoBan};
-ghost use Rattle.ban_book.specs.Vectors.{HaveNoFacts};
 
 use crate::rows::Rows;
 use crate::shown::way_ban;
@@ -24,6 +21,15 @@ use class_refine::{Domains, Reason};
 use port_covers::clash::clashing;
 use port_sides::PairableGraphs;
 use std::alloc::{AllocError, Global};
+
+/// What excludes a pair beside the held ones.
+#[derive(Debug, Drop)]
+pub(crate) enum Exclusion {
+    /// A held pair that it clashes with, or a ban that is held.
+    Known(Reason),
+    /// A ban that decided claims show, which isn't held yet.
+    Shown(Ban),
+}
 
 /// Settles all pairs, unless a ban within the held ones is found. It answers that one's number.
 pub(crate) fn settle_all(
@@ -167,7 +173,7 @@ fn settle(
     }
 }
 
-// Settles an open pair: deletes it where it clashes with a held one.
+// Settles an open pair: deletes it where something excludes it.
 fn settle_open(
     alloc: Global,
     graphs: &PairableGraphs<'_>,
@@ -184,91 +190,49 @@ fn settle_open(
     ensures { Settles graphs.now (map decided_by facts.now) book.old book.new domains.old domains.new
         (λ pair. pair ≡ way) result }
 {
-    match clashing(domains.pairs(), way) {
-        Some(with) => delete(graphs, facts, domains, way, Reason::Clash(with), book),
-        None => settle_possible(alloc, graphs, facts, rows, inputs, domains, way, book),
+    let Some(exclusion) = exclusion_of(alloc, graphs, facts, rows, inputs, domains, way, book)?
+    else {
+        return Ok(None);
+    };
+    match exclusion {
+        Exclusion::Known(reason) => delete(graphs, facts, domains, way, reason, book),
+        Exclusion::Shown(ban) => delete_by(graphs, facts, domains, way, ban, book),
     }
 }
 
-// Settles one that clashes with none: deletes it where a held ban is within it and the held pairs.
-fn settle_possible(
+// What excludes a pair beside the held ones: one that it clashes with, a held ban, or a ban that decided claims show, of one
+// input first.
+fn exclusion_of(
     alloc: Global,
     graphs: &PairableGraphs<'_>,
     facts: &[Fact],
     rows: &Rows,
     inputs: &[Pair],
-    domains: &mut Domains,
+    domains: &Domains,
     way: Pair,
-    book: &mut BanBook,
-) -> Result<Option<u64>, AllocError>
-    requires may { MaySettle graphs.now facts.now rows.now inputs.now book.old domains.old }
-    requires known { IsPairOf domains.old.inputs domains.old.outputs way }
-    requires open { IsOpen domains.old.entries way }
-    requires possible { IsImpossible (held_in domains.old.entries) way → ⊥ }
-    ensures { Settles graphs.now (map decided_by facts.now) book.old book.new domains.old domains.new
-        (λ pair. pair ≡ way) result }
-{
-    match ban_beside(alloc, domains, way, book)? {
-        Some(number) => delete(graphs, facts, domains, way, Reason::Ban(number), book),
-        None => settle_by_facts(alloc, graphs, facts, rows, inputs, domains, way, book),
-    }
-}
-
-// Settles one that no held ban excludes: deletes it by the ban that decided claims show of it and the held pairs, if there is
-// one.
-fn settle_by_facts(
-    alloc: Global,
-    graphs: &PairableGraphs<'_>,
-    facts: &[Fact],
-    rows: &Rows,
-    inputs: &[Pair],
-    domains: &mut Domains,
-    way: Pair,
-    book: &mut BanBook,
-) -> Result<Option<u64>, AllocError>
-    requires may { MaySettle graphs.now facts.now rows.now inputs.now book.old domains.old }
-    requires known { IsPairOf domains.old.inputs domains.old.outputs way }
-    requires open { IsOpen domains.old.entries way }
-    requires possible { IsImpossible (held_in domains.old.entries) way → ⊥ }
-    requires no_ban { HaveNoBan book.old (way ∷ held_in domains.old.entries) }
-    ensures { Settles graphs.now (map decided_by facts.now) book.old book.new domains.old domains.new
-        (λ pair. pair ≡ way) result }
+    book: &BanBook,
+) -> Result<Option<Exclusion>, AllocError>
+    requires may { MaySettle graphs.now facts.now rows.now inputs.now book.now domains.now }
+    requires known { IsPairOf domains.now.inputs domains.now.outputs way }
+    ensures found { IfOk result (λ found. IfSome found
+        (Excludes graphs.now (map decided_by facts.now) book.now (held_in domains.now.entries) way)) }
+    ensures none { IfOk result (λ found. IfNone found
+        (IsClear graphs.now (map decided_by facts.now) book.now (held_in domains.now.entries) way)) }
 {
     let _lawful = domains.entries();
-    match way_ban(alloc, graphs, facts, rows, domains.pairs(), inputs, way)? {
-        Some(ban) => delete_by(graphs, facts, domains, way, ban, book),
-        None => settle_by_swaps(alloc, graphs, facts, rows, inputs, domains, way, book),
+    let held = domains.pairs();
+    if let Some(with) = clashing(held, way) {
+        return Ok(Some(Exclusion::Known(Reason::Clash(with))));
     }
-}
-
-// Settles one that claims of one input don't exclude: deletes it by the ban that decided claims of two inputs show of it and the
-// held pairs, if there is one.
-fn settle_by_swaps(
-    alloc: Global,
-    graphs: &PairableGraphs<'_>,
-    facts: &[Fact],
-    rows: &Rows,
-    inputs: &[Pair],
-    domains: &mut Domains,
-    way: Pair,
-    book: &mut BanBook,
-) -> Result<Option<u64>, AllocError>
-    requires may { MaySettle graphs.now facts.now rows.now inputs.now book.old domains.old }
-    requires known { IsPairOf domains.old.inputs domains.old.outputs way }
-    requires open { IsOpen domains.old.entries way }
-    requires possible { IsImpossible (held_in domains.old.entries) way → ⊥ }
-    requires no_ban { HaveNoBan book.old (way ∷ held_in domains.old.entries) }
-    requires there { IsKnown graphs.now way }
-    requires no_facts { HaveNoFacts graphs.now (map decided_by facts.now) (way ∷ held_in domains.old.entries) }
-    ensures { Settles graphs.now (map decided_by facts.now) book.old book.new domains.old domains.new
-        (λ pair. pair ≡ way) result }
-{
-    let _ = rows;
-    let _ = inputs;
-    let _lawful = domains.entries();
-    let pairs = beside(alloc, domains.pairs(), way)?;
-    match swap_ban(alloc, graphs, facts, &pairs)? {
-        Some(ban) => delete_by(graphs, facts, domains, way, ban, book),
+    let pairs = beside(alloc, held, way)?;
+    if let Some(number) = book.covering(&pairs) {
+        return Ok(Some(Exclusion::Known(Reason::Ban(number))));
+    }
+    if let Some(ban) = way_ban(alloc, graphs, facts, rows, held, inputs, way)? {
+        return Ok(Some(Exclusion::Shown(ban)));
+    }
+    match swap_ban(alloc, graphs, facts, &rows.swaps, &pairs)? {
+        Some(ban) => Ok(Some(Exclusion::Shown(ban))),
         None => Ok(None),
     }
 }
@@ -323,20 +287,6 @@ fn delete(
     let _lawful = domains.entries();
     domains.delete(way, reason)?;
     Ok(None)
-}
-
-// The number of a held ban that is within a pair and the held ones.
-fn ban_beside(
-    alloc: Global,
-    domains: &Domains,
-    way: Pair,
-    book: &BanBook,
-) -> Result<Option<u64>, AllocError>
-    ensures found { IfOk result (λ found. IfSome found (Covers book.now (way ∷ held_in domains.now.entries))) }
-    ensures none { IfOk result (λ found. IfNone found (HaveNoBan book.now (way ∷ held_in domains.now.entries))) }
-{
-    let pairs = beside(alloc, domains.pairs(), way)?;
-    Ok(book.covering(&pairs))
 }
 
 // A pair, and some after it.

@@ -1,10 +1,7 @@
 //! Bans of pairs that decided claims of two inputs show.
 
-ghost use Rattle.std.specs.Prelude.{◌≡◌, ◌<◌, ℕ, [], All, Bool, IfNone, IfOk, IfSome, None as Nothing, length, map};
+ghost use Rattle.std.specs.Prelude.{◌≡◌, ◌≢◌, ◌<◌, ℕ, [], All, AllPairs, IfNone, IfOk, IfSome, length, map};
 ghost use Rattle.query_core.specs.declared.claims.Claim.{Claim as AnyClaim};
-ghost use Rattle.net_core.specs.declared.graphs.Side.TheVariants as AnySide;
-ghost use Rattle.query_core.specs.declared.claims.Shape.TheVariants as AnyShape;
-ghost use Rattle.query_core.specs.Images.{image_of};
 ghost use Rattle.account_core.specs.Facts.{AreFacts};
 ghost use Rattle.account_core.specs.Given.{decided_by, fact_at, given_of};
 ghost use Rattle.account_core.specs.Mismatches.{IsImage};
@@ -12,11 +9,13 @@ ghost use Rattle.account_core.specs.Ports.{IsKnown};
 ghost use Rattle.claim_rows.specs.Shown.{IsShownBan};
 ghost use Rattle.claim_rows.specs.Told.{IsToldAs};
 ghost use Rattle.pair_refine.specs.Stable.{HasTwoInputs, HaveNoSwapMismatch};
-ghost use Rattle.pair_refine.specs.Swaps.{AgreesAt, IsExchange, SaysOf, carried_to};
+ghost use Rattle.pair_refine.specs.Swaps.{AgreesAt, IsExchange, IsSwapIndex, SaysOf, carried_to};
 
+use crate::swap_index::number_of;
 use account_core::{Ban, Evidence, Fact};
 use circuits::{Pair, PortKind};
 use claim_rows::{Told, mismatch_ban, moved_value, two_inputs, unlike_of};
+use indexmap::IndexMap;
 use net_core::Side;
 use port_sides::PairableGraphs;
 use query_core::{Claim, Shape, pair_of};
@@ -34,22 +33,21 @@ pub(crate) struct Exchange {
 
 /// The ban of the pairs of an output and two inputs, by a claim of these that is decided otherwise than the one which the pairs
 /// carry it to.
-///
-/// All facts are searched for the claim that one is carried to: for n facts of two inputs whose ports have pairs, that is n times
-/// the number of all facts. An index of claims would be the next step.
 pub(crate) fn swap_ban(
     alloc: Global,
     graphs: &PairableGraphs<'_>,
     facts: &[Fact],
+    swaps: &IndexMap<Claim, u64>,
     pairs: &[Pair],
 ) -> Result<Option<Ban>, AllocError>
     requires lawful { AreFacts graphs.now facts.now }
+    requires index { IsSwapIndex (map decided_by facts.now) swaps.now.entries }
     requires known { All (IsKnown graphs.now) pairs.now }
     ensures shown { IfOk result (λ found. IfSome found (IsShownBan graphs.now (map decided_by facts.now) pairs.now)) }
     ensures none { IfOk result (λ found. IfNone found (HaveNoSwapMismatch graphs.now (map decided_by facts.now) pairs.now)) }
 {
     for number in 0..facts.len() {
-        if let Some(ban) = ban_at(alloc, graphs, facts, pairs, number)? {
+        if let Some(ban) = ban_at(alloc, graphs, facts, swaps, pairs, number)? {
             return Ok(Some(ban));
         }
     }
@@ -61,10 +59,12 @@ fn ban_at(
     alloc: Global,
     graphs: &PairableGraphs<'_>,
     facts: &[Fact],
+    swaps: &IndexMap<Claim, u64>,
     pairs: &[Pair],
     number: usize,
 ) -> Result<Option<Ban>, AllocError>
     requires lawful { AreFacts graphs.now facts.now }
+    requires index { IsSwapIndex (map decided_by facts.now) swaps.now.entries }
     requires known { All (IsKnown graphs.now) pairs.now }
     requires below { number < length facts.now }
     ensures shown { IfOk result (λ found. IfSome found (IsShownBan graphs.now (map decided_by facts.now) pairs.now)) }
@@ -75,7 +75,7 @@ fn ban_at(
     let Some(exchange) = exchange_of(pairs, claim_at(facts, number)) else {
         return Ok(None);
     };
-    let Some(image) = otherwise(facts, carry(exchange), fact.holds) else {
+    let Some(image) = otherwise(facts, swaps, carry(exchange), fact.holds) else {
         return Ok(None);
     };
     let Exchange {
@@ -128,39 +128,30 @@ fn carry(exchange: Exchange) -> Claim
     }
 }
 
-// The claim of a fact.
-fn claim_at(facts: &[Fact], number: usize) -> Claim
+/// The claim of a fact.
+pub(crate) fn claim_at(facts: &[Fact], number: usize) -> Claim
     requires below { number < length facts.now }
     ensures { result ≡ (fact_at (given_of (map decided_by facts.now) []) number).claim }
 {
     facts[number].claim
 }
 
-// The first fact of a claim that says otherwise.
-fn otherwise(facts: &[Fact], claim: Claim, holds: bool) -> Option<Told>
+// The fact of a claim of two inputs, if it says otherwise.
+fn otherwise(
+    facts: &[Fact],
+    swaps: &IndexMap<Claim, u64>,
+    claim: Claim,
+    holds: bool,
+) -> Option<Told>
+    requires distinct { AllPairs (λ one other. one.claim ≢ other.claim) (map decided_by facts.now) }
+    requires index { IsSwapIndex (map decided_by facts.now) swaps.now.entries }
+    requires two { HasTwoInputs claim.shape }
     ensures found { IfSome result (λ told. IsToldAs (map decided_by facts.now) claim told.holds told.number) }
     ensures differ { IfSome result (λ told. told.holds ≡ holds → ⊥) }
     ensures none { IfNone result ((k : ℕ) → k < length facts.now → SaysOf (map decided_by facts.now) claim holds k) }
 {
-    for number in 0..facts.len() {
-        if let Some(told) = otherwise_at(facts, claim, holds, number) {
-            return Some(told);
-        }
-    }
-    None
-}
-
-// What a fact tells, if it is of a claim and says otherwise.
-fn otherwise_at(facts: &[Fact], claim: Claim, holds: bool, number: usize) -> Option<Told>
-    requires below { number < length facts.now }
-    ensures found { IfSome result (λ told. IsToldAs (map decided_by facts.now) claim told.holds told.number) }
-    ensures differ { IfSome result (λ told. told.holds ≡ holds → ⊥) }
-    ensures none { IfNone result (SaysOf (map decided_by facts.now) claim holds number) }
-{
-    if claim_at(facts, number) != claim {
-        return None;
-    }
-    let told = told_at(facts, number);
+    let number = number_of(swaps, claim)?;
+    let told = told_at(facts, number as usize);
     if told.holds == holds {
         return None;
     }

@@ -118,7 +118,7 @@ output_holds a net literals x output value first same there given =
     by_value true l e = ap (λ t. t || false) e
     by_value false l e = ap (λ t. t || false) (opposite_bit a l ∙ ap not e)
 
-gate_agrees : (v w : List Bool) (gate : Gate) → bit v (signal_of gate.a) ≡ bit w (signal_of gate.a) → bit v (signal_of gate.b) ≡ bit w (signal_of gate.b) → gate_bit v gate ≡ gate_bit w gate
+pub gate_agrees : (v w : List Bool) (gate : Gate) → bit v (signal_of gate.a) ≡ bit w (signal_of gate.a) → bit v (signal_of gate.b) ≡ bit w (signal_of gate.b) → gate_bit v gate ≡ gate_bit w gate
 gate_agrees v w gate one other =
     ap (λ y. differ y (inverts gate.a) && signal_bit v gate.b) one ∙ ap (λ y. signal_bit w gate.a && differ y (inverts gate.b)) other
 

@@ -11,7 +11,7 @@ use Rattle.query_core.specs.Claims.{output_bit, with_input, with_values, with_op
 use Rattle.query_core.specs.Facts.{InSupport, OutsideSupport, IsBinate, IsSymmetric, IsSkew, cofactor}
 
 -- a bit that is there already
-set-here : (x : List Bool) (i : ℕ) (b : Bool) → bit x i ≡ b → with_input i b x ≡ x
+pub set-here : (x : List Bool) (i : ℕ) (b : Bool) → bit x i ≡ b → with_input i b x ≡ x
 set-here x i b is = ap (λ b. set x i b) (sym is) ∙ set-get_or x i false
 
 -- a vector with the shape's values is the one with these values set
@@ -99,7 +99,7 @@ holds_or_fails net k shape placed =
         let is : vector_of net.inputs (code_of x) ≡ x = ap (λ n. vector_of n (code_of x)) (sym len) ∙ sym (vector_of-code_of x) in
         subst (λ x. NoFall (output_bit net k (with_values shape x)) (output_bit net k (with_opposites shape x))) is (none (code_of x) (subst (λ n. code_of x < 2 ^ n) len (code_of-below x)))
 
-no_fall_both : (one other : Bool) → NoFall one other → NoFall other one → one ≡ other
+pub no_fall_both : (one other : Bool) → NoFall one other → NoFall other one → one ≡ other
 no_fall_both true true there back = refl
 no_fall_both true false there back = sym (there refl)
 no_fall_both false true there back = back refl

@@ -14,3 +14,4 @@ pub mod ConeLaws
 pub mod ConeIdLemmas
 pub mod ImageLemmas
 pub mod ImageLaws
+pub mod EqualLemmas

@@ -97,11 +97,11 @@ moved_bits p x shape =
     moved-only p x (map (feed_bit x) (moved_feed p)) shape moves
 
 -- the outputs that a match's query speaks of
-left_bit : (graphs : Graphs) (matching : Matching) (k : ℕ) (value : Bool) (x : List Bool) → length x ≡ graphs.first.inputs → cone_bit graphs x (match_query graphs.first.inputs matching k value).left ≡ bit (function_of graphs.first x) k
+pub left_bit : (graphs : Graphs) (matching : Matching) (k : ℕ) (value : Bool) (x : List Bool) → length x ≡ graphs.first.inputs → cone_bit graphs x (match_query graphs.first.inputs matching k value).left ≡ bit (function_of graphs.first x) k
 left_bit graphs matching k value x same =
     ap (λ y. bit (function_of graphs.first y) k) (straight_bits x graphs.first.inputs same)
 
-right_bit : (graphs : Graphs) (matching : Matching) (k : ℕ) (value : Bool) (x : List Bool) → IsSignedBijection (length x) matching.inputs → cone_bit graphs x (match_query graphs.first.inputs matching k value).right ≡ bit (function_of graphs.second (moved matching.inputs x)) (place_of matching.outputs k)
+pub right_bit : (graphs : Graphs) (matching : Matching) (k : ℕ) (value : Bool) (x : List Bool) → IsSignedBijection (length x) matching.inputs → cone_bit graphs x (match_query graphs.first.inputs matching k value).right ≡ bit (function_of graphs.second (moved matching.inputs x)) (place_of matching.outputs k)
 right_bit graphs matching k value x shape =
     ap (λ y. bit (function_of graphs.second y) (place_of matching.outputs k)) (moved_bits matching.inputs x shape)
 
@@ -116,7 +116,7 @@ agree_or_ask false true false = inr refl
 agree_or_ask false false true = inr refl
 agree_or_ask false false false = inl refl
 
-not_both : (b c s : Bool) → b ≡ differ c s → c ≡ differ (not b) s → ⊥
+pub not_both : (b c s : Bool) → b ≡ differ c s → c ≡ differ (not b) s → ⊥
 not_both true true true agree ask = cc
 not_both true true false agree ask = cc
 not_both true false true agree ask = cc

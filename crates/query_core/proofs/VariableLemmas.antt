@@ -123,7 +123,7 @@ same_output net k feed vs ws value ordered feeds agree there =
     ap (λ l. cond value l (opposite l)) same
 
 -- a gate that an output reaches is there
-reached_there : (net : Net) (k t : ℕ) → IsOrdered net → k < length net.outputs → ReachesGate net k t → t < length net.gates
+pub reached_there : (net : Net) (k t : ℕ) → IsOrdered net → k < length net.outputs → ReachesGate net k t → t < length net.gates
 reached_there net k t ordered output reached =
     elim (cases_lt t (length net.gates)) [
       | inl there ↦ there

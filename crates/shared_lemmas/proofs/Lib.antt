@@ -1,4 +1,3 @@
-pub mod EqualLemmas
 pub mod FormulaLemmas
 pub mod SharedLaws
 pub mod AloneLemmas

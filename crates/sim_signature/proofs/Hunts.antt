@@ -1,7 +1,6 @@
 -- What a hunt leaves: broken claims, and one sighting of each shape that a vector breaks.
 use Rattle.std.proofs.Common.{ℕ, ◌+◌, ◌<◌, ◌≡◌, ◌⊎◌, List, [], ◌∷◌, ◌++◌, length, get_or, take, refl, sym, subst, ◌∙◌, inl, inr, arith}
 use Rattle.std.specs.List.{Contains}
-use Rattle.std.specs.Prelude.{Result, Ok, Err, OnOk}
 use Rattle.std.proofs.lemmas.List.{length_push, get_or_append_left, get_or_push, take_more}
 use Rattle.std.proofs.lemmas.List.Elements.{All-push, Contains-push_cases}
 use Rattle.query_core.specs.declared.claims.Shape.{Shape}
@@ -45,11 +44,6 @@ Hunted-among s k Among Fewer old new within hunted = record {
   kept = hunted.kept;
   found = λ all shape among. hunted.found all shape (within shape among);
 }
-
--- what follows where a call succeeds
-pub on_ok : {T E : Type 0} (r : Result T E) (P Q : Type 0) → (P → Q) → OnOk r P → OnOk r Q
-on_ok (Ok v) P Q then said = then said
-on_ok (Err e) P Q then said = tt
 
 -- one claim more, and all of them
 pub one_claim_more : (claims : List Shape) (k : ℕ) (d shape : Shape) → k < length claims → Contains (take (k + 1) claims) shape → Contains (take k claims) shape ⊎ (shape ≡ get_or claims k d)

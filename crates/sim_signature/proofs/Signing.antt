@@ -33,14 +33,6 @@ IsColumn-more s change column block done end before last k w v less h l =
           ap (block_bit w v) (get_or_push column block [] k (end ∙ e)) ∙ (last w v h l ∙ ap (λ k. output_bit s.net (s.first + k) (changed change (pattern s.blocks w v))) e)
     ]
 
--- the column of the vectors as they are
-pub AreColumns-first : (s : Signed) (column : List (List ℕ)) → IsColumn s Nothing column → AreColumns s 0 (column ∷ [])
-AreColumns-first s column is = record { count = omega arith; each = each }
-  where
-    each : (change : Change) → IsChange 0 change → IsColumn s change (get_or (column ∷ []) (place_of change) [])
-    each Nothing there = is
-    each (Inverted i) there = absurd (omega (arith, there))
-
 -- one input more
 pub AreColumns-more : (s : Signed) (done : ℕ) (columns : List (List (List ℕ))) (column : List (List ℕ)) → AreColumns s done columns → IsColumn s (Inverted done) column → AreColumns s (done + 1) (columns ++ column ∷ [])
 AreColumns-more s done columns column are is = record {

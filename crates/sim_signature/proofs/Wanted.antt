@@ -2,13 +2,14 @@
 use Rattle.std.proofs.Common.{ℕ, zero, suc, ◌+◌, ◌<◌, ◌≤◌, ◌≡◌, ◌⊎◌, Bool, true, false, List, [], ◌∷◌, ◌++◌, length, replicate, sym, ap, subst, ◌∙◌, inl, inr, arith}
 use Rattle.std.specs.List.{All, Contains}
 use Rattle.std.proofs.lemmas.Bool.{cases_lt, false≢true}
-use Rattle.std.proofs.lemmas.List.{get_or_past, get_or-replicate}
+use Rattle.std.proofs.lemmas.List.{get_or-replicate}
 use Rattle.std.proofs.lemmas.List.Elements.{All-append, Contains-append_left, Contains-append_right}
 use Rattle.circuits.specs.Literals.{bit}
 use Rattle.query_core.specs.declared.claims.Shape.{Shape}
 use Rattle.query_core.specs.declared.claims.Shape.TheVariants.{Up, Down, Swap}
 use Rattle.query_core.specs.Claims.{IsPlaced}
 use Rattle.sim_signature.specs.Sightings.{Added, AreHunted, IsOfInput, IsOfInputsBelow, IsOfPair, IsOfPairBelow}
+use Rattle.net_core.proofs.ConeLemmas.{within_bit}
 
 pub Added-then : (n : ℕ) (Wanted Also : Shape → Type 0) (old mid new : List Shape) → Added n Wanted old mid → Added n Also mid new → Added n (λ shape. Wanted shape ⊎ Also shape) old new
 Added-then n Wanted Also old mid new first then = record {
@@ -97,10 +98,6 @@ not_hunted_pair hunted i j (Up other) none is wanted = is
 not_hunted_pair hunted i j (Down other) none is wanted = is
 not_hunted_pair hunted i j (Swap first second a b) none is wanted = false≢true (sym none ∙ (ap (bit hunted) (sym is.1) ∙ wanted.2))
 
-pub marked-below : (hunted : List Bool) (i : ℕ) → bit hunted i ≡ true → i < length hunted
-marked-below hunted i is =
-    elim (cases_lt i (length hunted)) [ inl less ↦ less | inr past ↦ absurd (false≢true (sym (get_or_past hunted i false past) ∙ is)) ]
-
 -- the wanted claims of the inputs below one
 abbrev pub IsOfInputsAnd : List Bool → ℕ → Shape → Type 0
 IsOfInputsAnd hunted end shape = AreHunted hunted shape × IsOfInputsBelow end shape
@@ -121,13 +118,13 @@ input_more hunted i (Swap first second a b) is =
       | inl less ↦ inl (is.0, less)
       | inr past ↦
           let e : first ≡ i = omega (arith, is.1, past) in
-          inr (inr ((e, omega (arith, is.0.0, e), marked-below hunted second is.0.2), is.0), sym (ap (bit hunted) e) ∙ is.0.1)
+          inr (inr ((e, omega (arith, is.0.0, e), within_bit hunted second is.0.2), is.0), sym (ap (bit hunted) e) ∙ is.0.1)
     ]
 
 pub all_inputs : (hunted : List Bool) (end : ℕ) → length hunted ≤ end → (shape : Shape) → AreHunted hunted shape → IsOfInputsAnd hunted end shape
-all_inputs hunted end past (Up i) is = (is, omega (arith, marked-below hunted i is, past))
-all_inputs hunted end past (Down i) is = (is, omega (arith, marked-below hunted i is, past))
-all_inputs hunted end past (Swap i j a b) is = (is, omega (arith, marked-below hunted i is.1, past))
+all_inputs hunted end past (Up i) is = (is, omega (arith, within_bit hunted i is, past))
+all_inputs hunted end past (Down i) is = (is, omega (arith, within_bit hunted i is, past))
+all_inputs hunted end past (Swap i j a b) is = (is, omega (arith, within_bit hunted i is.1, past))
 
 -- where all inputs are marked
 pub all_marked : (n : ℕ) (hunted : List Bool) (shape : Shape) → hunted ≡ replicate n true → IsPlaced n shape → AreHunted hunted shape

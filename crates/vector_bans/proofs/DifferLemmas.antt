@@ -1,7 +1,6 @@
 -- A vector on which an output differs from its partner shows it on the pairs of all inputs.
-use Rattle.std.proofs.Common.{◌≡◌, ◌≢◌, ◌⊎◌, ℕ, ◌<◌, Bool, true, false, eqb, eq-eqb, List, [], ◌∷◌, ◌++◌, length, map, get_or, All, Some, refl, sym, ap, subst, ◌∙◌, inl, inr, arith}
-use Rattle.std.specs.Prelude.{Contains, IsSome, find}
-use Rattle.std.proofs.lemmas.Bool.{cases_Bool, and_from, cond-true, cond-false, false≢true}
+use Rattle.std.proofs.Common.{◌≡◌, ◌≢◌, ◌⊎◌, ℕ, ◌<◌, Bool, false, List, [], ◌∷◌, ◌++◌, length, map, get_or, All, Some, refl, sym, ap, subst, ◌∙◌, inl, inr, arith}
+use Rattle.std.specs.Prelude.{Contains, IsSome}
 use Rattle.std.proofs.lemmas.List.{length-map, get_or-map}
 use Rattle.std.proofs.lemmas.List.Elements.{All-contains, All-push, All-contains_itself, Contains-get_or, Contains-push, Contains-push_cases, Contains-append_left}
 use Rattle.std.proofs.lemmas.List.FromFn.{length-map-range_with_len, get_or-map-range_with_len}
@@ -18,7 +17,7 @@ use Rattle.net_core.specs.Sides.{Graphs}
 use Rattle.net_core.specs.declared.graphs.Side.TheVariants.{First}
 use Rattle.net_core.specs.declared.matching.Matching.{Matching}
 use Rattle.net_core.specs.Graph.{IsGraph}
-use Rattle.query_core.specs.Images.{HasPair, Extends, entries_of, is_of, pair_of, same_kind}
+use Rattle.query_core.specs.Images.{HasPair, Extends, entries_of, pair_of}
 use Rattle.word_sim.specs.declared.tri.Tri.{Tri}
 use Rattle.word_sim.specs.declared.tri.Tri.TheVariants.{X}
 use Rattle.word_sim.specs.ThreeValues.{tri_outputs}
@@ -28,12 +27,10 @@ use Rattle.account_core.specs.Vectors.{first_value, second_value, signed, value_
 use Rattle.account_core.specs.declared.step.Step.TheVariants as step
 use Rattle.account_core.specs.Given.{Given}
 use Rattle.account_core.specs.Steps.{IsValidBan}
-use Rattle.account_core.proofs.Matched.{pair_of-held}
-use Rattle.account_core.proofs.OrderedPairs.{agree}
 use Rattle.account_core.proofs.SentOnly.{sent_only}
 use Rattle.port_covers.specs.Held.{IsOf, IsWhole}
 use Rattle.vector_bans.specs.Differences.{of_bit, pair_from, pairs_from, IsShown}
-use Rattle.port_covers.proofs.ListLemmas.{cons_cases, contained_of_any}
+use Rattle.port_covers.proofs.ListLemmas.{contained_of_any}
 use Rattle.claim_rows.proofs.MismatchLemmas.{pair_of-one}
 use Rattle.vector_bans.proofs.DefiniteLemmas.{of_differ, of_bit_definite, of_bit_same, of_output}
 
@@ -211,10 +208,6 @@ vector_valid graphs given all_pairs pairs pair taken there shown = record {
   where
     found : pair_of pairs Output pair.from ≡ Some pair
     found = pair_of-one pairs pair Output pair.from shown.ordered shown.output.has shown.output.of_output refl
-
-pub vector_valid_of : (graphs : Graphs) (given : Given) (all_pairs pairs : List Pair) (pair : Pair) (taken : List Tri) (ps : List Pair) (vs : List Tri) (output : ℕ) → ps ≡ pairs → vs ≡ taken → pair.from ≡ output → output < length graphs.first.outputs → IsShown graphs all_pairs pair taken pairs → IsValidBan graphs given (record { pairs = ps; step = step.Vector output vs })
-vector_valid_of graphs given all_pairs pairs pair taken ps vs output ps_is vs_is from_is there shown =
-    subst (λ l. IsValidBan graphs given (record { pairs = l; step = step.Vector output vs })) (sym ps_is) (subst (λ v. IsValidBan graphs given (record { pairs = pairs; step = step.Vector output v })) (sym vs_is) (subst (λ k. IsValidBan graphs given (record { pairs = pairs; step = step.Vector k taken })) from_is (vector_valid graphs given all_pairs pairs pair taken (subst (λ k. k < length graphs.first.outputs) (sym from_is) there) shown)))
 
 -- the same all_pairs list, by what its pair and taken are
 pub shown_as : (graphs : Graphs) (front all_pairs : List Pair) (pair P : Pair) (taken V : List Tri) → pair ≡ P → taken ≡ V → all_pairs ≡ front ++ pair ∷ [] → IsShown graphs (front ++ P ∷ []) P V (front ++ P ∷ []) → IsShown graphs all_pairs pair taken all_pairs

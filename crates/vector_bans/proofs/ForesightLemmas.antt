@@ -14,6 +14,7 @@ use Rattle.port_covers.specs.Held.{AreHeld, IsPart}
 use Rattle.claim_rows.specs.Rows.{HasOneOutput}
 use Rattle.vector_bans.specs.Differences.{of_bit, AreHeldInputs, IsShown, IsWrong}
 use Rattle.vector_bans.proofs.DefiniteLemmas.{of_bit_definite, of_output}
+use Rattle.port_covers.proofs.BookLemmas.{part_known}
 
 -- the ports of a held pair
 pub held_known : (graphs : Graphs) (held : List Pair) (pair : Pair) → AreHeld graphs held → Contains held pair → IsKnown graphs pair
@@ -21,12 +22,6 @@ held_known graphs held pair are there = All-contains (IsKnown graphs) held pair 
 
 pub output_there : (graphs : Graphs) (held : List Pair) (pair : Pair) → AreHeld graphs held → Contains held pair → pair.kind ≡ Output → pair.from < length graphs.first.outputs
 output_there graphs held pair are there kind = subst (λ k. pair.from < ports_in graphs.first k) kind (held_known graphs held pair are there).from
-
-pub partner_there : (graphs : Graphs) (held : List Pair) (pair : Pair) → AreHeld graphs held → Contains held pair → pair.kind ≡ Output → pair.to < length graphs.second.outputs
-partner_there graphs held pair are there kind = subst (λ k. pair.to < ports_in graphs.second k) kind (held_known graphs held pair are there).to
-
-pub part_known : (graphs : Graphs) (held pairs : List Pair) → AreHeld graphs held → IsPart held pairs → All (IsKnown graphs) pairs
-part_known graphs held pairs are part k d below = held_known graphs held (get_or pairs k d) are (part.among k d below)
 
 -- held pairs of inputs, and one of an output that a vector shows to be wrong
 pub shown_held : (graphs : Graphs) (held pairs : List Pair) (pair : Pair) (x : List Bool) (values : List Tri) → AreHeld graphs held → IsGraph graphs.first → IsPart held pairs → Contains held pair → HasOneOutput pairs pair → length x ≡ graphs.first.inputs → values ≡ map of_bit x → IsWrong graphs pairs pair values → IsShown graphs pairs pair values pairs

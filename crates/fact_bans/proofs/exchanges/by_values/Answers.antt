@@ -1,13 +1,11 @@
 use Rattle.std.proofs.Common.{◌∷◌, [], refl}
-use Rattle.std.proofs.lemmas.Result.{err_from_is_err_and}
 use Rattle.fact_bans.proofs.HoldingLemmas.{held_same, holds_ok, holds_stop}
 use Rattle.claim_rows.proofs.MismatchLemmas.{first_placed, input_from, input_to, inputs_image, is_image, second_placed, three_known, three_ordered, two_placed}
 use Rattle.fact_bans.proofs.exchanges.by_values.Goals as goal
 
 pub returns-in_err-look_at_swaps-clause-holds : goal.returns-in_err-look_at_swaps-clause-holds
 returns-in_err-look_at_swaps-clause-holds g c =
-    let p = err_from_is_err_and c.from_residual.result c.from_residual.ensures.1 in
-    holds_stop _ _ _ _ _ _ _ _ (cc (p.1, p.2)) (held_same _ _ _ _ c.requires.may)
+    holds_stop _ _ _ _ _ _ _ _ c.from_residual.ensures.1 (held_same _ _ _ _ c.requires.may)
 
 pub returns-in_default-clause-holds : goal.returns-in_default-clause-holds
 returns-in_default-clause-holds g c = holds_ok _ _ _ _ _ _ _ _ _ refl (held_same _ _ _ _ c.requires.may)

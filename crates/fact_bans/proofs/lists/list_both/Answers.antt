@@ -1,5 +1,4 @@
 use Rattle.std.proofs.Common.{◌<◌, length, refl, sym, subst, arith}
-use Rattle.std.proofs.lemmas.Result.{err_from_is_err_and}
 use Rattle.net_core.specs.Sides.{Graphs, graph_of}
 use Rattle.account_core.specs.Tallies.{AreBothOfEach}
 use Rattle.fact_bans.proofs.FactLemmas.{listing_start}
@@ -35,8 +34,7 @@ loop-input-preserved g c = record {
 
 pub returns-in_err-add_both-clause-serves : goal.returns-in_err-add_both-clause-serves
 returns-in_err-add_both-clause-serves g c =
-    let p = err_from_is_err_and c.from_residual.result c.from_residual.ensures.1 in
-    serves_err _ _ _ _ _ _ _ c.in_err-add_both.field-0.0 (cc (p.1, p.2)) c.loop-input.invariant.served c.in_err-add_both.ensures.serves
+    serves_err _ _ _ _ _ _ _ c.in_err-add_both.field-0.0 c.from_residual.ensures.1 c.loop-input.invariant.served c.in_err-add_both.ensures.serves
 
 pub returns-then-not-branch-clause-serves : goal.returns-then-not-branch-clause-serves
 returns-then-not-branch-clause-serves g c =

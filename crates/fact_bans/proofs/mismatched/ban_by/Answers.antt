@@ -1,5 +1,4 @@
 use Rattle.std.proofs.Common.{refl, sym, subst, map}
-use Rattle.std.proofs.lemmas.Result.{err_from_is_err_and}
 use Rattle.account_core.specs.declared.step.Ban.{Ban}
 use Rattle.account_core.specs.Given.{decided_by}
 use Rattle.ban_book.specs.Vectors.{IsVector}
@@ -9,8 +8,7 @@ use Rattle.fact_bans.proofs.mismatched.ban_by.Goals as goal
 
 pub returns-in_err-ban-clause-serves : goal.returns-in_err-ban-clause-serves
 returns-in_err-ban-clause-serves g c =
-    let p = err_from_is_err_and c.from_residual-in_err-ban.result c.from_residual-in_err-ban.ensures.1 in
-    serves_memory _ _ _ _ _ (cc (p.1, p.2)) (served_one _ _ _ _ _ c.in_ok-unlike.ensures.serves)
+    serves_memory _ _ _ _ _ c.from_residual-in_err-ban.ensures.1 (served_one _ _ _ _ _ c.in_ok-unlike.ensures.serves)
 
 pub returns-clause-serves : goal.returns-clause-serves
 returns-clause-serves g c = serves_ok _ _ _ _ _ _ refl (served_one _ _ _ _ _ c.in_ok-unlike.ensures.serves)

@@ -1,5 +1,4 @@
 use Rattle.std.proofs.Common.{refl, sym, subst}
-use Rattle.std.proofs.lemmas.Result.{err_from_is_err_and}
 use Rattle.net_core.specs.Sides.{Graphs}
 use Rattle.account_core.specs.Given.{decided_by, given_of}
 use Rattle.account_core.specs.Steps.{IsValidBan}
@@ -11,8 +10,7 @@ use Rattle.fact_bans.proofs.mismatched.hold_by.Goals as goal
 
 pub returns-in_err-ban-clause-holds : goal.returns-in_err-ban-clause-holds
 returns-in_err-ban-clause-holds g c =
-    let p = err_from_is_err_and c.from_residual.result c.from_residual.ensures.1 in
-    holds_fail _ _ _ _ _ _ _ c.in_err-ban.field-0.0 (cc (p.1, p.2)) c.requires.may c.in_err-ban.ensures.serves
+    holds_fail _ _ _ _ _ _ _ c.in_err-ban.field-0.0 c.from_residual.ensures.1 c.requires.may c.in_err-ban.ensures.serves
 
 pub returns-in_default-clause-holds : goal.returns-in_default-clause-holds
 returns-in_default-clause-holds g c =
@@ -20,8 +18,7 @@ returns-in_default-clause-holds g c =
 
 pub returns-in_err-number-clause-holds : goal.returns-in_err-number-clause-holds
 returns-in_err-number-clause-holds g c =
-    let p = err_from_is_err_and c.from_residual-in_err-number.result c.from_residual-in_err-number.ensures.1 in
-    holds_stop _ _ _ _ _ _ _ _ (cc (p.1, p.2)) (held_kept _ _ _ _ _ _ _ c.requires.may.valid (served_one _ _ _ _ _ c.in_ok-ban.ensures.serves) c.in_err-number.ensures.refused)
+    holds_stop _ _ _ _ _ _ _ _ c.from_residual-in_err-number.ensures.1 (held_kept _ _ _ _ _ _ _ c.requires.may.valid (served_one _ _ _ _ _ c.in_ok-ban.ensures.serves) c.in_err-number.ensures.refused)
 
 pub returns-clause-holds : goal.returns-clause-holds
 returns-clause-holds g c =

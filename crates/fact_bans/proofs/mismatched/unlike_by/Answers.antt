@@ -1,5 +1,4 @@
 use Rattle.std.proofs.Common.{refl, sym, subst, map}
-use Rattle.std.proofs.lemmas.Result.{err_from_is_err_and}
 use Rattle.account_core.specs.Given.{decided_by}
 use Rattle.claim_rows.specs.declared.mismatched.Unlike.{Unlike}
 use Rattle.claim_rows.specs.Mismatched.{IsBanBy, mismatch_of}
@@ -10,8 +9,7 @@ use Rattle.fact_bans.proofs.mismatched.unlike_by.Goals as goal
 
 pub returns-in_err-other-clause-serves : goal.returns-in_err-other-clause-serves
 returns-in_err-other-clause-serves g c =
-    let p = err_from_is_err_and c.from_residual-in_err-other.result c.from_residual-in_err-other.ensures.1 in
-    serves_err _ _ _ _ _ _ _ c.in_err-other.field-0.0 (cc (p.1, p.2)) (served_one _ _ _ _ _ c.in_ok-one.ensures.serves) c.in_err-other.ensures.serves
+    serves_err _ _ _ _ _ _ _ c.in_err-other.field-0.0 c.from_residual-in_err-other.ensures.1 (served_one _ _ _ _ _ c.in_ok-one.ensures.serves) c.in_err-other.ensures.serves
 
 pub returns-then-one-other-clause-serves : goal.returns-then-one-other-clause-serves
 returns-then-one-other-clause-serves g c =

@@ -1,13 +1,11 @@
 use Rattle.std.proofs.Common.{refl}
-use Rattle.std.proofs.lemmas.Result.{err_from_is_err_and}
 use Rattle.fact_bans.proofs.HoldingLemmas.{held_one, held_same, holds_err, holds_last, holds_ok, may_later}
 use Rattle.fact_bans.proofs.RefusalLemmas.{two_added}
 use Rattle.fact_bans.proofs.refusal.add_ways.Goals as goal
 
 pub returns-in_err-add_way-clause-holds : goal.returns-in_err-add_way-clause-holds
 returns-in_err-add_way-clause-holds g c =
-    let p = err_from_is_err_and c.from_residual.result c.from_residual.ensures.1 in
-    holds_err _ _ _ _ _ _ _ _ _ _ _ c.in_err-add_way.field-0.0 (cc (p.1, p.2)) (held_same _ _ _ _ c.requires.may) c.in_err-add_way.ensures.holds
+    holds_err _ _ _ _ _ _ _ _ _ _ _ c.in_err-add_way.field-0.0 c.from_residual.ensures.1 (held_same _ _ _ _ c.requires.may) c.in_err-add_way.ensures.holds
 
 pub returns-then-not-branch-clause-holds : goal.returns-then-not-branch-clause-holds
 returns-then-not-branch-clause-holds g c = holds_ok _ _ _ _ _ _ _ _ _ refl (held_one _ _ _ _ _ _ _ _ c.in_ok-add_way.ensures.holds)

@@ -1,5 +1,4 @@
 use Rattle.std.proofs.Common.{refl}
-use Rattle.std.proofs.lemmas.Result.{err_from_is_err_and}
 use Rattle.fact_bans.proofs.HoldingLemmas.{held_one, held_same, held_then, holds_err, holds_ok, holds_stop, may_later}
 use Rattle.fact_bans.proofs.refusal.refuse.Goals as goal
 
@@ -14,16 +13,14 @@ loop-try-preserved g c = held_then _ _ _ _ _ _ _ _ _ _ c.loop-try.invariant (hel
 
 pub returns-in_err-classes-clause-holds : goal.returns-in_err-classes-clause-holds
 returns-in_err-classes-clause-holds g c =
-    let p = err_from_is_err_and c.from_residual.result c.from_residual.ensures.1 in
-    holds_stop _ _ _ _ _ _ _ _ (cc (p.1, p.2)) c.loop-try.invariant
+    holds_stop _ _ _ _ _ _ _ _ c.from_residual.ensures.1 c.loop-try.invariant
 
 pub returns-in_default-clause-holds : goal.returns-in_default-clause-holds
 returns-in_default-clause-holds g c = holds_ok _ _ _ _ _ _ _ _ _ refl c.loop-try.invariant
 
 pub returns-in_err-number-clause-holds : goal.returns-in_err-number-clause-holds
 returns-in_err-number-clause-holds g c =
-    let p = err_from_is_err_and c.from_residual-in_err-number.result c.from_residual-in_err-number.ensures.1 in
-    holds_err _ _ _ _ _ _ _ _ _ _ _ c.in_err-number.field-0.0 (cc (p.1, p.2)) c.loop-try.invariant c.in_err-number.ensures.holds
+    holds_err _ _ _ _ _ _ _ _ _ _ _ c.in_err-number.field-0.0 c.from_residual-in_err-number.ensures.1 c.loop-try.invariant c.in_err-number.ensures.holds
 
 pub returns-in-Some-2-clause-holds : goal.returns-in-Some-2-clause-holds
 returns-in-Some-2-clause-holds g c = holds_ok _ _ _ _ _ _ _ _ _ refl (held_then _ _ _ _ _ _ _ _ _ _ c.loop-try.invariant (held_one _ _ _ _ _ _ _ _ c.in_ok-number.ensures.holds))

@@ -1,5 +1,4 @@
 use Rattle.std.proofs.Common.{◌+◌, ◌<◌, All, length, map, refl, sym, ap, subst, arith}
-use Rattle.std.proofs.lemmas.Result.{err_from_is_err_and}
 use Rattle.circuits.specs.declared.port.PortKind.TheVariants.{Output}
 use Rattle.account_core.specs.declared.step.Ban.{Ban}
 use Rattle.account_core.specs.Covers.{ways}
@@ -13,36 +12,31 @@ use Rattle.fact_bans.proofs.refusal.refuse_by.Goals as goal
 
 pub returns-in_err-from-clause-holds : goal.returns-in_err-from-clause-holds
 returns-in_err-from-clause-holds g c =
-    let p = err_from_is_err_and c.from_residual.result c.from_residual.ensures.1 in
-    holds_stop _ _ _ _ _ _ _ _ (cc (p.1, p.2)) (held_same _ _ _ _ c.requires.may)
+    holds_stop _ _ _ _ _ _ _ _ c.from_residual.ensures.1 (held_same _ _ _ _ c.requires.may)
 
 pub returns-in_err-to-clause-holds : goal.returns-in_err-to-clause-holds
 returns-in_err-to-clause-holds g c =
-    let p = err_from_is_err_and c.from_residual-in_err-to.result c.from_residual-in_err-to.ensures.1 in
-    holds_stop _ _ _ _ _ _ _ _ (cc (p.1, p.2)) (held_same _ _ _ _ c.requires.may)
+    holds_stop _ _ _ _ _ _ _ _ c.from_residual-in_err-to.ensures.1 (held_same _ _ _ _ c.requires.may)
 
 pub returns-then-len-outputs-clause-holds : goal.returns-then-len-outputs-clause-holds
 returns-then-len-outputs-clause-holds g c = holds_ok _ _ _ _ _ _ _ _ _ refl (held_same _ _ _ _ c.requires.may)
 
 pub returns-in_err-refs-clause-holds : goal.returns-in_err-refs-clause-holds
 returns-in_err-refs-clause-holds g c =
-    let p = err_from_is_err_and c.from_residual-in_err-refs.result c.from_residual-in_err-refs.ensures.1 in
-    holds_err _ _ _ _ _ _ _ _ _ _ _ c.in_err-refs.field-0.0 (cc (p.1, p.2)) (held_same _ _ _ _ c.requires.may) c.in_err-refs.ensures.holds
+    holds_err _ _ _ _ _ _ _ _ _ _ _ c.in_err-refs.field-0.0 c.from_residual-in_err-refs.ensures.1 (held_same _ _ _ _ c.requires.may) c.in_err-refs.ensures.holds
 
 pub returns-in_default-clause-holds : goal.returns-in_default-clause-holds
 returns-in_default-clause-holds g c = holds_ok _ _ _ _ _ _ _ _ _ refl (held_one _ _ _ _ _ _ _ _ c.in_ok-refs.ensures.holds)
 
 pub returns-in_err-ban-clause-holds : goal.returns-in_err-ban-clause-holds
 returns-in_err-ban-clause-holds g c =
-    let p = err_from_is_err_and c.from_residual-in_err-ban.result c.from_residual-in_err-ban.ensures.1 in
-    holds_stop _ _ _ _ _ _ _ _ (cc (p.1, p.2)) (held_one _ _ _ _ _ _ _ _ c.in_ok-refs.ensures.holds)
+    holds_stop _ _ _ _ _ _ _ _ c.from_residual-in_err-ban.ensures.1 (held_one _ _ _ _ _ _ _ _ c.in_ok-refs.ensures.holds)
 
 pub returns-in_err-number-clause-holds : goal.returns-in_err-number-clause-holds
 returns-in_err-number-clause-holds g c =
-    let p = err_from_is_err_and c.from_residual-in_err-number.result c.from_residual-in_err-number.ensures.1 in
     let rows = held_one _ _ _ _ _ _ _ _ c.in_ok-refs.ensures.holds in
     let may = may_later _ _ _ _ _ _ _ c.requires.may rows in
-    holds_stop _ _ _ _ _ _ _ _ (cc (p.1, p.2)) (held_then _ _ _ _ _ _ _ _ _ _ rows (held_kept _ _ _ _ _ _ _ may.valid (held_same _ _ _ _ may).served c.in_err-number.ensures.refused))
+    holds_stop _ _ _ _ _ _ _ _ c.from_residual-in_err-number.ensures.1 (held_then _ _ _ _ _ _ _ _ _ _ rows (held_kept _ _ _ _ _ _ _ may.valid (held_same _ _ _ _ may).served c.in_err-number.ensures.refused))
 
 pub returns-clause-holds : goal.returns-clause-holds
 returns-clause-holds g c =

@@ -1,6 +1,5 @@
 use Rattle.std.proofs.Common.{refl, subst}
 use Rattle.std.proofs.lemmas.List.{take_all}
-use Rattle.std.proofs.lemmas.Result.{err_from_is_err_and}
 use Rattle.circuits.specs.declared.port.PortKind.TheVariants.{Output}
 use Rattle.fact_bans.specs.Referred.{row, AreReferred}
 use Rattle.fact_bans.proofs.HoldingLemmas.{held_one, held_then, holds_err, holds_ok, may_later}
@@ -19,8 +18,7 @@ loop-port-preserved g c =
 
 pub returns-in_err-add_ways-clause-holds : goal.returns-in_err-add_ways-clause-holds
 returns-in_err-add_ways-clause-holds g c =
-    let p = err_from_is_err_and c.from_residual.result c.from_residual.ensures.1 in
-    holds_err _ _ _ _ _ _ _ _ _ _ _ c.in_err-add_ways.field-0.0 (cc (p.1, p.2)) c.loop-port.invariant.held c.in_err-add_ways.ensures.holds
+    holds_err _ _ _ _ _ _ _ _ _ _ _ c.in_err-add_ways.field-0.0 c.from_residual.ensures.1 c.loop-port.invariant.held c.in_err-add_ways.ensures.holds
 
 pub returns-then-not-branch-clause-holds : goal.returns-then-not-branch-clause-holds
 returns-then-not-branch-clause-holds g c = holds_ok _ _ _ _ _ _ _ _ _ refl (held_then _ _ _ _ _ _ _ _ _ _ c.loop-port.invariant.held (held_one _ _ _ _ _ _ _ _ c.in_ok-add_ways.ensures.holds))

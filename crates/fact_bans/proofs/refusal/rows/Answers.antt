@@ -1,6 +1,5 @@
 use Rattle.std.proofs.Common.{◌++◌, refl, subst, ap, ◌∙◌}
 use Rattle.std.proofs.lemmas.List.{take_all}
-use Rattle.std.proofs.lemmas.Result.{err_from_is_err_and}
 use Rattle.circuits.specs.declared.port.PortKind.TheVariants.{Output}
 use Rattle.account_core.specs.Covers.{ways}
 use Rattle.fact_bans.specs.Referred.{AreReferred}
@@ -20,16 +19,14 @@ loop-port-preserved g c =
 
 pub returns-in_err-row-clause-holds : goal.returns-in_err-row-clause-holds
 returns-in_err-row-clause-holds g c =
-    let p = err_from_is_err_and c.from_residual.result c.from_residual.ensures.1 in
-    holds_err _ _ _ _ _ _ _ _ _ _ _ c.in_err-row.field-0.0 (cc (p.1, p.2)) c.loop-port.invariant.held c.in_err-row.ensures.holds
+    holds_err _ _ _ _ _ _ _ _ _ _ _ c.in_err-row.field-0.0 c.from_residual.ensures.1 c.loop-port.invariant.held c.in_err-row.ensures.holds
 
 pub returns-in_default-clause-holds : goal.returns-in_default-clause-holds
 returns-in_default-clause-holds g c = holds_ok _ _ _ _ _ _ _ _ _ refl (held_then _ _ _ _ _ _ _ _ _ _ c.loop-port.invariant.held (held_one _ _ _ _ _ _ _ _ c.in_ok-row.ensures.holds))
 
 pub returns-in_err-extend_from_slice-clause-holds : goal.returns-in_err-extend_from_slice-clause-holds
 returns-in_err-extend_from_slice-clause-holds g c =
-    let p = err_from_is_err_and c.from_residual-in_err-extend_from_slice.result c.from_residual-in_err-extend_from_slice.ensures.1 in
-    holds_stop _ _ _ _ _ _ _ _ (cc (p.1, p.2)) (held_then _ _ _ _ _ _ _ _ _ _ c.loop-port.invariant.held (held_one _ _ _ _ _ _ _ _ c.in_ok-row.ensures.holds))
+    holds_stop _ _ _ _ _ _ _ _ c.from_residual-in_err-extend_from_slice.ensures.1 (held_then _ _ _ _ _ _ _ _ _ _ c.loop-port.invariant.held (held_one _ _ _ _ _ _ _ _ c.in_ok-row.ensures.holds))
 
 pub returns-clause-holds : goal.returns-clause-holds
 returns-clause-holds g c = holds_ok _ _ _ _ _ _ _ _ _ refl c.loop-port.invariant.held

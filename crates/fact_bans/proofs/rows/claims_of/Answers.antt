@@ -1,5 +1,4 @@
 use Rattle.std.proofs.Common.{◌<◌, ◌∙◌, length, ap, refl, sym, subst, arith}
-use Rattle.std.proofs.lemmas.Result.{err_from_is_err_and}
 use Rattle.circuits.specs.Netlists.{Net}
 use Rattle.net_core.specs.Sides.{Graphs, graph_of}
 use Rattle.fact_bans.proofs.FactLemmas.{telling_more, telling_start}
@@ -27,13 +26,11 @@ loop-input-preserved g c =
 
 pub returns-in_err-told-clause-serves : goal.returns-in_err-told-clause-serves
 returns-in_err-told-clause-serves g c =
-    let p = err_from_is_err_and c.from_residual.result c.from_residual.ensures.1 in
-    serves_err _ _ _ _ _ _ _ c.in_err-told.field-0.0 (cc (p.1, p.2)) c.loop-input.invariant.served c.in_err-told.ensures.serves
+    serves_err _ _ _ _ _ _ _ c.in_err-told.field-0.0 c.from_residual.ensures.1 c.loop-input.invariant.served c.in_err-told.ensures.serves
 
 pub returns-in_err-push-clause-serves : goal.returns-in_err-push-clause-serves
 returns-in_err-push-clause-serves g c =
-    let p = err_from_is_err_and c.from_residual-in_err-push.result c.from_residual-in_err-push.ensures.1 in
-    serves_memory _ _ _ _ _ (cc (p.1, p.2)) (served_then _ _ _ _ _ _ c.loop-input.invariant.served (served_one _ _ _ _ _ c.in_ok-told.ensures.serves))
+    serves_memory _ _ _ _ _ c.from_residual-in_err-push.ensures.1 (served_then _ _ _ _ _ _ c.loop-input.invariant.served (served_one _ _ _ _ _ c.in_ok-told.ensures.serves))
 
 pub returns-clause-serves : goal.returns-clause-serves
 returns-clause-serves g c = serves_ok _ _ _ _ _ _ refl c.loop-input.invariant.served

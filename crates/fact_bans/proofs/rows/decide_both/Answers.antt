@@ -1,13 +1,11 @@
 use Rattle.std.proofs.Common.{refl}
-use Rattle.std.proofs.lemmas.Result.{err_from_is_err_and}
 use Rattle.fact_bans.proofs.FactLemmas.{told_grows}
 use Rattle.fact_bans.proofs.ServeLemmas.{served_one, served_then, serves_err, serves_ok}
 use Rattle.fact_bans.proofs.rows.decide_both.Goals as goal
 
 pub returns-in_err-down-clause-serves : goal.returns-in_err-down-clause-serves
 returns-in_err-down-clause-serves g c =
-    let p = err_from_is_err_and c.from_residual-in_err-down.result c.from_residual-in_err-down.ensures.1 in
-    serves_err _ _ _ _ _ _ _ c.in_err-down.field-0.0 (cc (p.1, p.2)) (served_one _ _ _ _ _ c.in_ok-up.ensures.serves) c.in_err-down.ensures.serves
+    serves_err _ _ _ _ _ _ _ c.in_err-down.field-0.0 c.from_residual-in_err-down.ensures.1 (served_one _ _ _ _ _ c.in_ok-up.ensures.serves) c.in_err-down.ensures.serves
 
 pub returns-clause-serves : goal.returns-clause-serves
 returns-clause-serves g c =

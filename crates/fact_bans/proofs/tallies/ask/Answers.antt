@@ -1,5 +1,4 @@
 use Rattle.std.proofs.Common.{map, refl, subst}
-use Rattle.std.proofs.lemmas.Result.{err_from_is_err_and}
 use Rattle.net_core.specs.declared.graphs.Side.{Side}
 use Rattle.std.specs.Prelude.{not}
 use Rattle.account_core.specs.Given.{decided_by}
@@ -12,8 +11,7 @@ use Rattle.fact_bans.proofs.tallies.ask.Goals as goal
 
 pub returns-in_err-both-clause-serves : goal.returns-in_err-both-clause-serves
 returns-in_err-both-clause-serves g c =
-    let p = err_from_is_err_and c.from_residual-in_err-both.result c.from_residual-in_err-both.ensures.1 in
-    serves_err _ _ _ _ _ _ _ c.in_err-both.field-0.0 (cc (p.1, p.2)) (served_one _ _ _ _ _ c.in_ok-one.ensures.serves) c.in_err-both.ensures.serves
+    serves_err _ _ _ _ _ _ _ c.in_err-both.field-0.0 c.from_residual-in_err-both.ensures.1 (served_one _ _ _ _ _ c.in_ok-one.ensures.serves) c.in_err-both.ensures.serves
 
 pub returns-in_default-2-clause-serves : goal.returns-in_default-2-clause-serves
 returns-in_default-2-clause-serves g c =

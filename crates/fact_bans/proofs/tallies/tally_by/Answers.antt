@@ -1,5 +1,4 @@
 use Rattle.std.proofs.Common.{◌+◌, ◌/◌, ◌<◌, ◌∷◌, [], List, ℕ, length, map, refl, sym, ap, subst, arith}
-use Rattle.std.proofs.lemmas.Result.{err_from_is_err_and}
 use Rattle.circuits.specs.Netlists.{Net}
 use Rattle.account_core.specs.declared.step.Ban.{Ban}
 use Rattle.account_core.specs.Given.{decided_by, given_of}
@@ -13,8 +12,7 @@ use Rattle.fact_bans.proofs.tallies.tally_by.Goals as goal
 
 pub returns-in_err-lists-clause-holds : goal.returns-in_err-lists-clause-holds
 returns-in_err-lists-clause-holds g c =
-    let p = err_from_is_err_and c.from_residual.result c.from_residual.ensures.1 in
-    holds_fail _ _ _ _ _ _ _ c.in_err-lists.field-0.0 (cc (p.1, p.2)) c.requires.may c.in_err-lists.ensures.serves
+    holds_fail _ _ _ _ _ _ _ c.in_err-lists.field-0.0 c.from_residual.ensures.1 c.requires.may c.in_err-lists.ensures.serves
 
 pub returns-in_default-clause-holds : goal.returns-in_default-clause-holds
 returns-in_default-clause-holds g c =
@@ -26,13 +24,11 @@ returns-then-not-are_many-clause-holds g c =
 
 pub returns-in_err-ban-clause-holds : goal.returns-in_err-ban-clause-holds
 returns-in_err-ban-clause-holds g c =
-    let p = err_from_is_err_and c.from_residual-in_err-ban.result c.from_residual-in_err-ban.ensures.1 in
-    holds_stop _ _ _ _ _ _ _ _ (cc (p.1, p.2)) (held_kept _ _ _ _ _ _ _ c.requires.may.valid (served_one _ _ _ _ _ c.in_ok-lists.ensures.serves) refl)
+    holds_stop _ _ _ _ _ _ _ _ c.from_residual-in_err-ban.ensures.1 (held_kept _ _ _ _ _ _ _ c.requires.may.valid (served_one _ _ _ _ _ c.in_ok-lists.ensures.serves) refl)
 
 pub returns-in_err-number-clause-holds : goal.returns-in_err-number-clause-holds
 returns-in_err-number-clause-holds g c =
-    let p = err_from_is_err_and c.from_residual-in_err-number.result c.from_residual-in_err-number.ensures.1 in
-    holds_stop _ _ _ _ _ _ _ _ (cc (p.1, p.2)) (held_kept _ _ _ _ _ _ _ c.requires.may.valid (served_one _ _ _ _ _ c.in_ok-lists.ensures.serves) c.in_err-number.ensures.refused)
+    holds_stop _ _ _ _ _ _ _ _ c.from_residual-in_err-number.ensures.1 (held_kept _ _ _ _ _ _ _ c.requires.may.valid (served_one _ _ _ _ _ c.in_ok-lists.ensures.serves) c.in_err-number.ensures.refused)
 
 pub returns-clause-holds : goal.returns-clause-holds
 returns-clause-holds g c =

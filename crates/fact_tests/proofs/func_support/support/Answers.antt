@@ -1,6 +1,5 @@
 -- One input more is decided.
 use Rattle.std.proofs.Common.{arith, ap, ◌∙◌}
-use Rattle.std.proofs.lemmas.Result.{err_from_is_err_and}
 use Rattle.circuits.specs.Netlists.{Net}
 use Rattle.fact_tests.specs.Outputs.{function_at, inputs_in}
 use Rattle.fact_tests.proofs.RowLemmas.{support_step}
@@ -9,8 +8,7 @@ use Rattle.fact_tests.proofs.func_support.support.Goals as goal
 
 pub returns-in_err-unate-clause-serves : goal.returns-in_err-unate-clause-serves
 returns-in_err-unate-clause-serves g c =
-    let p = err_from_is_err_and c.from_residual.result c.from_residual.ensures.1 in
-    serves_err _ _ _ _ _ _ _ c.in_err-unate.field-0.0 (cc (p.1, p.2)) c.loop-input.invariant.0 c.in_err-unate.ensures.serves
+    serves_err _ _ _ _ _ _ _ c.in_err-unate.field-0.0 c.from_residual.ensures.1 c.loop-input.invariant.0 c.in_err-unate.ensures.serves
 
 pub loop-input-preserved : goal.loop-input-preserved
 loop-input-preserved g c =

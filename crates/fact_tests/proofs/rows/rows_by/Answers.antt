@@ -1,5 +1,4 @@
 -- One output more has its row.
-use Rattle.std.proofs.lemmas.Result.{err_from_is_err_and}
 use Rattle.fact_tests.specs.Outputs.{function_at, inputs_in}
 use Rattle.fact_tests.specs.Rows.{IsRow}
 use Rattle.fact_tests.proofs.RowLemmas.{rows_step}
@@ -8,13 +7,11 @@ use Rattle.fact_tests.proofs.rows.rows_by.Goals as goal
 
 pub returns-in_err-row-clause-serves : goal.returns-in_err-row-clause-serves
 returns-in_err-row-clause-serves g c =
-    let p = err_from_is_err_and c.from_residual.result c.from_residual.ensures.1 in
-    serves_err _ _ _ _ _ _ _ c.in_err-row.field-0.0 (cc (p.1, p.2)) c.loop-number.invariant.0 c.in_err-row.ensures.serves
+    serves_err _ _ _ _ _ _ _ c.in_err-row.field-0.0 c.from_residual.ensures.1 c.loop-number.invariant.0 c.in_err-row.ensures.serves
 
 pub returns-in_err-push-clause-serves : goal.returns-in_err-push-clause-serves
 returns-in_err-push-clause-serves g c =
-    let p = err_from_is_err_and c.from_residual-in_err-push.result c.from_residual-in_err-push.ensures.1 in
-    serves_memory _ _ _ _ _ (cc (p.1, p.2)) (served_then _ _ _ _ _ _ c.loop-number.invariant.0 (served_one _ _ _ _ _ c.in_ok-row.ensures.serves))
+    serves_memory _ _ _ _ _ c.from_residual-in_err-push.ensures.1 (served_then _ _ _ _ _ _ c.loop-number.invariant.0 (served_one _ _ _ _ _ c.in_ok-row.ensures.serves))
 
 pub loop-number-preserved : goal.loop-number-preserved
 loop-number-preserved g c =

@@ -1,6 +1,5 @@
 -- One pair more is decided; no input of the support lies before the next.
 use Rattle.std.proofs.Common.{◌+◌, refl, arith}
-use Rattle.std.proofs.lemmas.Result.{err_from_is_err_and}
 use Rattle.fact_tests.specs.Outputs.{function_at, inputs_in}
 use Rattle.fact_tests.proofs.RowLemmas.{input_at, pair_step, pairs_end, pairs_skip, support_first}
 use Rattle.fact_tests.proofs.Serving.{served_one, served_none, served_then, serves_err}
@@ -18,8 +17,7 @@ loop-entry-init g c =
 
 pub returns-in_err-sym-clause-serves : goal.returns-in_err-sym-clause-serves
 returns-in_err-sym-clause-serves g c =
-    let p = err_from_is_err_and c.from_residual.result c.from_residual.ensures.1 in
-    serves_err _ _ _ _ _ _ _ c.in_err-sym.field-0.0 (cc (p.1, p.2)) c.loop-entry.invariant.0 c.in_err-sym.ensures.serves
+    serves_err _ _ _ _ _ _ _ c.in_err-sym.field-0.0 c.from_residual.ensures.1 c.loop-entry.invariant.0 c.in_err-sym.ensures.serves
 
 pub loop-entry-preserved : goal.loop-entry-preserved
 loop-entry-preserved g c =

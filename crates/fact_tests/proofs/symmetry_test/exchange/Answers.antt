@@ -1,6 +1,5 @@
 -- Both ways were decided.
 use Rattle.std.proofs.Common.{refl, sym, subst}
-use Rattle.std.proofs.lemmas.Result.{err_from_is_err_and}
 use Rattle.fact_tests.specs.Outputs.{IsSymmetry, function_at, inputs_in}
 use Rattle.fact_tests.proofs.ClaimFacts.{symmetry_is}
 use Rattle.fact_tests.proofs.Serving.{served_one, served_then, serves_err, serves_ok}
@@ -8,8 +7,7 @@ use Rattle.fact_tests.proofs.symmetry_test.exchange.Goals as goal
 
 pub returns-in_err-skew-clause-serves : goal.returns-in_err-skew-clause-serves
 returns-in_err-skew-clause-serves g c =
-    let p = err_from_is_err_and c.from_residual-in_err-skew.result c.from_residual-in_err-skew.ensures.1 in
-    serves_err _ _ _ _ _ _ _ c.in_err-skew.field-0.0 (cc (p.1, p.2)) (served_one _ _ _ _ _ c.in_ok-symmetric.ensures.serves) c.in_err-skew.ensures.serves
+    serves_err _ _ _ _ _ _ _ c.in_err-skew.field-0.0 c.from_residual-in_err-skew.ensures.1 (served_one _ _ _ _ _ c.in_ok-symmetric.ensures.serves) c.in_err-skew.ensures.serves
 
 pub returns-clause-serves : goal.returns-clause-serves
 returns-clause-serves g c =

@@ -1,5 +1,4 @@
 -- The pairs of one input more were added; no input of the support lies before the next.
-use Rattle.std.proofs.lemmas.Result.{err_from_is_err_and}
 use Rattle.fact_tests.specs.Outputs.{function_at, inputs_in}
 use Rattle.fact_tests.proofs.RowLemmas.{later_slice, first_step, input_step}
 use Rattle.fact_tests.proofs.Serving.{served_one, served_none, served_then, serves_err}
@@ -19,8 +18,7 @@ add_pairs-requires-clause-later g c =
 
 pub returns-in_err-add_pairs-clause-serves : goal.returns-in_err-add_pairs-clause-serves
 returns-in_err-add_pairs-clause-serves g c =
-    let p = err_from_is_err_and c.from_residual.result c.from_residual.ensures.1 in
-    serves_err _ _ _ _ _ _ _ c.in_err-add_pairs.field-0.0 (cc (p.1, p.2)) c.loop-place.invariant.0 c.in_err-add_pairs.ensures.serves
+    serves_err _ _ _ _ _ _ _ c.in_err-add_pairs.field-0.0 c.from_residual.ensures.1 c.loop-place.invariant.0 c.in_err-add_pairs.ensures.serves
 
 pub loop-place-preserved : goal.loop-place-preserved
 loop-place-preserved g c =

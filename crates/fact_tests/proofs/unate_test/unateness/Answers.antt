@@ -1,6 +1,5 @@
 -- The input isn't reached, or both claims were decided.
 use Rattle.std.proofs.Common.{refl, sym, subst, ◌∙◌}
-use Rattle.std.proofs.lemmas.Result.{err_from_is_err_and}
 use Rattle.fact_tests.specs.Outputs.{IsDependence, function_at, inputs_in}
 use Rattle.fact_tests.proofs.ClaimFacts.{dependence_is}
 use Rattle.fact_tests.proofs.ReachLemmas.{unreached_outside}
@@ -13,8 +12,7 @@ returns-then-not-reaches-clause-unate g c =
 
 pub returns-in_err-never_rises-clause-serves : goal.returns-in_err-never_rises-clause-serves
 returns-in_err-never_rises-clause-serves g c =
-    let p = err_from_is_err_and c.from_residual-in_err-never_rises.result c.from_residual-in_err-never_rises.ensures.1 in
-    serves_err _ _ _ _ _ _ _ c.in_err-never_rises.field-0.0 (cc (p.1, p.2)) (served_one _ _ _ _ _ c.in_ok-never_falls.ensures.serves) c.in_err-never_rises.ensures.serves
+    serves_err _ _ _ _ _ _ _ c.in_err-never_rises.field-0.0 c.from_residual-in_err-never_rises.ensures.1 (served_one _ _ _ _ _ c.in_ok-never_falls.ensures.serves) c.in_err-never_rises.ensures.serves
 
 pub returns-clause-serves : goal.returns-clause-serves
 returns-clause-serves g c =

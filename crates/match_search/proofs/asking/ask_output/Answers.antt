@@ -1,5 +1,4 @@
 use Rattle.std.proofs.Common.{refl}
-use Rattle.std.proofs.lemmas.Result.{err_from_is_err_and}
 use Rattle.fact_bans.proofs.HoldingLemmas.{held_one, held_same, held_then, holds_err, holds_ok, may_later}
 use Rattle.match_search.proofs.AskLemmas.{known_of}
 use Rattle.match_search.proofs.asking.ask_output.Goals as goal
@@ -15,8 +14,7 @@ loop-number-preserved g c = held_then _ _ _ _ _ _ _ _ _ _ c.loop-number.invarian
 
 pub returns-in_err-ask_alone : goal.returns-in_err-ask_alone
 returns-in_err-ask_alone g c =
-    let p = err_from_is_err_and c.from_residual.result c.from_residual.ensures.1 in
-    holds_err _ _ _ _ _ _ _ _ _ _ _ c.in_err-ask_alone.field-0.0 (cc (p.1, p.2)) c.loop-number.invariant c.in_err-ask_alone.ensures
+    holds_err _ _ _ _ _ _ _ _ _ _ _ c.in_err-ask_alone.field-0.0 c.from_residual.ensures.1 c.loop-number.invariant c.in_err-ask_alone.ensures
 
 pub returns : goal.returns
 returns g c = holds_ok _ _ _ _ _ _ _ _ _ refl c.loop-number.invariant

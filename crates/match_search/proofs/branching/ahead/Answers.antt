@@ -1,14 +1,12 @@
 use Rattle.std.proofs.Common.{map, refl}
 use Rattle.account_core.specs.Given.{decided_by}
-use Rattle.std.proofs.lemmas.Result.{err_from_is_err_and}
 use Rattle.fact_bans.proofs.HoldingLemmas.{held_one, held_same, holds_err, holds_last, holds_ok, may_later}
 use Rattle.match_search.proofs.AskLemmas.{ahead_later}
 use Rattle.match_search.proofs.branching.ahead.Goals as goal
 
 pub returns-in_err-impasse-clause-holds : goal.returns-in_err-impasse-clause-holds
 returns-in_err-impasse-clause-holds g c =
-    let p = err_from_is_err_and c.from_residual.result c.from_residual.ensures.1 in
-    holds_err _ _ _ _ _ _ _ _ _ _ _ c.in_err-impasse.field-0.0 (cc (p.1, p.2)) (held_same _ _ _ _ c.requires.may) c.in_err-impasse.ensures.holds
+    holds_err _ _ _ _ _ _ _ _ _ _ _ c.in_err-impasse.field-0.0 c.from_residual.ensures.1 (held_same _ _ _ _ c.requires.may) c.in_err-impasse.ensures.holds
 
 pub returns-in-Some-clause-holds : goal.returns-in-Some-clause-holds
 returns-in-Some-clause-holds g c = holds_ok _ _ _ _ _ _ _ _ _ refl (held_one _ _ _ _ _ _ _ _ c.in_ok-impasse.ensures.holds)

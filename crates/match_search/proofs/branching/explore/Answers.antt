@@ -1,5 +1,4 @@
 use Rattle.std.proofs.Common.{refl}
-use Rattle.std.proofs.lemmas.Result.{err_from_is_err_and}
 use Rattle.fact_bans.proofs.HoldingLemmas.{held_one, held_same, held_then, holds_err, holds_ok, may_later}
 use Rattle.conflict_core.proofs.GroundedLemmas.{grounded_none}
 use Rattle.match_search.proofs.branching.explore.Goals as goal
@@ -17,8 +16,7 @@ turn-requires-clause-may g c =
 
 pub returns-in_err-found-clause-serves : goal.returns-in_err-found-clause-serves
 returns-in_err-found-clause-serves g c =
-    let p = err_from_is_err_and c.from_residual-in_err-found.result c.from_residual-in_err-found.ensures.1 in
-    (holds_err _ _ _ _ _ _ _ _ _ _ _ c.in_err-found.field-0.0 (cc (p.1, p.2)) c.loop-queue.invariant.held c.in_err-found.ensures.holds).serves
+    (holds_err _ _ _ _ _ _ _ _ _ _ _ c.in_err-found.field-0.0 c.from_residual-in_err-found.ensures.1 c.loop-queue.invariant.held c.in_err-found.ensures.holds).serves
 
 pub returns-in_err-found-clause-valid : goal.returns-in_err-found-clause-valid
 returns-in_err-found-clause-valid g c = c.in_err-found.ensures.holds.valid

@@ -1,18 +1,15 @@
 use Rattle.std.proofs.Common.{refl}
-use Rattle.std.proofs.lemmas.Result.{err_from_is_err_and}
 use Rattle.fact_bans.proofs.HoldingLemmas.{held_same, holds_ok, holds_stop}
 use Rattle.match_search.proofs.AskLemmas.{shown_beside}
 use Rattle.match_search.proofs.branching.go_on.Goals as goal
 
 pub returns-in_err-port-clause-holds : goal.returns-in_err-port-clause-holds
 returns-in_err-port-clause-holds g c =
-    let p = err_from_is_err_and c.from_residual.result c.from_residual.ensures.1 in
-    holds_stop _ _ _ _ _ _ _ _ (cc (p.1, p.2)) (held_same _ _ _ _ c.requires.may)
+    holds_stop _ _ _ _ _ _ _ _ c.from_residual.ensures.1 (held_same _ _ _ _ c.requires.may)
 
 pub returns-in_err-branch-clause-holds : goal.returns-in_err-branch-clause-holds
 returns-in_err-branch-clause-holds g c =
-    let p = err_from_is_err_and c.from_residual-in_err-branch.result c.from_residual-in_err-branch.ensures.1 in
-    holds_stop _ _ _ _ _ _ _ _ (cc (p.1, p.2)) (held_same _ _ _ _ c.requires.may)
+    holds_stop _ _ _ _ _ _ _ _ c.from_residual-in_err-branch.ensures.1 (held_same _ _ _ _ c.requires.may)
 
 pub returns-in-None-clause-holds : goal.returns-in-None-clause-holds
 returns-in-None-clause-holds g c = holds_ok _ _ _ _ _ _ _ _ _ refl (held_same _ _ _ _ c.requires.may)

@@ -1,13 +1,11 @@
 use Rattle.std.proofs.Common.{refl, arith}
-use Rattle.std.proofs.lemmas.Result.{err_from_is_err_and}
 use Rattle.fact_bans.proofs.HoldingLemmas.{held_one, held_same, holds_err, holds_ok, holds_stop}
 use Rattle.match_search.proofs.AskLemmas.{held_learned}
 use Rattle.match_search.proofs.branching.turn.Goals as goal
 
 pub returns-in_err-ahead-clause-holds : goal.returns-in_err-ahead-clause-holds
 returns-in_err-ahead-clause-holds g c =
-    let p = err_from_is_err_and c.from_residual.result c.from_residual.ensures.1 in
-    holds_err _ _ _ _ _ _ _ _ _ _ _ c.in_err-ahead.field-0.0 (cc (p.1, p.2)) (held_same _ _ _ _ c.requires.may) c.in_err-ahead.ensures.holds
+    holds_err _ _ _ _ _ _ _ _ _ _ _ c.in_err-ahead.field-0.0 c.from_residual.ensures.1 (held_same _ _ _ _ c.requires.may) c.in_err-ahead.ensures.holds
 
 pub returns-in-Deeper-clause-holds : goal.returns-in-Deeper-clause-holds
 returns-in-Deeper-clause-holds g c = holds_ok _ _ _ _ _ _ _ _ _ refl (held_one _ _ _ _ _ _ _ _ c.in_ok-ahead.ensures.holds)
@@ -23,8 +21,7 @@ turn_back-requires-clause-impasse g c = (rw c.in-Impasse.is at c.in_ok-ahead.ens
 
 pub returns-in_err-refusal-clause-holds : goal.returns-in_err-refusal-clause-holds
 returns-in_err-refusal-clause-holds g c =
-    let p = err_from_is_err_and c.from_residual-in_err-refusal.result c.from_residual-in_err-refusal.ensures.1 in
-    holds_stop _ _ _ _ _ _ _ _ (cc (p.1, p.2)) (held_learned _ _ _ _ _ _ _ _ _ (held_one _ _ _ _ _ _ _ _ c.in_ok-ahead.ensures.holds) c.in_ok-ahead.ensures.trail.shown c.in_err-refusal.ensures.more)
+    holds_stop _ _ _ _ _ _ _ _ c.from_residual-in_err-refusal.ensures.1 (held_learned _ _ _ _ _ _ _ _ _ (held_one _ _ _ _ _ _ _ _ c.in_ok-ahead.ensures.holds) c.in_ok-ahead.ensures.trail.shown c.in_err-refusal.ensures.more)
 
 pub returns-in-None-clause-holds : goal.returns-in-None-clause-holds
 returns-in-None-clause-holds g c =

@@ -1,5 +1,4 @@
 use Rattle.std.proofs.Common.{◌∙◌, ◌<◌, length, sym, subst, ap, refl, arith}
-use Rattle.std.proofs.lemmas.Result.{err_from_is_err_and}
 use Rattle.circuits.specs.Matches.{HavePorts}
 use Rattle.circuits.specs.Netlists.{Net}
 use Rattle.net_core.specs.Sides.{Graphs}
@@ -25,8 +24,7 @@ compare_one-requires-clause-suits g c = c.loop-output.invariant.served.suits
 
 pub returns-in_err-vector-clause-serves : goal.returns-in_err-vector-clause-serves
 returns-in_err-vector-clause-serves g c =
-    let p = err_from_is_err_and c.from_residual.result c.from_residual.ensures.1 in
-    serves_err _ _ _ _ _ _ _ c.in_err-vector.field-0.0 (cc (p.1, p.2)) c.loop-output.invariant.served c.in_err-vector.ensures.serves
+    serves_err _ _ _ _ _ _ _ c.in_err-vector.field-0.0 c.from_residual.ensures.1 c.loop-output.invariant.served c.in_err-vector.ensures.serves
 
 pub returns-in-Some-clause-serves : goal.returns-in-Some-clause-serves
 returns-in-Some-clause-serves g c =

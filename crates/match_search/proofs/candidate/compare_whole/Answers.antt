@@ -1,5 +1,4 @@
 use Rattle.std.proofs.Common.{refl}
-use Rattle.std.proofs.lemmas.Result.{err_from_is_err_and}
 use Rattle.fact_bans.proofs.HoldingLemmas.{held_kept, held_one, held_then, holds_err, holds_fail, holds_ok, holds_stop, may_later}
 use Rattle.match_search.proofs.CompareLemmas.{shown_match}
 use Rattle.match_search.proofs.ServeLemmas.{served_one}
@@ -7,8 +6,7 @@ use Rattle.match_search.proofs.candidate.compare_whole.Goals as goal
 
 pub returns-in_err-compare_all-clause-holds : goal.returns-in_err-compare_all-clause-holds
 returns-in_err-compare_all-clause-holds g c =
-    let p = err_from_is_err_and c.from_residual-in_err-compare_all.result c.from_residual-in_err-compare_all.ensures.1 in
-    holds_fail _ _ _ _ _ _ _ c.in_err-compare_all.field-0.0 (cc (p.1, p.2)) c.requires.may c.in_err-compare_all.ensures.serves
+    holds_fail _ _ _ _ _ _ _ c.in_err-compare_all.field-0.0 c.from_residual-in_err-compare_all.ensures.1 c.requires.may c.in_err-compare_all.ensures.serves
 
 pub returns-in-None-clause-holds : goal.returns-in-None-clause-holds
 returns-in-None-clause-holds g c =
@@ -32,10 +30,8 @@ returns-in_ok-ban-in-Some-clause-settled g c =
 
 pub returns-in_err-keep-in-Some-clause-holds : goal.returns-in_err-keep-in-Some-clause-holds
 returns-in_err-keep-in-Some-clause-holds g c =
-    let p = err_from_is_err_and c.from_residual-in_err-keep-in-Some.result c.from_residual-in_err-keep-in-Some.ensures.1 in
-    holds_stop _ _ _ _ _ _ _ _ (cc (p.1, p.2)) (held_kept _ _ _ _ _ _ _ c.requires.may.valid (served_one _ _ _ _ _ c.in_ok-compare_all.ensures.serves) refl)
+    holds_stop _ _ _ _ _ _ _ _ c.from_residual-in_err-keep-in-Some.ensures.1 (held_kept _ _ _ _ _ _ _ c.requires.may.valid (served_one _ _ _ _ _ c.in_ok-compare_all.ensures.serves) refl)
 
 pub returns-in_err-ban-in-Some-clause-holds : goal.returns-in_err-ban-in-Some-clause-holds
 returns-in_err-ban-in-Some-clause-holds g c =
-    let p = err_from_is_err_and c.from_residual-in_err-ban-in-Some.result c.from_residual-in_err-ban-in-Some.ensures.1 in
-    holds_err _ _ _ _ _ _ _ _ _ _ _ c.in_err-ban-in-Some.field-0.0 (cc (p.1, p.2)) (held_kept _ _ _ _ _ _ _ c.requires.may.valid (served_one _ _ _ _ _ c.in_ok-compare_all.ensures.serves) refl) c.in_err-ban-in-Some.ensures.holds
+    holds_err _ _ _ _ _ _ _ _ _ _ _ c.in_err-ban-in-Some.field-0.0 c.from_residual-in_err-ban-in-Some.ensures.1 (held_kept _ _ _ _ _ _ _ c.requires.may.valid (served_one _ _ _ _ _ c.in_ok-compare_all.ensures.serves) refl) c.in_err-ban-in-Some.ensures.holds

@@ -1,7 +1,7 @@
 -- Guesses are compared, and then counts, more guesses and the search decide.
 use Rattle.std.proofs.Common.{◌∙◌, sym}
 use Rattle.match_search.proofs.SearchLemmas.{none_last}
-use Rattle.match_search.proofs.ServeLemmas.{served_one, serves_after}
+use Rattle.match_search.proofs.ServeLemmas.{served_one, serves_last}
 use Rattle.match_search.proofs.deciding.decide.Goals as goal
 
 pub refuse_or_find-requires-clause-graphs : goal.refuse_or_find-requires-clause-graphs
@@ -9,13 +9,13 @@ refuse_or_find-requires-clause-graphs g c = c.requires.graphs ∙ sym c.in_ok-ta
 
 pub returns-in-Little-clause-serves : goal.returns-in-Little-clause-serves
 returns-in-Little-clause-serves g c =
-    serves_after _ _ _ _ _ _ _ (served_one _ _ _ _ _ c.in_ok-table.ensures.serves) c.refuse_or_find.ensures.serves
+    serves_last _ _ _ _ _ _ _ (served_one _ _ _ _ _ c.in_ok-table.ensures.serves) c.refuse_or_find.ensures.serves
 
 pub search-requires-clause-graphs : goal.search-requires-clause-graphs
 search-requires-clause-graphs g c = c.requires.graphs ∙ sym c.in_ok-table.ensures.serves.grows.graphs
 
 pub returns-clause-serves : goal.returns-clause-serves
-returns-clause-serves g c = serves_after _ _ _ _ _ _ _ (served_one _ _ _ _ _ c.in_ok-table.ensures.serves) c.search.ensures.serves
+returns-clause-serves g c = serves_last _ _ _ _ _ _ _ (served_one _ _ _ _ _ c.in_ok-table.ensures.serves) c.search.ensures.serves
 
 pub returns-in_err-table-clause-last_resorts : goal.returns-in_err-table-clause-last_resorts
 returns-in_err-table-clause-last_resorts g c = none_last _ _ _ c.requires.book

@@ -1,5 +1,4 @@
 use Rattle.std.proofs.Common.{refl}
-use Rattle.std.proofs.lemmas.Result.{err_from_is_err_and}
 use Rattle.fact_bans.proofs.HoldingLemmas.{held_one, held_same, may_later}
 use Rattle.match_search.proofs.SearchLemmas.{may_start}
 use Rattle.match_search.proofs.ServeLemmas.{served_one, serves_err, serves_last, serves_ok}
@@ -10,9 +9,8 @@ refuse-requires g c = record { may = may_start _ _ _ _ c.requires.graphs c.facts
 
 pub returns-in_err-ban-clause-serves : goal.returns-in_err-ban-clause-serves
 returns-in_err-ban-clause-serves g c =
-    let p = err_from_is_err_and c.from_residual-in_err-ban.result c.from_residual-in_err-ban.ensures.1 in
     let may = may_start _ _ _ _ c.requires.graphs c.facts-facts.ensures.lawful c.requires.suits c.requires.book in
-    serves_err _ _ _ _ _ _ _ c.in_err-ban.field-0.0 (cc (p.1, p.2)) (held_same _ _ _ _ may).served c.in_err-ban.ensures.holds.serves
+    serves_err _ _ _ _ _ _ _ c.in_err-ban.field-0.0 c.from_residual-in_err-ban.ensures.1 (held_same _ _ _ _ may).served c.in_err-ban.ensures.holds.serves
 
 pub returns-in_err-ban-clause-valid : goal.returns-in_err-ban-clause-valid
 returns-in_err-ban-clause-valid g c = c.in_err-ban.ensures.holds.valid

@@ -1,5 +1,4 @@
 use Rattle.std.proofs.Common.{refl}
-use Rattle.std.proofs.lemmas.Result.{err_from_is_err_and}
 use Rattle.std.proofs.lemmas.List.Elements.{All-contains, Contains-get_or}
 use Rattle.account_core.specs.Ports.{IsKnown}
 use Rattle.fact_bans.proofs.HoldingLemmas.{held_one, held_same, held_then, holds_err, holds_ok, may_later}
@@ -25,8 +24,7 @@ loop-third-preserved g c = held_then _ _ _ _ _ _ _ _ _ _ c.loop-third.invariant 
 
 pub returns-in_err-ban-clause-holds : goal.returns-in_err-ban-clause-holds
 returns-in_err-ban-clause-holds g c =
-    let p = err_from_is_err_and c.from_residual.result c.from_residual.ensures.1 in
-    holds_err _ _ _ _ _ _ _ _ _ _ _ c.in_err-ban.field-0.0 (cc (p.1, p.2)) c.loop-third.invariant c.in_err-ban.ensures.holds
+    holds_err _ _ _ _ _ _ _ _ _ _ _ c.in_err-ban.field-0.0 c.from_residual.ensures.1 c.loop-third.invariant c.in_err-ban.ensures.holds
 
 pub returns-in-Some-clause-holds : goal.returns-in-Some-clause-holds
 returns-in-Some-clause-holds g c = holds_ok _ _ _ _ _ _ _ _ _ refl (held_then _ _ _ _ _ _ _ _ _ _ c.loop-third.invariant (held_one _ _ _ _ _ _ _ _ c.in_ok-ban.ensures.holds))

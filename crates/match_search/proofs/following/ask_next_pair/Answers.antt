@@ -1,5 +1,4 @@
 use Rattle.std.proofs.Common.{List, refl, sym, subst}
-use Rattle.std.proofs.lemmas.Result.{err_from_is_err_and}
 use Rattle.account_core.specs.declared.step.Ban.{Ban}
 use Rattle.fact_bans.proofs.HoldingLemmas.{held_kept, held_one, held_same, held_then, holds_err, holds_no_more, holds_ok, may_later}
 use Rattle.fact_bans.proofs.ServeLemmas.{served_one}
@@ -15,8 +14,7 @@ ask_bans-requires-clause-trail g c = c.requires.trail.trail
 
 pub returns-in_err-more-clause-holds : goal.returns-in_err-more-clause-holds
 returns-in_err-more-clause-holds g c =
-    let p = err_from_is_err_and c.from_residual.result c.from_residual.ensures.1 in
-    holds_err _ _ _ _ _ _ _ _ _ _ _ c.in_err-more.field-0.0 (cc (p.1, p.2)) (held_same _ _ _ _ c.requires.may) c.in_err-more.ensures.holds
+    holds_err _ _ _ _ _ _ _ _ _ _ _ c.in_err-more.field-0.0 c.from_residual.ensures.1 (held_same _ _ _ _ c.requires.may) c.in_err-more.ensures.holds
 
 pub returns-then-more-clause-holds : goal.returns-then-more-clause-holds
 returns-then-more-clause-holds g c = holds_ok _ _ _ _ _ _ _ _ _ refl (held_one _ _ _ _ _ _ _ _ c.in_ok-more.ensures.holds)
@@ -37,9 +35,8 @@ delete_beside-requires-clause-trail g c =
 
 pub returns-in_err-delete_beside-clause-holds : goal.returns-in_err-delete_beside-clause-holds
 returns-in_err-delete_beside-clause-holds g c =
-    let p = err_from_is_err_and c.from_residual-in_err-delete_beside.result c.from_residual-in_err-delete_beside.ensures.1 in
     let held = held_one _ _ _ _ _ _ _ _ c.in_ok-more.ensures.holds in
-    holds_err _ _ _ _ _ _ _ _ _ _ _ c.in_err-delete_beside.field-0.0 (cc (p.1, p.2)) held (holds_no_more _ _ _ _ _ _ _ held.valid c.in_err-delete_beside.ensures.serves)
+    holds_err _ _ _ _ _ _ _ _ _ _ _ c.in_err-delete_beside.field-0.0 c.from_residual-in_err-delete_beside.ensures.1 held (holds_no_more _ _ _ _ _ _ _ held.valid c.in_err-delete_beside.ensures.serves)
 
 pub returns-clause-holds : goal.returns-clause-holds
 returns-clause-holds g c =

@@ -1,5 +1,4 @@
 use Rattle.std.proofs.Common.{refl, sym, subst}
-use Rattle.std.proofs.lemmas.Result.{err_from_is_err_and}
 use Rattle.port_covers.specs.Held.{AreHeld}
 use Rattle.conflict_core.proofs.PivotLemmas.{held_known}
 use Rattle.fact_bans.proofs.HoldingLemmas.{held_one, held_same, holds_err, holds_ok}
@@ -12,8 +11,7 @@ foresee-requires-clause-held g c =
 
 pub returns-in_err-ban-clause-holds : goal.returns-in_err-ban-clause-holds
 returns-in_err-ban-clause-holds g c =
-    let p = err_from_is_err_and c.from_residual.result c.from_residual.ensures.1 in
-    holds_err _ _ _ _ _ _ _ _ _ _ _ c.in_err-ban.field-0.0 (cc (p.1, p.2)) (held_same _ _ _ _ c.requires.may) c.in_err-ban.ensures.holds
+    holds_err _ _ _ _ _ _ _ _ _ _ _ c.in_err-ban.field-0.0 c.from_residual.ensures.1 (held_same _ _ _ _ c.requires.may) c.in_err-ban.ensures.holds
 
 pub returns-in-Some-clause-holds : goal.returns-in-Some-clause-holds
 returns-in-Some-clause-holds g c = holds_ok _ _ _ _ _ _ _ _ _ refl (held_one _ _ _ _ _ _ _ _ c.in_ok-ban.ensures.holds)

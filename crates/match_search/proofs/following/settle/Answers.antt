@@ -1,6 +1,5 @@
 use Rattle.std.proofs.Common.{refl, sym, subst, arith}
 use Rattle.table_guess.specs.Trials.{AreTrials}
-use Rattle.std.proofs.lemmas.Result.{err_from_is_err_and}
 use Rattle.fact_bans.proofs.HoldingLemmas.{held_one, held_same, held_then, holds_err, holds_ok, holds_stop, may_later}
 use Rattle.match_search.proofs.AskLemmas.{shown_follows}
 use Rattle.match_search.proofs.following.settle.Goals as goal
@@ -13,8 +12,7 @@ loop-turn-init g c = record {
 
 pub returns-in_err-impasse-clause-holds : goal.returns-in_err-impasse-clause-holds
 returns-in_err-impasse-clause-holds g c =
-    let p = err_from_is_err_and c.from_residual.result c.from_residual.ensures.1 in
-    holds_stop _ _ _ _ _ _ _ _ (cc (p.1, p.2)) c.loop-turn.invariant.way.held
+    holds_stop _ _ _ _ _ _ _ _ c.from_residual.ensures.1 c.loop-turn.invariant.way.held
 
 pub returns-in-Some-clause-holds : goal.returns-in-Some-clause-holds
 returns-in-Some-clause-holds g c = holds_ok _ _ _ _ _ _ _ _ _ refl c.loop-turn.invariant.way.held
@@ -36,8 +34,7 @@ ask_next-requires-clause-trail g c = shown_follows _ _ _ _ _ _ c.bans.ensures c.
 
 pub returns-in_err-more-clause-holds : goal.returns-in_err-more-clause-holds
 returns-in_err-more-clause-holds g c =
-    let p = err_from_is_err_and c.from_residual-in_err-more.result c.from_residual-in_err-more.ensures.1 in
-    holds_err _ _ _ _ _ _ _ _ _ _ _ c.in_err-more.field-0.0 (cc (p.1, p.2)) c.loop-turn.invariant.way.held c.in_err-more.ensures.holds
+    holds_err _ _ _ _ _ _ _ _ _ _ _ c.in_err-more.field-0.0 c.from_residual-in_err-more.ensures.1 c.loop-turn.invariant.way.held c.in_err-more.ensures.holds
 
 pub returns-then-not-more-clause-holds : goal.returns-then-not-more-clause-holds
 returns-then-not-more-clause-holds g c =

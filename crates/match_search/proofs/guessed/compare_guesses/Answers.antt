@@ -1,6 +1,5 @@
 -- Guesses are compared one after the other.
 use Rattle.std.proofs.Common.{◌∙◌, sym, subst, refl}
-use Rattle.std.proofs.lemmas.Result.{err_from_is_err_and}
 use Rattle.net_core.specs.Sides.{Graphs}
 use Rattle.account_core.specs.Facts.{AreFacts}
 use Rattle.match_search.proofs.SearchLemmas.{guessing_start}
@@ -18,8 +17,7 @@ compare_guess-requires-clause-lawful g c = subst (λ (gr : Graphs). AreFacts gr 
 
 pub returns-in_err-table-clause-serves : goal.returns-in_err-table-clause-serves
 returns-in_err-table-clause-serves g c =
-    let p = err_from_is_err_and c.from_residual.result c.from_residual.ensures.1 in
-    serves_err _ _ _ _ _ _ _ c.in_err-table.field-0.0 (cc (p.1, p.2)) c.loop-guesses.invariant c.in_err-table.ensures.serves
+    serves_err _ _ _ _ _ _ _ c.in_err-table.field-0.0 c.from_residual.ensures.1 c.loop-guesses.invariant c.in_err-table.ensures.serves
 
 pub returns-in-Match-clause-serves : goal.returns-in-Match-clause-serves
 returns-in-Match-clause-serves g c =

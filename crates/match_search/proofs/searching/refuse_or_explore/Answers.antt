@@ -1,14 +1,12 @@
 -- Counts refuse a match, or the search goes on with the bans that are held.
 use Rattle.std.proofs.Common.{refl}
-use Rattle.std.proofs.lemmas.Result.{err_from_is_err_and}
 use Rattle.fact_bans.proofs.HoldingLemmas.{held_one, held_same, may_later}
 use Rattle.match_search.proofs.ServeLemmas.{served_one, serves_err, serves_last, serves_ok}
 use Rattle.match_search.proofs.searching.refuse_or_explore.Goals as goal
 
 pub returns-in_err-ban-clause-serves : goal.returns-in_err-ban-clause-serves
 returns-in_err-ban-clause-serves g c =
-    let p = err_from_is_err_and c.from_residual.result c.from_residual.ensures.1 in
-    serves_err _ _ _ _ _ _ _ c.in_err-ban.field-0.0 (cc (p.1, p.2)) (held_same _ _ _ _ c.requires.may).served c.in_err-ban.ensures.holds.serves
+    serves_err _ _ _ _ _ _ _ c.in_err-ban.field-0.0 c.from_residual.ensures.1 (held_same _ _ _ _ c.requires.may).served c.in_err-ban.ensures.holds.serves
 
 pub returns-in_err-ban-clause-valid : goal.returns-in_err-ban-clause-valid
 returns-in_err-ban-clause-valid g c = c.in_err-ban.ensures.holds.valid

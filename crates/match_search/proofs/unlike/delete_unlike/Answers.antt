@@ -1,5 +1,4 @@
 use Rattle.std.proofs.Common.{◌∙◌, refl, sym}
-use Rattle.std.proofs.lemmas.Result.{err_from_is_err_and}
 use Rattle.fact_bans.proofs.ServeLemmas.{served_one, served_same, serves_err, serves_ok}
 use Rattle.match_search.proofs.AskLemmas.{deletes_none, deleting_then}
 use Rattle.match_search.proofs.unlike.delete_unlike.Goals as goal
@@ -23,8 +22,7 @@ delete_way-requires-clause-held g c = c.loop-way.invariant.deletes.held
 
 pub returns-in_err-delete_way-clause-serves : goal.returns-in_err-delete_way-clause-serves
 returns-in_err-delete_way-clause-serves g c =
-    let p = err_from_is_err_and c.from_residual.result c.from_residual.ensures.1 in
-    serves_err _ _ _ _ _ _ _ c.in_err-delete_way.field-0.0 (cc (p.1, p.2)) c.loop-way.invariant.served c.in_err-delete_way.ensures.serves
+    serves_err _ _ _ _ _ _ _ c.in_err-delete_way.field-0.0 c.from_residual.ensures.1 c.loop-way.invariant.served c.in_err-delete_way.ensures.serves
 
 pub loop-way-preserved : goal.loop-way-preserved
 loop-way-preserved g c =

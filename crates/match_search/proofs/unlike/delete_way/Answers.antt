@@ -1,5 +1,4 @@
 use Rattle.std.proofs.Common.{refl}
-use Rattle.std.proofs.lemmas.Result.{err_from_is_err_and}
 use Rattle.fact_bans.proofs.ServeLemmas.{served_one, served_same, serves_memory, serves_ok}
 use Rattle.match_search.proofs.AskLemmas.{deletes_none, deletes_one, known_of}
 use Rattle.match_search.proofs.unlike.delete_way.Goals as goal
@@ -25,8 +24,7 @@ returns-in_default-clause-deletes g c = deletes_none _ _ _ _ _ _ c.in_ok-unlike.
 
 pub returns-in_err-delete-clause-serves : goal.returns-in_err-delete-clause-serves
 returns-in_err-delete-clause-serves g c =
-    let p = err_from_is_err_and c.from_residual-in_err-delete.result c.from_residual-in_err-delete.ensures.1 in
-    serves_memory _ _ _ _ _ (cc (p.1, p.2)) (served_one _ _ _ _ _ c.in_ok-unlike.ensures.serves)
+    serves_memory _ _ _ _ _ c.from_residual-in_err-delete.ensures.1 (served_one _ _ _ _ _ c.in_ok-unlike.ensures.serves)
 
 pub returns-clause-serves : goal.returns-clause-serves
 returns-clause-serves g c = serves_ok _ _ _ _ _ _ refl (served_one _ _ _ _ _ c.in_ok-unlike.ensures.serves)

@@ -1,5 +1,4 @@
 use Rattle.std.proofs.Common.{List, map, refl, subst, sym}
-use Rattle.std.proofs.lemmas.Result.{err_from_is_err_and}
 use Rattle.account_core.specs.Given.{decided_by}
 use Rattle.account_core.specs.declared.fact.Fact.{Fact}
 use Rattle.conflict_core.specs.Grounded.{AreGrounded}
@@ -11,8 +10,7 @@ use Rattle.pair_refine.proofs.refining.refine.Goals as goal
 
 pub returns-in_err-rows-clause-holds : goal.returns-in_err-rows-clause-holds
 returns-in_err-rows-clause-holds g c =
-    let p = err_from_is_err_and c.from_residual.result c.from_residual.ensures.1 in
-    holds_fail _ _ _ _ _ _ _ c.in_err-rows.field-0.0 (cc (p.1, p.2)) c.requires.may c.in_err-rows.ensures.serves
+    holds_fail _ _ _ _ _ _ _ c.in_err-rows.field-0.0 c.from_residual.ensures.1 c.requires.may c.in_err-rows.ensures.serves
 
 pub returns-in_err-rows-clause-trail : goal.returns-in_err-rows-clause-trail
 returns-in_err-rows-clause-trail g c =
@@ -24,9 +22,8 @@ refine_by-requires-clause-shown g c =
 
 pub returns-in_err-refine_by-clause-holds : goal.returns-in_err-refine_by-clause-holds
 returns-in_err-refine_by-clause-holds g c =
-    let p = err_from_is_err_and c.from_residual-in_err-refine_by.result c.from_residual-in_err-refine_by.ensures.1 in
     let refines = subst (λ (l : List Fact). Refines c.args.graphs.now (map decided_by l) c.args.book.now c.refine_by.new.book c.args.domains.now c.refine_by.new.domains) c.facts.ensures.value c.in_err-refine_by.ensures.refines in
-    holds_stop _ _ _ _ _ _ _ _ (cc (p.1, p.2)) (held_refined c.args.graphs.now _ _ _ _ c.args.book.now c.refine_by.new.book c.args.domains.now c.refine_by.new.domains (valid_grows _ _ c.args.graphs.now c.args.book.now c.in_ok-rows.ensures.serves.grows c.requires.may.valid) (served_one _ _ _ _ _ c.in_ok-rows.ensures.serves) refines)
+    holds_stop _ _ _ _ _ _ _ _ c.from_residual-in_err-refine_by.ensures.1 (held_refined c.args.graphs.now _ _ _ _ c.args.book.now c.refine_by.new.book c.args.domains.now c.refine_by.new.domains (valid_grows _ _ c.args.graphs.now c.args.book.now c.in_ok-rows.ensures.serves.grows c.requires.may.valid) (served_one _ _ _ _ _ c.in_ok-rows.ensures.serves) refines)
 
 pub returns-in_err-refine_by-clause-trail : goal.returns-in_err-refine_by-clause-trail
 returns-in_err-refine_by-clause-trail g c =

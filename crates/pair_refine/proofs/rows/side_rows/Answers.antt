@@ -1,5 +1,4 @@
 use Rattle.std.proofs.Common.{◌∙◌, ap, length, map, refl, sym, subst, arith, ℕ}
-use Rattle.std.proofs.lemmas.Result.{err_from_is_err_and}
 use Rattle.circuits.specs.Netlists.{Net}
 use Rattle.account_core.specs.Given.{decided_by}
 use Rattle.fact_bans.proofs.ServeLemmas.{served_one, served_then, serves_err, serves_memory, serves_ok}
@@ -26,13 +25,11 @@ loop-output-preserved g c =
 
 pub returns-in_err-row-clause-serves : goal.returns-in_err-row-clause-serves
 returns-in_err-row-clause-serves g c =
-    let p = err_from_is_err_and c.from_residual.result c.from_residual.ensures.1 in
-    serves_err _ _ _ _ _ _ _ c.in_err-row.field-0.0 (cc (p.1, p.2)) c.loop-output.invariant.served c.in_err-row.ensures.serves
+    serves_err _ _ _ _ _ _ _ c.in_err-row.field-0.0 c.from_residual.ensures.1 c.loop-output.invariant.served c.in_err-row.ensures.serves
 
 pub returns-in_err-push-clause-serves : goal.returns-in_err-push-clause-serves
 returns-in_err-push-clause-serves g c =
-    let p = err_from_is_err_and c.from_residual-in_err-push.result c.from_residual-in_err-push.ensures.1 in
-    serves_memory _ _ _ _ _ (cc (p.1, p.2)) (served_then _ _ _ _ _ _ c.loop-output.invariant.served (served_one _ _ _ _ _ c.in_ok-row.ensures.serves))
+    serves_memory _ _ _ _ _ c.from_residual-in_err-push.ensures.1 (served_then _ _ _ _ _ _ c.loop-output.invariant.served (served_one _ _ _ _ _ c.in_ok-row.ensures.serves))
 
 pub returns-clause-serves : goal.returns-clause-serves
 returns-clause-serves g c = serves_ok _ _ _ _ _ _ refl c.loop-output.invariant.served

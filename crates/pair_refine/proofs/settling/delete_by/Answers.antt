@@ -1,5 +1,4 @@
 use Rattle.std.proofs.Common.{◌∷◌, List, map, subst, sym}
-use Rattle.std.proofs.lemmas.Result.{err_from_is_err_and}
 use Rattle.circuits.specs.declared.port.Pair.{Pair}
 use Rattle.account_core.specs.Given.{decided_by}
 use Rattle.ban_book.specs.Covering.{Covers}
@@ -21,10 +20,9 @@ returns-in-Some c = record {
 
 pub returns-in_err-delete : goal.returns-in_err-delete
 returns-in_err-delete c =
-    let p = err_from_is_err_and c.from_residual-in_err-delete.result c.from_residual-in_err-delete.ensures.1 in
     let facts = map decided_by c.args.facts.now in
     let held = refines_bans c.args.graphs.now facts c.args.book.now c.hold.new.self c.args.domains.now (shown_one c.args.graphs.now facts c.args.book.now c.hold.new.self c.args.ban c.in_ok-number.ensures.held c.requires.shown.no_vector c.requires.shown.valid) in
-    stops c.args.graphs.now facts c.args.book.now c.hold.new.self c.args.domains.now c.delete.new.self _ _ p.0 p.1 (subst (λ (d : Domained). Refines c.args.graphs.now facts c.args.book.now c.hold.new.self c.args.domains.now d) (sym c.in_err-delete.ensures.refused) held)
+    stops c.args.graphs.now facts c.args.book.now c.hold.new.self c.args.domains.now c.delete.new.self _ _ c.from_residual-in_err-delete.ensures.0 (subst (λ (d : Domained). Refines c.args.graphs.now facts c.args.book.now c.hold.new.self c.args.domains.now d) (sym c.in_err-delete.ensures.refused) held)
 
 pub returns : goal.returns
 returns c =

@@ -1,5 +1,4 @@
 use Rattle.std.proofs.Common.{◌≡◌, ◌+◌, inl, inr}
-use Rattle.std.proofs.lemmas.Result.{err_from_is_err_and}
 use Rattle.class_refine.specs.Trails.{IsPairOf}
 use Rattle.pair_refine.proofs.SettleLemmas.{IsFromBefore, from_more, settles_dead, settles_err, way_then}
 use Rattle.pair_refine.proofs.TrailLemmas.{pair_of_later}
@@ -7,8 +6,7 @@ use Rattle.pair_refine.proofs.settling.settle_kind.Goals as goal
 
 pub returns-in_err-dead : goal.returns-in_err-dead
 returns-in_err-dead c =
-    let p = err_from_is_err_and c.from_residual.result c.from_residual.ensures.1 in
-    settles_err _ _ _ _ _ _ _ _ _ (λ pair. ⊥) _ c.loop-from.invariant c.from_residual.result p.0 p.1 c.in_err-dead.ensures.refines
+    settles_err _ _ _ _ _ _ _ _ _ (λ pair. ⊥) _ c.loop-from.invariant c.from_residual.result c.from_residual.ensures.0 c.in_err-dead.ensures.refines
 
 pub returns-in-Some : goal.returns-in-Some
 returns-in-Some c =

@@ -1,5 +1,4 @@
 use Rattle.std.proofs.Common.{◌≡◌, ◌+◌, arith}
-use Rattle.std.proofs.lemmas.Result.{err_from_is_err_and}
 use Rattle.class_refine.specs.Trails.{IsPairOf}
 use Rattle.pair_refine.specs.Settling.{IsBetween}
 use Rattle.pair_refine.proofs.SettleLemmas.{IsBefore, before_more, settles_dead, settles_err, settles_ok, way_then}
@@ -8,8 +7,7 @@ use Rattle.pair_refine.proofs.settling.settle_port.Goals as goal
 
 pub returns-in_err-dead : goal.returns-in_err-dead
 returns-in_err-dead c =
-    let p = err_from_is_err_and c.from_residual.result c.from_residual.ensures.1 in
-    settles_err _ _ _ _ _ _ _ _ _ (IsBetween c.args.kind c.args.from c.loop-to.to) _ c.loop-to.invariant c.from_residual.result p.0 p.1 c.in_err-dead.ensures.refines
+    settles_err _ _ _ _ _ _ _ _ _ (IsBetween c.args.kind c.args.from c.loop-to.to) _ c.loop-to.invariant c.from_residual.result c.from_residual.ensures.0 c.in_err-dead.ensures.refines
 
 pub returns-in-Some : goal.returns-in-Some
 returns-in-Some c =

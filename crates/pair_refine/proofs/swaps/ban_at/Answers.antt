@@ -19,3 +19,6 @@ returns-clause-shown c =
     let here = subst (λ (claim : Claim). IsToldAs facts claim told.holds told.number) (sym c.claim_at.ensures) c.told_at-fact.ensures.told in
     let there = subst (λ (claim : Claim). IsToldAs facts claim image.holds image.number) c.carry.ensures c.in-Some-otherwise.ensures.found in
     subst (IsShownBan graphs facts c.args.pairs.now) (sym (c.in_ok-ban.ensures ∙ ap (λ (u : Unlike). mismatch_of (e.one ∷ e.other ∷ e.output ∷ []) u) c.unlike_of.ensures)) (exchange_shown graphs facts c.args.pairs.now c.claim_at.result e told.holds image.holds told.number image.number (facts_decided graphs c.args.facts.now c.requires.lawful) c.requires.known c.in-Some.ensures.found here there c.in-Some-otherwise.ensures.differ)
+
+pub otherwise-requires-clause-distinct : goal.otherwise-requires-clause-distinct
+otherwise-requires-clause-distinct c = (facts_decided c.args.graphs.now c.args.facts.now c.requires.lawful).distinct

@@ -1,5 +1,5 @@
 use Rattle.std.proofs.Common.{ℕ}
-use Rattle.std.proofs.lemmas.Result.{err_from_is_err_and, IfOk-weaker}
+use Rattle.std.proofs.lemmas.Result.{IfOk-weaker}
 use Rattle.ban_book.specs.Covering.{Covers}
 use Rattle.fact_bans.proofs.HoldingLemmas.{held_same, holds_stop}
 use Rattle.fact_bans.proofs.WiderLemmas.{covers_wider}
@@ -7,8 +7,7 @@ use Rattle.vector_bans.proofs.difference.exclude.Goals as goal
 
 pub returns-in_err-shown-clause-holds : goal.returns-in_err-shown-clause-holds
 returns-in_err-shown-clause-holds g c =
-    let p = err_from_is_err_and c.from_residual.result c.from_residual.ensures.1 in
-    holds_stop _ _ _ _ _ _ _ _ (cc (p.1, p.2)) (held_same _ _ _ _ c.requires.may)
+    holds_stop _ _ _ _ _ _ _ _ c.from_residual.ensures.1 (held_same _ _ _ _ c.requires.may)
 
 pub returns-clause-covers : goal.returns-clause-covers
 returns-clause-covers g c = λ held all extends.

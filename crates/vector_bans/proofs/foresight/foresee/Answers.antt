@@ -1,5 +1,4 @@
 use Rattle.std.proofs.Common.{refl}
-use Rattle.std.proofs.lemmas.Result.{err_from_is_err_and}
 use Rattle.fact_bans.proofs.HoldingLemmas.{held_one, held_same, holds_err, holds_ok, holds_stop}
 use Rattle.fact_bans.proofs.WiderLemmas.{covers_wider}
 use Rattle.vector_bans.proofs.ShownLemmas.{shown_itself}
@@ -7,8 +6,7 @@ use Rattle.vector_bans.proofs.foresight.foresee.Goals as goal
 
 pub returns-in_err-shown-clause-holds : goal.returns-in_err-shown-clause-holds
 returns-in_err-shown-clause-holds g c =
-    let p = err_from_is_err_and c.from_residual.result c.from_residual.ensures.1 in
-    holds_stop _ _ _ _ _ _ _ _ (cc (p.1, p.2)) (held_same _ _ _ _ c.requires.may)
+    holds_stop _ _ _ _ _ _ _ _ c.from_residual.ensures.1 (held_same _ _ _ _ c.requires.may)
 
 pub returns-in_default-clause-holds : goal.returns-in_default-clause-holds
 returns-in_default-clause-holds g c = holds_ok _ _ _ _ _ _ _ _ _ refl (held_same _ _ _ _ c.requires.may)
@@ -18,8 +16,7 @@ hold_shown-requires-clause-shown g c = shown_itself _ _ _ _ _ (rw c.in-Some.is a
 
 pub returns-in_err-number-clause-holds : goal.returns-in_err-number-clause-holds
 returns-in_err-number-clause-holds g c =
-    let p = err_from_is_err_and c.from_residual-in_err-number.result c.from_residual-in_err-number.ensures.1 in
-    holds_err _ _ _ _ _ _ _ _ _ _ _ c.in_err-number.field-0.0 (cc (p.1, p.2)) (held_same _ _ _ _ c.requires.may) c.in_err-number.ensures.holds
+    holds_err _ _ _ _ _ _ _ _ _ _ _ c.in_err-number.field-0.0 c.from_residual-in_err-number.ensures.1 (held_same _ _ _ _ c.requires.may) c.in_err-number.ensures.holds
 
 pub returns-clause-holds : goal.returns-clause-holds
 returns-clause-holds g c = holds_ok _ _ _ _ _ _ _ _ _ refl (held_one _ _ _ _ _ _ _ _ c.in_ok-number.ensures.holds)

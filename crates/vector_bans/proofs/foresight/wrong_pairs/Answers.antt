@@ -4,7 +4,8 @@ use Rattle.circuits.specs.declared.port.Pair.{Pair}
 use Rattle.account_core.specs.Ports.{IsKnown}
 use Rattle.word_sim.specs.declared.tri.Tri.{Tri}
 use Rattle.vector_bans.specs.Differences.{IsWrong}
-use Rattle.vector_bans.proofs.ForesightLemmas.{part_known, shown_held}
+use Rattle.port_covers.proofs.BookLemmas.{part_known}
+use Rattle.vector_bans.proofs.ForesightLemmas.{shown_held}
 use Rattle.vector_bans.proofs.ShownLemmas.{shown_made_among}
 use Rattle.vector_bans.proofs.foresight.wrong_pairs.Goals as goal
 

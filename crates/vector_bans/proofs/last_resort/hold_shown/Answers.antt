@@ -1,5 +1,4 @@
 use Rattle.std.proofs.Common.{refl}
-use Rattle.std.proofs.lemmas.Result.{err_from_is_err_and}
 use Rattle.ban_book.proofs.BookLemmas.{covers_last}
 use Rattle.fact_bans.proofs.HoldingLemmas.{held_ban, held_kept, holds_fail, holds_ok, holds_stop}
 use Rattle.fact_bans.proofs.ServeLemmas.{served_one}
@@ -7,13 +6,11 @@ use Rattle.vector_bans.proofs.last_resort.hold_shown.Goals as goal
 
 pub returns-in_err-ban-clause-holds : goal.returns-in_err-ban-clause-holds
 returns-in_err-ban-clause-holds g c =
-    let p = err_from_is_err_and c.from_residual.result c.from_residual.ensures.1 in
-    holds_fail _ _ _ _ _ _ _ c.in_err-ban.field-0.0 (cc (p.1, p.2)) c.requires.may c.in_err-ban.ensures.serves
+    holds_fail _ _ _ _ _ _ _ c.in_err-ban.field-0.0 c.from_residual.ensures.1 c.requires.may c.in_err-ban.ensures.serves
 
 pub returns-in_err-number-clause-holds : goal.returns-in_err-number-clause-holds
 returns-in_err-number-clause-holds g c =
-    let p = err_from_is_err_and c.from_residual-in_err-number.result c.from_residual-in_err-number.ensures.1 in
-    holds_stop _ _ _ _ _ _ _ _ (cc (p.1, p.2)) (held_kept _ _ _ _ _ _ _ c.requires.may.valid (served_one _ _ _ _ _ c.in_ok-ban.ensures.serves) c.in_err-number.ensures.refused)
+    holds_stop _ _ _ _ _ _ _ _ c.from_residual-in_err-number.ensures.1 (held_kept _ _ _ _ _ _ _ c.requires.may.valid (served_one _ _ _ _ _ c.in_ok-ban.ensures.serves) c.in_err-number.ensures.refused)
 
 pub returns-clause-holds : goal.returns-clause-holds
 returns-clause-holds g c =

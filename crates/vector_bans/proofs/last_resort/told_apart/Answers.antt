@@ -1,5 +1,4 @@
 use Rattle.std.proofs.Common.{◌∙◌, List, ap, length, map, refl, sym, subst}
-use Rattle.std.proofs.lemmas.Result.{err_from_is_err_and}
 use Rattle.net_core.specs.Sides.{Graphs}
 use Rattle.net_core.specs.declared.graphs.Side.TheVariants.{First, Second}
 use Rattle.account_core.specs.Facts.{AreFacts}
@@ -27,13 +26,11 @@ ban_by_facts-requires-clause-second g c = ap length c.deref-2.ensures.value ∙ 
 
 pub returns-in_err-second-clause-serves : goal.returns-in_err-second-clause-serves
 returns-in_err-second-clause-serves g c =
-    let p = err_from_is_err_and c.from_residual-in_err-second.result c.from_residual-in_err-second.ensures.1 in
-    serves_err _ _ _ _ _ _ _ c.in_err-second.field-0.0 (cc (p.1, p.2)) (served_one _ _ _ _ _ c.in_ok-first.ensures.serves) c.in_err-second.ensures.serves
+    serves_err _ _ _ _ _ _ _ c.in_err-second.field-0.0 c.from_residual-in_err-second.ensures.1 (served_one _ _ _ _ _ c.in_ok-first.ensures.serves) c.in_err-second.ensures.serves
 
 pub returns-in_err-ban_by_facts-clause-serves : goal.returns-in_err-ban_by_facts-clause-serves
 returns-in_err-ban_by_facts-clause-serves g c =
-    let p = err_from_is_err_and c.from_residual-in_err-ban_by_facts.result c.from_residual-in_err-ban_by_facts.ensures.1 in
-    serves_memory _ _ _ _ _ (cc (p.1, p.2)) (served_then _ _ _ _ _ _ (served_one _ _ _ _ _ c.in_ok-first.ensures.serves) (served_one _ _ _ _ _ c.in_ok-second.ensures.serves))
+    serves_memory _ _ _ _ _ c.from_residual-in_err-ban_by_facts.ensures.1 (served_then _ _ _ _ _ _ (served_one _ _ _ _ _ c.in_ok-first.ensures.serves) (served_one _ _ _ _ _ c.in_ok-second.ensures.serves))
 
 pub returns-clause-serves : goal.returns-clause-serves
 returns-clause-serves g c =

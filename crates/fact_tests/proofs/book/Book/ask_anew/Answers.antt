@@ -1,4 +1,4 @@
-use Rattle.std.proofs.Common.{Err, Ok, sym, subst, All, List}
+use Rattle.std.proofs.Common.{Err, Ok, sym, subst, All}
 use Rattle.net_core.specs.Sides.{Graphs}
 use Rattle.account_core.specs.Facts.{AreFacts}
 use Rattle.oracle_core.specs.Oracles.{Known, Serves}

@@ -5,7 +5,7 @@ use Rattle.oracle_core.specs.declared.oracle.Compared.{Compared}
 use Rattle.oracle_core.specs.declared.oracle.Compared.TheVariants.{Differs}
 use Rattle.oracle_core.specs.Oracles.{IsDifference}
 use Rattle.query_core.specs.MatchQueries.{match_query}
-use Rattle.fact_tests.proofs.BookLemmas.{serves_ok}
+use Rattle.fact_tests.proofs.BookLemmas.{answers_ok}
 use Rattle.fact_tests.proofs.MatchBits.{met_difference}
 use Rattle.fact_tests.proofs.book.Book.compare_false.Goals as goal
 
@@ -20,6 +20,6 @@ returns-in_ok-from_slice-in-Ok-Vector g c =
     let h = c.in_ok-from_slice-in-Ok-Vector.ensures in
     let d = c.deref.ensures.value in
     record {
-      serves = serves_ok {X = Answer} {Y = Compared} c.args.self.now c.answer.new.self c.args.ledger.now c.answer.new.ledger c.answer.result c.in-Ok-Vector.field-0 (Differs bits) c.in-Ok-Vector.is c.answer.ensures.serves;
+      serves = answers_ok {X = Answer} {Y = Compared} c.args.self.now c.answer.new.self c.args.ledger.now c.answer.new.ledger c.answer.result c.in-Ok-Vector.field-0 (Differs bits) c.in-Ok-Vector.is c.answer.ensures.serves;
       compared = subst (IsDifference graphs matching k) (sym (h ∙ d)) (met_difference graphs matching k false x c.requires.ports told.bits told.meets);
     }

@@ -7,7 +7,7 @@ use Rattle.oracle_core.specs.declared.oracle.Compared.{Compared}
 use Rattle.oracle_core.specs.declared.oracle.Compared.TheVariants.{Differs}
 use Rattle.oracle_core.specs.Oracles.{IsDifference, IsCompared}
 use Rattle.query_core.specs.MatchQueries.{match_query}
-use Rattle.fact_tests.proofs.BookLemmas.{serves_ok, serves_then}
+use Rattle.fact_tests.proofs.BookLemmas.{answers_ok, answers_then}
 use Rattle.fact_tests.proofs.MatchBits.{met_difference}
 use Rattle.fact_tests.proofs.book.BookOracle.compare.Goals as goal
 
@@ -22,7 +22,7 @@ returns-in_ok-from_slice-in-Ok-Vector g c =
     let h = c.in_ok-from_slice-in-Ok-Vector.ensures in
     let d = c.deref.ensures.value in
     record {
-      serves = serves_ok {X = Answer} {Y = Compared} c.args.self.now c.answer.new.self c.args.ledger.now c.answer.new.ledger c.answer.result c.in-Ok-Vector.field-0 (Differs bits) c.in-Ok-Vector.is c.answer.ensures.serves;
+      serves = answers_ok {X = Answer} {Y = Compared} c.args.self.now c.answer.new.self c.args.ledger.now c.answer.new.ledger c.answer.result c.in-Ok-Vector.field-0 (Differs bits) c.in-Ok-Vector.is c.answer.ensures.serves;
       compared = subst (IsDifference graphs matching k) (sym (h ∙ d)) (met_difference graphs matching k true x c.requires.ports told.bits told.meets);
     }
 
@@ -34,6 +34,6 @@ returns-in-Ok-Refuted g c =
     let k = c.args.output in
     let before = c.answer.ensures.serves in
     record {
-      serves = serves_then {X = Answer} {Y = Compared} old mid c.compare_false.new.self c.args.ledger.now c.answer.new.ledger c.compare_false.new.ledger c.answer.result c.in-Ok-Refuted.field-0 c.compare_false.result c.in-Ok-Refuted.is before c.compare_false.ensures.serves;
+      serves = answers_then {X = Answer} {Y = Compared} old mid c.compare_false.new.self c.args.ledger.now c.answer.new.ledger c.compare_false.new.ledger c.answer.result c.in-Ok-Refuted.field-0 c.compare_false.result c.in-Ok-Refuted.is before c.compare_false.ensures.serves;
       compared = subst (λ (g : Graphs). IfOk c.compare_false.result (IsCompared g matching k)) before.grows.graphs c.compare_false.ensures.compared;
     }

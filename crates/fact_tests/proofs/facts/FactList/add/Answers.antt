@@ -3,7 +3,7 @@ use Rattle.query_core.specs.declared.claims.Claim.{Claim}
 use Rattle.query_core.specs.contracts.claims.ClaimPartialEq.TheImpl.{eq-value as claim_eq}
 use Rattle.indexmap.specs.IndexSet.{insert_key}
 use Rattle.fact_tests.proofs.NumberLemmas.{added}
-use Rattle.fact_tests.proofs.EqualLemmas.{claim_decides}
+use Rattle.query_core.proofs.EqualLemmas.{claim_decides}
 use Rattle.account_core.specs.declared.fact.Fact.{Fact}
 use Rattle.fact_tests.proofs.facts.FactList.add.Goals as goal
 

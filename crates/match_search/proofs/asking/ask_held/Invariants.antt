@@ -1,5 +1,5 @@
 use Rattle.fact_bans.proofs.HoldingLemmas.{HasHeld}
-use Rattle.match_search.proofs.asking.ask_beside.Given as goal
+use Rattle.match_search.proofs.asking.ask_held.Given as goal
 
 abbrev pub invariant-loop-other : goal.invariant-loop-other
 invariant-loop-other g l =

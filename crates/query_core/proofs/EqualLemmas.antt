@@ -1,4 +1,4 @@
--- Claims, and queries, are the same where the derived comparison says so.
+-- Queries and claims are the same where the derived comparisons say so.
 use Rattle.std.proofs.Common.{◌≡◌, ◌&&◌, eqb, List, Bool, true, false, refl, ap}
 use Rattle.std.specs.Bool.{Decides, beq}
 use Rattle.std.proofs.lemmas.Bool.Decides.{Decides-eqb, Decides-and, Decides-like}
@@ -6,6 +6,7 @@ use Rattle.std.specs.Cmp.Lexicographic.{pointwise}
 use Rattle.std.proofs.lemmas.Slice.Eq.{slice_eq-Decides}
 use Rattle.net_core.specs.declared.graphs.Side.{Side}
 use Rattle.net_core.specs.declared.graphs.Side.TheVariants.{First, Second}
+use Rattle.net_core.specs.contracts.graphs.SidePartialEq.TheImpl.{eq-value as side_eq}
 use Rattle.query_core.specs.declared.claims.Claim.{Claim}
 use Rattle.query_core.specs.declared.claims.Shape.{Shape}
 use Rattle.query_core.specs.declared.claims.Shape.TheVariants.{Up, Down, Swap}
@@ -16,12 +17,32 @@ use Rattle.query_core.specs.declared.query.Query.{Query}
 use Rattle.query_core.specs.contracts.query.FeedPartialEq.TheImpl.{eq-value as feed_eq}
 use Rattle.query_core.specs.contracts.query.ConePartialEq.TheImpl.{eq-value as cone_eq}
 use Rattle.query_core.specs.contracts.query.QueryPartialEq.TheImpl.{eq-value as query_eq}
-use Rattle.net_core.specs.contracts.graphs.SidePartialEq.TheImpl.{eq-value as side_eq}
-use Rattle.shared_lemmas.proofs.EqualLemmas.{bool_decides, feed_decides, feeds_decide, side_decides}
 use Rattle.query_core.specs.contracts.claims.ShapePartialEq.TheImpl.{eq-value as shape_eq}
 use Rattle.query_core.specs.contracts.claims.ClaimPartialEq.TheImpl.{eq-value as claim_eq}
 
-pub shape_decides : (x y : Shape) → Decides (shape_eq.it x y) (x ≡ y)
+pub side_decides : (x y : Side) → Decides (side_eq.it x y) (x ≡ y)
+side_decides First First = (λ e. refl, λ e. refl)
+side_decides First Second = (λ e. cc, λ e. cc)
+side_decides Second First = (λ e. cc, λ e. cc)
+side_decides Second Second = (λ e. refl, λ e. refl)
+
+pub bool_decides : (x y : Bool) → Decides (beq x y) (x ≡ y)
+bool_decides true true = (λ e. refl, λ e. refl)
+bool_decides true false = (λ e. cc, λ e. cc)
+bool_decides false true = (λ e. cc, λ e. cc)
+bool_decides false false = (λ e. refl, λ e. refl)
+
+feed_decides : (x y : Feed) → Decides (feed_eq.it x y) (x ≡ y)
+feed_decides (Fixed b) (Fixed c) = Decides-like (beq b c) (λ e. ap Fixed e) (λ e. cc) (bool_decides b c)
+feed_decides (Fixed b) (Wire place flip) = (λ e. cc, λ e. cc)
+feed_decides (Wire place flip) (Fixed b) = (λ e. cc, λ e. cc)
+feed_decides (Wire place flip) (Wire other sign) =
+    Decides-like (eqb place other && beq flip sign) (λ e. let p = e.0 in let q = e.1 in cc) (λ e. (cc, cc)) (Decides-and (eqb place other) (beq flip sign) (Decides-eqb place other) (bool_decides flip sign))
+
+pub feeds_decide : (xs ys : List Feed) → Decides (pointwise feed_eq.it xs ys) (xs ≡ ys)
+feeds_decide xs ys = slice_eq-Decides feed_decides xs ys (pointwise feed_eq.it xs ys) refl
+
+shape_decides : (x y : Shape) → Decides (shape_eq.it x y) (x ≡ y)
 shape_decides (Up i) (Up j) = Decides-like (eqb i j) (λ e. ap Up e) (λ e. cc) (Decides-eqb i j)
 shape_decides (Up i) (Down j) = (λ e. cc, λ e. cc)
 shape_decides (Up i) (Swap j k a b) = (λ e. cc, λ e. cc)

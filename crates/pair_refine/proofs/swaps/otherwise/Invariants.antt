@@ -1,7 +1,0 @@
-use Rattle.std.proofs.Common.{ℕ, ◌<◌, map}
-use Rattle.account_core.specs.Given.{decided_by}
-use Rattle.pair_refine.specs.Swaps.{SaysOf}
-use Rattle.pair_refine.proofs.swaps.otherwise.Given as goal
-
-abbrev pub invariant-loop-number : goal.invariant-loop-number
-invariant-loop-number l = (k : ℕ) → k < l.number → SaysOf (map decided_by l.facts) l.claim l.holds k
