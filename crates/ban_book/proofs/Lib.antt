@@ -1,4 +1,5 @@
 pub mod ContainsLemmas
+pub mod ListLemmas
 pub mod BookLemmas
 pub mod ShownLemmas
 pub mod VectorLemmas

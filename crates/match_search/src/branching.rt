@@ -123,8 +123,9 @@ fn turn<O: Oracle>(
         Ahead::Impasse(impasse) => impasse,
     };
     let before = book.bans().len();
+    let dead = impasse.ban();
     let refusal = turn_back(alloc, graphs, domains, queue, impasse, book)?;
-    guide.learn(book.bans(), before, impasse);
+    guide.learn(book.bans(), before, dead);
     guide.forget(domains.pairs().len());
     match refusal {
         None => Ok(None),

@@ -9,7 +9,6 @@ use crate::weights::Weights;
 use account_core::Ban;
 use circuits::Pair;
 use fact_bans::Seen;
-use pair_search::Impasse;
 use port_sides::PairableGraphs;
 use std::alloc::{AllocError, Global};
 use table_guess::Trials;
@@ -76,13 +75,13 @@ impl Guide {
     }
 
     /// Notes the bans that the conflict of an impasse came to, those from a place on, the last of which was learned; where
-    /// there are none, the ban of the impasse was.
-    pub(crate) fn learn(&mut self, bans: &[Ban], from: usize, impasse: Impasse)
+    /// there are none, the ban that the impasse is was, of which the number is given.
+    pub(crate) fn learn(&mut self, bans: &[Ban], from: usize, impasse: Option<u64>)
         ensures { self.new.trials ≡ self.old.trials }
     {
         if from < bans.len() {
             self.weights.count(&bans[from..]);
-        } else if let Some(learned) = ban_of(bans, impasse) {
+        } else if let Some(learned) = ban_at(bans, impasse) {
             self.weights.count_learned(learned);
         }
     }
@@ -98,12 +97,8 @@ impl Guide {
     }
 }
 
-// The ban of an impasse that is one.
-fn ban_of(bans: &[Ban], impasse: Impasse) -> Option<&Ban> {
-    match impasse {
-        Impasse::Ban(number) => bans.get(number as usize),
-        Impasse::Port(_) => None,
-    }
+fn ban_at(bans: &[Ban], number: Option<u64>) -> Option<&Ban> {
+    bans.get(number? as usize)
 }
 
 // The outputs of the first circuit, those first that read the fewest inputs, whose claims are cheap; none where there are too
