@@ -1,47 +1,22 @@
 //! Ports that together have too few ways.
 
-ghost use Rattle.std.specs.Prelude.{◌≡◌, All, IfOk, IfSome, IsTrue, List};
+ghost use Rattle.std.specs.Prelude.{All, IfOk, IfSome, IsTrue};
 ghost use Rattle.port_covers.specs.Ways.{IsBlock};
 ghost use Rattle.class_refine.specs.Trails.{IsDeleted, IsPairOf, ports_of};
-ghost use Rattle.pair_search.specs.Impasses.{HasNoWays, IsImpasse};
-ghost use Rattle.account_core.specs.declared.step.Ban.{Ban as AnyBan};
+ghost use Rattle.pair_search.specs.Impasses.{HasNoWays};
 
-use crate::impasse::Impasse;
 use crate::partners::Partners;
-use crate::queue::Queue;
-use circuits::{Pair, PortKind};
+use circuits::Pair;
 use class_refine::Domains;
 use port_covers::block::{Block, marked, ways_in};
 use std::alloc::{AllocError, Global};
 
-/// Ports of the first circuit that have to go to fewer ports than they are, by the ways that are left, if there are any.
+/// Ports of the first circuit that have to go to fewer ports than they are, by the ways that are left, if there are any:
+/// those that are reached from one for which no partner is found, and the ports of the second circuit that aren't (Hall's
+/// theorem; as a constraint: Régin, AAAI 1994).
 pub(crate) fn crowd(
     alloc: Global,
     domains: &Domains,
-    queue: &mut Queue,
-) -> Result<Option<Impasse>, AllocError>
-    ensures { IfOk result (λ found. IfSome found (λ impasse. (bans : List AnyBan)
-        → IsImpasse domains.now.inputs domains.now.outputs bans domains.now.entries impasse)) }
-{
-    if let Some(block) = crowd_of(
-        alloc,
-        domains,
-        PortKind::Output,
-        &mut queue.outputs_partners,
-    )? {
-        return Ok(Some(Impasse::Block(block)));
-    }
-    match crowd_of(alloc, domains, PortKind::Input, &mut queue.inputs_partners)? {
-        Some(block) => Ok(Some(Impasse::Block(block))),
-        None => Ok(None),
-    }
-}
-
-// Those of a kind.
-fn crowd_of(
-    alloc: Global,
-    domains: &Domains,
-    kind: PortKind,
     partners: &mut Partners,
 ) -> Result<Option<Block>, AllocError>
     ensures { IfOk result (λ found. IfSome found
@@ -50,7 +25,7 @@ fn crowd_of(
     if partners.find_all(domains)? {
         return Ok(None);
     }
-    let Some(block) = reached_block(alloc, domains, kind, partners)? else {
+    let Some(block) = reached_block(alloc, domains, partners)? else {
         return Ok(None);
     };
     let ways = ways_in(alloc, &block)?;
@@ -64,13 +39,12 @@ fn crowd_of(
 fn reached_block(
     alloc: Global,
     domains: &Domains,
-    kind: PortKind,
     partners: &Partners,
 ) -> Result<Option<Block>, AllocError>
-    ensures kind { IfOk result (λ found. IfSome found (λ block. block.kind ≡ kind)) }
-    ensures block { IfOk result (λ found. IfSome found
-        (IsBlock (ports_of domains.now.inputs domains.now.outputs kind))) }
+    ensures { IfOk result (λ found. IfSome found
+        (λ block. IsBlock (ports_of domains.now.inputs domains.now.outputs block.kind) block)) }
 {
+    let kind = partners.kind;
     let count = domains.ports(kind);
     let from = marked(alloc, &partners.reached(alloc)?, count)?;
     let to = marked(alloc, &partners.missed(alloc)?, count)?;

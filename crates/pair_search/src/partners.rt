@@ -13,7 +13,7 @@ const NONE: u32 = u32::MAX;
 /// tried, and not trusted.
 #[derive(Debug, Drop)]
 pub(crate) struct Partners {
-    kind: PortKind,
+    pub(crate) kind: PortKind,
     /// How many ports of the kind either circuit has.
     count: u32,
     /// The partner of each port of the first circuit, and of each of the second.

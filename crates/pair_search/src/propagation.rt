@@ -20,8 +20,8 @@ use port_sides::port_on;
 use std::alloc::{AllocError, Global};
 
 /// Holds and deletes pairs as it follows, until nothing follows or it doesn't go on. Pairs that share a port with a held
-/// one are deleted, and that of a ban whose other pairs are held; the last way of a port is held. Last, ports are looked
-/// for that have fewer ports to go to than they are.
+/// one are deleted, and that of a ban whose other pairs are held; the last way of a port is held. Last, outputs are looked
+/// for that have fewer outputs to go to than they are.
 pub fn propagate(
     alloc: Global,
     domains: &mut Domains,
@@ -34,8 +34,10 @@ pub fn propagate(
     if let Some(impasse) = follow_all(domains, queue, bans)? {
         return Ok(Some(impasse));
     }
-    let found = crowd(alloc, domains, queue)?;
-    Ok(found)
+    match crowd(alloc, domains, &mut queue.partners)? {
+        Some(block) => Ok(Some(Impasse::Block(block))),
+        None => Ok(None),
+    }
 }
 
 // Holds and deletes what follows, one after the other.

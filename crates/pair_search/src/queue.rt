@@ -36,16 +36,14 @@ pub struct Queue {
     links: Vec<Link>,
     /// The bans that were made of mismatches.
     pub(crate) made: Mismatches,
-    /// Partners for all inputs, and for all outputs.
-    pub(crate) inputs_partners: Partners,
-    pub(crate) outputs_partners: Partners,
+    /// Partners for all outputs.
+    pub(crate) partners: Partners,
 }
 
 impl Queue {
     /// Nothing was propagated.
     pub fn new(alloc: Global, inputs: u32, outputs: u32) -> Result<Queue, AllocError> {
-        let inputs_partners = Partners::new(alloc, PortKind::Input, inputs)?;
-        let outputs_partners = Partners::new(alloc, PortKind::Output, outputs)?;
+        let partners = Partners::new(alloc, PortKind::Output, outputs)?;
         let (inputs, outputs) = (inputs as u64, outputs as u64);
         let count = inputs
             .saturating_mul(inputs)
@@ -60,8 +58,7 @@ impl Queue {
             lasts,
             links: Vec::new(alloc),
             made: Mismatches::new(alloc),
-            inputs_partners,
-            outputs_partners,
+            partners,
         })
     }
 

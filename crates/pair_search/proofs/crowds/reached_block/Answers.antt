@@ -1,8 +1,8 @@
 use Rattle.std.proofs.Common.{ℕ, ◌<◌, All, arith, subst}
 use Rattle.pair_search.proofs.crowds.reached_block.Goals as goal
 
-pub returns-clause-block : goal.returns-clause-block
-returns-clause-block c = record {
+pub returns : goal.returns
+returns c = record {
   from_ascends = c.in_ok-from.ensures.ascends;
   to_ascends = c.in_ok-to.ensures.ascends;
   from_below = subst (λ (n : ℕ). All (λ port. port < n) c.in_ok-from.from) c.ports-count.ensures c.in_ok-from.ensures.below;

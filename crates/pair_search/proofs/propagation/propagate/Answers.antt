@@ -1,5 +1,5 @@
 use Rattle.std.proofs.Common.{rules}
 use Rattle.pair_search.proofs.propagation.propagate.Goals as goal
 
-pub returns : goal.returns
-returns c = record { propagates = c.in_ok-impasse.ensures.propagates; impasse = search rules }
+pub returns-in-Some-2 : goal.returns-in-Some-2
+returns-in-Some-2 c = record { propagates = c.in_ok-impasse.ensures.propagates; impasse = search rules }
