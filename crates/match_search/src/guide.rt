@@ -8,7 +8,9 @@ use crate::reads::{Reads, by_count};
 use crate::weights::Weights;
 use account_core::Ban;
 use circuits::Pair;
+use conflict_core::Port;
 use fact_bans::Seen;
+use pair_search::Impasse;
 use port_sides::PairableGraphs;
 use std::alloc::{AllocError, Global};
 use table_guess::Trials;
@@ -34,6 +36,9 @@ pub(crate) struct Guide {
     /// Ways that are to be compared with a held pair: kept for its memory alone.
     pub(crate) ways: Vec<Pair>,
     pub(crate) compared: Compared,
+    /// The port that was decided last, and the one that comes first as long as it is in no pair.
+    pub(crate) decided: Option<Port>,
+    pub(crate) urgent: Option<Port>,
 }
 
 impl Guide {
@@ -63,6 +68,8 @@ impl Guide {
             exchanged: 0,
             ways: Vec::new(alloc),
             compared,
+            decided: None,
+            urgent: None,
         })
     }
 
@@ -72,6 +79,18 @@ impl Guide {
     {
         self.asked = self.asked.min(held);
         self.exchanged = self.exchanged.min(held);
+    }
+
+    /// Notes an impasse. Where outputs have too few others to go to, the port that was decided last comes first from here on, until
+    /// it has a pair (Lecoutre, Sais, Tabary and Vidal, Reasoning from last conflict(s), Artificial Intelligence, 2009). Of each
+    /// way it is deleted that the first one to tell it was another pair: so the conflict has pairs that were held before too, and
+    /// each way of this port would be tried beside each of them.
+    pub(crate) fn hurry(&mut self, impasse: &Impasse)
+        ensures { self.new.trials ≡ self.old.trials }
+    {
+        if let Impasse::Block(_) = impasse {
+            self.urgent = self.decided;
+        }
     }
 
     /// Notes the bans that the conflict of an impasse came to, those from a place on, the last of which was learned; where

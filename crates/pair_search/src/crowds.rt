@@ -6,7 +6,7 @@ ghost use Rattle.class_refine.specs.Trails.{IsDeleted, IsPairOf, ports_of};
 ghost use Rattle.pair_search.specs.Impasses.{HasNoWays};
 
 use crate::partners::Partners;
-use circuits::Pair;
+use circuits::{Pair, PortKind};
 use class_refine::Domains;
 use port_covers::block::{Block, marked, ways_in};
 use std::alloc::{AllocError, Global};
@@ -22,6 +22,9 @@ pub(crate) fn crowd(
     ensures { IfOk result (λ found. IfSome found
         (HasNoWays domains.now.inputs domains.now.outputs domains.now.entries)) }
 {
+    if are_few(domains, partners.kind) {
+        return Ok(None);
+    }
     if partners.find_all(domains)? {
         return Ok(None);
     }
@@ -33,6 +36,17 @@ pub(crate) fn crowd(
         return Ok(Some(block));
     }
     Ok(None)
+}
+
+// Whether ports are too few to be looked at: no more than those of the other kind. Where an input has few ways, its pair leaves
+// each output few others, and outputs run short of them early. Where it has many, no single port is short of ways any later: with
+// this done too, a near miss of an adder with 257 inputs and 129 outputs took three times as long.
+fn are_few(domains: &Domains, kind: PortKind) -> bool {
+    let others = match kind {
+        PortKind::Input => PortKind::Output,
+        PortKind::Output => PortKind::Input,
+    };
+    domains.ports(kind) <= domains.ports(others)
 }
 
 // The ports that were reached from one without a partner, and those of the other circuit that weren't.
