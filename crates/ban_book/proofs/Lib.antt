@@ -1,3 +1,4 @@
+pub mod ListLemmas
 pub mod BookLemmas
 pub mod ShownLemmas
 pub mod VectorLemmas

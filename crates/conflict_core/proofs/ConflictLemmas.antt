@@ -16,7 +16,7 @@ use Rattle.class_refine.specs.Trails.{IsPairOf, ports_of}
 use Rattle.conflict_core.specs.declared.port.Resolved.{Resolved}
 use Rattle.conflict_core.specs.Conflicts.{FitPorts}
 use Rattle.class_refine.specs.declared.entry.Entry.{Entry}
-use Rattle.conflict_core.specs.Named.{IsGathered, IsLeftOutOr}
+use Rattle.conflict_core.specs.Named.{AreAllGathered, IsLeftOutOr}
 use Rattle.conflict_core.specs.Resolutions.{left_out}
 
 -- a ban that is within a way and pairs is within it and more of them
@@ -92,6 +92,6 @@ adding_more held few more pairs index d below is part stays here = record {
 }
 
 -- what is gathered, as it is lent
-pub gathered_as : (es : List Entry) (skipped other : Option Pair) (bans bans_now : List Ban) (pairs pairs_now : List Pair) (way : Pair) → skipped ≡ other → bans ≡ bans_now → pairs ≡ pairs_now → IsLeftOutOr skipped way (IsGathered bans es pairs way) → IsLeftOutOr other way (IsGathered bans_now es pairs_now way)
-gathered_as es skipped other bans bans_now pairs pairs_now way one two three is =
-    subst (λ (s : Option Pair). IsLeftOutOr s way (IsGathered bans_now es pairs_now way)) one (subst (λ (bs : List Ban). IsLeftOutOr skipped way (IsGathered bs es pairs_now way)) two (subst (λ (ps : List Pair). IsLeftOutOr skipped way (IsGathered bans es ps way)) three is))
+pub gathered_as : (es : List Entry) (skipped other : Option Pair) (bans bans_now : List Ban) (ways ways_now pairs pairs_now : List Pair) → skipped ≡ other → bans ≡ bans_now → ways ≡ ways_now → pairs ≡ pairs_now → AreAllGathered bans es ways skipped pairs → AreAllGathered bans_now es ways_now other pairs_now
+gathered_as es skipped other bans bans_now ways ways_now pairs pairs_now one two three four is =
+    subst (λ (s : Option Pair). AreAllGathered bans_now es ways_now s pairs_now) one (subst (λ (bs : List Ban). AreAllGathered bs es ways_now skipped pairs_now) two (subst (λ (ws : List Pair). AreAllGathered bans es ws skipped pairs_now) three (subst (λ (ps : List Pair). AreAllGathered bans es ways skipped ps) four is)))

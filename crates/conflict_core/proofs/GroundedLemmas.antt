@@ -13,22 +13,21 @@ use Rattle.account_core.specs.Steps.{AreValidBans, IsValidBan}
 use Rattle.account_core.proofs.Growing.{ban_stays_valid}
 use Rattle.ban_book.specs.Covering.{Covers}
 use Rattle.ban_book.proofs.BookLemmas.{covers_last, covers_later, valid_push}
+use Rattle.ban_book.proofs.ListLemmas.{zip_map}
 use Rattle.ban_book.proofs.VectorLemmas.{no_vector_more, no_vector_none, no_vector_one}
-use Rattle.port_covers.specs.Ways.{HoldsMore, IsClosed}
+use Rattle.port_covers.specs.Ways.{AreClosed, HoldsMore, IsClosed}
 use Rattle.port_covers.proofs.ClosedLemmas.{ban_pairs}
 use Rattle.class_refine.specs.declared.entry.Entry.{Entry}
 use Rattle.class_refine.specs.declared.entry.Fate.{Fate}
 use Rattle.class_refine.specs.declared.entry.Fate.TheVariants.{Held, Deleted}
 use Rattle.class_refine.specs.declared.entry.Reason.TheVariants as reason
 use Rattle.class_refine.specs.Trails.{Domained}
-use Rattle.conflict_core.specs.declared.port.Port.{Port}
 use Rattle.conflict_core.specs.declared.port.Resolved.{Resolved}
 use Rattle.conflict_core.specs.Named.{IsGathered, IsLeftOutOr, deleted}
 use Rattle.conflict_core.specs.Justified.{IsTrail}
 use Rattle.conflict_core.specs.Grounded.{AreGrounded, IsGrounded, LearnsMore, MayAdd, StayGrounded, in_order, mismatch_ban}
 use Rattle.conflict_core.proofs.ConflictLemmas.{covers_among}
 use Rattle.conflict_core.proofs.JustifiedLemmas.{justified_later, named_later}
-use Rattle.conflict_core.proofs.ReferLemmas.{IsReferring}
 
 pub learns_none : (graphs : Graphs) (es : List Entry) (bans : List Ban) → LearnsMore graphs es bans bans
 learns_none graphs es bans = record { added = []; more = sym (append-nil bans); no_vector = no_vector_none; valid = λ facts grounded valid. valid }
@@ -91,13 +90,9 @@ closed_beside before added pairs way (Some b) is = record {
   held = λ ban same. omega (arith, is.held ban same, length-append before added);
 }
 
-pub referring_later : (port : Port) (conflict : List Pair) (before added after : List Ban) (ways : _) (number : ℕ) → after ≡ before ++ added → IsReferring port conflict before ways number → IsReferring port conflict after ways number
-referring_later port conflict before added after ways number more is =
-    subst (λ bs. IsReferring port conflict bs ways number) (sym more) (record {
-      of_port = is.of_port;
-      size = is.size;
-      closed = λ k d below. closed_beside before added conflict _ (get_or ways.refs k d) (is.closed k d below);
-    })
+pub closed_later : (before added after : List Ban) (pairs ways : List Pair) (refs : List (Option ℕ)) → after ≡ before ++ added → AreClosed before pairs ways refs → AreClosed after pairs ways refs
+closed_later before added after pairs ways refs more are =
+    subst (λ bs. AreClosed bs pairs ways refs) (sym more) (zip_map (IsClosed before pairs) (IsClosed (before ++ added) pairs) ways refs (λ way ref is. closed_beside before added pairs way ref is) are)
 
 -- what is gathered is so beside more bans
 pub gathered_later : (before added after : List Ban) (es : List Entry) (pairs : List Pair) (skipped : Option Pair) (way : Pair) → after ≡ before ++ added → IsLeftOutOr skipped way (IsGathered before es pairs way) → IsLeftOutOr skipped way (IsGathered after es pairs way)

@@ -1,7 +1,6 @@
 -- What reasons name, and what is gathered of it.
-use Rattle.std.proofs.Common.{◌≡◌, ◌≢◌, ◌⊎◌, ℕ, ◌+◌, ◌*◌, ◌<◌, ◌≤◌, List, ◌∷◌, All, AllPairs, Contains, Option, refl, ap, subst, ◌∙◌, inl, inr, arith}
-use Rattle.std.proofs.lemmas.Bool.{cases_lt}
-use Rattle.std.proofs.lemmas.List.Elements.{All-contains, All-contains_itself, All-weaker}
+use Rattle.std.proofs.Common.{◌≡◌, ◌≢◌, ℕ, ◌+◌, ◌*◌, ◌<◌, List, [], ◌∷◌, length, get_or, take, All, AllPairs, Contains, Option, refl, subst, inl, inr, arith}
+use Rattle.std.proofs.lemmas.List.Elements.{All-contains, All-contains_itself, All-more, All-nil, All-weaker}
 use Rattle.circuits.specs.declared.port.Pair.{Pair}
 use Rattle.circuits.specs.declared.port.PortKind.{PortKind}
 use Rattle.net_core.specs.declared.graphs.Side.{Side}
@@ -10,7 +9,9 @@ use Rattle.account_core.specs.declared.step.Ban.{Ban}
 use Rattle.account_core.specs.Ports.{Clash}
 use Rattle.ban_book.specs.Covering.{IsWithin}
 use Rattle.port_covers.specs.Held.{IsPart}
-use Rattle.port_covers.specs.Ways.{nth_way}
+use Rattle.port_covers.specs.declared.block.Block.{Block}
+use Rattle.port_covers.specs.Ways.{nth_way, ways_in, IsBlock}
+use Rattle.port_covers.proofs.BlockLemmas.{each_in}
 use Rattle.port_covers.proofs.ListLemmas.{any_more, cons_more, among_more}
 use Rattle.class_refine.specs.declared.entry.Entry.{Entry}
 use Rattle.class_refine.specs.declared.entry.Fate.{Fate}
@@ -19,8 +20,7 @@ use Rattle.class_refine.specs.declared.entry.Reason.{Reason}
 use Rattle.class_refine.specs.declared.entry.Reason.TheVariants as reason
 use Rattle.class_refine.specs.Trails.{IsPairOf, ports_of}
 use Rattle.class_refine.proofs.EntryLemmas.{one_entry}
-use Rattle.conflict_core.specs.declared.port.Port.{Port}
-use Rattle.conflict_core.specs.Named.{AreNamed, IsGathered, IsLeftOutOr, IsNamedIn, deleted}
+use Rattle.conflict_core.specs.Named.{AreAllGathered, AreAllNamed, AreNamed, IsGathered, IsLeftOutOr, IsNamedIn, deleted}
 
 within_more : (few more : List Pair) (way : Pair) (ban : Ban) → All (Contains more) few → IsWithin (way ∷ few) ban → IsWithin (way ∷ more) ban
 within_more few more way ban stays is = record { among = All-weaker (Contains (way ∷ few)) (Contains (way ∷ more)) (λ x. cons_more way few more x stays) ban.pairs is.among }
@@ -53,28 +53,36 @@ pub way_known : (n m : ℕ) (side : Side) (kind : PortKind) (port number : ℕ) 
 way_known n m First kind port number there below = record { from = there; to = omega (arith, below) }
 way_known n m Second kind port number there below = record { from = omega (arith, below); to = there }
 
--- what is gathered of the first ways
-pub record AreGathered (bans : List Ban) (entries : List Entry) (held before now : List Pair) (port : Port) (skipped : Option Pair) (count : ℕ) : Type 0 where
+-- so are the ways of a block
+pub ways_known : (n m : ℕ) (block : Block) → IsBlock (ports_of n m block.kind) block → All (IsPairOf n m) (ways_in block)
+ways_known n m block is =
+    let count = ports_of n m block.kind in
+    each_in (IsPairOf n m) block (λ f t flip first second. record {
+      from = All-contains (λ port. port < count) block.from f is.from_below first;
+      to = All-contains (λ port. port < count) block.to t is.to_below second;
+    })
+
+-- what is named, as it is lent
+pub named_as : (es : List Entry) (skipped other : Option Pair) (bans bans_now : List Ban) (ways ways_now pairs : List Pair) → skipped ≡ other → bans ≡ bans_now → ways ≡ ways_now → AreAllNamed bans es ways skipped pairs → AreAllNamed bans_now es ways_now other pairs
+named_as es skipped other bans bans_now ways ways_now pairs one two three is =
+    subst (λ (s : Option Pair). AreAllNamed bans_now es ways_now s pairs) one (subst (λ (bs : List Ban). AreAllNamed bs es ways_now skipped pairs) two (subst (λ (ws : List Pair). AreAllNamed bans es ws skipped pairs) three is))
+
+-- what is gathered of some ways
+pub record AreGathered (bans : List Ban) (entries : List Entry) (held before now ways : List Pair) (skipped : Option Pair) : Type 0 where
   pub part : IsPart held now
   pub stays : All (Contains now) before
-  pub each : (number : ℕ) → number < count → IsLeftOutOr skipped (nth_way port.side port.kind port.number number) (IsGathered bans entries now (nth_way port.side port.kind port.number number))
+  pub each : AreAllGathered bans entries ways skipped now
 
-pub gathered_none : (bans : List Ban) (entries : List Entry) (held before : List Pair) (port : Port) (skipped : Option Pair) → IsPart held before → AreGathered bans entries held before before port skipped 0
-gathered_none bans entries held before port skipped part = record {
+pub gathered_none : (bans : List Ban) (entries : List Entry) (held before : List Pair) (skipped : Option Pair) → IsPart held before → AreGathered bans entries held before before [] skipped
+gathered_none bans entries held before skipped part = record {
   part = part;
   stays = All-contains_itself before;
-  each = λ number below. absurd (omega (arith, below));
+  each = All-nil (λ way. IsLeftOutOr skipped way (IsGathered bans entries before way));
 }
 
-pub gathered_one : (bans : List Ban) (entries : List Entry) (held before few more : List Pair) (port : Port) (skipped : Option Pair) (count : ℕ) (way : Pair) → way ≡ nth_way port.side port.kind port.number count → AreGathered bans entries held before few port skipped count → IsPart held more → All (Contains more) few → IsLeftOutOr skipped way (IsGathered bans entries more way) → AreGathered bans entries held before more port skipped (count + 1)
-gathered_one bans entries held before few more port skipped count way is are part stays here = record {
+pub gathered_one : (bans : List Ban) (entries : List Entry) (held before few more ways : List Pair) (skipped : Option Pair) (index : ℕ) (d : Pair) → index < length ways → AreGathered bans entries held before few (take index ways) skipped → IsPart held more → All (Contains more) few → IsLeftOutOr skipped (get_or ways index d) (IsGathered bans entries more (get_or ways index d)) → AreGathered bans entries held before more (take (index + 1) ways) skipped
+gathered_one bans entries held before few more ways skipped index d below are part stays here = record {
   part = part;
   stays = among_more before few more are.stays stays;
-  each = λ number below. by_place number below (cases_lt number count);
+  each = All-more (λ way. IsLeftOutOr skipped way (IsGathered bans entries more way)) ways index d below (All-weaker (λ way. IsLeftOutOr skipped way (IsGathered bans entries few way)) (λ way. IsLeftOutOr skipped way (IsGathered bans entries more way)) (λ way is. left_out_more bans entries few more skipped way stays is) (take index ways) are.each) here;
 }
-  where
-    by_place : (number : ℕ) → number < count + 1 → (number < count) ⊎ (count ≤ number) → IsLeftOutOr skipped (nth_way port.side port.kind port.number number) (IsGathered bans entries more (nth_way port.side port.kind port.number number))
-    by_place number below (inl less) = left_out_more bans entries few more skipped (nth_way port.side port.kind port.number number) stays (are.each number less)
-    by_place number below (inr past) =
-        let e : count ≡ number = omega (arith, below, past) in
-        subst (λ (p : Pair). IsLeftOutOr skipped p (IsGathered bans entries more p)) (is ∙ ap (nth_way port.side port.kind port.number) e) here

@@ -1,5 +1,5 @@
 -- The held pairs that the reasons of deletions name (nodes of the implication graph of Marques-Silva and Sakallah, GRASP, 1999).
-use Rattle.std.specs.Prelude.{◌≡◌, ◌⊎◌, ℕ, ◌*◌, ◌<◌, List, ◌∷◌, Contains, Option, Some}
+use Rattle.std.specs.Prelude.{◌≡◌, ◌⊎◌, ℕ, ◌*◌, ◌<◌, List, ◌∷◌, All, Contains, Option, Some}
 use Rattle.circuits.specs.declared.port.Pair.{Pair}
 use Rattle.account_core.specs.declared.step.Ban.{Ban}
 use Rattle.account_core.specs.Covers.{IsImpossible}
@@ -48,8 +48,10 @@ AreWaysNamed bans domains port skipped pairs =
     EachWay port (ports_of domains.inputs domains.outputs port.kind)
     (λ way. IsLeftOutOr skipped way (IsNamedIn bans domains.entries pairs way))
 
--- each way of a port but the one that is left out is impossible beside pairs, or deleted as those are
-abbrev pub AreWaysGathered : List Ban → Domained → Port → Option Pair → List Pair → Type 0
-AreWaysGathered bans domains port skipped pairs =
-    EachWay port (ports_of domains.inputs domains.outputs port.kind)
-    (λ way. IsLeftOutOr skipped way (IsGathered bans domains.entries pairs way))
+-- so is each of some ways
+abbrev pub AreAllNamed : List Ban → List Entry → List Pair → Option Pair → List Pair → Type 0
+AreAllNamed bans entries ways skipped pairs = All (λ way. IsLeftOutOr skipped way (IsNamedIn bans entries pairs way)) ways
+
+-- each of some ways but the one that is left out is impossible beside pairs, or deleted as those are
+abbrev pub AreAllGathered : List Ban → List Entry → List Pair → Option Pair → List Pair → Type 0
+AreAllGathered bans entries ways skipped pairs = All (λ way. IsLeftOutOr skipped way (IsGathered bans entries pairs way)) ways

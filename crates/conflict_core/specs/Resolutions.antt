@@ -3,8 +3,6 @@ use Rattle.std.specs.Prelude.{◌≡◌, List, ◌∷◌, Option, None, Some, If
 use Rattle.circuits.specs.declared.port.Pair.{Pair}
 use Rattle.account_core.specs.declared.step.Ban.{Ban}
 use Rattle.ban_book.specs.Covering.{Covers}
-use Rattle.port_covers.specs.declared.ways.ClosedWays.{ClosedWays}
-use Rattle.conflict_core.specs.declared.port.Port.{Port}
 use Rattle.conflict_core.specs.declared.port.Resolved.{Resolved}
 
 -- the way that is resolved on
@@ -15,9 +13,3 @@ left_out (Some resolved) = Some resolved.way
 -- the way that is resolved on leads into its ban beside pairs
 abbrev pub LeadsIntoBan : List Ban → List Pair → Option Resolved → Type 0
 LeadsIntoBan bans pairs resolved = IfSome resolved (λ it. Covers bans (it.way ∷ pairs) it.ban)
-
--- The ways are those of a port.
-pub record AreWaysOf (port : Port) (ways : ClosedWays) : Type 0 where
-  pub side_is : ways.side ≡ port.side
-  pub kind_is : ways.kind ≡ port.kind
-  pub port_is : ways.port ≡ port.number

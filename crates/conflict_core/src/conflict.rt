@@ -3,9 +3,11 @@
 ghost use Rattle.std.specs.Prelude.{◌≡◌, All, AllPairs, Contains, IfOk, OnOk};
 ghost use Rattle.ban_book.specs.Covering.{Covers};
 ghost use Rattle.port_covers.specs.Held.{AreApart, AreHeld, IsPart};
+ghost use Rattle.port_covers.specs.Ways.{IsBlock, ways_in};
+ghost use Rattle.class_refine.specs.Trails.{ports_of};
 ghost use Rattle.conflict_core.specs.Conflicts.{FitPorts, IsConflict};
 ghost use Rattle.conflict_core.specs.Grounded.{LearnsMore};
-ghost use Rattle.conflict_core.specs.Named.{AreWaysNamed, IsPortOf};
+ghost use Rattle.conflict_core.specs.Named.{AreAllNamed, AreWaysNamed, IsPortOf};
 ghost use Rattle.conflict_core.specs.Resolutions.{LeadsIntoBan, left_out};
 
 use crate::gather::gather;
@@ -16,6 +18,7 @@ use account_core::Ban;
 use ban_book::BanBook;
 use circuits::Pair;
 use class_refine::Domains;
+use port_covers::block::{Block, block_of, ways_in};
 use port_covers::cover::{add_one, hold_cover};
 use port_sides::PairableGraphs;
 use std::alloc::{AllocError, Global};
@@ -50,17 +53,46 @@ pub fn cover_port(
     ensures more { LearnsMore graphs.now domains.now.entries book.old book.new }
     ensures conflict { IfOk result (IsConflict book.new held.now) }
 {
+    let count = domains.ports(port.kind);
+    let block = block_of(alloc, port.side, port.kind, port.number, count)?;
+    cover_block(
+        alloc, graphs, domains, held, block, resolved, pairs, made, book,
+    )
+}
+
+/// Does so for a block: ports of both circuits that are more than either has.
+pub fn cover_block(
+    alloc: Global,
+    graphs: &PairableGraphs<'_>,
+    domains: &Domains,
+    held: &[Pair],
+    block: Block,
+    resolved: Option<Resolved>,
+    pairs: Vec<Pair>,
+    made: &mut Mismatches,
+    book: &mut BanBook,
+) -> Result<Conflict, AllocError>
+    requires fit { FitPorts graphs.now domains.now.inputs domains.now.outputs }
+    requires block { IsBlock (ports_of domains.now.inputs domains.now.outputs block.kind) block }
+    requires held { AreHeld graphs.now held.now }
+    requires named { AreAllNamed book.old domains.now.entries (ways_in block) (left_out resolved) held.now }
+    requires part { IsPart held.now pairs.items }
+    requires resolved { LeadsIntoBan book.old pairs.items resolved }
+    ensures more { LearnsMore graphs.now domains.now.entries book.old book.new }
+    ensures conflict { IfOk result (IsConflict book.new held.now) }
+{
+    let ways = ways_in(alloc, &block)?;
     let mut pairs = pairs;
     gather(
         domains,
         held,
         book.bans(),
-        port,
+        &ways,
         way_of(resolved),
         &mut pairs,
     )?;
-    let ways = refer(alloc, graphs, domains, port, &pairs, resolved, made, book)?;
-    let ban = hold_cover(alloc, graphs, &pairs, ways, book)?;
+    let refs = refer(alloc, graphs, domains, &ways, &pairs, resolved, made, book)?;
+    let ban = hold_cover(alloc, graphs, &pairs, block, refs, book)?;
     Ok(Conflict { pairs, ban })
 }
 

@@ -1,43 +1,39 @@
-//! The pairs that a port's deleted ways need.
+//! The pairs that deleted ways need.
 
 ghost use Rattle.std.specs.Prelude.{◌≡◌, ◌↔◌, All, AllPairs, Contains, IsTrue, OnOk, Some};
 ghost use Rattle.account_core.specs.Covers.{IsImpossible};
 ghost use Rattle.port_covers.specs.Held.{AddsHeld, AreApart, IsPart};
 ghost use Rattle.class_refine.specs.Trails.{IsPairOf};
-ghost use Rattle.conflict_core.specs.Named.{AreNamed, AreWaysGathered, AreWaysNamed, IsGathered, IsLeftOutOr, IsNamedIn, IsPortOf};
+ghost use Rattle.conflict_core.specs.Named.{AreAllGathered, AreAllNamed, AreNamed, IsGathered, IsLeftOutOr, IsNamedIn};
 
-use crate::port::Port;
 use account_core::Ban;
 use circuits::Pair;
 use class_refine::{Domains, Reason};
 use port_covers::clash::clashing;
 use port_covers::cover::{add_one, add_others};
-use port_covers::ways::nth_way;
 use std::alloc::AllocError;
 
-/// Adds held pairs to those of a conflict, until all ways of a port but one that is left out are impossible beside
-/// them, or were deleted for a reason that names none but them. The pairs come from those that are held, and each way
-/// was deleted for a reason that names held pairs alone. A way that is impossible beside the conflict's pairs needs
-/// none.
+/// Adds held pairs to those of a conflict, until all of some ways but one that is left out are impossible beside them, or
+/// were deleted for a reason that names none but them. The pairs come from those that are held, and each way was deleted
+/// for a reason that names held pairs alone. A way that is impossible beside the conflict's pairs needs none.
 pub(crate) fn gather(
     domains: &Domains,
     held: &[Pair],
     bans: &[Ban],
-    port: Port,
+    ways: &[Pair],
     skipped: Option<Pair>,
     conflict: &mut Vec<Pair>,
 ) -> Result<(), AllocError>
-    requires there { IsPortOf domains.now port }
+    requires known { All (IsPairOf domains.now.inputs domains.now.outputs) ways.now }
     requires apart { AllPairs AreApart held.now }
-    requires named { AreWaysNamed bans.now domains.now port skipped held.now }
+    requires named { AreAllNamed bans.now domains.now.entries ways.now skipped held.now }
     requires part { IsPart held.now conflict.old.items }
     ensures adds { OnOk result (AddsHeld held.now conflict.old.items conflict.new.items) }
-    ensures gathered { OnOk result (AreWaysGathered bans.now domains.now port skipped conflict.new.items) }
+    ensures gathered { OnOk result
+        (AreAllGathered bans.now domains.now.entries ways.now skipped conflict.new.items) }
 {
-    let count = domains.ports(port.kind);
-    for number in 0..2 * count as u64 {
-        let way = nth_way(port.side, port.kind, port.number, number);
-        gather_way(domains, held, bans, way, skipped, conflict)?;
+    for way in ways.iter() {
+        gather_way(domains, held, bans, *way, skipped, conflict)?;
     }
     Ok(())
 }

@@ -9,7 +9,7 @@ mod port;
 mod refer;
 mod resolution;
 
-pub use conflict::{Conflict, conflict_of_ban, cover_port};
+pub use conflict::{Conflict, conflict_of_ban, cover_block, cover_port};
 pub use learned::{Back, Learned};
 pub use mismatch::Mismatches;
 pub use port::{Port, Resolved};

@@ -1,54 +1,49 @@
-//! What stands for each way of a port in a cover.
+//! What stands for each way in a cover.
 
-ghost use Rattle.std.specs.Prelude.{◌≡◌, ◌≢◌, ◌*◌, ◌∷◌, IfNone, IfOk, IfSome, Some, length};
+ghost use Rattle.std.specs.Prelude.{◌≡◌, ◌≢◌, ◌∷◌, All, IfNone, IfOk, IfSome, Some};
 ghost use Rattle.account_core.specs.Covers.{IsImpossible};
 ghost use Rattle.ban_book.specs.Covering.{Covers};
 ghost use Rattle.port_covers.specs.Ways.{AreClosed, IsClosed};
-ghost use Rattle.class_refine.specs.Trails.{IsPairOf, ports_of};
+ghost use Rattle.class_refine.specs.Trails.{IsPairOf};
 ghost use Rattle.conflict_core.specs.Grounded.{LearnsMore};
-ghost use Rattle.conflict_core.specs.Named.{AreWaysGathered, IsGathered, IsLeftOutOr, IsNamedIn, IsPortOf};
-ghost use Rattle.conflict_core.specs.Resolutions.{AreWaysOf, LeadsIntoBan, left_out};
+ghost use Rattle.conflict_core.specs.Named.{AreAllGathered, IsGathered, IsLeftOutOr, IsNamedIn};
+ghost use Rattle.conflict_core.specs.Resolutions.{LeadsIntoBan, left_out};
 
 use crate::gather::is_impossible;
 use crate::mismatch::{Mismatches, hold_mismatch};
-use crate::port::{Port, Resolved};
+use crate::port::Resolved;
 use ban_book::BanBook;
 use circuits::Pair;
 use class_refine::{Domains, Reason};
-use port_covers::ways::{ClosedWays, nth_way};
+use items::Items;
 use port_sides::PairableGraphs;
 use std::alloc::{AllocError, Global};
 
-/// The references of all ways of a port in a cover whose ban has a conflict's pairs. Each way is impossible beside
-/// them, or was deleted for a reason that names none but them, or was held and leads into a ban of them and it. The bans of ways
-/// that were deleted by mismatches are held now, if they weren't.
+/// The references of some ways in a cover whose ban has a conflict's pairs. Each way is impossible beside them, or was
+/// deleted for a reason that names none but them, or was held and leads into a ban of them and it. The bans of ways that
+/// were deleted by mismatches are held now, if they weren't.
 pub(crate) fn refer(
     alloc: Global,
     graphs: &PairableGraphs<'_>,
     domains: &Domains,
-    port: Port,
+    ways: &[Pair],
     conflict: &[Pair],
     resolved: Option<Resolved>,
     made: &mut Mismatches,
     book: &mut BanBook,
-) -> Result<ClosedWays, AllocError>
-    requires there { IsPortOf domains.now port }
+) -> Result<Items<Option<u64>>, AllocError>
+    requires known { All (IsPairOf domains.now.inputs domains.now.outputs) ways.now }
     requires resolved { LeadsIntoBan book.old conflict.now resolved }
-    requires gathered { AreWaysGathered book.old domains.now port (left_out resolved) conflict.now }
+    requires gathered { AreAllGathered book.old domains.now.entries ways.now (left_out resolved) conflict.now }
     ensures more { LearnsMore graphs.now domains.now.entries book.old book.new }
-    ensures port { IfOk result (AreWaysOf port) }
-    ensures all { IfOk result (λ ways.
-        length ways.refs ≡ 2 * ports_of domains.now.inputs domains.now.outputs port.kind) }
-    ensures closed { IfOk result (AreClosed book.new conflict.now) }
+    ensures closed { IfOk result (AreClosed book.new conflict.now ways.now) }
 {
-    let count = domains.ports(port.kind);
-    let mut ways = ClosedWays::new(alloc, port.side, port.kind, port.number);
-    for number in 0..2 * count as u64 {
-        let way = nth_way(port.side, port.kind, port.number, number);
-        let reference = reference(alloc, graphs, domains, way, conflict, resolved, made, book)?;
-        ways.refs.push(reference)?;
+    let mut refs = Items::new(alloc);
+    for way in ways.iter() {
+        let reference = reference(alloc, graphs, domains, *way, conflict, resolved, made, book)?;
+        refs.push(reference)?;
     }
-    Ok(ways)
+    Ok(refs)
 }
 
 // What stands for a way.

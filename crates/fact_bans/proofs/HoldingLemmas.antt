@@ -14,6 +14,8 @@ use Rattle.account_core.specs.Steps.{AreValidBans, IsValidBan}
 use Rattle.oracle_core.specs.Oracles.{Known, Serves}
 use Rattle.ban_book.specs.Vectors.{AreLastResorts, IsLastResort, IsVector}
 use Rattle.ban_book.proofs.BookLemmas.{valid_push}
+use Rattle.ban_book.proofs.VectorLemmas.{last_resorts_push_other}
+use Rattle.port_covers.specs.Ways.{HoldsMore}
 use Rattle.claim_rows.specs.declared.tallies.Lists.{Lists}
 use Rattle.claim_rows.specs.Listed.{tally_of}
 use Rattle.fact_bans.specs.Serving.{AreValid, HasServed, HoldsBans, MayHold, OnlyAdds}
@@ -118,6 +120,18 @@ held_ban graphs old new a b bans more ban valid served is here resort = record {
   served = served;
   valid = valid_one graphs old new a b bans more ban valid served is here resort;
   adds = adds_one bans more ban is;
+}
+
+-- bans are held that no vector shows, and that are valid whatever the facts are
+pub held_more : (graphs : Graphs) (old new : Known) (a b : Ledgered) (first second third : List Ban) → HasHeld graphs old new a b first second → HoldsMore graphs second third → HasHeld graphs old new a b first third
+held_more graphs old new a b first second third held more = record {
+  served = held.served;
+  valid = record {
+    graphs_are = held.valid.graphs_are;
+    each = more.valid (map decided_by new.facts) held.valid.each;
+    last_resorts = subst (AreLastResorts graphs (map decided_by new.facts)) (sym more.more) (last_resorts_push_other graphs (map decided_by new.facts) second more.added more.no_vector held.valid.last_resorts);
+  };
+  adds = adds_then first second third held.adds (record { added = more.added; more = more.more });
 }
 
 -- calls that were answered, and held no ban

@@ -15,7 +15,8 @@ use Rattle.account_core.specs.Shown.{IsEmptyBan}
 use Rattle.account_core.specs.Steps.{IsValidBan}
 use Rattle.account_core.specs.Tallies.{Ascend}
 use Rattle.fact_bans.specs.Serving.{OnlyAdds}
-use Rattle.fact_bans.specs.Referred.{row, AddsRef, AddsTwo, AreReferred, IsReferred}
+use Rattle.port_covers.specs.Ways.{row, AreClosed, IsClosed}
+use Rattle.fact_bans.specs.Referred.{AddsRef, AddsTwo, AreReferred, IsReferred}
 use Rattle.ban_book.proofs.BookLemmas.{covers_later}
 use Rattle.claim_rows.proofs.ListLemmas.{flat_push, zip_append, zip_map}
 
@@ -63,41 +64,26 @@ reference_of facts bans pair ref is =
     no_ban : Ban
     no_ban = record { pairs = []; step = step.Mismatch 0 0 }
 
-given_from : (bans : List Ban) (ways : List Pair) (refs : List (Option ℕ)) (k : ℕ) (d : Option ℕ) (ban : ℕ) → AreReferred bans ways refs → k < length refs → get_or refs k d ≡ Some ban → ban < length bans
-given_from bans [] [] k d ban are below is = absurd (omega (arith, below))
-given_from bans [] (r ∷ refs) k d ban are below is = absurd are
-given_from bans (w ∷ ways) [] k d ban are below is = absurd are
-given_from bans (w ∷ ways) (r ∷ refs) zero d ban are below is =
-    subst (λ n. n < length bans) (same_Some are.0.number ban (sym are.0.ref_is ∙ is)) are.0.covers.held
-given_from bans (w ∷ ways) (r ∷ refs) (suc k) d ban are below is = given_from bans ways refs k d ban are.1 (omega (arith, below)) is
+-- ways that have bans of their own are closed
+pub closed_of : (bans : List Ban) (ways : List Pair) (refs : List (Option ℕ)) → AreReferred bans ways refs → AreClosed bans [] ways refs
+closed_of bans ways refs are = zip_map (IsReferred bans) (IsClosed bans []) ways refs one are
+  where
+    one : (pair : Pair) (ref : Option ℕ) → IsReferred bans pair ref → IsClosed bans [] pair ref
+    one pair ref is = record {
+      refers = reference_of [] bans pair ref is;
+      held = λ ban same. subst (λ n. n < length bans) (same_Some is.number ban (sym is.ref_is ∙ same)) is.covers.held;
+    }
 
-nothing_known : (graphs : Graphs) → All (IsKnown graphs) []
+pub nothing_known : (graphs : Graphs) → All (IsKnown graphs) []
 nothing_known graphs k d below = absurd (omega (arith, below))
 
-nothing_ordered : AreOrdered []
+pub nothing_ordered : AreOrdered []
 nothing_ordered i j d less below = absurd (omega (arith, below))
 
--- the ban without pairs by the bans of all ways
-pub cover_valid : (graphs : Graphs) (facts : List Decided) (bans : List Ban) (from to : List ℕ) (refs : List (Option ℕ)) → Ascend from → Ascend to → All (λ port. port < length graphs.first.outputs) from → All (λ port. port < length graphs.second.outputs) to → length graphs.first.outputs < length from + length to → AreReferred bans (ways Output from to) refs → IsValidBan graphs (given_of facts bans) (record { pairs = []; step = step.Cover Output from to refs })
-cover_valid graphs facts bans from to refs from_ascends to_ascends from_there to_there many are = record {
-  known = nothing_known graphs;
-  ordered = nothing_ordered;
-  names = record {
-    first_ports = from_there;
-    second_ports = to_there;
-    given_bans = λ ban held_ref. omega (arith, given_from bans (ways Output from to) refs held_ref.0 (Some ban) ban are held_ref.1 held_ref.2, length-map bans (λ (b : Ban). b.pairs));
-  };
-  rule = record {
-    from_ascends = from_ascends;
-    to_ascends = to_ascends;
-    too_many = many;
-    referred = zip_map (IsReferred bans) (IsReference (given_of facts bans) []) (ways Output from to) refs (λ pair ref is. reference_of facts bans pair ref is) are;
-  };
-  shown = tt;
-}
-
-pub empty_last : (bans after : List Ban) (ban : Ban) (number : ℕ) → ban.pairs ≡ [] → after ≡ bans ++ ban ∷ [] → number ≡ length bans → IsEmptyBan after number
-empty_last bans after ban number none is last = record {
-  held = omega (arith, ap length is, length_push bans ban, last);
-  pairs = λ d. ap (λ (b : Ban). b.pairs) (ap (λ l. get_or l number d) is ∙ get_or_push bans ban d number (sym last)) ∙ none;
-}
+-- a ban that is within no pairs has none
+pub empty_of : (bans : List Ban) (number : ℕ) → Covers bans [] number → IsEmptyBan bans number
+empty_of bans number covers = record { held = covers.held; pairs = λ d. none_among (get_or bans number d).pairs (covers.within d).among }
+  where
+    none_among : (pairs : List Pair) → All (Contains []) pairs → pairs ≡ []
+    none_among [] among = refl
+    none_among (pair ∷ pairs) among = absurd (omega (arith, (among 0 pair (omega arith)).1))

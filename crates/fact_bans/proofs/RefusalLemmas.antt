@@ -12,7 +12,8 @@ use Rattle.account_core.specs.declared.step.Ban.{Ban}
 use Rattle.account_core.specs.Covers.{way, ways}
 use Rattle.oracle_core.specs.Oracles.{Known}
 use Rattle.fact_bans.specs.Serving.{MayHold, OnlyAdds}
-use Rattle.fact_bans.specs.Referred.{row, AddsRef, AddsTwo, AreReferred}
+use Rattle.port_covers.specs.Ways.{row}
+use Rattle.fact_bans.specs.Referred.{AddsRef, AddsTwo, AreReferred}
 use Rattle.fact_bans.proofs.HoldingLemmas.{held_same, held_then, HasHeld}
 use Rattle.fact_bans.proofs.ReferLemmas.{adds_two, row_push, rows_push}
 

@@ -1,6 +1,6 @@
 -- Ways that have bans of their own.
 use Rattle.std.specs.Prelude.{◌≡◌, ℕ, false, true, List, [], ◌∷◌, ◌++◌, Option, Some}
-use Rattle.std.specs.List.{AllZip, flat_map}
+use Rattle.std.specs.List.{AllZip}
 use Rattle.circuits.specs.declared.port.Pair.{Pair}
 use Rattle.circuits.specs.declared.port.PortKind.{PortKind}
 use Rattle.account_core.specs.declared.step.Ban.{Ban}
@@ -16,10 +16,6 @@ pub record IsReferred (bans : List Ban) (pair : Pair) (ref : Option ℕ) : Type 
 -- each way has its ban
 abbrev pub AreReferred : List Ban → List Pair → List (Option ℕ) → Type 0
 AreReferred bans ways refs = AllZip (IsReferred bans) ways refs
-
--- the ways to pair one port with each of some others, plain before negated
-abbrev pub row : PortKind → ℕ → List ℕ → List Pair
-row kind from to = flat_map (λ t. way kind from t false ∷ way kind from t true ∷ []) to
 
 -- One more reference came after others: that of a way.
 pub record AddsRef (bans : List Ban) (pair : Pair) (before after : List (Option ℕ)) : Type 0 where

@@ -145,7 +145,7 @@ pub(crate) fn list_both<O: Oracle>(
 }
 
 /// Whether there is a mark at a place.
-pub(crate) fn mark_at(marks: &[bool], input: u32) -> bool {
+fn mark_at(marks: &[bool], input: u32) -> bool {
     match marks.get(input as usize) {
         Some(mark) => *mark,
         None => false,

@@ -1,29 +1,28 @@
 //! A refusal by counts alone: outputs that all must go to others with which they don't fit.
 
-ghost use Rattle.std.specs.Prelude.{◌≡◌, ◌+◌, ◌<◌, ◌∷◌, [], All, IfOk, IfSome, IsTrue, OnOk, length};
+ghost use Rattle.std.specs.Prelude.{◌≡◌, ◌<◌, ◌∷◌, [], All, IfOk, IfSome, IsTrue, length};
 ghost use Rattle.circuits.specs.declared.port.PortKind.TheVariants.{Output};
 ghost use Rattle.account_core.specs.Covers.{way, ways};
 ghost use Rattle.account_core.specs.Ports.{IsKnown};
 ghost use Rattle.account_core.specs.Shown.{IsEmptyBan};
-ghost use Rattle.account_core.specs.Tallies.{Ascend};
 ghost use Rattle.ban_book.specs.Covering.{Covers};
-ghost use Rattle.account_core.specs.declared.step.Step.TheVariants as AnyStep;
-ghost use Rattle.fact_bans.specs.Referred.{row, AddsRef, AddsTwo, AreReferred};
+ghost use Rattle.port_covers.specs.Ways.{row};
+ghost use Rattle.fact_bans.specs.Referred.{AddsRef, AddsTwo, AreReferred};
 ghost use Rattle.fact_bans.specs.Serving.{HoldsBans, MayHold};
 
 use crate::classes::Classes;
-use crate::lists::mark_at;
 use crate::seen::Seen;
 use crate::tallies::tally;
-use account_core::{Ban, Step};
 use ban_book::BanBook;
 use circuits::{Pair, PortKind};
 use cnf_core::Stop;
-use items::{Few, Items};
+use items::Items;
 use oracle_core::Oracle;
+use port_covers::block::{Block, marked};
+use port_covers::cover::hold_cover;
 use port_sides::PairableGraphs;
 use query_core::Ledger;
-use std::alloc::{AllocError, Global};
+use std::alloc::Global;
 
 /// Where one of two circuits with as many ports has more outputs that depend on so many inputs and are binate in so many:
 /// holds a ban without pairs, and answers its number. None where none was shown.
@@ -85,36 +84,9 @@ fn refuse_by<O: Oracle>(
     let Some(refs) = rows(alloc, graphs, oracle, &from, &to, seen, book, ledger)? else {
         return Ok(None);
     };
-    let ban = cover_ban(alloc, from, to, refs)?;
-    let number = book.hold(ban)?;
+    let kind = PortKind::Output;
+    let number = hold_cover(alloc, graphs, &[], Block { kind, from, to }, refs, book)?;
     Ok(Some(number))
-}
-
-// The places of marks below a number.
-fn marked(alloc: Global, marks: &[bool], count: u32) -> Result<Items<u32>, AllocError>
-    ensures ascends { IfOk result Ascend }
-    ensures below { IfOk result (All (λ port. port < count)) }
-{
-    let mut ports = Items::new(alloc);
-    for port in 0..count {
-        add_marked(&mut ports, marks, port)?;
-    }
-    Ok(ports)
-}
-
-#[tactic(auto, using(claim_rows::proofs::ListLemmas::ascend_after, claim_rows::proofs::ListLemmas::below_after, claim_rows::proofs::ListLemmas::below_more))]
-// Adds a port that is marked.
-fn add_marked(ports: &mut Items<u32>, marks: &[bool], port: u32) -> Result<(), AllocError>
-    requires ascends { Ascend ports.old }
-    requires below { All (λ other. other < port) ports.old }
-    ensures ascends { OnOk result (Ascend ports.new) }
-    ensures below { OnOk result (All (λ other. other < port + 1) ports.new) }
-{
-    if !mark_at(marks, port) {
-        return Ok(());
-    }
-    ports.push(port)?;
-    Ok(())
 }
 
 // The bans of all ways to pair some outputs with others. None where a way has none.
@@ -254,25 +226,4 @@ fn ban_of<O: Oracle>(
         return Ok(Some(number));
     }
     tally(alloc, graphs, oracle, pair, seen, book, ledger)
-}
-
-// The ban without pairs by the bans of all ways to pair some outputs with others.
-fn cover_ban(
-    alloc: Global,
-    from: Items<u32>,
-    to: Items<u32>,
-    refs: Items<Option<u64>>,
-) -> Result<Ban, AllocError>
-    ensures { IfOk result (λ ban. ban ≡ record { pairs = []; step = AnyStep.Cover Output from to refs }) }
-{
-    let pairs = Few::new(alloc);
-    Ok(Ban {
-        pairs,
-        step: Step::Cover {
-            kind: PortKind::Output,
-            from,
-            to,
-            refs,
-        },
-    })
 }

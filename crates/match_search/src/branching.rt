@@ -123,8 +123,10 @@ fn turn<O: Oracle>(
         Ahead::Impasse(impasse) => impasse,
     };
     let before = book.bans().len();
+    let dead = impasse.ban();
+    guide.hurry(&impasse);
     let refusal = turn_back(alloc, graphs, domains, queue, impasse, book)?;
-    guide.learn(book.bans(), before, impasse);
+    guide.learn(book.bans(), before, dead);
     guide.forget(domains.pairs().len());
     match refusal {
         None => Ok(None),
@@ -175,9 +177,10 @@ fn go_on<O: Oracle>(
     ensures trail { OnOk result (IsShownTrail graphs.now (O.known oracle.new) book.new domains.new) }
     ensures ahead { IfOk result (IsAhead graphs.now (map decided_by (O.known oracle.new).facts) book.new domains.old domains.new) }
 {
-    let Some(port) = next_port(alloc, graphs, &guide.reads, &guide.weights, domains)? else {
+    let Some(port) = next_port(alloc, graphs, guide, domains)? else {
         return compare_held(alloc, graphs, oracle, guide, domains, book, ledger);
     };
+    guide.decided = Some(port);
     match branch(domains, book.bans(), port)? {
         None => Ok(Ahead::Deeper),
         Some(impasse) => Ok(Ahead::Impasse(impasse)),

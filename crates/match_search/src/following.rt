@@ -115,7 +115,7 @@ fn settle<O: Oracle>(
     let inputs = domains.ports(PortKind::Input) as u64;
     let outputs = domains.ports(PortKind::Output) as u64;
     for _turn in 0..inputs + 2 * outputs + 1 {
-        if let Some(impasse) = propagate(domains, queue, book.bans())? {
+        if let Some(impasse) = propagate(alloc, domains, queue, book.bans())? {
             return Ok(Some(impasse));
         }
         let more = ask_next(alloc, graphs, oracle, guide, domains, book, ledger)?;

@@ -8,6 +8,7 @@ use crate::reads::{Reads, by_count};
 use crate::weights::Weights;
 use account_core::Ban;
 use circuits::Pair;
+use conflict_core::Port;
 use fact_bans::Seen;
 use pair_search::Impasse;
 use port_sides::PairableGraphs;
@@ -35,6 +36,9 @@ pub(crate) struct Guide {
     /// Ways that are to be compared with a held pair: kept for its memory alone.
     pub(crate) ways: Vec<Pair>,
     pub(crate) compared: Compared,
+    /// The port that was decided last, and the one that comes first as long as it is in no pair.
+    pub(crate) decided: Option<Port>,
+    pub(crate) urgent: Option<Port>,
 }
 
 impl Guide {
@@ -64,6 +68,8 @@ impl Guide {
             exchanged: 0,
             ways: Vec::new(alloc),
             compared,
+            decided: None,
+            urgent: None,
         })
     }
 
@@ -75,14 +81,26 @@ impl Guide {
         self.exchanged = self.exchanged.min(held);
     }
 
+    /// Notes an impasse. Where outputs have too few others to go to, the port that was decided last comes first from here on, until
+    /// it has a pair (Lecoutre, Sais, Tabary and Vidal, Reasoning from last conflict(s), Artificial Intelligence, 2009). Of each
+    /// way it is deleted that the first one to tell it was another pair: so the conflict has pairs that were held before too, and
+    /// each way of this port would be tried beside each of them.
+    pub(crate) fn hurry(&mut self, impasse: &Impasse)
+        ensures { self.new.trials ≡ self.old.trials }
+    {
+        if let Impasse::Block(_) = impasse {
+            self.urgent = self.decided;
+        }
+    }
+
     /// Notes the bans that the conflict of an impasse came to, those from a place on, the last of which was learned; where
-    /// there are none, the ban of the impasse was.
-    pub(crate) fn learn(&mut self, bans: &[Ban], from: usize, impasse: Impasse)
+    /// there are none, the ban that the impasse is was, of which the number is given.
+    pub(crate) fn learn(&mut self, bans: &[Ban], from: usize, impasse: Option<u64>)
         ensures { self.new.trials ≡ self.old.trials }
     {
         if from < bans.len() {
             self.weights.count(&bans[from..]);
-        } else if let Some(learned) = ban_of(bans, impasse) {
+        } else if let Some(learned) = ban_at(bans, impasse) {
             self.weights.count_learned(learned);
         }
     }
@@ -98,12 +116,8 @@ impl Guide {
     }
 }
 
-// The ban of an impasse that is one.
-fn ban_of(bans: &[Ban], impasse: Impasse) -> Option<&Ban> {
-    match impasse {
-        Impasse::Ban(number) => bans.get(number as usize),
-        Impasse::Port(_) => None,
-    }
+fn ban_at(bans: &[Ban], number: Option<u64>) -> Option<&Ban> {
+    bans.get(number? as usize)
 }
 
 // The outputs of the first circuit, those first that read the fewest inputs, whose claims are cheap; none where there are too

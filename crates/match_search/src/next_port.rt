@@ -7,8 +7,7 @@ ghost use Rattle.class_refine.specs.Trails.{IsFreePort, held_in, ports_of};
 ghost use Rattle.conflict_core.specs.Conflicts.{FitPorts};
 
 use crate::fewest::fewest_ways;
-use crate::reads::Reads;
-use crate::weights::Weights;
+use crate::guide::Guide;
 use circuits::PortKind;
 use class_refine::Domains;
 use conflict_core::Port;
@@ -16,13 +15,12 @@ use net_core::Side;
 use port_sides::PairableGraphs;
 use std::alloc::{AllocError, Global};
 
-/// The next port that is in no pair: the one of either circuit that has the fewest ways left for its weight, of the inputs that
-/// outputs in pairs read, else of the outputs. It is None where each port is in a pair.
+/// The next port that is in no pair: the urgent one, or that of either circuit which has the fewest ways left for its weight, of the
+/// inputs that outputs in pairs read, else of the outputs. It is None where each port is in a pair.
 pub(crate) fn next_port(
     alloc: Global,
     graphs: &PairableGraphs<'_>,
-    reads: &Reads,
-    weights: &Weights,
+    guide: &Guide,
     domains: &Domains,
 ) -> Result<Option<Port>, AllocError>
     requires fit { FitPorts graphs.now domains.now.inputs domains.now.outputs }
@@ -33,12 +31,22 @@ pub(crate) fn next_port(
     ensures none { IfOk result (λ next. IfNone next (IsWhole graphs.now (held_in domains.now.entries))) }
 {
     let _ = graphs;
-    if let Some(port) = fewest_ways(alloc, reads, weights, domains)? {
+    if let Some(port) = preferred(alloc, guide, domains)? {
         if is_free(domains, port) {
             return Ok(Some(port));
         }
     }
     Ok(first_free(domains))
+}
+
+// The urgent port, if it is in no pair, or that with the fewest ways left for its weight.
+fn preferred(alloc: Global, guide: &Guide, domains: &Domains) -> Result<Option<Port>, AllocError> {
+    if let Some(port) = guide.urgent {
+        if is_free(domains, port) {
+            return Ok(Some(port));
+        }
+    }
+    fewest_ways(alloc, &guide.reads, &guide.weights, domains)
 }
 
 // The first port of the first circuit that is in no pair.

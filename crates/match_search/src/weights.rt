@@ -68,16 +68,21 @@ impl Weights {
         weight.saturating_add(self.step / 10)
     }
 
-    // The port whose ways a step covers.
+    // The ports whose ways a step covers: those of the circuit of which they are fewer.
     fn raise_covered(&mut self, step: &Step) {
         let Step::Cover { kind, from, to, .. } = step else {
             return;
         };
-        if let [port] = from.as_slice() {
-            self.raise_port(Side::First, *kind, *port);
+        if from.len() <= to.len() {
+            self.raise_all(Side::First, *kind, from);
+        } else {
+            self.raise_all(Side::Second, *kind, to);
         }
-        if let [port] = to.as_slice() {
-            self.raise_port(Side::Second, *kind, *port);
+    }
+
+    fn raise_all(&mut self, side: Side, kind: PortKind, ports: &[u32]) {
+        for port in ports.iter() {
+            self.raise_port(side, kind, *port);
         }
     }
 

@@ -3,7 +3,9 @@
 
 mod back;
 mod clashes;
+mod crowds;
 mod impasse;
+mod partners;
 mod ports;
 mod propagation;
 mod queue;

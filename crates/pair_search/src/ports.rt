@@ -73,10 +73,15 @@ pub fn branch(
     };
     let way = way_of(domains, port, number);
     match holder(domains, way) {
-        None => domains.hold(way, Cause::Choice)?,
-        Some(held) => domains.delete(way, Reason::Clash(held))?,
+        None => {
+            domains.hold(way, Cause::Choice)?;
+            Ok(None)
+        }
+        Some(held) => {
+            domains.delete(way, Reason::Clash(held))?;
+            Ok(None)
+        }
     }
-    Ok(None)
 }
 
 /// A way of a port, by its number.

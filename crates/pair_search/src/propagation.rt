@@ -6,6 +6,7 @@ ghost use Rattle.conflict_core.specs.Justified.{IsJustifiedTrail};
 ghost use Rattle.pair_search.specs.Impasses.{Follows};
 
 use crate::clashes::delete_clashing;
+use crate::crowds::crowd;
 use crate::impasse::Impasse;
 use crate::ports::apply_port;
 use crate::queue::Queue;
@@ -16,11 +17,31 @@ use class_refine::{Domains, Entry, Fate};
 use conflict_core::Port;
 use net_core::Side;
 use port_sides::port_on;
-use std::alloc::AllocError;
+use std::alloc::{AllocError, Global};
 
 /// Holds and deletes pairs as it follows, until nothing follows or it doesn't go on. Pairs that share a port with a held
-/// one are deleted, and that of a ban whose other pairs are held; the last way of a port is held.
+/// one are deleted, and that of a ban whose other pairs are held; the last way of a port is held. Last, outputs are looked
+/// for that have fewer outputs to go to than they are.
 pub fn propagate(
+    alloc: Global,
+    domains: &mut Domains,
+    queue: &mut Queue,
+    bans: &[Ban],
+) -> Result<Option<Impasse>, AllocError>
+    requires justified { IsJustifiedTrail bans.now domains.old }
+    ensures { Follows bans.now domains.old domains.new result }
+{
+    if let Some(impasse) = follow_all(domains, queue, bans)? {
+        return Ok(Some(impasse));
+    }
+    match crowd(alloc, domains, &mut queue.partners)? {
+        Some(block) => Ok(Some(Impasse::Block(block))),
+        None => Ok(None),
+    }
+}
+
+// Holds and deletes what follows, one after the other.
+fn follow_all(
     domains: &mut Domains,
     queue: &mut Queue,
     bans: &[Ban],

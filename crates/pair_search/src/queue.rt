@@ -1,5 +1,6 @@
 //! What is still to be propagated, and which bans a pair is in.
 
+use crate::partners::Partners;
 use crate::units::is_held;
 use account_core::Ban;
 use circuits::{Pair, PortKind};
@@ -35,11 +36,14 @@ pub struct Queue {
     links: Vec<Link>,
     /// The bans that were made of mismatches.
     pub(crate) made: Mismatches,
+    /// Partners for all outputs.
+    pub(crate) partners: Partners,
 }
 
 impl Queue {
     /// Nothing was propagated.
     pub fn new(alloc: Global, inputs: u32, outputs: u32) -> Result<Queue, AllocError> {
+        let partners = Partners::new(alloc, PortKind::Output, outputs)?;
         let (inputs, outputs) = (inputs as u64, outputs as u64);
         let count = inputs
             .saturating_mul(inputs)
@@ -54,6 +58,7 @@ impl Queue {
             lasts,
             links: Vec::new(alloc),
             made: Mismatches::new(alloc),
+            partners,
         })
     }
 

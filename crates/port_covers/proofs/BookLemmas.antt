@@ -6,6 +6,7 @@ use Rattle.std.proofs.lemmas.List.Elements.{All-contains, All-cons, All-nil}
 use Rattle.std.proofs.lemmas.List.FromFn.{length-range_with_len, get_or-range_with_len}
 use Rattle.circuits.specs.declared.port.Pair.{Pair}
 use Rattle.net_core.specs.Sides.{Graphs}
+use Rattle.circuits.specs.declared.port.PortKind.{PortKind}
 use Rattle.net_core.specs.declared.graphs.Side.{Side}
 use Rattle.net_core.specs.declared.graphs.Side.TheVariants.{First, Second}
 use Rattle.account_core.specs.declared.step.Ban.{Ban}
@@ -19,11 +20,12 @@ use Rattle.ban_book.specs.Vectors.{IsVector}
 pub use Rattle.ban_book.proofs.BookLemmas.{covers_last}
 use Rattle.ban_book.proofs.BookLemmas.{covers_later, valid_push}
 use Rattle.ban_book.proofs.VectorLemmas.{no_vector_more, no_vector_none, no_vector_one}
-use Rattle.port_covers.specs.declared.ways.ClosedWays.{ClosedWays}
+use Rattle.ban_book.proofs.ListLemmas.{zip_map}
+use Rattle.port_covers.specs.declared.block.Block.{Block}
 use Rattle.account_core.specs.Tallies.{Ascend, other_side}
 use Rattle.port_covers.specs.Held.{AreHeld, IsPart}
-use Rattle.port_covers.specs.Ways.{nth_way, ports_tried, way_count, AreClosed, HoldsMore}
-use Rattle.port_covers.proofs.ClosedLemmas.{all_ways}
+use Rattle.port_covers.specs.Ways.{block_of, ports_tried, ways_in, AreClosed, HoldsMore, IsBlock, IsClosed}
+use Rattle.port_covers.proofs.ClosedLemmas.{held_at}
 
 pub holds_none : (graphs : Graphs) (bans : List Ban) → HoldsMore graphs bans bans
 holds_none graphs bans = record { added = []; more = sym (append-nil bans); no_vector = no_vector_none; valid = λ facts valid. valid }
@@ -75,39 +77,35 @@ tried_many : (side : Side) (port count : ℕ) → length (ports_tried side port 
 tried_many First port count = omega (arith, length-range_with_len 0 count)
 tried_many Second port count = omega (arith, length-range_with_len 0 count)
 
-abbrev pub cover_of : Graphs → List Pair → ClosedWays → Ban
-cover_of graphs pairs ways = record { pairs = pairs; step = step.Cover ways.kind (ports_tried ways.side ways.port (ports_in graphs.second ways.kind)) (ports_tried (other_side ways.side) ways.port (ports_in graphs.second ways.kind)) ways.refs }
-
-pub cover_valid : (graphs : Graphs) (bans : List Ban) (pairs : List Pair) (ways : ClosedWays) (facts : List Decided) → ports_in graphs.first ways.kind ≡ ports_in graphs.second ways.kind → All (IsKnown graphs) pairs → AreOrdered pairs → ways.port < ports_in graphs.first ways.kind → length ways.refs ≡ way_count graphs ways → AreClosed bans pairs ways → IsValidBan graphs (given_of facts bans) (cover_of graphs pairs ways)
-cover_valid graphs bans pairs ways facts many known ordered there all closed = record {
-  known = known;
-  ordered = ordered;
-  names = record {
-    first_ports = subst (λ n. All (λ port. port < n) (ports_tried ways.side ways.port count)) (sym many_ports) (tried_below ways.side ways.port count here);
-    second_ports = tried_below (other_side ways.side) ways.port count here;
-    given_bans = λ ban held_ref. omega (arith, (closed held_ref.0 (Some ban) held_ref.1).held ban held_ref.2, length-map bans (λ (b : Ban). b.pairs));
-  };
-  rule = record {
-    from_ascends = tried_ascends ways.side ways.port count;
-    to_ascends = tried_ascends (other_side ways.side) ways.port count;
-    too_many = omega (arith, many_ports, tried_many ways.side ways.port count);
-    referred = all_ways ways.side ways.kind ways.port (ports_in graphs.second ways.kind) (IsReference (given_of facts bans) pairs) ways.refs all (λ number ref below. reference_facts facts bans pairs (nth_way ways.side ways.kind ways.port number) (get_or ways.refs number ref) ((closed number ref below).refers));
-  };
-  shown = tt;
+-- a port and all ports of the other circuit are a block
+pub port_is_block : (side : Side) (kind : PortKind) (port count : ℕ) → port < count → IsBlock count (block_of side kind port count)
+port_is_block side kind port count there = record {
+  from_ascends = tried_ascends side port count;
+  to_ascends = tried_ascends (other_side side) port count;
+  from_below = tried_below side port count there;
+  to_below = tried_below (other_side side) port count there;
+  too_many = omega (arith, tried_many side port count);
 }
-  where
-    count : ℕ
-    count = ports_in graphs.second ways.kind
 
-    many_ports : ports_in graphs.first ways.kind ≡ count
-    many_ports = many
-
-    here : ways.port < count
-    here = omega (arith, there, many_ports)
-
-pub cover_valid_of : (graphs : Graphs) (bans : List Ban) (pairs : List Pair) (ways : ClosedWays) → ports_in graphs.first ways.kind ≡ ports_in graphs.second ways.kind → All (IsKnown graphs) pairs → AreOrdered pairs → ways.port < ports_in graphs.first ways.kind → length ways.refs ≡ way_count graphs ways → AreClosed bans pairs ways → (ps : List Pair) (from to : List ℕ) → ps ≡ pairs → from ≡ ports_tried ways.side ways.port (ports_in graphs.second ways.kind) → to ≡ ports_tried (other_side ways.side) ways.port (ports_in graphs.second ways.kind) → (facts : List Decided) → IsValidBan graphs (given_of facts bans) (record { pairs = ps; step = step.Cover ways.kind from to ways.refs })
-cover_valid_of graphs bans pairs ways many known ordered there all closed ps from to ps_is from_is to_is facts =
-    subst (λ l. IsValidBan graphs (given_of facts bans) (record { pairs = l; step = step.Cover ways.kind from to ways.refs })) (sym ps_is) (subst (λ l. IsValidBan graphs (given_of facts bans) (record { pairs = pairs; step = step.Cover ways.kind l to ways.refs })) (sym from_is) (subst (λ l. IsValidBan graphs (given_of facts bans) (record { pairs = pairs; step = step.Cover ways.kind (ports_tried ways.side ways.port (ports_in graphs.second ways.kind)) l ways.refs })) (sym to_is) (cover_valid graphs bans pairs ways facts many known ordered there all closed)))
+-- the ban of pairs beside which all ways of a block are closed
+pub cover_valid : (graphs : Graphs) (facts : List Decided) (bans : List Ban) (pairs listed : List Pair) (block : Block) (refs : List (Option ℕ)) → ports_in graphs.first block.kind ≡ ports_in graphs.second block.kind → All (IsKnown graphs) pairs → AreOrdered pairs → IsBlock (ports_in graphs.second block.kind) block → listed ≡ pairs → AreClosed bans pairs (ways_in block) refs → IsValidBan graphs (given_of facts bans) (record { pairs = listed; step = step.Cover block.kind block.from block.to refs })
+cover_valid graphs facts bans pairs listed block refs many known ordered is same closed =
+    subst (λ l. IsValidBan graphs (given_of facts bans) (record { pairs = l; step = step.Cover block.kind block.from block.to refs })) (sym same) (record {
+      known = known;
+      ordered = ordered;
+      names = record {
+        first_ports = subst (λ n. All (λ port. port < n) block.from) (sym many) is.from_below;
+        second_ports = is.to_below;
+        given_bans = λ ban there. omega (arith, held_at bans pairs (ways_in block) refs there.0 ban closed there.1 there.2, length-map bans (λ (b : Ban). b.pairs));
+      };
+      rule = record {
+        from_ascends = is.from_ascends;
+        to_ascends = is.to_ascends;
+        too_many = omega (arith, many, is.too_many);
+        referred = zip_map (IsClosed bans pairs) (IsReference (given_of facts bans) pairs) (ways_in block) refs (λ pair ref one. reference_facts facts bans pairs pair ref one.refers) closed;
+      };
+      shown = tt;
+    })
 
 -- those of the held pairs that are known
 pub part_known : (graphs : Graphs) (held pairs : List Pair) → AreHeld graphs held → IsPart held pairs → All (IsKnown graphs) pairs

@@ -1,21 +1,19 @@
 -- Ways that are closed.
 use Rattle.std.proofs.Common.{◌≡◌, ℕ, zero, suc, ◌+◌, ◌*◌, ◌/◌, ◌%◌, ◌<◌, eqb, Bool, true, false, List, [], ◌∷◌, ◌++◌, length, get_or, All, Option, None, Some, refl, sym, ap, subst, ◌∙◌, arith}
 use Rattle.std.specs.Prelude.{Contains}
-use Rattle.std.specs.List.{AllZip, flat_map, range_with_len}
+use Rattle.std.specs.List.{flat_map, range_with_len}
 use Rattle.std.proofs.lemmas.List.{get_or-map, append-nil}
+use Rattle.std.proofs.lemmas.List.Elements.{All-cons, All-nil}
 use Rattle.std.proofs.lemmas.Option.{same_Some}
 use Rattle.circuits.specs.declared.port.Pair.{Pair}
 use Rattle.circuits.specs.declared.port.PortKind.{PortKind}
-use Rattle.circuits.specs.Literals.{EachAt}
 use Rattle.net_core.specs.declared.graphs.Side.{Side}
 use Rattle.net_core.specs.declared.graphs.Side.TheVariants.{First, Second}
 use Rattle.account_core.specs.declared.step.Ban.{Ban}
 use Rattle.account_core.specs.Given.{ban_at, given_of}
 use Rattle.account_core.specs.Covers.{way, ways, IsImpossible}
-use Rattle.port_covers.specs.declared.ways.ClosedWays.{ClosedWays}
 use Rattle.account_core.specs.Tallies.{other_side, port_on}
-use Rattle.port_covers.specs.Ways.{first_port, nth_way, ports_tried, second_port, IsClosed, AreClosed}
-use Rattle.port_covers.proofs.ListLemmas.{each_push}
+use Rattle.port_covers.specs.Ways.{block_of, first_port, nth_way, ports_tried, second_port, ways_in, AreClosed, IsClosed}
 
 -- a way that clashes with a held pair is closed
 pub closed_by_clash : (bans : List Ban) (pairs : List Pair) (pair : Pair) → IsImpossible pairs pair → IsClosed bans pairs pair None
@@ -35,33 +33,24 @@ closed_by_ban bans pairs pair ban d below open' among = record {
     by_same : (other : ℕ) → Some ban ≡ Some other → other < length bans
     by_same other is = subst (λ n. n < length bans) (same_Some ban other is) below
 
--- one more way is closed
-pub closed_more : (bans : List Ban) (pairs : List Pair) (closed : ClosedWays) (ref : Option ℕ) → AreClosed bans pairs closed → IsClosed bans pairs (nth_way closed.side closed.kind closed.port (length closed.refs)) ref → EachAt (λ number r. IsClosed bans pairs (nth_way closed.side closed.kind closed.port number) r) (closed.refs ++ ref ∷ [])
-closed_more bans pairs closed ref are is = each_push (λ number r. IsClosed bans pairs (nth_way closed.side closed.kind closed.port number) r) closed.refs ref are is
-
 -- both ways with a port
 abbrev both : (ℕ → Bool → Pair) → ℕ → List Pair
 both ends other = ends other false ∷ ends other true ∷ []
 
-zip_ways : (ends : ℕ → Bool → Pair) (R : Pair → Option ℕ → Type 0) (s c : ℕ) (refs : List (Option ℕ)) → length refs ≡ 2 * c → ((t : ℕ) (d : Option ℕ) → t < c → R (ends (s + t) false) (get_or refs (2 * t) d) × R (ends (s + t) true) (get_or refs (2 * t + 1) d)) → AllZip R (flat_map (both ends) (range_with_len s c)) refs
-zip_ways ends R s zero [] same each = tt
-zip_ways ends R s zero (a ∷ refs) same each = absurd (omega (arith, same))
-zip_ways ends R s (suc c) [] same each = absurd (omega (arith, same))
-zip_ways ends R s (suc c) (a ∷ []) same each = absurd (omega (arith, same))
-zip_ways ends R s (suc c) (a ∷ b ∷ refs) same each =
+-- what holds of both ways with each port holds of all
+all_both : (ends : ℕ → Bool → Pair) (P : Pair → Type 0) (s c : ℕ) → ((t : ℕ) → t < c → P (ends (s + t) false) × P (ends (s + t) true)) → All P (flat_map (both ends) (range_with_len s c))
+all_both ends P s zero each = All-nil P
+all_both ends P s (suc c) each =
     let start : s + 0 ≡ s = omega arith in
-    let first = each 0 a (omega arith) in
-    (subst (λ n. R (ends n false) a) start first.0, (subst (λ n. R (ends n true) b) start first.1, zip_ways ends R (s + 1) c refs (omega (arith, same)) later))
+    let first = each 0 (omega arith) in
+    let rest = flat_map (both ends) (range_with_len (s + 1) c) in
+    All-cons P (ends s false) (ends s true ∷ rest) (subst (λ n. P (ends n false)) start first.0) (All-cons P (ends s true) rest (subst (λ n. P (ends n true)) start first.1) (all_both ends P (s + 1) c later))
   where
-    later : (t : ℕ) (d : Option ℕ) → t < c → R (ends (s + 1 + t) false) (get_or refs (2 * t) d) × R (ends (s + 1 + t) true) (get_or refs (2 * t + 1) d)
-    later t d below =
-        let next = each (suc t) d (omega (arith, below)) in
+    later : (t : ℕ) → t < c → P (ends (s + 1 + t) false) × P (ends (s + 1 + t) true)
+    later t below =
+        let next = each (suc t) (omega (arith, below)) in
         let n : s + suc t ≡ s + 1 + t = omega arith in
-        let one : 2 * suc t ≡ suc (suc (2 * t)) = omega arith in
-        let other : 2 * suc t + 1 ≡ suc (suc (2 * t + 1)) = omega arith in (
-          subst (λ m. R (ends m false) (get_or refs (2 * t) d)) n (subst (λ k. R (ends (s + suc t) false) (get_or (a ∷ b ∷ refs) k d)) one next.0),
-          subst (λ m. R (ends m true) (get_or refs (2 * t + 1) d)) n (subst (λ k. R (ends (s + suc t) true) (get_or (a ∷ b ∷ refs) k d)) other next.1),
-        )
+        (subst (λ m. P (ends m false)) n next.0, subst (λ m. P (ends m true)) n next.1)
 
 -- the way with a port of the other circuit
 abbrev way_with : Side → PortKind → ℕ → ℕ → Bool → Pair
@@ -84,10 +73,10 @@ ways_are : (side : Side) (kind : PortKind) (port count : ℕ) → ways kind (por
 ways_are First kind port count = append-nil (flat_map (both (way_with First kind port)) (range_with_len 0 count))
 ways_are Second kind port count = refl
 
--- what holds of each way by its number holds of all ways of the port
-pub all_ways : (side : Side) (kind : PortKind) (port count : ℕ) (R : Pair → Option ℕ → Type 0) (refs : List (Option ℕ)) → length refs ≡ 2 * count → EachAt (λ number ref. R (nth_way side kind port number) ref) refs → AllZip R (ways kind (ports_tried side port count) (ports_tried (other_side side) port count)) refs
-all_ways side kind port count R refs same each =
-    subst (λ (l : List Pair). AllZip R l refs) (sym (ways_are side kind port count)) (zip_ways (way_with side kind port) R 0 count refs same (λ t d below. (subst (λ (p : Pair). R p (get_or refs (2 * t) d)) (plain t) (each (2 * t) d (omega (arith, same, below))), subst (λ (p : Pair). R p (get_or refs (2 * t + 1) d)) (negated t) (each (2 * t + 1) d (omega (arith, same, below))))))
+-- what holds of each way of a port by its number holds of all ways of its block
+pub all_of_port : (side : Side) (kind : PortKind) (port count : ℕ) (P : Pair → Type 0) → ((number : ℕ) → number < 2 * count → P (nth_way side kind port number)) → All P (ways_in (block_of side kind port count))
+all_of_port side kind port count P each =
+    subst (All P) (sym (ways_are side kind port count)) (all_both (way_with side kind port) P 0 count (λ t below. (subst P (plain t) (each (2 * t) (omega (arith, below))), subst P (negated t) (each (2 * t + 1) (omega (arith, below))))))
   where
     plain : (t : ℕ) → nth_way side kind port (2 * t) ≡ way_with side kind port (0 + t) false
     plain t = let e : t ≡ 0 + t = omega arith in plain_way side kind port t ∙ ap (λ n. way_with side kind port n false) e
@@ -99,3 +88,11 @@ all_ways side kind port count R refs same each =
 pub port_of_way : (side : Side) (kind : PortKind) (port number : ℕ) → port_on side (nth_way side kind port number) ≡ port
 port_of_way First kind port number = refl
 port_of_way Second kind port number = refl
+
+-- a ban that closes one of some ways is held
+pub held_at : (bans : List Ban) (pairs ways : List Pair) (refs : List (Option ℕ)) (k ban : ℕ) → AreClosed bans pairs ways refs → k < length refs → get_or refs k (Some ban) ≡ Some ban → ban < length bans
+held_at bans pairs [] [] k ban are below is = absurd (omega (arith, below))
+held_at bans pairs [] (ref ∷ refs) k ban are below is = absurd are
+held_at bans pairs (way ∷ ways) [] k ban are below is = absurd (omega (arith, below))
+held_at bans pairs (way ∷ ways) (ref ∷ refs) zero ban are below is = are.0.held ban is
+held_at bans pairs (way ∷ ways) (ref ∷ refs) (suc k) ban are below is = held_at bans pairs ways refs k ban are.1 (omega (arith, below)) is

@@ -3,3 +3,4 @@ pub mod OrderLemmas
 pub mod GatherLemmas
 pub mod ClosedLemmas
 pub mod BookLemmas
+pub mod BlockLemmas

@@ -1,20 +1,19 @@
--- The ways of a port, and what closes them (a value of a variable that is ruled out with its reason, as in conflict-directed
+-- The ways of ports, and what closes them (a value of a variable that is ruled out with its reason, as in conflict-directed
 -- backjumping: Prosser, Comput. Intell. 1993).
-use Rattle.std.specs.Prelude.{◌≡◌, ℕ, ◌*◌, ◌/◌, ◌%◌, ◌<◌, ◌==◌, List, [], ◌∷◌, ◌++◌, length, Option, Some}
-use Rattle.std.specs.List.{range_with_len}
+use Rattle.std.specs.Prelude.{◌≡◌, ℕ, ◌+◌, ◌*◌, ◌/◌, ◌%◌, ◌<◌, ◌==◌, List, [], ◌∷◌, ◌++◌, length, All, Bool, true, false, Option, Some}
+use Rattle.std.specs.List.{AllZip, flat_map, range_with_len}
 use Rattle.circuits.specs.declared.port.Pair.{Pair}
 use Rattle.circuits.specs.declared.port.PortKind.{PortKind}
-use Rattle.circuits.specs.Literals.{EachAt}
 use Rattle.net_core.specs.Sides.{Graphs}
 use Rattle.net_core.specs.declared.graphs.Side.{Side}
 use Rattle.net_core.specs.declared.graphs.Side.TheVariants.{First, Second}
 use Rattle.account_core.specs.declared.step.Ban.{Ban}
-use Rattle.account_core.specs.Ports.{ports_in}
 use Rattle.account_core.specs.Given.{Decided, given_of}
-use Rattle.account_core.specs.Covers.{way, IsReference}
+use Rattle.account_core.specs.Covers.{way, ways, IsReference}
 use Rattle.account_core.specs.Steps.{AreValidBans}
+use Rattle.account_core.specs.Tallies.{Ascend, other_side}
 use Rattle.ban_book.specs.Vectors.{AddsNoVector}
-use Rattle.port_covers.specs.declared.ways.ClosedWays.{ClosedWays}
+use Rattle.port_covers.specs.declared.block.Block.{Block}
 
 -- of a port of a circuit and one of the other: that of the first circuit, and that of the second
 abbrev pub first_port : Side → ℕ → ℕ → ℕ
@@ -30,24 +29,41 @@ abbrev pub nth_way : Side → PortKind → ℕ → ℕ → Pair
 nth_way side kind port number =
     way kind (first_port side port (number / 2)) (second_port side port (number / 2)) (number % 2 == 1)
 
+-- the ways to pair one port with each of some others, plain before negated
+abbrev pub row : PortKind → ℕ → List ℕ → List Pair
+row kind from to = flat_map (λ t. way kind from t false ∷ way kind from t true ∷ []) to
+
+-- all ways to pair a port of the one circuit with one of the other
+abbrev pub ways_in : Block → List Pair
+ways_in block = ways block.kind block.from block.to
+
 -- the first circuit's ports that the ways of a port have: the port itself, or all
 abbrev pub ports_tried : Side → ℕ → ℕ → List ℕ
 ports_tried First port count = port ∷ []
 ports_tried Second port count = range_with_len 0 count
+
+-- a port of a circuit, and all ports of the other
+abbrev pub block_of : Side → PortKind → ℕ → ℕ → Block
+block_of side kind port count =
+    record { kind = kind; from = ports_tried side port count; to = ports_tried (other_side side) port count }
+
+-- Ports of both circuits, in order, more than either has, so that one of the first ones goes to one of the second (P. Hall, J. London
+-- Math. Soc. 1935; a block of zeros: Frobenius, 1917).
+pub record IsBlock (count : ℕ) (block : Block) : Type 0 where
+  pub from_ascends : Ascend block.from
+  pub to_ascends : Ascend block.to
+  pub from_below : All (λ port. port < count) block.from
+  pub to_below : All (λ port. port < count) block.to
+  pub too_many : count < length block.from + length block.to
 
 -- A way is closed beside pairs: it is impossible, or it leads into a ban that is held.
 pub record IsClosed (bans : List Ban) (pairs : List Pair) (pair : Pair) (ref : Option ℕ) : Type 0 where
   pub refers : IsReference (given_of [] bans) pairs pair ref
   pub held : (ban : ℕ) → ref ≡ Some ban → ban < length bans
 
--- the first ways of a port are closed beside pairs
-abbrev pub AreClosed : List Ban → List Pair → ClosedWays → Type 0
-AreClosed bans pairs ways =
-    EachAt (λ number ref. IsClosed bans pairs (nth_way ways.side ways.kind ways.port number) ref) ways.refs
-
--- how many ways a port has, where the circuits have as many ports
-abbrev pub way_count : Graphs → ClosedWays → ℕ
-way_count graphs ways = 2 * ports_in graphs.second ways.kind
+-- ways are closed beside pairs, each as its reference says
+abbrev pub AreClosed : List Ban → List Pair → List Pair → List (Option ℕ) → Type 0
+AreClosed bans pairs ways refs = AllZip (IsClosed bans pairs) ways refs
 
 -- Bans came after those that were held, and no vector shows them. Where those before were valid all are, in view of any facts.
 pub record HoldsMore (graphs : Graphs) (before after : List Ban) : Type 0 where

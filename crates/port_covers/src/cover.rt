@@ -1,7 +1,6 @@
-//! Bans that say that a port has no way left.
+//! Bans that say that no way of a block is left.
 
-ghost use Rattle.std.specs.Prelude.{◌≡◌, ◌⊎◌, ◌∷◌, ◌<◌, All, AllPairs, Contains, IfOk, OnOk, List, length};
-ghost use Rattle.std.specs.List.{range_with_len};
+ghost use Rattle.std.specs.Prelude.{◌≡◌, ◌⊎◌, ◌∷◌, All, AllPairs, Contains, IfOk, OnOk, List};
 ghost use Rattle.account_core.specs.declared.step.Ban.{Ban as AnyBan};
 ghost use Rattle.account_core.specs.Ports.{AreOrdered, IsKnown, ports_in};
 ghost use Rattle.account_core.specs.Given.{Decided as AnyFact, given_of};
@@ -9,62 +8,59 @@ ghost use Rattle.account_core.specs.Steps.{IsValidBan};
 ghost use Rattle.ban_book.specs.Covering.{Covers};
 ghost use Rattle.ban_book.specs.Vectors.{IsVector};
 ghost use Rattle.port_covers.specs.Held.{AddsHeld, AreApart, IsPart};
-ghost use Rattle.port_covers.specs.Ways.{ports_tried, way_count, AreClosed, HoldsMore};
+ghost use Rattle.port_covers.specs.Ways.{ways_in, AreClosed, HoldsMore, IsBlock};
 
+use crate::block::Block;
 use crate::needed::add;
-use crate::ways::ClosedWays;
 use account_core::{Ban, Step};
 use ban_book::BanBook;
 use circuits::Pair;
 use items::{Few, Items};
-use net_core::Side;
-use port_sides::{PairableGraphs, other_side};
+use port_sides::PairableGraphs;
 use std::alloc::{AllocError, Global};
 
 #[tactic(auto, using(crate::proofs::BookLemmas::holds_none))]
-/// Holds the ban of these pairs, in order, for a port of which all ways are closed beside them, and answers its number.
+/// Holds the ban of these pairs, in order, for a block of which all ways are closed beside them, and answers its number.
 pub fn hold_cover(
     alloc: Global,
     graphs: &PairableGraphs<'_>,
     pairs: &[Pair],
-    ways: ClosedWays,
+    block: Block,
+    refs: Items<Option<u64>>,
     book: &mut BanBook,
 ) -> Result<u64, AllocError>
     requires known { All (IsKnown graphs.now) pairs.now }
     requires ordered { AreOrdered pairs.now }
-    requires there { ways.port < ports_in graphs.now.first ways.kind }
-    requires all { length ways.refs ≡ way_count graphs.now ways }
-    requires closed { AreClosed book.old pairs.now ways }
+    requires block { IsBlock (ports_in graphs.now.second block.kind) block }
+    requires closed { AreClosed book.old pairs.now (ways_in block) refs }
     ensures more { HoldsMore graphs.now book.old book.new }
     ensures covers { IfOk result (Covers book.new pairs.now) }
 {
-    let ban = ban_of_ways(alloc, graphs, pairs, ways)?;
+    let ban = cover_of(alloc, graphs, pairs, block, refs)?;
     let held = book.hold(ban)?;
     Ok(held)
 }
 
-// The ban of these pairs for the ways of a port.
-fn ban_of_ways(
+// The ban of these pairs for a block.
+fn cover_of(
     alloc: Global,
     graphs: &PairableGraphs<'_>,
     pairs: &[Pair],
-    ways: ClosedWays,
+    block: Block,
+    refs: Items<Option<u64>>,
 ) -> Result<Ban, AllocError>
     requires known { All (IsKnown graphs.now) pairs.now }
     requires ordered { AreOrdered pairs.now }
-    requires there { ways.port < ports_in graphs.now.first ways.kind }
-    requires all { length ways.refs ≡ way_count graphs.now ways }
+    requires block { IsBlock (ports_in graphs.now.second block.kind) block }
     ensures valid { IfOk result (λ ban. (facts : List AnyFact) (bans : List AnyBan)
-        → AreClosed bans pairs.now ways
+        → AreClosed bans pairs.now (ways_in block) refs
         → IsValidBan graphs.now (given_of facts bans) ban) }
     ensures step { IfOk result (λ ban. IsVector ban.step → ⊥) }
     ensures pairs { IfOk result (λ ban. ban.pairs ≡ pairs.now) }
 {
-    let count = graphs.ports(ways.kind);
-    let from = ports_tried(alloc, ways.side, ways.port, count)?;
-    let to = ports_tried(alloc, other_side(ways.side), ways.port, count)?;
+    let _count = graphs.ports(block.kind);
     let pairs = Few::from_slice(alloc, pairs)?;
-    let ClosedWays { kind, refs, .. } = ways;
+    let Block { kind, from, to } = block;
     Ok(Ban {
         pairs,
         step: Step::Cover {
@@ -74,27 +70,6 @@ fn ban_of_ways(
             refs,
         },
     })
-}
-
-// The first circuit's ports that the ways of a port of this side have: the port itself, or all.
-fn ports_tried(alloc: Global, side: Side, port: u32, count: u32) -> Result<Items<u32>, AllocError>
-    ensures { IfOk result (λ ports. ports ≡ ports_tried side port count) }
-{
-    match side {
-        Side::First => Items::from_slice(alloc, &[port]),
-        Side::Second => ports_up_to(alloc, count),
-    }
-}
-
-// All ports below a number.
-fn ports_up_to(alloc: Global, count: u32) -> Result<Items<u32>, AllocError>
-    ensures { IfOk result (λ ports. ports ≡ range_with_len 0 count) }
-{
-    let mut ports = Items::new(alloc);
-    for port in 0..count {
-        ports.push(port)?;
-    }
-    Ok(ports)
 }
 
 /// Adds pairs of a ban, but for the way itself.

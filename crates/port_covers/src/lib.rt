@@ -1,6 +1,7 @@
-//! The ways of a port, and the bans that say that none of them is left.
+//! The ways of ports, and the bans that say that none of some is left.
 #![tactic(auto)]
 
+pub mod block;
 pub mod clash;
 pub mod cover;
 pub mod needed;

@@ -78,6 +78,45 @@ const ODD_OF_FOUR: Sample = Sample {
     outputs: &[26],
 };
 
+/// The eight products of three inputs, plain or negated; and the same with one of them twice, in place of another. No two
+/// outputs of the first are equal.
+const DECODER: Sample = Sample {
+    inputs: 3,
+    gates: &[
+        (5, 3),
+        (5, 2),
+        (4, 3),
+        (4, 2),
+        (8, 7),
+        (10, 7),
+        (12, 7),
+        (14, 7),
+        (8, 6),
+        (10, 6),
+        (12, 6),
+        (14, 6),
+    ],
+    outputs: &[16, 18, 20, 22, 24, 26, 28, 30],
+};
+
+const DECODER_ONE_TWICE: Sample = Sample {
+    inputs: 3,
+    gates: &[
+        (5, 3),
+        (5, 2),
+        (4, 3),
+        (4, 2),
+        (8, 7),
+        (10, 7),
+        (12, 7),
+        (14, 7),
+        (8, 6),
+        (10, 6),
+        (12, 6),
+    ],
+    outputs: &[16, 18, 20, 22, 24, 26, 28, 28],
+};
+
 /// What a search comes to, with what it leaves.
 #[derive(Clone, Copy, Debug, PartialEq, Eq)]
 enum Answer {
@@ -179,6 +218,12 @@ const SEARCHES: &[(&str, Sample, Sample, Answer)] = &[
         TWO_OF_FOUR,
         ODD_OF_FOUR,
         Answer::NoMatch { by_vector: false },
+    ),
+    (
+        "a decoder, one product twice",
+        DECODER,
+        DECODER_ONE_TWICE,
+        Answer::NoMatch { by_vector: true },
     ),
 ];
 

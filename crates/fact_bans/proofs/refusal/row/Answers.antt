@@ -1,7 +1,8 @@
 use Rattle.std.proofs.Common.{refl, subst}
 use Rattle.std.proofs.lemmas.List.{take_all}
 use Rattle.circuits.specs.declared.port.PortKind.TheVariants.{Output}
-use Rattle.fact_bans.specs.Referred.{row, AreReferred}
+use Rattle.port_covers.specs.Ways.{row}
+use Rattle.fact_bans.specs.Referred.{AreReferred}
 use Rattle.fact_bans.proofs.HoldingLemmas.{held_one, held_then, holds_err, holds_ok, may_later}
 use Rattle.fact_bans.proofs.RefusalLemmas.{row_more, row_start}
 use Rattle.fact_bans.proofs.refusal.row.Goals as goal

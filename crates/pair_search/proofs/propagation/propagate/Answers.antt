@@ -1,13 +1,5 @@
 use Rattle.std.proofs.Common.{rules}
-use Rattle.pair_search.proofs.StepLemmas.{propagates_two}
 use Rattle.pair_search.proofs.propagation.propagate.Goals as goal
 
-pub returns-in-Some-found : goal.returns-in-Some-found
-returns-in-Some-found c = record {
-  propagates = propagates_two c.args.bans.now c.args.domains.now c.loop-queue.domains c.follow.new.domains c.loop-queue.invariant c.in_ok-found.ensures.propagates;
-  impasse = search rules;
-}
-
-pub loop-queue-preserved : goal.loop-queue-preserved
-loop-queue-preserved c =
-    propagates_two c.args.bans.now c.args.domains.now c.loop-queue.domains c.follow.new.domains c.loop-queue.invariant c.in_ok-found.ensures.propagates
+pub returns-in-Some-2 : goal.returns-in-Some-2
+returns-in-Some-2 c = record { propagates = c.in_ok-impasse.ensures.propagates; impasse = search rules }

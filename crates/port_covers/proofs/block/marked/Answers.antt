@@ -1,5 +1,5 @@
-use Rattle.claim_rows.proofs.ListLemmas.{marked_none}
-use Rattle.fact_bans.proofs.refusal.marked.Goals as goal
+use Rattle.ban_book.proofs.ListLemmas.{marked_none}
+use Rattle.port_covers.proofs.block.marked.Goals as goal
 
 pub loop-port-init : goal.loop-port-init
 loop-port-init c = marked_none c.new-ports.result c.new-ports.ensures

@@ -1,6 +1,6 @@
 use Rattle.std.proofs.Common.{◌-◌, ◌^◌}
 use Rattle.pair_search.specs.Progress.{Propagates}
-use Rattle.pair_search.proofs.propagation.propagate.Given as goal
+use Rattle.pair_search.proofs.propagation.follow_all.Given as goal
 
 abbrev pub invariant-loop-queue : goal.invariant-loop-queue
 invariant-loop-queue l = Propagates l.bans l.fn.domains l.domains

@@ -1,0 +1,6 @@
+use Rattle.std.proofs.Common.{take, All}
+use Rattle.class_refine.specs.Trails.{IsDeleted}
+use Rattle.pair_search.proofs.crowds.are_deleted.Given as goal
+
+abbrev pub invariant-loop-way : goal.invariant-loop-way
+invariant-loop-way l = All (IsDeleted l.domains.entries) (take l.way-index l.ways)

@@ -1,0 +1,20 @@
+use Rattle.std.proofs.Common.{List, All, get_or, inr, sym, subst}
+use Rattle.circuits.specs.declared.port.Pair.{Pair}
+use Rattle.port_covers.specs.Held.{AreHeld}
+use Rattle.port_covers.specs.Ways.{ways_in}
+use Rattle.conflict_core.specs.Named.{AreNamed}
+use Rattle.conflict_core.proofs.JustifiedLemmas.{names_held}
+use Rattle.conflict_core.proofs.PivotLemmas.{held_known}
+use Rattle.pair_search.proofs.impasse.conflict_of_block.Goals as goal
+
+pub cover_block-requires-clause-held : goal.cover_block-requires-clause-held
+cover_block-requires-clause-held c =
+    let d = c.args.domains.now in
+    subst (AreHeld c.args.graphs.now) (sym c.pairs.ensures.value) (held_known c.args.graphs.now d.inputs d.outputs d.entries c.requires.trail.fit c.entries-lawful.ensures.lawful)
+
+pub cover_block-requires-clause-named : goal.cover_block-requires-clause-named
+cover_block-requires-clause-named c = λ k e below.
+    let d = c.args.domains.now in
+    let way = get_or (ways_in c.args.block) k e in
+    let gone = c.requires.none.each k e below in
+    inr (gone.0, gone.1, subst (λ (l : List Pair). AreNamed c.args.book.now l way gone.0) (sym c.pairs.ensures.value) (names_held d.inputs d.outputs c.args.book.now d.entries way gone.0 c.requires.trail.justified gone.1))

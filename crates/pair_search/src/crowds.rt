@@ -1,0 +1,82 @@
+//! Ports that together have too few ways.
+
+ghost use Rattle.std.specs.Prelude.{All, IfOk, IfSome, IsTrue};
+ghost use Rattle.port_covers.specs.Ways.{IsBlock};
+ghost use Rattle.class_refine.specs.Trails.{IsDeleted, IsPairOf, ports_of};
+ghost use Rattle.pair_search.specs.Impasses.{HasNoWays};
+
+use crate::partners::Partners;
+use circuits::{Pair, PortKind};
+use class_refine::Domains;
+use port_covers::block::{Block, marked, ways_in};
+use std::alloc::{AllocError, Global};
+
+/// Ports of the first circuit that have to go to fewer ports than they are, by the ways that are left, if there are any:
+/// those that are reached from one for which no partner is found, and the ports of the second circuit that aren't (Hall's
+/// theorem; as a constraint: Régin, AAAI 1994).
+pub(crate) fn crowd(
+    alloc: Global,
+    domains: &Domains,
+    partners: &mut Partners,
+) -> Result<Option<Block>, AllocError>
+    ensures { IfOk result (λ found. IfSome found
+        (HasNoWays domains.now.inputs domains.now.outputs domains.now.entries)) }
+{
+    if are_few(domains, partners.kind) {
+        return Ok(None);
+    }
+    if partners.find_all(domains)? {
+        return Ok(None);
+    }
+    let Some(block) = reached_block(alloc, domains, partners)? else {
+        return Ok(None);
+    };
+    let ways = ways_in(alloc, &block)?;
+    if are_deleted(domains, &ways) {
+        return Ok(Some(block));
+    }
+    Ok(None)
+}
+
+// Whether ports are too few to be looked at: no more than those of the other kind. Where an input has few ways, its pair leaves
+// each output few others, and outputs run short of them early. Where it has many, no single port is short of ways any later: with
+// this done too, a near miss of an adder with 257 inputs and 129 outputs took three times as long.
+fn are_few(domains: &Domains, kind: PortKind) -> bool {
+    let others = match kind {
+        PortKind::Input => PortKind::Output,
+        PortKind::Output => PortKind::Input,
+    };
+    domains.ports(kind) <= domains.ports(others)
+}
+
+// The ports that were reached from one without a partner, and those of the other circuit that weren't.
+fn reached_block(
+    alloc: Global,
+    domains: &Domains,
+    partners: &Partners,
+) -> Result<Option<Block>, AllocError>
+    ensures { IfOk result (λ found. IfSome found
+        (λ block. IsBlock (ports_of domains.now.inputs domains.now.outputs block.kind) block)) }
+{
+    let kind = partners.kind;
+    let count = domains.ports(kind);
+    let from = marked(alloc, &partners.reached(alloc)?, count)?;
+    let to = marked(alloc, &partners.missed(alloc)?, count)?;
+    if from.len() + to.len() <= count as usize {
+        return Ok(None);
+    }
+    Ok(Some(Block { kind, from, to }))
+}
+
+// Whether all of some ways are deleted.
+fn are_deleted(domains: &Domains, ways: &[Pair]) -> bool
+    requires { All (IsPairOf domains.now.inputs domains.now.outputs) ways.now }
+    ensures { IsTrue result → All (IsDeleted domains.now.entries) ways.now }
+{
+    for way in ways.iter() {
+        if domains.remains(*way) {
+            return false;
+        }
+    }
+    true
+}
