@@ -19,8 +19,8 @@ use Rattle.account_check.specs.Conclusions.{ConclusionTests}
 use Rattle.account_check.specs.Facts.{ClaimTests, FactTests}
 use Rattle.account_check.proofs.TestLemmas.{one_passed, one_unless, some_none}
 
-one_claim_fault : (graphs : Graphs) (claim : Claim) (Behind : Option Reject → Type 0) → ((a b : Option Reject) → Behind a → Behind b → a ≡ b) → (a b : Option Reject) → ClaimTests graphs claim Behind a → ClaimTests graphs claim Behind b → a ≡ b
-one_claim_fault graphs claim Behind one = one_unless _ _ _ (one_unless _ _ Behind one)
+one_claim_fault : (graphs : Graphs) (claim : Claim) (Rest : Option Reject → Type 0) → ((a b : Option Reject) → Rest a → Rest b → a ≡ b) → (a b : Option Reject) → ClaimTests graphs claim Rest a → ClaimTests graphs claim Rest b → a ≡ b
+one_claim_fault graphs claim Rest one = one_unless _ _ _ (one_unless _ _ Rest one)
 
 one_fact_fault : (graphs : Graphs) (head : FactHead) (a b : Option Reject) → FactTests graphs head a → FactTests graphs head b → a ≡ b
 one_fact_fault graphs (fact.Fails claim bits) = one_claim_fault graphs claim _ (one_unless _ _ _ one_passed)

@@ -35,14 +35,14 @@ use Rattle.account_check.proofs.RefusalLemmas.{concluded_so}
 use Rattle.account_check.proofs.RightLemmas.{last_empty, no_reject}
 use Rattle.account_check.proofs.TestLemmas.{through}
 
--- The logs of a match, of which so many are left: those that are closed refute, and the lines of the open one are derived.
+-- The logs of a match, of which this many are left: those that are closed refute, and the lines of the open one are derived.
 record AreLogsSoFar (graphs : Graphs) (proof : Proof) (left : ℕ) : Type 0 where
   ports : HavePorts graphs.first graphs.second proof.matching.inputs proof.matching.outputs
   counted : proof.closed + left ≡ log_count proof.matching
   refuted : AreRefuted graphs proof.matching proof.closed
   open_log : 0 < left → IsLogSoFar graphs (log_query graphs proof.matching proof.closed) proof.taken
 
--- where an account concludes in a match, its logs are of that match, and so many are left
+-- where an account concludes in a match, its logs are of that match, and this many are left
 record IsMatchSoFar (account : Account) (left : ℕ) : Type 0 where
   same : (matching : Matching) → account.concluded ≡ Some (verdict.Match matching) → account.proof.matching ≡ matching
   logs : (matching : Matching) → account.concluded ≡ Some (verdict.Match matching) → AreLogsSoFar account.graphs account.proof left

@@ -62,8 +62,8 @@ claim_there graphs claim there lesser = record {
 }
 
 -- what passes the tests of a claim is one, and passes those after
-pub claim_passed : (graphs : Graphs) (claim : Claim) (Behind : Option Reject → Type 0) → ClaimTests graphs claim Behind None → IsClaim graphs claim × Behind None
-claim_passed graphs claim Behind tests =
+pub claim_passed : (graphs : Graphs) (claim : Claim) (Rest : Option Reject → Type 0) → ClaimTests graphs claim Rest None → IsClaim graphs claim × Rest None
+claim_passed graphs claim Rest tests =
     let there = through tests in
     let lesser = through there.1 in
     (claim_there graphs claim there.0 lesser.0, lesser.1)

@@ -6,11 +6,11 @@ use Rattle.account_check.specs.Tests.{Passed, Unless}
 pub one_passed : (a b : Option Reject) → Passed a → Passed b → a ≡ b
 one_passed a b first second = first ∙ sym second
 
-pub one_unless : (Test : Type 0) (reject : Reject) (Behind : Option Reject → Type 0) → ((a b : Option Reject) → Behind a → Behind b → a ≡ b) → (a b : Option Reject) → Unless Test reject Behind a → Unless Test reject Behind b → a ≡ b
-one_unless Test reject Behind one a b (inl first) (inl second) = first.1 ∙ sym second.1
-one_unless Test reject Behind one a b (inl first) (inr second) = absurd (first.0 second.0)
-one_unless Test reject Behind one a b (inr first) (inl second) = absurd (second.0 first.0)
-one_unless Test reject Behind one a b (inr first) (inr second) = one a b first.1 second.1
+pub one_unless : (Test : Type 0) (reject : Reject) (Rest : Option Reject → Type 0) → ((a b : Option Reject) → Rest a → Rest b → a ≡ b) → (a b : Option Reject) → Unless Test reject Rest a → Unless Test reject Rest b → a ≡ b
+one_unless Test reject Rest one a b (inl first) (inl second) = first.1 ∙ sym second.1
+one_unless Test reject Rest one a b (inl first) (inr second) = absurd (first.0 second.0)
+one_unless Test reject Rest one a b (inr first) (inl second) = absurd (second.0 first.0)
+one_unless Test reject Rest one a b (inr first) (inr second) = one a b first.1 second.1
 
 pub some_none : {r : Reject} → None ≡ Some r → ⊥
 some_none {r} e = cc

@@ -45,7 +45,7 @@ pub record AreWhole (graphs : Graphs) (pairs : List Pair) : Type 0 where
 
 -- the test that stands before each but those of the header, of the end and of the conclusion that the numbers of ports differ
 abbrev pub PortsTest : Graphs → (Option Reject → Type 0) → Option Reject → Type 0
-PortsTest graphs Behind fault = Unless (HaveAsMany graphs.first graphs.second) reject.Conclusion Behind fault
+PortsTest graphs Rest fault = Unless (HaveAsMany graphs.first graphs.second) reject.Conclusion Rest fault
 
 -- the test of the conclusion that they differ
 abbrev pub OtherPortsTest : Graphs → Option Reject → Type 0

@@ -31,8 +31,8 @@ IsLesserFirst (Swap i j a b) = i < j
 
 -- the tests of a claim, and those after them
 abbrev pub ClaimTests : Graphs → Claim → (Option Reject → Type 0) → Option Reject → Type 0
-ClaimTests graphs claim Behind fault =
-    Unless (ArePortsThere graphs claim) reject.UnknownId (Unless (IsLesserFirst claim.shape) reject.Rule Behind) fault
+ClaimTests graphs claim Rest fault =
+    Unless (ArePortsThere graphs claim) reject.UnknownId (Unless (IsLesserFirst claim.shape) reject.Rule Rest) fault
 
 -- the tests of a fact: the vector of one that fails breaks its claim; the log of one that holds follows
 abbrev pub FactTests : Graphs → FactHead → Option Reject → Type 0

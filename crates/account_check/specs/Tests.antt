@@ -8,4 +8,4 @@ Passed fault = fault ≡ None
 
 -- a test: what doesn't pass it has this fault, and what passes it has the fault that the tests after it tell
 abbrev pub Unless : Type 0 → Reject → (Option Reject → Type 0) → Option Reject → Type 0
-Unless Test reject Behind fault = ((Test → ⊥) × (fault ≡ Some reject)) ⊎ (Test × Behind fault)
+Unless Test reject Rest fault = ((Test → ⊥) × (fault ≡ Some reject)) ⊎ (Test × Rest fault)

@@ -21,12 +21,12 @@ use Rattle.account_file.specs.declared.names.StepName.TheVariants as step_name
 use Rattle.account_file.specs.declared.names.NoneName.{NoneName}
 use Rattle.account_file.specs.declared.names.NoneName.TheVariants as none_name
 use Rattle.account_file.specs.Forms.{Parsed, followed, next_by, list_by, last_part, named, is_separator, number_of, port_of, literal_of, reference_of, pair_of, bits_of, tris_of, two_bits_of, side_of, kind_of, tallied_of, shape_name_of, step_name_of, none_name_of, record_name_of, shape_by, shape_of, claim_of, step_by, step_of, none_by, record_by, record_in}
-use Rattle.account_file.proofs.ReadLemmas.{Behind, CanEnd, IsRead, IsWord, next_read, list_read, end_named, end_last, last_read, nested_read, nested_end}
+use Rattle.account_file.proofs.ReadLemmas.{Rest, CanEnd, IsRead, IsWord, next_read, list_read, end_named, end_last, last_read, nested_read, nested_end}
 use Rattle.account_file.proofs.ValueLemmas.{port_is_word, number_is_word, number_is_item, literal_is_word, reference_is_word, pair_is_word}
 use Rattle.account_file.proofs.NameLemmas.{side_is_word, kind_is_word, tallied_is_word, shape_name_is_word, step_name_is_word, none_name_is_word, record_name_is_word, named_is_word, bits_is_word, tris_is_word, two_bits_is_word}
 
 -- a word of a part, and what follows it
-then_word : {X Y : Type 0} (read : List ℕ → Result X RecordFault) (q : X → List (List ℕ) → Parsed Y) (k : Y → Behind) → IsWord read
+then_word : {X Y : Type 0} (read : List ℕ → Result X RecordFault) (q : X → List (List ℕ) → Parsed Y) (k : Y → Rest) → IsWord read
     → ((x : X) → IsRead (λ words. followed (q x words) k)) → IsRead (λ words. followed (followed (next_by read words) q) k)
 then_word {X} {Y} read q k w r = nested_read (next_by read) q k (next_read read (λ x after. followed (q x after) k) w r)
 
@@ -34,17 +34,17 @@ small_items : (n : ℕ) → n < 2 ^ 32 → is_separator (decimal n) ≡ false
 small_items n small = number_is_item n (omega (arith, small))
 
 -- a list of a part, and what follows it
-then_list : {X Y : Type 0} (read : List ℕ → Result X RecordFault) (q : List X → List (List ℕ) → Parsed Y) (k : Y → Behind) → IsWord read
+then_list : {X Y : Type 0} (read : List ℕ → Result X RecordFault) (q : List X → List (List ℕ) → Parsed Y) (k : Y → Rest) → IsWord read
     → ((xs : List X) → IsRead (λ words. followed (q xs words) k)) → ((xs : List X) → CanEnd (λ words. followed (q xs words) k))
     → IsRead (λ words. followed (followed (list_by read words) q) k)
 then_list {X} {Y} read q k w r c = nested_read (list_by read) q k (list_read read w small_items (λ xs after. followed (q xs after) k) r c)
 
-then_end : {Y : Type 0} (name : List ℕ) (q : Bool → List (List ℕ) → Parsed Y) (k : Y → Behind) → is_separator name ≡ true → named name name ≡ Ok true
+then_end : {Y : Type 0} (name : List ℕ) (q : Bool → List (List ℕ) → Parsed Y) (k : Y → Rest) → is_separator name ≡ true → named name name ≡ Ok true
     → IsRead (λ words. followed (q true words) k) → CanEnd (λ words. followed (followed (next_by (named name) words) q) k)
 then_end {Y} name q k ends same r = nested_end (next_by (named name)) q k (end_named name (λ x after. followed (q x after) k) ends same r)
 
 -- a list that a name ends
-closed_list : {X Y : Type 0} (read : List ℕ → Result X RecordFault) (name : List ℕ) (q : List X → Bool → List (List ℕ) → Parsed Y) (k : Y → Behind) → IsWord read
+closed_list : {X Y : Type 0} (read : List ℕ → Result X RecordFault) (name : List ℕ) (q : List X → Bool → List (List ℕ) → Parsed Y) (k : Y → Rest) → IsWord read
     → is_separator name ≡ true → named name name ≡ Ok true → named name (codes "0") ≡ Err Word
     → ((xs : List X) (b : Bool) → IsRead (λ words. followed (q xs b words) k))
     → IsRead (λ words. followed (followed (list_by read words) (λ xs after. followed (next_by (named name) after) (q xs))) k)
@@ -55,7 +55,7 @@ closed_list {X} {Y} read name q k w ends same zero r =
 
 -- claims
 
-shape_read : (k : Shape → Behind) → ((shape : Shape) → IsRead (k shape)) → IsRead (λ words. followed (shape_of words) k)
+shape_read : (k : Shape → Rest) → ((shape : Shape) → IsRead (k shape)) → IsRead (λ words. followed (shape_of words) k)
 shape_read k r = then_word shape_name_of _ k shape_name_is_word by
   where
     by : (name : ShapeName) → IsRead (λ words. followed (shape_by name words) k)
@@ -67,7 +67,7 @@ shape_read k r = then_word shape_name_of _ k shape_name_is_word by
         (λ j. then_word two_bits_of _ k two_bits_is_word
         (λ bits. r (Swap i j bits.0 bits.1))))
 
-claim_read : (k : Claim → Behind) → ((claim : Claim) → IsRead (k claim)) → IsRead (λ words. followed (claim_of words) k)
+claim_read : (k : Claim → Rest) → ((claim : Claim) → IsRead (k claim)) → IsRead (λ words. followed (claim_of words) k)
 claim_read k r =
     then_word side_of _ k side_is_word
     (λ side. then_word port_of _ k port_is_word
@@ -75,7 +75,7 @@ claim_read k r =
 
 -- steps
 
-step_read : (k : Step → Behind) → ((step : Step) → IsRead (k step)) → ((step : Step) → CanEnd (k step)) → IsRead (λ words. followed (step_of words) k)
+step_read : (k : Step → Rest) → ((step : Step) → IsRead (k step)) → ((step : Step) → CanEnd (k step)) → IsRead (λ words. followed (step_of words) k)
 step_read k r c = then_word step_name_of _ k step_name_is_word by
   where
     by : (name : StepName) → IsRead (λ words. followed (step_by name words) k)
@@ -101,7 +101,7 @@ step_read k r c = then_word step_name_of _ k step_name_is_word by
 
 -- records
 
-abbrev ends : Record → Behind
+abbrev ends : Record → Rest
 ends entry words = last_part entry words
 
 by_none : (name : NoneName) → IsRead (λ words. followed (none_by name words) ends)

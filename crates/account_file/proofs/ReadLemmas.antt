@@ -11,14 +11,14 @@ use Rattle.account_file.specs.declared.fault.RecordFault.TheVariants.{Word, Numb
 use Rattle.account_file.specs.Forms.{Parsed, followed, with_words, next_by, is_separator, with_item, list_by, last_part, named}
 
 -- what a reader makes of the words that are left of a line
-abbrev pub Behind : Type 0
-Behind = List (List ℕ) → Result Record RecordFault
+abbrev pub Rest : Type 0
+Rest = List (List ℕ) → Result Record RecordFault
 
 abbrev pub IsWordOrNumber : RecordFault → Type 0
 IsWordOrNumber fault = (fault ≡ Word) ⊎ (fault ≡ Number)
 
 -- some words are read
-pub record CanRead (p : Behind) : Type 0 where
+pub record CanRead (p : Rest) : Type 0 where
   pub words : List (List ℕ)
   pub entry : Record
   pub read : p words ≡ Ok entry
@@ -29,14 +29,14 @@ stops [] = true
 stops (word ∷ words) = is_separator word
 
 -- some words that may stand after a list are read
-pub record CanEnd (p : Behind) : Type 0 where
+pub record CanEnd (p : Rest) : Type 0 where
   pub words : List (List ℕ)
   pub entry : Record
   pub ends : stops words ≡ true
   pub read : p words ≡ Ok entry
 
 -- there is a word of digits at which each line stops, and where each number would do
-pub record IsStuck (p : Behind) (words : List (List ℕ)) : Type 0 where
+pub record IsStuck (p : Rest) (words : List (List ℕ)) : Type 0 where
   pub front : List (List ℕ)
   pub word : List ℕ
   pub more : List (List ℕ)
@@ -46,10 +46,10 @@ pub record IsStuck (p : Behind) (words : List (List ℕ)) : Type 0 where
   pub fits : (n : ℕ) → n < 2 ^ 32 → CanRead (λ after. p (front ++ decimal n ∷ after))
 
 -- a word after others is a bad number, or fits
-abbrev pub Decides : Behind → List (List ℕ) → List ℕ → Type 0
+abbrev pub Decides : Rest → List (List ℕ) → List ℕ → Type 0
 Decides p front word = ((after : List (List ℕ)) → p (front ++ word ∷ after) ≡ Err Number) ⊎ CanRead (λ after. p (front ++ word ∷ after))
 
-pub record IsRead (p : Behind) : Type 0 where
+pub record IsRead (p : Rest) : Type 0 where
   pub some : CanRead p
   pub faults : (words : List (List ℕ)) (fault : RecordFault) → p words ≡ Err fault → IsWordOrNumber fault
   pub stuck : (words : List (List ℕ)) → p words ≡ Err Number → IsStuck p words
@@ -72,7 +72,7 @@ no_front : (front : List (List ℕ)) (word : List ℕ) (more : List (List ℕ)) 
 no_front front word more e = omega (arith, ap length e, length-append front (word ∷ more))
 
 -- what stands after a word that is passed over
-stuck_behind : (p q : Behind) (word : List ℕ) (words : List (List ℕ)) → ((after : List (List ℕ)) → p (word ∷ after) ≡ q after) → IsStuck q words → IsStuck p (word ∷ words)
+stuck_behind : (p q : Rest) (word : List ℕ) (words : List (List ℕ)) → ((after : List (List ℕ)) → p (word ∷ after) ≡ q after) → IsStuck q words → IsStuck p (word ∷ words)
 stuck_behind p q word words passed s = record {
   front = word ∷ s.front;
   word = s.word;
@@ -84,13 +84,13 @@ stuck_behind p q word words passed s = record {
 }
 
 -- a word of digits that is no number here
-stuck_here : (p : Behind) (word : List ℕ) (words : List (List ℕ)) → is_numeral word ≡ true → ((after : List (List ℕ)) → p (word ∷ after) ≡ Err Number)
+stuck_here : (p : Rest) (word : List ℕ) (words : List (List ℕ)) → is_numeral word ≡ true → ((after : List (List ℕ)) → p (word ∷ after) ≡ Err Number)
     → ((n : ℕ) → n < 2 ^ 32 → CanRead (λ after. p (decimal n ∷ after))) → IsStuck p (word ∷ words)
 stuck_here p word words digits stuck fits = record { front = []; word = word; more = words; words_are = refl; digits = digits; stuck = stuck; fits = fits }
 
 -- one word, and what follows it
 
-pub next_read : {X : Type 0} (read : List ℕ → Result X RecordFault) (k : X → Behind) → IsWord read → ((x : X) → IsRead (k x)) → IsRead (λ words. followed (next_by read words) k)
+pub next_read : {X : Type 0} (read : List ℕ → Result X RecordFault) (k : X → Rest) → IsWord read → ((x : X) → IsRead (k x)) → IsRead (λ words. followed (next_by read words) k)
 next_read {X} read k w r = record {
   some = record { words = w.word ∷ (r w.some.value).some.words; entry = (r w.some.value).some.entry; read = at' w.word (Ok w.some.value) w.some.is (r w.some.value).some.words ∙ (r w.some.value).some.read };
   faults = faults;
@@ -98,7 +98,7 @@ next_read {X} read k w r = record {
   zero = zero;
 }
   where
-    P : Behind
+    P : Rest
     P words = followed (next_by read words) k
 
     at' : (word : List ℕ) (a : Result X RecordFault) → read word ≡ a → (words : List (List ℕ)) → P (word ∷ words) ≡ followed (with_words a words) k
@@ -161,27 +161,27 @@ pub list_stops : {X : Type 0} (read : List ℕ → Result X RecordFault) (words 
 list_stops {X} read [] e = refl
 list_stops {X} read (word ∷ words) e = ap (λ b. cond b (Ok ([], word ∷ words)) (with_item (read word) (list_by read words))) e
 
-pushed : {X : Type 0} (x : X) (part : Parsed (List X)) (k : List X → Behind) → followed (with_item (Ok x) part) k ≡ followed part (λ xs. k (x ∷ xs))
+pushed : {X : Type 0} (x : X) (part : Parsed (List X)) (k : List X → Rest) → followed (with_item (Ok x) part) k ≡ followed part (λ xs. k (x ∷ xs))
 pushed {X} x (Ok part) k = refl
 pushed {X} x (Err fault) k = refl
 
 module _ {X : Type 0} (read : List ℕ → Result X RecordFault) (w : IsWord read) (numbers : (n : ℕ) → n < 2 ^ 32 → is_separator (decimal n) ≡ false) where
-  abbrev ListThen : (List X → Behind) → Behind
+  abbrev ListThen : (List X → Rest) → Rest
   ListThen k words = followed (list_by read words) k
 
-  at_stop : (k : List X → Behind) (words : List (List ℕ)) → stops words ≡ true → ListThen k words ≡ k [] words
+  at_stop : (k : List X → Rest) (words : List (List ℕ)) → stops words ≡ true → ListThen k words ≡ k [] words
   at_stop k words e = ap (λ a. followed a k) (list_stops read words e)
 
-  at_word : (k : List X → Behind) (word : List ℕ) (words : List (List ℕ)) (a : Result X RecordFault) → is_separator word ≡ false → read word ≡ a
+  at_word : (k : List X → Rest) (word : List ℕ) (words : List (List ℕ)) (a : Result X RecordFault) → is_separator word ≡ false → read word ≡ a
       → ListThen k (word ∷ words) ≡ followed (with_item a (list_by read words)) k
   at_word k word words a other is =
       ap (λ b. followed (cond b (Ok ([], word ∷ words)) (with_item (read word) (list_by read words))) k) other ∙ ap (λ b. followed (with_item b (list_by read words)) k) is
 
-  at_item : (k : List X → Behind) (word : List ℕ) (words : List (List ℕ)) (x : X) → is_separator word ≡ false → read word ≡ Ok x
+  at_item : (k : List X → Rest) (word : List ℕ) (words : List (List ℕ)) (x : X) → is_separator word ≡ false → read word ≡ Ok x
       → ListThen k (word ∷ words) ≡ ListThen (λ xs. k (x ∷ xs)) words
   at_item k word words x other is = at_word k word words (Ok x) other is ∙ pushed x (list_by read words) k
 
-  list_faults : (k : List X → Behind) → ((xs : List X) → IsRead (k xs)) → (words : List (List ℕ)) (fault : RecordFault) → ListThen k words ≡ Err fault → IsWordOrNumber fault
+  list_faults : (k : List X → Rest) → ((xs : List X) → IsRead (k xs)) → (words : List (List ℕ)) (fault : RecordFault) → ListThen k words ≡ Err fault → IsWordOrNumber fault
   list_faults k r [] fault e = (r []).faults [] fault e
   list_faults k r (word ∷ words) fault e =
       by (is_separator word) refl (read word) refl (λ x rest. list_faults (λ xs. k (x ∷ xs)) (λ xs. r (x ∷ xs)) words fault rest)
@@ -194,12 +194,12 @@ module _ {X : Type 0} (read : List ℕ → Result X RecordFault) (w : IsWord rea
           let same : f ≡ fault = cc in
           w.faults word fault (ra ∙ ap Err same)
 
-  reads_item : (k : List X → Behind) → ((xs : List X) → CanEnd (k xs)) → (word : List ℕ) → is_separator word ≡ false → Wrote read word → CanRead (λ after. ListThen k (word ∷ after))
+  reads_item : (k : List X → Rest) → ((xs : List X) → CanEnd (k xs)) → (word : List ℕ) → is_separator word ≡ false → Wrote read word → CanRead (λ after. ListThen k (word ∷ after))
   reads_item k c word other x =
       let end = c (x.value ∷ []) in
       record { words = end.words; entry = end.entry; read = at_item k word end.words x.value other x.is ∙ at_stop (λ xs. k (x.value ∷ xs)) end.words end.ends ∙ end.read }
 
-  list_stuck : (k : List X → Behind) → ((xs : List X) → IsRead (k xs)) → ((xs : List X) → CanEnd (k xs)) → (words : List (List ℕ)) → ListThen k words ≡ Err Number → IsStuck (ListThen k) words
+  list_stuck : (k : List X → Rest) → ((xs : List X) → IsRead (k xs)) → ((xs : List X) → CanEnd (k xs)) → (words : List (List ℕ)) → ListThen k words ≡ Err Number → IsStuck (ListThen k) words
   list_stuck k r c [] e = let s = (r []).stuck [] e in absurd (no_front s.front s.word s.more s.words_are)
   list_stuck k r c (word ∷ words) e =
       by (is_separator word) refl (read word) refl (λ x rest. list_stuck (λ xs. k (x ∷ xs)) (λ xs. r (x ∷ xs)) (λ xs. c (x ∷ xs)) words rest)
@@ -234,7 +234,7 @@ module _ {X : Type 0} (read : List ℕ → Result X RecordFault) (w : IsWord rea
           let bad = ra ∙ ap Err same in
           stuck_here (ListThen k) word words (w.digits word bad) (λ after. at_word k word after (Err Number) is bad) (λ n small. reads_item k c (decimal n) (numbers n small) (w.fits word bad n small))
 
-  list_zero : (k : List X → Behind) → ((xs : List X) → IsRead (k xs)) → ((xs : List X) → CanEnd (k xs)) → (front more : List (List ℕ)) (word : List ℕ) (entry : Record)
+  list_zero : (k : List X → Rest) → ((xs : List X) → IsRead (k xs)) → ((xs : List X) → CanEnd (k xs)) → (front more : List (List ℕ)) (word : List ℕ) (entry : Record)
       → ListThen k (front ++ codes "0" ∷ more) ≡ Ok entry → is_numeral word ≡ true → Decides (ListThen k) front word
   list_zero k r c [] more word entry e digits = by (read (codes "0")) refl
     where
@@ -259,7 +259,7 @@ module _ {X : Type 0} (read : List ℕ → Result X RecordFault) (w : IsWord rea
       ]
       by false is (Err f) ra rest = absurd (let both : Err f ≡ Ok entry = sym (at_word k first (front ++ codes "0" ∷ more) (Err f) is ra) ∙ e in cc)
 
-  pub list_read : (k : List X → Behind) → ((xs : List X) → IsRead (k xs)) → ((xs : List X) → CanEnd (k xs)) → IsRead (λ words. followed (list_by read words) k)
+  pub list_read : (k : List X → Rest) → ((xs : List X) → IsRead (k xs)) → ((xs : List X) → CanEnd (k xs)) → IsRead (λ words. followed (list_by read words) k)
   list_read k r c = record {
     some = let end = c [] in record { words = end.words; entry = end.entry; read = at_stop k end.words end.ends ∙ end.read };
     faults = list_faults k r;
@@ -269,7 +269,7 @@ module _ {X : Type 0} (read : List ℕ → Result X RecordFault) (w : IsWord rea
 
 -- what may end lists
 
-pub end_named : (name : List ℕ) (k : Bool → Behind) → is_separator name ≡ true → named name name ≡ Ok true → IsRead (k true) → CanEnd (λ words. followed (next_by (named name) words) k)
+pub end_named : (name : List ℕ) (k : Bool → Rest) → is_separator name ≡ true → named name name ≡ Ok true → IsRead (k true) → CanEnd (λ words. followed (next_by (named name) words) k)
 end_named name k ends same r = record { words = name ∷ r.some.words; entry = r.some.entry; ends = ends; read = ap (λ a. followed (with_words a r.some.words) k) same ∙ r.some.read }
 
 pub end_last : (entry : Record) → CanEnd (λ words. last_part entry words)
@@ -278,7 +278,7 @@ end_last entry = record { words = []; entry = entry; ends = refl; read = refl }
 pub last_read : (entry : Record) → IsRead (λ words. last_part entry words)
 last_read entry = record { some = record { words = []; entry = entry; read = refl }; faults = faults; stuck = stuck; zero = zero }
   where
-    P : Behind
+    P : Rest
     P words = last_part entry words
 
     faults : (words : List (List ℕ)) (fault : RecordFault) → P words ≡ Err fault → IsWordOrNumber fault
@@ -295,7 +295,7 @@ last_read entry = record { some = record { words = []; entry = entry; read = ref
 
 -- parts of parts
 
-pub same_read : (p q : Behind) → ((words : List (List ℕ)) → q words ≡ p words) → IsRead p → IsRead q
+pub same_read : (p q : Rest) → ((words : List (List ℕ)) → q words ≡ p words) → IsRead p → IsRead q
 same_read p q same r = record {
   some = record { words = r.some.words; entry = r.some.entry; read = same r.some.words ∙ r.some.read };
   faults = λ words fault e. r.faults words fault (sym (same words) ∙ e);
@@ -316,14 +316,14 @@ same_read p q same r = record {
   ];
 }
 
-regrouped : {X Y : Type 0} (a : Parsed X) (q : X → List (List ℕ) → Parsed Y) (k : Y → Behind) → followed (followed a q) k ≡ followed a (λ x words. followed (q x words) k)
+regrouped : {X Y : Type 0} (a : Parsed X) (q : X → List (List ℕ) → Parsed Y) (k : Y → Rest) → followed (followed a q) k ≡ followed a (λ x words. followed (q x words) k)
 regrouped {X} {Y} (Ok part) q k = refl
 regrouped {X} {Y} (Err fault) q k = refl
 
-pub nested_read : {X Y : Type 0} (p : List (List ℕ) → Parsed X) (q : X → List (List ℕ) → Parsed Y) (k : Y → Behind)
+pub nested_read : {X Y : Type 0} (p : List (List ℕ) → Parsed X) (q : X → List (List ℕ) → Parsed Y) (k : Y → Rest)
     → IsRead (λ words. followed (p words) (λ x after. followed (q x after) k)) → IsRead (λ words. followed (followed (p words) q) k)
 nested_read {X} {Y} p q k r = same_read (λ words. followed (p words) (λ x after. followed (q x after) k)) (λ words. followed (followed (p words) q) k) (λ words. regrouped (p words) q k) r
 
-pub nested_end : {X Y : Type 0} (p : List (List ℕ) → Parsed X) (q : X → List (List ℕ) → Parsed Y) (k : Y → Behind)
+pub nested_end : {X Y : Type 0} (p : List (List ℕ) → Parsed X) (q : X → List (List ℕ) → Parsed Y) (k : Y → Rest)
     → CanEnd (λ words. followed (p words) (λ x after. followed (q x after) k)) → CanEnd (λ words. followed (followed (p words) q) k)
 nested_end {X} {Y} p q k c = record { words = c.words; entry = c.entry; ends = c.ends; read = regrouped (p c.words) q k ∙ c.read }

@@ -292,7 +292,7 @@ fn alike(features: &[Feature], from: usize, hash: u64) -> &[Feature] {
     }
 }
 
-// What a feature weighs that so many inputs of both circuits have: about as much as the inverse of the number's square root.
+// What a feature weighs that this many inputs of both circuits have: about as much as the inverse of the number's square root.
 fn weight_of(inputs: usize) -> u64 {
     let digits = 64u32.saturating_sub((inputs as u64).leading_zeros());
     WEIGHT >> (digits / 2).min(16)

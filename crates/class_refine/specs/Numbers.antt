@@ -10,7 +10,7 @@ abbrev pub sign_number : Bool → ℕ
 sign_number false = 0
 sign_number true = 1
 
--- the number of a pair among those of its kind, of which either circuit has so many ports
+-- the number of a pair among those of its kind, of which either circuit has this many ports
 abbrev pub number_in : ℕ → Pair → ℕ
 number_in ports pair = 2 * (pair.from * ports + pair.to) + sign_number pair.flip
 

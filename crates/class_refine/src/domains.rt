@@ -47,7 +47,7 @@ impl Model for Domains {
 }
 
 impl Domains {
-    /// All signed pairs of circuits with so many inputs and outputs are open.
+    /// All signed pairs of circuits with this many inputs and outputs are open.
     ///
     /// # Errors
     ///
@@ -206,7 +206,7 @@ impl Domains {
         Ok(())
     }
 
-    /// Keeps so many of the first entries. The pairs of the others are open again.
+    /// Keeps this many of the first entries. The pairs of the others are open again.
     pub fn back_to(&mut self, count: usize)
         requires { count ≤ length self.old.entries }
         ensures { self.new ≡ record self.old { entries = take count self.old.entries } }

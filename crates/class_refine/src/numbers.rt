@@ -7,7 +7,7 @@ ghost use Rattle.class_refine.specs.Trails.{IsPairOf, ports_of};
 use circuits::{Pair, PortKind};
 use net_core::Side;
 
-/// How many signed pairs there are of so many ports, or None where they are 2^63 or more.
+/// How many signed pairs there are of this many ports, or None where they are 2^63 or more.
 pub(crate) fn pairs_of_ports(inputs: u32, outputs: u32) -> Option<usize>
     ensures some { IfSome result (λ count. count ≡ pairs_of_ports inputs outputs) }
     ensures few { IfSome result (λ count. count < 2 ^ 63) }
@@ -36,7 +36,7 @@ pub(crate) fn pair_number(inputs: u32, outputs: u32, pair: Pair) -> usize
     }
 }
 
-// The number of a pair among those of its kind, of which either circuit has so many ports.
+// The number of a pair among those of its kind, of which either circuit has this many ports.
 fn number_in(ports: u32, pair: Pair) -> usize
     requires few { 2 * (ports * ports) < 2 ^ 63 }
     requires from { pair.from < ports }

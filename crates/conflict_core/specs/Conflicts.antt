@@ -16,7 +16,7 @@ use Rattle.conflict_core.specs.declared.learned.Back.{Back}
 use Rattle.conflict_core.specs.declared.learned.Learned.{Learned}
 use Rattle.conflict_core.specs.declared.learned.Learned.TheVariants as learned
 
--- Both circuits have so many inputs and outputs.
+-- Both circuits have this many inputs and outputs.
 pub record FitPorts (graphs : Graphs) (inputs outputs : ℕ) : Type 0 where
   pub many : HaveAsMany graphs.first graphs.second
   pub inputs_are : graphs.first.inputs ≡ inputs

@@ -26,7 +26,7 @@ deleted pair why = record { pair = pair; fate = Deleted why }
 abbrev pub IsNamedIn : List Ban → List Entry → List Pair → Pair → Type 0
 IsNamedIn bans entries pairs pair = (why : Reason) × Contains entries (deleted pair why) × AreNamed bans pairs pair why
 
--- of the ways of a port, of which there are so many ports, each has a property
+-- of the ways of a port, where a circuit has this many such ports, each has a property
 abbrev pub EachWay : Port → ℕ → (Pair → Type 0) → Type 0
 EachWay port count P = (number : ℕ) → number < 2 * count → P (nth_way port.side port.kind port.number number)
 

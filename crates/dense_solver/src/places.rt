@@ -19,7 +19,7 @@ pub(crate) enum Places {
     Bisected,
 }
 
-/// How the places of names are found where so many clauses are written over them: by a table where these are many beside the
+/// How the places of names are found where this many clauses are written over them: by a table where these are many beside the
 /// variables, and else by bisection.
 pub(crate) fn places_for(
     alloc: Global,

@@ -24,7 +24,7 @@ use port_sides::PairableGraphs;
 use query_core::Ledger;
 use std::alloc::Global;
 
-/// Where one of two circuits with as many ports has more outputs that depend on so many inputs and are binate in so many:
+/// Where one of two circuits with as many ports has more outputs that depend on this many inputs and are binate in this many:
 /// holds a ban without pairs, and answers its number. None where none was shown.
 ///
 /// Outputs of the one circuit that are alike in this would have to go to as many of the other one, so that one of them goes to

@@ -313,7 +313,7 @@ fn count_reached(counts: &mut [u64], outputs: &[u32]) {
     }
 }
 
-/// What so many blocks of vectors show of claims of two inputs, all vectors where they are no more.
+/// What this many blocks of vectors show of claims of two inputs, all vectors where they are no more.
 pub(crate) fn swaps_seen(
     alloc: Global,
     graph: &Graph,

@@ -46,7 +46,7 @@ mixed_once s =
     let made = with_multiplexer (at s.window select) (at s.window place.0) (signed sign.0 (at s.window other)) s.gates in
     mixing (slice_set s.window place.0 made.1) made.0 sign.1
 
--- so many times
+-- this many times
 unfoldable pub mixed : ℕ → Mixing → Mixing
 mixed zero s = s
 mixed (suc n) s = mixed_once (mixed n s)

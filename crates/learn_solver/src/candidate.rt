@@ -45,14 +45,14 @@ pub trait Guide {
     /// Only when out of memory.
     fn agenda(&mut self, alloc: Global) -> Result<Agenda, AllocError>;
 
-    /// The search is done with a candidate of the agenda, and has so many lines now, lemmas among them.
+    /// The search is done with a candidate of the agenda, and has this many lines now, lemmas among them.
     ///
     /// # Errors
     ///
     /// Only when out of memory.
     fn done_with(&mut self, candidate: Candidate, lines: u64) -> Result<(), AllocError>;
 
-    /// The search for the question itself has so many lines now, lemmas among them. It is told after each step, also after a
+    /// The search for the question itself has this many lines now, lemmas among them. It is told after each step, also after a
     /// decision, so that is to cost next to nothing.
     fn learned(&mut self, lines: u64);
 }

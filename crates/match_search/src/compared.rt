@@ -12,7 +12,7 @@ pub(crate) struct Compared {
 }
 
 impl Compared {
-    /// None was, of circuits with so many inputs and outputs.
+    /// None was, of circuits with this many inputs and outputs.
     pub(crate) fn new(alloc: Global, inputs: u32, outputs: u32) -> Result<Compared, AllocError> {
         let (inputs, outputs) = (inputs as usize, outputs as usize);
         let pairs = inputs

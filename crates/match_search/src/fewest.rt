@@ -13,7 +13,7 @@ use net_core::Side;
 use port_sides::port_on;
 use std::alloc::{AllocError, Global};
 
-/// An output counts as if it had so many times its ways. Once inputs have pairs, the partners of outputs that read them are
+/// An output counts as if it had this many times its ways. Once inputs have pairs, the partners of outputs that read them are
 /// known, so inputs come first where no conflict says otherwise. Counted alike, three of 11 near misses took 1.5 seconds and
 /// more that take less than one so; with ten times two weren't refused in 2 seconds.
 const OUTPUT_FACTOR: u64 = 4;

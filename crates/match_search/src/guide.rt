@@ -73,7 +73,7 @@ impl Guide {
         })
     }
 
-    /// Notes that only so many pairs are held now, the earliest ones.
+    /// Notes that only this many pairs are held now, the earliest ones.
     pub(crate) fn forget(&mut self, held: usize)
         ensures { self.new.trials ≡ self.old.trials }
     {

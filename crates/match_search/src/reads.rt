@@ -36,7 +36,7 @@ pub(crate) fn by_count(
     Ok(order)
 }
 
-// Adds the outputs that read so many inputs.
+// Adds the outputs that read this many inputs.
 fn add_all_reading(
     reads: &[Items<u32>],
     count: usize,

@@ -18,7 +18,7 @@ is_choice (Held Choice) = true
 is_choice (Held (LastWay side)) = false
 is_choice (Deleted reason) = false
 
--- how many pairs are open at the end of each level, where so many are open at first
+-- how many pairs are open at the end of each level, where this many are open at first
 abbrev pub open_at_ends : ℕ → List Entry → List ℕ
 open_at_ends count [] = count ∷ []
 open_at_ends count (entry ∷ entries) =
@@ -36,7 +36,7 @@ weight radix zero (digit ∷ digits) = 0
 weight radix (suc depth) [] = radix * whole radix depth
 weight radix (suc depth) (digit ∷ digits) = digit * whole radix depth + weight radix depth digits
 
--- how much is left after these entries, where there are so many pairs
+-- how much is left after these entries, where there are this many pairs
 abbrev pub left_of : ℕ → List Entry → ℕ
 left_of count entries = weight (count + 2) (count + 1) (open_at_ends count entries)
 

@@ -112,16 +112,6 @@ pub made_more : {X Y : Type 0} (f : X → Y) (xs : List X) (made : List Y) (i : 
 made_more f xs made i d below is =
     append_assoc made (f (get_or xs i d) ∷ []) (map f (drop (i + 1) xs)) ∙ (ap (λ rest. made ++ map f rest) (sym (drop_more xs i d below)) ∙ is)
 
--- what holds of each element with its place holds with one more at the end
-pub each_push : {X : Type 0} (P : ℕ → X → Type 0) (xs : List X) (x : X) → EachAt P xs → P (length xs) x → EachAt P (xs ++ x ∷ [])
-each_push P xs x each here k d below =
-    elim (cases_lt k (length xs)) [
-      | inl less ↦ subst (P k) (sym (get_or_append_left xs (x ∷ []) d k less)) (each k d less)
-      | inr past ↦
-          let e : length xs ≡ k = omega (arith, below, past, length_push xs x) in
-          subst (P k) (sym (get_or_push xs x d k e)) (subst (λ n. P n x) e here)
-    ]
-
 pub among_more : {X : Type 0} (xs ys zs : List X) → All (Contains ys) xs → All (Contains zs) ys → All (Contains zs) xs
 among_more xs ys zs first second k d below = All-contains (Contains zs) ys (get_or xs k d) second (first k d below)
 

@@ -32,7 +32,7 @@ fn told(answer: &Result<Compared, Stop>) -> Comparison {
     }
 }
 
-/// Whether a matching is of the ports of two circuits of so many outputs each.
+/// Whether a matching is of the ports of two circuits of this many outputs each.
 fn are_ports(graphs: &Graphs<'_>, matching: &Matching, outputs: u32) -> bool
     ensures ports { IsTrue result
         → HavePorts graphs.now.first graphs.now.second matching.now.inputs matching.now.outputs }

@@ -29,9 +29,9 @@ use table_oracle::TableOracle;
 /// What refining comes to.
 #[derive(Clone, Copy, Debug, PartialEq, Eq)]
 enum Outcome {
-    /// It is stable, and so many pairs are held or deleted.
+    /// It is stable, and this many pairs are held or deleted.
     Stable(usize),
-    /// A ban of so many pairs is within the held ones.
+    /// A ban of this many pairs is within the held ones.
     Dead(usize),
     /// Of another kind.
     Other,

@@ -35,7 +35,7 @@ pub(crate) struct Progress<'a, W: Watch> {
 }
 
 impl<'a, W: Watch> Progress<'a, W> {
-    // Tells how many lines were learned, where the question has so many, unless few were learned since.
+    // Tells how many lines were learned, where the question has this many, unless few were learned since.
     fn tell_some(&mut self, lines: u64) {
         if lines >= self.next {
             self.tell(lines);
@@ -43,7 +43,7 @@ impl<'a, W: Watch> Progress<'a, W> {
         }
     }
 
-    // Tells how many lines were learned, where the question has so many.
+    // Tells how many lines were learned, where the question has this many.
     fn tell(&self, lines: u64) {
         let own = lines.saturating_sub(self.lemmas);
         self.watch.at(Stage::Learning {

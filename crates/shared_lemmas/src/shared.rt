@@ -25,7 +25,7 @@ use watch_core::Watch;
 /// that is more than a question of small cones takes by itself.
 const LARGE: u64 = 60_000;
 
-/// Cones are small that have at most one of so many clauses.
+/// Cones are small that have at most one of this many clauses.
 const PART: u64 = 8;
 
 /// How many lines questions may get as lemmas in a run. The ledger keeps those of each question, 250 bytes for a line or so. A

@@ -59,7 +59,7 @@ pub(crate) struct Stock {
 }
 
 impl Stock {
-    /// No lines, where questions got so many before.
+    /// No lines, where questions got this many before.
     pub(crate) fn new(alloc: Global, given: u64) -> Stock
         ensures held { result.held.items ≡ [] }
         ensures lines { result.lines.items ≡ [] }

@@ -221,7 +221,7 @@ fn all_hold(alloc: Global, base: &QueryBase<'_>, lines: &[LogLine]) -> Result<bo
     Ok(true)
 }
 
-/// Whether the lemmas hold on all vectors, are taken one after the other, and are at least so many.
+/// Whether the lemmas hold on all vectors, are taken one after the other, and are at least this many.
 fn are_lemmas(
     alloc: Global,
     graphs: &Graphs<'_>,

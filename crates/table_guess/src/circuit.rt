@@ -28,7 +28,7 @@ pub(crate) struct Sample {
 }
 
 impl Sample {
-    /// Vectors for circuits with this many inputs, where a block takes so many words of gates.
+    /// Vectors for circuits with this many inputs, where a block takes this many words of gates.
     pub(crate) fn new(inputs: u32, words: u64) -> Sample {
         let all = blocks_of_all(inputs);
         // a block costs something also where no input reaches a gate

@@ -286,7 +286,7 @@ impl<'a> Guesser<'a> {
         Ok(false)
     }
 
-    // Searches depth first until so many guesses have failed.
+    // Searches depth first until this many guesses have failed.
     fn search(&mut self, alloc: Global, root: State, failures: u32) -> Result<Attempt, AllocError> {
         let mut points = Vec::new(alloc);
         let mut patience = Patience::of_round(self.round, failures);
@@ -443,7 +443,7 @@ impl<'a> Guesser<'a> {
         self.split_under(alloc, state, FEW_ASSIGNMENTS, MANY_BLOCKS)
     }
 
-    // Splits cells by counts under so many assignments, on so many blocks of vectors each.
+    // Splits cells by counts under this many assignments, on this many blocks of vectors each.
     fn split_under(
         &mut self,
         alloc: Global,

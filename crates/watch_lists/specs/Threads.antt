@@ -30,7 +30,7 @@ no_head = record { first = 0; count = 0 }
 abbrev pub head_at : List Head → ℕ → Head
 head_at heads c = slice_index_or heads c no_head
 
--- so many watches from one on, each the next of the one before
+-- this many watches from one on, each the next of the one before
 abbrev pub links : List Watch → ℕ → ℕ → List ℕ
 links watches zero at = []
 links watches (suc count) at = at ∷ links watches count (watch_at watches at).next

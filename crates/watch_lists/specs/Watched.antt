@@ -11,7 +11,7 @@ use Rattle.watch_lists.specs.declared.threads.Head.{Head}
 use Rattle.watch_lists.specs.Propagations.{AreKnown, IsSound}
 use Rattle.watch_lists.specs.Threads.{AreThreaded, IsAttached, IsIn, literal_at, partner}
 
--- The clauses over so many variables, and the two watches of each.
+-- The clauses over this many variables, and the two watches of each.
 pub record Watching : Type 0 where
   pub variables : ℕ
   pub clauses : List (List SatLit)
