@@ -16,10 +16,10 @@ use Rattle.query_core.specs.declared.query.Feed.TheVariants.{Fixed}
 use Rattle.query_core.specs.declared.query.Query.{Query}
 use Rattle.query_core.specs.declared.variables.Variables.{Variables}
 use Rattle.query_core.specs.declared.variables.Variables.TheVariants.{Own, Shared}
-use Rattle.query_core.specs.Queries.{circuit_of, IsQuery}
+use Rattle.query_core.specs.Queries.{circuit_of}
 use Rattle.query_core.specs.Formulas.{and_clauses, clauses_by, feed_literal, false_literal, half_clauses, left_literals, left_variables, output_literal, plain, query_clauses, right_literals, right_variables, shared_from, signal_literals, stand_in, stands_for}
 use Rattle.query_core.specs.ConeClauses.{IsConeId, IsOfReachedGate, left_gates, right_gates}
-use Rattle.query_core.specs.Variables.{AreFor, HasGate, IsConing, IsHalf, clauses_over, literals_by, variable_at, variables_in}
+use Rattle.query_core.specs.Variables.{AreFor, IsConing, IsHalf, clauses_over, literals_by, variable_at, variables_in}
 use Rattle.query_core.proofs.FormulaLemmas.{clause_of_left, clause_of_right, first_output, gate_clause_at, gate_clause_count, length-shared_from, right_variable_count, second_output}
 use Rattle.query_core.proofs.AssignmentLemmas.{shared_at}
 use Rattle.query_core.proofs.ConeLaws.{first_reached, second_reached}

@@ -1,5 +1,5 @@
 -- The words and the files determine what is answered.
-use Rattle.std.proofs.Common.{◌≡◌, ◌≢◌, ℕ, ◌<◌, ◌≤◌, ◌↔◌, ◌⊎◌, inl, inr, Bool, IsTrue, List, length, Option, None, Some, Result, Ok, Err, IfOk, IfErr, refl, sym, ◌∙◌, ap, subst, arith}
+use Rattle.std.proofs.Common.{◌≡◌, ◌≢◌, ℕ, ◌≤◌, ◌↔◌, ◌⊎◌, inl, inr, Bool, IsTrue, List, length, Option, None, Some, Result, Ok, Err, IfOk, IfErr, refl, sym, ◌∙◌, ap, subst, arith}
 use Rattle.shelf_core.specs.Fault.{Rose}
 use Rattle.circuits.specs.Levels.{IsOrderOf}
 use Rattle.circuits.specs.Netlists.{Net}
@@ -29,9 +29,6 @@ use Rattle.run_steps.specs.Stops.{outcome_of}
 use Rattle.run_steps.specs.declared.outcome.Ending.{Ending}
 use Rattle.shelf_files.specs.declared.files.Stop.{Stop}
 use Rattle.shelf_files.specs.declared.files.Stop.TheVariants as stop
-use Rattle.shelf_files.specs.Files.{Tells}
-use Rattle.shelf_files.specs.declared.files.File.{File}
-use Rattle.shelf_files.specs.declared.files.File.TheVariants.{Absent as NoFile, TooLong, Bytes}
 use Rattle.run_steps.proofs.CircuitLemmas.{one_circuit, circuit_or_fault, one_circuit_fault, few_ports, circuit_acyclic}
 use Rattle.run_steps.specs.declared.outcome.Which.{Which}
 use Rattle.run_steps.specs.declared.outcome.Which.TheVariants.{First, Second, Account}
@@ -39,12 +36,6 @@ use Rattle.run_steps.specs.declared.outcome.Outcome.{Outcome}
 use Rattle.run_steps.specs.declared.outcome.Outcome.TheVariants.{AcceptedMatch, AcceptedRefusal, Rejected, Matched, NoMatching, Spent, Usage, Absent, TooLarge, Malformed, Informed, Made, Tried, ReadFault, WriteFault, Memory}
 use Rattle.command_words.proofs.FormLemmas.{names_one, file_named, sought_one, check_or_info, match_or_info, check_or_match, read_or_make, read_or_trial, reads_of}
 use Rattle.command_words.specs.Commands.{Ask, IsReadingCommand}
-
--- what a file that is too long says
-pub at_too_long : (limit : ℕ) (held : Option (List ℕ)) (file : File) → file ≡ TooLong → Tells limit held file → (bytes : List ℕ) × (held ≡ Some bytes) × (limit < length bytes)
-at_too_long limit held NoFile e fact = cc
-at_too_long limit held TooLong e fact = fact
-at_too_long limit held (Bytes bytes) e fact = cc
 
 -- one name holds one netlist, or one thing that ends the check
 
@@ -63,22 +54,12 @@ abbrev pub IsEnd : Which → Option (List ℕ) → Outcome → Type 0
 IsEnd file content o = ((o ≡ Absent file) × (content ≡ None)) ⊎ ((o ≡ TooLarge file) × HoldsTooMuch content) ⊎ ((kind : NetKind) × (at : ℕ) × (o ≡ Malformed file kind at) × HoldsFault content kind at)
 
 end_of : (file : Which) (content : Option (List ℕ)) (o : Outcome) → IsDecided o → EndsAt file content o → IsEnd file content o
-end_of file content (AcceptedMatch table) decided fact = absurd fact
-end_of file content AcceptedRefusal decided fact = absurd fact
-end_of file content (Rejected line why) decided fact = absurd fact
-end_of file content (Matched table) decided fact = absurd fact
-end_of file content NoMatching decided fact = absurd fact
-end_of file content (Spent ledger) decided fact = absurd fact
-end_of file content Informed decided fact = absurd fact
-end_of file content Made decided fact = absurd fact
-end_of file content (Tried number account) decided fact = absurd fact
-end_of file content Usage decided fact = absurd fact
 end_of file content (Absent which) decided fact = inl (ap Absent fact.0, fact.1)
 end_of file content (TooLarge which) decided fact = inr (inl (ap TooLarge fact.0, fact.1))
 end_of file content (Malformed which kind at) decided fact = inr (inr (kind, at, ap (λ w. Malformed w kind at) fact.0, fact.1))
 end_of file content ReadFault decided fact = absurd (decided.read refl)
-end_of file content WriteFault decided fact = absurd fact
 end_of file content Memory decided fact = absurd (decided.told.room refl)
+end_of file content other decided fact = absurd fact
 
 -- no name holds two of them
 too_much_or_fault : (content : Option (List ℕ)) (kind : NetKind) (at : ℕ) → HoldsTooMuch content → HoldsFault content kind at → ⊥
@@ -159,13 +140,12 @@ SaysAccount held first second account o =
     ((o ≡ Absent Account) × (held account ≡ None))
     ⊎ ((graphs : Graphs) × HoldsGraph (held first) graphs.first × HoldsGraph (held second) graphs.second × (bytes : List ℕ) × (held account ≡ Some bytes) × IsAnswer graphs bytes o)
 
-abbrev pub SaysTwo : (List ℕ → Option (List ℕ)) → List ℕ → List ℕ → (Outcome → Type 0) → Outcome → Type 0
-SaysTwo held first second says o =
-    IsEnd First (held first) o
-    ⊎ ((f : Netlist) × HoldsNetlist (held first) f × (IsEnd Second (held second) o ⊎ ((g : Netlist) × HoldsNetlist (held second) g × says o)))
+-- a file ends the run, or it is a netlist, and this is said
+abbrev pub SaysFile : Which → Option (List ℕ) → (Outcome → Type 0) → Outcome → Type 0
+SaysFile file content says o = IsEnd file content o ⊎ ((f : Netlist) × HoldsNetlist content f × says o)
 
-abbrev pub SaysOnly : (List ℕ → Option (List ℕ)) → List ℕ → Outcome → Type 0
-SaysOnly held file o = IsEnd First (held file) o ⊎ ((f : Netlist) × HoldsNetlist (held file) f × IsOfOne o)
+abbrev pub SaysTwo : (List ℕ → Option (List ℕ)) → List ℕ → List ℕ → (Outcome → Type 0) → Outcome → Type 0
+SaysTwo held first second says o = SaysFile First (held first) (SaysFile Second (held second) says) o
 
 abbrev pub SaysCheck : (List ℕ → Option (List ℕ)) → List (List ℕ) → Outcome → Type 0
 SaysCheck held words o =
@@ -175,7 +155,7 @@ abbrev pub SaysMatch : (List ℕ → Option (List ℕ)) → List (List ℕ) → 
 SaysMatch held words o = (sought : Sought) × AsksMatch words sought × SaysTwo held sought.first sought.second IsOfMatch o
 
 abbrev pub SaysInfo : (List ℕ → Option (List ℕ)) → List (List ℕ) → Outcome → Type 0
-SaysInfo held words o = (file : List ℕ) × (budget : ℕ) × AsksInfo words file budget × SaysOnly held file o
+SaysInfo held words o = (file : List ℕ) × (budget : ℕ) × AsksInfo words file budget × SaysFile First (held file) IsOfOne o
 
 abbrev pub Says : (List ℕ → Option (List ℕ)) → List (List ℕ) → Outcome → Type 0
 Says held words o =
@@ -204,39 +184,24 @@ account_one held first second account a b one other =
       ]
     ]
 
-two_one : (held : List ℕ → Option (List ℕ)) (first second : List ℕ) (says : Outcome → Type 0) (a b : Outcome) → SaysTwo held first second says a → SaysTwo held first second says b → (a ≡ b) ⊎ (says a × says b)
-two_one held first second says a b one other =
+file_one : (file : Which) (content : Option (List ℕ)) (says : Outcome → Type 0) (a b : Outcome) → SaysFile file content says a → SaysFile file content says b → (a ≡ b) ⊎ (says a × says b)
+file_one file content says a b one other =
     elim one [
       | inl end ↦ elim other [
-        | inl end' ↦ inl (end_one First (held first) a b end end')
-        | inr (f, there, fact) ↦ absurd (end_or_netlist First (held first) a f end there)
+        | inl end' ↦ inl (end_one file content a b end end')
+        | inr (f, there, fact) ↦ absurd (end_or_netlist file content a f end there)
       ]
       | inr (f, there, fact) ↦ elim other [
-        | inl end' ↦ absurd (end_or_netlist First (held first) b f end' there)
-        | inr (f', there', fact') ↦ elim fact [
-          | inl end ↦ elim fact' [
-            | inl end' ↦ inl (end_one Second (held second) a b end end')
-            | inr (g, held', fact'') ↦ absurd (end_or_netlist Second (held second) a g end held')
-          ]
-          | inr (g, held', says_a) ↦ elim fact' [
-            | inl end' ↦ absurd (end_or_netlist Second (held second) b g end' held')
-            | inr (g', held'', says_b) ↦ inr (says_a, says_b)
-          ]
-        ]
+        | inl end' ↦ absurd (end_or_netlist file content b f end' there)
+        | inr (f', there', fact') ↦ inr (fact, fact')
       ]
     ]
 
-only_one : (held : List ℕ → Option (List ℕ)) (file : List ℕ) (a b : Outcome) → SaysOnly held file a → SaysOnly held file b → (a ≡ b) ⊎ (IsOfOne a × IsOfOne b)
-only_one held file a b one other =
-    elim one [
-      | inl end ↦ elim other [
-        | inl end' ↦ inl (end_one First (held file) a b end end')
-        | inr (f, there, fact) ↦ absurd (end_or_netlist First (held file) a f end there)
-      ]
-      | inr (f, there, fact) ↦ elim other [
-        | inl end' ↦ absurd (end_or_netlist First (held file) b f end' there)
-        | inr (f', there', fact') ↦ inr (fact, fact')
-      ]
+two_one : (held : List ℕ → Option (List ℕ)) (first second : List ℕ) (says : Outcome → Type 0) (a b : Outcome) → SaysTwo held first second says a → SaysTwo held first second says b → (a ≡ b) ⊎ (says a × says b)
+two_one held first second says a b one other =
+    elim (file_one First (held first) (SaysFile Second (held second) says) a b one other) [
+      | inl same ↦ inl same
+      | inr (one', other') ↦ file_one Second (held second) says a b one' other'
     ]
 
 -- what the words alone say of an outcome of files
@@ -286,7 +251,7 @@ match_one held words a b (sought, asks, says) (other, asks', says') =
 info_one : (held : List ℕ → Option (List ℕ)) (words : List (List ℕ)) (a b : Outcome) → SaysInfo held words a → SaysInfo held words b → (a ≡ b) ⊎ (IsOfOne a × IsOfOne b)
 info_one held words a b (file, budget, asks, says) (file', budget', asks', says') =
     let e = sym (file_named words file' budget' asks') ∙ file_named words file budget asks in
-    only_one held file a b says (subst (λ n. SaysOnly held n b) e says')
+    file_one First (held file) IsOfOne a b says (subst (λ n. SaysFile First (held n) IsOfOne b) e says')
 
 says_one : (held : List ℕ → Option (List ℕ)) (words : List (List ℕ)) (a b : Outcome) → Says held words a → Says held words b → AreAlike a b
 says_one held words a b one other =
@@ -398,77 +363,32 @@ says held words Memory reads decided right = absurd (decided.told.room refl)
 
 -- what one file, or the verdict of all, makes right
 
+right_early : (held : List ℕ → Option (List ℕ)) (words : List (List ℕ)) (file : Which) (content : Option (List ℕ)) (o : Outcome) → EndsAt file content o → EndsEarly held words o → IsRight held words o
+right_early held words file content (Absent which) ends early = inl early
+right_early held words file content (TooLarge which) ends early = early
+right_early held words file content (Malformed which kind at) ends early = early
+right_early held words file content ReadFault ends early = tt
+right_early held words file content Memory ends early = tt
+right_early held words file content other ends early = absurd ends
+
 pub right_at_first : (held : List ℕ → Option (List ℕ)) (words : List (List ℕ)) (f g t : List ℕ) → NameThree words f g t → (o : Outcome) → EndsAt First (held f) o → IsRight held words o
-right_at_first held words f g t asks (AcceptedMatch table) ends = absurd ends
-right_at_first held words f g t asks AcceptedRefusal ends = absurd ends
-right_at_first held words f g t asks (Rejected line why) ends = absurd ends
-right_at_first held words f g t asks (Matched table) ends = absurd ends
-right_at_first held words f g t asks NoMatching ends = absurd ends
-right_at_first held words f g t asks (Spent ledger) ends = absurd ends
-right_at_first held words f g t asks Informed ends = absurd ends
-right_at_first held words f g t asks Made ends = absurd ends
-right_at_first held words f g t asks (Tried number account) ends = absurd ends
-right_at_first held words f g t asks Usage ends = absurd ends
-right_at_first held words f g t asks (Absent which) ends = inl (inl (record { first_name = f; second_name = g; account_name = t; asks = asks; ends = ends }))
-right_at_first held words f g t asks (TooLarge which) ends = inl (record { first_name = f; second_name = g; account_name = t; asks = asks; ends = ends })
-right_at_first held words f g t asks (Malformed which kind at) ends = inl (record { first_name = f; second_name = g; account_name = t; asks = asks; ends = ends })
-right_at_first held words f g t asks ReadFault ends = tt
-right_at_first held words f g t asks WriteFault ends = absurd ends
-right_at_first held words f g t asks Memory ends = tt
+right_at_first held words f g t asks o ends =
+    right_early held words First (held f) o ends (inl (record { first_name = f; second_name = g; account_name = t; asks = asks; ends = ends }))
 
 pub right_at_second : (held : List ℕ → Option (List ℕ)) (words : List (List ℕ)) (f g t : List ℕ) (first : Netlist) → NameThree words f g t → HoldsNetlist (held f) first → (o : Outcome) → EndsAt Second (held g) o → IsRight held words o
-right_at_second held words f g t first asks there (AcceptedMatch table) ends = absurd ends
-right_at_second held words f g t first asks there AcceptedRefusal ends = absurd ends
-right_at_second held words f g t first asks there (Rejected line why) ends = absurd ends
-right_at_second held words f g t first asks there (Matched table) ends = absurd ends
-right_at_second held words f g t first asks there NoMatching ends = absurd ends
-right_at_second held words f g t first asks there (Spent ledger) ends = absurd ends
-right_at_second held words f g t first asks there Informed ends = absurd ends
-right_at_second held words f g t first asks there Made ends = absurd ends
-right_at_second held words f g t first asks there (Tried number account) ends = absurd ends
-right_at_second held words f g t first asks there Usage ends = absurd ends
-right_at_second held words f g t first asks there (Absent which) ends = inl (inr (inl (record { first_name = f; second_name = g; account_name = t; asks = asks; first = first; first_held = there; ends = ends })))
-right_at_second held words f g t first asks there (TooLarge which) ends = inr (inl (record { first_name = f; second_name = g; account_name = t; asks = asks; first = first; first_held = there; ends = ends }))
-right_at_second held words f g t first asks there (Malformed which kind at) ends = inr (inl (record { first_name = f; second_name = g; account_name = t; asks = asks; first = first; first_held = there; ends = ends }))
-right_at_second held words f g t first asks there ReadFault ends = tt
-right_at_second held words f g t first asks there WriteFault ends = absurd ends
-right_at_second held words f g t first asks there Memory ends = tt
+right_at_second held words f g t first asks there o ends =
+    right_early held words Second (held g) o ends (inr (inl (record { first_name = f; second_name = g; account_name = t; asks = asks; first = first; first_held = there; ends = ends })))
 
 pub right_at_only : (held : List ℕ → Option (List ℕ)) (words : List (List ℕ)) (file : List ℕ) (budget : ℕ) → AsksInfo words file budget → (o : Outcome) → EndsAt First (held file) o → IsRight held words o
-right_at_only held words file budget asks (AcceptedMatch table) ends = absurd ends
-right_at_only held words file budget asks AcceptedRefusal ends = absurd ends
-right_at_only held words file budget asks (Rejected line why) ends = absurd ends
-right_at_only held words file budget asks (Matched table) ends = absurd ends
-right_at_only held words file budget asks NoMatching ends = absurd ends
-right_at_only held words file budget asks (Spent ledger) ends = absurd ends
-right_at_only held words file budget asks Informed ends = absurd ends
-right_at_only held words file budget asks Made ends = absurd ends
-right_at_only held words file budget asks (Tried number account) ends = absurd ends
-right_at_only held words file budget asks Usage ends = absurd ends
-right_at_only held words file budget asks (Absent which) ends = inl (inr (inr (record { file_name = file; budget = budget; asks = asks; ends = ends })))
-right_at_only held words file budget asks (TooLarge which) ends = inr (inr (record { file_name = file; budget = budget; asks = asks; ends = ends }))
-right_at_only held words file budget asks (Malformed which kind at) ends = inr (inr (record { file_name = file; budget = budget; asks = asks; ends = ends }))
-right_at_only held words file budget asks ReadFault ends = tt
-right_at_only held words file budget asks WriteFault ends = absurd ends
-right_at_only held words file budget asks Memory ends = tt
+right_at_only held words file budget asks o ends =
+    right_early held words First (held file) o ends (inr (inr (record { file_name = file; budget = budget; asks = asks; ends = ends })))
 
 pub right_by_verdict : (held : List ℕ → Option (List ℕ)) (words : List (List ℕ)) (f g t : List ℕ) (graphs : Graphs) → AsksCheck words f g t → HoldsGraph (held f) graphs.first → HoldsGraph (held g) graphs.second → (o : Outcome) → IsVerdict graphs (held t) o → IsRight held words o
 right_by_verdict held words f g t graphs asks first second (AcceptedMatch table) fact = record { graphs = graphs; account = fact.0; has = record { first_name = f; second_name = g; account_name = t; asks = asks; first_held = first; second_held = second; there = fact.1 }; accepted = fact.2 }
 right_by_verdict held words f g t graphs asks first second AcceptedRefusal fact = record { graphs = graphs; account = fact.0; has = record { first_name = f; second_name = g; account_name = t; asks = asks; first_held = first; second_held = second; there = fact.1 }; accepted = fact.2 }
 right_by_verdict held words f g t graphs asks first second (Rejected line why) fact = record { graphs = graphs; account = fact.0; has = record { first_name = f; second_name = g; account_name = t; asks = asks; first_held = first; second_held = second; there = fact.1 }; rejected = fact.2 }
-right_by_verdict held words f g t graphs asks first second (Matched table) fact = absurd fact
-right_by_verdict held words f g t graphs asks first second NoMatching fact = absurd fact
-right_by_verdict held words f g t graphs asks first second (Spent ledger) fact = absurd fact
-right_by_verdict held words f g t graphs asks first second Informed fact = absurd fact
-right_by_verdict held words f g t graphs asks first second Made fact = absurd fact
-right_by_verdict held words f g t graphs asks first second (Tried number account) fact = absurd fact
-right_by_verdict held words f g t graphs asks first second Usage fact = absurd fact
 right_by_verdict held words f g t graphs asks first second (Absent which) fact = inr (fact.0, record { first = first.netlist; second = second.netlist; account_name = t; asked = record { first_name = f; second_name = g; asks = asks; first_held = first.holds; second_held = second.holds }; absent = fact.1 })
-right_by_verdict held words f g t graphs asks first second (TooLarge which) fact = absurd fact
-right_by_verdict held words f g t graphs asks first second (Malformed which kind at) fact = absurd fact
-right_by_verdict held words f g t graphs asks first second ReadFault fact = absurd fact
-right_by_verdict held words f g t graphs asks first second WriteFault fact = absurd fact
-right_by_verdict held words f g t graphs asks first second Memory fact = absurd fact
+right_by_verdict held words f g t graphs asks first second other fact = absurd fact
 
 informed_of_match : IsOfMatch Informed → ⊥
 informed_of_match is = elim is [ inl (table, e) ↦ cc | inr (inl e) ↦ cc | inr (inr (ledger, e)) ↦ cc ]
@@ -516,22 +436,13 @@ exact_reads : (held : List ℕ → Option (List ℕ)) (words : List (List ℕ)) 
 exact_reads held words (AcceptedMatch table) exact right = account_reads held words right.graphs right.account right.has
 exact_reads held words AcceptedRefusal exact right = account_reads held words right.graphs right.account right.has
 exact_reads held words (Rejected line why) exact right = account_reads held words right.graphs right.account right.has
-exact_reads held words (Matched table) exact right = absurd exact
-exact_reads held words NoMatching exact right = absurd exact
-exact_reads held words (Spent ledger) exact right = absurd exact
-exact_reads held words Informed exact right = absurd exact
-exact_reads held words Made exact right = absurd exact
-exact_reads held words (Tried number account) exact right = absurd exact
-exact_reads held words Usage exact right = absurd exact
 exact_reads held words (Absent which) exact right = elim right [
   | inl early ↦ early_reads held words (Absent which) early
   | inr (e, lacks) ↦ inl (lacks.asked.first_name, lacks.asked.second_name, lacks.account_name, inl lacks.asked.asks)
 ]
 exact_reads held words (TooLarge which) exact right = early_reads held words (TooLarge which) right
 exact_reads held words (Malformed which kind at) exact right = early_reads held words (Malformed which kind at) right
-exact_reads held words ReadFault exact right = absurd exact
-exact_reads held words WriteFault exact right = absurd exact
-exact_reads held words Memory exact right = absurd exact
+exact_reads held words other exact right = absurd exact
 
 sought_reads : (held : List ℕ → Option (List ℕ)) (words : List (List ℕ)) (first second : Netlist) → IsSought held words first second → ReadFiles words
 sought_reads held words first second is = inl (is.sought.first, is.sought.second, is.sought.account, inr (is.sought.budget, is.sought.seed, is.asks))
@@ -585,41 +496,20 @@ module _ (held : List ℕ → Option (List ℕ)) (words : List (List ℕ)) (aske
 
 -- outcomes between which and the words no fault came and memory did not run out
 
-pub decided_accepted : (table : Matching) → IsDecided (AcceptedMatch table)
-decided_accepted table = record { read = λ e. cc; told = record { written = λ e. cc; room = λ e. cc } }
+abbrev pub IsReached : Outcome → Type 0
+IsReached ReadFault = ⊥
+IsReached WriteFault = ⊥
+IsReached Memory = ⊥
+IsReached other = Unit {0}
 
-pub decided_refusal : IsDecided AcceptedRefusal
-decided_refusal = record { read = λ e. cc; told = record { written = λ e. cc; room = λ e. cc } }
-
-pub decided_rejected : (line : ℕ) (why : Why) → IsDecided (Rejected line why)
-decided_rejected line why = record { read = λ e. cc; told = record { written = λ e. cc; room = λ e. cc } }
-
-pub decided_spent : (ledger : Ledgered) → IsDecided (Spent ledger)
-decided_spent ledger = record { read = λ e. cc; told = record { written = λ e. cc; room = λ e. cc } }
-
-pub decided_matched : (table : Matching) → IsDecided (Matched table)
-decided_matched table = record { read = λ e. cc; told = record { written = λ e. cc; room = λ e. cc } }
+pub reached : (o : Outcome) → IsReached o → IsDecided o
+reached ReadFault is = absurd is
+reached WriteFault is = absurd is
+reached Memory is = absurd is
+reached other is = record { read = λ e. cc; told = record { written = λ e. cc; room = λ e. cc } }
 
 pub told_read : IsTold ReadFault
 told_read = record { written = λ e. cc; room = λ e. cc }
-
-pub decided_made : IsDecided Made
-decided_made = record { read = λ e. cc; told = record { written = λ e. cc; room = λ e. cc } }
-
-pub decided_tried : (number : ℕ) (account : List ℕ) → IsDecided (Tried number account)
-decided_tried number account = record { read = λ e. cc; told = record { written = λ e. cc; room = λ e. cc } }
-
-pub decided_none : IsDecided NoMatching
-decided_none = record { read = λ e. cc; told = record { written = λ e. cc; room = λ e. cc } }
-
-pub decided_absent : (which : Which) → IsDecided (Absent which)
-decided_absent which = record { read = λ e. cc; told = record { written = λ e. cc; room = λ e. cc } }
-
-pub decided_too_large : (which : Which) → IsDecided (TooLarge which)
-decided_too_large which = record { read = λ e. cc; told = record { written = λ e. cc; room = λ e. cc } }
-
-pub decided_malformed : (which : Which) (kind : NetKind) (at : ℕ) → IsDecided (Malformed which kind at)
-decided_malformed which kind at = record { read = λ e. cc; told = record { written = λ e. cc; room = λ e. cc } }
 
 -- what a refusal of a read ends the run with
 
@@ -637,22 +527,12 @@ stop_is stop.Memory e = cc
 
 -- where no file changes, each outcome that is neither of a match nor a pair leaves what it says
 pub leaves : (before after : List ℕ → Option (List ℕ)) (words : List (List ℕ)) (o : Outcome) → ((table : Matching) → o ≢ Matched table) → o ≢ NoMatching → o ≢ Made → ((n : List ℕ) → after n ≡ before n) → Leaves before after words o
-leaves before after words (AcceptedMatch table) no_table no_match no_pair same = same
-leaves before after words AcceptedRefusal no_table no_match no_pair same = same
-leaves before after words (Rejected line why) no_table no_match no_pair same = same
 leaves before after words (Matched table) no_table no_match no_pair same = absurd (no_table table refl)
 leaves before after words NoMatching no_table no_match no_pair same = absurd (no_match refl)
-leaves before after words (Spent ledger) no_table no_match no_pair same = same
-leaves before after words Informed no_table no_match no_pair same = same
 leaves before after words Made no_table no_match no_pair same = absurd (no_pair refl)
-leaves before after words (Tried number account) no_table no_match no_pair same = same
-leaves before after words Usage no_table no_match no_pair same = same
-leaves before after words (Absent which) no_table no_match no_pair same = same
-leaves before after words (TooLarge which) no_table no_match no_pair same = same
-leaves before after words (Malformed which kind at) no_table no_match no_pair same = same
-leaves before after words ReadFault no_table no_match no_pair same = same
 leaves before after words WriteFault no_table no_match no_pair same = inl same
 leaves before after words Memory no_table no_match no_pair same = inl same
+leaves before after words other no_table no_match no_pair same = same
 
 pub leaves_early : (before after : List ℕ → Option (List ℕ)) (words : List (List ℕ)) (o : Outcome) → IsEarly o → ((n : List ℕ) → after n ≡ before n) → Leaves before after words o
 leaves_early before after words o early same = leaves before after words o (λ table e. early.line.no_table table (inr e)) early.no_match early.no_pair same
@@ -688,40 +568,14 @@ asks_both held content words f g t first second same asks holds other = record {
 
 -- what the bytes of a file that is no netlist end the run with
 stop_ends : (file : Which) (content : Option (List ℕ)) (bytes : List ℕ) → content ≡ Some bytes → length bytes ≤ 67108864 → (o : Outcome) → IsStopOf file bytes o → EndsAt file content o
-stop_ends file content bytes there short (AcceptedMatch table) fact = absurd fact
-stop_ends file content bytes there short AcceptedRefusal fact = absurd fact
-stop_ends file content bytes there short (Rejected line why) fact = absurd fact
-stop_ends file content bytes there short (Matched table) fact = absurd fact
-stop_ends file content bytes there short NoMatching fact = absurd fact
-stop_ends file content bytes there short (Spent ledger) fact = absurd fact
-stop_ends file content bytes there short Informed fact = absurd fact
-stop_ends file content bytes there short Made fact = absurd fact
-stop_ends file content bytes there short (Tried number account) fact = absurd fact
-stop_ends file content bytes there short Usage fact = absurd fact
-stop_ends file content bytes there short (Absent which) fact = absurd fact
-stop_ends file content bytes there short (TooLarge which) fact = absurd fact
 stop_ends file content bytes there short (Malformed which kind at) fact = (fact.0, record { bytes = bytes; there = there; short = short; is = fact.1 })
-stop_ends file content bytes there short ReadFault fact = absurd fact
-stop_ends file content bytes there short WriteFault fact = absurd fact
 stop_ends file content bytes there short Memory fact = tt
+stop_ends file content bytes there short other fact = absurd fact
 
 stop_is_of_reading : (file : Which) (bytes : List ℕ) (o : Outcome) → IsStopOf file bytes o → IsOfReading o
-stop_is_of_reading file bytes (AcceptedMatch table) fact = absurd fact
-stop_is_of_reading file bytes AcceptedRefusal fact = absurd fact
-stop_is_of_reading file bytes (Rejected line why) fact = absurd fact
-stop_is_of_reading file bytes (Matched table) fact = absurd fact
-stop_is_of_reading file bytes NoMatching fact = absurd fact
-stop_is_of_reading file bytes (Spent ledger) fact = absurd fact
-stop_is_of_reading file bytes Informed fact = absurd fact
-stop_is_of_reading file bytes Made fact = absurd fact
-stop_is_of_reading file bytes (Tried number account) fact = absurd fact
-stop_is_of_reading file bytes Usage fact = absurd fact
-stop_is_of_reading file bytes (Absent which) fact = absurd fact
-stop_is_of_reading file bytes (TooLarge which) fact = absurd fact
 stop_is_of_reading file bytes (Malformed which kind at) fact = record { early = record { line = record { no_table = λ table e. elim e [ inl e ↦ cc | inr e ↦ cc ]; no_rows = λ e. cc }; no_refusal = λ e. cc; no_match = λ e. cc; no_pair = λ e. cc; no_trial = λ number account e. cc; asked = λ e. cc }; unwritten = λ e. cc }
-stop_is_of_reading file bytes ReadFault fact = absurd fact
-stop_is_of_reading file bytes WriteFault fact = absurd fact
 stop_is_of_reading file bytes Memory fact = record { early = record { line = record { no_table = λ table e. elim e [ inl e ↦ cc | inr e ↦ cc ]; no_rows = λ e. cc }; no_refusal = λ e. cc; no_match = λ e. cc; no_pair = λ e. cc; no_trial = λ number account e. cc; asked = λ e. cc }; unwritten = λ e. cc }
+stop_is_of_reading file bytes other fact = absurd fact
 
 -- a file of few bytes was read
 reads_same : (tells : Bool) (file : Which) (name : List ℕ) (old new : ShelfState) (bytes : List ℕ) (result : Result Named Outcome) → ((n : List ℕ) → new.held n ≡ old.held n) → new.mode ≡ Closed → old.faults ≤ new.faults → (IsTrue tells → (old.held name ≡ Some bytes) × (length bytes ≤ 67108864)) → IfOk result (λ named. ReadAs bytes named.graph named.input_names named.output_names) → IfErr result (IsStopOf file bytes) → ReadsNetlist tells file name old new result

@@ -1,5 +1,5 @@
 -- A file is one circuit at most, or has one first fault, and never both.
-use Rattle.std.proofs.Common.{◌≡◌, ℕ, ◌≤◌, inl, inr, List, length, Result, Ok, Err, IfOk}
+use Rattle.std.proofs.Common.{◌≡◌, ◌⊎◌, ℕ, ◌≤◌, inl, inr, List, length, Result, Ok, Err, IfOk}
 use Rattle.circuits.specs.Circuits.{Circuit}
 use Rattle.circuits.specs.Levels.{IsAcyclic}
 use Rattle.net_file.specs.declared.fault.NetKind.{NetKind}
@@ -13,44 +13,21 @@ use Rattle.blif_reader.specs.Blif.{ReadAs as BlifReadAs}
 use Rattle.run_steps.specs.Circuits.{BeginsAsAiger, IsCircuit, IsCircuitFault}
 use Rattle.run_steps.specs.Steps.{ReadAs}
 
+-- two facts of a file are by the same format
+by_format : {P A B C D R : Type 0} → (A → C → R) → (B → D → R) → (P × A) ⊎ ((P → ⊥) × B) → (P × C) ⊎ ((P → ⊥) × D) → R
+by_format aiger blif (inl (begins, a)) (inl (begins', c)) = aiger a c
+by_format aiger blif (inl (begins, a)) (inr (not', d)) = absurd (not' begins)
+by_format aiger blif (inr (not, b)) (inl (begins', c)) = absurd (not begins')
+by_format aiger blif (inr (not, b)) (inr (not', d)) = blif b d
+
 pub one_circuit : (bytes : List ℕ) (a b : Circuit) (i o j p : List (List ℕ)) → IsCircuit bytes a i o → IsCircuit bytes b j p → a ≡ b
-one_circuit bytes a b i o j p one other =
-    elim one [
-      | inl (begins, is) ↦ elim other [
-        | inl (begins', is') ↦ (one_netlist bytes a b i o j p is is').0
-        | inr (not', is') ↦ absurd (not' begins)
-      ]
-      | inr (not, is) ↦ elim other [
-        | inl (begins', is') ↦ absurd (not begins')
-        | inr (not', is') ↦ (one_blif bytes a b i o j p is is').0
-      ]
-    ]
+one_circuit bytes a b i o j p = by_format (λ x y. (one_netlist bytes a b i o j p x y).0) (λ x y. (one_blif bytes a b i o j p x y).0)
 
 pub circuit_or_fault : (bytes : List ℕ) (circuit : Circuit) (i o : List (List ℕ)) (kind : NetKind) (at : ℕ) → IsCircuit bytes circuit i o → IsCircuitFault bytes kind at → ⊥
-circuit_or_fault bytes circuit i o kind at one other =
-    elim one [
-      | inl (begins, is) ↦ elim other [
-        | inl (begins', is') ↦ netlist_or_fault bytes circuit i o kind at is is'
-        | inr (not', is') ↦ absurd (not' begins)
-      ]
-      | inr (not, is) ↦ elim other [
-        | inl (begins', is') ↦ absurd (not begins')
-        | inr (not', is') ↦ blif_or_fault bytes circuit i o kind at is is'
-      ]
-    ]
+circuit_or_fault bytes circuit i o kind at = by_format (netlist_or_fault bytes circuit i o kind at) (blif_or_fault bytes circuit i o kind at)
 
 pub one_circuit_fault : (bytes : List ℕ) (kind other_kind : NetKind) (at place : ℕ) → IsCircuitFault bytes kind at → IsCircuitFault bytes other_kind place → (kind ≡ other_kind) × (at ≡ place)
-one_circuit_fault bytes kind other_kind at place one other =
-    elim one [
-      | inl (begins, is) ↦ elim other [
-        | inl (begins', is') ↦ one_fault bytes kind other_kind at place is is'
-        | inr (not', is') ↦ absurd (not' begins)
-      ]
-      | inr (not, is) ↦ elim other [
-        | inl (begins', is') ↦ absurd (not begins')
-        | inr (not', is') ↦ one_blif_fault bytes kind other_kind at place is is'
-      ]
-    ]
+one_circuit_fault bytes kind other_kind at place = by_format (one_fault bytes kind other_kind at place) (one_blif_fault bytes kind other_kind at place)
 
 pub few_ports : (bytes : List ℕ) (circuit : Circuit) (i o : List (List ℕ)) → IsCircuit bytes circuit i o → (circuit.inputs ≤ 1024) × (length circuit.outputs ≤ 1024)
 few_ports bytes circuit i o is =

@@ -18,14 +18,14 @@ use Rattle.run_steps.specs.declared.outcome.Outcome.{Outcome}
 use Rattle.run_steps.specs.declared.outcome.Outcome.TheVariants as outcome
 use Rattle.shelf_core.proofs.FaultLemmas.{rose_later}
 
-err_same : (o p : Outcome) (r : Result Ending Outcome) → r ≡ Err o → r ≡ Err p → o ≡ p
+pub err_same : {X : Type 0} (o p : Outcome) (r : Result X Outcome) → r ≡ Err o → r ≡ Err p → o ≡ p
 err_same o p r one other = cc
 
-failed_is : (stop : ShelfStop) → unwritten stop ≡ outcome.WriteFault → stop ≡ Failed
+pub failed_is : (stop : ShelfStop) → unwritten stop ≡ outcome.WriteFault → stop ≡ Failed
 failed_is Failed e = refl
 failed_is Memory e = cc
 
-is_unwritten : (stop : ShelfStop) → IsUnwritten (unwritten stop)
+pub is_unwritten : (stop : ShelfStop) → IsUnwritten (unwritten stop)
 is_unwritten Failed = inl refl
 is_unwritten Memory = inr refl
 

@@ -4,7 +4,6 @@ use Rattle.circuits.proofs.MatchLaws.{match_from_functions}
 use Rattle.net_core.specs.declared.matching.Matching.{Matching}
 use Rattle.shelf_core.specs.State.{ShelfState, Closed}
 use Rattle.shelf_core.specs.declared.outside.ShelfStop.{ShelfStop}
-use Rattle.shelf_core.specs.declared.outside.ShelfStop.TheVariants.{Failed, Memory as NoRoom}
 use Rattle.shelf_files.specs.Files.{WritesFile}
 use Rattle.run_steps.specs.Make.{HoldsPair, HoldsPartOfPair}
 use Rattle.run_steps.specs.Outcomes.{FollowsWords, IsRight, IsTold, Leaves}
@@ -19,18 +18,8 @@ use Rattle.run_steps.specs.declared.outcome.Outcome.{Outcome}
 use Rattle.run_steps.specs.declared.outcome.Outcome.TheVariants.{AcceptedMatch, AcceptedRefusal, Matched, Informed, Made, Tried, ReadFault, WriteFault, Memory}
 use Rattle.command_words.proofs.FormLemmas.{make_or_trial}
 use Rattle.shelf_core.proofs.FaultLemmas.{rose_later}
+use Rattle.run_steps.proofs.FindLemmas.{err_same, failed_is, is_unwritten}
 use Rattle.run_steps.proofs.PairLemmas.{first_read, second_read}
-
-unwritten_is : (stop : ShelfStop) → IsUnwritten (unwritten stop)
-unwritten_is Failed = inl refl
-unwritten_is NoRoom = inr refl
-
-failed_is : (stop : ShelfStop) → unwritten stop ≡ WriteFault → stop ≡ Failed
-failed_is Failed e = refl
-failed_is NoRoom e = cc
-
-err_same : {X : Type 0} (o p : Outcome) (r : Result X Outcome) → r ≡ Err o → r ≡ Err p → o ≡ p
-err_same o p r one other = cc
 
 -- a text was written
 pub text_written : (tells : Bool) (name text : List ℕ) (old new : ShelfState) → new.mode ≡ Closed → WritesFile tells name text old new (Ok tt) → WritesText tells name text old new (Ok tt)
@@ -50,7 +39,7 @@ text_refused tells name text old new stop o is writes = record {
   closed = tt;
   others = writes.others;
   whole = λ t. tt;
-  stopped = subst IsUnwritten (sym is) (unwritten_is stop);
+  stopped = subst IsUnwritten (sym is) (is_unwritten stop);
   part = writes.part;
   faults = writes.faults;
   failed = λ e. writes.failed (ap Err (failed_is stop (sym is ∙ err_same o WriteFault (Err o) refl e)));

@@ -19,10 +19,10 @@ use Rattle.run_steps.specs.Steps.{Decides, Finds, IsAnswered, IsCutOf, IsEarly, 
 use Rattle.command_words.specs.Words.{AsksMatch, ReadFiles, check_words}
 use Rattle.command_words.specs.declared.words.Match.{Match as MatchWords}
 use Rattle.command_words.specs.declared.words.Command.{Command}
-use Rattle.command_words.specs.declared.words.Command.TheVariants.{Check, Match, Info, Make, Trial}
+use Rattle.command_words.specs.declared.words.Command.TheVariants.{Match, Make}
 use Rattle.run_steps.specs.declared.outcome.Ending.{Ending}
 use Rattle.run_steps.specs.declared.outcome.Outcome.{Outcome}
-use Rattle.run_steps.specs.declared.outcome.Outcome.TheVariants.{AcceptedMatch, AcceptedRefusal, Rejected, Matched, NoMatching, Spent, Usage, Absent, TooLarge, Malformed, Informed, Made, Tried, ReadFault, WriteFault, Memory}
+use Rattle.run_steps.specs.declared.outcome.Outcome.TheVariants.{Matched, NoMatching, Informed, Made, ReadFault, WriteFault, Memory}
 use Rattle.run_steps.proofs.CheckLemmas.{follows_files, leaves_early}
 use Rattle.run_steps.proofs.InfoLemmas.{not_read, stop_line}
 use Rattle.command_words.proofs.FormLemmas.{names_one, reads_of, check_of}
@@ -65,55 +65,31 @@ part_of_pair before after words is =
     }
 
 pub may_be_cut : (before after : List ℕ → Option (List ℕ)) (words : List (List ℕ)) (o : Outcome) → Leaves before after words o → MayBeCut before after words
-may_be_cut before after words (AcceptedMatch table) left = inl left
-may_be_cut before after words AcceptedRefusal left = inl left
-may_be_cut before after words (Rejected line why) left = inl left
 may_be_cut before after words (Matched table) left = inr (inl (part_of after words (verdict.Match table) left))
 may_be_cut before after words NoMatching left = inr (inl (part_of after words verdict.None left))
-may_be_cut before after words (Spent ledger) left = inl left
-may_be_cut before after words Informed left = inl left
-may_be_cut before after words (Tried number account) left = inl left
 may_be_cut before after words Made left = inr (inr (part_of_pair before after words left))
-may_be_cut before after words Usage left = inl left
-may_be_cut before after words (Absent which) left = inl left
-may_be_cut before after words (TooLarge which) left = inl left
-may_be_cut before after words (Malformed which kind at) left = inl left
-may_be_cut before after words ReadFault left = inl left
 may_be_cut before after words WriteFault left = left
 may_be_cut before after words Memory left = left
+may_be_cut before after words other left = inl left
 
 pub kept : (before after : List ℕ → Option (List ℕ)) (words : List (List ℕ)) (o : Outcome) → LeavesFiles o → Leaves before after words o → (name : List ℕ) → after name ≡ before name
-kept before after words (AcceptedMatch table) none left = left
-kept before after words AcceptedRefusal none left = left
-kept before after words (Rejected line why) none left = left
 kept before after words (Matched table) none left = absurd (none.no_table table refl)
 kept before after words NoMatching none left = absurd (none.no_refusal refl)
-kept before after words (Spent ledger) none left = left
-kept before after words Informed none left = left
-kept before after words (Tried number account) none left = left
 kept before after words Made none left = absurd (none.no_pair refl)
-kept before after words Usage none left = left
-kept before after words (Absent which) none left = left
-kept before after words (TooLarge which) none left = left
-kept before after words (Malformed which kind at) none left = left
-kept before after words ReadFault none left = left
 kept before after words WriteFault none left = absurd (none.told.written refl)
 kept before after words Memory none left = absurd (none.told.room refl)
+kept before after words other none left = left
 
 -- a name that is neither the account of a match nor a file of a pair isn't written
 pub not_written : (words : List (List ℕ)) (command : Command) (name : List ℕ) → Ask words command → (NamesAccount words name → ⊥) → (NamesPair words name → ⊥) → IsNotWritten command name
-not_written words (Check check) name asks other apart = tt
 not_written words (Match asked) name asks other apart = λ same. other (sought_by asked, asks, same)
-not_written words (Info info) name asks other apart = tt
-not_written words (Trial trial) name asks other apart = tt
 not_written words (Make asked) name asks other apart = (λ same. apart (wanted_by asked, asks, inl same), λ same. apart (wanted_by asked, asks, inr same))
+not_written words other name asks apart apart_pair = tt
 
 pub writes_of : (words : List (List ℕ)) (command : Command) → Ask words command → IsWritingCommand command → WriteFiles words
-writes_of words (Check check) asks is = absurd is
 writes_of words (Match asked) asks is = inl (sought_by asked, asks)
-writes_of words (Info info) asks is = absurd is
-writes_of words (Trial trial) asks is = absurd is
 writes_of words (Make asked) asks is = inr (wanted_by asked, asks)
+writes_of words other asks is = absurd is
 
 -- where one name holds what it held, and so do all others, nothing changed
 everywhere : (before after : List ℕ → Option (List ℕ)) (name : List ℕ) → ((n : List ℕ) → n ≢ name → after n ≡ before n) → after name ≡ before name → (n : List ℕ) (same : Bool) → bytes_eq n name ≡ same → after n ≡ before n

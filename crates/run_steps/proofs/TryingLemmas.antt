@@ -1,5 +1,5 @@
 -- What a trial of a pair says of the words.
-use Rattle.std.proofs.Common.{◌≡◌, ◌≢◌, ◌↔◌, ℕ, inl, inr, Bool, true, List, ◌++◌, Option, None, Some, Result, Ok, Err, IfErr, refl, sym, ◌∙◌, ap, subst}
+use Rattle.std.proofs.Common.{◌≡◌, ◌≢◌, ◌↔◌, ℕ, inl, inr, true, List, Option, None, Some, Result, Ok, Err, IfErr, refl, sym, subst}
 use Rattle.std.specs.Prelude.{is_some}
 use Rattle.std.proofs.lemmas.Bool.{false≢true}
 use Rattle.circuits.specs.Matches.{HaveNpnpEqualFunctions}
@@ -14,21 +14,12 @@ use Rattle.account_check.proofs.VerdictLemmas.{never_both, one_proved}
 use Rattle.account_core.specs.Ports.{HaveAsMany}
 use Rattle.net_core.specs.Sides.{Graphs}
 use Rattle.net_core.specs.declared.matching.Matching.{Matching}
-use Rattle.shelf_core.specs.State.{ShelfState}
 use Rattle.run_steps.specs.Make.{IsPairOf}
-use Rattle.run_steps.specs.Outcomes.{FollowsWords, IsRight, Leaves}
 use Rattle.run_steps.specs.Report.{line_of}
-use Rattle.run_steps.specs.Steps.{Decides, IsAnswered, IsEarly, IsEnding, IsProvedMatch, IsStopOfTrial, IsStopWithin, Tries}
-use Rattle.command_words.specs.Commands.{asked_trial}
-use Rattle.run_steps.specs.Trial.{IsSpentOnPairOf, IsTrialOf}
-use Rattle.command_words.specs.Words.{AsksTrial}
-use Rattle.command_words.specs.declared.words.Trial.{Trial as TrialWords}
+use Rattle.run_steps.specs.Steps.{IsAnswered, IsProvedMatch, IsStopWithin, Tries}
 use Rattle.run_steps.specs.declared.outcome.Ending.{Ending}
 use Rattle.run_steps.specs.declared.outcome.Outcome.{Outcome}
-use Rattle.run_steps.specs.declared.outcome.Outcome.TheVariants.{AcceptedMatch, AcceptedRefusal, Matched, Informed, Made, Tried, ReadFault, WriteFault, Memory}
-use Rattle.run_steps.proofs.CheckLemmas.{leaves, leaves_early}
-use Rattle.command_words.proofs.FormLemmas.{make_or_trial}
-use Rattle.command_words.proofs.FormLemmas.{number_one}
+use Rattle.run_steps.specs.declared.outcome.Outcome.TheVariants.{Tried, Memory}
 
 -- the two netlists of a pair have as many ports, and a match
 
@@ -50,10 +41,6 @@ proved_match graphs account o equal answer =
       | inl (table, is, proves, matches) ↦ record { table = table; accepted = proves; matches = matches }
       | inr (is, proves, unequal) ↦ absurd (unequal equal)
     ]
-
--- so does its text
-pub proved_text : (graphs : Graphs) (lines last text : List ℕ) (o : Outcome) → HaveNpnpEqualFunctions graphs.first graphs.second → IsAnswered graphs (lines ++ last) o → text ≡ lines ++ last → IsProvedMatch graphs text
-proved_text graphs lines last text o equal answer is = subst (IsProvedMatch graphs) (sym is) (proved_match graphs (lines ++ last) o equal answer)
 
 -- the error is what ended the search
 pub ends_as : {X : Type 0} (graphs : Graphs) (budget : ℕ) (o : Outcome) (result : Result X Outcome) → result ≡ Err o → IsStopWithin graphs budget o → IfErr result (IsStopWithin graphs budget)
@@ -99,116 +86,3 @@ tried number graphs hidden account ending pair proved is report = record {
   );
   stopped = tt;
 }
-
--- what the outcomes of a trial aren't
-
-not_read : (number : ℕ) (o : Outcome) → IsStopOfTrial number o → o ≡ ReadFault → ⊥
-not_read number o stop e = elim stop [ inl (ledger, is, spent) ↦ cc | inr is ↦ cc ]
-
-not_unwritten : (number : ℕ) (o : Outcome) → IsStopOfTrial number o → o ≡ WriteFault → ⊥
-not_unwritten number o stop e = elim stop [ inl (ledger, is, spent) ↦ cc | inr is ↦ cc ]
-
-not_made : (number : ℕ) (o : Outcome) → IsStopOfTrial number o → o ≡ Made → ⊥
-not_made number o stop e = elim stop [ inl (ledger, is, spent) ↦ cc | inr is ↦ cc ]
-
-not_tried : (number : ℕ) (o : Outcome) → IsStopOfTrial number o → (other : ℕ) (account : List ℕ) → o ≡ Tried other account → ⊥
-not_tried number o stop other account e = elim stop [ inl (ledger, is, spent) ↦ cc | inr is ↦ cc ]
-
-early_of : (number : ℕ) (o : Outcome) → IsStopOfTrial number o → IsEarly o
-early_of number o stop = record {
-  line = record {
-    no_table = λ table has. elim stop [ inl (ledger, is, spent) ↦ elim has [ inl e ↦ cc | inr e ↦ cc ] | inr is ↦ elim has [ inl e ↦ cc | inr e ↦ cc ] ];
-    no_rows = λ e. elim stop [ inl (ledger, is, spent) ↦ cc | inr is ↦ cc ];
-  };
-  no_refusal = λ e. elim stop [ inl (ledger, is, spent) ↦ cc | inr is ↦ cc ];
-  no_match = λ e. elim stop [ inl (ledger, is, spent) ↦ cc | inr is ↦ cc ];
-  no_pair = not_made number o stop;
-  no_trial = not_tried number o stop;
-  asked = λ e. elim stop [ inl (ledger, is, spent) ↦ cc | inr is ↦ cc ];
-}
-
-follows_tried : (words : List (List ℕ)) (number : ℕ) (account : List ℕ) (o : Outcome) → o ≡ Tried number account → AsksTrial words number → IsTrialOf number account → FollowsWords words o
-follows_tried words number account o is asks trial = record {
-  made = λ e. cc;
-  pair = λ all told. absurd (make_or_trial words number all asks);
-  tried = λ other text e.
-      let n : other ≡ number = cc in
-      let a : text ≡ account = cc in
-      record { asks = subst (AsksTrial words) (sym n) asks; trial = subst (λ m. IsTrialOf m text) (sym n) (subst (IsTrialOf number) (sym a) trial) };
-  trial = λ other asked told. let n = number_one words other number asked asks in inl (account, is ∙ ap (λ m. Tried m account) (sym n));
-  read = λ e. cc;
-}
-
-follows_stop : (words : List (List ℕ)) (number : ℕ) (o : Outcome) → IsStopOfTrial number o → AsksTrial words number → FollowsWords words o
-follows_stop words number o stop asks = record {
-  made = λ e. absurd (not_made number o stop e);
-  pair = λ all told. absurd (make_or_trial words number all asks);
-  tried = λ other text e. absurd (not_tried number o stop other text e);
-  trial = λ other asked told. elim stop [
-    | inl (ledger, is, spent) ↦ inr (ledger, is, subst (λ m. IsSpentOnPairOf m ledger) (number_one words number other asks asked) spent)
-    | inr is ↦ absurd (told.room is)
-  ];
-  read = λ e. absurd (not_read number o stop e);
-}
-
-right_stop : (held : List ℕ → Option (List ℕ)) (words : List (List ℕ)) (number : ℕ) (o : Outcome) → IsStopOfTrial number o → AsksTrial words number → IsRight held words o
-right_stop held words number o stop asks =
-    elim stop [
-      | inl (ledger, is, spent) ↦ subst (IsRight held words) (sym is) (inr (inr (record { number = number; asks = asks; spent = spent })))
-      | inr is ↦ subst (IsRight held words) (sym is) tt
-    ]
-
-tried_leaves : (before after : List ℕ → Option (List ℕ)) (words : List (List ℕ)) (number : ℕ) (account : List ℕ) (o : Outcome) → o ≡ Tried number account → ((n : List ℕ) → after n ≡ before n) → Leaves before after words o
-tried_leaves before after words number account o is same = leaves before after words o (λ table e. cc) (λ e. cc) (λ e. cc) same
-
-tried_ends : (o : Outcome) (number : ℕ) (account : List ℕ) → o ≡ Tried number account → IsEnding o
-tried_ends o number account is = record { asked = λ e. cc; read = λ e. cc; unwritten = λ e. cc }
-
-no_table : (o : Outcome) (number : ℕ) (account : List ℕ) (table : Matching) → o ≡ Tried number account → o ≡ AcceptedMatch table → ⊥
-no_table o number account table is e = cc
-
-no_found : (o : Outcome) (number : ℕ) (account : List ℕ) (table : Matching) → o ≡ Tried number account → o ≡ Matched table → ⊥
-no_found o number account table is e = cc
-
-no_accepted : (o : Outcome) (number : ℕ) (account : List ℕ) → o ≡ Tried number account → o ≡ AcceptedRefusal → ⊥
-no_accepted o number account is e = cc
-
-no_rows : (o : Outcome) (number : ℕ) (account : List ℕ) → o ≡ Tried number account → o ≡ Informed → ⊥
-no_rows o number account is e = cc
-
--- a trial makes no call of the shelf
-pub tries : (tells : Bool) (trial : TrialWords) (state : ShelfState) (result : Result Ending Outcome) → Tries trial.number result → Decides tells (asked_trial trial) state state result
-tries tells trial state (Ok ending) is =
-    let n = trial.number in
-    let account = is.answer.0 in
-    let o = ending.outcome in
-    let same = is.answer.1 in
-    record {
-      files = λ t n other. refl;
-      left = λ t words asks. tried_leaves state.held state.held words n account o same (λ name. refl);
-      right = λ t words asks. subst (IsRight state.held words) (sym same) (record { asks = asks; trial = is.answer.2 });
-      by_words = λ words asks. follows_tried words n account o same asks is.answer.2;
-      sound = λ t words asks. record { matches = λ table e. absurd (no_table o n account table same e); refuses = λ e. absurd (no_accepted o n account same e) };
-      report = λ words asks. inl (
-        record { no_table = λ table has. elim has [ inl e ↦ no_table o n account table same e | inr e ↦ no_found o n account table same e ]; no_rows = no_rows o n account same },
-        is.answer.3,
-      );
-      ending = tried_ends o n account same;
-      early = tt;
-      failed = λ e. cc;
-      unwritten = λ e. cc;
-    }
-tries tells trial state (Err o) is =
-    let n = trial.number in
-    record {
-      files = λ t n other. refl;
-      left = λ t words asks. leaves_early state.held state.held words o (early_of n o is.stopped) (λ name. refl);
-      right = λ t words asks. right_stop state.held words n o is.stopped asks;
-      by_words = λ words asks. follows_stop words n o is.stopped asks;
-      sound = λ t words asks. tt;
-      report = λ words asks. tt;
-      ending = tt;
-      early = early_of n o is.stopped;
-      failed = λ e. absurd (not_read n o is.stopped (cc e));
-      unwritten = λ e. absurd (not_unwritten n o is.stopped (cc e));
-    }
