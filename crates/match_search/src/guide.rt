@@ -81,10 +81,11 @@ impl Guide {
         self.exchanged = self.exchanged.min(held);
     }
 
-    /// Notes an impasse. Where outputs have too few others to go to, the port that was decided last comes first from here on, until
-    /// it has a pair (Lecoutre, Sais, Tabary and Vidal, Reasoning from last conflict(s), Artificial Intelligence, 2009). Of each
-    /// way it is deleted that the first one to tell it was another pair: so the conflict has pairs that were held before too, and
-    /// each way of this port would be tried beside each of them.
+    /// Notes an impasse. Where outputs have too few others to go to, the port that was decided last comes first until it has a
+    /// pair (last conflict: Lecoutre and others, Artificial Intelligence 2009). A way that several held pairs exclude has the
+    /// first of them as its reason, so the conflict may have pairs that were held long before, and each way of this port would
+    /// be tried beside each of these. With this done after every conflict a near miss of a graph (`triangular8_or`) took 2.5
+    /// times as many.
     pub(crate) fn hurry(&mut self, impasse: &Impasse)
         ensures { self.new.trials ≡ self.old.trials }
     {
