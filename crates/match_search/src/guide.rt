@@ -95,13 +95,13 @@ impl Guide {
     }
 
     /// Notes the bans that the conflict of an impasse came to, those from a place on, the last of which was learned; where
-    /// there are none, the ban that the impasse is was, of which the number is given.
-    pub(crate) fn learn(&mut self, bans: &[Ban], from: usize, impasse: Option<u64>)
+    /// there are none, the ban that the impasse was is the learned one.
+    pub(crate) fn learn(&mut self, bans: &[Ban], from: usize, dead: Option<u64>)
         ensures { self.new.trials ≡ self.old.trials }
     {
         if from < bans.len() {
             self.weights.count(&bans[from..]);
-        } else if let Some(learned) = ban_at(bans, impasse) {
+        } else if let Some(learned) = ban_at(bans, dead) {
             self.weights.count_learned(learned);
         }
     }

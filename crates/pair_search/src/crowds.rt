@@ -38,8 +38,9 @@ pub(crate) fn crowd(
     Ok(None)
 }
 
-// Whether there are no more ports than of the other kind, which aren't looked at: only where inputs are few does a pair of one leave
-// each output few others. Done there too, it made a near miss of an adder of 257 inputs and 129 outputs take three times as long.
+// Whether there are no more ports than of the other kind. They aren't looked at then: only where inputs are few does a
+// pair of one leave each output few others. Done there too, it made a near miss of an adder of 257 inputs and 129 outputs
+// take three times as long.
 fn are_few(domains: &Domains, kind: PortKind) -> bool {
     let others = match kind {
         PortKind::Input => PortKind::Output,
