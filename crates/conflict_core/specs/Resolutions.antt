@@ -1,5 +1,5 @@
 -- Covers in which one way leads into a ban that is known (hyper-resolution over the ways of a port).
-use Rattle.std.specs.Prelude.{◌≡◌, List, ◌∷◌, Option, None, Some, IfSome}
+use Rattle.std.specs.Prelude.{List, ◌∷◌, Option, None, Some, IfSome}
 use Rattle.circuits.specs.declared.port.Pair.{Pair}
 use Rattle.account_core.specs.declared.step.Ban.{Ban}
 use Rattle.ban_book.specs.Covering.{Covers}

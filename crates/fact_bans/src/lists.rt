@@ -15,6 +15,7 @@ use cnf_core::Stop;
 use items::Items;
 use net_core::Side;
 use oracle_core::Oracle;
+use port_covers::block::is_marked;
 use query_core::{Claim, Ledger};
 use std::alloc::Global;
 
@@ -127,7 +128,7 @@ pub(crate) fn list_both<O: Oracle>(
 {
     let mut numbers = Items::new(alloc);
     for input in 0..inputs {
-        let marked = mark_at(marks, input);
+        let marked = is_marked(marks, input);
         if !add_both(
             alloc,
             oracle,
@@ -142,14 +143,6 @@ pub(crate) fn list_both<O: Oracle>(
         }
     }
     Ok(Some(numbers))
-}
-
-/// Whether there is a mark at a place.
-fn mark_at(marks: &[bool], input: u32) -> bool {
-    match marks.get(input as usize) {
-        Some(mark) => *mark,
-        None => false,
-    }
 }
 
 // Adds the facts of both claims of an input, if it has a mark. Answers whether they say what they should.

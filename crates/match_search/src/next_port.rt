@@ -15,8 +15,8 @@ use net_core::Side;
 use port_sides::PairableGraphs;
 use std::alloc::{AllocError, Global};
 
-/// The next port that is in no pair: the urgent one, or that of either circuit which has the fewest ways left for its weight, of the
-/// inputs that outputs in pairs read, else of the outputs. It is None where each port is in a pair.
+/// The next port that is in no pair: the urgent one, or that of either circuit which has the fewest ways left for its
+/// weight, of the inputs that outputs in pairs read, else of the outputs. It is None where each port is in a pair.
 pub(crate) fn next_port(
     alloc: Global,
     graphs: &PairableGraphs<'_>,

@@ -68,7 +68,9 @@ impl Weights {
         weight.saturating_add(self.step / 10)
     }
 
-    // The ports whose ways a step covers: those of the circuit of which they are fewer.
+    // The ports whose ways a step covers: those of the circuit of which they are fewer, which are short of ways to the
+    // others. With those of the other circuit in their place a near miss of a decoder (`decoder6`) took 180,000 conflicts in
+    // place of 3,300.
     fn raise_covered(&mut self, step: &Step) {
         let Step::Cover { kind, from, to, .. } = step else {
             return;

@@ -11,9 +11,9 @@ use class_refine::Domains;
 use port_covers::block::{Block, marked, ways_in};
 use std::alloc::{AllocError, Global};
 
-/// Ports of the first circuit that have to go to fewer ports than they are, by the ways that are left, if there are any:
-/// those that are reached from one for which no partner is found, and the ports of the second circuit that aren't (Hall's
-/// theorem; as a constraint: Régin, AAAI 1994).
+/// A block without ways, if there is one: ports of the first circuit that can go to fewer ports than they are, those that were
+/// reached from one for which no partner is found, and the ports of the second circuit that weren't (P. Hall, 1935; as a
+/// constraint: Régin, AAAI 1994).
 pub(crate) fn crowd(
     alloc: Global,
     domains: &Domains,
@@ -38,9 +38,9 @@ pub(crate) fn crowd(
     Ok(None)
 }
 
-// Whether ports are too few to be looked at: no more than those of the other kind. Where an input has few ways, its pair leaves
-// each output few others, and outputs run short of them early. Where it has many, no single port is short of ways any later: with
-// this done too, a near miss of an adder with 257 inputs and 129 outputs took three times as long.
+// Whether there are no more ports than of the other kind. They aren't looked at then: only where inputs are few does a
+// pair of one leave each output few others. Done there too, it made a near miss of an adder of 257 inputs and 129 outputs
+// take three times as long.
 fn are_few(domains: &Domains, kind: PortKind) -> bool {
     let others = match kind {
         PortKind::Input => PortKind::Output,

@@ -1,6 +1,6 @@
 -- The ways of ports, and what closes them (a value of a variable that is ruled out with its reason, as in conflict-directed
 -- backjumping: Prosser, Comput. Intell. 1993).
-use Rattle.std.specs.Prelude.{◌≡◌, ℕ, ◌+◌, ◌*◌, ◌/◌, ◌%◌, ◌<◌, ◌==◌, List, [], ◌∷◌, ◌++◌, length, All, Bool, true, false, Option, Some}
+use Rattle.std.specs.Prelude.{◌≡◌, ℕ, ◌+◌, ◌/◌, ◌%◌, ◌<◌, ◌==◌, List, [], ◌∷◌, ◌++◌, length, All, true, false, Option, Some}
 use Rattle.std.specs.List.{AllZip, flat_map, range_with_len}
 use Rattle.circuits.specs.declared.port.Pair.{Pair}
 use Rattle.circuits.specs.declared.port.PortKind.{PortKind}

@@ -84,7 +84,8 @@ fn add_marked(ports: &mut Items<u32>, marks: &[bool], port: u32) -> Result<(), A
     Ok(())
 }
 
-fn is_marked(marks: &[bool], port: u32) -> bool {
+/// Whether a number is marked.
+pub fn is_marked(marks: &[bool], port: u32) -> bool {
     match marks.get(port as usize) {
         Some(mark) => *mark,
         None => false,

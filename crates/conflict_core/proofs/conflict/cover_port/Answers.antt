@@ -1,4 +1,4 @@
-use Rattle.std.proofs.Common.{◌≡◌, ℕ, sym, ap, subst, ◌∙◌}
+use Rattle.std.proofs.Common.{sym, ap, subst, ◌∙◌}
 use Rattle.port_covers.specs.declared.block.Block.{Block}
 use Rattle.port_covers.specs.Ways.{block_of, ways_in, IsBlock}
 use Rattle.port_covers.proofs.BookLemmas.{port_is_block}

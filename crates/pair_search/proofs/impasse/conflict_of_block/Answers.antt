@@ -1,4 +1,4 @@
-use Rattle.std.proofs.Common.{List, All, get_or, inr, sym, subst}
+use Rattle.std.proofs.Common.{List, get_or, inr, sym, subst}
 use Rattle.circuits.specs.declared.port.Pair.{Pair}
 use Rattle.port_covers.specs.Held.{AreHeld}
 use Rattle.port_covers.specs.Ways.{ways_in}
