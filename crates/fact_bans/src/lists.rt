@@ -73,40 +73,6 @@ fn wish_at(wishes: &[Option<bool>], input: u32) -> Option<bool> {
     }
 }
 
-// Adds the fact of one claim of an input, if there is a wish. Answers whether it says what it should.
-fn add_one<O: Oracle>(
-    alloc: Global,
-    oracle: &mut O,
-    wanted: Wanted,
-    input: u32,
-    wish: Option<bool>,
-    numbers: &mut Items<u64>,
-    seen: &mut Seen,
-    ledger: &mut Ledger,
-) -> Result<bool, Stop>
-    requires lawful { AreFacts (O.known oracle.old).graphs (O.known oracle.old).facts }
-    requires output { wanted.output < length (graph_of (O.known oracle.old).graphs wanted.side).outputs }
-    requires input { input < (graph_of (O.known oracle.old).graphs wanted.side).inputs }
-    requires suits { Suits (O.known oracle.old) ledger.old }
-    requires lists { ListsOne (map decided_by (O.known oracle.old).facts) wanted.holds wanted.side wanted.output input numbers.old }
-    ensures serves { Serves (O.known oracle.old) (O.known oracle.new) ledger.old ledger.new result }
-    ensures lists { IfOk result (λ added. IsTrue added
-        → ListsOne (map decided_by (O.known oracle.new).facts) wanted.holds wanted.side wanted.output (input + 1) numbers.new) }
-{
-    match wish {
-        None => Ok(true),
-        Some(value) => add_fact(
-            alloc,
-            oracle,
-            claim_of(wanted, input, value),
-            wanted.holds,
-            numbers,
-            seen,
-            ledger,
-        ),
-    }
-}
-
 /// The numbers of the facts of both claims of inputs, in the order of the inputs: for each input with a mark that it goes
 /// up, and that it goes down. None where one of them doesn't say what it should.
 pub(crate) fn list_both<O: Oracle>(
@@ -143,6 +109,40 @@ pub(crate) fn list_both<O: Oracle>(
         }
     }
     Ok(Some(numbers))
+}
+
+// Adds the fact of one claim of an input, if there is a wish. Answers whether it says what it should.
+fn add_one<O: Oracle>(
+    alloc: Global,
+    oracle: &mut O,
+    wanted: Wanted,
+    input: u32,
+    wish: Option<bool>,
+    numbers: &mut Items<u64>,
+    seen: &mut Seen,
+    ledger: &mut Ledger,
+) -> Result<bool, Stop>
+    requires lawful { AreFacts (O.known oracle.old).graphs (O.known oracle.old).facts }
+    requires output { wanted.output < length (graph_of (O.known oracle.old).graphs wanted.side).outputs }
+    requires input { input < (graph_of (O.known oracle.old).graphs wanted.side).inputs }
+    requires suits { Suits (O.known oracle.old) ledger.old }
+    requires lists { ListsOne (map decided_by (O.known oracle.old).facts) wanted.holds wanted.side wanted.output input numbers.old }
+    ensures serves { Serves (O.known oracle.old) (O.known oracle.new) ledger.old ledger.new result }
+    ensures lists { IfOk result (λ added. IsTrue added
+        → ListsOne (map decided_by (O.known oracle.new).facts) wanted.holds wanted.side wanted.output (input + 1) numbers.new) }
+{
+    match wish {
+        None => Ok(true),
+        Some(value) => add_fact(
+            alloc,
+            oracle,
+            claim_of(wanted, input, value),
+            wanted.holds,
+            numbers,
+            seen,
+            ledger,
+        ),
+    }
 }
 
 // Adds the facts of both claims of an input, if it has a mark. Answers whether they say what they should.
