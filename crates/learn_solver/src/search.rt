@@ -181,10 +181,7 @@ impl Search {
         ensures { HasTurned self.old self.new }
     {
         self.tools.focus.narrow(candidate, gates);
-        self.tools
-            .order
-            .turn_to(&self.tools.occurring, &self.tools.focus);
-        self.begin_anew();
+        self.refocus();
     }
 
     /// Turns to the whole question, from level 0 on, in which these literals are decided before all other variables.
@@ -194,6 +191,15 @@ impl Search {
         ensures { HasTurned self.old self.new }
     {
         self.tools.focus.widen(leading);
+        self.refocus();
+    }
+
+    // Lets the order go by the focus, from level 0 on.
+    fn refocus(&mut self)
+        requires turn { CanTurn self.old }
+        requires known { All (λ v. v < self.old.trail.variables) self.old.tools.occurring.items }
+        ensures { HasTurned self.old self.new }
+    {
         self.tools
             .order
             .turn_to(&self.tools.occurring, &self.tools.focus);
