@@ -5,9 +5,10 @@ picosat took, and those of ABC's `&cec`, which decides all outputs of a pair at 
     solve.py WORKBENCH NAME FIRST SECOND LIMIT
 
 The two solvers get the same clauses, numbered here and not by the program. Each answer is compared, and each vector tried
-by an evaluation of its own. LIMIT is the seconds that a question has; who is late five times isn't asked any more of this
-pair. `--head` alone prints the head of the table. Ends with status 1 where answers differ or a vector is wrong.
+by an evaluation of its own. LIMIT is the processor seconds that a question has; who is late five times isn't asked any more
+of this pair. `--head` alone prints the head of the table. Ends with status 1 where answers differ or a vector is wrong.
 """
+import math
 import resource
 import subprocess
 import sys
@@ -44,14 +45,18 @@ def put_formula(clauses, path):
 
 def run(command, limit):
     """What a command printed, its status, and the processor seconds that it took; none of the first two past the limit."""
+    most = math.ceil(limit)
+
+    def bound():
+        resource.setrlimit(resource.RLIMIT_CPU, (most, most))
+
     before = resource.getrusage(resource.RUSAGE_CHILDREN)
-    try:
-        ran = subprocess.run(command, capture_output=True, text=True, timeout=limit)
-        printed, status = ran.stdout.strip(), ran.returncode
-    except subprocess.TimeoutExpired:
-        printed, status = None, None
+    ran = subprocess.run(command, capture_output=True, text=True, preexec_fn=bound)
     after = resource.getrusage(resource.RUSAGE_CHILDREN)
-    return printed, status, after.ru_utime + after.ru_stime - before.ru_utime - before.ru_stime
+    took = after.ru_utime + after.ru_stime - before.ru_utime - before.ru_stime
+    if ran.returncode < 0 or took >= limit:
+        return None, None, took
+    return ran.stdout.strip(), ran.returncode, took
 
 
 class Row:

@@ -8,7 +8,7 @@
 # of which one gate is changed. Needs Debian's yosys, berkeley-abc, minisat and picosat. Not part of the gate. Ends with
 # status 1 where an answer is wrong.
 #
-#     bench/solve.sh [LIMIT [NAME ..]]      LIMIT: the seconds of a question, 20; NAME ..: the circuits that are wanted
+#     bench/solve.sh [LIMIT [NAME ..]]      LIMIT: the processor seconds of a question, 20; NAME ..: the circuits that are wanted
 set -eu
 top=$(cd "$(dirname "${BASH_SOURCE[0]}")/.." && pwd)
 limit=${1-20}
