@@ -2,38 +2,38 @@
 use Rattle.std.proofs.Common.{inl, inr, ℕ, List, Option, refl, sym, subst, ◌∙◌}
 use Rattle.run_steps.specs.Outcomes.{IsOfTrial, IsRight, IsSound, IsTold, Leaves}
 use Rattle.run_steps.specs.Report.{line_of}
-use Rattle.run_steps.specs.declared.outcome.Outcome.TheVariants.{AcceptedMatch, AcceptedRefusal, Rejected, Absent, TooLarge, Malformed, Memory}
+use Rattle.run_steps.specs.declared.outcome.Outcome.TheVariants.{AcceptedMatch, AcceptedRefusal, Rejected, Matched, NoMatching, Spent, Made, Tried, Absent, TooLarge, Malformed, Memory}
 use Rattle.run_steps.proofs.MatchLemmas.{kept, may_be_cut}
-use Rattle.run_steps.proofs.CheckLemmas.{exactly, exactly_informed, exactly_none, of_match, decided_matched, decided_made, decided_none, decided_tried, told_read, decided_spent, report_of_same, decided_accepted, decided_refusal, decided_rejected, decided_absent, decided_too_large, decided_malformed}
+use Rattle.run_steps.proofs.CheckLemmas.{exactly, exactly_informed, exactly_none, of_match, reached, told_read, report_of_same}
 use Rattle.npnp.proofs.run.run.Goals as goal
 
 pub returns-clause-accepted : goal.returns-clause-accepted
-returns-clause-accepted g c = λ tells decided table. exactly _ _ _ _ (c.answer-ending.ensures.right tells) c.tell.ensures.same decided (AcceptedMatch table) (decided_accepted table) tt
+returns-clause-accepted g c = λ tells decided table. exactly _ _ _ _ (c.answer-ending.ensures.right tells) c.tell.ensures.same decided (AcceptedMatch table) (reached (AcceptedMatch table) tt) tt
 
 pub returns-clause-accepted_refusal : goal.returns-clause-accepted_refusal
-returns-clause-accepted_refusal g c = λ tells decided. exactly _ _ _ _ (c.answer-ending.ensures.right tells) c.tell.ensures.same decided AcceptedRefusal decided_refusal tt
+returns-clause-accepted_refusal g c = λ tells decided. exactly _ _ _ _ (c.answer-ending.ensures.right tells) c.tell.ensures.same decided AcceptedRefusal (reached AcceptedRefusal tt) tt
 
 pub returns-clause-rejected : goal.returns-clause-rejected
-returns-clause-rejected g c = λ tells decided line why. exactly _ _ _ _ (c.answer-ending.ensures.right tells) c.tell.ensures.same decided (Rejected line why) (decided_rejected line why) tt
+returns-clause-rejected g c = λ tells decided line why. exactly _ _ _ _ (c.answer-ending.ensures.right tells) c.tell.ensures.same decided (Rejected line why) (reached (Rejected line why) tt) tt
 
 pub returns-clause-sound : goal.returns-clause-sound
 returns-clause-sound g c = λ tells table is.
-    let told : IsTold c.tell.result = subst IsTold (sym is) (decided_accepted table).told in
+    let told : IsTold c.tell.result = subst IsTold (sym is) (reached (AcceptedMatch table) tt).told in
     (c.answer-ending.ensures.sound tells).matches table (sym (c.tell.ensures.same told) ∙ is)
 
 pub returns-clause-sound_refusal : goal.returns-clause-sound_refusal
 returns-clause-sound_refusal g c = λ tells is.
-    let told : IsTold c.tell.result = subst IsTold (sym is) decided_refusal.told in
+    let told : IsTold c.tell.result = subst IsTold (sym is) (reached AcceptedRefusal tt).told in
     (c.answer-ending.ensures.sound tells).refuses (sym (c.tell.ensures.same told) ∙ is)
 
 pub returns-clause-absent : goal.returns-clause-absent
-returns-clause-absent g c = λ tells decided which. exactly _ _ _ _ (c.answer-ending.ensures.right tells) c.tell.ensures.same decided (Absent which) (decided_absent which) tt
+returns-clause-absent g c = λ tells decided which. exactly _ _ _ _ (c.answer-ending.ensures.right tells) c.tell.ensures.same decided (Absent which) (reached (Absent which) tt) tt
 
 pub returns-clause-too_large : goal.returns-clause-too_large
-returns-clause-too_large g c = λ tells decided which. exactly _ _ _ _ (c.answer-ending.ensures.right tells) c.tell.ensures.same decided (TooLarge which) (decided_too_large which) tt
+returns-clause-too_large g c = λ tells decided which. exactly _ _ _ _ (c.answer-ending.ensures.right tells) c.tell.ensures.same decided (TooLarge which) (reached (TooLarge which) tt) tt
 
 pub returns-clause-malformed : goal.returns-clause-malformed
-returns-clause-malformed g c = λ tells decided which kind at. exactly _ _ _ _ (c.answer-ending.ensures.right tells) c.tell.ensures.same decided (Malformed which kind at) (decided_malformed which kind at) tt
+returns-clause-malformed g c = λ tells decided which kind at. exactly _ _ _ _ (c.answer-ending.ensures.right tells) c.tell.ensures.same decided (Malformed which kind at) (reached (Malformed which kind at) tt) tt
 
 pub returns-clause-informed : goal.returns-clause-informed
 returns-clause-informed g c = λ tells settled. exactly_informed _ _ _ _ (c.answer-ending.ensures.right tells) c.tell.ensures.same settled.decided settled.unspent
@@ -43,12 +43,12 @@ returns-clause-answered g c = λ tells decided. of_match _ _ _ _ (c.answer-endin
 
 pub returns-clause-matched : goal.returns-clause-matched
 returns-clause-matched g c = λ tells table is.
-    let told : IsTold c.tell.result = subst IsTold (sym is) (decided_matched table).told in
+    let told : IsTold c.tell.result = subst IsTold (sym is) (reached (Matched table) tt).told in
     subst (IsRight _ _) (sym (c.tell.ensures.same told) ∙ is) (c.answer-ending.ensures.right tells)
 
 pub returns-clause-matched_account : goal.returns-clause-matched_account
 returns-clause-matched_account g c = λ tells table is.
-    let told : IsTold c.tell.result = subst IsTold (sym is) (decided_matched table).told in
+    let told : IsTold c.tell.result = subst IsTold (sym is) (reached (Matched table) tt).told in
     subst (Leaves _ _ _) (sym (c.tell.ensures.same told) ∙ is) (c.answer-ending.ensures.left tells)
 
 pub returns-clause-no_matching : goal.returns-clause-no_matching
@@ -56,7 +56,7 @@ returns-clause-no_matching g c = λ tells settled. exactly_none _ _ _ _ (c.answe
 
 pub returns-clause-no_matching_account : goal.returns-clause-no_matching_account
 returns-clause-no_matching_account g c = λ tells is.
-    let told : IsTold c.tell.result = subst IsTold (sym is) decided_none.told in
+    let told : IsTold c.tell.result = subst IsTold (sym is) (reached NoMatching tt).told in
     subst (Leaves _ _ _) (sym (c.tell.ensures.same told) ∙ is) (c.answer-ending.ensures.left tells)
 
 pub returns-clause-made : goal.returns-clause-made
@@ -67,12 +67,12 @@ returns-clause-made g c = λ told.
 
 pub returns-clause-pair : goal.returns-clause-pair
 returns-clause-pair g c = λ tells is.
-    let told : IsTold c.tell.result = subst IsTold (sym is) decided_made.told in
+    let told : IsTold c.tell.result = subst IsTold (sym is) (reached Made tt).told in
     subst (Leaves _ _ _) (sym (c.tell.ensures.same told) ∙ is) (c.answer-ending.ensures.left tells)
 
 pub returns-clause-tried : goal.returns-clause-tried
 returns-clause-tried g c = λ number account is.
-    let told : IsTold c.tell.result = subst IsTold (sym is) (decided_tried number account).told in
+    let told : IsTold c.tell.result = subst IsTold (sym is) (reached (Tried number account) tt).told in
     c.answer-ending.ensures.by_words.tried number account (sym (c.tell.ensures.same told) ∙ is)
 
 pub returns-clause-trial : goal.returns-clause-trial
@@ -101,7 +101,7 @@ returns-clause-write_fault g c = λ is.
 
 pub returns-clause-spent : goal.returns-clause-spent
 returns-clause-spent g c = λ tells ledger is.
-    let told : IsTold c.tell.result = subst IsTold (sym is) (decided_spent ledger).told in
+    let told : IsTold c.tell.result = subst IsTold (sym is) (reached (Spent ledger) tt).told in
     subst (IsRight _ _) (sym (c.tell.ensures.same told) ∙ is) (c.answer-ending.ensures.right tells)
 
 pub returns-clause-report : goal.returns-clause-report
