@@ -1,5 +1,5 @@
 -- References to bans of ways, and the cover that has them all.
-use Rattle.std.proofs.Common.{◌≡◌, ℕ, zero, suc, ◌+◌, ◌<◌, true, false, List, [], ◌∷◌, ◌++◌, length, get_or, All, Contains, Option, Some, sym, ap, subst, ◌∙◌, append_assoc, arith}
+use Rattle.std.proofs.Common.{◌≡◌, ℕ, zero, suc, ◌+◌, ◌<◌, true, false, List, [], ◌∷◌, ◌++◌, length, get_or, All, Contains, Option, Some, refl, sym, ap, subst, ◌∙◌, append_assoc, arith}
 use Rattle.std.proofs.lemmas.List.{length-map, length_push, get_or-map, get_or_push}
 use Rattle.std.proofs.lemmas.Option.{same_Some}
 use Rattle.circuits.specs.declared.port.Pair.{Pair}
@@ -17,6 +17,7 @@ use Rattle.account_core.specs.Tallies.{Ascend}
 use Rattle.fact_bans.specs.Serving.{OnlyAdds}
 use Rattle.port_covers.specs.Ways.{row, AreClosed, IsClosed}
 use Rattle.fact_bans.specs.Referred.{AddsRef, AddsTwo, AreReferred, IsReferred}
+use Rattle.ban_book.specs.Covering.{Covers}
 use Rattle.ban_book.proofs.BookLemmas.{covers_later}
 use Rattle.claim_rows.proofs.ListLemmas.{flat_push, zip_append, zip_map}
 
