@@ -22,8 +22,9 @@ use port_cells::Slack;
 use port_sides::PairableGraphs;
 use std::alloc::{AllocError, Global};
 
-/// How many words of gates may be computed, about a second's.
-const MOST_WORDS: u64 = 1 << 28;
+/// How many words of gates may be computed, about a second's. With half as many tables of two adders of 128 bits and of a
+/// sorter of 64 numbers, all of them with negated ports, weren't found by a hair.
+const MOST_WORDS: u64 = 1 << 29;
 
 /// Which part of its words a guess of little effort may compute. Most tables that are found are found by then, and of circuits
 /// without a match counts show it in most cases once that much was tried.
@@ -32,6 +33,10 @@ const LITTLE_SHARE: u64 = 8;
 /// On how many blocks of 256 vectors a circuit may be run with each input inverted where that takes longer. A search of large
 /// circuits needs some ten of them.
 const MOST_RUNS: u64 = 128;
+
+/// On how many for each input. Where inputs may all go to each other, as those of a parity, each of them is guessed, and takes
+/// one or two.
+const MOST_RUNS_EACH: u64 = 4;
 
 /// The most inputs whose signs are guessed one after the other, before vectors are looked for that decide them all.
 const FEW_OPEN: usize = 4;
@@ -61,9 +66,10 @@ const FEW_ASSIGNMENTS: u32 = 4;
 
 const MANY_BLOCKS: u64 = 16;
 
-/// How many responses of gates to inputs may be compared so that inputs are paired by likeness, about a tenth of a second's. The
-/// first guesses gain most by it: later ones are of inputs that few gates tell apart.
-const MOST_RESPONSES: u64 = 1 << 21;
+/// How many responses of gates to inputs may be compared so that inputs are paired by likeness, about a second's. The parity of
+/// 256 inputs takes three quarters of them, and an eighth is too few for the count of 128 and the parity of 128 inputs beside
+/// an AND.
+const MOST_RESPONSES: u64 = 1 << 24;
 
 /// Up to how many words of gates are computed for it at once, and of how many inputs, which bounds the memory to some twenty
 /// megabytes.
@@ -147,6 +153,9 @@ impl<'a> Guesser<'a> {
         let first = Circuit::new(alloc, first, sample, &mut draws)?;
         let second = Circuit::new(alloc, second, sample, &mut draws)?;
         let kept = Kept::new(alloc, graphs.first().inputs())?;
+        let runs = (graphs.first().inputs() as u64)
+            .saturating_mul(MOST_RUNS_EACH)
+            .max(MOST_RUNS);
         let counted = first
             .simulator
             .words()
@@ -163,7 +172,7 @@ impl<'a> Guesser<'a> {
             are_signs_linked: false,
             is_exact: sample.is_all,
             counted,
-            most_words: words.saturating_mul(MOST_RUNS).max(MOST_WORDS),
+            most_words: words.saturating_mul(runs).max(MOST_WORDS),
             effort: Effort::Whole,
         })
     }
