@@ -66,9 +66,9 @@ const FEW_ASSIGNMENTS: u32 = 4;
 
 const MANY_BLOCKS: u64 = 16;
 
-/// How many responses of gates to inputs may be compared so that inputs are paired by likeness, about a second's. The parity of
-/// 256 inputs takes three quarters of them, and an eighth is too few for the count of 128 and the parity of 128 inputs beside
-/// an AND.
+/// How many responses of gates to inputs may be compared so that inputs are paired by likeness. With an eighth of them tables of
+/// the count of 128 inputs, and of the parity of 128 beside an AND, were found whose gates aren't in line, which isn't proved in
+/// ten seconds.
 const MOST_RESPONSES: u64 = 1 << 24;
 
 /// Up to how many words of gates are computed for it at once, and of how many inputs, which bounds the memory to some twenty
@@ -295,7 +295,7 @@ impl<'a> Guesser<'a> {
         Ok(false)
     }
 
-    // Searches depth first until this many guesses have failed.
+    // Searches depth first until so many guesses have failed.
     fn search(&mut self, alloc: Global, root: State, failures: u32) -> Result<Attempt, AllocError> {
         let mut points = Vec::new(alloc);
         let mut patience = Patience::of_round(self.round, failures);
@@ -452,7 +452,7 @@ impl<'a> Guesser<'a> {
         self.split_under(alloc, state, FEW_ASSIGNMENTS, MANY_BLOCKS)
     }
 
-    // Splits cells by counts under this many assignments, on this many blocks of vectors each.
+    // Splits cells by counts under so many assignments, on so many blocks of vectors each.
     fn split_under(
         &mut self,
         alloc: Global,
