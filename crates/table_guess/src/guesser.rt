@@ -38,6 +38,9 @@ const MOST_RUNS: u64 = 128;
 /// one or two.
 const MOST_RUNS_EACH: u64 = 4;
 
+/// On how many for each input with little effort.
+const LITTLE_RUNS_EACH: u64 = 2;
+
 /// The most inputs whose signs are guessed one after the other, before vectors are looked for that decide them all.
 const FEW_OPEN: usize = 4;
 
@@ -128,8 +131,9 @@ pub struct Guesser<'a> {
     are_signs_linked: bool,
     /// Whether all that was counted was counted on all vectors. Then a search that is exhausted has missed no table.
     is_exact: bool,
-    /// How many words of gates were computed for the first counts, and how many more may be.
+    /// How many words of gates were computed for the first counts, and how many more may be, with little effort and at all.
     counted: u64,
+    few_words: u64,
     most_words: u64,
     effort: Effort,
 }
@@ -153,9 +157,9 @@ impl<'a> Guesser<'a> {
         let first = Circuit::new(alloc, first, sample, &mut draws)?;
         let second = Circuit::new(alloc, second, sample, &mut draws)?;
         let kept = Kept::new(alloc, graphs.first().inputs())?;
-        let runs = (graphs.first().inputs() as u64)
-            .saturating_mul(MOST_RUNS_EACH)
-            .max(MOST_RUNS);
+        let inputs = graphs.first().inputs() as u64;
+        let runs = MOST_RUNS.max(inputs.saturating_mul(MOST_RUNS_EACH));
+        let few_runs = inputs.saturating_mul(LITTLE_RUNS_EACH);
         let counted = first
             .simulator
             .words()
@@ -172,6 +176,7 @@ impl<'a> Guesser<'a> {
             are_signs_linked: false,
             is_exact: sample.is_all,
             counted,
+            few_words: words.saturating_mul(few_runs),
             most_words: words.saturating_mul(runs).max(MOST_WORDS),
             effort: Effort::Whole,
         })
@@ -328,7 +333,7 @@ impl<'a> Guesser<'a> {
     // How many words of gates may be computed beside the first counts.
     fn words_of_effort(&self) -> u64 {
         match self.effort {
-            Effort::Little => self.most_words / LITTLE_SHARE,
+            Effort::Little => self.few_words.max(self.most_words / LITTLE_SHARE),
             Effort::Whole => self.most_words,
         }
     }
