@@ -34,34 +34,35 @@ hint_ends clauses start made hints id is there conflict =
     ∙ (ap (λ t. cond t (fault_after (effect_of made (clause_at clauses id)) [] (λ m. hint_fault clauses (made ++ m ∷ []) [])) (Some fault.UnknownHint)) (lt-ltb id (length clauses) there)
     ∙ ap (λ e. fault_after e [] (λ m. hint_fault clauses (made ++ m ∷ []) [])) conflict)
 
--- Hints so far, and clauses that lead on from there.
-pub record IsOnTheWay (clauses : List (List SatLit)) (start made : List SatLit) (hints ids : List ℕ) : Type 0 where
+-- Hints so far, and clauses that lead on from there if all of them do from the start.
+pub record IsOnTheWay (clauses : List (List SatLit)) (start made : List SatLit) (hints all ids : List ℕ) : Type 0 where
   pub hinted : IsHinted clauses start made hints
-  pub leads : LeadOn clauses made ids
+  pub leads : LeadOn clauses start all → LeadOn clauses made ids
 
 -- the next clause
-pub next_leads : (clauses : List (List SatLit)) (start made : List SatLit) (hints ids : List ℕ) (i : ℕ) → i < length ids → IsOnTheWay clauses start made hints (drop i ids) → LeadOn clauses made (slice_index_or ids i 0 ∷ drop (i + 1) ids)
-next_leads clauses start made hints ids i within way =
+next_leads : (clauses : List (List SatLit)) (start made : List SatLit) (hints ids : List ℕ) (i : ℕ) → i < length ids → IsOnTheWay clauses start made hints ids (drop i ids) → LeadOn clauses start ids → LeadOn clauses made (slice_index_or ids i 0 ∷ drop (i + 1) ids)
+next_leads clauses start made hints ids i within way lead =
     let e : suc i ≡ i + 1 = omega arith in
-    subst (λ k. LeadOn clauses made (slice_index_or ids i 0 ∷ drop k ids)) e (subst (LeadOn clauses made) (drop-cons ids i 0 within) way.leads)
+    subst (λ k. LeadOn clauses made (slice_index_or ids i 0 ∷ drop k ids)) e (subst (LeadOn clauses made) (drop-cons ids i 0 within) (way.leads lead))
 
-pub way_there : (clauses : List (List SatLit)) (start made : List SatLit) (hints ids : List ℕ) (i : ℕ) → i < length ids → IsOnTheWay clauses start made hints (drop i ids) → slice_index_or ids i 0 < length clauses
-way_there clauses start made hints ids i within way =
-    lead_there clauses made (slice_index_or ids i 0) (drop (i + 1) ids) (next_leads clauses start made hints ids i within way)
+-- a number that none has isn't on the way
+pub way_there : (clauses : List (List SatLit)) (start made : List SatLit) (hints ids : List ℕ) (i : ℕ) → i < length ids → IsOnTheWay clauses start made hints ids (drop i ids) → LeadOn clauses start ids → slice_index_or ids i 0 < length clauses
+way_there clauses start made hints ids i within way lead =
+    lead_there clauses made (slice_index_or ids i 0) (drop (i + 1) ids) (next_leads clauses start made hints ids i within way lead)
 
-pub way_makes : (clauses : List (List SatLit)) (start made : List SatLit) (hints ids : List ℕ) (i : ℕ) (l : SatLit) → i < length ids → IsOnTheWay clauses start made hints (drop i ids) → effect_of made (clause_at clauses (slice_index_or ids i 0)) ≡ Makes l → IsOnTheWay clauses start (made ++ l ∷ []) (hints ++ slice_index_or ids i 0 ∷ []) (drop (i + 1) ids)
-way_makes clauses start made hints ids i l within way makes = record {
-  hinted = hint_makes clauses start made hints (slice_index_or ids i 0) l way.hinted (way_there clauses start made hints ids i within way) makes;
-  leads = lead_makes clauses made (slice_index_or ids i 0) (drop (i + 1) ids) l (next_leads clauses start made hints ids i within way) makes;
+pub way_makes : (clauses : List (List SatLit)) (start made : List SatLit) (hints ids : List ℕ) (i : ℕ) (l : SatLit) → i < length ids → slice_index_or ids i 0 < length clauses → IsOnTheWay clauses start made hints ids (drop i ids) → effect_of made (clause_at clauses (slice_index_or ids i 0)) ≡ Makes l → IsOnTheWay clauses start (made ++ l ∷ []) (hints ++ slice_index_or ids i 0 ∷ []) ids (drop (i + 1) ids)
+way_makes clauses start made hints ids i l within there way makes = record {
+  hinted = hint_makes clauses start made hints (slice_index_or ids i 0) l way.hinted there makes;
+  leads = λ lead. lead_makes clauses made (slice_index_or ids i 0) (drop (i + 1) ids) l (next_leads clauses start made hints ids i within way lead) makes;
 }
 
-pub way_neither : (clauses : List (List SatLit)) (start made : List SatLit) (hints ids : List ℕ) (i : ℕ) → i < length ids → IsOnTheWay clauses start made hints (drop i ids) → effect_of made (clause_at clauses (slice_index_or ids i 0)) ≡ Neither → IsOnTheWay clauses start made hints (drop (i + 1) ids)
+pub way_neither : (clauses : List (List SatLit)) (start made : List SatLit) (hints ids : List ℕ) (i : ℕ) → i < length ids → IsOnTheWay clauses start made hints ids (drop i ids) → effect_of made (clause_at clauses (slice_index_or ids i 0)) ≡ Neither → IsOnTheWay clauses start made hints ids (drop (i + 1) ids)
 way_neither clauses start made hints ids i within way neither = record {
   hinted = way.hinted;
-  leads = lead_neither clauses made (slice_index_or ids i 0) (drop (i + 1) ids) (next_leads clauses start made hints ids i within way) neither;
+  leads = λ lead. lead_neither clauses made (slice_index_or ids i 0) (drop (i + 1) ids) (next_leads clauses start made hints ids i within way lead) neither;
 }
 
 -- it doesn't come to its end
-pub way_ends : (clauses : List (List SatLit)) (start made : List SatLit) (hints ids : List ℕ) (i : ℕ) → length ids ≤ i → IsOnTheWay clauses start made hints (drop i ids) → ⊥
-way_ends clauses start made hints ids i past way =
-    subst (LeadOn clauses made) (drop_of_length-le ids {i = i} past) way.leads
+pub way_ends : (clauses : List (List SatLit)) (start made : List SatLit) (hints ids : List ℕ) (i : ℕ) → length ids ≤ i → IsOnTheWay clauses start made hints ids (drop i ids) → LeadOn clauses start ids → ⊥
+way_ends clauses start made hints ids i past way lead =
+    subst (LeadOn clauses made) (drop_of_length-le ids {i = i} past) (way.leads lead)

@@ -10,3 +10,4 @@ pub mod SharedLemmas
 pub mod TreeLemmas
 pub mod VisitLemmas
 pub mod ListedLemmas
+pub mod JoiningLemmas

@@ -2,7 +2,7 @@
 use Rattle.std.proofs.Common.{◌≡◌, ℕ, ◌+◌, ◌-◌, ◌<◌, ◌≤◌, cond, Bool, true, false, List, [], ◌∷◌, ◌++◌, length, slice_index_or, All, Contains, Option, None, Some, inl, inr, refl, sym, ap, subst, ◌∙◌, arith}
 use Rattle.std.specs.Bool.{beq}
 use Rattle.std.proofs.lemmas.List.{get_or-append-add, get_or-map}
-use Rattle.std.proofs.lemmas.List.Elements.{All-append, All-cons}
+use Rattle.std.proofs.lemmas.List.Elements.{All-append, All-cons, All-push}
 use Rattle.cnf_core.specs.declared.literal.SatLit.{SatLit}
 use Rattle.cnf_core.specs.declared.log.LogLine.{LogLine}
 use Rattle.cnf_core.specs.Clauses.{clause_at, is_negated, variable_of}
@@ -14,7 +14,7 @@ use Rattle.joint_hash.specs.declared.gates.ConeGate.{ConeGate}
 use Rattle.joint_hash.specs.declared.twins.Twin.{Twin}
 use Rattle.joint_hash.specs.Trees.{IsGateOf}
 use Rattle.joint_hash.specs.Chains.{AreListed}
-use Rattle.joint_hash.specs.Classes.{AreTwins, chain_ids, lemma_ids}
+use Rattle.joint_hash.specs.Classes.{AreLate, AreTwins, chain_ids, lemma_ids}
 
 -- the clause of a number that isn't below the count is that of a line
 pub later_clause : (front : List (List SatLit)) (lines : List LogLine) (count id : ℕ) (d : LogLine) (clause : List SatLit) → count ≡ length front → count ≤ id → id - count < length lines → clause ≡ (slice_index_or lines (id - count) d).clause → clause ≡ clause_at (front ++ clauses_of lines) id
@@ -23,24 +23,29 @@ later_clause front lines count id d clause count_is late within clause_is =
     clause_is ∙ (sym (get_or-map (λ (l : LogLine). l.clause) lines (id - count) d [] within) ∙ (sym (get_or-append-add front (clauses_of lines) (id - count) []) ∙ sym (ap (clause_at (front ++ clauses_of lines)) at)))
 
 -- a gate's three clauses are those of the cones
-gate_listed : (graphs : Graphs) (query : Query) (ids : List ℕ) (gate : ConeGate) (r : ℕ) → AreConeIds graphs query ids → IsGateOf graphs query gate → r < 3 → Contains ids (gate.id + r)
+pub gate_listed : (graphs : Graphs) (query : Query) (ids : List ℕ) (gate : ConeGate) (r : ℕ) → AreConeIds graphs query ids → IsGateOf graphs query gate → r < 3 → Contains ids (gate.id + r)
 gate_listed graphs query ids gate r are (inl of) small =
     (are.cones (gate.id + r)).1 (inr (inl (record { gate = of.place; reached = of.reached; from = omega (arith, of.id_is); to = omega (arith, of.id_is, small) })))
 gate_listed graphs query ids gate r are (inr of) small =
     (are.cones (gate.id + r)).1 (inr (inr (inl (record { gate = of.place; reached = of.reached; from = omega (arith, of.id_is); to = omega (arith, of.id_is, small) }))))
 
-none_listed : (count : ℕ) (ids : List ℕ) → AreListed count ids []
+pub none_listed : (count : ℕ) (ids : List ℕ) → AreListed count ids []
 none_listed count ids k d within = absurd (omega (arith, within))
 
+pub twins_late : (count : ℕ) (clauses : List (List SatLit)) (twins : ℕ → Option Twin) → AreTwins count clauses twins → AreLate count twins
+twins_late count clauses twins are = λ v twin is.
+    let own = are v twin is in
+    (own.late_to, own.late_from)
+
 -- a lemma's number is not below that of the clauses
-lemma_listed : (count : ℕ) (clauses : List (List SatLit)) (twins : ℕ → Option Twin) (ids : List ℕ) (l : SatLit) (onto : Bool) → AreTwins count clauses twins → AreListed count ids (lemma_ids (twins (variable_of l)) l onto)
-lemma_listed count clauses twins ids l onto are = by_twin (twins (variable_of l)) refl
+pub lemma_listed : (count : ℕ) (twins : ℕ → Option Twin) (ids : List ℕ) (l : SatLit) (onto : Bool) → AreLate count twins → AreListed count ids (lemma_ids (twins (variable_of l)) l onto)
+lemma_listed count twins ids l onto are = by_twin (twins (variable_of l)) refl
   where
     by_twin : (twin : Option Twin) → twins (variable_of l) ≡ twin → AreListed count ids (lemma_ids twin l onto)
     by_twin None is = none_listed count ids
     by_twin (Some twin) is =
         let own = are (variable_of l) twin is in
-        All-cons (λ id. id < count → Contains ids id) (later twin) [] (λ early. absurd (omega (arith, early, late twin own.late_to own.late_from))) (none_listed count ids)
+        All-cons (λ id. id < count → Contains ids id) (later twin) [] (λ early. absurd (omega (arith, early, late twin own.0 own.1))) (none_listed count ids)
       where
         later : Twin → ℕ
         later twin = cond (beq (is_negated l) onto) twin.to_variable twin.from_variable
@@ -54,18 +59,28 @@ lemma_listed count clauses twins ids l onto are = by_twin (twins (variable_of l)
 
 pub chain_listed : (graphs : Graphs) (query : Query) (ids : List ℕ) (count : ℕ) (clauses : List (List SatLit)) (twins : ℕ → Option Twin) (start end : ConeGate) → AreConeIds graphs query ids → AreTwins count clauses twins → IsGateOf graphs query start → IsGateOf graphs query end → AreListed count ids (chain_ids twins start end)
 chain_listed graphs query ids count clauses twins start end are twins_are of_start of_end =
+    let late = twins_late count clauses twins twins_are in
     let P : ℕ → Type 0 = λ id. id < count → Contains ids id in
     let plain : start.id + 0 ≡ start.id = omega arith in
     let first : P start.id = λ early. subst (Contains ids) plain (gate_listed graphs query ids start 0 are of_start (omega arith)) in
     let own : All P (start.id ∷ (start.id + 1) ∷ []) = All-cons P start.id ((start.id + 1) ∷ []) first (All-cons P (start.id + 1) [] (λ early. gate_listed graphs query ids start 1 are of_start (omega arith)) (none_listed count ids)) in
     let last : All P ((end.id + 2) ∷ []) = All-cons P (end.id + 2) [] (λ early. gate_listed graphs query ids end 2 are of_end (omega arith)) (none_listed count ids) in
-    let a = lemma_listed count clauses twins ids start.first true twins_are in
-    let b = lemma_listed count clauses twins ids start.second true twins_are in
-    let c = lemma_listed count clauses twins ids end.first false twins_are in
-    let d = lemma_listed count clauses twins ids end.second false twins_are in
+    let a = lemma_listed count twins ids start.first true late in
+    let b = lemma_listed count twins ids start.second true late in
+    let c = lemma_listed count twins ids end.first false late in
+    let d = lemma_listed count twins ids end.second false late in
     let o = lemma_ids (twins (variable_of start.first)) start.first true in
     let p = lemma_ids (twins (variable_of start.second)) start.second true in
     let q = lemma_ids (twins (variable_of end.first)) end.first false in
     let r = lemma_ids (twins (variable_of end.second)) end.second false in
     let front = start.id ∷ (start.id + 1) ∷ [] in
     All-append P (front ++ o ++ p ++ q ++ r) ((end.id + 2) ∷ []) (All-append P (front ++ o ++ p ++ q) r (All-append P (front ++ o ++ p) q (All-append P (front ++ o) p (All-append P front o own a) b) c) d) last
+
+-- ---- a number more
+
+pub listed_more : (count : ℕ) (listed ids : List ℕ) (id : ℕ) → AreListed count listed ids → (id < count → Contains listed id) → AreListed count listed (ids ++ id ∷ [])
+listed_more count listed ids id are here = All-push (λ k. k < count → Contains listed k) ids id are here
+
+pub listed_lemma : (count : ℕ) (twins : ℕ → Option Twin) (listed ids : List ℕ) (l : SatLit) (onto : Bool) → AreLate count twins → AreListed count listed ids → AreListed count listed (ids ++ lemma_ids (twins (variable_of l)) l onto)
+listed_lemma count twins listed ids l onto late are =
+    All-append (λ k. k < count → Contains listed k) ids (lemma_ids (twins (variable_of l)) l onto) are (lemma_listed count twins listed l onto late)

@@ -67,6 +67,10 @@ pub record IsTwin (count : ℕ) (clauses : List (List SatLit)) (variable : ℕ) 
 abbrev pub AreTwins : ℕ → List (List SatLit) → (ℕ → Option Twin) → Type 0
 AreTwins count clauses twins = (variable : ℕ) (twin : Twin) → twins variable ≡ Some twin → IsTwin count clauses variable twin
 
+-- the lemmas that say what stands for variables come after these clauses
+abbrev pub AreLate : ℕ → (ℕ → Option Twin) → Type 0
+AreLate count twins = (variable : ℕ) (twin : Twin) → twins variable ≡ Some twin → (count ≤ twin.to_variable) × (count ≤ twin.from_variable)
+
 -- the lemma that a literal implies its representative, or the one that this one implies the literal; none where it stands for
 -- itself
 abbrev pub lemma_ids : Option Twin → SatLit → Bool → List ℕ

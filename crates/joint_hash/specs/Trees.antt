@@ -11,9 +11,10 @@ use Rattle.net_core.specs.Sides.{Graphs}
 use Rattle.net_core.specs.Cones.{ReachesGate}
 use Rattle.query_core.specs.declared.query.Query.{Query}
 use Rattle.query_core.specs.Queries.{circuit_of}
-use Rattle.query_core.specs.Formulas.{left_literals, right_literals, stand_in, stands_for}
+use Rattle.query_core.specs.Formulas.{formula_of, left_literals, right_literals, stand_in, stands_for}
 use Rattle.query_core.specs.ConeClauses.{left_gates}
 use Rattle.joint_hash.specs.declared.gates.ConeGate.{ConeGate}
+use Rattle.joint_hash.specs.Merging.{AreLemmas}
 
 -- A gate that output k of a circuit reaches, where the clauses of the circuit's gates are from number `from` on, and these
 -- literals stand for its signals.
@@ -77,3 +78,8 @@ pub record IsJoined (IsGate : ConeGate → Type 0) (lines : List LogLine) (gate 
 -- tree. There are none where the two have one variable.
 abbrev pub AreJoined : Graphs → Query → List LogLine → Type 0
 AreJoined graphs query lines = (gate : ConeGate) → IsGateOf graphs query gate → IsJoined (IsGateOf graphs query) lines gate
+
+-- Lemmas that join the gates of a query's cones.
+pub record AreJoining (graphs : Graphs) (query : Query) (lines : List LogLine) : Type 0 where
+  pub lemmas : AreLemmas (formula_of graphs query) lines
+  pub joined : AreJoined graphs query lines

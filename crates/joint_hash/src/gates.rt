@@ -1,8 +1,9 @@
 //! The gates of a query's cones, read from its clauses.
 
-ghost use Rattle.std.specs.Prelude.{◌≡◌, ◌≢◌, ◌+◌, ◌%◌, ◌<◌, ◌^◌, length};
+ghost use Rattle.std.specs.Prelude.{◌≡◌, ◌≢◌, ◌+◌, ◌%◌, ◌<◌, ◌^◌, IfSome, length};
 ghost use Rattle.query_core.specs.ConeClauses.{IsConeId};
 ghost use Rattle.query_core.specs.Formulas.{query_clauses};
+ghost use Rattle.joint_hash.specs.Classes.{is_last};
 ghost use Rattle.joint_hash.specs.Trees.{IsGateOf};
 
 use cnf_core::SatLit;
@@ -40,4 +41,26 @@ pub(crate) fn gate_of(cones: &ConeClauses<'_>, last: u64) -> ConeGate
         first: first.opposite(),
         second: second.opposite(),
     }
+}
+
+/// Whether the clause of this number is the last of a gate's three: they follow the clause of variable 0.
+pub(crate) fn is_last(id: u64) -> bool
+    ensures { result ≡ is_last id }
+{
+    (0 < id) & (id % 3 == 0)
+}
+
+/// The gate of the cones the number of whose last clause stands at a place among those of the cones' clauses.
+pub(crate) fn gate_at(cones: &ConeClauses<'_>, place: usize) -> Option<ConeGate>
+    ensures { IfSome result (IsGateOf cones.now.graphs cones.now.query) }
+{
+    let ids = cones.ids();
+    if ids.len() <= place {
+        return None;
+    }
+    let id = ids[place];
+    if !is_last(id) {
+        return None;
+    }
+    Some(gate_of(cones, id))
 }

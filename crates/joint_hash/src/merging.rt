@@ -11,17 +11,19 @@ ghost use Rattle.joint_hash.specs.Chains.{AreListed, LeadOn, clauses_with};
 ghost use Rattle.joint_hash.specs.Classes.{AreEquated, AreTwins, HasAlso, IsUnderWay, chain_ids, first_with, is_last, lemma_ids, operands_of, twin_of};
 ghost use Rattle.joint_hash.specs.Merging.{AreLemmas};
 
-use crate::gates::{ConeGate, gate_of};
-use crate::hinting::hints_among;
-use crate::twins::{Twin, operands_of, put_twin, twin_of};
+use crate::gates::{ConeGate, gate_of, is_last};
+use crate::lemmas::add_lemma;
+use crate::polarity::add_implications;
+use crate::twins::{Twin, operands_of, push_lemma, put_twin, twin_of};
 use cnf_core::{LogLine, SatLit};
 use indexmap::IndexMap;
-use items::Items;
 use query_core::ConeClauses;
 use std::alloc::{AllocError, Global};
 
 /// Lemmas by which gates of the two cones that unfold to the same tree are one: for each gate but the first of its
-/// class, that the first one implies it and that it implies the first one.
+/// class, that the first one implies it and that it implies the first one. Where that and polarity exclude what is asked,
+/// there are also lemmas that gates of the one cone imply their copies in the other, down from the outputs: then what is
+/// asked is refuted by propagation.
 ///
 /// # Errors
 ///
@@ -54,6 +56,7 @@ fn merge_ids(
         twins: IndexMap::new(alloc),
     };
     add_gates(alloc, cones, ids, &mut merged)?;
+    add_implications(alloc, cones, &merged.twins, &mut merged.lines)?;
     let Merged { lines, .. } = merged;
     Ok(lines)
 }
@@ -108,13 +111,6 @@ fn add_at(
     }
     let gate = gate_of(cones, id);
     add_gate(alloc, cones, &gate, merged)
-}
-
-// Whether the clause of this number is the last of a gate's three: they follow the clause of variable 0.
-fn is_last(id: u64) -> bool
-    ensures { result ≡ is_last id }
-{
-    (0 < id) & (id % 3 == 0)
 }
 
 // Keeps a gate as the first of its class, or joins it to the one that is. A gate that both cones have comes twice, and
@@ -230,41 +226,6 @@ fn equate(
     put_twin(twins, gate.output.variable(), twin)
 }
 
-// Adds the lemma that one of two literals is true, by the clauses of these numbers.
-fn add_lemma(
-    alloc: Global,
-    cones: &ConeClauses<'_>,
-    one: SatLit,
-    other: SatLit,
-    ids: &[u64],
-    lines: &mut Vec<LogLine>,
-) -> Result<(), AllocError>
-    requires one { variable_of one < (formula_of cones.now.graphs cones.now.query).variables }
-    requires other { variable_of other < (formula_of cones.now.graphs cones.now.query).variables }
-    requires two { variable_of one ≢ variable_of other }
-    requires lemmas { AreLemmas (formula_of cones.now.graphs cones.now.query) lines.old.items }
-    requires listed { AreListed (length (query_clauses cones.now.graphs cones.now.query)) cones.now.ids ids.now }
-    requires leads { LeadOn (clauses_with (formula_of cones.now.graphs cones.now.query) lines.old.items)
-        (opposite one ∷ opposite other ∷ []) ids.now }
-    ensures lemmas { OnOk result (AreLemmas (formula_of cones.now.graphs cones.now.query) lines.new.items) }
-    ensures clauses { OnOk result (clauses_of lines.new.items ≡ clauses_of lines.old.items ++ (one ∷ other ∷ []) ∷ []) }
-{
-    let clause = pair(alloc, one, other)?;
-    let hints = hints_among(alloc, cones, lines, &clause, ids)?;
-    lines.push(LogLine { clause, hints })?;
-    Ok(())
-}
-
-// The clause of two literals.
-fn pair(alloc: Global, one: SatLit, other: SatLit) -> Result<Items<SatLit>, AllocError>
-    ensures { IfOk result (λ clause. clause ≡ one ∷ other ∷ []) }
-{
-    let mut clause = Items::new(alloc);
-    clause.push(one)?;
-    clause.push(other)?;
-    Ok(clause)
-}
-
 // The numbers of the clauses by which one gate implies another of its class: it implies its operands, these their
 // representatives, those the operands of the other, and these that gate.
 fn chain(
@@ -285,33 +246,4 @@ fn chain(
     push_lemma(&mut ids, twins, end.second, false)?;
     ids.push(end.id + 2)?;
     Ok(ids)
-}
-
-// Adds the number of the lemma that a literal implies its representative, or that this one implies the literal. There
-// is none where it stands for itself.
-fn push_lemma(
-    ids: &mut Vec<u64>,
-    twins: &IndexMap<u64, Twin>,
-    literal: SatLit,
-    onto: bool,
-) -> Result<(), AllocError>
-    ensures { OnOk result (ids.new.items ≡ ids.old.items
-        ++ lemma_ids (twin_of twins.now.entries (variable_of literal)) literal onto) }
-{
-    let Some(twin) = twin_of(twins, literal.variable()) else {
-        return Ok(());
-    };
-    ids.push(lemma_of(twin, literal, onto))?;
-    Ok(())
-}
-
-// The number of the lemma that a literal implies what stands for it, or that this implies the literal.
-fn lemma_of(twin: Twin, literal: SatLit, onto: bool) -> u64
-    ensures { lemma_ids (Some twin) literal onto ≡ result ∷ [] }
-{
-    if literal.is_negated() == onto {
-        twin.to_variable
-    } else {
-        twin.from_variable
-    }
 }

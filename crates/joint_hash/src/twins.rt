@@ -1,8 +1,8 @@
 //! What stands for the variables of gates that were joined to an earlier one.
 
-ghost use Rattle.std.specs.Prelude.{◌≡◌, ◌==◌, ℕ, Some, OnOk, if◌then◌else◌};
-ghost use Rattle.cnf_core.specs.Clauses.{is_negated, opposite};
-ghost use Rattle.joint_hash.specs.Classes.{in_order, operands_of, representative, twin_of};
+ghost use Rattle.std.specs.Prelude.{◌≡◌, ◌==◌, ◌∷◌, ◌++◌, [], ℕ, Some, OnOk, if◌then◌else◌};
+ghost use Rattle.cnf_core.specs.Clauses.{is_negated, opposite, variable_of};
+ghost use Rattle.joint_hash.specs.Classes.{in_order, lemma_ids, operands_of, representative, twin_of};
 
 use crate::gates::ConeGate;
 use cnf_core::SatLit;
@@ -50,8 +50,8 @@ pub(crate) fn operands_of(twins: &IndexMap<u64, Twin>, gate: &ConeGate) -> (SatL
     )
 }
 
-// The literal that stands for a literal: that of the first gate of its class, with its sign, or itself.
-fn representative(twins: &IndexMap<u64, Twin>, literal: SatLit) -> SatLit
+/// The literal that stands for a literal: that of the first gate of its class, with its sign, or itself.
+pub(crate) fn representative(twins: &IndexMap<u64, Twin>, literal: SatLit) -> SatLit
     ensures { result ≡ representative (twin_of twins.now.entries) literal }
 {
     match twin_of(twins, literal.variable()) {
@@ -79,5 +79,34 @@ fn in_order(one: SatLit, other: SatLit) -> (SatLit, SatLit)
         (other, one)
     } else {
         (one, other)
+    }
+}
+
+/// Adds the number of the lemma that a literal implies its representative, or that this one implies the literal. There
+/// is none where it stands for itself.
+pub(crate) fn push_lemma(
+    ids: &mut Vec<u64>,
+    twins: &IndexMap<u64, Twin>,
+    literal: SatLit,
+    onto: bool,
+) -> Result<(), AllocError>
+    ensures { OnOk result (ids.new.items ≡ ids.old.items
+        ++ lemma_ids (twin_of twins.now.entries (variable_of literal)) literal onto) }
+{
+    let Some(twin) = twin_of(twins, literal.variable()) else {
+        return Ok(());
+    };
+    ids.push(lemma_of(twin, literal, onto))?;
+    Ok(())
+}
+
+// The number of the lemma that a literal implies what stands for it, or that this implies the literal.
+fn lemma_of(twin: Twin, literal: SatLit, onto: bool) -> u64
+    ensures { lemma_ids (Some twin) literal onto ≡ result ∷ [] }
+{
+    if literal.is_negated() == onto {
+        twin.to_variable
+    } else {
+        twin.from_variable
     }
 }

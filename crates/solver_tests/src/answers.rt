@@ -72,7 +72,7 @@ fn cone_of(alloc: Global, side: Side, inputs: u32, fixed: &[bool]) -> Result<Con
 }
 
 /// Whether the output of the first circuit falls where input 0 rises.
-fn falls(alloc: Global, inputs: u32) -> Result<Query, AllocError> {
+pub fn falls(alloc: Global, inputs: u32) -> Result<Query, AllocError> {
     Ok(Query {
         left: cone_of(alloc, Side::First, inputs, &[false])?,
         left_value: true,
@@ -272,6 +272,37 @@ fn asks_of_small_circuits(rt: HostRuntime) -> Result<(), Fail> {
     for row in ROWS.iter() {
         assert_eq!(rt; outcome_of_row(rt.alloc(), row)?, row.outcome);
     }
+    Ok(())
+}
+
+/// Inputs 1 to 4, each with the AND of input 0 and one of inputs 5 to 8 or instead, and of these four either the first two or the
+/// last two: it can't fall where input 0 rises, but neither half of it says so alone.
+const UNATE: &[(u32, u32)] = &[
+    (2, 12),
+    (2, 14),
+    (2, 16),
+    (2, 18),
+    (21, 5),
+    (23, 7),
+    (25, 9),
+    (27, 11),
+    (29, 31),
+    (33, 35),
+    (37, 39),
+];
+
+fn unate_outcome(alloc: Global, budget: u64) -> Result<Outcome, Fail> {
+    let both = GraphPair {
+        first: graph(alloc, 9, UNATE, &[41])?,
+        second: graph(alloc, 9, &[], &[0])?,
+    };
+    let query = falls(alloc, 9)?;
+    Ok(asked(alloc, &both.graphs(), &query, budget)?)
+}
+
+#[test]
+fn polarity_takes_one_line(rt: HostRuntime) -> Result<(), Fail> {
+    assert_eq!(rt; unate_outcome(rt.alloc(), 1)?, Outcome::Refuted(1));
     Ok(())
 }
 

@@ -2,7 +2,7 @@
 
 ghost use Rattle.query_core.specs.Queries.{IsQuery};
 
-use crate::answers::{exceeds, is_query};
+use crate::answers::{exceeds, falls, is_query};
 use crate::drawn_circuits::drawn;
 use crate::queries::match_query;
 use crate::refutation::takes_all;
@@ -40,12 +40,16 @@ fn are_clauses(lines: &[LogLine], wanted: &[[u64; 2]]) -> bool {
     lines.len() == wanted.len()
 }
 
-fn has_lemmas(alloc: Global, graphs: &Graphs<'_>, wanted: &[[u64; 2]]) -> Result<bool, AllocError> {
-    let query = exceeds(alloc, 2)?;
-    if !is_query(graphs, &query) {
+fn has_lemmas(
+    alloc: Global,
+    graphs: &Graphs<'_>,
+    query: &Query,
+    wanted: &[[u64; 2]],
+) -> Result<bool, AllocError> {
+    if !is_query(graphs, query) {
         return Ok(false);
     }
-    let lines = lemmas_of(alloc, graphs, &query)?;
+    let lines = lemmas_of(alloc, graphs, query)?;
     Ok(are_clauses(&lines, wanted))
 }
 
@@ -130,13 +134,49 @@ fn row_holds(alloc: Global, row: &Row<'_>) -> Result<bool, Fail> {
         first: graph(alloc, 2, row.first, &[row.first_output])?,
         second: graph(alloc, 2, row.second, &[row.second_output])?,
     };
-    Ok(has_lemmas(alloc, &both.graphs(), row.lemmas)?)
+    let query = exceeds(alloc, 2)?;
+    Ok(has_lemmas(alloc, &both.graphs(), &query, row.lemmas)?)
 }
 
 #[test]
 fn merges_gates_of_one_structure(rt: HostRuntime) -> Result<(), Fail> {
     for (place, row) in ROWS.iter().enumerate() {
         assert!(rt; row_holds(rt.alloc(), row)?, "in row {place}");
+    }
+    Ok(())
+}
+
+/// Gates of a circuit of three inputs and its output, and the lemmas where input 0 is 0 in the left cone and 1 in the right
+/// one.
+const RISES: [(&[(u32, u32)], u32, &[[u64; 2]]); 4] = [
+    // an OR of an AND: the AND implies its copy, and the copy of what is inverted implies it
+    (&[(2, 4), (9, 7)], 11, &[[9, 12], [15, 10]]),
+    // the same, inverted: it falls
+    (&[(2, 4), (9, 7)], 10, &[]),
+    // an exclusive or, which rises and falls
+    (&[(2, 5), (3, 4), (9, 11)], 13, &[]),
+    // a gate that input 0 doesn't reach needs none
+    (&[(4, 6), (8, 2)], 10, &[[11, 14]]),
+];
+
+fn rise_holds(
+    alloc: Global,
+    gates: &[(u32, u32)],
+    output: u32,
+    lemmas: &[[u64; 2]],
+) -> Result<bool, Fail> {
+    let both = GraphPair {
+        first: graph(alloc, 3, gates, &[output])?,
+        second: graph(alloc, 3, &[], &[0])?,
+    };
+    let query = falls(alloc, 3)?;
+    Ok(has_lemmas(alloc, &both.graphs(), &query, lemmas)?)
+}
+
+#[test]
+fn implies_copies_by_polarity(rt: HostRuntime) -> Result<(), Fail> {
+    for (gates, output, lemmas) in RISES {
+        assert!(rt; rise_holds(rt.alloc(), gates, output, lemmas)?, "at {gates:?} {output}");
     }
     Ok(())
 }

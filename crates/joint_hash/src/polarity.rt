@@ -1,0 +1,381 @@
+//! Questions that polarity excludes: of gates of the one cone it is derived that they imply their copies in the other one.
+
+ghost use Rattle.std.specs.Prelude.{◌≡◌, IfOk, IfSome, OnOk, length};
+ghost use Rattle.query_core.specs.Formulas.{query_clauses};
+ghost use Rattle.joint_hash.specs.Chains.{AreListed};
+ghost use Rattle.joint_hash.specs.Classes.{AreLate, twin_of};
+ghost use Rattle.joint_hash.specs.Trees.{AreJoining, IsGateOf};
+
+use crate::gates::{ConeGate, gate_at};
+use crate::lemmas::add_derived;
+use crate::twins::{Twin, push_lemma, representative};
+use cnf_core::{LogLine, SatLit};
+use indexmap::IndexMap;
+use query_core::ConeClauses;
+use std::alloc::{AllocError, Global};
+
+/// Where polarity excludes what is asked, adds a lemma for each gate that is needed to show it, and else nothing.
+///
+/// Both cones are of one circuit then, and an input that is fed 0 in the one is fed 1 in the other. Where each path from
+/// it to the output has an even number of complements, the output rises with it or stays, and so does each gate on the
+/// way, or falls or stays: it implies its copy, or is implied by it, since that holds of its operands. One pass from the
+/// output down finds which implications are needed, and gives up where there is none. One pass up adds a lemma for each.
+/// Nothing rests on the first pass: a lemma is added only where its hints derive it.
+pub(crate) fn add_implications(
+    alloc: Global,
+    cones: &ConeClauses<'_>,
+    twins: &IndexMap<u64, Twin>,
+    lines: &mut Vec<LogLine>,
+) -> Result<(), AllocError>
+    requires late { AreLate (length (query_clauses cones.now.graphs cones.now.query)) (twin_of twins.now.entries) }
+    requires joining { AreJoining cones.now.graphs cones.now.query lines.old.items }
+    ensures { OnOk result (AreJoining cones.now.graphs cones.now.query lines.new.items) }
+{
+    let mut implications = Implications::new(alloc, cones);
+    if !want_all(cones, twins, &mut implications)? {
+        return Ok(());
+    }
+    add_wanted(alloc, cones, twins, &mut implications, lines)
+}
+
+/// Implications from gates of the one cone to their copies in the other.
+#[derive(Drop)]
+struct Implications {
+    /// By how much the numbers of a gate's literal and of its copy's differ.
+    apart: u64,
+    /// Which gates are to imply their copies, by their variables, each with the place of the lemma that says so among the
+    /// lines, once it is there.
+    wanted: IndexMap<u64, Option<usize>>,
+}
+
+impl Implications {
+    // None is wanted. A circuit of n gates has 3 + 6 n clauses when it is asked about beside itself, and the copies'
+    // variables are those n after the gates'.
+    fn new(alloc: Global, cones: &ConeClauses<'_>) -> Implications {
+        Implications {
+            apart: cones.count().saturating_sub(3) / 3,
+            wanted: IndexMap::new(alloc),
+        }
+    }
+
+    fn is_empty(&self) -> bool {
+        self.wanted.is_empty()
+    }
+
+    // Whether a gate is to imply its copy.
+    fn has(&self, gate: &ConeGate) -> bool {
+        self.wanted.get(&gate.output.variable()).is_some()
+    }
+
+    // Wants that one literal implies another. Answers whether it may: it does already, or the two are a gate and its copy.
+    fn want(
+        &mut self,
+        twins: &IndexMap<u64, Twin>,
+        one: SatLit,
+        other: SatLit,
+    ) -> Result<bool, AllocError> {
+        if is_implied(twins, one, other) {
+            return Ok(true);
+        }
+        if one.0.abs_diff(other.0) != self.apart {
+            return Ok(false);
+        }
+        self.wanted.insert(source(one, other), None)?;
+        Ok(true)
+    }
+
+    // Notes the place of the lemma that a gate implies its copy.
+    fn put(&mut self, gate: &ConeGate, place: usize) -> Result<(), AllocError> {
+        self.wanted.insert(gate.output.variable(), Some(place))?;
+        Ok(())
+    }
+
+    // The place of the lemma that one literal implies another.
+    fn place_of(&self, one: SatLit, other: SatLit) -> Option<usize> {
+        match self.wanted.get(&source(one, other)) {
+            Some(place) => *place,
+            None => None,
+        }
+    }
+}
+
+// The variable of the gate that implies its copy where the one literal implies the other: that of the other one where
+// both are negated.
+fn source(one: SatLit, other: SatLit) -> u64 {
+    if one.is_negated() {
+        other.variable()
+    } else {
+        one.variable()
+    }
+}
+
+// Whether one literal implies another as it stands: they are of one class, or the one is false or the other true.
+fn is_implied(twins: &IndexMap<u64, Twin>, one: SatLit, other: SatLit) -> bool {
+    (one == SatLit::of(0, false))
+        | (other == SatLit::of(0, true))
+        | (representative(twins, one) == representative(twins, other))
+}
+
+// How many gates each of two equal cones has: between the clause of variable 0 and those of the outputs each gate has
+// three clauses.
+fn gates_in(cones: &ConeClauses<'_>) -> usize {
+    cones.ids().len().saturating_sub(3) / 6
+}
+
+// The gate of the left cone that stands at a place in it.
+fn left_at(cones: &ConeClauses<'_>, place: usize) -> Option<ConeGate>
+    ensures { IfSome result (IsGateOf cones.now.graphs cones.now.query) }
+{
+    gate_at(cones, place.saturating_mul(3).saturating_add(3))
+}
+
+// The gate of the right cone that stands at a place in it.
+fn right_at(cones: &ConeClauses<'_>, place: usize) -> Option<ConeGate>
+    ensures { IfSome result (IsGateOf cones.now.graphs cones.now.query) }
+{
+    left_at(cones, place.saturating_add(gates_in(cones)))
+}
+
+// The literal that the clause says whose number is that many before the last one.
+fn unit_at(cones: &ConeClauses<'_>, before_last: usize) -> Option<SatLit> {
+    let ids = cones.ids();
+    let place = ids.len().saturating_sub(before_last).saturating_sub(1);
+    if ids.len() <= place {
+        return None;
+    }
+    let clause = cones.clause(ids[place]);
+    Some(clause.lits[0])
+}
+
+// Wants the implications by which the outputs can't have the values that are asked for. Answers whether these exclude it,
+// and are still to be shown.
+fn want_all(
+    cones: &ConeClauses<'_>,
+    twins: &IndexMap<u64, Twin>,
+    implications: &mut Implications,
+) -> Result<bool, AllocError> {
+    if !want_outputs(cones, twins, implications)? | implications.is_empty() {
+        return Ok(false);
+    }
+    for place in (0..gates_in(cones)).rev() {
+        if !want_below(cones, twins, implications, place)? {
+            return Ok(false);
+        }
+    }
+    Ok(true)
+}
+
+// Wants that the left output's literal, which is to be true, implies that the right one's is false. They are the last two
+// clauses.
+fn want_outputs(
+    cones: &ConeClauses<'_>,
+    twins: &IndexMap<u64, Twin>,
+    implications: &mut Implications,
+) -> Result<bool, AllocError> {
+    let (Some(left), Some(right)) = (unit_at(cones, 1), unit_at(cones, 0)) else {
+        return Ok(false);
+    };
+    implications.want(twins, left, right.opposite())
+}
+
+// Wants the implications between operands that the gates at a place, if they are to imply each other, need. Answers
+// whether there may be such.
+fn want_below(
+    cones: &ConeClauses<'_>,
+    twins: &IndexMap<u64, Twin>,
+    implications: &mut Implications,
+    place: usize,
+) -> Result<bool, AllocError> {
+    let (Some(left), Some(right)) = (left_at(cones, place), right_at(cones, place)) else {
+        return Ok(false);
+    };
+    let rises = want_operands(twins, implications, &left, &right)?;
+    let falls = want_operands(twins, implications, &right, &left)?;
+    Ok(rises & falls)
+}
+
+// Wants that a gate's operands imply those of its copy, if the gate is to imply it.
+fn want_operands(
+    twins: &IndexMap<u64, Twin>,
+    implications: &mut Implications,
+    gate: &ConeGate,
+    copy: &ConeGate,
+) -> Result<bool, AllocError> {
+    if !implications.has(gate) {
+        return Ok(true);
+    }
+    let first = implications.want(twins, gate.first, copy.first)?;
+    let second = implications.want(twins, gate.second, copy.second)?;
+    Ok(first & second)
+}
+
+// Adds the lemmas of all implications that are wanted, each gate's after those of its operands.
+fn add_wanted(
+    alloc: Global,
+    cones: &ConeClauses<'_>,
+    twins: &IndexMap<u64, Twin>,
+    implications: &mut Implications,
+    lines: &mut Vec<LogLine>,
+) -> Result<(), AllocError>
+    requires late { AreLate (length (query_clauses cones.now.graphs cones.now.query)) (twin_of twins.now.entries) }
+    requires joining { AreJoining cones.now.graphs cones.now.query lines.old.items }
+    ensures { OnOk result (AreJoining cones.now.graphs cones.now.query lines.new.items) }
+{
+    for place in 0..gates_in(cones) {
+        add_at(alloc, cones, twins, implications, place, lines)?;
+    }
+    Ok(())
+}
+
+// Adds those of the gates at a place.
+fn add_at(
+    alloc: Global,
+    cones: &ConeClauses<'_>,
+    twins: &IndexMap<u64, Twin>,
+    implications: &mut Implications,
+    place: usize,
+    lines: &mut Vec<LogLine>,
+) -> Result<(), AllocError>
+    requires late { AreLate (length (query_clauses cones.now.graphs cones.now.query)) (twin_of twins.now.entries) }
+    requires joining { AreJoining cones.now.graphs cones.now.query lines.old.items }
+    ensures { OnOk result (AreJoining cones.now.graphs cones.now.query lines.new.items) }
+{
+    let Some(left) = left_at(cones, place) else {
+        return Ok(());
+    };
+    let Some(right) = right_at(cones, place) else {
+        return Ok(());
+    };
+    add_implication(alloc, cones, twins, implications, &left, &right, lines)?;
+    add_implication(alloc, cones, twins, implications, &right, &left, lines)
+}
+
+// Adds the lemma that a gate implies its copy, if that is wanted.
+fn add_implication(
+    alloc: Global,
+    cones: &ConeClauses<'_>,
+    twins: &IndexMap<u64, Twin>,
+    implications: &mut Implications,
+    gate: &ConeGate,
+    copy: &ConeGate,
+    lines: &mut Vec<LogLine>,
+) -> Result<(), AllocError>
+    requires late { AreLate (length (query_clauses cones.now.graphs cones.now.query)) (twin_of twins.now.entries) }
+    requires gate { IsGateOf cones.now.graphs cones.now.query gate.now }
+    requires copy { IsGateOf cones.now.graphs cones.now.query copy.now }
+    requires joining { AreJoining cones.now.graphs cones.now.query lines.old.items }
+    ensures { OnOk result (AreJoining cones.now.graphs cones.now.query lines.new.items) }
+{
+    if !implications.has(gate) {
+        return Ok(());
+    }
+    let _graphs = cones.graphs();
+    let place = lines.len();
+    let steps = steps(alloc, cones, twins, implications, gate, copy)?;
+    if !add_derived(
+        alloc,
+        cones,
+        gate.output.opposite(),
+        copy.output,
+        &steps,
+        lines,
+    )? {
+        return Ok(());
+    }
+    implications.put(gate, place)
+}
+
+// The numbers of the clauses by which a gate implies its copy: it implies its operands, these those of the copy, and they
+// the copy.
+fn steps(
+    alloc: Global,
+    cones: &ConeClauses<'_>,
+    twins: &IndexMap<u64, Twin>,
+    implications: &Implications,
+    gate: &ConeGate,
+    copy: &ConeGate,
+) -> Result<Vec<u64>, AllocError>
+    requires late { AreLate (length (query_clauses cones.now.graphs cones.now.query)) (twin_of twins.now.entries) }
+    requires gate { IsGateOf cones.now.graphs cones.now.query gate.now }
+    requires copy { IsGateOf cones.now.graphs cones.now.query copy.now }
+    ensures { IfOk result (λ ids. AreListed (length (query_clauses cones.now.graphs cones.now.query)) cones.now.ids ids.items) }
+{
+    let _ids = cones.ids();
+    let _count = cones.count();
+    let mut ids = Vec::new(alloc);
+    ids.push(gate.id)?;
+    push_link(cones, twins, implications, gate.first, copy.first, &mut ids)?;
+    ids.push(gate.id + 1)?;
+    push_link(
+        cones,
+        twins,
+        implications,
+        gate.second,
+        copy.second,
+        &mut ids,
+    )?;
+    ids.push(copy.id + 2)?;
+    Ok(ids)
+}
+
+// Adds the numbers of the clauses by which an operand implies that of the copy: the one that says that variable 0 is true,
+// the lemma that the operand's gate implies its copy, or those by which both are of one class.
+fn push_link(
+    cones: &ConeClauses<'_>,
+    twins: &IndexMap<u64, Twin>,
+    implications: &Implications,
+    one: SatLit,
+    other: SatLit,
+    ids: &mut Vec<u64>,
+) -> Result<(), AllocError>
+    requires late { AreLate (length (query_clauses cones.now.graphs cones.now.query)) (twin_of twins.now.entries) }
+    requires listed { AreListed (length (query_clauses cones.now.graphs cones.now.query)) cones.now.ids ids.old.items }
+    ensures { OnOk result (AreListed (length (query_clauses cones.now.graphs cones.now.query)) cones.now.ids ids.new.items) }
+{
+    if one == other {
+        return Ok(());
+    }
+    if (one.variable() == 0) | (other.variable() == 0) {
+        return push_constant(cones, ids);
+    }
+    match implications.place_of(one, other) {
+        Some(place) => push_line(cones, place, ids),
+        None => push_class(cones, twins, one, other, ids),
+    }
+}
+
+// Adds the number of the clause that says that variable 0 is true.
+fn push_constant(cones: &ConeClauses<'_>, ids: &mut Vec<u64>) -> Result<(), AllocError>
+    requires { AreListed (length (query_clauses cones.now.graphs cones.now.query)) cones.now.ids ids.old.items }
+    ensures { OnOk result (AreListed (length (query_clauses cones.now.graphs cones.now.query)) cones.now.ids ids.new.items) }
+{
+    let _ids = cones.ids();
+    ids.push(0)?;
+    Ok(())
+}
+
+// Adds the number of the line at a place.
+fn push_line(cones: &ConeClauses<'_>, place: usize, ids: &mut Vec<u64>) -> Result<(), AllocError>
+    requires { AreListed (length (query_clauses cones.now.graphs cones.now.query)) cones.now.ids ids.old.items }
+    ensures { OnOk result (AreListed (length (query_clauses cones.now.graphs cones.now.query)) cones.now.ids ids.new.items) }
+{
+    ids.push(cones.count().saturating_add(place as u64))?;
+    Ok(())
+}
+
+// Adds the numbers of the lemmas that a literal implies what stands for it, and that this implies another one.
+fn push_class(
+    cones: &ConeClauses<'_>,
+    twins: &IndexMap<u64, Twin>,
+    one: SatLit,
+    other: SatLit,
+    ids: &mut Vec<u64>,
+) -> Result<(), AllocError>
+    requires late { AreLate (length (query_clauses cones.now.graphs cones.now.query)) (twin_of twins.now.entries) }
+    requires listed { AreListed (length (query_clauses cones.now.graphs cones.now.query)) cones.now.ids ids.old.items }
+    ensures { OnOk result (AreListed (length (query_clauses cones.now.graphs cones.now.query)) cones.now.ids ids.new.items) }
+{
+    let _count = cones.count();
+    push_lemma(ids, twins, one, true)?;
+    push_lemma(ids, twins, other, false)
+}
