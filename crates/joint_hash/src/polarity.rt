@@ -62,12 +62,14 @@ impl Implications {
         self.wanted.is_empty()
     }
 
-    // Whether a gate is to imply its copy.
-    fn has(&self, gate: &ConeGate) -> bool {
-        self.wanted.get(&gate.output.variable()).is_some()
+    // Whether the gate of a variable is to imply its copy.
+    fn has(&self, variable: u64) -> bool {
+        self.wanted.get(&variable).is_some()
     }
 
     // Wants that one literal implies another. Answers whether it may: it does already, or the two are a gate and its copy.
+    // Both ways it may not: gates that are equal by their operands are of one class, and a path to what is fed otherwise
+    // has no more than one parity of complements.
     fn want(
         &mut self,
         twins: &IndexMap<u64, Twin>,
@@ -77,7 +79,7 @@ impl Implications {
         if is_implied(twins, one, other) {
             return Ok(true);
         }
-        if one.0.abs_diff(other.0) != self.apart {
+        if (one.0.abs_diff(other.0) != self.apart) | self.has(source(other, one)) {
             return Ok(false);
         }
         self.wanted.insert(source(one, other), None)?;
@@ -201,7 +203,7 @@ fn want_operands(
     gate: &ConeGate,
     copy: &ConeGate,
 ) -> Result<bool, AllocError> {
-    if !implications.has(gate) {
+    if !implications.has(gate.output.variable()) {
         return Ok(true);
     }
     let first = implications.want(twins, gate.first, copy.first)?;
@@ -266,7 +268,7 @@ fn add_implication(
     requires joining { AreJoining cones.now.graphs cones.now.query lines.old.items }
     ensures { OnOk result (AreJoining cones.now.graphs cones.now.query lines.new.items) }
 {
-    if !implications.has(gate) {
+    if !implications.has(gate.output.variable()) {
         return Ok(());
     }
     let _graphs = cones.graphs();
