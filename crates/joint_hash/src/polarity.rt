@@ -32,10 +32,8 @@ pub(crate) fn add_implications(
     ensures { OnOk result (AreJoining cones.now.graphs cones.now.query lines.new.items) }
 {
     let mut implications = Implications::new(alloc, cones);
-    if !want_all(cones, twins, &mut implications)? {
-        return Ok(());
-    }
-    add_wanted(alloc, cones, twins, &mut implications, lines)
+    let gates = want_all(cones, twins, &mut implications)?;
+    add_wanted(alloc, cones, twins, gates, &mut implications, lines)
 }
 
 /// Implications from gates of the one cone to their copies in the other.
@@ -58,8 +56,9 @@ impl Implications {
         }
     }
 
-    fn is_empty(&self) -> bool {
-        self.wanted.is_empty()
+    // How many are wanted.
+    fn count(&self) -> usize {
+        self.wanted.len()
     }
 
     // Whether the gate of a variable is to imply its copy.
@@ -149,22 +148,28 @@ fn unit_at(cones: &ConeClauses<'_>, before_last: usize) -> Option<SatLit> {
     Some(clause.lits[0])
 }
 
-// Wants the implications by which the outputs can't have the values that are asked for. Answers whether these exclude it,
-// and are still to be shown.
+// Wants the implications by which the outputs can't have the values that are asked for. Answers among how many of the
+// cone's gates, from the first one on, lemmas are needed to show it. None is needed above the first gate, from the output
+// down, two operands of which are to imply those of its copy: from a gate that is true where its copy is false, or the
+// reverse, propagation goes on to a single operand by itself.
 fn want_all(
     cones: &ConeClauses<'_>,
     twins: &IndexMap<u64, Twin>,
     implications: &mut Implications,
-) -> Result<bool, AllocError> {
-    if !want_outputs(cones, twins, implications)? | implications.is_empty() {
-        return Ok(false);
+) -> Result<usize, AllocError> {
+    if !want_outputs(cones, twins, implications)? | (implications.count() == 0) {
+        return Ok(0);
     }
+    let mut needed = 0;
     for place in (0..gates_in(cones)).rev() {
-        if !want_below(cones, twins, implications, place)? {
-            return Ok(false);
+        let Some(more) = want_below(cones, twins, implications, place)? else {
+            return Ok(0);
+        };
+        if (needed == 0) & (more == 2) {
+            needed = place.saturating_add(1);
         }
     }
-    Ok(true)
+    Ok(needed)
 }
 
 // Wants that the left output's literal, which is to be true, implies that the right one's is false. They are the last two
@@ -180,20 +185,24 @@ fn want_outputs(
     implications.want(twins, left, right.opposite())
 }
 
-// Wants the implications between operands that the gates at a place, if they are to imply each other, need. Answers
-// whether there may be such.
+// Wants the implications between operands that the gates at a place need, if one is to imply the other. Answers how many
+// are wanted more, or None where there can't be such.
 fn want_below(
     cones: &ConeClauses<'_>,
     twins: &IndexMap<u64, Twin>,
     implications: &mut Implications,
     place: usize,
-) -> Result<bool, AllocError> {
+) -> Result<Option<usize>, AllocError> {
     let (Some(left), Some(right)) = (left_at(cones, place), right_at(cones, place)) else {
-        return Ok(false);
+        return Ok(None);
     };
+    let before = implications.count();
     let rises = want_operands(twins, implications, &left, &right)?;
     let falls = want_operands(twins, implications, &right, &left)?;
-    Ok(rises & falls)
+    if !(rises & falls) {
+        return Ok(None);
+    }
+    Ok(Some(implications.count().saturating_sub(before)))
 }
 
 // Wants that a gate's operands imply those of its copy, if the gate is to imply it.
@@ -211,11 +220,12 @@ fn want_operands(
     Ok(first & second)
 }
 
-// Adds the lemmas of all implications that are wanted, each gate's after those of its operands.
+// Adds the lemmas of the implications that are wanted among some of the cone's gates, from the first one on.
 fn add_wanted(
     alloc: Global,
     cones: &ConeClauses<'_>,
     twins: &IndexMap<u64, Twin>,
+    gates: usize,
     implications: &mut Implications,
     lines: &mut Vec<LogLine>,
 ) -> Result<(), AllocError>
@@ -223,7 +233,7 @@ fn add_wanted(
     requires joining { AreJoining cones.now.graphs cones.now.query lines.old.items }
     ensures { OnOk result (AreJoining cones.now.graphs cones.now.query lines.new.items) }
 {
-    for place in 0..gates_in(cones) {
+    for place in 0..gates {
         add_at(alloc, cones, twins, implications, place, lines)?;
     }
     Ok(())

@@ -148,15 +148,25 @@ fn merges_gates_of_one_structure(rt: HostRuntime) -> Result<(), Fail> {
 
 /// Gates of a circuit of three inputs and its output, and the lemmas where input 0 is 0 in the left cone and 1 in the right
 /// one.
-const RISES: [(&[(u32, u32)], u32, &[[u64; 2]]); 4] = [
-    // an OR of an AND: the AND implies its copy, and the copy of what is inverted implies it
-    (&[(2, 4), (9, 7)], 11, &[[9, 12], [15, 10]]),
-    // the same, inverted: it falls
-    (&[(2, 4), (9, 7)], 10, &[]),
-    // an exclusive or, which rises and falls
+const RISES: [(&[(u32, u32)], u32, &[[u64; 2]]); 5] = [
+    // an OR of two ANDs: each AND implies its copy, and the copy of the gate that is read inverted implies it
+    (
+        &[(2, 4), (2, 6), (9, 11)],
+        13,
+        &[[9, 14], [11, 16], [19, 12]],
+    ),
+    // propagation goes down from the output to that gate
+    (
+        &[(2, 4), (2, 6), (9, 11), (13, 4)],
+        14,
+        &[[9, 16], [11, 18], [21, 12]],
+    ),
+    // and where no gate has two such operands, to the inputs
+    (&[(2, 4), (9, 7)], 11, &[]),
+    // the OR inverted falls
+    (&[(2, 4), (2, 6), (9, 11)], 12, &[]),
+    // an exclusive or rises and falls
     (&[(2, 5), (3, 4), (9, 11)], 13, &[]),
-    // a gate that input 0 doesn't reach needs none
-    (&[(4, 6), (8, 2)], 10, &[[11, 14]]),
 ];
 
 fn rise_holds(
@@ -176,7 +186,10 @@ fn rise_holds(
 #[test]
 fn implies_copies_by_polarity(rt: HostRuntime) -> Result<(), Fail> {
     for (gates, output, lemmas) in RISES {
-        assert!(rt; rise_holds(rt.alloc(), gates, output, lemmas)?, "at {gates:?} {output}");
+        assert!(rt;
+            rise_holds(rt.alloc(), gates, output, lemmas)?,
+            "at {gates:?} {output}"
+        );
     }
     Ok(())
 }
