@@ -21,9 +21,9 @@ use query_core::ConeClauses;
 use std::alloc::{AllocError, Global};
 
 /// Lemmas by which gates of the two cones that unfold to the same tree are one: for each gate but the first of its
-/// class, that the first one implies it and that it implies the first one. Where that and polarity exclude what is asked,
-/// there are also lemmas that gates of the one cone imply their copies in the other, down from the outputs: then what is
-/// asked is refuted by propagation.
+/// class, that the first one implies it and that it implies the first one. Where polarity excludes what is asked, and
+/// propagation doesn't show it, there are also lemmas by which it does: that gates of the one cone imply their copies in
+/// the other.
 ///
 /// # Errors
 ///

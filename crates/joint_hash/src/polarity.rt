@@ -14,13 +14,13 @@ use indexmap::IndexMap;
 use query_core::ConeClauses;
 use std::alloc::{AllocError, Global};
 
-/// Where polarity excludes what is asked, adds a lemma for each gate that is needed to show it, and else nothing.
+/// Where polarity excludes what is asked, adds a lemma for each gate that propagation needs to show it, and else nothing.
 ///
 /// Both cones are of one circuit then, and an input that is fed 0 in the one is fed 1 in the other. Where each path from
-/// it to the output has an even number of complements, the output rises with it or stays, and so does each gate on the
-/// way, or falls or stays: it implies its copy, or is implied by it, since that holds of its operands. One pass from the
-/// output down finds which implications are needed, and gives up where there is none. One pass up adds a lemma for each.
-/// Nothing rests on the first pass: a lemma is added only where its hints derive it.
+/// it to the output has an even number of complements, the output never falls, and each gate on the way implies its copy,
+/// or is implied by it, since that holds of its operands. One pass from the output down finds which implications are
+/// needed, and gives up at the first that can't be shown. One pass up adds a lemma for each. Nothing rests on the first
+/// pass: a lemma is added only where its hints derive it.
 pub(crate) fn add_implications(
     alloc: Global,
     cones: &ConeClauses<'_>,
@@ -47,8 +47,8 @@ struct Implications {
 }
 
 impl Implications {
-    // None is wanted. A circuit of n gates has 3 + 6 n clauses when it is asked about beside itself, and the copies'
-    // variables are those n after the gates'.
+    // None is wanted. A circuit of n gates that is asked about beside itself has 3 + 6 n clauses, and a copy's variable is
+    // n after the gate's, so that their literals' numbers are 2 n apart.
     fn new(alloc: Global, cones: &ConeClauses<'_>) -> Implications {
         Implications {
             apart: cones.count().saturating_sub(3) / 3,
@@ -67,8 +67,8 @@ impl Implications {
     }
 
     // Wants that one literal implies another. Answers whether it may: it does already, or the two are a gate and its copy.
-    // Both ways it may not: gates that are equal by their operands are of one class, and a path to what is fed otherwise
-    // has no more than one parity of complements.
+    // That the gate and its copy imply each other can't be shown so: their operands would have to do the same, down to an
+    // input that is fed 0 and 1, unless all are of one class, and then the gate and its copy are.
     fn want(
         &mut self,
         twins: &IndexMap<u64, Twin>,
@@ -149,9 +149,8 @@ fn unit_at(cones: &ConeClauses<'_>, before_last: usize) -> Option<SatLit> {
 }
 
 // Wants the implications by which the outputs can't have the values that are asked for. Answers among how many of the
-// cone's gates, from the first one on, lemmas are needed to show it. None is needed above the first gate, from the output
-// down, two operands of which are to imply those of its copy: from a gate that is true where its copy is false, or the
-// reverse, propagation goes on to a single operand by itself.
+// cone's gates, from the first one on, lemmas are needed to show it. None is needed above the topmost gate two operands of
+// which are to imply those of its copy: where a gate and its copy differ, propagation goes on to a single operand by itself.
 fn want_all(
     cones: &ConeClauses<'_>,
     twins: &IndexMap<u64, Twin>,
