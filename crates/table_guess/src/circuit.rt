@@ -1,9 +1,10 @@
 //! What is counted of both circuits at first.
 
-use cell_splits::Draws;
-use flip_sim::{FlipSim, all_lanes, blocks_of_all};
+use cell_splits::{Draws, rare_blocks};
+use flip_sim::{FlipSim, Lanes, all_lanes, blocks_of_all};
+use items::Items;
 use net_core::Graph;
-use port_cells::{Counts, Tally};
+use port_cells::{Counts, Influence, Tally, port_at};
 use std::alloc::{AllocError, Global};
 
 /// How many words of gates may be computed so that all vectors are counted: about a fifth of a second. What is counted of
@@ -18,6 +19,10 @@ const MOST_BLOCKS: u64 = 256;
 
 /// The fewest. What is counted on fewer vectors tells little.
 const LEAST_BLOCKS: u64 = 16;
+
+/// An input with fewer changes of outputs on drawn vectors is faint: with 5.5 standard deviations of slack fewer than 32 changes
+/// in one direction don't tell its sign.
+const FEW_CHANGES: u32 = 64;
 
 /// The vectors that are counted, in blocks of 256.
 #[derive(Clone, Copy, Debug, Drop)]
@@ -50,6 +55,10 @@ impl Sample {
 pub(crate) struct Circuit<'a> {
     pub(crate) simulator: FlipSim<'a>,
     pub(crate) counts: Counts,
+    /// Where drawn vectors leave some inputs faint, blocks of vectors on which gates have values that they hardly ever have.
+    pub(crate) rare: Items<Items<Lanes>>,
+    /// Then also in which directions outputs were seen to change with inputs, on these vectors and on the drawn ones.
+    pub(crate) signs: Option<Counts>,
 }
 
 impl<'a> Circuit<'a> {
@@ -68,7 +77,30 @@ impl<'a> Circuit<'a> {
             tally.add(&mut simulator);
         }
         let counts = tally.counts(alloc)?;
-        Ok(Circuit { simulator, counts })
+        let mut circuit = Circuit {
+            simulator,
+            counts,
+            rare: Items::new(alloc),
+            signs: None,
+        };
+        if !sample.is_all && circuit.has_faint() {
+            circuit.rare = rare_blocks(alloc, &mut circuit.simulator, draws)?;
+            add_blocks(&circuit.rare, &mut circuit.simulator, &mut tally);
+            circuit.signs = Some(tally.signs(alloc)?);
+        }
+        Ok(circuit)
+    }
+
+    // Whether some input that reaches outputs changes them on few vectors.
+    fn has_faint(&self) -> bool {
+        for (input, influences) in self.counts.of_inputs.iter().enumerate() {
+            if (changes_of(influences) < FEW_CHANGES)
+                & !self.simulator.reached(port_at(input)).is_empty()
+            {
+                return true;
+            }
+        }
+        false
     }
 
     /// Whether an input changes no output: on all vectors, or since it reaches none where some are drawn.
@@ -85,6 +117,25 @@ impl<'a> Circuit<'a> {
     /// The circuit's graph.
     pub(crate) fn graph(&self) -> &Graph {
         self.simulator.graph()
+    }
+}
+
+fn changes_of(influences: &[Influence]) -> u32 {
+    let mut changes = 0u32;
+    for influence in influences.iter() {
+        changes = changes.saturating_add(influence.changes());
+    }
+    changes
+}
+
+// Counts blocks of vectors too, which have a column for each input.
+fn add_blocks(blocks: &[Items<Lanes>], simulator: &mut FlipSim<'_>, tally: &mut Tally) {
+    for block in blocks.iter() {
+        for (input, lanes) in block.iter().enumerate() {
+            simulator.set_input(port_at(input), *lanes);
+        }
+        simulator.run();
+        tally.add(simulator);
     }
 }
 

@@ -13,7 +13,7 @@ use crate::patience::Patience;
 use crate::signs::{has_known_sign, has_one_open_cell, with_plain_signs};
 use bit_list::Bits;
 use cell_splits::{
-    Assignment, BEST, Draws, Keys, Likeness, Link, Patterns, State, anchored, climbed, open_in,
+    Assignment, BEST, Draws, Keys, Likeness, Link, Patterns, Starts, State, anchored, climbed, open_in,
 };
 use flip_sim::{FlipSim, Lanes};
 use items::Items;
@@ -239,6 +239,7 @@ impl<'a> Guesser<'a> {
         let Some(root) = self.linked(alloc, root)? else {
             return Ok(Attempt::Exhausted);
         };
+        let root = self.signed(alloc, root)?;
         if self.round == 0
             && let Some(plain) = with_plain_signs(alloc, &root)?
             && let Attempt::Paired(state) = self.search(alloc, plain, PLAIN_FAILURES)?
@@ -270,6 +271,10 @@ impl<'a> Guesser<'a> {
         let mut states = anchored(
             alloc,
             &root,
+            Starts {
+                first: &self.first.rare,
+                second: &self.second.rare,
+            },
             &mut self.first.simulator,
             &mut self.second.simulator,
             &mut self.draws,
@@ -432,12 +437,25 @@ impl<'a> Guesser<'a> {
         let split = if state.inputs.has_open() {
             self.split_by_assignments(alloc, state)?
         } else {
-            self.split_by_vectors(alloc, state)?
+            self.split_known(alloc, state)?
         };
         match split {
             Some(state) => self.linked(alloc, state),
             None => Ok(None),
         }
+    }
+
+    // Splits cells whose signs are known, by counts under assignments too where vectors tell nothing and drawn ones left inputs
+    // faint: of two numbers that are compared the next bits matter once those above them are equal.
+    fn split_known(&mut self, alloc: Global, state: State) -> Result<Option<State>, AllocError> {
+        let before = state.count();
+        let Some(state) = self.split_by_vectors(alloc, state)? else {
+            return Ok(None);
+        };
+        if state.count() > before || self.first.signs.is_none() {
+            return Ok(Some(state));
+        }
+        self.split_under(alloc, state, MANY_ASSIGNMENTS, 1)
     }
 
     // Splits cells by counts under assignments, of more vectors where few tell nothing.
@@ -520,7 +538,12 @@ impl<'a> Guesser<'a> {
             return Assignment::draw(alloc, &state.inputs, blocks, &mut self.draws);
         }
         if self.climbed.is_empty() {
-            self.climbed = climbed(alloc, &mut self.first.simulator, &mut self.draws)?;
+            self.climbed = climbed(
+                alloc,
+                &self.first.rare,
+                &mut self.first.simulator,
+                &mut self.draws,
+            )?;
         }
         let lane = self.draws.below(BEST);
         Assignment::by_majority(alloc, &state.inputs, &self.climbed, lane, blocks)
@@ -566,6 +589,26 @@ impl<'a> Guesser<'a> {
             slack: self.slack(vectors, self.sample.is_all),
         };
         link.split(alloc, state)
+    }
+
+    // The directions in which outputs were seen to change, where that was looked at in both circuits.
+    fn sign_link(&self) -> Option<Link<'_>> {
+        Some(Link {
+            first: self.first.signs.as_ref()?,
+            second: self.second.signs.as_ref()?,
+            slack: None,
+        })
+    }
+
+    // Splits cells by directions, if that can be: rare changes may have been seen in one circuit alone.
+    fn signed(&self, alloc: Global, state: State) -> Result<State, AllocError> {
+        let Some(link) = self.sign_link() else {
+            return Ok(state);
+        };
+        match link.split(alloc, state.copy()?)? {
+            Some(finer) => Ok(finer),
+            None => Ok(state),
+        }
     }
 
     // 5.5, 6.25 and 7 standard deviations in turn: a match is missed where one of many counts is farther off.
