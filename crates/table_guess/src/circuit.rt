@@ -55,20 +55,22 @@ impl Sample {
 pub(crate) struct Circuit<'a> {
     pub(crate) simulator: FlipSim<'a>,
     pub(crate) counts: Counts,
-    /// Where drawn vectors leave some inputs faint, blocks of vectors on which gates have values that they hardly ever have.
-    pub(crate) rare: Items<Items<Lanes>>,
-    /// Then also in which directions outputs were seen to change with inputs, on these vectors and on the drawn ones.
+    /// Where drawn vectors leave some inputs faint, in which directions outputs were seen to change with inputs, on these vectors
+    /// and on some on which gates have rare values.
     pub(crate) signs: Option<Counts>,
 }
 
+/// Blocks of 256 vectors, a column for each input.
+pub(crate) type Blocks = Items<Items<Lanes>>;
+
 impl<'a> Circuit<'a> {
-    /// Counts on a sample's vectors.
+    /// Counts on a sample's vectors. Where these leave some inputs faint, also blocks of vectors on which gates have rare values.
     pub(crate) fn new(
         alloc: Global,
         simulator: FlipSim<'a>,
         sample: Sample,
         draws: &mut Draws,
-    ) -> Result<Circuit<'a>, AllocError> {
+    ) -> Result<(Circuit<'a>, Blocks), AllocError> {
         let mut simulator = simulator;
         let mut tally = Tally::new(alloc, &simulator)?;
         for block in 0..sample.blocks {
@@ -77,30 +79,18 @@ impl<'a> Circuit<'a> {
             tally.add(&mut simulator);
         }
         let counts = tally.counts(alloc)?;
-        let mut circuit = Circuit {
+        let mut rare = Items::new(alloc);
+        let mut signs = None;
+        if !sample.is_all && has_faint(&simulator, &counts) {
+            rare = rare_blocks(alloc, &mut simulator, draws)?;
+            signs = Some(signs_on(alloc, &rare, &mut simulator, &mut tally)?);
+        }
+        let circuit = Circuit {
             simulator,
             counts,
-            rare: Items::new(alloc),
-            signs: None,
+            signs,
         };
-        if !sample.is_all && circuit.has_faint() {
-            circuit.rare = rare_blocks(alloc, &mut circuit.simulator, draws)?;
-            add_blocks(&circuit.rare, &mut circuit.simulator, &mut tally);
-            circuit.signs = Some(tally.signs(alloc)?);
-        }
-        Ok(circuit)
-    }
-
-    // Whether some input that reaches outputs changes them on few vectors.
-    fn has_faint(&self) -> bool {
-        for (input, influences) in self.counts.of_inputs.iter().enumerate() {
-            if (changes_of(influences) < FEW_CHANGES)
-                & !self.simulator.reached(port_at(input)).is_empty()
-            {
-                return true;
-            }
-        }
-        false
+        Ok((circuit, rare))
     }
 
     /// Whether an input changes no output: on all vectors, or since it reaches none where some are drawn.
@@ -128,14 +118,35 @@ fn changes_of(influences: &[Influence]) -> u32 {
     changes
 }
 
-// Counts blocks of vectors too, which have a column for each input.
-fn add_blocks(blocks: &[Items<Lanes>], simulator: &mut FlipSim<'_>, tally: &mut Tally) {
-    for block in blocks.iter() {
-        for (input, lanes) in block.iter().enumerate() {
-            simulator.set_input(port_at(input), *lanes);
+// Whether some input that reaches outputs changes them on few vectors.
+fn has_faint(simulator: &FlipSim<'_>, counts: &Counts) -> bool {
+    for (input, influences) in counts.of_inputs.iter().enumerate() {
+        let is_reaching = !simulator.reached(port_at(input)).is_empty();
+        if is_reaching & (changes_of(influences) < FEW_CHANGES) {
+            return true;
         }
+    }
+    false
+}
+
+// In which directions outputs change on blocks of vectors too.
+fn signs_on(
+    alloc: Global,
+    blocks: &[Items<Lanes>],
+    simulator: &mut FlipSim<'_>,
+    tally: &mut Tally,
+) -> Result<Counts, AllocError> {
+    for block in blocks.iter() {
+        put_columns(block, simulator);
         simulator.run();
         tally.add(simulator);
+    }
+    tally.signs(alloc)
+}
+
+fn put_columns(block: &[Lanes], simulator: &mut FlipSim<'_>) {
+    for (input, lanes) in block.iter().enumerate() {
+        simulator.set_input(port_at(input), *lanes);
     }
 }
 
