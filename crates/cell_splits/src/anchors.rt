@@ -46,6 +46,7 @@ impl Profiles {
         alloc: Global,
         state: &State,
         side: Side,
+        starts: &[Items<Lanes>],
         simulator: &mut FlipSim<'_>,
         draws: &mut Draws,
     ) -> Result<Profiles, AllocError> {
@@ -53,7 +54,7 @@ impl Profiles {
             blocks: Items::new(alloc),
             places: Vec::new(alloc),
         };
-        let best = climbed(alloc, simulator, draws)?;
+        let best = climbed(alloc, starts, simulator, draws)?;
         profiles.add(alloc, state, side, best, simulator)?;
         for _ in 0..blocks_of(simulator) {
             let drawn = draw_block(alloc, simulator, draws)?;
@@ -198,6 +199,13 @@ struct Anchor {
     second: Place,
 }
 
+/// Vectors of both circuits from which a climb starts, beside drawn ones: blocks of 256, a column for each input.
+#[derive(Clone, Copy)]
+pub struct Starts<'a> {
+    pub first: &'a [Items<Lanes>],
+    pub second: &'a [Items<Lanes>],
+}
+
 /// States in which the open signs are decided by vectors with one profile, those with the rarest profiles last.
 ///
 /// # Errors
@@ -206,12 +214,13 @@ struct Anchor {
 pub fn anchored(
     alloc: Global,
     state: &State,
+    starts: Starts<'_>,
     first: &mut FlipSim<'_>,
     second: &mut FlipSim<'_>,
     draws: &mut Draws,
 ) -> Result<Vec<State>, AllocError> {
-    let left = Profiles::draw(alloc, state, Side::First, first, draws)?;
-    let right = Profiles::draw(alloc, state, Side::Second, second, draws)?;
+    let left = Profiles::draw(alloc, state, Side::First, starts.first, first, draws)?;
+    let right = Profiles::draw(alloc, state, Side::Second, starts.second, second, draws)?;
     let mut states = Vec::new(alloc);
     for anchor in anchors(alloc, &left, &right)?.iter().rev() {
         let mine = anchor_keys(alloc, state.inputs.of(Side::First), &left, anchor.first)?;

@@ -1,6 +1,7 @@
 //! Counts under assignments of the inputs whose signs are known.
 
 use crate::draws::Draws;
+use crate::exact::is_shared;
 use crate::patterns::Patterns;
 use crate::state::State;
 use flip_sim::{FlipSim, Lanes, all_lanes};
@@ -8,26 +9,26 @@ use net_core::Side;
 use port_cells::{Cells, Counts, Tally, port_at};
 use std::alloc::{AllocError, Global};
 
-/// An assignment that is constant on cells whose signs are known, so that it is known in both circuits. The inputs whose
-/// signs are open have all values, or drawn ones.
+/// An assignment that is constant on cells whose signs are known, so that it is known in both circuits. The free inputs have all
+/// values, or drawn ones: those whose signs are open, or, where none is, those that share a cell.
 #[derive(Drop)]
 pub struct Assignment {
     patterns: Patterns,
     /// How many blocks of 256 vectors are counted.
     blocks: u64,
-    /// Whether these are all vectors of the open inputs.
+    /// Whether these are all vectors of the free inputs.
     is_all: bool,
 }
 
 impl Assignment {
-    /// A drawn assignment, on all vectors of few open inputs, else on blocks of drawn ones.
+    /// A drawn assignment, on all vectors of few free inputs, else on blocks of drawn ones.
     pub fn draw(
         alloc: Global,
         inputs: &Cells,
         blocks: u64,
         draws: &mut Draws,
     ) -> Result<Assignment, AllocError> {
-        let is_all = open_in(inputs) <= 8;
+        let is_all = count_free(alloc, inputs)? <= 8;
         Ok(Assignment {
             patterns: Patterns::draw_constant(alloc, inputs, draws)?,
             blocks: if is_all { 1 } else { blocks },
@@ -43,7 +44,7 @@ impl Assignment {
         bit: bool,
         blocks: u64,
     ) -> Result<Assignment, AllocError> {
-        let is_all = open_in(inputs) <= 8;
+        let is_all = count_free(alloc, inputs)? <= 8;
         Ok(Assignment {
             patterns: Patterns::constant(alloc, inputs, bit)?,
             blocks: if is_all { 1 } else { blocks },
@@ -59,7 +60,7 @@ impl Assignment {
         lane: usize,
         blocks: u64,
     ) -> Result<Assignment, AllocError> {
-        let is_all = open_in(inputs) <= 8;
+        let is_all = count_free(alloc, inputs)? <= 8;
         Ok(Assignment {
             patterns: Patterns::by_majority(alloc, inputs, vectors, lane)?,
             blocks: if is_all { 1 } else { blocks },
@@ -67,7 +68,7 @@ impl Assignment {
         })
     }
 
-    /// Whether the open inputs have all values.
+    /// Whether the free inputs have all values.
     pub fn is_all(&self) -> bool {
         self.is_all
     }
@@ -88,28 +89,25 @@ impl Assignment {
             let sizes = inputs.sizes(alloc)?;
             leave_out_single(inputs.of(side), &sizes, &mut tally);
         }
+        let free = free_inputs(alloc, inputs, side)?;
         for _ in 0..self.blocks {
             self.patterns.put(inputs, side, simulator);
-            self.put_open(inputs.of(side), simulator, draws);
+            self.put_free(&free, simulator, draws);
             simulator.run();
             tally.add(simulator);
         }
         tally.counts(alloc)
     }
 
-    // Gives the open inputs all values, or drawn ones.
-    fn put_open(&self, cells: &[usize], simulator: &mut FlipSim<'_>, draws: &mut Draws) {
-        let mut open = 0u32;
-        for input in 0..simulator.graph().inputs() {
-            if is_open(cells, input) {
-                let lanes = if self.is_all {
-                    all_lanes(open % 8, 0)
-                } else {
-                    draws.lanes()
-                };
-                simulator.set_input(input, lanes);
-                open = open.saturating_add(1);
-            }
+    // Gives the free inputs all values, or drawn ones.
+    fn put_free(&self, free: &[u32], simulator: &mut FlipSim<'_>, draws: &mut Draws) {
+        for (place, input) in free.iter().enumerate() {
+            let lanes = if self.is_all {
+                all_lanes(port_at(place % 8), 0)
+            } else {
+                draws.lanes()
+            };
+            simulator.set_input(*input, lanes);
         }
     }
 }
@@ -135,6 +133,26 @@ pub fn open_in(inputs: &Cells) -> usize {
     open / 2
 }
 
-fn is_open(cells: &[usize], input: u32) -> bool {
-    cells.get(2 * input as usize) == cells.get(2 * input as usize + 1)
+// The free inputs of a circuit, ascending.
+fn free_inputs(alloc: Global, inputs: &Cells, side: Side) -> Result<Vec<u32>, AllocError> {
+    let sizes = inputs.sizes(alloc)?;
+    let has_open = inputs.has_open();
+    let cells = inputs.of(side);
+    let mut free = Vec::new(alloc);
+    for place in 0..cells.len() / 2 {
+        let is_free = if has_open {
+            cells.get(2 * place) == cells.get(2 * place + 1)
+        } else {
+            is_shared(inputs, side, port_at(place), &sizes)
+        };
+        if is_free {
+            free.push(port_at(place))?;
+        }
+    }
+    Ok(free)
+}
+
+// Both circuits have as many.
+fn count_free(alloc: Global, inputs: &Cells) -> Result<usize, AllocError> {
+    Ok(free_inputs(alloc, inputs, Side::First)?.len())
 }

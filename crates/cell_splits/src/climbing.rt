@@ -23,24 +23,38 @@ pub const BEST: usize = 64;
 const FIRST_OF_TWO: usize = 160;
 
 /// 256 vectors of a circuit on which many outputs change with many inputs, far more than on drawn ones: there wide gates tell
-/// their inputs. A column for each input. The first `BEST` are the best so far, the others are made of them.
+/// their inputs. A column for each input. The first `BEST` are the best so far, the others are made of them. The climb starts
+/// from drawn vectors and from others, which may be none, blocks of 256 with a column for each input.
 ///
 /// # Errors
 ///
 /// Only when out of memory.
 pub fn climbed(
     alloc: Global,
+    starts: &[Items<Lanes>],
     simulator: &mut FlipSim<'_>,
     draws: &mut Draws,
 ) -> Result<Items<Lanes>, AllocError> {
     let mut vectors = Items::new(alloc);
-    for _ in 0..simulator.graph().inputs() {
-        vectors.push(draws.lanes())?;
+    for input in 0..simulator.graph().inputs() {
+        vectors.push(start_of(input as usize, starts, draws.lanes()))?;
     }
     for _ in 0..generations(simulator) {
         vectors = next_generation(alloc, &vectors, simulator, draws)?;
     }
     Ok(vectors)
+}
+
+// What an input has on the vectors from which the climb starts: 64 of each of the first blocks, up to three, and else drawn ones.
+fn start_of(input: usize, starts: &[Items<Lanes>], drawn: Lanes) -> Lanes {
+    let mut words = drawn.to_array();
+    for (place, block) in starts.iter().take(3).enumerate() {
+        if let Some(lanes) = block.get(input) {
+            let [first, _, _, _] = lanes.to_array();
+            words[place % 4] = first;
+        }
+    }
+    Lanes::from_array(words)
 }
 
 // A generation sets few inputs right, so that many inputs take many.

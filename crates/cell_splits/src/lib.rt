@@ -11,9 +11,10 @@ mod lane_counts;
 mod likeness;
 mod link;
 mod patterns;
+mod rare_values;
 mod state;
 
-pub use anchors::anchored;
+pub use anchors::{Starts, anchored};
 pub use assignments::{Assignment, open_in};
 pub use climbing::{BEST, climbed};
 pub use draws::Draws;
@@ -21,4 +22,5 @@ pub use exact::{Keys, add_hashes};
 pub use likeness::Likeness;
 pub use link::Link;
 pub use patterns::Patterns;
+pub use rare_values::rare_blocks;
 pub use state::State;

@@ -99,18 +99,33 @@ impl Tally {
     /// # Errors
     ///
     /// Only when out of memory.
-    pub fn counts(self, alloc: Global) -> Result<Counts, AllocError> {
-        let Tally {
-            vectors,
-            ones,
-            of_inputs,
-        } = self;
-        let kept = changing(alloc, &of_inputs)?;
-        let of_outputs = turned(alloc, &kept, ones.len())?;
+    pub fn counts(&self, alloc: Global) -> Result<Counts, AllocError> {
+        let kept = changing(alloc, &self.of_inputs)?;
+        let of_outputs = turned(alloc, &kept, self.ones.len())?;
         Ok(Counts {
-            vectors,
-            ones: Items::from_vec(ones),
+            vectors: self.vectors,
+            ones: Items::from_vec(self.ones.clone()?),
             of_inputs: kept,
+            of_outputs,
+        })
+    }
+
+    /// In which directions outputs were seen to change with inputs: each count is 0 or 1, whatever the vectors were drawn by. How
+    /// often outputs are true isn't told.
+    ///
+    /// # Errors
+    ///
+    /// Only when out of memory.
+    pub fn signs(&self, alloc: Global) -> Result<Counts, AllocError> {
+        let mut of_inputs = Items::new(alloc);
+        for influences in self.of_inputs.iter() {
+            of_inputs.push(signs_of(alloc, influences)?)?;
+        }
+        let of_outputs = turned(alloc, &of_inputs, self.ones.len())?;
+        Ok(Counts {
+            vectors: 0,
+            ones: Items::from_vec(vec![in alloc; 0u32; self.ones.len()]?),
+            of_inputs,
             of_outputs,
         })
     }
@@ -174,6 +189,21 @@ fn some_of(alloc: Global, influences: &[Influence]) -> Result<Items<Influence>, 
         }
     }
     Ok(kept)
+}
+
+// The influences that are some, with 1 for each count that isn't 0.
+fn signs_of(alloc: Global, influences: &[Influence]) -> Result<Items<Influence>, AllocError> {
+    let mut signs = Items::new(alloc);
+    for influence in influences.iter() {
+        if influence.changes() > 0 {
+            signs.push(Influence {
+                port: influence.port,
+                agrees: influence.agrees.min(1),
+                differs: influence.differs.min(1),
+            })?;
+        }
+    }
+    Ok(signs)
 }
 
 // The influences on each output, from those of each input.

@@ -1,9 +1,10 @@
 //! What is counted of both circuits at first.
 
-use cell_splits::Draws;
-use flip_sim::{FlipSim, all_lanes, blocks_of_all};
+use cell_splits::{Draws, rare_blocks};
+use flip_sim::{FlipSim, Lanes, all_lanes, blocks_of_all};
+use items::Items;
 use net_core::Graph;
-use port_cells::{Counts, Tally};
+use port_cells::{Counts, Influence, Tally, port_at};
 use std::alloc::{AllocError, Global};
 
 /// How many words of gates may be computed so that all vectors are counted: about a fifth of a second. What is counted of
@@ -18,6 +19,10 @@ const MOST_BLOCKS: u64 = 256;
 
 /// The fewest. What is counted on fewer vectors tells little.
 const LEAST_BLOCKS: u64 = 16;
+
+/// An input with fewer changes of outputs on drawn vectors is faint: with 5.5 standard deviations of slack fewer than 32 changes
+/// in one direction don't tell its sign.
+const FEW_CHANGES: u32 = 64;
 
 /// The vectors that are counted, in blocks of 256.
 #[derive(Clone, Copy, Debug, Drop)]
@@ -50,16 +55,22 @@ impl Sample {
 pub(crate) struct Circuit<'a> {
     pub(crate) simulator: FlipSim<'a>,
     pub(crate) counts: Counts,
+    /// Where drawn vectors leave some inputs faint, in which directions outputs were seen to change with inputs, on these vectors
+    /// and on some on which gates have rare values.
+    pub(crate) signs: Option<Counts>,
 }
 
+/// Blocks of 256 vectors, a column for each input.
+pub(crate) type Blocks = Items<Items<Lanes>>;
+
 impl<'a> Circuit<'a> {
-    /// Counts on a sample's vectors.
+    /// Counts on a sample's vectors. Where these leave some inputs faint, also blocks of vectors on which gates have rare values.
     pub(crate) fn new(
         alloc: Global,
         simulator: FlipSim<'a>,
         sample: Sample,
         draws: &mut Draws,
-    ) -> Result<Circuit<'a>, AllocError> {
+    ) -> Result<(Circuit<'a>, Blocks), AllocError> {
         let mut simulator = simulator;
         let mut tally = Tally::new(alloc, &simulator)?;
         for block in 0..sample.blocks {
@@ -68,7 +79,18 @@ impl<'a> Circuit<'a> {
             tally.add(&mut simulator);
         }
         let counts = tally.counts(alloc)?;
-        Ok(Circuit { simulator, counts })
+        let mut rare = Items::new(alloc);
+        let mut signs = None;
+        if !sample.is_all && has_faint(&simulator, &counts) {
+            rare = rare_blocks(alloc, &mut simulator, draws)?;
+            signs = Some(signs_on(alloc, &rare, &mut simulator, &mut tally)?);
+        }
+        let circuit = Circuit {
+            simulator,
+            counts,
+            signs,
+        };
+        Ok((circuit, rare))
     }
 
     /// Whether an input changes no output: on all vectors, or since it reaches none where some are drawn.
@@ -85,6 +107,46 @@ impl<'a> Circuit<'a> {
     /// The circuit's graph.
     pub(crate) fn graph(&self) -> &Graph {
         self.simulator.graph()
+    }
+}
+
+fn changes_of(influences: &[Influence]) -> u32 {
+    let mut changes = 0u32;
+    for influence in influences.iter() {
+        changes = changes.saturating_add(influence.changes());
+    }
+    changes
+}
+
+// Whether some input that reaches outputs changes them on few vectors.
+fn has_faint(simulator: &FlipSim<'_>, counts: &Counts) -> bool {
+    for (input, influences) in counts.of_inputs.iter().enumerate() {
+        let is_reaching = !simulator.reached(port_at(input)).is_empty();
+        if is_reaching & (changes_of(influences) < FEW_CHANGES) {
+            return true;
+        }
+    }
+    false
+}
+
+// In which directions outputs change on blocks of vectors too.
+fn signs_on(
+    alloc: Global,
+    blocks: &[Items<Lanes>],
+    simulator: &mut FlipSim<'_>,
+    tally: &mut Tally,
+) -> Result<Counts, AllocError> {
+    for block in blocks.iter() {
+        put_columns(block, simulator);
+        simulator.run();
+        tally.add(simulator);
+    }
+    tally.signs(alloc)
+}
+
+fn put_columns(block: &[Lanes], simulator: &mut FlipSim<'_>) {
+    for (input, lanes) in block.iter().enumerate() {
+        simulator.set_input(port_at(input), *lanes);
     }
 }
 

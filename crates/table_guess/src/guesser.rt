@@ -5,7 +5,7 @@ ghost use Rattle.circuits.specs.Matches.{HavePorts};
 
 use crate::choice::{Next, next_point};
 use crate::choice_point::{ChoicePoint, next_state};
-use crate::circuit::{Circuit, Sample};
+use crate::circuit::{Blocks, Circuit, Sample};
 use crate::kept::Kept;
 use crate::leaf::with_paired_outputs;
 use crate::matching::matching_of;
@@ -13,7 +13,8 @@ use crate::patience::Patience;
 use crate::signs::{has_known_sign, has_one_open_cell, with_plain_signs};
 use bit_list::Bits;
 use cell_splits::{
-    Assignment, BEST, Draws, Keys, Likeness, Link, Patterns, State, anchored, climbed, open_in,
+    Assignment, BEST, Draws, Keys, Likeness, Link, Patterns, Starts, State, anchored, climbed,
+    open_in,
 };
 use flip_sim::{FlipSim, Lanes};
 use items::Items;
@@ -69,6 +70,10 @@ const FEW_ASSIGNMENTS: u32 = 4;
 
 const MANY_BLOCKS: u64 = 16;
 
+/// How often in a round assignments of inputs whose signs are known may tell nothing. Of inputs that are alike, as those of a parity,
+/// they never do, and of two numbers that are compared always.
+const MOST_IN_VAIN: u32 = 4;
+
 /// How many responses of gates to inputs may be compared so that inputs are paired by likeness. With an eighth of them tables of
 /// the count of 128 inputs, and of the parity of 128 beside an AND, were found whose gates aren't in line, which isn't proved in
 /// ten seconds.
@@ -119,6 +124,9 @@ enum Attempt {
 pub struct Guesser<'a> {
     first: Circuit<'a>,
     second: Circuit<'a>,
+    /// Vectors of each circuit on which gates have rare values, where drawn ones leave inputs faint.
+    first_rare: Blocks,
+    second_rare: Blocks,
     sample: Sample,
     draws: Draws,
     kept: Kept,
@@ -129,6 +137,8 @@ pub struct Guesser<'a> {
     responses: u64,
     /// Whether one input's sign decides those of nearly all others, as in a majority, which is its own dual.
     are_signs_linked: bool,
+    /// How often in this round counts under assignments split no cell of inputs whose signs are known.
+    in_vain: u32,
     /// Whether all that was counted was counted on all vectors. Then a search that is exhausted has missed no table.
     is_exact: bool,
     /// How many words of gates were computed for the first counts, and how many more may be, with little effort and at all.
@@ -154,8 +164,8 @@ impl<'a> Guesser<'a> {
         let words = first.words_of_flips().max(second.words_of_flips());
         let sample = Sample::new(graphs.first().inputs(), words);
         let mut draws = Draws::new(seed);
-        let first = Circuit::new(alloc, first, sample, &mut draws)?;
-        let second = Circuit::new(alloc, second, sample, &mut draws)?;
+        let (first, first_rare) = Circuit::new(alloc, first, sample, &mut draws)?;
+        let (second, second_rare) = Circuit::new(alloc, second, sample, &mut draws)?;
         let kept = Kept::new(alloc, graphs.first().inputs())?;
         let inputs = graphs.first().inputs() as u64;
         let runs = MOST_RUNS.max(inputs.saturating_mul(MOST_RUNS_EACH));
@@ -167,6 +177,8 @@ impl<'a> Guesser<'a> {
         Ok(Guesser {
             first,
             second,
+            first_rare,
+            second_rare,
             sample,
             draws,
             kept,
@@ -174,6 +186,7 @@ impl<'a> Guesser<'a> {
             round: 0,
             responses: MOST_RESPONSES,
             are_signs_linked: false,
+            in_vain: 0,
             is_exact: sample.is_all,
             counted,
             few_words: words.saturating_mul(few_runs),
@@ -218,6 +231,7 @@ impl<'a> Guesser<'a> {
                 return Ok(None);
             }
             self.round = round;
+            self.in_vain = 0;
             match self.search_round(alloc, root.copy()?, failures)? {
                 Attempt::Paired(state) => return Ok(Some(state)),
                 Attempt::Exhausted if self.is_exact => return Ok(None),
@@ -239,6 +253,7 @@ impl<'a> Guesser<'a> {
         let Some(root) = self.linked(alloc, root)? else {
             return Ok(Attempt::Exhausted);
         };
+        let root = self.signed(alloc, root)?;
         if self.round == 0
             && let Some(plain) = with_plain_signs(alloc, &root)?
             && let Attempt::Paired(state) = self.search(alloc, plain, PLAIN_FAILURES)?
@@ -270,6 +285,10 @@ impl<'a> Guesser<'a> {
         let mut states = anchored(
             alloc,
             &root,
+            Starts {
+                first: &self.first_rare,
+                second: &self.second_rare,
+            },
             &mut self.first.simulator,
             &mut self.second.simulator,
             &mut self.draws,
@@ -432,12 +451,31 @@ impl<'a> Guesser<'a> {
         let split = if state.inputs.has_open() {
             self.split_by_assignments(alloc, state)?
         } else {
-            self.split_by_vectors(alloc, state)?
+            self.split_known(alloc, state)?
         };
         match split {
             Some(state) => self.linked(alloc, state),
             None => Ok(None),
         }
+    }
+
+    // Splits cells whose signs are known, by counts under assignments too where vectors tell nothing and drawn ones left inputs
+    // faint: of two numbers that are compared the next bits matter once those above them are equal.
+    fn split_known(&mut self, alloc: Global, state: State) -> Result<Option<State>, AllocError> {
+        let before = state.count();
+        let Some(state) = self.split_by_vectors(alloc, state)? else {
+            return Ok(None);
+        };
+        if state.count() > before || self.first.signs.is_none() || self.in_vain >= MOST_IN_VAIN {
+            return Ok(Some(state));
+        }
+        let Some(state) = self.split_under(alloc, state, MANY_ASSIGNMENTS, 1)? else {
+            return Ok(None);
+        };
+        if state.count() == before {
+            self.in_vain = self.in_vain.saturating_add(1);
+        }
+        Ok(Some(state))
     }
 
     // Splits cells by counts under assignments, of more vectors where few tell nothing.
@@ -520,7 +558,12 @@ impl<'a> Guesser<'a> {
             return Assignment::draw(alloc, &state.inputs, blocks, &mut self.draws);
         }
         if self.climbed.is_empty() {
-            self.climbed = climbed(alloc, &mut self.first.simulator, &mut self.draws)?;
+            self.climbed = climbed(
+                alloc,
+                &self.first_rare,
+                &mut self.first.simulator,
+                &mut self.draws,
+            )?;
         }
         let lane = self.draws.below(BEST);
         Assignment::by_majority(alloc, &state.inputs, &self.climbed, lane, blocks)
@@ -566,6 +609,26 @@ impl<'a> Guesser<'a> {
             slack: self.slack(vectors, self.sample.is_all),
         };
         link.split(alloc, state)
+    }
+
+    // The directions in which outputs were seen to change, where that was looked at in both circuits.
+    fn sign_link(&self) -> Option<Link<'_>> {
+        Some(Link {
+            first: self.first.signs.as_ref()?,
+            second: self.second.signs.as_ref()?,
+            slack: None,
+        })
+    }
+
+    // Splits cells by directions, if that can be: rare changes may have been seen in one circuit alone.
+    fn signed(&self, alloc: Global, state: State) -> Result<State, AllocError> {
+        let Some(link) = self.sign_link() else {
+            return Ok(state);
+        };
+        match link.split(alloc, state.copy()?)? {
+            Some(finer) => Ok(finer),
+            None => Ok(state),
+        }
     }
 
     // 5.5, 6.25 and 7 standard deviations in turn: a match is missed where one of many counts is farther off.
