@@ -92,6 +92,6 @@ adding_more held few more pairs index d below is part stays here = record {
 }
 
 -- what is gathered, as it is lent
-pub gathered_as : (es : List Entry) (skipped other : Option Pair) (bans bans_now : List Ban) (ways ways_now pairs pairs_now : List Pair) → skipped ≡ other → bans ≡ bans_now → ways ≡ ways_now → pairs ≡ pairs_now → AreAllGathered bans es ways skipped pairs → AreAllGathered bans_now es ways_now other pairs_now
-gathered_as es skipped other bans bans_now ways ways_now pairs pairs_now one two three four is =
-    subst (λ (s : Option Pair). AreAllGathered bans_now es ways_now s pairs_now) one (subst (λ (bs : List Ban). AreAllGathered bs es ways_now skipped pairs_now) two (subst (λ (ws : List Pair). AreAllGathered bans es ws skipped pairs_now) three (subst (λ (ps : List Pair). AreAllGathered bans es ways skipped ps) four is)))
+pub gathered_as : (es : List Entry) (skipped other : Option Pair) (bans bans_now : List Ban) (ways ways_now pairs pairs_now : List Pair) (noted noted_now : List (Option ℕ)) → skipped ≡ other → bans ≡ bans_now → ways ≡ ways_now → pairs ≡ pairs_now → noted ≡ noted_now → AreAllGathered bans es ways skipped pairs noted → AreAllGathered bans_now es ways_now other pairs_now noted_now
+gathered_as es skipped other bans bans_now ways ways_now pairs pairs_now noted noted_now one two three four five is =
+    subst (λ (s : Option Pair). AreAllGathered bans_now es ways_now s pairs_now noted_now) one (subst (λ (bs : List Ban). AreAllGathered bs es ways_now skipped pairs_now noted_now) two (subst (λ (ws : List Pair). AreAllGathered bans es ws skipped pairs_now noted_now) three (subst (λ (ps : List Pair). AreAllGathered bans es ways skipped ps noted_now) four (subst (AreAllGathered bans es ways skipped pairs) five is))))

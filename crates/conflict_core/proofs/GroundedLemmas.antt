@@ -1,7 +1,8 @@
 -- Deletions that facts show, and bans that are made of them.
-use Rattle.std.proofs.Common.{◌≡◌, ℕ, ◌<◌, List, [], ◌∷◌, ◌++◌, length, get_or, take, All, Contains, Option, None, Some, IfSome, refl, sym, ap, subst, ◌∙◌, inl, inr, append_assoc, append-nil, arith}
+use Rattle.std.proofs.Common.{◌≡◌, ℕ, zero, suc, ◌<◌, List, [], ◌∷◌, ◌++◌, length, get_or, take, All, Contains, Option, None, Some, IfSome, refl, sym, ap, subst, ◌∙◌, inl, inr, append_assoc, append-nil, arith}
 use Rattle.std.proofs.lemmas.List.{get_or_append_left, length-append}
 use Rattle.std.proofs.lemmas.List.Elements.{All-contains, All-contains_itself, All-cons, All-nil, All-push, All-take}
+use Rattle.std.specs.List.{AllZip}
 use Rattle.circuits.specs.declared.port.Pair.{Pair}
 use Rattle.circuits.specs.declared.port.PortKind.{PortKind}
 use Rattle.circuits.specs.declared.port.PortKind.TheVariants.{Input, Output}
@@ -94,12 +95,21 @@ pub closed_later : (before added after : List Ban) (pairs ways : List Pair) (ref
 closed_later before added after pairs ways refs more are =
     subst (λ bs. AreClosed bs pairs ways refs) (sym more) (zip_map (IsClosed before pairs) (IsClosed (before ++ added) pairs) ways refs (λ way ref is. closed_beside before added pairs way ref is) are)
 
+-- what is so of all of two lists is so at a place
+pub zip_at : {A B : Type 0} (R : A → B → Type 0) (xs : List A) (ys : List B) (i : ℕ) (d : A) (e : B) → AllZip R xs ys → i < length xs → R (get_or xs i d) (get_or ys i e)
+zip_at R [] ys i d e are below = let no : ⊥ = omega arith in absurd no
+zip_at R (x ∷ xs) [] i d e are below = absurd are
+zip_at R (x ∷ xs) (y ∷ ys) zero d e are below = are.0
+zip_at R (x ∷ xs) (y ∷ ys) (suc i) d e are below = zip_at R xs ys i d e are.1 (omega arith)
+
 -- what is gathered is so beside more bans
-pub gathered_later : (before added after : List Ban) (es : List Entry) (pairs : List Pair) (skipped : Option Pair) (way : Pair) → after ≡ before ++ added → IsLeftOutOr skipped way (IsGathered before es pairs way) → IsLeftOutOr skipped way (IsGathered after es pairs way)
-gathered_later before added after es pairs skipped way more (inl same) = inl same
-gathered_later before added after es pairs skipped way more (inr (inl impossible)) = inr (inl impossible)
-gathered_later before added after es pairs skipped way more (inr (inr is)) =
+pub gathered_later : (before added after : List Ban) (es : List Entry) (pairs : List Pair) (skipped : Option Pair) (way : Pair) (noted : Option ℕ) → after ≡ before ++ added → IsLeftOutOr skipped way (IsGathered before es pairs way noted) → IsLeftOutOr skipped way (IsGathered after es pairs way noted)
+gathered_later before added after es pairs skipped way noted more (inl same) = inl same
+gathered_later before added after es pairs skipped way None more (inr (inl impossible)) = inr (inl impossible)
+gathered_later before added after es pairs skipped way None more (inr (inr is)) =
     inr (inr (is.0, is.1, named_later before added after pairs way is.0 more is.2))
+gathered_later before added after es pairs skipped way (Some number) more (inr is) =
+    inr (covers_later before added after (way ∷ pairs) number more is)
 
 pub resolved_later : (before added after : List Ban) (pairs : List Pair) (resolved : Option Resolved) → after ≡ before ++ added → IfSome resolved (λ it. Covers before (it.way ∷ pairs) it.ban) → IfSome resolved (λ it. Covers after (it.way ∷ pairs) it.ban)
 resolved_later before added after pairs None more is = is

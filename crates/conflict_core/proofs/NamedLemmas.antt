@@ -1,6 +1,7 @@
 -- What reasons name, and what is gathered of it.
-use Rattle.std.proofs.Common.{◌≡◌, ◌≢◌, ℕ, ◌+◌, ◌*◌, ◌<◌, List, [], ◌∷◌, length, get_or, take, All, AllPairs, Contains, Option, refl, subst, inl, inr, arith}
+use Rattle.std.proofs.Common.{◌≡◌, ◌≢◌, ℕ, ◌+◌, ◌*◌, ◌<◌, List, [], ◌∷◌, length, get_or, take, All, AllPairs, Contains, Option, None, Some, ◌++◌, refl, sym, subst, inl, inr, arith}
 use Rattle.std.proofs.lemmas.List.Elements.{All-contains, All-contains_itself, All-more, All-nil, All-weaker}
+use Rattle.std.specs.List.{AllZip}
 use Rattle.circuits.specs.declared.port.Pair.{Pair}
 use Rattle.circuits.specs.declared.port.PortKind.{PortKind}
 use Rattle.net_core.specs.declared.graphs.Side.{Side}
@@ -8,6 +9,7 @@ use Rattle.net_core.specs.declared.graphs.Side.TheVariants.{First, Second}
 use Rattle.account_core.specs.declared.step.Ban.{Ban}
 use Rattle.account_core.specs.Ports.{Clash}
 use Rattle.ban_book.specs.Covering.{IsWithin}
+use Rattle.ban_book.proofs.ListLemmas.{zip_map, zip_taken}
 use Rattle.port_covers.specs.Held.{IsPart}
 use Rattle.port_covers.specs.declared.block.Block.{Block}
 use Rattle.port_covers.specs.Ways.{nth_way, ways_in, IsBlock}
@@ -20,6 +22,7 @@ use Rattle.class_refine.specs.declared.entry.Reason.{Reason}
 use Rattle.class_refine.specs.declared.entry.Reason.TheVariants as reason
 use Rattle.class_refine.specs.Trails.{IsPairOf, ports_of}
 use Rattle.class_refine.proofs.EntryLemmas.{one_entry}
+use Rattle.conflict_core.proofs.ConflictLemmas.{covers_among}
 use Rattle.conflict_core.specs.Named.{AreAllGathered, AreAllNamed, AreNamed, IsGathered, IsLeftOutOr, IsNamedIn, deleted}
 
 within_more : (few more : List Pair) (way : Pair) (ban : Ban) → All (Contains more) few → IsWithin (way ∷ few) ban → IsWithin (way ∷ more) ban
@@ -31,13 +34,14 @@ named_more bans few more way (reason.Clash with) stays is = (All-contains (Conta
 named_more bans few more way (reason.Ban number) stays is = record { held = is.held; within = λ d. within_more few more way _ stays (is.within d) }
 named_more bans few more way (reason.Mismatch with fails holds) stays is = All-contains (Contains more) few with stays is
 
-pub gathered_more : (bans : List Ban) (entries : List Entry) (few more : List Pair) (way : Pair) → All (Contains more) few → IsGathered bans entries few way → IsGathered bans entries more way
-gathered_more bans entries few more way stays (inl impossible) = inl (any_more (λ (x : Pair). Clash x way) few more stays impossible)
-gathered_more bans entries few more way stays (inr is) = inr (is.0, is.1, named_more bans few more way is.0 stays is.2)
+pub gathered_more : (bans : List Ban) (entries : List Entry) (few more : List Pair) (way : Pair) (noted : Option ℕ) → All (Contains more) few → IsGathered bans entries few way noted → IsGathered bans entries more way noted
+gathered_more bans entries few more way None stays (inl impossible) = inl (any_more (λ (x : Pair). Clash x way) few more stays impossible)
+gathered_more bans entries few more way None stays (inr is) = inr (is.0, is.1, named_more bans few more way is.0 stays is.2)
+gathered_more bans entries few more way (Some number) stays is = covers_among bans way few more number stays is
 
-left_out_more : (bans : List Ban) (entries : List Entry) (few more : List Pair) (skipped : Option Pair) (way : Pair) → All (Contains more) few → IsLeftOutOr skipped way (IsGathered bans entries few way) → IsLeftOutOr skipped way (IsGathered bans entries more way)
-left_out_more bans entries few more skipped way stays (inl same) = inl same
-left_out_more bans entries few more skipped way stays (inr is) = inr (gathered_more bans entries few more way stays is)
+left_out_more : (bans : List Ban) (entries : List Entry) (few more : List Pair) (skipped : Option Pair) (way : Pair) (noted : Option ℕ) → All (Contains more) few → IsLeftOutOr skipped way (IsGathered bans entries few way noted) → IsLeftOutOr skipped way (IsGathered bans entries more way noted)
+left_out_more bans entries few more skipped way noted stays (inl same) = inl same
+left_out_more bans entries few more skipped way noted stays (inr is) = inr (gathered_more bans entries few more way noted stays is)
 
 -- a deleted way has one reason
 abbrev named_by : List Ban → List Pair → Pair → Fate → Type 0
@@ -68,21 +72,23 @@ named_as es skipped other bans bans_now ways ways_now pairs one two three is =
     subst (λ (s : Option Pair). AreAllNamed bans_now es ways_now s pairs) one (subst (λ (bs : List Ban). AreAllNamed bs es ways_now skipped pairs) two (subst (λ (ws : List Pair). AreAllNamed bans es ws skipped pairs) three is))
 
 -- what is gathered of some ways
-pub record AreGathered (bans : List Ban) (entries : List Entry) (held before now ways : List Pair) (skipped : Option Pair) : Type 0 where
+pub record AreGathered (bans : List Ban) (entries : List Entry) (held before now ways : List Pair) (skipped : Option Pair) (noted : List (Option ℕ)) : Type 0 where
   pub part : IsPart held now
   pub stays : All (Contains now) before
-  pub each : AreAllGathered bans entries ways skipped now
+  pub each : AreAllGathered bans entries ways skipped now noted
 
-pub gathered_none : (bans : List Ban) (entries : List Entry) (held before : List Pair) (skipped : Option Pair) → IsPart held before → AreGathered bans entries held before before [] skipped
-gathered_none bans entries held before skipped part = record {
+pub gathered_none : (bans : List Ban) (entries : List Entry) (held before : List Pair) (skipped : Option Pair) (noted : List (Option ℕ)) → noted ≡ [] → IsPart held before → AreGathered bans entries held before before [] skipped noted
+gathered_none bans entries held before skipped noted none part = record {
   part = part;
   stays = All-contains_itself before;
-  each = All-nil (λ way. IsLeftOutOr skipped way (IsGathered bans entries before way));
+  each = subst (AreAllGathered bans entries [] skipped before) (sym none) tt;
 }
 
-pub gathered_one : (bans : List Ban) (entries : List Entry) (held before few more ways : List Pair) (skipped : Option Pair) (index : ℕ) (d : Pair) → index < length ways → AreGathered bans entries held before few (take index ways) skipped → IsPart held more → All (Contains more) few → IsLeftOutOr skipped (get_or ways index d) (IsGathered bans entries more (get_or ways index d)) → AreGathered bans entries held before more (take (index + 1) ways) skipped
-gathered_one bans entries held before few more ways skipped index d below are part stays here = record {
-  part = part;
-  stays = among_more before few more are.stays stays;
-  each = All-more (λ way. IsLeftOutOr skipped way (IsGathered bans entries more way)) ways index d below (All-weaker (λ way. IsLeftOutOr skipped way (IsGathered bans entries few way)) (λ way. IsLeftOutOr skipped way (IsGathered bans entries more way)) (λ way is. left_out_more bans entries few more skipped way stays is) (take index ways) are.each) here;
-}
+pub gathered_one : (bans : List Ban) (entries : List Entry) (held before few more ways : List Pair) (skipped : Option Pair) (noted noted_now : List (Option ℕ)) (index : ℕ) (d : Pair) (number : Option ℕ) → index < length ways → noted_now ≡ noted ++ number ∷ [] → AreGathered bans entries held before few (take index ways) skipped noted → IsPart held more → All (Contains more) few → IsLeftOutOr skipped (get_or ways index d) (IsGathered bans entries more (get_or ways index d) number) → AreGathered bans entries held before more (take (index + 1) ways) skipped noted_now
+gathered_one bans entries held before few more ways skipped noted noted_now index d number below pushed are part stays here =
+    let R : List Pair → Pair → Option ℕ → Type 0 = λ pairs way n. IsLeftOutOr skipped way (IsGathered bans entries pairs way n) in
+    record {
+      part = part;
+      stays = among_more before few more are.stays stays;
+      each = subst (AllZip (R more) (take (index + 1) ways)) (sym pushed) (zip_taken (R more) ways index d noted number below (zip_map (R few) (R more) (take index ways) noted (λ way n is. left_out_more bans entries few more skipped way n stays is) are.each) here);
+    }

@@ -83,15 +83,19 @@ pub fn cover_block(
 {
     let ways = ways_in(alloc, &block)?;
     let mut pairs = pairs;
-    gather(
+    let noted = gather(
+        alloc,
         domains,
         held,
         book.bans(),
         &ways,
         way_of(resolved),
+        made,
         &mut pairs,
     )?;
-    let refs = refer(alloc, graphs, domains, &ways, &pairs, resolved, made, book)?;
+    let refs = refer(
+        alloc, graphs, domains, &ways, &noted, &pairs, resolved, made, book,
+    )?;
     let ban = hold_cover(alloc, graphs, &pairs, block, refs, book)?;
     Ok(Conflict { pairs, ban })
 }

@@ -1,72 +1,82 @@
 //! The pairs that deleted ways need.
 
-ghost use Rattle.std.specs.Prelude.{◌≡◌, ◌↔◌, All, AllPairs, Contains, IsTrue, OnOk, Some};
+ghost use Rattle.std.specs.Prelude.{◌≡◌, ◌↔◌, All, AllPairs, Contains, IfOk, IsTrue, OnOk, Some};
 ghost use Rattle.account_core.specs.Covers.{IsImpossible};
 ghost use Rattle.port_covers.specs.Held.{AddsHeld, AreApart, IsPart};
 ghost use Rattle.class_refine.specs.Trails.{IsPairOf};
 ghost use Rattle.conflict_core.specs.Named.{AreAllGathered, AreAllNamed, AreNamed, IsGathered, IsLeftOutOr, IsNamedIn};
 
+use crate::mismatch::{Mismatches, made_beside};
 use account_core::Ban;
 use circuits::Pair;
 use class_refine::{Domains, Reason};
 use port_covers::clash::clashing;
 use port_covers::cover::{add_one, add_others};
-use std::alloc::AllocError;
+use std::alloc::{AllocError, Global};
 
 /// Adds held pairs to those of a conflict, until all of some ways but one that is left out are impossible beside them, or
 /// were deleted for a reason that names none but them. The pairs come from those that are held, and each way was deleted
-/// for a reason that names held pairs alone. A way that is impossible beside the conflict's pairs needs none.
+/// for a reason that names held pairs alone. A way that is impossible beside the conflict's pairs needs none, nor does one
+/// that a ban of a mismatch excludes beside one of them: for each such way that ban's number is answered.
 pub(crate) fn gather(
+    alloc: Global,
     domains: &Domains,
     held: &[Pair],
     bans: &[Ban],
     ways: &[Pair],
     skipped: Option<Pair>,
+    made: &Mismatches,
     conflict: &mut Vec<Pair>,
-) -> Result<(), AllocError>
+) -> Result<Vec<Option<u64>>, AllocError>
     requires known { All (IsPairOf domains.now.inputs domains.now.outputs) ways.now }
     requires apart { AllPairs AreApart held.now }
     requires named { AreAllNamed bans.now domains.now.entries ways.now skipped held.now }
     requires part { IsPart held.now conflict.old.items }
     ensures adds { OnOk result (AddsHeld held.now conflict.old.items conflict.new.items) }
-    ensures gathered { OnOk result
-        (AreAllGathered bans.now domains.now.entries ways.now skipped conflict.new.items) }
+    ensures gathered { IfOk result (λ noted.
+        AreAllGathered bans.now domains.now.entries ways.now skipped conflict.new.items noted.items) }
 {
+    let mut noted = Vec::new(alloc);
     for way in ways.iter() {
-        gather_way(domains, held, bans, *way, skipped, conflict)?;
+        let number = gather_way(domains, held, bans, *way, skipped, made, conflict)?;
+        noted.push(number)?;
     }
-    Ok(())
+    Ok(noted)
 }
 
-// Adds the pairs that one way needs, if it isn't left out.
+// Adds the pairs that one way needs, if it isn't left out. Answers the number of a ban by which it needs none.
 fn gather_way(
     domains: &Domains,
     held: &[Pair],
     bans: &[Ban],
     way: Pair,
     skipped: Option<Pair>,
+    made: &Mismatches,
     conflict: &mut Vec<Pair>,
-) -> Result<(), AllocError>
+) -> Result<Option<u64>, AllocError>
     requires known { IsPairOf domains.now.inputs domains.now.outputs way }
     requires apart { AllPairs AreApart held.now }
     requires named { IsLeftOutOr skipped way (IsNamedIn bans.now domains.now.entries held.now way) }
     requires part { IsPart held.now conflict.old.items }
     ensures adds { OnOk result (AddsHeld held.now conflict.old.items conflict.new.items) }
-    ensures gathered { OnOk result
-        (IsLeftOutOr skipped way (IsGathered bans.now domains.now.entries conflict.new.items way)) }
+    ensures gathered { IfOk result (λ number.
+        IsLeftOutOr skipped way (IsGathered bans.now domains.now.entries conflict.new.items way number)) }
 {
     if is_left_out(skipped, way) {
-        return Ok(());
+        return Ok(None);
     }
     if is_impossible(conflict, way) {
-        return Ok(());
+        return Ok(None);
+    }
+    if let Some(number) = made_beside(made, bans, way, conflict) {
+        return Ok(Some(number));
     }
     let _lawful = domains.entries();
     let Some(reason) = domains.reason(way) else {
         unreachable!()
     };
     add_named(held, bans, way, reason, conflict)?;
-    Ok(())
+    Ok(None)
 }
 
 fn is_left_out(skipped: Option<Pair>, way: Pair) -> bool

@@ -13,4 +13,4 @@ pub use conflict::{Conflict, conflict_of_ban, cover_block, cover_port};
 pub use learned::{Back, Learned};
 pub use mismatch::Mismatches;
 pub use port::{Port, Resolved};
-pub use resolution::resolve;
+pub use resolution::{choice_between, resolve};

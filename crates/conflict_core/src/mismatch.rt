@@ -58,6 +58,23 @@ pub(crate) fn hold_mismatch(
     Ok(number)
 }
 
+/// The number of a ban that was made of a way's mismatch with one of some pairs.
+pub(crate) fn made_beside(
+    made: &Mismatches,
+    bans: &[Ban],
+    way: Pair,
+    pairs: &[Pair],
+) -> Option<u64>
+    ensures { IfSome result (Covers bans.now (way ∷ pairs.now)) }
+{
+    for with in pairs.iter() {
+        if let Some(number) = made_before(made, bans, way, *with) {
+            return Some(number);
+        }
+    }
+    None
+}
+
 // The number of a ban of two pairs that was made before.
 fn made_before(made: &Mismatches, bans: &[Ban], way: Pair, with: Pair) -> Option<u64>
     ensures { IfSome result (Covers bans.now (way ∷ with ∷ [])) }

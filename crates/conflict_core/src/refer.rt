@@ -20,13 +20,14 @@ use port_sides::PairableGraphs;
 use std::alloc::{AllocError, Global};
 
 /// The references of some ways in a cover whose ban has a conflict's pairs. Each way is impossible beside them, or was
-/// deleted for a reason that names none but them, or was held and leads into a ban of them and it. The bans of ways that
-/// were deleted by mismatches are held now, if they weren't.
+/// deleted for a reason that names none but them, or was held and leads into a ban of them and it; or the ban that is noted for
+/// it leads there. The bans of ways that were deleted by mismatches are held now, if they weren't.
 pub(crate) fn refer(
     alloc: Global,
     graphs: &PairableGraphs<'_>,
     domains: &Domains,
     ways: &[Pair],
+    noted: &[Option<u64>],
     conflict: &[Pair],
     resolved: Option<Resolved>,
     made: &mut Mismatches,
@@ -34,13 +35,16 @@ pub(crate) fn refer(
 ) -> Result<Items<Option<u64>>, AllocError>
     requires known { All (IsPairOf domains.now.inputs domains.now.outputs) ways.now }
     requires resolved { LeadsIntoBan book.old conflict.now resolved }
-    requires gathered { AreAllGathered book.old domains.now.entries ways.now (left_out resolved) conflict.now }
+    requires gathered { AreAllGathered book.old domains.now.entries ways.now (left_out resolved) conflict.now noted.now }
     ensures more { LearnsMore graphs.now domains.now.entries book.old book.new }
     ensures closed { IfOk result (AreClosed book.new conflict.now ways.now) }
 {
     let mut refs = Items::new(alloc);
-    for way in ways.iter() {
-        let reference = reference(alloc, graphs, domains, *way, conflict, resolved, made, book)?;
+    for (place, way) in ways.iter().enumerate() {
+        let number = noted[place];
+        let reference = reference(
+            alloc, graphs, domains, *way, number, conflict, resolved, made, book,
+        )?;
         refs.push(reference)?;
     }
     Ok(refs)
@@ -52,6 +56,7 @@ fn reference(
     graphs: &PairableGraphs<'_>,
     domains: &Domains,
     way: Pair,
+    noted: Option<u64>,
     conflict: &[Pair],
     resolved: Option<Resolved>,
     made: &mut Mismatches,
@@ -60,7 +65,7 @@ fn reference(
     requires known { IsPairOf domains.now.inputs domains.now.outputs way }
     requires resolved { LeadsIntoBan book.old conflict.now resolved }
     requires gathered { IsLeftOutOr (left_out resolved) way
-        (IsGathered book.old domains.now.entries conflict.now way) }
+        (IsGathered book.old domains.now.entries conflict.now way noted) }
     ensures more { LearnsMore graphs.now domains.now.entries book.old book.new }
     ensures closed { IfOk result (IsClosed book.new conflict.now way) }
 {
@@ -69,6 +74,9 @@ fn reference(
     }
     if let Some(ban) = ban_of_resolved(resolved, way) {
         return Ok(Some(ban));
+    }
+    if let Some(number) = noted {
+        return Ok(Some(number));
     }
     let ban = ban_of_deleted(alloc, graphs, domains, way, conflict, made, book)?;
     Ok(Some(ban))

@@ -164,8 +164,8 @@ fn after_others(domains: &Domains, last: usize, pairs: &[Pair]) -> usize
     }
 }
 
-// The first choice from one place on, and before another.
-fn choice_between(entries: &[Entry], from: usize, to: usize) -> Option<usize>
+/// The first choice from one place on, and before another.
+pub fn choice_between(entries: &[Entry], from: usize, to: usize) -> Option<usize>
     requires { to ≤ length entries.now }
     ensures choice { IfSome result (IsChoiceAt entries.now) }
     ensures from { IfSome result (λ place. from ≤ place) }

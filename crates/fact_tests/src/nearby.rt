@@ -5,6 +5,7 @@ ghost use Rattle.circuits.specs.Netlists.{Net};
 ghost use Rattle.query_core.specs.Claims.{BreaksShape, IsPlaced};
 ghost use Rattle.fact_tests.specs.Hunting.{IsOf};
 
+use crate::sightings::group_with;
 use bit_list::Bits;
 use items::Items;
 use net_core::Graph;
@@ -22,7 +23,8 @@ const PASSES_A_QUESTION: u32 = 64;
 
 /// What is seen of outputs on vectors near those that questions about them gave. Where few vectors break a claim, as with the
 /// carry of an adder, those that are drawn don't show it; but one that breaks another claim of the output tells where to
-/// look. Contracts see it as the circuit.
+/// look, and of other outputs too: the carry goes on to those after it. So all outputs of a group (`Sightings`) are looked at.
+/// Contracts see it as the circuit.
 #[derive(Drop)]
 pub(crate) struct Nearby<'a> {
     graph: &'a Graph,
@@ -98,7 +100,8 @@ impl<'a> Nearby<'a> {
         }
         self.passes = 0;
         let seed = self.seed.wrapping_add(self.made);
-        let signatures = Signatures::near(alloc, self.graph, output, vector, seed)?;
+        let (first, count) = group_with(self.graph, output);
+        let signatures = Signatures::near(alloc, self.graph, first, count, vector, seed)?;
         hold(signatures, self.made, &mut self.held)?;
         self.made = self.made.wrapping_add(1);
         Ok(())

@@ -1,6 +1,6 @@
 //! Vectors that were seen to break claims.
 
-ghost use Rattle.std.specs.Prelude.{◌≡◌, ◌<◌, IfOk, IfSome, length};
+ghost use Rattle.std.specs.Prelude.{◌≡◌, ◌+◌, ◌<◌, ◌≤◌, IfOk, IfSome, length};
 ghost use Rattle.query_core.specs.Claims.{BreaksShape, IsPlaced};
 ghost use Rattle.fact_tests.specs.Hunting.{IsGroup};
 
@@ -85,8 +85,19 @@ fn group_of<'a>(
     requires { output < length graph.now.outputs }
     ensures { IfOk result (IsGroup graph.now output) }
 {
+    let (first, count) = group_with(graph, output);
+    Signatures::new(alloc, graph, first, count, seed)
+}
+
+/// The first output of an output's group, and how many the group has.
+pub(crate) fn group_with(graph: &Graph, output: u32) -> (u32, u32)
+    requires { output < length graph.now.outputs }
+    ensures first { result.0 ≤ output }
+    ensures last { output < result.0 + result.1 }
+    ensures within { result.0 + result.1 ≤ length graph.now.outputs }
+{
     let outputs = graph.outputs().len() as u32;
     let size = (MOST / (graph.inputs() + 1)).max(1);
     let first = output - output % size;
-    Signatures::new(alloc, graph, first, size.min(outputs - first), seed)
+    (first, size.min(outputs - first))
 }

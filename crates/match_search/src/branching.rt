@@ -28,11 +28,15 @@ use items::Items;
 use net_core::Matching;
 use oracle_core::Oracle;
 use pair_refine::{Refined, refine};
-use pair_search::{Impasse, Queue, branch, turn_back};
+use pair_search::{Impasse, Queue, branch, start_over, turn_back};
 use port_sides::PairableGraphs;
 use query_core::Ledger;
 use std::alloc::{AllocError, Global};
 use watch_core::Stage;
+
+/// How many rounds there are, after each of which the search starts over. They come to about two million conflicts; that the
+/// search ends is seen of what follows alone, in which less is left after each turn.
+const MOST_ROUNDS: u64 = 10_000;
 
 /// Decides ports one by one, as conflict-driven solvers decide variables, until a match is found, or a ban without pairs. What
 /// follows of bans and of ports with one way left is held and deleted; from an impasse a ban is learned that leads as far back
@@ -58,13 +62,9 @@ pub(crate) fn explore<O: Oracle>(
     ensures decided { IfOk result (IsDecidedFound graphs.now (map decided_by (O.known oracle.new).facts)) }
 {
     let mut domains = open_domains(alloc, graphs)?;
-    let mut queue = Queue::new(
-        alloc,
-        domains.ports(PortKind::Input),
-        domains.ports(PortKind::Output),
-    )?;
-    loop {
-        if let Some(found) = turn(
+    let mut queue = empty_queue(alloc, &domains)?;
+    for _round in 0..MOST_ROUNDS {
+        if let Some(found) = explore_round(
             alloc,
             graphs,
             oracle,
@@ -74,6 +74,114 @@ pub(crate) fn explore<O: Oracle>(
             book,
             ledger,
         )? {
+            return Ok(found);
+        }
+        start_over(&mut domains, &mut queue, book.bans());
+        guide.begin_round(domains.pairs().len());
+    }
+    explore_on(
+        alloc,
+        graphs,
+        oracle,
+        guide,
+        &mut domains,
+        &mut queue,
+        book,
+        ledger,
+    )
+}
+
+/// Searches for one round, in which so many lines may be learned, and answers what it came to, if it came to anything. The search
+/// goes on from nothing, with the bans that were learned.
+///
+/// # Errors
+///
+/// As for `explore`.
+pub(crate) fn explore_little<O: Oracle>(
+    alloc: Global,
+    graphs: &PairableGraphs<'_>,
+    oracle: &mut O,
+    guide: &mut Guide,
+    lines: u64,
+    book: &mut BanBook,
+    ledger: &mut Ledger,
+) -> Result<Option<Found>, Stop>
+    requires may { MayHold graphs.now (O.known oracle.old) ledger.old book.old }
+    requires trials { AreTrials graphs.now.first guide.old.trials }
+    ensures holds { HoldsBans graphs.now (O.known oracle.old) (O.known oracle.new) ledger.old ledger.new book.old book.new result }
+    ensures trials { OnOk result (AreTrials graphs.now.first guide.new.trials) }
+    ensures found { IfOk result (λ found. IfSome found (IsFound graphs.now book.new)) }
+    ensures decided { IfOk result (λ found. IfSome found
+        (IsDecidedFound graphs.now (map decided_by (O.known oracle.new).facts))) }
+{
+    let mut domains = open_domains(alloc, graphs)?;
+    let mut queue = empty_queue(alloc, &domains)?;
+    let end = ledger.learned().saturating_add(lines);
+    guide.rounds.end_at(end);
+    let found = explore_round(
+        alloc,
+        graphs,
+        oracle,
+        guide,
+        &mut domains,
+        &mut queue,
+        book,
+        ledger,
+    )?;
+    guide.begin_round(0);
+    Ok(found)
+}
+
+// Searches until a round is over.
+fn explore_round<O: Oracle>(
+    alloc: Global,
+    graphs: &PairableGraphs<'_>,
+    oracle: &mut O,
+    guide: &mut Guide,
+    domains: &mut Domains,
+    queue: &mut Queue,
+    book: &mut BanBook,
+    ledger: &mut Ledger,
+) -> Result<Option<Found>, Stop>
+    requires may { MayHold graphs.now (O.known oracle.old) ledger.old book.old }
+    requires trail { IsShownTrail graphs.now (O.known oracle.old) book.old domains.old }
+    requires trials { AreTrials graphs.now.first guide.old.trials }
+    ensures holds { HoldsBans graphs.now (O.known oracle.old) (O.known oracle.new) ledger.old ledger.new book.old book.new result }
+    ensures trials { OnOk result (AreTrials graphs.now.first guide.new.trials) }
+    ensures trail { OnOk result (IsShownTrail graphs.now (O.known oracle.new) book.new domains.new) }
+    ensures found { IfOk result (λ found. IfSome found (IsFound graphs.now book.new)) }
+    ensures decided { IfOk result (λ found. IfSome found
+        (IsDecidedFound graphs.now (map decided_by (O.known oracle.new).facts))) }
+{
+    while !guide.rounds.is_over(ledger.learned()) {
+        if let Some(found) = turn(alloc, graphs, oracle, guide, domains, queue, book, ledger)? {
+            return Ok(Some(found));
+        }
+    }
+    Ok(None)
+}
+
+// Searches on, and doesn't start over.
+fn explore_on<O: Oracle>(
+    alloc: Global,
+    graphs: &PairableGraphs<'_>,
+    oracle: &mut O,
+    guide: &mut Guide,
+    domains: &mut Domains,
+    queue: &mut Queue,
+    book: &mut BanBook,
+    ledger: &mut Ledger,
+) -> Result<Found, Stop>
+    requires may { MayHold graphs.now (O.known oracle.old) ledger.old book.old }
+    requires trail { IsShownTrail graphs.now (O.known oracle.old) book.old domains.old }
+    requires trials { AreTrials graphs.now.first guide.old.trials }
+    ensures serves { Serves (O.known oracle.old) (O.known oracle.new) ledger.old ledger.new result }
+    ensures valid { AreValid graphs.now (O.known oracle.new) book.new }
+    ensures found { IfOk result (IsFound graphs.now book.new) }
+    ensures decided { IfOk result (IsDecidedFound graphs.now (map decided_by (O.known oracle.new).facts)) }
+{
+    loop {
+        if let Some(found) = turn(alloc, graphs, oracle, guide, domains, queue, book, ledger)? {
             return Ok(found);
         }
     }
@@ -89,6 +197,15 @@ fn open_domains(alloc: Global, graphs: &PairableGraphs<'_>) -> Result<Domains, A
         alloc,
         graphs.ports(PortKind::Input),
         graphs.ports(PortKind::Output),
+    )
+}
+
+// Nothing was propagated, and no ban is in the index.
+fn empty_queue(alloc: Global, domains: &Domains) -> Result<Queue, AllocError> {
+    Queue::new(
+        alloc,
+        domains.ports(PortKind::Input),
+        domains.ports(PortKind::Output),
     )
 }
 

@@ -10,6 +10,7 @@ ghost use Rattle.match_search.specs.States.{AreValid};
 ghost use Rattle.oracle_core.specs.Oracles.{Serves, Suits};
 ghost use Rattle.table_guess.specs.Trials.{AreTrials};
 
+use crate::branching::explore_little;
 use crate::found::Found;
 use crate::guessed::compare_guesses;
 use crate::guide::Guide;
@@ -32,9 +33,12 @@ const FEW_FLIPS: u64 = 256;
 /// circuits that match each further try is lost.
 const FEW_TRIES: u32 = 1;
 
+/// How many lines may be learned in the short search before all guesses: a twentieth of a second's.
+const FEW_LINES: u64 = 2_000;
+
 /// Decides whether two circuits with as many ports match. Tables that are guessed are compared first; where none of them is a
-/// match, `search` decides. Of circuits with few claims, tables of little effort come first, then a refusal by counts, which
-/// takes little there, and then all guesses and the search. All draw by the seed.
+/// match, `search` decides. Of circuits with few claims, tables of little effort come first, then a refusal by counts and a
+/// short search, which take little there, and then all guesses and the search. All draw by the seed.
 ///
 /// The book's bans are valid in view of the oracle's facts, and each ban by a vector is a last resort, as `search` says,
 /// whatever is answered. Of a match that is guessed no claim is decided.
@@ -89,7 +93,8 @@ fn first_effort(graphs: &PairableGraphs<'_>) -> Effort {
     }
 }
 
-// Decides where little effort found no match: by counts, by more guesses, and then by searching.
+// Decides where little effort found no match: by counts, by a short search, which refuses what a few conflicts show, by more
+// guesses, and then by searching.
 fn refuse_or_find<O: Oracle>(
     alloc: Global,
     graphs: &PairableGraphs<'_>,
@@ -118,6 +123,17 @@ fn refuse_or_find<O: Oracle>(
         ledger,
     )? {
         return Ok(Found::None(ban));
+    }
+    if let Some(found) = explore_little(
+        alloc,
+        graphs,
+        oracle,
+        &mut guide,
+        FEW_LINES,
+        book,
+        ledger,
+    )? {
+        return Ok(found);
     }
     guess_or_explore(alloc, graphs, oracle, guesser, &mut guide, book, ledger)
 }

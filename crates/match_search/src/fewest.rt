@@ -13,12 +13,7 @@ use net_core::Side;
 use port_sides::port_on;
 use std::alloc::{AllocError, Global};
 
-/// An output counts as if it had this many times its ways. Once inputs have pairs, the partners of outputs that read them are
-/// known, so inputs come first where no conflict says otherwise. Counted alike, three of 11 near misses took 1.5 seconds and
-/// more that take less than one so; with ten times two weren't refused in 2 seconds.
-const OUTPUT_FACTOR: u64 = 4;
-
-// A port, how many ways it has left, as they count, and its weight.
+// A port, how many ways it has left, and its weight.
 #[derive(Clone, Copy, Debug)]
 struct Candidate {
     port: Port,
@@ -28,20 +23,29 @@ struct Candidate {
 
 /// Of the ports that are in no pair the one of either circuit that has the fewest ways left for its weight: ports of the last
 /// conflicts are decided first, so that these come again sooner and lead to bans of few pairs. Of the inputs those alone are
-/// looked at that an output in a pair reads.
+/// looked at that an output in a pair reads. An output counts as if it had so many times its ways.
 pub(crate) fn fewest_ways(
     alloc: Global,
     reads: &Reads,
     weights: &Weights,
     domains: &Domains,
+    output_factor: u64,
 ) -> Result<Option<Port>, AllocError> {
     let first = fewest_read(alloc, &reads.first, weights, domains, Side::First)?;
     let second = fewest_read(alloc, &reads.second, weights, domains, Side::Second)?;
     let input = fewer(first, second);
-    match fewer(input, fewest_of_outputs(weights, domains)) {
+    let output = counted(fewest_of_outputs(weights, domains), output_factor);
+    match fewer(input, output) {
         Some(candidate) => Ok(Some(candidate.port)),
         None => Ok(None),
     }
+}
+
+// The candidate, as if it had so many times its ways.
+fn counted(candidate: Option<Candidate>, factor: u64) -> Option<Candidate> {
+    let Candidate { port, ways, weight } = candidate?;
+    let ways = ways.saturating_mul(factor);
+    Some(Candidate { port, ways, weight })
 }
 
 fn fewest_of_outputs(weights: &Weights, domains: &Domains) -> Option<Candidate> {
@@ -126,20 +130,12 @@ fn candidate_at(
     }
     let ways = (domains.ports(kind) as usize).saturating_mul(2);
     let gone = domains.gone(side, kind, number);
-    let left = ways.saturating_sub(gone) as u64;
     let port = Port { side, kind, number };
     Some(Candidate {
         port,
-        ways: left.saturating_mul(factor(kind)),
+        ways: ways.saturating_sub(gone) as u64,
         weight: weights.of(port),
     })
-}
-
-fn factor(kind: PortKind) -> u64 {
-    match kind {
-        PortKind::Input => 1,
-        PortKind::Output => OUTPUT_FACTOR,
-    }
 }
 
 // That of two candidates which has fewer ways for its weight.

@@ -50,6 +50,9 @@ pub(crate) fn follow<O: Oracle>(
     if let Some(impasse) = settle(alloc, graphs, oracle, guide, domains, queue, book, ledger)? {
         return Ok(Some(impasse));
     }
+    if guide.rounds.is_over(ledger.learned()) {
+        return Ok(None);
+    }
     if let Some(exchanged) = exchange_held(alloc, graphs, oracle, guide, domains, book, ledger)? {
         return Ok(Some(exchanged));
     }
@@ -91,7 +94,7 @@ fn exchange_held<O: Oracle>(
 }
 
 // Holds and deletes what follows of bans, and has claims decided of each output and of each held pair, whose bans come to them.
-// In each turn but the last one it is one more.
+// In each turn but the last one it is one more. Where the round has learned its lines, no more are.
 fn settle<O: Oracle>(
     alloc: Global,
     graphs: &PairableGraphs<'_>,
@@ -119,7 +122,7 @@ fn settle<O: Oracle>(
             return Ok(Some(impasse));
         }
         let more = ask_next(alloc, graphs, oracle, guide, domains, book, ledger)?;
-        if !more {
+        if !more | guide.rounds.is_over(ledger.learned()) {
             return Ok(None);
         }
     }

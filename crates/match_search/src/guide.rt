@@ -5,6 +5,7 @@ ghost use Rattle.table_guess.specs.Trials.{AreTrials};
 
 use crate::compared::Compared;
 use crate::reads::{Reads, by_count};
+use crate::rounds::Rounds;
 use crate::weights::Weights;
 use account_core::Ban;
 use circuits::Pair;
@@ -39,6 +40,7 @@ pub(crate) struct Guide {
     /// The port that was decided last, and the one that comes first as long as it is in no pair.
     pub(crate) decided: Option<Port>,
     pub(crate) urgent: Option<Port>,
+    pub(crate) rounds: Rounds,
 }
 
 impl Guide {
@@ -70,6 +72,7 @@ impl Guide {
             compared,
             decided: None,
             urgent: None,
+            rounds: Rounds::new(),
         })
     }
 
@@ -79,6 +82,14 @@ impl Guide {
     {
         self.asked = self.asked.min(held);
         self.exchanged = self.exchanged.min(held);
+    }
+
+    /// Notes that a round begins, with this many held pairs, the earliest ones.
+    pub(crate) fn begin_round(&mut self, held: usize)
+        ensures { self.new.trials ≡ self.old.trials }
+    {
+        self.forget(held);
+        self.rounds.advance();
     }
 
     /// Notes an impasse. Where outputs have too few others to go to, the port that was decided last comes first until it has a
@@ -99,6 +110,7 @@ impl Guide {
     pub(crate) fn learn(&mut self, bans: &[Ban], from: usize, dead: Option<u64>)
         ensures { self.new.trials ≡ self.old.trials }
     {
+        self.rounds.count();
         if from < bans.len() {
             self.weights.count(&bans[from..]);
         } else if let Some(learned) = ban_at(bans, dead) {

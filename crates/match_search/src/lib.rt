@@ -15,6 +15,7 @@ mod guessed;
 mod guide;
 mod next_port;
 mod reads;
+mod rounds;
 mod searching;
 mod table;
 mod unlike;

@@ -46,7 +46,8 @@ fn preferred(alloc: Global, guide: &Guide, domains: &Domains) -> Result<Option<P
             return Ok(Some(port));
         }
     }
-    fewest_ways(alloc, &guide.reads, &guide.weights, domains)
+    let factor = guide.rounds.output_factor();
+    fewest_ways(alloc, &guide.reads, &guide.weights, domains, factor)
 }
 
 // The first port of the first circuit that is in no pair.

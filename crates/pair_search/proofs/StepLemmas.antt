@@ -1,5 +1,5 @@
 -- What one more entry leaves.
-use Rattle.std.proofs.Common.{◌≡◌, ◌≢◌, ◌⊎◌, ℕ, ◌+◌, ◌<◌, false, true, List, [], ◌∷◌, ◌++◌, length, get_or, take, All, Contains, refl, sym, ap, subst, ◌∙◌, inl, inr, arith}
+use Rattle.std.proofs.Common.{◌≡◌, ◌≢◌, ◌⊎◌, ℕ, ◌+◌, ◌<◌, ◌≤◌, false, true, List, [], ◌∷◌, ◌++◌, length, get_or, take, All, Contains, refl, sym, ap, subst, ◌∙◌, inl, inr, arith}
 use Rattle.std.proofs.lemmas.List.{append-nil, append_assoc, length_push, take_more}
 use Rattle.std.proofs.lemmas.List.Elements.{All-push, Contains-append_left}
 use Rattle.std.proofs.lemmas.List.Quantifiers.{all_pairs_push}
@@ -22,9 +22,9 @@ use Rattle.class_refine.specs.Numbers.{pairs_of_ports}
 use Rattle.class_refine.specs.Trails.{AreEntries, Domained, IsOpen, IsPairOf, held_in, ports_of}
 use Rattle.ban_book.specs.Covering.{Covers}
 use Rattle.conflict_core.specs.Conflicts.{FitPorts, IsChoiceAt}
-use Rattle.conflict_core.specs.Grounded.{IsGrounded, StayGrounded}
+use Rattle.conflict_core.specs.Grounded.{AreGrounded, IsGrounded, StayGrounded}
 use Rattle.conflict_core.specs.Justified.{AreJustified, IsJustified}
-use Rattle.conflict_core.proofs.GroundedLemmas.{stay_front, stay_none, stay_push, stay_twice}
+use Rattle.conflict_core.proofs.GroundedLemmas.{grounded_front, stay_front, stay_none, stay_push, stay_twice}
 use Rattle.conflict_core.proofs.JustifiedLemmas.{held_append, justified_front, justified_push}
 use Rattle.conflict_core.proofs.PivotLemmas.{held_not_open}
 use Rattle.pair_search.specs.Progress.{IsTrail, Propagates, is_choice, left, left_of}
@@ -144,6 +144,16 @@ pub back_justified : (bans : List Ban) (before after : Domained) (place number :
 back_justified bans before after place number p at are below covers =
     let e : Entry = record { pair = p; fate = Deleted (reason.Ban number) } in
     justified_as bans before.inputs before.outputs after.inputs after.outputs (take place before.entries ++ e ∷ []) after.entries at.inputs at.outputs at.entries (justified_push before.inputs before.outputs bans (take place before.entries) e (justified_front before.inputs before.outputs bans before.entries place (omega (arith, below)) are) covers)
+
+-- the first entries alone follow, and are shown, as all were
+pub front_justified : (bans : List Ban) (before after : Domained) (place : ℕ) → after ≡ record before { entries = take place before.entries } → place ≤ length before.entries → AreJustified before.inputs before.outputs bans before.entries → AreJustified after.inputs after.outputs bans after.entries
+front_justified bans before after place is within are =
+    subst (λ (d : Domained). AreJustified d.inputs d.outputs bans d.entries) (sym is) (justified_front before.inputs before.outputs bans before.entries place within are)
+
+pub front_grounded : (before after : Domained) (place : ℕ) → after ≡ record before { entries = take place before.entries } → StayGrounded before.entries after.entries
+front_grounded before after place is = record {
+  stay = λ graphs facts are. subst (λ (d : Domained). AreGrounded graphs facts d.entries) (sym is) (grounded_front graphs facts before.entries place are);
+}
 
 -- a ban that needs no pair
 pub empty_ban : (bans : List Ban) (ban : ℕ) → Covers bans [] ban → IsEmptyBan bans ban

@@ -13,7 +13,7 @@ use crate::queue::Queue;
 use account_core::Ban;
 use ban_book::BanBook;
 use class_refine::{Domains, Reason};
-use conflict_core::{Back, Learned, Mismatches, resolve};
+use conflict_core::{Back, Learned, Mismatches, choice_between, resolve};
 use port_sides::PairableGraphs;
 use std::alloc::{AllocError, Global};
 
@@ -43,6 +43,23 @@ pub fn turn_back(
             go_back(domains, queue, book.bans(), back)?;
             Ok(None)
         }
+    }
+}
+
+/// Starts over: what was held and deleted before the first choice stays, and all other pairs are open again. The bans stay, so
+/// that what was learned isn't lost.
+pub fn start_over(domains: &mut Domains, queue: &mut Queue, bans: &[Ban])
+    requires justified { IsJustifiedTrail bans.now domains.old }
+    ensures justified { IsJustifiedTrail bans.now domains.new }
+    ensures inputs { domains.new.inputs ≡ domains.old.inputs }
+    ensures outputs { domains.new.outputs ≡ domains.old.outputs }
+    ensures grounded { StayGrounded domains.old.entries domains.new.entries }
+{
+    let _ = bans;
+    let entries = domains.entries();
+    if let Some(place) = choice_between(entries, 0, entries.len()) {
+        domains.back_to(place);
+        queue.head = queue.head.min(place);
     }
 }
 

@@ -11,7 +11,7 @@ mod propagation;
 mod queue;
 mod units;
 
-pub use back::turn_back;
+pub use back::{start_over, turn_back};
 pub use impasse::Impasse;
 pub use ports::{branch, way_of};
 pub use propagation::propagate;

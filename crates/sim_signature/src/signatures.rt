@@ -89,8 +89,9 @@ impl<'a> Signatures<'a> {
         Signatures::on(alloc, graph, first, count, inputs)
     }
 
-    /// The signatures of an output on 512 vectors near one, that are drawn from the number `seed`. Near a vector that breaks
-    /// a claim of the output there are others that break other claims, also where few vectors do.
+    /// The signatures of `count` outputs from the output `first` on, on 512 vectors near one, that are drawn from the number
+    /// `seed`. Near a vector that breaks a claim of an output there are others that break other claims of it and of outputs
+    /// that share gates with it, also where few vectors do.
     ///
     /// # Errors
     ///
@@ -98,16 +99,17 @@ impl<'a> Signatures<'a> {
     pub fn near(
         alloc: Global,
         graph: &'a Graph,
-        output: u32,
+        first: u32,
+        count: u32,
         vector: &Bits,
         seed: u64,
     ) -> Result<Signatures<'a>, AllocError>
-        requires output { output < length graph.now.outputs }
+        requires outputs { first + count ≤ length graph.now.outputs }
         requires inputs { length vector.now ≡ graph.now.inputs }
-        ensures { IfOk result (AreOf graph.now output 1) }
+        ensures { IfOk result (AreOf graph.now first count) }
     {
-        let inputs = near_vectors(alloc, vector, &mut Pcg32::new(seed, output as u64))?;
-        Signatures::on(alloc, graph, output, 1, inputs)
+        let inputs = near_vectors(alloc, vector, &mut Pcg32::new(seed, first as u64))?;
+        Signatures::on(alloc, graph, first, count, inputs)
     }
 
     /// The signatures on these vectors, a block for each input.

@@ -20,8 +20,8 @@ pub gather-requires-clause-named : goal.gather-requires-clause-named
 gather-requires-clause-named c =
     named_as c.args.domains.now.entries (left_out c.args.resolved) c.way_of.result c.args.book.now c.bans.result.now (ways_in c.args.block) c.deref.result.now c.args.held.now (sym c.way_of.ensures) (sym c.bans.ensures) (sym (c.deref.ensures.value ∙ c.in_ok-ways.ensures)) c.requires.named
 
-pub returns-in_err-gather-clause-more : goal.returns-in_err-gather-clause-more
-returns-in_err-gather-clause-more c = learns_none c.args.graphs.now c.args.domains.now.entries c.args.book.now
+pub returns-in_err-noted-clause-more : goal.returns-in_err-noted-clause-more
+returns-in_err-noted-clause-more c = learns_none c.args.graphs.now c.args.domains.now.entries c.args.book.now
 
 pub refer-requires-clause-known : goal.refer-requires-clause-known
 refer-requires-clause-known c =
@@ -30,15 +30,15 @@ refer-requires-clause-known c =
 
 pub refer-requires-clause-resolved : goal.refer-requires-clause-resolved
 refer-requires-clause-resolved c =
-    subst (λ (l : List Pair). IfSome c.args.resolved (λ it. Covers c.args.book.now (it.way ∷ l) it.ban)) (sym c.deref-3.ensures.value) (resolved_among c.args.book.now c.args.pairs.items c.gather.new.conflict.items c.args.resolved c.in_ok-gather.ensures.adds.stays c.requires.resolved)
+    subst (λ (l : List Pair). IfSome c.args.resolved (λ it. Covers c.args.book.now (it.way ∷ l) it.ban)) (sym c.deref-4.ensures.value) (resolved_among c.args.book.now c.args.pairs.items c.gather.new.conflict.items c.args.resolved c.in_ok-noted.ensures.adds.stays c.requires.resolved)
 
 pub refer-requires-clause-gathered : goal.refer-requires-clause-gathered
 refer-requires-clause-gathered c =
-    gathered_as c.args.domains.now.entries c.way_of.result (left_out c.args.resolved) c.bans.result.now c.args.book.now c.deref.result.now c.deref-2.result.now c.gather.new.conflict.items c.deref-3.result.now c.way_of.ensures c.bans.ensures (c.deref.ensures.value ∙ sym c.deref-2.ensures.value) (sym c.deref-3.ensures.value) c.in_ok-gather.ensures.gathered
+    gathered_as c.args.domains.now.entries c.way_of.result (left_out c.args.resolved) c.bans.result.now c.args.book.now c.deref.result.now c.deref-2.result.now c.gather.new.conflict.items c.deref-4.result.now c.in_ok-noted.noted.items c.deref-3.result.now c.way_of.ensures c.bans.ensures (c.deref.ensures.value ∙ sym c.deref-2.ensures.value) (sym c.deref-4.ensures.value) (sym c.deref-3.ensures.value) c.in_ok-noted.ensures.gathered
 
 pub hold_cover-requires-clause-known : goal.hold_cover-requires-clause-known
 hold_cover-requires-clause-known c =
-    subst (All (IsKnown c.args.graphs.now)) (sym c.deref-4.ensures.value) (part_known c.args.graphs.now c.args.held.now c.gather.new.conflict.items c.requires.held c.in_ok-gather.ensures.adds.part)
+    subst (All (IsKnown c.args.graphs.now)) (sym c.deref-5.ensures.value) (part_known c.args.graphs.now c.args.held.now c.gather.new.conflict.items c.requires.held c.in_ok-noted.ensures.adds.part)
 
 pub hold_cover-requires-clause-block : goal.hold_cover-requires-clause-block
 hold_cover-requires-clause-block c =
@@ -48,8 +48,8 @@ hold_cover-requires-clause-block c =
 pub hold_cover-requires-clause-closed : goal.hold_cover-requires-clause-closed
 hold_cover-requires-clause-closed c =
     let ways_are = c.deref-2.ensures.value ∙ c.in_ok-ways.ensures in
-    let pairs_are = c.deref-3.ensures.value ∙ sym c.deref-4.ensures.value in
-    subst (λ l. AreClosed c.refer.new.book c.deref-4.result.now l c.in_ok-refs.refs) ways_are (subst (λ l. AreClosed c.refer.new.book l c.deref-2.result.now c.in_ok-refs.refs) pairs_are c.in_ok-refs.ensures.closed)
+    let pairs_are = c.deref-4.ensures.value ∙ sym c.deref-5.ensures.value in
+    subst (λ l. AreClosed c.refer.new.book c.deref-5.result.now l c.in_ok-refs.refs) ways_are (subst (λ l. AreClosed c.refer.new.book l c.deref-2.result.now c.in_ok-refs.refs) pairs_are c.in_ok-refs.ensures.closed)
 
 pub returns-in_err-ban-clause-more : goal.returns-in_err-ban-clause-more
 returns-in_err-ban-clause-more c =

@@ -12,8 +12,11 @@ returns-then-is_left_out-clause-adds c = record { part = c.requires.part; stays 
 pub returns-then-is_impossible-clause-adds : goal.returns-then-is_impossible-clause-adds
 returns-then-is_impossible-clause-adds c = record { part = c.requires.part; stays = All-contains_itself c.args.conflict.now.items }
 
+pub returns-in-Some-clause-adds : goal.returns-in-Some-clause-adds
+returns-in-Some-clause-adds c = record { part = c.requires.part; stays = All-contains_itself c.args.conflict.now.items }
+
 pub add_named-requires-clause-named : goal.add_named-requires-clause-named
 add_named-requires-clause-named c =
     let es = c.args.domains.now.entries in
     let named = not_left_out c.args.skipped c.args.way (IsNamedIn c.args.bans.now es c.args.held.now c.args.way) (λ same. false≢true (sym c.if-is_left_out.false ∙ c.is_left_out.ensures.1 same)) c.requires.named in
-    one_reason c.args.bans.now es c.args.held.now c.args.way c.in-Some.reason c.entries-lawful.ensures.lawful.distinct c.in-Some.ensures.found named
+    one_reason c.args.bans.now es c.args.held.now c.args.way c.in-Some-reason.reason c.entries-lawful.ensures.lawful.distinct c.in-Some-reason.ensures.found named

@@ -10,6 +10,9 @@ returns-in_err-impasse-clause-holds g c =
 pub returns-in-Some-clause-holds : goal.returns-in-Some-clause-holds
 returns-in-Some-clause-holds g c = holds_ok _ _ _ _ _ _ _ _ _ refl (held_one _ _ _ _ _ _ _ _ c.in_ok-impasse.ensures.holds)
 
+pub returns-then-is_over-clause-holds : goal.returns-then-is_over-clause-holds
+returns-then-is_over-clause-holds g c = holds_ok _ _ _ _ _ _ _ _ _ refl (held_one _ _ _ _ _ _ _ _ c.in_ok-impasse.ensures.holds)
+
 pub exchange_held-requires-clause-may : goal.exchange_held-requires-clause-may
 exchange_held-requires-clause-may g c = may_later _ _ _ _ _ _ _ c.requires.may (held_one _ _ _ _ _ _ _ _ c.in_ok-impasse.ensures.holds)
 

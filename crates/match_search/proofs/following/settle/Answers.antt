@@ -36,16 +36,16 @@ pub returns-in_err-more-clause-holds : goal.returns-in_err-more-clause-holds
 returns-in_err-more-clause-holds g c =
     holds_err _ _ _ _ _ _ _ _ _ _ _ c.in_err-more.field-0.0 c.from_residual-in_err-more.ensures.1 c.loop-turn.invariant.way.held c.in_err-more.ensures.holds
 
-pub returns-then-not-more-clause-holds : goal.returns-then-not-more-clause-holds
-returns-then-not-more-clause-holds g c =
+pub returns-then-more-is_over-clause-holds : goal.returns-then-more-is_over-clause-holds
+returns-then-more-is_over-clause-holds g c =
     holds_ok _ _ _ _ _ _ _ _ _ refl (held_then _ _ _ _ _ _ _ _ _ _ c.loop-turn.invariant.way.held (held_one _ _ _ _ _ _ _ _ c.in_ok-more.ensures.holds))
 
-pub returns-then-not-more-clause-trail : goal.returns-then-not-more-clause-trail
-returns-then-not-more-clause-trail g c =
+pub returns-then-more-is_over-clause-trail : goal.returns-then-more-is_over-clause-trail
+returns-then-more-is_over-clause-trail g c =
     c.in_ok-more.ensures.trail
 
-pub returns-then-not-more-clause-less : goal.returns-then-not-more-clause-less
-returns-then-not-more-clause-less g c = omega (arith, c.loop-turn.invariant.less, c.in_ok-impasse.ensures.propagates.less, c.in_ok-more.ensures.less)
+pub returns-then-more-is_over-clause-less : goal.returns-then-more-is_over-clause-less
+returns-then-more-is_over-clause-less g c = omega (arith, c.loop-turn.invariant.less, c.in_ok-impasse.ensures.propagates.less, c.in_ok-more.ensures.less)
 
 pub loop-turn-preserved : goal.loop-turn-preserved
 loop-turn-preserved g c = record {

@@ -1,0 +1,81 @@
+//! How long a search goes on before it starts over.
+
+/// How many conflicts the shortest rounds have. With 32 a near miss of a comparator of 16 words, one of a rotation of 32 bits and
+/// others took half as long again, since all that follows of the first pairs is deleted anew.
+const SHORTEST: u64 = 100;
+
+/// In every other round an output counts as if it had this many times its ways. Once inputs have pairs, the partners of outputs
+/// that read them are known, so inputs come first where no conflict says otherwise. With 2 alone near misses of adders that
+/// subtract too (`addsub24`) were late, and with 4 alone those of rotations (`rotate16`); counted alike, three of 11 near misses
+/// took 1.5 seconds and more that take less than one with 4.
+const OUTPUT_FACTOR: u64 = 4;
+
+/// And in the others this many times.
+const OTHER_FACTOR: u64 = 2;
+
+/// The rounds of a search, after each of which it starts over. Their lengths are as the numbers 1, 1, 2, 1, 1, 2, 4, 1, .. of
+/// Luby, Sinclair and Zuckerman (Information Processing Letters 1993), which solvers use: all rounds of a length take as many
+/// conflicts together as those of any other.
+#[derive(Debug, Drop)]
+pub(crate) struct Rounds {
+    /// The numbers by which Knuth makes the sequence (reluctant doubling): the length doubles until it is the greatest power of
+    /// two that divides the turn, and then the next turn begins with 1.
+    turn: u64,
+    length: u64,
+    /// Whether the round is the second, the fourth and so on.
+    is_other: bool,
+    /// How many conflicts there were in the round.
+    conflicts: u64,
+    /// How many lines may be learned in the run before the round ends.
+    lines: u64,
+}
+
+impl Rounds {
+    /// The first round begins, in which lines may be learned without a bound.
+    pub(crate) fn new() -> Rounds {
+        Rounds {
+            turn: 1,
+            length: 1,
+            is_other: false,
+            conflicts: 0,
+            lines: u64::MAX,
+        }
+    }
+
+    /// Has the round end once so many lines are learned in the run.
+    pub(crate) fn end_at(&mut self, lines: u64) {
+        self.lines = lines;
+    }
+
+    /// Counts a conflict.
+    pub(crate) fn count(&mut self) {
+        self.conflicts = self.conflicts.saturating_add(1);
+    }
+
+    /// Whether the round has had its conflicts, or as many lines are learned as may be.
+    pub(crate) fn is_over(&self, learned: u64) -> bool {
+        (self.conflicts >= self.length.saturating_mul(SHORTEST)) | (learned >= self.lines)
+    }
+
+    /// The next round begins, in which lines may be learned without a bound.
+    pub(crate) fn advance(&mut self) {
+        self.conflicts = 0;
+        self.lines = u64::MAX;
+        self.is_other = !self.is_other;
+        if self.turn.trailing_zeros() == self.length.trailing_zeros() {
+            self.turn = self.turn.saturating_add(1);
+            self.length = 1;
+        } else {
+            self.length = self.length.saturating_mul(2);
+        }
+    }
+
+    /// As how many times its ways an output counts in the round.
+    pub(crate) fn output_factor(&self) -> u64 {
+        if self.is_other {
+            OTHER_FACTOR
+        } else {
+            OUTPUT_FACTOR
+        }
+    }
+}
