@@ -341,7 +341,10 @@ impl Pcg32 {
     }
 
     fn step(&mut self) {
-        self.state = self.state.wrapping_mul(6364136223846793005).wrapping_add(self.increment);
+        self.state = self
+            .state
+            .wrapping_mul(6364136223846793005)
+            .wrapping_add(self.increment);
     }
 
     pub fn next_u32(&mut self) -> u32 {
@@ -400,7 +403,10 @@ pub struct IndexMap<K, T> {
 
 impl<K: Hash + Eq + Clone, T> IndexMap<K, T> {
     pub fn new(_: Global) -> IndexMap<K, T> {
-        IndexMap { places: HashMap::default(), entries: Std::new() }
+        IndexMap {
+            places: HashMap::default(),
+            entries: Std::new(),
+        }
     }
 
     pub fn get_index_of(&self, key: &K) -> Option<usize> {
@@ -467,7 +473,9 @@ pub struct IndexSet<K> {
 
 impl<K: Hash + Eq + Clone> IndexSet<K> {
     pub fn new(alloc: Global) -> IndexSet<K> {
-        IndexSet { keys: IndexMap::new(alloc) }
+        IndexSet {
+            keys: IndexMap::new(alloc),
+        }
     }
 
     pub fn get_index_of(&self, key: &K) -> Option<usize> {

@@ -27,16 +27,25 @@ pub fn main() -> Answer {
     match words[..] {
         ["guess", first, second, seed] => on_pair(first, second, seed, guess),
         ["search", first, second, seed] => on_pair(first, second, seed, |graphs, seed| {
-            look(graphs, seed, |book, bans, ledger| search(Global, graphs, book, bans, seed, ledger))
+            look(graphs, seed, |book, bans, ledger| {
+                search(Global, graphs, book, bans, seed, ledger)
+            })
         }),
         ["decide", first, second, seed] => on_pair(first, second, seed, |graphs, seed| {
-            look(graphs, seed, |book, bans, ledger| decide(Global, graphs, book, bans, seed, ledger))
+            look(graphs, seed, |book, bans, ledger| {
+                decide(Global, graphs, book, bans, seed, ledger)
+            })
         }),
         ["table", first, second, seed, table] => {
             let table = std::fs::read_to_string(table)?;
-            on_pair(first, second, seed, |graphs, seed| prove(graphs, seed, &table))
+            on_pair(first, second, seed, |graphs, seed| {
+                prove(graphs, seed, &table)
+            })
         }
-        _ => Err("plain guess|search|decide FIRST SECOND SEED, or plain table FIRST SECOND SEED TABLE".into()),
+        _ => Err(
+            "plain guess|search|decide FIRST SECOND SEED, or plain table FIRST SECOND SEED TABLE"
+                .into(),
+        ),
     }
 }
 
@@ -62,17 +71,27 @@ fn graph_in(text: &str) -> Result<Graph, Box<dyn Error>> {
         return Err("a header with latches, or without five numbers".into());
     };
     for place in 0..inputs {
-        expect(numbers_in(lines.next())? == [2 * (1 + place)], "inputs aren't in order")?;
+        expect(
+            numbers_in(lines.next())? == [2 * (1 + place)],
+            "inputs aren't in order",
+        )?;
     }
     let mut ends = Vec::new(Global);
     for _ in 0..outputs {
-        ends.0.extend(numbers_in(lines.next())?.into_iter().map(Lit));
+        ends.0
+            .extend(numbers_in(lines.next())?.into_iter().map(Lit));
     }
     let mut ands = Vec::new(Global);
     for place in 0..gates {
         let line = numbers_in(lines.next())?;
-        expect(line.len() == 3 && line[0] == 2 * (1 + inputs + place), "gates aren't in order")?;
-        ands.0.push(Gate { a: Lit(line[1]), b: Lit(line[2]) });
+        expect(
+            line.len() == 3 && line[0] == 2 * (1 + inputs + place),
+            "gates aren't in order",
+        )?;
+        ands.0.push(Gate {
+            a: Lit(line[1]),
+            b: Lit(line[2]),
+        });
     }
     Graph::new(inputs, ands, ends).ok_or("the gates aren't in order".into())
 }
@@ -89,7 +108,10 @@ fn expect(holds: bool, or: &str) -> Answer {
 /// The first phase alone: prints a table that may be a match, or that there is none.
 fn guess(graphs: &PairableGraphs, seed: u64) -> Answer {
     let mut guesser = Guesser::new(Global, graphs, seed).map_err(refused)?;
-    match guesser.guess(Global, graphs, Effort::Whole).map_err(refused)? {
+    match guesser
+        .guess(Global, graphs, Effort::Whole)
+        .map_err(refused)?
+    {
         Some(table) => print_table("guess", &table),
         None => println!("nothing"),
     }
@@ -97,7 +119,11 @@ fn guess(graphs: &PairableGraphs, seed: u64) -> Answer {
 }
 
 /// Has a match looked for, and tells what was found.
-fn look(graphs: &PairableGraphs, seed: u64, find: impl Fn(&mut FactBook, &mut BanBook, &mut Ledger) -> Result<Found, Stop>) -> Answer {
+fn look(
+    graphs: &PairableGraphs,
+    seed: u64,
+    find: impl Fn(&mut FactBook, &mut BanBook, &mut Ledger) -> Result<Found, Stop>,
+) -> Answer {
     let mut book = FactBook::new(Global, graphs.graphs(), seed).map_err(refused)?;
     let mut bans = BanBook::new(Global);
     let mut ledger = Ledger::new(Global, BUDGET);
@@ -121,10 +147,19 @@ fn prove(graphs: &PairableGraphs, seed: u64, table: &str) -> Answer {
         ways.0.push((way[0], way[1] == 1));
     }
     let inputs = graphs.first().inputs() as usize;
-    expect(ways.len() == inputs + graphs.first().outputs().len(), "the table has another length")?;
+    expect(
+        ways.len() == inputs + graphs.first().outputs().len(),
+        "the table has another length",
+    )?;
     let outputs = Items(ways.0.split_off(inputs));
-    let table = Matching { inputs: Items(ways.0), outputs };
-    expect(table.check_shape(inputs as u32, table.outputs.len() as u32), "the table isn't a bijection")?;
+    let table = Matching {
+        inputs: Items(ways.0),
+        outputs,
+    };
+    expect(
+        table.check_shape(inputs as u32, table.outputs.len() as u32),
+        "the table isn't a bijection",
+    )?;
     let mut book = FactBook::new(Global, graphs.graphs(), seed).map_err(refused)?;
     let mut ledger = Ledger::new(Global, BUDGET);
     for output in 0..table.outputs.len() as u32 {
