@@ -119,7 +119,7 @@ def main():
     words.add_argument("--pairs", metavar="FOLDER", help="the folder of the pairs, which are made without")
     words.add_argument("--nets", metavar="FOLDER", help="the folder that keeps what Yosys and ABC made")
     words.add_argument("--results", metavar="FILE", help="the file of results, a line each, which is gone on with; a new one without")
-    choices = words.parse_args()
+    choices = words.parse_intermixed_args()
     parts = (WHOLE, *(choices.parts or PARTS))
     with tempfile.TemporaryDirectory() as folder:
         bench = Parts(choices.top, choices, folder)
