@@ -173,13 +173,18 @@ fn prove(graphs: &PairableGraphs, seed: u64, table: &str) -> Answer {
     Ok(())
 }
 
+/// Prints a match's table, or that there is none, and how many bans were made, by what shows them.
 fn tell(found: Found, bans: &[Ban]) {
     match found {
         Found::Match(table, _) => print_table("match", &table),
-        Found::None(_) => println!("none"),
+        Found::None(_) => print_bans(bans),
     }
+}
+
+fn print_bans(bans: &[Ban]) {
     let count = |is: fn(&Step) -> bool| bans.iter().filter(|ban| is(&ban.step)).count();
-    eprintln!(
+    println!("none");
+    println!(
         "{} vectors, {} mismatches, {} tallies, {} covers",
         count(|step| matches!(step, Step::Vector { .. })),
         count(|step| matches!(step, Step::Mismatch { .. })),
