@@ -189,7 +189,7 @@ class Bench:
         """Measures what is missing of a circuit, and yields a row for each answer."""
         programs = self.choices.programs
         for kind in self.choices.kinds:
-            wanted = [label for label in programs if (label, circuit.name, kind) not in done]
+            wanted = [label for label in programs if not self.choices.bm_alone and (label, circuit.name, kind) not in done]
             beside = not self.choices.no_bm and kind in BESIDE and ("bm", circuit.name, kind) not in done
             if not wanted and not beside:
                 continue
@@ -232,6 +232,7 @@ def main():
     words.add_argument("--results", help="the file of results, a line each, which is gone on with; a new one without")
     words.add_argument("--nets", help="the folder that keeps what Yosys and ABC made")
     words.add_argument("--no-bm", action="store_true", help="without ABC's matcher")
+    words.add_argument("--bm-alone", action="store_true", help="ABC's matcher alone")
     words.add_argument("--report", action="store_true", help="measure nothing, print what the file of results has")
     words.add_argument("--write", metavar="FOLDER", help="measure nothing, write the pairs as files into a folder, and known.jsonl, a line for each")
     words.add_argument("--markdown", action="store_true", help="print the tables of docs/MEASURED.md")
