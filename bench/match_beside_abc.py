@@ -137,8 +137,11 @@ class Bench:
             tool("berkeley-abc", "-q", f"read {self.path(side + '.aig')}; strash; write_blif {self.path(side + '.blif')}")
         script = f"bm {self.path('left.blif')} {self.path('right.blif')}"
         printed, status, seconds, _ = timed(self.choices.limit, self.folder, "berkeley-abc", "-q", script)
+        # the limit is each process's own, and ABC starts others
+        if status is None or seconds > self.choices.limit:
+            return "late", seconds
         differ = ("NOT equivalent" in printed) or "circuits different" in printed
-        said = "late" if status is None else "none" if differ else "found" if "are equivalent" in printed and status == 0 else "failed"
+        said = "none" if differ else "found" if "are equivalent" in printed and status == 0 else "failed"
         return said, seconds
 
     def answer(self, program, first, second, known):
