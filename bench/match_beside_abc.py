@@ -137,7 +137,7 @@ class Bench:
             tool("berkeley-abc", "-q", f"read {self.path(side + '.aig')}; strash; write_blif {self.path(side + '.blif')}")
         script = f"bm {self.path('left.blif')} {self.path('right.blif')}"
         printed, status, seconds, _ = timed(self.choices.limit, self.folder, "berkeley-abc", "-q", script)
-        # the limit is each process's own, and ABC starts others
+        # the system counts a limit by the ticks of its clock, of which `bm`, which writes a file over and over, sees few
         if status is None or seconds > self.choices.limit:
             return "late", seconds
         differ = ("NOT equivalent" in printed) or "circuits different" in printed
