@@ -5,7 +5,7 @@ MATCHES, MISSES = ("permuted", "negated", "other"), ("gate", "output")
 WHY = {"supports": "supports", "unateness": "unateness", "symmetries": "symmetries", "counts": "counts of an output", "joint counts": "counts of outputs together",
        "drawn": "counts on drawn vectors",
        "twin": "another graph", "tried": "all tables tried, none or a match", "unknown": "not known"}
-START = {"bm": 0.03, "match": 0.003}  # processor seconds that a program takes to start
+START = {"bm": 0.028, "match": 0.003}  # processor seconds that a program takes to start
 LEAST = 0.01  # less than that isn't told apart
 SIZES = ((8, "to 8"), (16, "to 16"), (32, "to 32"), (64, "to 64"), (128, "to 128"), (256, "to 256"))
 
@@ -76,10 +76,12 @@ def is_right(row):
 
 
 def slower(rows, program, limit):
-    """The pairs that bm answers rightly and on which a program is late or takes more than twice as long, starting them aside."""
+    """The pairs that bm answers rightly and on which a program is late or takes more than twice as long, starting aside, and longer
+    with it too."""
     for row, our in pairs_of_bm(rows, program):
         taken = max(row["seconds"] - START["bm"], LEAST)
-        if is_right(row) and not (is_decided(our, limit) and our["seconds"] - START["match"] <= 2 * taken):
+        is_slower = our["seconds"] > row["seconds"] and our["seconds"] - START["match"] > 2 * taken
+        if is_right(row) and (is_slower or not is_decided(our, limit)):
             yield row, our
 
 
@@ -100,7 +102,7 @@ def beside(rows, program, limit):
         odd = [b["circuit"] for b, o in answered if kind == "permuted" and b["said"] == "none" or kind == "gate" and b["said"] == "found" and o["known"] is False]
         if odd:
             print(f"    bm answers wrongly: {', '.join(odd)}")
-    print("  bm is twice as fast, starting aside: " + (", ".join(f"{b['circuit']} {b['kind']} ({b['seconds']:.2f} s and {cell(o)})" for b, o in slower(rows, program, limit)) or "never"))
+    print("  bm takes less than half as long, starting aside: " + (", ".join(f"{b['circuit']} {b['kind']} ({b['seconds']:.2f} s and {cell(o)})" for b, o in slower(rows, program, limit)) or "never"))
 
 
 def classes(rows, limit):
