@@ -1,6 +1,6 @@
 """Pairs of small circuits, drawn by a seed, matched by a program and by trying all tables. See all_tables.sh.
 
-    all_tables.py RELEASE [--pairs N] [--seed SEED] [--program PATH] [--limit SECONDS]
+    all_tables.py TOP [--pairs N] [--seed SEED] [--phase PHASE] [--program PATH] [--limit SECONDS] [--late FOLDER]
 """
 import argparse
 import os
@@ -111,6 +111,14 @@ def drawn_first(draws, count, outputs):
     return of_tables([drawn_table(draws, count) for _ in range(outputs)], count, draws)
 
 
+def is_match(first, second, printed):
+    """Whether the table in a report makes two netlists equal on all vectors."""
+    tables = table_in(printed, first)
+    if any(None in table or sorted(to for to, _ in table) != list(range(len(table))) for table in tables):
+        return False
+    return tables_of(netlists.renamed(first, *tables)) == tables_of(second)
+
+
 def judged(program, first, second, limit, folder):
     """What a program says of a pair, its seconds, and what is wrong with that."""
     names = [os.path.join(folder, it) for it in ("first.aag", "second.aag", "account")]
@@ -122,7 +130,7 @@ def judged(program, first, second, limit, folder):
         return "late" if status is None else printed.strip(), seconds, "" if status is None else f"status {status}"
     if (status == 0) != has_match:
         return printed, seconds, f"all tables say {'matched' if has_match else 'none'}"
-    if status == 0 and tables_of(netlists.renamed(first, *table_in(printed, first))) != tables_of(second):
+    if status == 0 and not is_match(first, second, printed):
         return printed, seconds, "not a match"
     accepted = subprocess.run([program, "check", *names], capture_output=True, text=True)
     wanted = "accepted match\n" + printed.split("\n", 1)[1] if status == 0 else "accepted refusal\n"
@@ -131,23 +139,54 @@ def judged(program, first, second, limit, folder):
     return "matched" if status == 0 else "none", seconds, ""
 
 
+def judged_alone(program, phase, first, second, limit, folder):
+    """The same of one phase of a plain copy. The first phase may miss a match; a table that it finds is one, since it tries all vectors of so few inputs."""
+    names = [os.path.join(folder, it) for it in ("first.aag", "second.aag")]
+    netlists.to_text(first, names[0])
+    netlists.to_text(second, names[1])
+    has_match = netlists.match_by_trying(first, second)
+    printed, status, seconds, _ = timed(limit, folder, program, phase, *names, "1")
+    if status != 0:
+        return "late" if status is None else printed.strip(), seconds, "" if status is None else f"status {status}"
+    said = printed.split("\n")[0]
+    if said in ("guess", "match"):
+        return "matched", seconds, "" if is_match(first, second, printed) else "not a match"
+    if said == "nothing":
+        return "missed" if has_match else "nothing", seconds, ""
+    return said, seconds, "all tables say matched" if has_match else ""
+
+
+def program_of(top, choices, folder):
+    """What is asked: the given program, a plain copy where one phase alone is wanted, or the release."""
+    if choices.program:
+        return os.path.abspath(choices.program)
+    if choices.phase:
+        subprocess.run([sys.executable, os.path.join(top, "bench", "plain_copy.py"), os.path.join(top, "crates"), folder], check=True)
+        return os.path.join(folder, "plain")
+    return subprocess.run([os.path.join(top, "bench", "program.sh")], stdout=subprocess.PIPE, text=True, check=True).stdout.strip()
+
+
 def main():
     words = argparse.ArgumentParser(prog="bench/all_tables.sh", description="small pairs by a program and by trying all tables")
-    words.add_argument("release")
+    words.add_argument("top")
     words.add_argument("--pairs", type=int, default=2000)
     words.add_argument("--seed", type=int, default=1)
-    words.add_argument("--program", help="the program, the release without")
+    words.add_argument("--phase", choices=("guess", "search"), help="the first or the second phase by itself, of a plain copy")
+    words.add_argument("--program", help="the program, or with --phase the plain copy; without, the release, or one that is made")
     words.add_argument("--limit", type=int, default=10, help="processor seconds of a pair (10)")
     words.add_argument("--late", help="a folder where pairs that weren't decided are written")
     choices = words.parse_args()
-    program = os.path.abspath(choices.program or choices.release)
     draws, counts, slowest, wrong = random.Random(choices.seed), {}, {}, 0
     with tempfile.TemporaryDirectory() as folder:
+        program = program_of(choices.top, choices, folder)
         for number in range(choices.pairs):
             count, outputs, kind = draws.choice((1, 2, 3, 3, 4, 4, 5, 5, 5)), draws.randint(1, 3), KINDS[number % len(KINDS)]
             first = drawn_first(draws, count, outputs)
             second = second_of(draws, kind, first)
-            said, seconds, why = judged(program, first, second, choices.limit, folder)
+            if choices.phase:
+                said, seconds, why = judged_alone(program, choices.phase, first, second, choices.limit, folder)
+            else:
+                said, seconds, why = judged(program, first, second, choices.limit, folder)
             counts[kind, said if not why else "wrong"] = counts.get((kind, said if not why else "wrong"), 0) + 1
             slowest[kind] = max(slowest.get(kind, (0, "")), (seconds, f"{count} inputs, {outputs} outputs"))
             if choices.late and said == "late":
@@ -162,7 +201,8 @@ def main():
     for kind in KINDS:
         seconds, ports = slowest.get(kind, (0, ""))
         print(f"{kind:<22}" + "".join(f"{counts.get((kind, it), 0):>10}" for it in answers) + f"  {seconds:.2f} s ({ports})")
-    print(f"{choices.pairs} pairs, {sum(v for (_, it), v in counts.items() if it in ('matched', 'none'))} answered as by all tables with an accepted account, {wrong} wrong")
+    answered = sum(v for (_, it), v in counts.items() if it in ("matched", "none", "nothing"))
+    print(f"{choices.pairs} pairs, {answered} answered as by all tables{'' if choices.phase else ' with an accepted account'}, {wrong} wrong")
     sys.exit(wrong > 0)
 
 

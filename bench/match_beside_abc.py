@@ -137,8 +137,11 @@ class Bench:
             tool("berkeley-abc", "-q", f"read {self.path(side + '.aig')}; strash; write_blif {self.path(side + '.blif')}")
         script = f"bm {self.path('left.blif')} {self.path('right.blif')}"
         printed, status, seconds, _ = timed(self.choices.limit, self.folder, "berkeley-abc", "-q", script)
+        # the system counts a limit by the ticks of its clock, of which `bm`, which writes a file over and over, sees few
+        if status is None or seconds > self.choices.limit:
+            return "late", seconds
         differ = ("NOT equivalent" in printed) or "circuits different" in printed
-        said = "late" if status is None else "none" if differ else "found" if "are equivalent" in printed and status == 0 else "failed"
+        said = "none" if differ else "found" if "are equivalent" in printed and status == 0 else "failed"
         return said, seconds
 
     def answer(self, program, first, second, known):
@@ -168,19 +171,28 @@ class Bench:
             row["wrong"] = row["wrong"] or "the account: " + accepted.strip()[:100]
         return {**row, "check": round(check_seconds, 4), "bytes": os.path.getsize(account)}
 
-    def write(self, circuit, kinds, folder):
-        """Writes the pairs of a circuit as files, for other programs."""
-        for kind in kinds:
+    def write(self, circuit, folder):
+        """Writes the pairs of a circuit as files, for other programs, and what is known of them into a list."""
+        for kind in self.choices.kinds:
             pair = self.made(circuit, kind)
-            if pair is not None:
-                for side, net in zip("ab", pair):
-                    netlists.to_text(net, os.path.join(folder, f"{circuit.name}_{kind}_{side}.aag"))
+            if pair is None:
+                continue
+            first, second, known, why = pair
+            for side, net in (("a", first), ("b", second)):
+                netlists.to_text(net, os.path.join(folder, f"{circuit.name}_{kind}_{side}.aag"))
+            with open(os.path.join(folder, "known.jsonl"), "a") as file:
+                file.write(json.dumps({**self.base(circuit, kind, first, second), "known": known, "why": why}) + "\n")
+
+    def base(self, circuit, kind, first, second):
+        """What a row says of a pair."""
+        return {"circuit": circuit.name, "family": circuit.family, "kind": kind, "inputs": first[0], "outputs": len(first[2]),
+                "gates": len(first[1]), "gates_second": len(second[1])}
 
     def rows(self, circuit, done):
         """Measures what is missing of a circuit, and yields a row for each answer."""
         programs = self.choices.programs
         for kind in self.choices.kinds:
-            wanted = [label for label in programs if (label, circuit.name, kind) not in done]
+            wanted = [label for label in programs if not self.choices.bm_alone and (label, circuit.name, kind) not in done]
             beside = not self.choices.no_bm and kind in BESIDE and ("bm", circuit.name, kind) not in done
             if not wanted and not beside:
                 continue
@@ -188,8 +200,7 @@ class Bench:
             if pair is None:
                 continue
             first, second, known, why = pair
-            base = {"circuit": circuit.name, "family": circuit.family, "kind": kind, "inputs": first[0], "outputs": len(first[2]),
-                    "gates": len(first[1]), "gates_second": len(second[1]), "known": known, "why": why, "limit": self.choices.limit, "seed": self.choices.seed}
+            base = {**self.base(circuit, kind, first, second), "known": known, "why": why, "limit": self.choices.limit, "seed": self.choices.seed}
             netlists.to_text(first, self.path("first.aag"))
             netlists.to_text(second, self.path("second.aag"))
             for label in wanted:
@@ -224,8 +235,9 @@ def main():
     words.add_argument("--results", help="the file of results, a line each, which is gone on with; a new one without")
     words.add_argument("--nets", help="the folder that keeps what Yosys and ABC made")
     words.add_argument("--no-bm", action="store_true", help="without ABC's matcher")
+    words.add_argument("--bm-alone", action="store_true", help="ABC's matcher alone")
     words.add_argument("--report", action="store_true", help="measure nothing, print what the file of results has")
-    words.add_argument("--write", metavar="FOLDER", help="measure nothing, write the pairs as files into a folder")
+    words.add_argument("--write", metavar="FOLDER", help="measure nothing, write the pairs as files into a folder, and known.jsonl, a line for each")
     words.add_argument("--markdown", action="store_true", help="print the tables of docs/MEASURED.md")
     choices = words.parse_intermixed_args()
     choices.programs = labelled(choices.release, choices.programs)
@@ -239,8 +251,9 @@ def main():
         bench = Bench(choices, folder)
         if choices.write:
             os.makedirs(choices.write, exist_ok=True)
+            open(os.path.join(choices.write, "known.jsonl"), "w").close()
             for circuit in chosen:
-                bench.write(circuit, choices.kinds, choices.write)
+                bench.write(circuit, choices.write)
             sys.exit(0)
         for circuit in [] if choices.report else chosen:
             for row in bench.rows(circuit, done):

@@ -16,7 +16,7 @@
 # Ends with status 1 where an answer is wrong or an account isn't accepted.
 #
 #     bench/match_beside_abc.sh [--limit SECONDS] [--seed SEED] [--every K] [--start FIRST] [--program [LABEL=]PATH].. [--kinds KIND,..]
-#                               [--results FILE] [--nets FOLDER] [--no-bm] [--report] [--markdown] [--write FOLDER] [CIRCUIT or FAMILY ..]
+#                               [--results FILE] [--nets FOLDER] [--no-bm] [--bm-alone] [--report] [--markdown] [--write FOLDER] [CIRCUIT or FAMILY ..]
 set -eu
 top=$(cd "$(dirname "${BASH_SOURCE[0]}")/.." && pwd)
 exec python3 "$top/bench/match_beside_abc.py" "$("$top/bench/program.sh")" "$@"

@@ -5,6 +5,8 @@ MATCHES, MISSES = ("permuted", "negated", "other"), ("gate", "output")
 WHY = {"supports": "supports", "unateness": "unateness", "symmetries": "symmetries", "counts": "counts of an output", "joint counts": "counts of outputs together",
        "drawn": "counts on drawn vectors",
        "twin": "another graph", "tried": "all tables tried, none or a match", "unknown": "not known"}
+START = {"bm": 0.028, "match": 0.003}  # processor seconds that a program takes to start
+LEAST = 0.01  # less than that isn't told apart
 SIZES = ((8, "to 8"), (16, "to 16"), (32, "to 32"), (64, "to 64"), (128, "to 128"), (256, "to 256"))
 
 
@@ -62,10 +64,30 @@ def size_of(row):
     return next(word for most, word in SIZES if row["inputs"] <= most)
 
 
+def pairs_of_bm(rows, program):
+    """The rows of bm, each with that of a program on the same pair."""
+    ours = {(row["circuit"], row["kind"]): row for row in rows if row["program"] == program}
+    return [(row, ours[row["circuit"], row["kind"]]) for row in rows if row["program"] == "bm" and (row["circuit"], row["kind"]) in ours]
+
+
+def is_right(row):
+    """Whether an answer of bm is the one that is known."""
+    return row["said"] == ("found" if row["kind"] == "permuted" else "none")
+
+
+def slower(rows, program, limit):
+    """The pairs that bm answers rightly and on which a program is late or takes more than twice as long, starting aside, and longer
+    with it too."""
+    for row, our in pairs_of_bm(rows, program):
+        taken = max(row["seconds"] - START["bm"], LEAST)
+        is_slower = our["seconds"] > row["seconds"] and our["seconds"] - START["match"] > 2 * taken
+        if is_right(row) and (is_slower or not is_decided(our, limit)):
+            yield row, our
+
+
 def beside(rows, program, limit):
     """What bm answered, held against a program's answers to the same pairs."""
-    ours = {(row["circuit"], row["kind"]): row for row in rows if row["program"] == program}
-    pairs = [(row, ours[row["circuit"], row["kind"]]) for row in rows if row["program"] == "bm" and (row["circuit"], row["kind"]) in ours]
+    pairs = pairs_of_bm(rows, program)
     for kind, wanted in (("permuted", "found"), ("gate", "none")):
         some = [(b, o) for b, o in pairs if b["kind"] == kind]
         answered = [(b, o) for b, o in some if b["said"] in ("found", "none")]
@@ -80,6 +102,7 @@ def beside(rows, program, limit):
         odd = [b["circuit"] for b, o in answered if kind == "permuted" and b["said"] == "none" or kind == "gate" and b["said"] == "found" and o["known"] is False]
         if odd:
             print(f"    bm answers wrongly: {', '.join(odd)}")
+    print("  bm takes less than half as long, starting aside: " + (", ".join(f"{b['circuit']} {b['kind']} ({b['seconds']:.2f} s and {cell(o)})" for b, o in slower(rows, program, limit)) or "never"))
 
 
 def classes(rows, limit):
@@ -169,6 +192,10 @@ def markdown(rows, program, limit):
     for why, words in WHY.items():
         some = [row for row in misses if row["why"] == why]
         print(f"| {words} | {len(some)} | {' | '.join(str(sum(is_decided(row, it) for row in some)) for it in limits)} |")
+    print("\n| pair | `bm` | `match` |\n|---|---|---|")
+    for row, our in slower(rows, program, limit):
+        taken = f"{our['seconds']:.2f} s" if is_decided(our, limit) else our["said"]
+        print(f"| `{row['circuit']}`, {row['kind']} | {row['seconds']:.2f} s | {taken} |")
     at = {(row["program"], row["circuit"], row["kind"]): row for row in rows}
     heads = ("permuted", "`bm`", "negated", "other architecture", "gate changed", "`bm`", "output replaced")
     places = ((program, "permuted"), ("bm", "permuted"), (program, "negated"), (program, "other"), (program, "gate"), ("bm", "gate"), (program, "output"))

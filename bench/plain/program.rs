@@ -1,0 +1,205 @@
+//! What a plain copy is asked: bench/plain_copy.sh has the words. Files are in the ASCII form of AIGER, in order, as
+//! `bench/match_beside_abc.sh --write` writes them.
+
+use crate::account_core::{Ban, Step};
+use crate::ban_book::BanBook;
+use crate::circuits::{Gate, Lit};
+use crate::cnf_core::Stop;
+use crate::fact_tests::FactBook;
+use crate::match_search::{Found, decide, search};
+use crate::net_core::{Graph, Graphs, Matching};
+use crate::oracle_core::{Compared, Oracle};
+use crate::port_sides::PairableGraphs;
+use crate::prelude::{Global, Items, Vec};
+use crate::query_core::Ledger;
+use crate::table_guess::{Effort, Guesser};
+use std::error::Error;
+use std::io;
+
+/// As many lines as `npnp match` learns by default (`command_words::DEFAULT_BUDGET`).
+const BUDGET: u64 = 1_000_000_000;
+
+type Answer = Result<(), Box<dyn Error>>;
+
+pub fn main() -> Answer {
+    let words: std::vec::Vec<String> = std::env::args().skip(1).collect();
+    let words: std::vec::Vec<&str> = words.iter().map(String::as_str).collect();
+    match words[..] {
+        ["guess", first, second, seed] => on_pair(first, second, seed, guess),
+        ["search", first, second, seed] => on_pair(first, second, seed, |graphs, seed| {
+            look(graphs, seed, |book, bans, ledger| {
+                search(Global, graphs, book, bans, seed, ledger)
+            })
+        }),
+        ["decide", first, second, seed] => on_pair(first, second, seed, |graphs, seed| {
+            look(graphs, seed, |book, bans, ledger| {
+                decide(Global, graphs, book, bans, seed, ledger)
+            })
+        }),
+        ["table", first, second, seed, table] => {
+            let table = std::fs::read_to_string(table)?;
+            on_pair(first, second, seed, |graphs, seed| {
+                prove(graphs, seed, &table)
+            })
+        }
+        _ => Err(
+            "plain guess|search|decide FIRST SECOND SEED, or plain table FIRST SECOND SEED TABLE"
+                .into(),
+        ),
+    }
+}
+
+/// Reads two circuits and a seed, and asks something of them.
+fn on_pair(
+    first: &str,
+    second: &str,
+    seed: &str,
+    ask: impl Fn(&PairableGraphs, u64) -> Answer,
+) -> Answer {
+    let first = graph_in(&std::fs::read_to_string(first)?)?;
+    let second = graph_in(&std::fs::read_to_string(second)?)?;
+    let graphs = Graphs::new(&first, &second);
+    let graphs = PairableGraphs::new(&graphs).ok_or("the circuits have other numbers of ports")?;
+    ask(&graphs, seed.parse()?)
+}
+
+/// The circuit of a file whose signals are numbered in order, so that its literals are the circuit's.
+fn graph_in(text: &str) -> Result<Graph, Box<dyn Error>> {
+    let mut lines = text.lines();
+    let header = numbers_in(lines.next().and_then(|line| line.strip_prefix("aag ")))?;
+    let [_, inputs, 0, outputs, gates] = header[..] else {
+        return Err("a header with latches, or without five numbers".into());
+    };
+    for place in 0..inputs {
+        expect(
+            numbers_in(lines.next())? == [2 * (1 + place)],
+            "inputs aren't in order",
+        )?;
+    }
+    let mut ends = Vec::new(Global);
+    for _ in 0..outputs {
+        ends.0
+            .extend(numbers_in(lines.next())?.into_iter().map(Lit));
+    }
+    let mut ands = Vec::new(Global);
+    for place in 0..gates {
+        let line = numbers_in(lines.next())?;
+        expect(
+            line.len() == 3 && line[0] == 2 * (1 + inputs + place),
+            "gates aren't in order",
+        )?;
+        ands.0.push(Gate {
+            a: Lit(line[1]),
+            b: Lit(line[2]),
+        });
+    }
+    Graph::new(inputs, ands, ends).ok_or("the gates aren't in order".into())
+}
+
+fn numbers_in(line: Option<&str>) -> Result<std::vec::Vec<u32>, Box<dyn Error>> {
+    let words = line.ok_or("a line is missing")?.split(' ');
+    words.map(|word| Ok(word.parse()?)).collect()
+}
+
+fn expect(holds: bool, or: &str) -> Answer {
+    if holds { Ok(()) } else { Err(or.into()) }
+}
+
+/// The first phase alone: prints a table that may be a match, or that there is none.
+fn guess(graphs: &PairableGraphs, seed: u64) -> Answer {
+    let mut guesser = Guesser::new(Global, graphs, seed).map_err(refused)?;
+    match guesser
+        .guess(Global, graphs, Effort::Whole)
+        .map_err(refused)?
+    {
+        Some(table) => print_table("guess", &table),
+        None => println!("nothing"),
+    }
+    Ok(())
+}
+
+/// Has a match looked for, and tells what was found.
+fn look(
+    graphs: &PairableGraphs,
+    seed: u64,
+    find: impl Fn(&mut FactBook, &mut BanBook, &mut Ledger) -> Result<Found, Stop>,
+) -> Answer {
+    let mut book = FactBook::new(Global, graphs.graphs(), seed).map_err(refused)?;
+    let mut bans = BanBook::new(Global);
+    let mut ledger = Ledger::new(Global, BUDGET);
+    let found = find(&mut book, &mut bans, &mut ledger);
+    tell(found.map_err(refused)?, bans.bans());
+    Ok(())
+}
+
+/// What there is instead of an answer, as an error of the program.
+fn refused(cause: impl std::fmt::Debug) -> io::Error {
+    io::Error::other(format!("{cause:?}"))
+}
+
+/// Compares the outputs by a table: a line for each port, inputs before outputs, with the place where it goes and 1 where it is
+/// negated.
+fn prove(graphs: &PairableGraphs, seed: u64, table: &str) -> Answer {
+    let mut ways = Vec::new(Global);
+    for line in table.lines() {
+        let way = numbers_in(Some(line))?;
+        expect(way.len() == 2, "a line of the table hasn't two numbers")?;
+        ways.0.push((way[0], way[1] == 1));
+    }
+    let inputs = graphs.first().inputs() as usize;
+    expect(
+        ways.len() == inputs + graphs.first().outputs().len(),
+        "the table has another length",
+    )?;
+    let outputs = Items(ways.0.split_off(inputs));
+    let table = Matching {
+        inputs: Items(ways.0),
+        outputs,
+    };
+    expect(
+        table.check_shape(inputs as u32, table.outputs.len() as u32),
+        "the table isn't a bijection",
+    )?;
+    let mut book = FactBook::new(Global, graphs.graphs(), seed).map_err(refused)?;
+    let mut ledger = Ledger::new(Global, BUDGET);
+    for output in 0..table.outputs.len() as u32 {
+        let compared = book.compare(Global, &table, output, &mut ledger);
+        if let Compared::Differs(_) = compared.map_err(refused)? {
+            println!("differs at output {output}");
+            return Ok(());
+        }
+    }
+    println!("match");
+    Ok(())
+}
+
+/// Prints a match's table, or that there is none, and how many bans were made, by what shows them.
+fn tell(found: Found, bans: &[Ban]) {
+    match found {
+        Found::Match(table, _) => print_table("match", &table),
+        Found::None(_) => print_bans(bans),
+    }
+}
+
+fn print_bans(bans: &[Ban]) {
+    let count = |is: fn(&Step) -> bool| bans.iter().filter(|ban| is(&ban.step)).count();
+    println!("none");
+    println!(
+        "{} vectors, {} mismatches, {} tallies, {} covers",
+        count(|step| matches!(step, Step::Vector { .. })),
+        count(|step| matches!(step, Step::Mismatch { .. })),
+        count(|step| matches!(step, Step::Tally { .. })),
+        count(|step| matches!(step, Step::Cover { .. })),
+    );
+}
+
+/// Prints a table as `npnp match` does.
+fn print_table(answer: &str, table: &Matching) {
+    println!("{answer}");
+    for (kind, ways) in [("input", &table.inputs), ("output", &table.outputs)] {
+        for (place, (to, is_negated)) in ways.iter().enumerate() {
+            let not = if *is_negated { "not " } else { "" };
+            println!("{kind} {place} = {not}{kind} {to}");
+        }
+    }
+}
