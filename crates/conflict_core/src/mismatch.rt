@@ -59,12 +59,7 @@ pub(crate) fn hold_mismatch(
 }
 
 /// The number of a ban that was made of a way's mismatch with one of some pairs.
-pub(crate) fn made_beside(
-    made: &Mismatches,
-    bans: &[Ban],
-    way: Pair,
-    pairs: &[Pair],
-) -> Option<u64>
+pub(crate) fn made_beside(made: &Mismatches, bans: &[Ban], way: Pair, pairs: &[Pair]) -> Option<u64>
     ensures { IfSome result (Covers bans.now (way ∷ pairs.now)) }
 {
     for with in pairs.iter() {

@@ -14,8 +14,8 @@ use sim_signature::Signatures;
 use std::alloc::{AllocError, Global};
 use std::marker::Model;
 
-/// How many signatures are held. Each takes 128 bytes for an input. Of an adder of 64 bits 6,200 vectors are asked for where
-/// two are held, 1,900 with four, 880 with eight and 780 with sixteen.
+/// How many signatures are held. Each takes what those of a group take, 8 MiB at most (`Sightings`). A near miss of an adder of
+/// 64 bits (`adder64`, output) takes 2.3 s where two are held, 2.1 with four and 1.6 with eight.
 const MOST: usize = 8;
 
 /// A question takes about as long as that many passes over the gates.

@@ -125,13 +125,7 @@ fn refuse_or_find<O: Oracle>(
         return Ok(Found::None(ban));
     }
     if let Some(found) = explore_little(
-        alloc,
-        graphs,
-        oracle,
-        &mut guide,
-        FEW_LINES,
-        book,
-        ledger,
+        alloc, graphs, oracle, &mut guide, FEW_LINES, book, ledger,
     )? {
         return Ok(found);
     }
