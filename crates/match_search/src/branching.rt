@@ -91,7 +91,7 @@ pub(crate) fn explore<O: Oracle>(
     )
 }
 
-/// Searches for one round, in which so many lines may be learned, and answers what it came to, if it came to anything. The search
+/// Searches for one round, in which this many lines may be learned, and answers what it came to, if it came to anything. The search
 /// goes on from nothing, with the bans that were learned.
 ///
 /// # Errors

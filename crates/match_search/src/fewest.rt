@@ -23,7 +23,7 @@ struct Candidate {
 
 /// Of the ports that are in no pair the one of either circuit that has the fewest ways left for its weight: ports of the last
 /// conflicts are decided first, so that these come again sooner and lead to bans of few pairs. Of the inputs those alone are
-/// looked at that an output in a pair reads. An output counts as if it had so many times its ways.
+/// looked at that an output in a pair reads. An output counts as if it had this many times its ways.
 pub(crate) fn fewest_ways(
     alloc: Global,
     reads: &Reads,
@@ -41,7 +41,7 @@ pub(crate) fn fewest_ways(
     }
 }
 
-// The candidate, as if it had so many times its ways.
+// The candidate, as if it had this many times its ways.
 fn counted(candidate: Option<Candidate>, factor: u64) -> Option<Candidate> {
     let Candidate { port, ways, weight } = candidate?;
     let ways = ways.saturating_mul(factor);

@@ -42,7 +42,7 @@ impl Rounds {
         }
     }
 
-    /// Has the round end once so many lines are learned in the run.
+    /// Has the round end once this many lines are learned in the run.
     pub(crate) fn end_at(&mut self, lines: u64) {
         self.lines = lines;
     }
