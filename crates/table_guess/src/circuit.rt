@@ -55,9 +55,10 @@ impl Sample {
 pub(crate) struct Circuit<'a> {
     pub(crate) simulator: FlipSim<'a>,
     pub(crate) counts: Counts,
-    /// Where drawn vectors leave some inputs faint, in which directions outputs were seen to change with inputs, on these vectors
-    /// and on some on which gates have rare values.
-    pub(crate) signs: Option<Counts>,
+    /// In which directions outputs were seen to change with inputs, also on vectors on which gates have rare values.
+    pub(crate) signs: Counts,
+    /// Whether drawn vectors leave some inputs faint. Only then are there such vectors.
+    pub(crate) is_faint: bool,
 }
 
 /// Blocks of 256 vectors, a column for each input.
@@ -79,16 +80,17 @@ impl<'a> Circuit<'a> {
             tally.add(&mut simulator);
         }
         let counts = tally.counts(alloc)?;
+        let is_faint = !sample.is_all && has_faint(&simulator, &counts);
         let mut rare = Items::new(alloc);
-        let mut signs = None;
-        if !sample.is_all && has_faint(&simulator, &counts) {
+        if is_faint {
             rare = rare_blocks(alloc, &mut simulator, draws)?;
-            signs = Some(signs_on(alloc, &rare, &mut simulator, &mut tally)?);
         }
+        let signs = signs_on(alloc, &rare, &mut simulator, &mut tally)?;
         let circuit = Circuit {
             simulator,
             counts,
             signs,
+            is_faint,
         };
         Ok((circuit, rare))
     }

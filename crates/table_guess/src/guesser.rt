@@ -466,7 +466,7 @@ impl<'a> Guesser<'a> {
         let Some(state) = self.split_by_vectors(alloc, state)? else {
             return Ok(None);
         };
-        if state.count() > before || self.first.signs.is_none() || self.in_vain >= MOST_IN_VAIN {
+        if state.count() > before || !self.first.is_faint || self.in_vain >= MOST_IN_VAIN {
             return Ok(Some(state));
         }
         let Some(state) = self.split_under(alloc, state, MANY_ASSIGNMENTS, 1)? else {
@@ -611,19 +611,15 @@ impl<'a> Guesser<'a> {
         link.split(alloc, state)
     }
 
-    // The directions in which outputs were seen to change, where that was looked at in both circuits.
-    fn sign_link(&self) -> Option<Link<'_>> {
-        Some(Link {
-            first: self.first.signs.as_ref()?,
-            second: self.second.signs.as_ref()?,
-            slack: None,
-        })
-    }
-
     // Splits cells by directions, if that can be: rare changes may have been seen in one circuit alone.
     fn signed(&self, alloc: Global, state: State) -> Result<State, AllocError> {
-        let Some(link) = self.sign_link() else {
+        if !(self.first.is_faint & self.second.is_faint) {
             return Ok(state);
+        }
+        let link = Link {
+            first: &self.first.signs,
+            second: &self.second.signs,
+            slack: None,
         };
         match link.split(alloc, state.copy()?)? {
             Some(finer) => Ok(finer),
