@@ -1,8 +1,12 @@
 -- Guesses are compared, and then counts, more guesses and the search decide.
 use Rattle.std.proofs.Common.{◌∙◌, sym}
 use Rattle.match_search.proofs.SearchLemmas.{none_last}
-use Rattle.match_search.proofs.ServeLemmas.{served_one, serves_last}
+use Rattle.match_search.proofs.ServeLemmas.{served_one, served_same, serves_err, serves_last}
 use Rattle.match_search.proofs.deciding.decide.Goals as goal
+
+pub returns-in_err-table-clause-serves : goal.returns-in_err-table-clause-serves
+returns-in_err-table-clause-serves g c =
+    serves_err _ _ _ _ _ _ _ c.in_err-table.field-0.0 c.from_residual-in_err-table.ensures.1 (served_same _ _ c.facts-facts.ensures.lawful c.requires.suits) c.in_err-table.ensures.serves
 
 pub refuse_or_find-requires-clause-graphs : goal.refuse_or_find-requires-clause-graphs
 refuse_or_find-requires-clause-graphs g c = c.requires.graphs ∙ sym c.in_ok-table.ensures.serves.grows.graphs
