@@ -68,14 +68,14 @@ class Parts:
             sys.exit(f"{name}: {program} says {said}")
         return {"circuit": pair["circuit"], "kind": pair["kind"], "said": said, "seconds": round(seconds, 4)}
 
-    def measure(self, part, pairs, done):
-        """Adds the rows that are missing of a part to the file of results."""
-        left = [pair for pair in pairs if (part, pair["circuit"], pair["kind"]) not in done]
-        if not left:
-            return
-        program = self.copy(part)
-        for pair in left:
-            row = {"part": part, "limit": self.choices.limit, **self.answer(program, pair)}
+    def measure(self, parts, pairs):
+        """Adds the rows that are missing to the file of results. All parts take turns on each pair, so that what else the machine does
+        is spread over them."""
+        done = self.rows()
+        left = [(part, pair) for pair in pairs for part in parts if (part, pair["circuit"], pair["kind"]) not in done]
+        programs = {part: self.copy(part) for part in parts if part in {of for of, _ in left}}
+        for part, pair in left:
+            row = {"part": part, "limit": self.choices.limit, **self.answer(programs[part], pair)}
             with open(self.results, "a") as file:
                 file.write(json.dumps(row) + "\n")
             print(f"{part:<16}{row['circuit']:<22}{row['kind']:<10}{row['said']:<8}{row['seconds']:>8.3f}", file=sys.stderr, flush=True)
@@ -124,8 +124,7 @@ def main():
     with tempfile.TemporaryDirectory() as folder:
         bench = Parts(choices.top, choices, folder)
         pairs = bench.pairs()
-        for part in parts:
-            bench.measure(part, pairs, bench.rows())
+        bench.measure(parts, pairs)
         bench.report(parts, pairs)
 
 
