@@ -34,8 +34,8 @@ use query_core::Ledger;
 use std::alloc::{AllocError, Global};
 use watch_core::Stage;
 
-/// How many rounds there are, after each of which the search starts over. They come to about two million conflicts; that the
-/// search ends is seen of what follows alone, in which less is left after each turn.
+/// How many rounds there are, after each of which the search starts over. They come to some six million conflicts, hours of work;
+/// that the search ends is seen of what follows alone, in which less is left after each turn.
 const MOST_ROUNDS: u64 = 10_000;
 
 /// Decides ports one by one, as conflict-driven solvers decide variables, until a match is found, or a ban without pairs. What
