@@ -319,7 +319,7 @@ impl<'a> Guesser<'a> {
         Ok(false)
     }
 
-    // Searches depth first until so many guesses have failed.
+    // Searches depth first until as many guesses have failed as may.
     fn search(&mut self, alloc: Global, root: State, failures: u32) -> Result<Attempt, AllocError> {
         let mut points = Vec::new(alloc);
         let mut patience = Patience::of_round(self.round, failures);
@@ -495,7 +495,7 @@ impl<'a> Guesser<'a> {
         self.split_under(alloc, state, FEW_ASSIGNMENTS, MANY_BLOCKS)
     }
 
-    // Splits cells by counts under so many assignments, on so many blocks of vectors each.
+    // Splits cells by counts under some assignments, on some blocks of vectors each.
     fn split_under(
         &mut self,
         alloc: Global,
