@@ -9,13 +9,17 @@
 # status 1 where an answer is wrong.
 #
 #     bench/solve.sh [LIMIT [NAME ..]]      LIMIT: the processor seconds of a question, 20; NAME ..: the circuits that are wanted
+#
+# By the environment: AFTER_MINISAT=SECONDS asks minisat each question with LIMIT, and of those that it answers the program, with
+# SECONDS; ONLY=other, again or at leaves out other pairs; PROGRAM=FILE is asked in place of `workbench`, as a plain copy
+# (bench/plain_copy.sh), which doesn't derive the lines again.
 set -eu
 top=$(cd "$(dirname "${BASH_SOURCE[0]}")/.." && pwd)
 limit=${1-20}
 [ $# -eq 0 ] || shift
 work=$(mktemp -d)
 trap 'rm -rf "$work"' EXIT
-program=$("$top/bench/build_workbench.sh")
+program=${PROGRAM:-$("$top/bench/build_workbench.sh")}
 resynthesize='balance; rewrite; refactor; balance; rewrite; rewrite -z; balance; refactor -z; rewrite -z; balance'
 declare -A verilog=(
   [adder8]='module m(input [7:0] a, input [7:0] b, output [8:0] y); assign y = a + b; endmodule'
@@ -92,7 +96,10 @@ make_other() {
       ;;
   esac
 }
-ask() { python3 "$top/bench/solve.py" "$program" "$1" "$2" "$3" "$limit" || failed=1; }
+ask() {
+  case ${ONLY-} in ?*) [[ $1 == *" $ONLY"* ]] || return 0 ;; esac
+  python3 "$top/bench/solve.py" "$program" "$1" "$2" "$3" "$limit" ${AFTER_MINISAT:+--after-minisat "$AFTER_MINISAT"} || failed=1
+}
 for name in "$@"; do
   base=$work/$name
   echo "${verilog[$name]}" >"$base.v"

@@ -2,6 +2,7 @@
 //! `bench/match_beside_abc.sh --write` writes them.
 
 use crate::account_core::{Ban, Step};
+use crate::ask_core::{Answer as Verdict, ask};
 use crate::ban_book::BanBook;
 use crate::circuits::{Gate, Lit};
 use crate::cnf_core::Stop;
@@ -11,7 +12,7 @@ use crate::net_core::{Graph, Graphs, Matching};
 use crate::oracle_core::{Compared, Oracle};
 use crate::port_sides::PairableGraphs;
 use crate::prelude::{Global, Items, Vec};
-use crate::query_core::Ledger;
+use crate::query_core::{Ledger, of_match};
 use crate::table_guess::{Effort, Guesser};
 use std::error::Error;
 use std::io;
@@ -36,6 +37,9 @@ pub fn main() -> Answer {
                 decide(Global, graphs, book, bans, seed, ledger)
             })
         }),
+        ["ask", first, second, output, value, budget] => on_pair(first, second, "0", |graphs, _| {
+            ask_output(graphs, output.parse()?, value == "1", budget.parse()?)
+        }),
         ["table", first, second, seed, table] => {
             let table = std::fs::read_to_string(table)?;
             on_pair(first, second, seed, |graphs, seed| {
@@ -43,7 +47,8 @@ pub fn main() -> Answer {
             })
         }
         _ => Err(
-            "plain guess|search|decide FIRST SECOND SEED, or plain table FIRST SECOND SEED TABLE"
+            "plain guess|search|decide FIRST SECOND SEED, plain table FIRST SECOND SEED TABLE, \
+             or plain ask FIRST SECOND OUTPUT VALUE BUDGET"
                 .into(),
         ),
     }
@@ -179,6 +184,31 @@ fn tell(found: Found, bans: &[Ban]) {
         Found::Match(table, _) => print_table("match", &table),
         Found::None(_) => print_bans(bans),
     }
+}
+
+/// Asks whether an output of the first circuit can have the value where that of the second has not, ports in place.
+fn ask_output(graphs: &PairableGraphs, output: u32, value: bool, budget: u64) -> Answer {
+    let in_place = |count: usize| Items((0..count as u32).map(|place| (place, false)).collect());
+    let matching = Matching {
+        inputs: in_place(graphs.first().inputs() as usize),
+        outputs: in_place(graphs.first().outputs().len()),
+    };
+    expect(
+        (output as usize) < matching.outputs.len(),
+        "there is no such output",
+    )?;
+    let graphs = graphs.graphs();
+    let query = of_match(Global, graphs, &matching, output, value).map_err(refused)?;
+    match ask(Global, graphs, &query, &mut Ledger::new(Global, budget)) {
+        Ok(Verdict::Vector(vector)) => {
+            let digit = |bit: &bool| if *bit { '1' } else { '0' };
+            println!("vector {}", vector.iter().map(digit).collect::<String>());
+        }
+        Ok(Verdict::Refuted(log)) => println!("refuted {}", log.lines.len()),
+        Err(Stop::Spent(learned)) => println!("spent {learned}"),
+        Err(Stop::Memory) => return Err("out of memory".into()),
+    }
+    Ok(())
 }
 
 fn print_bans(bans: &[Ban]) {
