@@ -95,9 +95,15 @@ impl Classes {
 }
 
 /// The numbers of new classes: by the old class, and a hash of the words that came.
-#[derive(Drop)]
 struct Numbers {
     map: IndexMap<(u64, u64), u64>,
+}
+
+// By hand, and so one call wherever a value ends: a derived drop is expanded there, field by field, and makes proofs long.
+impl Drop for Numbers {
+    fn drop(self) {
+        let Numbers { map: _map } = self;
+    }
 }
 
 impl Numbers {
