@@ -106,7 +106,9 @@ def without_models(text):
 
 
 def without_drop(text):
-    """Without the trait `Drop`, which each type has there that may be let go, and with Rust's own derives alone."""
+    """Without the trait `Drop`, which each type has there that may be let go, and which is another one in Rust; with Rust's own
+    derives alone."""
+    text = re.sub(r"^(?://.*\n)*impl(?:<.*>)? Drop for [^{]*\{\n(?:(?!\}).*\n)*\}\n", "", text, flags=re.M)
     text = re.sub(r"\s*where\s+\w+: Drop,", "", text)
     text = re.sub(r": Drop\b(?! \+)| \+ Drop\b", "", text)
 

@@ -9,7 +9,6 @@ use net_core::{Gate, Graph, Lit};
 use std::alloc::{AllocError, Global};
 
 /// What an input reaches.
-#[derive(Debug, Drop)]
 pub(crate) struct Fanout {
     /// A bit for each gate, 64 in a word: a list of the gates would take 32 times as much where an input reaches all of them, and
     /// a circuit of 1,024 inputs and 100,000 gates takes 13 megabytes.
@@ -18,6 +17,17 @@ pub(crate) struct Fanout {
     pub(crate) count: u64,
     /// The outputs, ascending.
     pub(crate) outputs: Items<u32>,
+}
+
+// By hand, and so one call wherever a value ends: a derived drop is expanded there, field by field, and makes proofs long.
+impl Drop for Fanout {
+    fn drop(self) {
+        let Fanout {
+            gates: _gates,
+            count: _count,
+            outputs: _outputs,
+        } = self;
+    }
 }
 
 impl Fanout {

@@ -13,7 +13,6 @@ use std::alloc::{AllocError, Global};
 use std::marker::Model;
 
 /// A circuit on 256 vectors, and on these vectors with one input inverted.
-#[derive(Drop)]
 pub struct FlipSim<'a> {
     graph: &'a Graph,
     fanouts: Items<Fanout>,
@@ -37,6 +36,20 @@ impl<'a> Model for FlipSim<'a> {
 
     ghost invariant = { λ a. (vec_len a.values ≡ signals_of a.graph.now)
         × (vec_len a.flipped ≡ signals_of a.graph.now) };
+}
+
+// By hand, and so one call wherever a value ends: a derived drop is expanded there, field by field, and makes proofs long.
+impl Drop for FlipSim<'_> {
+    fn drop(self) {
+        let FlipSim {
+            graph: _graph,
+            fanouts: _fanouts,
+            values: _values,
+            flipped: _flipped,
+            is_copied: _is_copied,
+            words: _words,
+        } = self;
+    }
 }
 
 impl<'a> FlipSim<'a> {

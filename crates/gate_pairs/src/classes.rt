@@ -48,15 +48,8 @@ pub(crate) fn classes_of(alloc: Global, graph: &Graph, seed: u64) -> Result<Clas
         members: Vec::new(alloc),
         count: 0,
     };
-    let count = graph.outputs().len();
     for round in 0..ROUNDS {
-        let words = words_of(round);
-        if count > MOST_WORDS / words {
-            break;
-        }
-        let inputs = drawn(alloc, &mut generator, graph.inputs(), words)?;
-        let values = simulate(alloc, graph, &inputs)?;
-        if !classes.split(alloc, &values, count as u32)? {
+        if !classes.split_once(alloc, graph, round, &mut generator)? {
             break;
         }
     }
@@ -75,6 +68,26 @@ fn words_of(round: u32) -> usize
 }
 
 impl Classes {
+    // Draws a round, and answers whether a class was split.
+    fn split_once(
+        &mut self,
+        alloc: Global,
+        graph: &Graph,
+        round: u32,
+        generator: &mut Pcg32,
+    ) -> Result<bool, AllocError>
+        requires { round < 7 }
+    {
+        let count = graph.outputs().len();
+        let words = words_of(round);
+        if count > MOST_WORDS / words {
+            return Ok(false);
+        }
+        let inputs = drawn(alloc, generator, graph.inputs(), words)?;
+        let values = simulate(alloc, graph, &inputs)?;
+        self.split(alloc, &values, count as u32)
+    }
+
     /// Splits the classes by what n signals have on more vectors. Answers whether one was split.
     fn split(&mut self, alloc: Global, values: &Words, count: u32) -> Result<bool, AllocError>
         requires { length values.now.columns ≡ count }
@@ -95,9 +108,15 @@ impl Classes {
 }
 
 /// The numbers of new classes: by the old class, and a hash of the words that came.
-#[derive(Drop)]
 struct Numbers {
     map: IndexMap<(u64, u64), u64>,
+}
+
+// By hand, and so one call wherever a value ends: a derived drop is expanded there, field by field, and makes proofs long.
+impl Drop for Numbers {
+    fn drop(self) {
+        let Numbers { map: _map } = self;
+    }
 }
 
 impl Numbers {

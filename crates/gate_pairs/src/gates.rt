@@ -56,15 +56,25 @@ fn gate_at<B: Base>(base: &B, ids: &[u64], k: usize) -> Option<Gate>
 ///
 /// Only when out of memory.
 pub fn inputs_of(alloc: Global, gates: &[Gate]) -> Result<Vec<SatLit>, AllocError> {
-    let mut met: IndexSet<u64> = IndexSet::new(alloc);
-    met.insert(0)?;
+    let mut met = IndexSet::new(alloc);
     let mut inputs = Vec::new(alloc);
+    add_inputs(gates, &mut met, &mut inputs)?;
+    Ok(inputs)
+}
+
+// Adds what gates read and what wasn't met before. The constant is met.
+fn add_inputs(
+    gates: &[Gate],
+    met: &mut IndexSet<u64>,
+    inputs: &mut Vec<SatLit>,
+) -> Result<(), AllocError> {
+    met.insert(0)?;
     for gate in gates.iter() {
-        meet(&mut met, &mut inputs, gate.first)?;
-        meet(&mut met, &mut inputs, gate.second)?;
+        meet(met, inputs, gate.first)?;
+        meet(met, inputs, gate.second)?;
         met.insert(gate.output.variable())?;
     }
-    Ok(inputs)
+    Ok(())
 }
 
 // Adds an operand that wasn't met before.

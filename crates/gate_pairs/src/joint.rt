@@ -22,20 +22,39 @@ pub(crate) struct Signal {
 
 /// The gates of two cones as one netlist, a gate that both have once. All signals are its outputs, the constant and the
 /// inputs too, so that a simulation tells what each of them has.
-#[derive(Drop)]
 pub(crate) struct Joint {
     pub(crate) graph: Graph,
     /// What each signal is.
     pub(crate) signals: Vec<Signal>,
 }
 
+// By hand, and so one call wherever a value ends: a derived drop is expanded there, field by field, and makes proofs long.
+impl Drop for Joint {
+    fn drop(self) {
+        let Joint {
+            graph: _graph,
+            signals: _signals,
+        } = self;
+    }
+}
+
 /// A netlist that is being put together.
-#[derive(Drop)]
 struct Parts {
     /// The signal of each variable.
     numbers: IndexMap<u64, usize>,
     signals: Vec<Signal>,
     gates: Vec<NetGate>,
+}
+
+// By hand, and so one call wherever a value ends: a derived drop is expanded there, field by field, and makes proofs long.
+impl Drop for Parts {
+    fn drop(self) {
+        let Parts {
+            numbers: _numbers,
+            signals: _signals,
+            gates: _gates,
+        } = self;
+    }
 }
 
 impl Joint {
@@ -47,21 +66,9 @@ impl Joint {
     pub(crate) fn of(alloc: Global, gates: &[Gate]) -> Result<Option<Joint>, AllocError> {
         let inputs = inputs_of(alloc, gates)?;
         let mut parts = Parts::new(alloc)?;
-        for input in inputs.iter() {
-            parts.add(*input, 0)?;
-        }
-        for gate in gates.iter() {
-            parts.add_gate(*gate)?;
-        }
-        let Parts { signals, gates, .. } = parts;
-        if (inputs.len() >= LIMIT / 2) | (gates.len() >= LIMIT / 2) | (signals.len() >= LIMIT) {
-            return Ok(None);
-        }
-        let outputs = plain_literals(alloc, signals.len())?;
-        let Some(graph) = Graph::new(inputs.len() as u32, gates, outputs) else {
-            return Ok(None);
-        };
-        Ok(Some(Joint { graph, signals }))
+        parts.add_all(&inputs, gates)?;
+        let outputs = plain_literals(alloc, parts.signals.len())?;
+        Ok(parts.into_joint(inputs.len(), outputs))
     }
 }
 
@@ -75,6 +82,31 @@ impl Parts {
         };
         parts.add(SatLit::of(0, false), 0)?;
         Ok(parts)
+    }
+
+    // Adds inputs, and gates each of which stands after its operands.
+    fn add_all(&mut self, inputs: &[SatLit], gates: &[Gate]) -> Result<(), AllocError> {
+        for input in inputs.iter() {
+            self.add(*input, 0)?;
+        }
+        for gate in gates.iter() {
+            self.add_gate(*gate)?;
+        }
+        Ok(())
+    }
+
+    // The netlist with these outputs, where n signals are inputs. None where there are too many of them.
+    fn into_joint(self, inputs: usize, outputs: Vec<Lit>) -> Option<Joint> {
+        let Parts {
+            numbers: _numbers,
+            signals,
+            gates,
+        } = self;
+        if (inputs >= LIMIT / 2) | (gates.len() >= LIMIT / 2) | (outputs.len() >= LIMIT) {
+            return None;
+        }
+        let graph = Graph::new(inputs as u32, gates, outputs)?;
+        Some(Joint { graph, signals })
     }
 
     // Adds a signal that is 1 where a literal is true.

@@ -68,8 +68,18 @@ fn candidate_of(signal: Signal, member: Member) -> Candidate {
 
 // Each literal but the first of its class, with that one.
 fn paired(alloc: Global, candidates: &[Candidate]) -> Result<Vec<Pair>, AllocError> {
-    let mut firsts: IndexMap<u64, SatLit> = IndexMap::new(alloc);
+    let mut firsts = IndexMap::new(alloc);
     let mut pairs = Vec::new(alloc);
+    add_pairs(candidates, &mut firsts, &mut pairs)?;
+    Ok(pairs)
+}
+
+// Adds these pairs, by the first literal of each class.
+fn add_pairs(
+    candidates: &[Candidate],
+    firsts: &mut IndexMap<u64, SatLit>,
+    pairs: &mut Vec<Pair>,
+) -> Result<(), AllocError> {
     for candidate in candidates.iter() {
         let first = firsts.get(&candidate.class).copied();
         match first {
@@ -82,5 +92,5 @@ fn paired(alloc: Global, candidates: &[Candidate]) -> Result<Vec<Pair>, AllocErr
             }
         }
     }
-    Ok(pairs)
+    Ok(())
 }

@@ -14,7 +14,7 @@ use trail_core::Trail;
 
 /// What is learned from a conflict: a clause that follows, the numbers of the clauses that derive it in the order in which
 /// they are used, and the level to go back to, at which the clause leaves a single literal.
-#[derive(Debug, Drop)]
+#[derive(Drop)]
 pub(crate) struct Learned {
     pub(crate) clause: Items<SatLit>,
     pub(crate) steps: Vec<u64>,
@@ -23,7 +23,7 @@ pub(crate) struct Learned {
 
 /// How far an analysis has come, from the end of the trail down. Beside it there are marks: the marked variables are
 /// those of the clause that is resolved so far. Those whose literals stand before `below` are left.
-#[derive(Debug, Drop)]
+#[derive(Drop)]
 struct Analysis {
     below: u64,
     /// How many marked literals before `below` are of the present level.

@@ -11,7 +11,6 @@ use trail_core::Trail;
 /// The part of a question that a search is after: whether the two literals of a candidate can be true together. Only what
 /// they are computed from is decided then: the checksum of 32 bits takes a tenth of the lines that it takes where all
 /// variables are.
-#[derive(Drop)]
 pub(crate) struct Focus {
     /// None: the whole question.
     pub(crate) candidate: Option<Candidate>,
@@ -27,6 +26,21 @@ pub(crate) struct Focus {
     turn: u64,
     /// What is decided before all other variables.
     leading: Vec<SatLit>,
+}
+
+// By hand, and so one call wherever a value ends: a derived drop is expanded there, field by field, and makes proofs long.
+impl Drop for Focus {
+    fn drop(self) {
+        let Focus {
+            candidate: _candidate,
+            exhausted: _exhausted,
+            is_spread: _is_spread,
+            gates: _gates,
+            turns: _turns,
+            turn: _turn,
+            leading: _leading,
+        } = self;
+    }
 }
 
 impl Focus {

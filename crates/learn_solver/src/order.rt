@@ -28,7 +28,6 @@ const BITS: u32 = 32;
 /// state independent decaying sum: Moskewicz and others, Chaff, 2001; with a heap: Eén and Sörensson, MiniSat, 2003). Each gets
 /// the value that it had last (Pipatsrisawat and Darwiche, SAT 2007), at first 0. It says what is tried first; no answer depends
 /// on it.
-#[derive(Drop)]
 pub(crate) struct Order {
     /// Those that are to be decided, by what was counted for them. Of those that are assigned any may be among them.
     pub(crate) heap: Heap,
@@ -39,6 +38,19 @@ pub(crate) struct Order {
     /// The last conflict that named each variable.
     pub(crate) named: Vec<u64>,
     pub(crate) conflicts: u64,
+}
+
+// By hand, and so one call wherever a value ends: a derived drop is expanded there, field by field, and makes proofs long.
+impl Drop for Order {
+    fn drop(self) {
+        let Order {
+            heap: _heap,
+            phases: _phases,
+            weight: _weight,
+            named: _named,
+            conflicts: _conflicts,
+        } = self;
+    }
 }
 
 impl Order {

@@ -23,7 +23,6 @@ use trail_core::Trail;
 use watch_lists::Watches;
 
 /// A search for a model of the clauses that are looked at.
-#[derive(Drop)]
 pub(crate) struct Search {
     pub(crate) trail: Trail,
     /// The clauses that are looked at: those of the numbers, then those of the lines.
@@ -31,8 +30,18 @@ pub(crate) struct Search {
     pub(crate) tools: Tools,
 }
 
+// By hand, and so one call wherever a value ends: a derived drop is expanded there, field by field, and makes proofs long.
+impl Drop for Search {
+    fn drop(self) {
+        let Search {
+            trail: _trail,
+            watches: _watches,
+            tools: _tools,
+        } = self;
+    }
+}
+
 /// What is kept of the variables.
-#[derive(Drop)]
 pub(crate) struct Tools {
     /// The variables of the clauses of the numbers. Once they are assigned, all clauses are met.
     pub(crate) occurring: Vec<u64>,
@@ -41,6 +50,19 @@ pub(crate) struct Tools {
     pub(crate) order: Order,
     pub(crate) restarts: Restarts,
     pub(crate) focus: Focus,
+}
+
+// By hand, and so one call wherever a value ends: a derived drop is expanded there, field by field, and makes proofs long.
+impl Drop for Tools {
+    fn drop(self) {
+        let Tools {
+            occurring: _occurring,
+            marks: _marks,
+            order: _order,
+            restarts: _restarts,
+            focus: _focus,
+        } = self;
+    }
 }
 
 /// A search over the clauses of these numbers, then those of the lines, none of which is attached.

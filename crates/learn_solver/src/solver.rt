@@ -11,6 +11,7 @@ ghost use Rattle.cnf_core.specs.Charges.{IsCharged, IsRefused};
 ghost use Rattle.learn_solver.specs.Searches.{CanGo, HasEnded, IsAdvanced, IsDecided, IsLearning, IsLearnt, IsLesson, IsRunning, IsSame, last_line};
 ghost use Rattle.learn_solver.specs.Solvers.{IsAsking, IsBounded, IsBoundedStop, IsExtended, IsModel, IsStopped, IsVerdict, ArePut, active, id_at, wanted};
 ghost use Rattle.learn_solver.specs.Findings.{IsFinding};
+ghost use Rattle.learn_solver.specs.Starts.{IsBegun};
 
 use crate::candidate::{Guide, Unguided};
 use crate::conflict::{Learned, analyse};
@@ -339,18 +340,35 @@ fn searched<B: Base, G: Guide, L: Charge>(
     ensures stop { IfErr result (IsStopped solver.old solver.new (L.charging ledger.old) (L.charging ledger.new)) }
 {
     let mut search = begun(alloc, solver.base, &solver.ids, &solver.lines)?;
+    found_by(alloc, solver, &mut search, guide, ledger)
+}
+
+// What a search finds that hasn't begun.
+fn found_by<B: Base, G: Guide, L: Charge>(
+    alloc: Global,
+    solver: &mut Solver<'_, B>,
+    search: &mut Search,
+    guide: &mut G,
+    ledger: &mut L,
+) -> Result<Finding, Stop>
+    requires begun { IsBegun solver.old search.old.trail search.old.watches search.old.tools }
+    requires unrefuted { list_any is_empty (clauses_of solver.old.lines) ≡ false }
+    requires asking { IsAsking (L.charging ledger.old) solver.old.lines }
+    ensures ended { IfOk result (HasEnded solver.old solver.new (L.charging ledger.old) (L.charging ledger.new)) }
+    ensures stop { IfErr result (IsStopped solver.old solver.new (L.charging ledger.old) (L.charging ledger.new)) }
+{
     if let Some(conflict) = search.start() {
-        return solver.close(alloc, &mut search, conflict, ledger);
+        return solver.close(alloc, search, conflict, ledger);
     }
-    if let Some(early) = solver.prepare(alloc, &mut search, guide, ledger)? {
+    if let Some(early) = solver.prepare(alloc, search, guide, ledger)? {
         return Ok(early);
     }
-    let found = solver.finish(alloc, &mut search, guide, ledger)?;
+    let found = solver.finish(alloc, search, guide, ledger)?;
     Ok(found)
 }
 
 /// A line that was derived from a conflict, and the level to go back to.
-#[derive(Debug, Drop)]
+#[derive(Drop)]
 struct Lesson {
     line: LogLine,
     level: u64,

@@ -10,7 +10,7 @@ use word_sim::mix;
 /// The literals of the inputs of two circuits, or of their outputs, in cells: a literal of the first circuit may correspond
 /// to those of the second that are in its cell, of which there are as many. A literal is a port or its complement, and the
 /// complements of a cell's literals are a cell too. Where that is the same cell, the signs of its ports are open.
-#[derive(Debug, Drop)]
+#[derive(Debug)]
 pub struct Cells {
     /// The cell of each literal of the first circuit, by the literal's number.
     first: Items<usize>,
@@ -18,6 +18,17 @@ pub struct Cells {
     second: Items<usize>,
     /// How many cells there are. They are numbered from 0 on.
     count: usize,
+}
+
+// By hand, and so one call wherever a value ends: a derived drop is expanded there, field by field, and makes proofs long.
+impl Drop for Cells {
+    fn drop(self) {
+        let Cells {
+            first: _first,
+            second: _second,
+            count: _count,
+        } = self;
+    }
 }
 
 /// The number of a literal: twice the port, and one more for its complement. So the numbers of complements differ in bit 0.

@@ -40,7 +40,7 @@ impl Influence {
 }
 
 /// What is counted of a circuit on vectors.
-#[derive(Debug, Drop)]
+#[derive(Debug)]
 pub struct Counts {
     /// How many vectors there are.
     pub vectors: u32,
@@ -52,12 +52,34 @@ pub struct Counts {
     pub of_outputs: Items<Items<Influence>>,
 }
 
+// By hand, and so one call wherever a value ends: a derived drop is expanded there, field by field, and makes proofs long.
+impl Drop for Counts {
+    fn drop(self) {
+        let Counts {
+            vectors: _vectors,
+            ones: _ones,
+            of_inputs: _of_inputs,
+            of_outputs: _of_outputs,
+        } = self;
+    }
+}
+
 /// What is counted of a circuit so far.
-#[derive(Drop)]
 pub struct Tally {
     vectors: u32,
     ones: Vec<u32>,
     of_inputs: Vec<Vec<Influence>>,
+}
+
+// By hand, and so one call wherever a value ends: a derived drop is expanded there, field by field, and makes proofs long.
+impl Drop for Tally {
+    fn drop(self) {
+        let Tally {
+            vectors: _vectors,
+            ones: _ones,
+            of_inputs: _of_inputs,
+        } = self;
+    }
 }
 
 impl Tally {

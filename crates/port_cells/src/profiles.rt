@@ -209,10 +209,19 @@ fn put_keys(literals: &[usize], classes: &[u64], keys: &mut [u64]) {
 }
 
 // The components of "near" among the literals of a cell: a number for each literal of either circuit.
-#[derive(Drop)]
 struct Classes {
     left: Vec<u64>,
     right: Vec<u64>,
+}
+
+// By hand, and so one call wherever a value ends: a derived drop is expanded there, field by field, and makes proofs long.
+impl Drop for Classes {
+    fn drop(self) {
+        let Classes {
+            left: _left,
+            right: _right,
+        } = self;
+    }
 }
 
 impl Classes {
