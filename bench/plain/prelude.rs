@@ -468,22 +468,24 @@ impl<K: Hash + Eq + Clone, T> IndexMap<K, T> {
 
 #[derive(Debug)]
 pub struct IndexSet<K> {
-    keys: IndexMap<K, ()>,
+    places: HashMap<K, usize, BuildHasherDefault<ShortHasher>>,
+    keys: Std<K>,
 }
 
 impl<K: Hash + Eq + Clone> IndexSet<K> {
-    pub fn new(alloc: Global) -> IndexSet<K> {
+    pub fn new(_: Global) -> IndexSet<K> {
         IndexSet {
-            keys: IndexMap::new(alloc),
+            places: HashMap::default(),
+            keys: Std::new(),
         }
     }
 
     pub fn get_index_of(&self, key: &K) -> Option<usize> {
-        self.keys.get_index_of(key)
+        self.places.get(key).copied()
     }
 
     pub fn contains(&self, key: &K) -> bool {
-        self.keys.contains_key(key)
+        self.places.contains_key(key)
     }
 
     pub fn insert_full(&mut self, key: K) -> Result<(usize, bool), AllocError> {
@@ -491,7 +493,8 @@ impl<K: Hash + Eq + Clone> IndexSet<K> {
         match self.get_index_of(&key) {
             Some(place) => Ok((place, false)),
             None => {
-                self.keys.insert(key, ())?;
+                self.places.insert(key.clone(), count);
+                self.keys.push(key);
                 Ok((count, true))
             }
         }
@@ -502,7 +505,11 @@ impl<K: Hash + Eq + Clone> IndexSet<K> {
     }
 
     pub fn get_index(&self, place: usize) -> Option<&K> {
-        Some(self.keys.get_index(place)?.0)
+        self.keys.get(place)
+    }
+
+    pub fn as_slice(&self) -> &[K] {
+        &self.keys
     }
 
     pub fn len(&self) -> usize {

@@ -8,6 +8,8 @@ mod failing_shelves;
 #[cfg(test)]
 mod lists;
 #[cfg(test)]
+mod marks;
+#[cfg(test)]
 mod plain_programs;
 #[cfg(test)]
 mod shelves;

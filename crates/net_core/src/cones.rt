@@ -6,11 +6,12 @@ ghost use Rattle.net_core.specs.Cones.{AreReachedFrom, IsFoundBy, ReachesGate};
 
 use crate::graph::Graph;
 use circuits::Gate;
+use number_marks::Marks;
 use std::alloc::{AllocError, Global};
 
 impl Graph {
     /// The numbers of the gates that an output reaches, ascending: its own gate, the gates of that one's operands, and
-    /// so on (its transitive fan-in). It takes a step for each of these, and a byte for each gate that there is.
+    /// so on (its transitive fan-in). It takes a step for each of these, whatever else the circuit has.
     ///
     /// # Errors
     ///
@@ -37,24 +38,19 @@ fn reached(alloc: Global, gates: &[Gate], first: u32, signal: u32) -> Result<Vec
     requires there { signal < first + length gates.now }
     ensures { IfOk result (λ found. AreReachedFrom first gates.now signal found.items) }
 {
-    let mut marks = unmarked(alloc, gates.len())?;
+    let mut marks = Marks::none(alloc, gates.len());
     let mut found = Vec::new(alloc);
-    find_all(gates, first, signal, &mut marks, &mut found)?;
+    find_all(alloc, gates, first, signal, &mut marks, &mut found)?;
     Ok(found)
-}
-
-fn unmarked(alloc: Global, count: usize) -> Result<Vec<bool>, AllocError>
-    ensures { IfOk result (λ marks. marks.items ≡ replicate count false) }
-{
-    vec![in alloc; false; count]
 }
 
 /// Finds the gates that a signal reaches, breadth first: its own one, then those of the operands of each that was found.
 fn find_all(
+    alloc: Global,
     gates: &[Gate],
     first: u32,
     signal: u32,
-    marks: &mut [bool],
+    marks: &mut Marks,
     found: &mut Vec<u32>,
 ) -> Result<(), AllocError>
     requires order { AreInOrder first gates.now }
@@ -63,19 +59,25 @@ fn find_all(
     requires none { found.old.items ≡ [] }
     ensures { OnOk result (AreReachedFrom first gates.now signal found.new.items) }
 {
-    find(first, signal, marks, found)?;
+    find(alloc, first, signal, marks, found)?;
     let mut next = 0;
     while next < found.len() {
         let gate = gates[found[next] as usize];
-        find(first, gate.a.signal(), marks, found)?;
-        find(first, gate.b.signal(), marks, found)?;
+        find(alloc, first, gate.a.signal(), marks, found)?;
+        find(alloc, first, gate.b.signal(), marks, found)?;
         next += 1;
     }
     Ok(())
 }
 
 /// Finds the gate of a signal, where it is a gate's, and marks it. A gate that is marked was found before.
-fn find(first: u32, signal: u32, marks: &mut [bool], found: &mut Vec<u32>) -> Result<(), AllocError>
+fn find(
+    alloc: Global,
+    first: u32,
+    signal: u32,
+    marks: &mut Marks,
+    found: &mut Vec<u32>,
+) -> Result<(), AllocError>
     requires { signal < first + length marks.old }
     ensures { OnOk result (IsFoundBy first signal marks.old found.old.items marks.new found.new.items) }
 {
@@ -83,10 +85,9 @@ fn find(first: u32, signal: u32, marks: &mut [bool], found: &mut Vec<u32>) -> Re
         return Ok(());
     }
     let gate = signal - first;
-    if marks[gate as usize] {
+    if marks.has(gate as usize) {
         return Ok(());
     }
     found.push(gate)?;
-    marks[gate as usize] = true;
-    Ok(())
+    marks.mark(alloc, gate as usize)
 }
