@@ -1,5 +1,6 @@
 -- Where the entries of held pairs stand, and what is held before a choice.
 use Rattle.std.proofs.Common.{◌≡◌, ◌≢◌, ◌⊎◌, ℕ, zero, suc, ◌+◌, ◌<◌, ◌≤◌, Bool, true, false, cond, List, [], ◌∷◌, ◌++◌, length, map, filter, get_or, take, All, AllPairs, Contains, refl, sym, ap, subst, ◌∙◌, inl, inr, arith}
+use Rattle.std.proofs.lemmas.Bool.{cases_lt, false≢true}
 use Rattle.std.proofs.lemmas.List.{get_or_default, get_or-take, length-take-le, take_more}
 use Rattle.std.proofs.lemmas.List.Elements.{All-contains, All-weaker, Contains-push_cases}
 use Rattle.circuits.specs.declared.port.Pair.{Pair}
@@ -14,7 +15,7 @@ use Rattle.class_refine.specs.declared.entry.Fate.{Fate}
 use Rattle.class_refine.specs.declared.entry.Cause.TheVariants.{Choice, LastWay}
 use Rattle.class_refine.specs.Trails.{AreEntries, IsOpen, IsPairOf, IsPlace, held_in, is_held}
 use Rattle.class_refine.proofs.EntryLemmas.{held_more, one_entry}
-use Rattle.conflict_core.specs.Conflicts.{FitPorts, IsChoiceAt, IsLastOf, IsLearned}
+use Rattle.conflict_core.specs.Conflicts.{FitPorts, HasNoChoice, IsChoiceAt, IsLastOf, IsLearned}
 use Rattle.conflict_core.specs.Pivots.{IsSplit}
 use Rattle.circuits.specs.declared.port.PortKind.TheVariants.{Input}
 use Rattle.account_core.specs.declared.step.Ban.{Ban}
@@ -198,3 +199,19 @@ back_is n m bans es pairs lent last place ban result are below same split covers
 
     p : Pair
     p = get_or (held_in es) last d
+
+-- no choice stands before the place that the search for one begins at
+pub no_choice_yet : (es : List Entry) (from : ℕ) → HasNoChoice es from from
+no_choice_yet es from = record { none = λ k d low high. absurd (omega (arith, low, high)) }
+
+-- nor one place further, where that one has none
+pub no_choice_more : (es : List Entry) (from place : ℕ) (d : Entry) (is : Bool) → place < length es → HasNoChoice es from place → is ≡ false → ((get_or es place d).fate ≡ Held Choice → is ≡ true) → HasNoChoice es from (place + 1)
+no_choice_more es from place d is below before not tells = record {
+  none = λ k e low high. elim (cases_lt k place) [
+    | inl early ↦ before.none k e low early
+    | inr late ↦ λ chosen. at k (omega (arith, high, late)) e chosen
+  ];
+}
+  where
+    at : (k : ℕ) → k ≡ place → (e : Entry) → (get_or es k e).fate ≡ Held Choice → ⊥
+    at k same e chosen = false≢true (sym not ∙ tells (subst (λ (x : Entry). x.fate ≡ Held Choice) (get_or_default es place e d below) (subst (λ n. (get_or es n e).fate ≡ Held Choice) same chosen)))

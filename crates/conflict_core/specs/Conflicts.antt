@@ -1,6 +1,6 @@
 -- Conflicts of held pairs, and where to go back to (conflict clauses and the first unique implication point: Marques-Silva and
 -- Sakallah, GRASP, 1999).
-use Rattle.std.specs.Prelude.{◌≡◌, ℕ, ◌<◌, List, [], ◌∷◌, length, take, Contains, slice_index_or}
+use Rattle.std.specs.Prelude.{◌≡◌, ◌≢◌, ℕ, ◌<◌, ◌≤◌, List, [], ◌∷◌, length, take, Contains, slice_index_or}
 use Rattle.circuits.specs.declared.port.Pair.{Pair}
 use Rattle.net_core.specs.Sides.{Graphs}
 use Rattle.account_core.specs.declared.step.Ban.{Ban}
@@ -37,6 +37,10 @@ pub record IsLastOf (held : List Pair) (limit : ℕ) (pairs : List Pair) (place 
 pub record IsChoiceAt (entries : List Entry) (place : ℕ) : Type 0 where
   pub within : place < length entries
   pub chosen : (d : Entry) → (slice_index_or entries place d).fate ≡ Held Choice
+
+-- No entry from one place on, and before another, is of a pair that was chosen.
+pub record HasNoChoice (entries : List Entry) (from to : ℕ) : Type 0 where
+  pub none : (k : ℕ) (d : Entry) → from ≤ k → k < to → (slice_index_or entries k d).fate ≢ Held Choice
 
 -- Before a choice a pair is open, and a ban has no other pairs than it and those that are held there.
 pub record IsBack (inputs outputs : ℕ) (bans : List Ban) (entries : List Entry) (back : Back) : Type 0 where

@@ -7,7 +7,7 @@ ghost use Rattle.class_refine.specs.declared.entry.Entry.{Entry as AnyEntry};
 ghost use Rattle.class_refine.specs.declared.entry.Cause.TheVariants.{Choice, LastWay};
 ghost use Rattle.class_refine.specs.declared.entry.Fate.TheVariants.{Held};
 ghost use Rattle.class_refine.specs.Trails.{IsPairOf, held_in, is_held};
-ghost use Rattle.conflict_core.specs.Conflicts.{IsChoiceAt, IsConflict, IsLastOf, IsLearned};
+ghost use Rattle.conflict_core.specs.Conflicts.{HasNoChoice, IsChoiceAt, IsConflict, IsLastOf, IsLearned};
 ghost use Rattle.conflict_core.specs.Grounded.{LearnsMore};
 ghost use Rattle.conflict_core.specs.Justified.{IsTrail};
 ghost use Rattle.conflict_core.specs.declared.learned.Learned.TheVariants as learned;
@@ -170,6 +170,8 @@ pub fn choice_between(entries: &[Entry], from: usize, to: usize) -> Option<usize
     ensures choice { IfSome result (IsChoiceAt entries.now) }
     ensures from { IfSome result (λ place. from ≤ place) }
     ensures to { IfSome result (λ place. place < to) }
+    ensures first { IfSome result (HasNoChoice entries.now from) }
+    ensures none { IfNone result (HasNoChoice entries.now from to) }
 {
     for place in from..to {
         if is_choice(entries[place].fate) {
