@@ -11,7 +11,7 @@ import sys
 HERE = os.path.join(os.path.dirname(os.path.abspath(__file__)), "plain")
 CALLED = ("match_search", "fact_tests")  # by plain/program.rs, with all that they stand on
 IN_PRELUDE = ("items", "indexmap", "rand_core", "rand_pcg")  # plain/prelude.rs has what is used of these
-NOT_IN_RUST = ("std::alloc", "std::simd", "std::marker::Model", "std::convert::AsSlice", "std::ops::DerefSlice", "thiserror")
+NOT_IN_RUST = ("std::alloc", "std::simd", "std::marker::Model", "std::convert::AsSlice", "std::ops::DerefSlice", "std::snapshot", "thiserror")
 CLAUSE = re.compile(r"^[ \t]*(requires|ensures\*?|decreases|ghost|returns)\b", re.M)
 
 HEAD = """#![allow(unused, mixed_script_confusables, private_interfaces)]
@@ -128,6 +128,7 @@ def with_plain_calls(text):
     own = r"fn clone\(&self\) -> Result<(\w+), AllocError> \{(.*?)^    \}"
     text = re.sub(own, r"fn clone(&self) -> \1 { let made = || -> Result<\1, AllocError> {\2}; made().unwrap() }", text, flags=re.M | re.S)
     text = text.replace(".clone()", ".try_clone()")
+    text = text.replace("fn fmt<W: fmt::Write>(&self, f: &mut fmt::Formatter<W>)", "fn fmt(&self, f: &mut fmt::Formatter<'_>)")
     return text.replace(".collect(alloc)", ".collect_in(alloc)").replace(".to_vec(alloc)", ".copied_in(alloc)")
 
 

@@ -37,6 +37,15 @@ macro_rules! vec {
     }};
 }
 
+/// A value that contracts alone read: it has no bytes.
+pub struct Snapshot<T>(std::marker::PhantomData<T>);
+
+impl<T> Snapshot<T> {
+    pub fn of(_: &T) -> Snapshot<T> {
+        Snapshot(std::marker::PhantomData)
+    }
+}
+
 // ---- lists
 
 #[derive(Clone, Debug, PartialEq, Eq, PartialOrd, Ord, Hash)]

@@ -11,12 +11,12 @@ use Rattle.query_core.specs.declared.ledger.Asked.{Asked}
 use Rattle.query_core.specs.Ledgers.{IsLedger, Ledgered, charged_front, charged_in, entry_of, last_asked, learned_in, nothing_asked, one_if, opened, with_line}
 
 -- what is written over the last entry
-pub written : (asked : List Asked) (at : ℕ) (line copy : LogLine) (lent entry : Asked) → at ≡ length asked - 1 → 0 < length asked → lent ≡ slice_index_or asked at lent → entry ≡ record lent { lines = lent.lines ++ copy ∷ [] } → copy ≡ line → slice_set asked at entry ≡ with_line line asked
-written asked at line copy lent entry last there lent_is entry_is copy_is =
+pub written : (asked : List Asked) (at : ℕ) (line : LogLine) (lent entry : Asked) → at ≡ length asked - 1 → 0 < length asked → lent ≡ slice_index_or asked at lent → entry ≡ record lent { lines = lent.lines ++ line ∷ [] } → slice_set asked at entry ≡ with_line line asked
+written asked at line lent entry last there lent_is entry_is =
     let within : at < length asked = omega (arith, last, there) in
-    let more : LogLine → Asked → Asked = λ l (e : Asked). record e { lines = e.lines ++ l ∷ [] } in
+    let more : Asked → Asked = λ (e : Asked). record e { lines = e.lines ++ line ∷ [] } in
     let is_last : lent ≡ last_asked asked = lent_is ∙ (get_or_default asked at lent nothing_asked within ∙ ap (λ k. slice_index_or asked k nothing_asked) last) in
-    ap (slice_set asked at) (entry_is ∙ (ap (λ l. more l lent) copy_is ∙ ap (more line) is_last)) ∙ ap (λ k. slice_set asked k (more line (last_asked asked))) last
+    ap (slice_set asked at) (entry_is ∙ ap more is_last) ∙ ap (λ k. slice_set asked k (more (last_asked asked))) last
 
 one_more : (asked : List Asked) (line : LogLine) → 0 < length asked → All (λ e. e.lemmas ≤ length e.lines) asked → sum_by charged_in (with_line line asked) ≡ sum_by charged_in asked + 1
 one_more asked line there lemmas =

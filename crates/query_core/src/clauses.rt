@@ -23,8 +23,8 @@ pub(crate) fn variables_of(graphs: &Graphs<'_>, query: &Query) -> u64
     left.signals() as u64 + right.gates().len() as u64
 }
 
-/// How many clauses a query has.
-pub(crate) fn count_of(graphs: &Graphs<'_>, query: &Query) -> u64
+/// How many clauses a query has: fewer than 2^62, so that each line of a log has a number.
+pub fn count_of(graphs: &Graphs<'_>, query: &Query) -> u64
     ensures value { result ≡ length (query_clauses graphs.now query.now) }
     ensures few { result < 2 ^ 62 }
 {

@@ -3,19 +3,19 @@
 ghost use Rattle.std.specs.Prelude.{◌≡◌, ◌+◌, ◌-◌, ◌<◌, ◌≤◌, [], ◌∷◌, ◌++◌, false, IfOk, IfErr, OnOk, OnErr, All, length, vec_len, vec_capacity};
 ghost use Rattle.query_core.specs.Ledgers.{IsRefused, charged_front, entry_of, last_asked, learned_in, opened, with_line};
 
+use crate::lines::Lines;
 use crate::query::Query;
 use cnf_core::{Charge, LogLine, Stop};
-use items::Items;
 use std::alloc::{AllocError, Global};
 use std::marker::Model;
 
 /// A query that was asked, with the lines that were derived for it: first lemmas, which cost nothing, then learned lines.
-#[derive(Debug, Drop, PartialEq, Eq)]
+#[derive(Debug, Drop)]
 pub struct Asked {
     pub query: Query,
     /// How many of the lines are lemmas.
     pub lemmas: u64,
-    pub lines: Items<LogLine>,
+    pub lines: Lines,
 }
 
 /// Everything that was asked in a run, in order, with every line that was learned. A learned line costs one unit of the
@@ -84,9 +84,8 @@ impl Ledger {
             ≡ record self.old { asked = with_line line.now self.old.asked }) }
         ensures refused { IfErr result (IsRefused self.old line.now self.new) }
     {
-        let copy = copied(line)?;
         let last = self.asked.len() - 1;
-        push_line(&mut self.asked[last], copy)?;
+        push_line(&mut self.asked[last], line)?;
         if self.learned == self.budget {
             self.spent = true;
             return Err(Stop::Spent(self.learned));
@@ -140,26 +139,17 @@ impl Charge for Ledger {
     }
 }
 
-// The entry of a query, whose lines are its lemmas. There is room for one line, since most queries need no more.
+// The entry of a query, whose lines are its lemmas.
 fn opening(alloc: Global, query: &Query, lemmas: &[LogLine]) -> Result<Asked, AllocError>
     ensures { IfOk result (λ entry. entry ≡ entry_of query.now lemmas.now) }
 {
-    let lines = spacious(alloc, lemmas)?;
+    let lines = Lines::of(alloc, lemmas)?;
     let query = query.copy()?;
     Ok(Asked {
         query,
         lemmas: lemmas.len() as u64,
         lines,
     })
-}
-
-// Equal lines, with room for one more.
-fn spacious(alloc: Global, lines: &[LogLine]) -> Result<Items<LogLine>, AllocError>
-    ensures { IfOk result (λ copies. copies ≡ lines.now) }
-{
-    let mut copies = lines.to_vec(alloc)?;
-    copies.reserve_exact(1)?;
-    Ok(Items::from_vec(copies))
 }
 
 // Takes a last entry off for which nothing was learned.
@@ -176,18 +166,11 @@ fn drop_uncharged(asked: &mut Vec<Asked>)
 }
 
 // Adds a line to an entry. A refusal changes nothing.
-fn push_line(entry: &mut Asked, line: LogLine) -> Result<(), Stop>
-    ensures pushed { OnOk result (entry.new ≡ record entry.old { lines = entry.old.lines ++ line ∷ [] }) }
+fn push_line(entry: &mut Asked, line: &LogLine) -> Result<(), Stop>
+    ensures pushed { OnOk result (entry.new ≡ record entry.old { lines = entry.old.lines ++ line.now ∷ [] }) }
     ensures refused { OnErr result (entry.new ≡ entry.old) }
     ensures stop { IfErr result (λ stop. stop ≡ Stop.Memory) }
 {
     entry.lines.push(line)?;
     Ok(())
-}
-
-// An equal line.
-fn copied(line: &LogLine) -> Result<LogLine, AllocError>
-    ensures { IfOk result (λ copy. copy ≡ line.now) }
-{
-    line.clone()
 }

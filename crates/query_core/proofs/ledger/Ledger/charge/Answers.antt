@@ -12,7 +12,7 @@ invariant_of-self-then-self c =
     let line = c.args.line.now in
     let there : 0 < length old.asked.items = subst (λ (l : Ledgered). 0 < length l.asked) (sym c.self.view_is) c.requires.asked in
     let fresh = ap (λ (l : Ledgered). l.spent) c.self.view_is ∙ c.requires.not_spent in
-    let now = written old.asked.items (c.len-last.result - 1) line c.in_ok-copy.copy c.index_mut.result.now c.push_line.new.entry (omega (arith, c.len-last.ensures, old.asked.ok.0)) there c.index_mut.ensures.value c.in_ok-push_line.ensures.pushed c.in_ok-copy.ensures in
+    let now = written old.asked.items (c.len-last.result - 1) line c.index_mut.result.now c.push_line.new.entry (omega (arith, c.len-last.ensures, old.asked.ok.0)) there c.index_mut.ensures.value c.in_ok-push_line.ensures.pushed in
     subst (λ (xs : List Asked). IsLedger (record { budget = old.budget; asked = xs; spent = true }) old.learned) (sym now) (kept_spent before old.learned line c.self.invariant fresh there)
 
 pub returns-then-self-clause-refused : goal.returns-then-self-clause-refused
@@ -21,7 +21,7 @@ returns-then-self-clause-refused c =
     let before : Ledgered = record { budget = old.budget; asked = old.asked.items; spent = old.spent } in
     let line = c.args.line.now in
     let there : 0 < length old.asked.items = subst (λ (l : Ledgered). 0 < length l.asked) (sym c.self.view_is) c.requires.asked in
-    let now = written old.asked.items (c.len-last.result - 1) line c.in_ok-copy.copy c.index_mut.result.now c.push_line.new.entry (omega (arith, c.len-last.ensures, old.asked.ok.0)) there c.index_mut.ensures.value c.in_ok-push_line.ensures.pushed c.in_ok-copy.ensures in
+    let now = written old.asked.items (c.len-last.result - 1) line c.index_mut.result.now c.push_line.new.entry (omega (arith, c.len-last.ensures, old.asked.ok.0)) there c.index_mut.ensures.value c.in_ok-push_line.ensures.pushed in
     let after : Ledgered = record { budget = old.budget; asked = with_line line old.asked.items; spent = true } in
     let fresh = ap (λ (l : Ledgered). l.spent) c.self.view_is ∙ c.requires.not_spent in
     let spent : IsSpent before line after old.learned = record { learned_is = c.if-self.true; budget = learned_is before old.learned c.self.invariant ∙ c.if-self.true; counted = learned_is after old.learned (kept_spent before old.learned line c.self.invariant fresh there) ∙ c.if-self.true; made = omega (arith, (kept_spent before old.learned line c.self.invariant fresh there).counted, c.if-self.true); refused = refl } in
@@ -34,7 +34,7 @@ invariant_of-self-2 c =
     let line = c.args.line.now in
     let there : 0 < length old.asked.items = subst (λ (l : Ledgered). 0 < length l.asked) (sym c.self.view_is) c.requires.asked in
     let fresh = ap (λ (l : Ledgered). l.spent) c.self.view_is ∙ c.requires.not_spent in
-    let now = written old.asked.items (c.len-last.result - 1) line c.in_ok-copy.copy c.index_mut.result.now c.push_line.new.entry (omega (arith, c.len-last.ensures, old.asked.ok.0)) there c.index_mut.ensures.value c.in_ok-push_line.ensures.pushed c.in_ok-copy.ensures in
+    let now = written old.asked.items (c.len-last.result - 1) line c.index_mut.result.now c.push_line.new.entry (omega (arith, c.len-last.ensures, old.asked.ok.0)) there c.index_mut.ensures.value c.in_ok-push_line.ensures.pushed in
     let room : old.learned < old.budget = omega (arith, c.if-self.false, c.self.invariant.within) in
     subst (λ (xs : List Asked). IsLedger (record { budget = old.budget; asked = xs; spent = old.spent }) (old.learned + 1)) (sym now) (kept_charged before old.learned line c.self.invariant fresh there room)
 
@@ -43,7 +43,7 @@ returns-clause-charged c =
     let old = c.self.inside in
     let line = c.args.line.now in
     let there : 0 < length old.asked.items = subst (λ (l : Ledgered). 0 < length l.asked) (sym c.self.view_is) c.requires.asked in
-    let now = written old.asked.items (c.len-last.result - 1) line c.in_ok-copy.copy c.index_mut.result.now c.push_line.new.entry (omega (arith, c.len-last.ensures, old.asked.ok.0)) there c.index_mut.ensures.value c.in_ok-push_line.ensures.pushed c.in_ok-copy.ensures in
+    let now = written old.asked.items (c.len-last.result - 1) line c.index_mut.result.now c.push_line.new.entry (omega (arith, c.len-last.ensures, old.asked.ok.0)) there c.index_mut.ensures.value c.in_ok-push_line.ensures.pushed in
     let whole : List Asked → Ledgered = λ xs. record { budget = old.budget; asked = xs; spent = old.spent } in
     ap whole now ∙ ap (λ (l : Ledgered). record l { asked = with_line line l.asked }) c.self.view_is
 
@@ -54,7 +54,7 @@ returns-clause-counted c =
     let line = c.args.line.now in
     let there : 0 < length old.asked.items = subst (λ (l : Ledgered). 0 < length l.asked) (sym c.self.view_is) c.requires.asked in
     let fresh = ap (λ (l : Ledgered). l.spent) c.self.view_is ∙ c.requires.not_spent in
-    let now = written old.asked.items (c.len-last.result - 1) line c.in_ok-copy.copy c.index_mut.result.now c.push_line.new.entry (omega (arith, c.len-last.ensures, old.asked.ok.0)) there c.index_mut.ensures.value c.in_ok-push_line.ensures.pushed c.in_ok-copy.ensures in
+    let now = written old.asked.items (c.len-last.result - 1) line c.index_mut.result.now c.push_line.new.entry (omega (arith, c.len-last.ensures, old.asked.ok.0)) there c.index_mut.ensures.value c.in_ok-push_line.ensures.pushed in
     let room : old.learned < old.budget = omega (arith, c.if-self.false, c.self.invariant.within) in
     let after : Ledgered = record { budget = old.budget; asked = with_line line old.asked.items; spent = old.spent } in
     let more = learned_is after (old.learned + 1) (kept_charged before old.learned line c.self.invariant fresh there room) in
