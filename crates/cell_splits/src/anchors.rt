@@ -26,11 +26,20 @@ const MOST_ALIKE: usize = 8;
 
 /// What the inputs of a circuit have on drawn vectors, and a hash of each vector's profile: of how many outputs change with
 /// each input, and how many inputs change each output, by the ports' cells. Corresponding vectors have one profile.
-#[derive(Drop)]
 struct Profiles {
     blocks: Items<Items<Lanes>>,
     /// By the profiles, ascending.
     places: Vec<Place>,
+}
+
+// By hand, and so one call wherever a value ends: a derived drop is expanded there, field by field, and makes proofs long.
+impl Drop for Profiles {
+    fn drop(self) {
+        let Profiles {
+            blocks: _blocks,
+            places: _places,
+        } = self;
+    }
 }
 
 /// A vector's profile, and its place in the blocks.
@@ -134,13 +143,10 @@ fn hashes_of(
     let mut hashes = vec![in alloc; 0u64; 256]?;
     let mut of_outputs = no_counts(alloc, simulator.graph().outputs().len())?;
     for input in 0..simulator.graph().inputs() {
-        let mut changes = LaneCounts::new(alloc)?;
-        simulator.flip(input);
-        add_changes(simulator, input, &mut changes, &mut of_outputs);
-        simulator.unflip(input);
+        let changes = changes_with(alloc, simulator, input, &mut of_outputs)?;
         add_hashes(
             class_of(state.inputs.of(side), input),
-            &changes.counts(alloc)?,
+            &changes,
             &mut hashes,
         );
     }
@@ -158,6 +164,20 @@ fn no_counts(alloc: Global, outputs: usize) -> Result<Vec<LaneCounts>, AllocErro
         counts.push(LaneCounts::new(alloc)?)?;
     }
     Ok(counts)
+}
+
+// How many outputs an inverted input changes, on each vector; for each output it is counted too.
+fn changes_with(
+    alloc: Global,
+    simulator: &mut FlipSim<'_>,
+    input: u32,
+    of_outputs: &mut [LaneCounts],
+) -> Result<Vec<u64>, AllocError> {
+    let mut changes = LaneCounts::new(alloc)?;
+    simulator.flip(input);
+    add_changes(simulator, input, &mut changes, of_outputs);
+    simulator.unflip(input);
+    changes.counts(alloc)
 }
 
 // Adds the outputs that an inverted input changes, on each vector.
@@ -221,16 +241,38 @@ pub fn anchored(
 ) -> Result<Vec<State>, AllocError> {
     let left = Profiles::draw(alloc, state, Side::First, starts.first, first, draws)?;
     let right = Profiles::draw(alloc, state, Side::Second, starts.second, second, draws)?;
+    states_by(alloc, state, &left, &right)
+}
+
+// States by the pairs of vectors with one profile, those with the rarest profiles last.
+fn states_by(
+    alloc: Global,
+    state: &State,
+    left: &Profiles,
+    right: &Profiles,
+) -> Result<Vec<State>, AllocError> {
+    let anchors = anchors(alloc, left, right)?;
     let mut states = Vec::new(alloc);
-    for anchor in anchors(alloc, &left, &right)?.iter().rev() {
-        let mine = anchor_keys(alloc, state.inputs.of(Side::First), &left, anchor.first)?;
-        let its = anchor_keys(alloc, state.inputs.of(Side::Second), &right, anchor.second)?;
-        let inputs = state.inputs.refine(alloc, &mine, &its)?;
-        if let Some(state) = state.copy()?.with_inputs(inputs) {
+    for anchor in anchors.iter().rev() {
+        if let Some(state) = state_by(alloc, state, left, right, *anchor)? {
             states.push(state)?;
         }
     }
     Ok(states)
+}
+
+// The state where a vector goes to the other one of its pair, or None where it can't.
+fn state_by(
+    alloc: Global,
+    state: &State,
+    left: &Profiles,
+    right: &Profiles,
+    anchor: Anchor,
+) -> Result<Option<State>, AllocError> {
+    let mine = anchor_keys(alloc, state.inputs.of(Side::First), left, anchor.first)?;
+    let its = anchor_keys(alloc, state.inputs.of(Side::Second), right, anchor.second)?;
+    let inputs = state.inputs.refine(alloc, &mine, &its)?;
+    Ok(state.copy()?.with_inputs(inputs))
 }
 
 // Keys by which a literal that is open goes to one that has its bit.

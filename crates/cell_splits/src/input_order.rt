@@ -7,29 +7,12 @@ use std::alloc::{AllocError, Global};
 /// deeper operand first. Inputs that stand near each other there are joined by gates near the inputs, as the leaves of a tree
 /// or the bits of a chain of carries. Those that are never met come last.
 pub(crate) fn places_of(alloc: Global, graph: &Graph) -> Result<Vec<usize>, AllocError> {
-    let inputs = graph.inputs() as usize;
-    let mut walk = Walk {
-        graph,
-        levels: levels_of(alloc, graph)?,
-        is_met: vec![in alloc; false; graph.signals()]?,
-        stack: Vec::new(alloc),
-        places: vec![in alloc; inputs; inputs]?,
-        met: 0,
-    };
-    for output in graph.outputs().iter().rev() {
-        walk.stack.push(output.signal() as usize)?;
-    }
-    // each gate is met once, and adds its two operands
-    let most = graph.gates().len().saturating_mul(2);
-    for _ in 0..most.saturating_add(graph.outputs().len()) {
-        walk.step()?;
-    }
-    let Walk { places, .. } = walk;
-    Ok(places)
+    let mut walk = Walk::new(alloc, graph)?;
+    walk.meet_all()?;
+    Ok(walk.into_places())
 }
 
 /// A search by depth.
-#[derive(Drop)]
 struct Walk<'a> {
     graph: &'a Graph,
     /// How many gates lie one after another below each signal at most.
@@ -42,7 +25,56 @@ struct Walk<'a> {
     met: usize,
 }
 
+// By hand, and so one call wherever a value ends: a derived drop is expanded there, field by field, and makes proofs long.
+impl Drop for Walk<'_> {
+    fn drop(self) {
+        let Walk {
+            graph: _graph,
+            levels: _levels,
+            is_met: _is_met,
+            stack: _stack,
+            places: _places,
+            met: _met,
+        } = self;
+    }
+}
+
 impl<'a> Walk<'a> {
+    // No signal is met yet, and the first output is next.
+    fn new(alloc: Global, graph: &'a Graph) -> Result<Walk<'a>, AllocError> {
+        let inputs = graph.inputs() as usize;
+        Ok(Walk {
+            graph,
+            levels: levels_of(alloc, graph)?,
+            is_met: vec![in alloc; false; graph.signals()]?,
+            stack: outputs_of(alloc, graph)?,
+            places: vec![in alloc; inputs; inputs]?,
+            met: 0,
+        })
+    }
+
+    // Meets all signals that outputs rest on. Each gate is met once, and adds its two operands.
+    fn meet_all(&mut self) -> Result<(), AllocError> {
+        let most = self.graph.gates().len().saturating_mul(2);
+        for _ in 0..most.saturating_add(self.graph.outputs().len()) {
+            self.step()?;
+        }
+        Ok(())
+    }
+
+    // The inputs' places, once all are met.
+    fn into_places(self) -> Vec<usize> {
+        let Walk {
+            graph: _graph,
+            levels: _levels,
+            is_met: _is_met,
+            stack: _stack,
+            places,
+            met: _met,
+        } = self;
+        places
+    }
+
     // Meets the next signal, if there is one.
     fn step(&mut self) -> Result<(), AllocError> {
         let Some(signal) = self.stack.pop() else {
@@ -90,6 +122,15 @@ impl<'a> Walk<'a> {
     fn level(&self, signal: usize) -> u32 {
         level_at(&self.levels, signal)
     }
+}
+
+// The signals of the outputs, that of the first one last.
+fn outputs_of(alloc: Global, graph: &Graph) -> Result<Vec<usize>, AllocError> {
+    let mut signals = Vec::with_capacity(alloc, graph.outputs().len())?;
+    for output in graph.outputs().iter().rev() {
+        signals.push(output.signal() as usize)?;
+    }
+    Ok(signals)
 }
 
 // How many gates lie one after another below each signal at most.

@@ -40,7 +40,6 @@ struct Feature {
 }
 
 /// What gates do on vectors that are constant on cells, and where an input of a shared cell is inverted on them.
-#[derive(Drop)]
 struct Responses {
     responses: Vec<Response>,
     /// A number for each gate, equal for gates of both circuits that have one function: a hash of its bits and of its
@@ -49,6 +48,17 @@ struct Responses {
     /// Whether signs are open. Then it isn't known what inputs of the other circuit have on a vector, and gates go by the
     /// inputs that reach them alone.
     is_open: bool,
+}
+
+// By hand, and so one call wherever a value ends: a derived drop is expanded there, field by field, and makes proofs long.
+impl Drop for Responses {
+    fn drop(self) {
+        let Responses {
+            responses: _responses,
+            classes: _classes,
+            is_open: _is_open,
+        } = self;
+    }
 }
 
 impl Responses {
@@ -138,6 +148,18 @@ impl Responses {
     }
 }
 
+// The features of a circuit's inputs, ascending.
+fn features_of(
+    alloc: Global,
+    state: &State,
+    side: Side,
+    patterns: &Patterns,
+    simulator: &mut FlipSim<'_>,
+) -> Result<Vec<Feature>, AllocError> {
+    let responses = Responses::new(alloc, state, side, patterns, simulator)?;
+    responses.features(alloc)
+}
+
 // A hash of what each gate has, the same for a gate and its complement; 0 where signs are open.
 fn classes_of(
     alloc: Global,
@@ -161,7 +183,6 @@ fn unsigned_hash(lanes: Lanes) -> u64 {
 }
 
 /// How alike the inputs of two circuits are.
-#[derive(Drop)]
 pub struct Likeness {
     /// How many inputs a circuit has.
     inputs: usize,
@@ -179,6 +200,21 @@ pub struct Likeness {
     responses: u64,
 }
 
+// By hand, and so one call wherever a value ends: a derived drop is expanded there, field by field, and makes proofs long.
+impl Drop for Likeness {
+    fn drop(self) {
+        let Likeness {
+            inputs: _inputs,
+            shared: _shared,
+            first: _first,
+            second: _second,
+            first_places: _first_places,
+            second_places: _second_places,
+            responses: _responses,
+        } = self;
+    }
+}
+
 impl Likeness {
     /// Compares the inputs that aren't alone in their cells, by what gates do on drawn vectors that are constant on cells.
     ///
@@ -193,10 +229,10 @@ impl Likeness {
         draws: &mut Draws,
     ) -> Result<Likeness, AllocError> {
         let patterns = Patterns::draw(alloc, &state.inputs, draws)?;
-        let left = Responses::new(alloc, state, Side::First, &patterns, first)?;
-        let right = Responses::new(alloc, state, Side::Second, &patterns, second)?;
+        let left = features_of(alloc, state, Side::First, &patterns, first)?;
+        let right = features_of(alloc, state, Side::Second, &patterns, second)?;
         let mut likeness = Likeness::none(alloc, first.graph(), second.graph())?;
-        likeness.compare(&left.features(alloc)?, &right.features(alloc)?);
+        likeness.compare(&left, &right);
         Ok(likeness)
     }
 

@@ -3,7 +3,7 @@
 use crate::state::State;
 use net_core::Side;
 use port_cells::{
-    Counts, Slack, input_keys, input_profiles, near_keys, output_keys, output_profiles,
+    Cells, Counts, Slack, input_keys, input_profiles, near_keys, output_keys, output_profiles,
 };
 use std::alloc::{AllocError, Global};
 
@@ -40,14 +40,22 @@ impl<'a> Link<'a> {
 
     /// Splits outputs, and then inputs.
     pub fn split_once(self, alloc: Global, state: State) -> Result<Option<State>, AllocError> {
-        let (first, second) = self.output_keys(alloc, &state)?;
-        let outputs = state.outputs.refine(alloc, &first, &second)?;
+        let outputs = self.finer_outputs(alloc, &state)?;
         let Some(state) = state.with_outputs(outputs) else {
             return Ok(None);
         };
-        let (first, second) = self.input_keys(alloc, &state)?;
-        let inputs = state.inputs.refine(alloc, &first, &second)?;
+        let inputs = self.finer_inputs(alloc, &state)?;
         Ok(state.with_inputs(inputs))
+    }
+
+    fn finer_outputs(self, alloc: Global, state: &State) -> Result<Option<Cells>, AllocError> {
+        let (first, second) = self.output_keys(alloc, state)?;
+        state.outputs.refine(alloc, &first, &second)
+    }
+
+    fn finer_inputs(self, alloc: Global, state: &State) -> Result<Option<Cells>, AllocError> {
+        let (first, second) = self.input_keys(alloc, state)?;
+        state.inputs.refine(alloc, &first, &second)
     }
 
     fn output_keys(self, alloc: Global, state: &State) -> Result<BothKeys, AllocError> {

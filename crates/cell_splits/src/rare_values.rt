@@ -31,21 +31,33 @@ pub fn rare_blocks(
     simulator: &mut FlipSim<'_>,
     draws: &mut Draws,
 ) -> Result<Items<Items<Lanes>>, AllocError> {
-    let gates = simulator.graph().gates().len();
     let mut seen = drawn_values(alloc, simulator, draws)?;
-    let mut paths = vec![in alloc; replicated(false); simulator.graph().signals()]?;
     let mut blocks = Items::new(alloc);
+    add_blocks(alloc, simulator, &mut seen, draws, &mut blocks)?;
+    Ok(blocks)
+}
+
+// Adds a block for each of a few gates that have such a value, by how often gates had each.
+fn add_blocks(
+    alloc: Global,
+    simulator: &mut FlipSim<'_>,
+    seen: &mut [Seen],
+    draws: &mut Draws,
+    blocks: &mut Items<Items<Lanes>>,
+) -> Result<(), AllocError> {
+    let gates = simulator.graph().gates().len();
+    let mut paths = vec![in alloc; replicated(false); simulator.graph().signals()]?;
     for place in 0..gates {
         let gate = gates - 1 - place;
         if blocks.len() < MOST_WALKS
-            && let Some(bit) = rare_value(gate, &seen)
+            && let Some(bit) = rare_value(gate, seen)
         {
             walk(gate, bit, simulator, &mut paths, draws);
-            add_values(simulator, &mut seen);
+            add_values(simulator, seen);
             blocks.push(inputs_of(alloc, simulator)?)?;
         }
     }
-    Ok(blocks)
+    Ok(())
 }
 
 // Gives all inputs drawn bits.
