@@ -1,5 +1,5 @@
 -- What one more entry leaves.
-use Rattle.std.proofs.Common.{◌≡◌, ◌≢◌, ◌⊎◌, ℕ, ◌+◌, ◌<◌, ◌≤◌, false, true, List, [], ◌∷◌, ◌++◌, length, get_or, take, All, Contains, refl, sym, ap, subst, ◌∙◌, inl, inr, arith}
+use Rattle.std.proofs.Common.{◌≡◌, ◌≢◌, ◌⊎◌, ℕ, zero, suc, ◌+◌, ◌<◌, ◌≤◌, false, true, cond, List, [], ◌∷◌, ◌++◌, length, get_or, take, All, Contains, refl, sym, ap, subst, ◌∙◌, inl, inr, arith}
 use Rattle.std.proofs.lemmas.List.{append-nil, append_assoc, length_push, take_more}
 use Rattle.std.proofs.lemmas.List.Elements.{All-push, Contains-append_left}
 use Rattle.std.proofs.lemmas.List.Quantifiers.{all_pairs_push}
@@ -15,19 +15,21 @@ use Rattle.account_core.specs.Given.{Decided}
 use Rattle.account_core.specs.Ports.{Clash}
 use Rattle.account_core.specs.Shown.{IsEmptyBan}
 use Rattle.class_refine.specs.declared.entry.Entry.{Entry}
-use Rattle.class_refine.specs.declared.entry.Fate.TheVariants.{Deleted}
+use Rattle.class_refine.specs.declared.entry.Cause.TheVariants.{Choice, LastWay}
+use Rattle.class_refine.specs.declared.entry.Fate.{Fate}
+use Rattle.class_refine.specs.declared.entry.Fate.TheVariants.{Held, Deleted}
 use Rattle.class_refine.specs.declared.entry.Reason.{Reason}
 use Rattle.class_refine.specs.declared.entry.Reason.TheVariants as reason
 use Rattle.class_refine.specs.Numbers.{pairs_of_ports}
 use Rattle.class_refine.specs.Trails.{AreEntries, Domained, IsOpen, IsPairOf, held_in, ports_of}
 use Rattle.ban_book.specs.Covering.{Covers}
-use Rattle.conflict_core.specs.Conflicts.{FitPorts, IsChoiceAt}
+use Rattle.conflict_core.specs.Conflicts.{FitPorts, HasNoChoice, IsChoiceAt}
 use Rattle.conflict_core.specs.Grounded.{AreGrounded, IsGrounded, StayGrounded}
 use Rattle.conflict_core.specs.Justified.{AreJustified, IsJustified}
 use Rattle.conflict_core.proofs.GroundedLemmas.{grounded_front, stay_front, stay_none, stay_push, stay_twice}
 use Rattle.conflict_core.proofs.JustifiedLemmas.{held_append, justified_front, justified_push}
 use Rattle.conflict_core.proofs.PivotLemmas.{held_not_open}
-use Rattle.pair_search.specs.Progress.{IsTrail, Propagates, is_choice, left, left_of}
+use Rattle.pair_search.specs.Progress.{IsTrail, Propagates, StaysJustified, is_choice, left, left_of, level_zero}
 use Rattle.pair_search.proofs.WeightLemmas.{few_entries, less_back, less_choice, less_push}
 
 -- Domains with one entry more.
@@ -154,6 +156,70 @@ pub front_grounded : (before after : Domained) (place : ℕ) → after ≡ recor
 front_grounded before after place is = record {
   stay = λ graphs facts are. subst (λ (d : Domained). AreGrounded graphs facts d.entries) (sym is) (grounded_front graphs facts before.entries place are);
 }
+
+-- what is held and deleted stays as it is
+pub stays_none : (bans : List Ban) (d : Domained) → AreJustified d.inputs d.outputs bans d.entries → StaysJustified bans d d
+stays_none bans d are = record {
+  inputs = refl;
+  outputs = refl;
+  justified = are;
+  grounded = stay_none d.entries;
+}
+
+-- one entry more, that follows and that facts show
+pub stays_one : (bans : List Ban) (before after : Domained) (e : Entry) → HasOneMore before after e → AreJustified before.inputs before.outputs bans before.entries → IsJustified before.inputs before.outputs bans before.entries e.pair e.fate → ((graphs : Graphs) (facts : List Decided) → IsGrounded graphs facts e.pair e.fate) → StaysJustified bans before after
+stays_one bans before after e more are is shown = record {
+  inputs = more.inputs;
+  outputs = more.outputs;
+  justified = justified_one bans before after e more are is;
+  grounded = stay_push before.entries after.entries e more.entries shown;
+}
+
+-- before a choice, with one more pair that a ban deletes
+pub stays_back : (bans : List Ban) (before after : Domained) (place number : ℕ) (p : Pair) → IsBackAt before after place (record { pair = p; fate = Deleted (reason.Ban number) }) → AreJustified before.inputs before.outputs bans before.entries → place < length before.entries → Covers bans (p ∷ held_in (take place before.entries)) number → StaysJustified bans before after
+stays_back bans before after place number p at are below covers = record {
+  inputs = at.inputs;
+  outputs = at.outputs;
+  justified = back_justified bans before after place number p at are below covers;
+  grounded = back_grounded before after place number p at;
+}
+
+-- the first entries alone
+pub stays_front : (bans : List Ban) (before after : Domained) (place : ℕ) → after ≡ record before { entries = take place before.entries } → place ≤ length before.entries → AreJustified before.inputs before.outputs bans before.entries → StaysJustified bans before after
+stays_front bans before after place is within are = record {
+  inputs = ap (λ (d : Domained). d.inputs) is;
+  outputs = ap (λ (d : Domained). d.outputs) is;
+  justified = front_justified bans before after place is within are;
+  grounded = front_grounded before after place is;
+}
+
+not_chosen : (fate : Fate) → fate ≢ Held Choice → is_choice fate ≡ false
+not_chosen (Held Choice) other = absurd (other refl)
+not_chosen (Held (LastWay side)) other = refl
+not_chosen (Deleted why) other = refl
+
+-- one entry that was not chosen, before others
+zero_cons : (e : Entry) (es front : List Entry) → is_choice e.fate ≡ false → level_zero es ≡ front → level_zero (e ∷ es) ≡ e ∷ front
+zero_cons e es front not same = ap (λ b. cond b [] (e ∷ level_zero es)) not ∙ ap (λ (l : List Entry). e ∷ l) same
+
+zero_all : (es : List Entry) → ((k : ℕ) (d : Entry) → k < length es → is_choice (get_or es k d).fate ≡ false) → level_zero es ≡ es
+zero_all [] none = refl
+zero_all (e ∷ es) none = zero_cons e es es (none 0 e (omega arith)) (zero_all es (λ k d below. none (suc k) d (omega (arith, below))))
+
+zero_front : (es : List Entry) (place : ℕ) → place < length es → ((k : ℕ) (d : Entry) → k < place → is_choice (get_or es k d).fate ≡ false) → ((d : Entry) → is_choice (get_or es place d).fate ≡ true) → level_zero es ≡ take place es
+zero_front [] place below none chosen = absurd (omega (arith, below))
+zero_front (e ∷ es) zero below none chosen = ap (λ b. cond b [] (e ∷ level_zero es)) (chosen e)
+zero_front (e ∷ es) (suc place) below none chosen =
+    zero_cons e es (take place es) (none 0 e (omega arith)) (zero_front es place (omega (arith, below)) (λ k d early. none (suc k) d (omega (arith, early))) chosen)
+
+-- what stands before the first choice, and where there is none
+pub zero_before : (es lent : List Entry) (place : ℕ) → lent ≡ es → IsChoiceAt lent place → HasNoChoice lent 0 place → level_zero es ≡ take place es
+zero_before es lent place same choice first =
+    subst (λ (l : List Entry). level_zero l ≡ take place l) same (zero_front lent place choice.within (λ k d early. not_chosen (get_or lent k d).fate (first.none k d (omega arith) early)) (λ d. ap is_choice (choice.chosen d)))
+
+pub zero_whole : (es lent : List Entry) → lent ≡ es → HasNoChoice lent 0 (length lent) → level_zero es ≡ es
+zero_whole es lent same none =
+    subst (λ (l : List Entry). level_zero l ≡ l) same (zero_all lent (λ k d below. not_chosen (get_or lent k d).fate (none.none k d (omega arith) below)))
 
 -- a ban that needs no pair
 pub empty_ban : (bans : List Ban) (ban : ℕ) → Covers bans [] ban → IsEmptyBan bans ban

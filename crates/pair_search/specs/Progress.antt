@@ -18,6 +18,11 @@ is_choice (Held Choice) = true
 is_choice (Held (LastWay side)) = false
 is_choice (Deleted reason) = false
 
+-- the entries before the first choice, which no level has
+abbrev pub level_zero : List Entry → List Entry
+level_zero [] = []
+level_zero (entry ∷ entries) = cond (is_choice entry.fate) [] (entry ∷ level_zero entries)
+
 -- how many pairs are open at the end of each level, where this many are open at first
 abbrev pub open_at_ends : ℕ → List Entry → List ℕ
 open_at_ends count [] = count ∷ []
@@ -52,3 +57,11 @@ pub record Propagates (bans : List Ban) (before after : Domained) : Type 0 where
   pub justified : IsJustifiedTrail bans after
   pub grounded : StayGrounded before.entries after.entries
   pub less : left after ≤ left before
+
+-- The circuits stay. What became of each pair follows from what stands before it, and whatever facts showed the deletions by
+-- mismatches before, they show those after too.
+pub record StaysJustified (bans : List Ban) (before after : Domained) : Type 0 where
+  pub inputs : after.inputs ≡ before.inputs
+  pub outputs : after.outputs ≡ before.outputs
+  pub justified : IsJustifiedTrail bans after
+  pub grounded : StayGrounded before.entries after.entries

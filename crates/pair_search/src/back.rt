@@ -6,7 +6,7 @@ ghost use Rattle.conflict_core.specs.Conflicts.{IsBack, IsLearned};
 ghost use Rattle.conflict_core.specs.Grounded.{LearnsMore, StayGrounded};
 ghost use Rattle.conflict_core.specs.Justified.{IsJustifiedTrail};
 ghost use Rattle.pair_search.specs.Impasses.{IsImpasse};
-ghost use Rattle.pair_search.specs.Progress.{IsTrail, left};
+ghost use Rattle.pair_search.specs.Progress.{IsTrail, StaysJustified, left, level_zero};
 
 use crate::impasse::{Impasse, conflict_of};
 use crate::queue::Queue;
@@ -50,10 +50,8 @@ pub fn turn_back(
 /// that what was learned isn't lost.
 pub fn start_over(domains: &mut Domains, queue: &mut Queue, bans: &[Ban])
     requires justified { IsJustifiedTrail bans.now domains.old }
-    ensures justified { IsJustifiedTrail bans.now domains.new }
-    ensures inputs { domains.new.inputs ≡ domains.old.inputs }
-    ensures outputs { domains.new.outputs ≡ domains.old.outputs }
-    ensures grounded { StayGrounded domains.old.entries domains.new.entries }
+    ensures entries { domains.new.entries ≡ level_zero domains.old.entries }
+    ensures stays { StaysJustified bans.now domains.old domains.new }
 {
     let _ = bans;
     let entries = domains.entries();
@@ -92,10 +90,7 @@ fn go_back(
 ) -> Result<(), AllocError>
     requires justified { IsJustifiedTrail bans.now domains.old }
     requires back { IsBack domains.old.inputs domains.old.outputs bans.now domains.old.entries back }
-    ensures justified { OnOk result (IsJustifiedTrail bans.now domains.new) }
-    ensures inputs { OnOk result (domains.new.inputs ≡ domains.old.inputs) }
-    ensures outputs { OnOk result (domains.new.outputs ≡ domains.old.outputs) }
-    ensures grounded { OnOk result (StayGrounded domains.old.entries domains.new.entries) }
+    ensures stays { OnOk result (StaysJustified bans.now domains.old domains.new) }
     ensures less { OnOk result (left domains.new < left domains.old) }
 {
     let _ = bans;

@@ -5,11 +5,10 @@ ghost use Rattle.net_core.specs.declared.graphs.Side.TheVariants.{First, Second}
 ghost use Rattle.port_covers.specs.Ways.{nth_way};
 ghost use Rattle.account_core.specs.Tallies.{port_on};
 ghost use Rattle.class_refine.specs.Trails.{IsDeleted, IsFreePort, IsOpen, IsPairOf, held_in, ports_of};
-ghost use Rattle.conflict_core.specs.Grounded.{StayGrounded};
 ghost use Rattle.conflict_core.specs.Justified.{IsJustifiedTrail};
 ghost use Rattle.conflict_core.specs.Named.{IsPortOf};
 ghost use Rattle.pair_search.specs.Impasses.{HasNoWay, IsImpasse};
-ghost use Rattle.pair_search.specs.Progress.{Propagates, left};
+ghost use Rattle.pair_search.specs.Progress.{Propagates, StaysJustified, left};
 
 use crate::impasse::Impasse;
 use account_core::Ban;
@@ -57,10 +56,7 @@ pub fn branch(
     requires there { IsPortOf domains.old port }
     requires free { IsFreePort domains.old.entries port.side port.kind port.number }
     requires justified { IsJustifiedTrail bans.now domains.old }
-    ensures justified { OnOk result (IsJustifiedTrail bans.now domains.new) }
-    ensures inputs { OnOk result (domains.new.inputs ≡ domains.old.inputs) }
-    ensures outputs { OnOk result (domains.new.outputs ≡ domains.old.outputs) }
-    ensures grounded { OnOk result (StayGrounded domains.old.entries domains.new.entries) }
+    ensures stays { OnOk result (StaysJustified bans.now domains.old domains.new) }
     ensures less { IfOk result (λ found. IfNone found (left domains.new < left domains.old)) }
     ensures stuck { IfOk result (λ found. IfSome found (λ impasse. domains.new ≡ domains.old)) }
     ensures impasse { IfOk result (λ found. IfSome found

@@ -34,7 +34,7 @@ returns-in-Some-clause-valid g c = c.in_ok-found.ensures.holds.valid
 pub loop-round-preserved : goal.loop-round-preserved
 loop-round-preserved g c = record {
   held = held_then _ _ _ _ _ _ _ _ _ _ c.loop-round.invariant.held (held_one _ _ _ _ _ _ _ _ c.in_ok-found.ensures.holds);
-  trail = shown_beside _ _ _ _ _ _ c.bans.ensures c.in_ok-found.ensures.trail c.start_over.ensures.inputs c.start_over.ensures.outputs c.start_over.ensures.justified c.start_over.ensures.grounded;
+  trail = shown_beside _ _ _ _ _ _ c.bans.ensures c.in_ok-found.ensures.trail c.start_over.ensures.stays.inputs c.start_over.ensures.stays.outputs c.start_over.ensures.stays.justified c.start_over.ensures.stays.grounded;
   trials = subst (AreTrials c.args.graphs.now.first) (sym c.begin_round.ensures) c.in_ok-found.ensures.trials;
 }
 

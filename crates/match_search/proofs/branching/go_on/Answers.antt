@@ -18,7 +18,7 @@ pub returns-in-Some-2-clause-holds : goal.returns-in-Some-2-clause-holds
 returns-in-Some-2-clause-holds g c = holds_ok _ _ _ _ _ _ _ _ _ refl (held_same _ _ _ _ c.requires.may)
 
 pub returns-in-None-clause-trail : goal.returns-in-None-clause-trail
-returns-in-None-clause-trail g c = shown_beside _ _ _ _ _ _ c.bans.ensures c.requires.trail c.in_ok-branch.ensures.inputs c.in_ok-branch.ensures.outputs c.in_ok-branch.ensures.justified c.in_ok-branch.ensures.grounded
+returns-in-None-clause-trail g c = shown_beside _ _ _ _ _ _ c.bans.ensures c.requires.trail c.in_ok-branch.ensures.stays.inputs c.in_ok-branch.ensures.stays.outputs c.in_ok-branch.ensures.stays.justified c.in_ok-branch.ensures.stays.grounded
 
 pub returns-in-Some-2-clause-trail : goal.returns-in-Some-2-clause-trail
-returns-in-Some-2-clause-trail g c = shown_beside _ _ _ _ _ _ c.bans.ensures c.requires.trail c.in_ok-branch.ensures.inputs c.in_ok-branch.ensures.outputs c.in_ok-branch.ensures.justified c.in_ok-branch.ensures.grounded
+returns-in-Some-2-clause-trail g c = shown_beside _ _ _ _ _ _ c.bans.ensures c.requires.trail c.in_ok-branch.ensures.stays.inputs c.in_ok-branch.ensures.stays.outputs c.in_ok-branch.ensures.stays.justified c.in_ok-branch.ensures.stays.grounded

@@ -1,7 +1,7 @@
 use Rattle.class_refine.specs.declared.entry.Entry.{Entry}
 use Rattle.class_refine.specs.declared.entry.Fate.TheVariants.{Deleted}
 use Rattle.class_refine.specs.declared.entry.Reason.TheVariants as reason
-use Rattle.pair_search.proofs.StepLemmas.{back_at, back_grounded, back_less}
+use Rattle.pair_search.proofs.StepLemmas.{back_at, back_less, stays_back}
 use Rattle.pair_search.proofs.back.go_back.Goals as goal
 
 pub returns-clause-less : goal.returns-clause-less
@@ -11,9 +11,9 @@ returns-clause-less c =
     let e : Entry = record { pair = back.pair; fate = Deleted (reason.Ban back.ban) } in
     back_less d c.delete.new.self back.place back.pair (reason.Ban back.ban) (back_at d c.back_to.new.self c.delete.new.self back.place e c.back_to.ensures c.in_ok-delete.ensures.deleted) c.entries-lawful.ensures.lawful c.requires.back.choice
 
-pub returns-clause-grounded : goal.returns-clause-grounded
-returns-clause-grounded c =
+pub returns-clause-stays : goal.returns-clause-stays
+returns-clause-stays c =
     let d = c.args.domains.now in
     let back = c.args.back in
     let e : Entry = record { pair = back.pair; fate = Deleted (reason.Ban back.ban) } in
-    back_grounded d c.delete.new.self back.place back.ban back.pair (back_at d c.back_to.new.self c.delete.new.self back.place e c.back_to.ensures c.in_ok-delete.ensures.deleted)
+    stays_back c.args.bans.now d c.delete.new.self back.place back.ban back.pair (back_at d c.back_to.new.self c.delete.new.self back.place e c.back_to.ensures c.in_ok-delete.ensures.deleted) c.requires.justified c.requires.back.choice.within c.requires.back.covers

@@ -1,15 +1,20 @@
 -- The entries before the first choice follow, and are shown, as they were.
-use Rattle.std.proofs.Common.{length, ap, arith}
-use Rattle.conflict_core.proofs.GroundedLemmas.{stay_none}
-use Rattle.pair_search.proofs.StepLemmas.{front_grounded, front_justified}
+use Rattle.std.proofs.Common.{◌∙◌, length, sym, ap, arith}
+use Rattle.class_refine.specs.Trails.{Domained}
+use Rattle.pair_search.proofs.StepLemmas.{stays_front, stays_none, zero_before, zero_whole}
 use Rattle.pair_search.proofs.back.start_over.Goals as goal
 
-pub returns-in-Some-clause-justified : goal.returns-in-Some-clause-justified
-returns-in-Some-clause-justified c =
-    front_justified c.args.bans.now c.args.domains.now c.back_to.new.self c.in-Some.place c.back_to.ensures (omega (arith, c.in-Some.ensures.to, ap length c.entries-entries.ensures.value)) c.requires.justified
+pub returns-in-Some-clause-entries : goal.returns-in-Some-clause-entries
+returns-in-Some-clause-entries c =
+    ap (λ (d : Domained). d.entries) c.back_to.ensures ∙ sym (zero_before c.args.domains.now.entries c.entries-entries.result.now c.in-Some.place c.entries-entries.ensures.value c.in-Some.ensures.choice c.in-Some.ensures.first)
 
-pub returns-in-Some-clause-grounded : goal.returns-in-Some-clause-grounded
-returns-in-Some-clause-grounded c = front_grounded c.args.domains.now c.back_to.new.self c.in-Some.place c.back_to.ensures
+pub returns-in-Some-clause-stays : goal.returns-in-Some-clause-stays
+returns-in-Some-clause-stays c =
+    stays_front c.args.bans.now c.args.domains.now c.back_to.new.self c.in-Some.place c.back_to.ensures (omega (arith, c.in-Some.ensures.to, ap length c.entries-entries.ensures.value)) c.requires.justified
 
-pub returns-in_default-clause-grounded : goal.returns-in_default-clause-grounded
-returns-in_default-clause-grounded c = stay_none c.args.domains.now.entries
+pub returns-in_default-clause-entries : goal.returns-in_default-clause-entries
+returns-in_default-clause-entries c =
+    sym (zero_whole c.args.domains.now.entries c.entries-entries.result.now c.entries-entries.ensures.value c.in_default.ensures.none)
+
+pub returns-in_default-clause-stays : goal.returns-in_default-clause-stays
+returns-in_default-clause-stays c = stays_none c.args.bans.now c.args.domains.now c.requires.justified

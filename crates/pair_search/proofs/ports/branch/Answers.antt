@@ -4,9 +4,8 @@ use Rattle.class_refine.specs.declared.entry.Fate.TheVariants.{Held, Deleted}
 use Rattle.class_refine.specs.declared.entry.Cause.TheVariants.{Choice}
 use Rattle.class_refine.specs.declared.entry.Reason.TheVariants as reason
 use Rattle.class_refine.specs.Trails.{IsDeleted}
-use Rattle.conflict_core.proofs.GroundedLemmas.{stay_none, stay_push}
 use Rattle.pair_search.proofs.PortLemmas.{open_of_free}
-use Rattle.pair_search.proofs.StepLemmas.{clash_of, justified_one, less_chosen, less_one, one_more_of}
+use Rattle.pair_search.proofs.StepLemmas.{clash_of, less_chosen, less_one, one_more_of, stays_none, stays_one}
 use Rattle.pair_search.proofs.ports.branch.Goals as goal
 
 pub hold-requires-clause-open : goal.hold-requires-clause-open
@@ -30,16 +29,6 @@ returns-in_ok-hold-in-None-clause-less c =
     let is = open_of_free d.entries port.side port.kind port.number way c.requires.free c.way_of-way.ensures.kind c.way_of-way.ensures.port (λ gone. c.in-Some.ensures.is (subst (IsDeleted d.entries) c.way_of-way.ensures.value gone)) in
     less_chosen d c.hold.new.self e (one_more_of d c.hold.new.self e c.in_ok-hold-in-None.ensures.held) c.entries-lawful.ensures.lawful c.way_of-way.ensures.known is refl
 
-pub returns-in_ok-delete-in-Some-holder-clause-justified : goal.returns-in_ok-delete-in-Some-holder-clause-justified
-returns-in_ok-delete-in-Some-holder-clause-justified c =
-    let d = c.args.domains.now in
-    let port = c.args.port in
-    let way = c.way_of-way.result in
-    let held = c.in-Some-holder.held in
-    let e : Entry = record { pair = way; fate = Deleted (reason.Clash held) } in
-    let is = open_of_free d.entries port.side port.kind port.number way c.requires.free c.way_of-way.ensures.kind c.way_of-way.ensures.port (λ gone. c.in-Some.ensures.is (subst (IsDeleted d.entries) c.way_of-way.ensures.value gone)) in
-    justified_one c.args.bans.now d c.delete.new.self e (one_more_of d c.delete.new.self e c.in_ok-delete-in-Some-holder.ensures.deleted) c.requires.justified (c.in-Some-holder.ensures.held, clash_of d.entries held way c.in-Some-holder.ensures.held is c.in-Some-holder.ensures.kind c.in-Some-holder.ensures.share)
-
 pub returns-in_ok-delete-in-Some-holder-clause-less : goal.returns-in_ok-delete-in-Some-holder-clause-less
 returns-in_ok-delete-in-Some-holder-clause-less c =
     let d = c.args.domains.now in
@@ -49,17 +38,21 @@ returns-in_ok-delete-in-Some-holder-clause-less c =
     let is = open_of_free d.entries port.side port.kind port.number way c.requires.free c.way_of-way.ensures.kind c.way_of-way.ensures.port (λ gone. c.in-Some.ensures.is (subst (IsDeleted d.entries) c.way_of-way.ensures.value gone)) in
     less_one d c.delete.new.self e (one_more_of d c.delete.new.self e c.in_ok-delete-in-Some-holder.ensures.deleted) c.entries-lawful.ensures.lawful c.way_of-way.ensures.known is refl
 
-pub returns-in_default-clause-grounded : goal.returns-in_default-clause-grounded
-returns-in_default-clause-grounded c = stay_none c.args.domains.now.entries
+pub returns-in_default-clause-stays : goal.returns-in_default-clause-stays
+returns-in_default-clause-stays c = stays_none c.args.bans.now c.args.domains.now c.requires.justified
 
-pub returns-in_ok-hold-in-None-clause-grounded : goal.returns-in_ok-hold-in-None-clause-grounded
-returns-in_ok-hold-in-None-clause-grounded c =
+pub returns-in_ok-hold-in-None-clause-stays : goal.returns-in_ok-hold-in-None-clause-stays
+returns-in_ok-hold-in-None-clause-stays c =
     let d = c.args.domains.now in
     let e : Entry = record { pair = c.way_of-way.result; fate = Held Choice } in
-    stay_push d.entries c.hold.new.self.entries e (one_more_of d c.hold.new.self e c.in_ok-hold-in-None.ensures.held).entries (λ graphs facts. tt)
+    stays_one c.args.bans.now d c.hold.new.self e (one_more_of d c.hold.new.self e c.in_ok-hold-in-None.ensures.held) c.requires.justified tt (λ graphs facts. tt)
 
-pub returns-in_ok-delete-in-Some-holder-clause-grounded : goal.returns-in_ok-delete-in-Some-holder-clause-grounded
-returns-in_ok-delete-in-Some-holder-clause-grounded c =
+pub returns-in_ok-delete-in-Some-holder-clause-stays : goal.returns-in_ok-delete-in-Some-holder-clause-stays
+returns-in_ok-delete-in-Some-holder-clause-stays c =
     let d = c.args.domains.now in
-    let e : Entry = record { pair = c.way_of-way.result; fate = Deleted (reason.Clash c.in-Some-holder.held) } in
-    stay_push d.entries c.delete.new.self.entries e (one_more_of d c.delete.new.self e c.in_ok-delete-in-Some-holder.ensures.deleted).entries (λ graphs facts. tt)
+    let port = c.args.port in
+    let way = c.way_of-way.result in
+    let held = c.in-Some-holder.held in
+    let e : Entry = record { pair = way; fate = Deleted (reason.Clash held) } in
+    let is = open_of_free d.entries port.side port.kind port.number way c.requires.free c.way_of-way.ensures.kind c.way_of-way.ensures.port (λ gone. c.in-Some.ensures.is (subst (IsDeleted d.entries) c.way_of-way.ensures.value gone)) in
+    stays_one c.args.bans.now d c.delete.new.self e (one_more_of d c.delete.new.self e c.in_ok-delete-in-Some-holder.ensures.deleted) c.requires.justified (c.in-Some-holder.ensures.held, clash_of d.entries held way c.in-Some-holder.ensures.held is c.in-Some-holder.ensures.kind c.in-Some-holder.ensures.share) (λ graphs facts. tt)
