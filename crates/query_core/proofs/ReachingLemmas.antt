@@ -1,15 +1,20 @@
 -- Which signals reach an input whose feeds differ: all of them, and those of one cone.
-use Rattle.std.proofs.Common.{◌≡◌, ℕ, zero, suc, ◌+◌, ◌-◌, ◌<◌, ◌≤◌, ◌||◌, Bool, false, List, [], ◌∷◌, ◌++◌, length, set, All, slice_index_or, inl, inr, refl, sym, ap, subst, ◌∙◌, arith}
+use Rattle.std.proofs.Common.{not, replicate, take, ◌≢◌, if◌then◌else◌, ◌≡◌, ℕ, zero, suc, ◌+◌, ◌-◌, ◌<◌, ◌≤◌, ◌||◌, Bool, true, false, List, [], ◌∷◌, ◌++◌, length, set, All, slice_index_or, inl, inr, refl, sym, ap, subst, ◌∙◌, arith}
 use Rattle.std.proofs.lemmas.Bool.{cases_lt}
-use Rattle.std.proofs.lemmas.List.{get_or-set_same, get_or-set_other, get_or_append_left, get_or_default, get_or_push, length-set, length_push}
+use Rattle.std.proofs.lemmas.List.{ext_get_or, get_or-replicate, get_or-set_same, get_or-set_other, get_or-take, get_or_append_left, get_or_default, get_or_past, get_or_push, length-replicate, length-set, length-take-le, length_push}
 use Rattle.circuits.specs.declared.netlist.Gate.{Gate}
 use Rattle.circuits.specs.Literals.{bit, signal_of}
 use Rattle.circuits.specs.Netlists.{Net}
 use Rattle.net_core.specs.Graph.{AreInOrder, IsGraph}
 use Rattle.net_core.specs.Cones.{Reaches, ReachesGate}
-use Rattle.query_core.specs.Formulas.{reaching}
+use Rattle.number_marks.proofs.MarkLemmas.{marked_where}
+use Rattle.query_core.specs.declared.query.Feed.{Feed}
+use Rattle.query_core.specs.declared.query.Feed.TheVariants.{Fixed, Wire}
+use Rattle.query_core.specs.contracts.query.FeedPartialEq.TheImpl.{eq-value as feed_eq}
+use Rattle.query_core.specs.Formulas.{feeds_differ, reaching, same_feed}
 use Rattle.query_core.specs.ConeClauses.{AreReached}
 use Rattle.query_core.proofs.ConeLaws.{first_reached, second_reached}
+use Rattle.query_core.proofs.FormulaLemmas.{length-feeds_differ}
 
 -- the first signals stay
 pub reaching_keeps : (so_far : List Bool) (gates : List Gate) (s : ℕ) → s < length so_far → bit (reaching so_far gates) s ≡ bit so_far s
@@ -44,17 +49,83 @@ reaching_at so_far (gate ∷ gates) (suc t) d order within =
     } in
     ap (bit (reaching more gates)) at ∙ reaching_at more gates t d rest (omega (arith, within))
 
--- The constant, the inputs and the first gates of a cone are marked right.
+-- where the feeds of an input differ
+pub differ_at : (left right : List Feed) (i : ℕ) (d e : Feed) → length left ≡ length right → i < length left → bit (feeds_differ left right) i ≡ not (same_feed (slice_index_or left i d) (slice_index_or right i e))
+differ_at [] right i d e same within = absurd (omega (arith, within))
+differ_at (feed ∷ left) [] i d e same within = absurd (omega (arith, same))
+differ_at (feed ∷ left) (other ∷ right) zero d e same within = refl
+differ_at (feed ∷ left) (other ∷ right) (suc i) d e same within = differ_at left right i d e (omega (arith, same)) (omega (arith, within))
+
+feed_same : (x y : Feed) → feed_eq.it x y ≡ same_feed x y
+feed_same (Fixed b) (Fixed c) = refl
+feed_same (Fixed b) (Wire place flip) = refl
+feed_same (Wire place flip) (Fixed b) = refl
+feed_same (Wire place flip) (Wire other sign) = refl
+
+pub input_differs : (left right : List Feed) (i : ℕ) (f g : Feed) (b : Bool) → length left ≡ length right → i < length left → f ≡ slice_index_or left i f → g ≡ slice_index_or right i g → b ≡ not (feed_eq.it f g) → b ≡ bit (feeds_differ left right) i
+input_differs left right i f g b same within f_is g_is b_is =
+    b_is ∙ (ap not (feed_same f g) ∙ (ap (λ x. not (same_feed x g)) f_is ∙ (ap (λ y. not (same_feed (slice_index_or left i f) y)) g_is ∙ sym (differ_at left right i f g same within))))
+
+-- The first inputs are marked right, and nothing after them.
+pub record AreDiffering (left right : List Feed) (signals count : ℕ) (marked : List Bool) : Type 0 where
+  pub size : length marked ≡ signals
+  pub before : (s : ℕ) → s < count + 1 → bit marked s ≡ bit (false ∷ feeds_differ left right) s
+  pub rest : (s : ℕ) → count < s → bit marked s ≡ false
+
+-- nothing is marked at first
+pub differing_none : (left right : List Feed) (signals : ℕ) → AreDiffering left right signals 0 (replicate signals false)
+differing_none left right signals = record {
+  size = length-replicate signals false;
+  before = λ s below. first s below;
+  rest = λ s above. unmarked s;
+}
+  where
+    unmarked : (s : ℕ) → bit (replicate signals false) s ≡ false
+    unmarked s =
+        elim (cases_lt s signals) [
+          | inl early ↦ get_or-replicate signals s false false early
+          | inr late ↦ get_or_past (replicate signals false) s false (omega (arith, late, length-replicate signals false))
+        ]
+
+    first : (s : ℕ) → s < 1 → bit (replicate signals false) s ≡ bit (false ∷ feeds_differ left right) s
+    first zero below = unmarked zero
+    first (suc s) below = absurd (omega (arith, below))
+
+-- one input more
+pub differing_more : (left right : List Feed) (signals i : ℕ) (is_so : Bool) (marked new : List Bool) → length left < signals → i < length left → is_so ≡ bit (feeds_differ left right) i → new ≡ (if is_so then set marked (i + 1) true else marked) → AreDiffering left right signals i marked → AreDiffering left right signals (i + 1) new
+differing_more left right signals i is_so marked new room within is new_is differing = subst (AreDiffering left right signals (i + 1)) (sym (new_is ∙ marked_where marked (i + 1) is_so (differing.rest (i + 1) (omega arith)))) (record {
+  size = length-set marked (i + 1) is_so ∙ differing.size;
+  before = λ s below. elim (cases_lt s (i + 1)) [
+    | inl earlier ↦ get_or-set_other marked (i + 1) s is_so false (λ e. omega (arith, e, earlier)) ∙ differing.before s earlier
+    | inr late ↦
+        let e : s ≡ suc i = omega (arith, late, below) in
+        let e' : s ≡ i + 1 = omega (arith, e) in
+        ap (bit (set marked (i + 1) is_so)) e' ∙ (get_or-set_same marked (i + 1) is_so false (omega (arith, room, within, differing.size)) ∙ (is ∙ sym (ap (bit (false ∷ feeds_differ left right)) e)))
+  ];
+  rest = λ s above. get_or-set_other marked (i + 1) s is_so false (λ e. omega (arith, e, above)) ∙ differing.rest s (omega (arith, above));
+})
+
+pub differing_whole : (left right : List Feed) (signals : ℕ) (marked : List Bool) → length left ≡ length right → length left < signals → AreDiffering left right signals (length left) marked → take (length left + 1) marked ≡ false ∷ feeds_differ left right
+differing_whole left right signals marked same room differing =
+    let n = length left + 1 in
+    let size = length-take-le n marked (omega (arith, room, differing.size)) in
+    ext_get_or false (take n marked) (false ∷ feeds_differ left right) (omega (arith, size, length-feeds_differ left right same)) (λ s below.
+    let low : s < n = omega (arith, below, size) in
+    get_or-take n marked s false low ∙ differing.before s low)
+
+-- The constant, the inputs and the first gates of a cone are marked right, and no other gate is marked.
 pub record AreMarking (net : Net) (start : List Bool) (gates : List ℕ) (count : ℕ) (marked : List Bool) : Type 0 where
   pub size : length marked ≡ net.inputs + 1 + length net.gates
   pub before : (s : ℕ) → s < net.inputs + 1 → bit marked s ≡ bit start s
+  pub after : (s : ℕ) → net.inputs < s → ((k : ℕ) → k < count → s ≢ net.inputs + 1 + slice_index_or gates k 0) → bit marked s ≡ false
   pub done : (k : ℕ) → k < count → bit marked (net.inputs + 1 + slice_index_or gates k 0) ≡ bit (reaching start net.gates) (net.inputs + 1 + slice_index_or gates k 0)
 
 -- one gate more
-pub marking_more : (net : Net) (output : ℕ) (start : List Bool) (gates : List ℕ) (i t : ℕ) (row : Gate) (marked new : List Bool) → IsGraph net → AreReached net output gates → length start ≡ net.inputs + 1 → i < length gates → t ≡ slice_index_or gates i 0 → ((d : Gate) → row ≡ slice_index_or net.gates t d) → new ≡ set marked (net.inputs + 1 + t) (bit marked (signal_of row.a) || bit marked (signal_of row.b)) → AreMarking net start gates i marked → AreMarking net start gates (i + 1) new
-marking_more net output start gates i t row marked new graph are start_size within t_is row_is new_is marking = subst (AreMarking net start gates (i + 1)) (sym new_is) (record {
+pub marking_more : (net : Net) (output : ℕ) (start : List Bool) (gates : List ℕ) (i t : ℕ) (row : Gate) (marked new : List Bool) → IsGraph net → AreReached net output gates → length start ≡ net.inputs + 1 → i < length gates → t ≡ slice_index_or gates i 0 → ((d : Gate) → row ≡ slice_index_or net.gates t d) → new ≡ (if bit marked (signal_of row.a) || bit marked (signal_of row.b) then set marked (net.inputs + 1 + t) true else marked) → AreMarking net start gates i marked → AreMarking net start gates (i + 1) new
+marking_more net output start gates i t row marked new graph are start_size within t_is row_is new_is marking = subst (AreMarking net start gates (i + 1)) (sym (new_is ∙ marked_where marked at v unmarked)) (record {
   size = length-set marked at v ∙ marking.size;
   before = λ s less. get_or-set_other marked at s v false (λ e. omega (arith, e, less)) ∙ marking.before s less;
+  after = λ s gate apart. get_or-set_other marked at s v false (λ e. apart i (omega arith) (e ∙ ap (λ u. first + u) t_is)) ∙ marking.after s gate (λ k less. apart k (omega (arith, less)));
   done = λ k less. elim (cases_lt k i) [
     | inl earlier ↦
         let lower = are.ascending k i 0 earlier within in
@@ -83,6 +154,9 @@ marking_more net output start gates i t row marked new graph are start_size with
 
     at_there : at < length marked
     at_there = omega (arith, there, marking.size)
+
+    unmarked : bit marked at ≡ false
+    unmarked = marking.after at (omega arith) (λ k less e. omega (arith, e, are.ascending k i 0 less within, t_is))
 
     order : AreInOrder (length start) net.gates
     order = record {

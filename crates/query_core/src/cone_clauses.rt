@@ -18,8 +18,7 @@ use std::marker::Model;
 /// The clauses that belong to a query's two cones: that of variable 0, those of the gates that the output of their cone
 /// reaches, and those of the two outputs. What meets these clauses has a vector that is asked for.
 ///
-/// They cost by the cones and not by the circuits: a step for each gate that is reached and for each input, and some bytes for
-/// each signal that there is.
+/// They cost by the cones and not by the circuits: a step for each gate that is reached and for each input.
 #[derive(Drop)]
 pub struct ConeClauses<'a> {
     graphs: &'a Graphs<'a>,

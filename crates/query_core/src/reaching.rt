@@ -1,6 +1,6 @@
 //! Which signals of a circuit reach an input whose two feeds differ.
 
-ghost use Rattle.std.specs.Prelude.{◌≡◌, ◌+◌, ◌++◌, ◌∷◌, false, All, IfOk, OnOk, length, take};
+ghost use Rattle.std.specs.Prelude.{◌≡◌, ◌+◌, ◌<◌, ◌++◌, ◌∷◌, ℕ, false, All, IfOk, OnOk, length, take};
 ghost use Rattle.circuits.specs.Literals.{bit};
 ghost use Rattle.net_core.specs.Graph.{AreInOrder};
 ghost use Rattle.query_core.specs.ConeClauses.{AreReached, IsSomeCone};
@@ -9,6 +9,7 @@ ghost use Rattle.query_core.specs.Formulas.{feeds_differ, reaching, reaches};
 use crate::feeds::Feeds;
 use crate::query::Query;
 use net_core::{Gate, Graph};
+use number_marks::Marks;
 use std::alloc::{AllocError, Global};
 
 /// Whether each signal of the right circuit reaches an input whose two feeds differ.
@@ -31,18 +32,37 @@ pub(crate) fn reaches_in_cone(
     query: &Query,
     right: &Graph,
     gates: &[u32],
-) -> Result<Vec<bool>, AllocError>
+) -> Result<Marks, AllocError>
     requires left { length query.now.left.feed ≡ right.now.inputs }
     requires right { length query.now.right.feed ≡ right.now.inputs }
     requires gates { AreReached right.now query.now.right.output gates.now }
-    ensures marks { IfOk result (λ marked. All (λ t. bit marked.items (right.now.inputs + 1 + t)
+    ensures marks { IfOk result (λ marked. All (λ t. bit marked (right.now.inputs + 1 + t)
         ≡ bit (reaches query.now right.now.gates) (right.now.inputs + 1 + t)) gates.now) }
     ensures count { IfOk result
-        (λ marked. length marked.items ≡ right.now.inputs + 1 + length right.now.gates) }
+        (λ marked. length marked ≡ right.now.inputs + 1 + length right.now.gates) }
 {
-    let mut marked = differing(alloc, query)?;
-    marked.resize(right.signals(), false)?;
-    mark_cone(right, gates, &mut marked);
+    let mut marked = marked_inputs(alloc, &query.left.feed, &query.right.feed, right.signals())?;
+    mark_cone(alloc, right, gates, &mut marked)?;
+    Ok(marked)
+}
+
+// Marks of n signals, where those of the inputs whose two feeds differ are marked.
+fn marked_inputs(
+    alloc: Global,
+    left: &Feeds,
+    right: &Feeds,
+    signals: usize,
+) -> Result<Marks, AllocError>
+    requires feeds { length left.now ≡ length right.now }
+    requires room { length left.now < signals }
+    ensures start { IfOk result (λ marked. take (length left.now + 1) marked ≡ false ∷ feeds_differ left.now right.now) }
+    ensures rest { IfOk result (λ marked. (s : ℕ) → length left.now < s → bit marked s ≡ false) }
+    ensures size { IfOk result (λ marked. length marked ≡ signals) }
+{
+    let mut marked = Marks::none(alloc, signals);
+    for input in 0..left.len() {
+        marked.mark_where(alloc, input + 1, left.get(input) != right.get(input))?;
+    }
     Ok(marked)
 }
 
@@ -83,19 +103,26 @@ fn push_reaching(gates: &[Gate], signals: &mut Vec<bool>) -> Result<(), AllocErr
     Ok(())
 }
 
-// Marks each of a cone's gates that has a marked operand. The constant and the inputs are marked before.
-fn mark_cone(graph: &Graph, gates: &[u32], marked: &mut [bool])
+// Marks each of a cone's gates that has a marked operand. The inputs are marked before, and no gate is.
+fn mark_cone(
+    alloc: Global,
+    graph: &Graph,
+    gates: &[u32],
+    marked: &mut Marks,
+) -> Result<(), AllocError>
     requires cone { IsSomeCone graph.now gates.now }
     requires room { length marked.old ≡ graph.now.inputs + 1 + length graph.now.gates }
-    ensures marks { let first = graph.now.inputs + 1
-        in All (λ t. bit marked.new (first + t) ≡ bit (reaching (take first marked.old) graph.now.gates) (first + t)) gates.now }
-    ensures size { length marked.new ≡ length marked.old }
+    requires unmarked { (s : ℕ) → graph.now.inputs < s → bit marked.old s ≡ false }
+    ensures marks { OnOk result (let first = graph.now.inputs + 1
+        in All (λ t. bit marked.new (first + t) ≡ bit (reaching (take first marked.old) graph.now.gates) (first + t)) gates.now) }
+    ensures size { OnOk result (length marked.new ≡ length marked.old) }
 {
     let first = graph.inputs() as usize + 1;
     let all = graph.gates();
     for gate in gates.iter() {
         let row = all[*gate as usize];
-        let reaches = marked[row.a.signal() as usize] | marked[row.b.signal() as usize];
-        marked[first + *gate as usize] = reaches;
+        let reaches = marked.has(row.a.signal() as usize) | marked.has(row.b.signal() as usize);
+        marked.mark_where(alloc, first + *gate as usize, reaches)?;
     }
+    Ok(())
 }

@@ -8,8 +8,8 @@ ghost use Rattle.query_core.specs.Variables.{AreFor, HasGate, variable_at, varia
 
 use crate::query::Query;
 use crate::reaching::{reaches, reaches_in_cone};
-use items::Items;
 use net_core::Graphs;
+use number_marks::Marks;
 use std::alloc::{AllocError, Global};
 
 /// The variables that stand for a circuit's gates.
@@ -19,11 +19,7 @@ pub(crate) enum Variables {
     Own(u64),
     /// Gate t has the t-th variable from `own` on where signal `first + t`, which is its own, is marked, and else the t-th
     /// one from `first` on, which stands for the same gate of the left circuit.
-    Shared {
-        first: u64,
-        own: u64,
-        marked: Items<bool>,
-    },
+    Shared { first: u64, own: u64, marked: Marks },
 }
 
 impl Variables {
@@ -70,12 +66,12 @@ pub(crate) fn right_variables(
     Ok(Variables::Shared {
         first,
         own,
-        marked: Items::from_vec(marked),
+        marked: Marks::from_table(marked),
     })
 }
 
 /// The variables of the right circuit's gates, right for these, which its output reaches. It takes a step for each of these
-/// and each input, and a byte for each signal that there is.
+/// and each input, whatever else the circuit has.
 pub(crate) fn cone_variables(
     alloc: Global,
     graphs: &Graphs<'_>,
@@ -95,20 +91,16 @@ pub(crate) fn cone_variables(
     }
     let right = graphs.side(query.right.side);
     let marked = reaches_in_cone(alloc, query, right, gates)?;
-    Ok(Variables::Shared {
-        first,
-        own,
-        marked: Items::from_vec(marked),
-    })
+    Ok(Variables::Shared { first, own, marked })
 }
 
 // The variable of a gate that has one of its own where it is marked.
-fn shared(marked: &[bool], first: u64, own: u64, gate: usize) -> u64
+fn shared(marked: &Marks, first: u64, own: u64, gate: usize) -> u64
     requires marks { HasGate (Variables.Shared first own marked.now) gate }
     ensures value { result ≡ variable_at (Variables.Shared first own marked.now) gate }
     ensures few { result < 2 ^ 63 }
 {
-    if marked[first as usize + gate] {
+    if marked.has(first as usize + gate) {
         own + gate as u64
     } else {
         first + gate as u64

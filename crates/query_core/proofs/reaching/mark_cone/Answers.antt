@@ -1,5 +1,5 @@
 -- One gate more is marked where an operand is.
-use Rattle.std.proofs.Common.{◌≡◌, ◌+◌, ◌||◌, List, length, take, set, slice_index_or, refl, sym, ap, subst, ◌∙◌, arith}
+use Rattle.std.proofs.Common.{◌≡◌, ◌+◌, ◌||◌, if◌then◌else◌, true, List, length, take, set, slice_index_or, refl, ap, subst, ◌∙◌, arith}
 use Rattle.std.proofs.lemmas.List.{get_or_default, length-take-le}
 use Rattle.circuits.specs.declared.netlist.Gate.{Gate}
 use Rattle.circuits.specs.Literals.{bit, signal_of}
@@ -21,9 +21,14 @@ loop-gate-preserved c =
     let there = c.requires.cone.are.there i 0 c.loop-gate-test.true in
     let start = take (net.inputs + 1) c.args.marked.now in
     let size = length-take-le (net.inputs + 1) c.args.marked.now (omega (arith, c.requires.room)) in
-    let value = ap (λ s. bit marked s || bit marked c.signal-in-loop-gate.result) a ∙ ap (λ s. bit marked (signal_of row.a) || bit marked s) b in
-    let new = ap (λ n. set marked (n + 1 + t) (bit marked c.signal.result || bit marked c.signal-in-loop-gate.result)) c.inputs.ensures.value ∙ ap (set marked (net.inputs + 1 + t)) value in
-    subst (AreMarking net start gates (i + 1)) (sym new) (marking_more net c.requires.cone.output start gates i t row marked (set marked (net.inputs + 1 + t) (bit marked (signal_of row.a) || bit marked (signal_of row.b))) c.inputs.ensures.graph c.requires.cone.are size c.loop-gate-test.true refl (λ d. get_or_default net.gates t none d there) refl c.loop-gate.invariant)
+    let v = bit marked (signal_of row.a) || bit marked (signal_of row.b) in
+    let first_bit = c.has.ensures ∙ ap (bit marked) a in
+    let second_bit = c.has-in-loop-gate.ensures ∙ ap (bit marked) b in
+    let value = ap (λ x. x || c.has-in-loop-gate.result) first_bit ∙ ap (λ y. bit marked (signal_of row.a) || y) second_bit in
+    let new = c.in_ok-mark_where.ensures.marked
+    ∙ (ap (λ n. if c.has.result || c.has-in-loop-gate.result then set marked (n + 1 + t) true else marked) c.inputs.ensures.value
+    ∙ ap (λ b. if b then set marked (net.inputs + 1 + t) true else marked) value) in
+    marking_more net c.requires.cone.output start gates i t row marked c.mark_where.new.self c.inputs.ensures.graph c.requires.cone.are size c.loop-gate-test.true refl (λ d. get_or_default net.gates t none d there) new c.loop-gate.invariant
 
 pub returns-clause-marks : goal.returns-clause-marks
 returns-clause-marks c =

@@ -1,5 +1,5 @@
 -- The variables of the gates that are reached.
-use Rattle.std.proofs.Common.{rules, ◌≡◌, ◌+◌, ◌<◌, Bool, List, length, drop, slice_index_or, sym, ap, subst, ◌∙◌, arith}
+use Rattle.std.proofs.Common.{rules, ◌≡◌, ◌+◌, ◌<◌, length, drop, slice_index_or, sym, ap, subst, ◌∙◌, arith}
 use Rattle.circuits.specs.Literals.{bit}
 use Rattle.circuits.specs.Netlists.{Net}
 use Rattle.query_core.specs.declared.variables.Variables.TheVariants.{Own}
@@ -30,7 +30,7 @@ returns-clause-values c =
     let net = circuit_of graphs query.right in
     let first = c.left_from-first.result in
     let own = c.right_from-own.result in
-    let marked = c.in_ok-marked.marked.items in
+    let marked = c.in_ok-marked.marked in
     let all = reaches query net.gates in
     let whole : shared_from first own (drop first all) ≡ right_variables graphs query = search rules in
     let size = reached_count query net.gates (c.requires.fits.left.feed ∙ sym c.requires.fits.right.feed) in
@@ -40,5 +40,4 @@ returns-clause-values c =
     let marks = subst (λ (n : Net). bit marked (n.inputs + 1 + t) ≡ bit (reaches query n.gates) (n.inputs + 1 + t)) c.side-right.ensures (c.in_ok-marked.ensures.marks k d within) in
     let at : net.inputs + 1 + t ≡ first + t = omega (arith, c.requires.fits.right.inputs, c.left_from-first.ensures.value) in
     let own_mark : bit marked (first + t) ≡ bit all (first + t) = subst (λ s. bit marked s ≡ bit all s) at marks in
-    let right = subst (λ (ms : List Bool). bit ms (first + t) ≡ bit all (first + t)) (sym c.from_vec.ensures) own_mark in
-    shared_right first own t c.from_vec.result all (omega (arith, size, below, c.requires.fits.left.feed, c.left_from-first.ensures.value)) right ∙ ap (λ xs. slice_index_or xs t 0) whole
+    shared_right first own t marked all (omega (arith, size, below, c.requires.fits.left.feed, c.left_from-first.ensures.value)) own_mark ∙ ap (λ xs. slice_index_or xs t 0) whole
