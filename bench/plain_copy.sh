@@ -8,6 +8,8 @@
 #   plain table FIRST SECOND SEED TABLE     whether a table is a match: `match`, or `differs`. TABLE has a line for each port, inputs
 #                                           before outputs: the place where it goes, and 1 where it is negated there, else 0
 #   plain ask FIRST SECOND OUTPUT VALUE BUDGET   as `workbench ask`, but lines aren't derived again
+#   plain claims FILE ROUNDS                as `workbench claims`: of each output and each of its inputs whether the output may fall where the
+#                                           input goes up, in some rounds, each time anew
 # of files in the ASCII form of AIGER, in order, as `bench/match_beside_abc.sh --write` writes them. An edit changes one line of a crate first, and
 # has the form of those in crates/NAME/must-fail with a path from crates/ on; bench/parts has some. Needs rustc. Not part of the gate.
 #

@@ -2,17 +2,18 @@
 //! `bench/match_beside_abc.sh --write` writes them.
 
 use crate::account_core::{Ban, Step};
-use crate::ask_core::{Answer as Verdict, ask};
+use crate::ask_core::{self, Answer as Answered};
 use crate::ban_book::BanBook;
 use crate::circuits::{Gate, Lit};
 use crate::cnf_core::Stop;
 use crate::fact_tests::FactBook;
 use crate::match_search::{Found, decide, search};
-use crate::net_core::{Graph, Graphs, Matching};
+use crate::net_core::{Graph, Graphs, Matching, Side};
+use crate::net_supports::Supports;
 use crate::oracle_core::{Compared, Oracle};
 use crate::port_sides::PairableGraphs;
 use crate::prelude::{Global, Items, Vec};
-use crate::query_core::{Ledger, of_match};
+use crate::query_core::{Claim, Ledger, Shape, of_claim, of_match};
 use crate::table_guess::{Effort, Guesser};
 use std::error::Error;
 use std::io;
@@ -46,9 +47,10 @@ pub fn main() -> Answer {
                 prove(graphs, seed, &table)
             })
         }
+        ["claims", netlist, rounds] => claims(netlist, rounds.parse()?),
         _ => Err(
             "plain guess|search|decide FIRST SECOND SEED, plain table FIRST SECOND SEED TABLE, \
-             or plain ask FIRST SECOND OUTPUT VALUE BUDGET"
+             plain ask FIRST SECOND OUTPUT VALUE BUDGET, or plain claims FILE ROUNDS"
                 .into(),
         ),
     }
@@ -66,6 +68,37 @@ fn on_pair(
     let graphs = Graphs::new(&first, &second);
     let graphs = PairableGraphs::new(&graphs).ok_or("the circuits have other numbers of ports")?;
     ask(&graphs, seed.parse()?)
+}
+
+/// Asks for n rounds, of each output and each input that it reaches through gates, whether the output never falls where the
+/// input goes up, as `workbench claims` does.
+fn claims(netlist: &str, rounds: u32) -> Answer {
+    let graph = graph_in(&std::fs::read_to_string(netlist)?)?;
+    let graphs = Graphs::new(&graph, &graph);
+    let supports = Supports::new(Global, &graph).map_err(refused)?;
+    let (mut asked, mut hold) = (0, 0);
+    for _ in 0..rounds {
+        for output in 0..graph.outputs().len() as u32 {
+            for input in (0..graph.inputs()).filter(|input| supports.reaches(output, *input)) {
+                asked += 1;
+                hold += u32::from(holds(&graphs, output, input)?);
+            }
+        }
+    }
+    println!("asked {asked} hold {hold}");
+    Ok(())
+}
+
+fn holds(graphs: &Graphs, output: u32, input: u32) -> Result<bool, Box<dyn Error>> {
+    let claim = Claim {
+        side: Side::First,
+        output,
+        shape: Shape::Up(input),
+    };
+    let query = of_claim(Global, graphs, &claim).map_err(refused)?;
+    let mut ledger = Ledger::new(Global, BUDGET);
+    let answer = ask_core::ask(Global, graphs, &query, &mut ledger).map_err(refused)?;
+    Ok(matches!(answer, Answered::Refuted(_)))
 }
 
 /// The circuit of a file whose signals are numbered in order, so that its literals are the circuit's.
@@ -199,12 +232,12 @@ fn ask_output(graphs: &PairableGraphs, output: u32, value: bool, budget: u64) ->
     )?;
     let graphs = graphs.graphs();
     let query = of_match(Global, graphs, &matching, output, value).map_err(refused)?;
-    match ask(Global, graphs, &query, &mut Ledger::new(Global, budget)) {
-        Ok(Verdict::Vector(vector)) => {
+    match ask_core::ask(Global, graphs, &query, &mut Ledger::new(Global, budget)) {
+        Ok(Answered::Vector(vector)) => {
             let digit = |bit: &bool| if *bit { '1' } else { '0' };
             println!("vector {}", vector.iter().map(digit).collect::<String>());
         }
-        Ok(Verdict::Refuted(log)) => println!("refuted {}", log.lines.len()),
+        Ok(Answered::Refuted(log)) => println!("refuted {}", log.lines.len()),
         Err(Stop::Spent(learned)) => println!("spent {learned}"),
         Err(Stop::Memory) => return Err("out of memory".into()),
     }
