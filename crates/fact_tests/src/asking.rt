@@ -14,8 +14,9 @@ ghost use Rattle.fact_tests.specs.Supports.{IsOutside};
 use ask_core::{Answer, ask_watched};
 use cnf_core::{Log, LogLine, Stop};
 use items::Items;
+use log_parts::trim;
 use net_core::Graphs;
-use query_core::{Claim, Ledger, Query, of_claim};
+use query_core::{Claim, Ledger, Query, count_of, of_claim};
 use shared_lemmas::SharedLemmas;
 use std::alloc::{AllocError, Global};
 use watch_core::Watch;
@@ -36,6 +37,27 @@ pub(crate) fn answer_to<W: Watch>(
     ensures stop { IfErr result (IsHalted graphs.now query.now ledger.old ledger.new) }
 {
     ask_watched(alloc, graphs, query, ledger, watch)
+}
+
+/// The answer of a query: of a refutation the lines that its last one rests on, and that line. A fact is kept as long as the run
+/// goes on, and most of its lines were tried in vain.
+pub(crate) fn trimmed(
+    alloc: Global,
+    graphs: &Graphs<'_>,
+    query: &Query,
+    answer: Answer,
+) -> Result<Answer, AllocError>
+    requires { IsAnswer graphs.now query.now answer }
+    ensures { IfOk result (IsAnswer graphs.now query.now) }
+{
+    match answer {
+        Answer::Vector(vector) => Ok(Answer::Vector(vector)),
+        Answer::Refuted(log) => {
+            let count = count_of(graphs, query);
+            let part = trim(alloc, count, &log.lines)?;
+            Ok(Answer::Refuted(part))
+        }
+    }
 }
 
 /// Finds a vector that meets a query, or a log that refutes it, by what earlier queries under the same feeds have learned.

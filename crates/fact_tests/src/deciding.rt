@@ -10,7 +10,7 @@ ghost use Rattle.fact_tests.specs.Asking.{Decides};
 ghost use Rattle.fact_tests.specs.Books.{IsSource};
 ghost use Rattle.fact_tests.specs.Supports.{IsOutside};
 
-use crate::asking::{answer_to, refute_outside, shared_answer_to};
+use crate::asking::{answer_to, refute_outside, shared_answer_to, trimmed};
 use crate::decide::Decide;
 use crate::nearby::Nearby;
 use crate::sightings::Sightings;
@@ -248,7 +248,10 @@ fn asked<W: Watch>(
 {
     let query = of_claim(alloc, graphs, claim)?;
     match answer_to(alloc, graphs, &query, ledger, watch) {
-        Ok(answer) => Ok(evidence_of(alloc, graphs, claim, answer)?),
+        Ok(answer) => {
+            let short = trimmed(alloc, graphs, &query, answer)?;
+            Ok(evidence_of(alloc, graphs, claim, short)?)
+        }
         Err(stop) => Err(stop),
     }
 }

@@ -20,7 +20,6 @@ use watch_core::{Silent, Stage, Watch};
 /// Facts about two circuits. A claim is decided by structure where its output doesn't reach its inputs; then by a
 /// vector that simulation saw; and else it is asked. Each fact is kept, and so is each answer about a matching.
 /// What the run is at goes to a watcher. Contracts see the book as what it knows.
-#[derive(Drop)]
 pub struct FactBook<'a, W: Watch = Silent> {
     book: Book<Sources<'a, W>>,
 }
@@ -31,6 +30,14 @@ impl<'a, W: Watch> Model for FactBook<'a, W> {
     ghost Value = { Known };
 
     ghost view = { λ a. a.book };
+}
+
+// By hand, and not derived: so a function that owns a book has one call at each exit, and not the drops of all that is in it, which
+// would be the most of its proof.
+impl<'a, W: Watch> Drop for FactBook<'a, W> {
+    fn drop(self) {
+        let FactBook { book: _book } = self;
+    }
 }
 
 impl<'a> FactBook<'a> {
@@ -80,7 +87,8 @@ impl<'a, W: Watch> FactBook<'a, W> {
         ensures value { result ≡ self.entry.facts }
         ensures lawful { AreFacts self.entry.graphs result }
     {
-        self.book.into_facts()
+        let FactBook { book } = self;
+        book.into_facts()
     }
 }
 

@@ -9,6 +9,8 @@ use Rattle.ban_book.specs.Vectors.{AreLastResorts}
 use Rattle.ban_book.proofs.VectorLemmas.{last_resorts_none}
 use Rattle.oracle_core.specs.Oracles.{Known, Suits}
 use Rattle.fact_bans.specs.Serving.{MayHold}
+use Rattle.table_guess.specs.declared.trials.Trials.{Trials}
+use Rattle.table_guess.specs.Trials.{AreTrials}
 use Rattle.match_search.specs.States.{AreValid, HasServed}
 use Rattle.match_search.proofs.ServeLemmas.{served_same}
 
@@ -17,7 +19,7 @@ pub guessing_start : (graphs : Graphs) (known : Known) (ledger : Ledgered) → g
 guessing_start graphs known ledger are lawful suits =
     served_same known ledger (subst (λ (g : Graphs). AreFacts g known.facts) are lawful) suits
 
-none_valid : (graphs : Graphs) (known : Known) (bans : List Ban) → graphs ≡ known.graphs → bans ≡ [] → AreValid graphs known bans
+pub none_valid : (graphs : Graphs) (known : Known) (bans : List Ban) → graphs ≡ known.graphs → bans ≡ [] → AreValid graphs known bans
 none_valid graphs known bans are none =
     subst (AreValid graphs known) (sym none) (record {
       graphs_are = are;
@@ -37,3 +39,18 @@ may_start graphs known ledger bans are lawful suits none = record {
 -- no ban is by a vector where there is none
 pub none_last : (graphs : Graphs) (facts : List Decided) (bans : List Ban) → bans ≡ [] → AreLastResorts graphs facts bans
 none_last graphs facts bans none = subst (AreLastResorts graphs facts) (sym none) (last_resorts_none graphs facts)
+
+-- Bans were held and let go, again and again.
+pub record IsSearching (graphs : Graphs) (old now : Known) (a b : Ledgered) (bans : List Ban) (vectors : Trials) : Type 0 where
+  pub served : HasServed old now a b
+  pub valid : AreValid graphs now bans
+  pub trials : AreTrials graphs.first vectors
+
+-- and more may be held
+pub may_go_on : (graphs : Graphs) (old now : Known) (a b : Ledgered) (first bans : List Ban) (vectors : Trials) → MayHold graphs old a first → IsSearching graphs old now a b bans vectors → MayHold graphs now b bans
+may_go_on graphs old now a b first bans vectors may is = record {
+  graphs_are = is.valid.graphs_are;
+  lawful = subst (λ (g : Graphs). AreFacts g now.facts) (sym is.valid.graphs_are) is.served.grows.lawful;
+  suits = is.served.suits;
+  valid = is.valid;
+}

@@ -34,14 +34,25 @@ use query_core::Ledger;
 use std::alloc::{AllocError, Global};
 use watch_core::Stage;
 
-/// How many rounds there are, after each of which the search starts over. They come to some six million conflicts, hours of work;
-/// that the search ends is seen of what follows alone, in which less is left after each turn.
+/// How many rounds there are with the same bans, after each of which the search starts over. They come to some six million
+/// conflicts, hours of work.
 const MOST_ROUNDS: u64 = 10_000;
+
+/// How often the search begins anew with no bans, once they take all their room, which is some seconds' work at least. That it ends is
+/// seen of what follows alone, in which the bans aren't let go, and less is left after each turn.
+const MOST_TIMES: u64 = 10_000;
+
+/// How many rounds a short search has: 1, 1, 2, 1, 1, 2 and 4 times the shortest one. After three a near miss of an encoder
+/// (`encoder64`) isn't refused; 15 in which more lines may be learned gain nothing more.
+const LITTLE_ROUNDS: u64 = 7;
 
 /// Decides ports one by one, as conflict-driven solvers decide variables, until a match is found, or a ban without pairs. What
 /// follows of bans and of ports with one way left is held and deleted; from an impasse a ban is learned that leads as far back
 /// as it can, and the outputs of whole tables are compared. What the search goes by comes from the caller, and bans may be
 /// held. Where a match is found, the claims of one input of all outputs are decided.
+///
+/// Bans that take all their room are let go, and the search begins anew. A ban without pairs rests on those of its book alone, so
+/// nothing that it needs is gone.
 ///
 /// # Errors
 ///
@@ -61,38 +72,26 @@ pub(crate) fn explore<O: Oracle>(
     ensures found { IfOk result (IsFound graphs.now book.new) }
     ensures decided { IfOk result (IsDecidedFound graphs.now (map decided_by (O.known oracle.new).facts)) }
 {
-    let mut domains = open_domains(alloc, graphs)?;
-    let mut queue = empty_queue(alloc, &domains)?;
-    for _round in 0..MOST_ROUNDS {
-        if let Some(found) = explore_round(
+    for _time in 0..MOST_TIMES {
+        if let Some(found) = explore_rounds(
             alloc,
             graphs,
             oracle,
             guide,
-            &mut domains,
-            &mut queue,
+            MOST_ROUNDS,
             book,
             ledger,
         )? {
             return Ok(found);
         }
-        start_over(&mut domains, &mut queue, book.bans());
-        guide.begin_round(domains.pairs().len());
+        let_go(alloc, book);
+        guide.begin_anew();
     }
-    explore_on(
-        alloc,
-        graphs,
-        oracle,
-        guide,
-        &mut domains,
-        &mut queue,
-        book,
-        ledger,
-    )
+    explore_whole(alloc, graphs, oracle, guide, book, ledger)
 }
 
-/// Searches for one round, in which this many lines may be learned, and answers what it came to, if it came to anything. The search
-/// goes on from nothing, with the bans that were learned.
+/// Searches for some rounds, in which this many lines may be learned, and answers what they came to, if they came to anything. The
+/// search goes on from nothing, with the bans that were learned.
 ///
 /// # Errors
 ///
@@ -114,11 +113,75 @@ pub(crate) fn explore_little<O: Oracle>(
     ensures decided { IfOk result (λ found. IfSome found
         (IsDecidedFound graphs.now (map decided_by (O.known oracle.new).facts))) }
 {
-    let mut domains = open_domains(alloc, graphs)?;
-    let mut queue = empty_queue(alloc, &domains)?;
     let end = ledger.learned().saturating_add(lines);
     guide.rounds.end_at(end);
-    let found = explore_round(
+    let found = explore_rounds(alloc, graphs, oracle, guide, LITTLE_ROUNDS, book, ledger)?;
+    guide.rounds.lift();
+    Ok(found)
+}
+
+// Searches from nothing, with the bans that are held, for this many rounds, or until the bans take all their room.
+fn explore_rounds<O: Oracle>(
+    alloc: Global,
+    graphs: &PairableGraphs<'_>,
+    oracle: &mut O,
+    guide: &mut Guide,
+    rounds: u64,
+    book: &mut BanBook,
+    ledger: &mut Ledger,
+) -> Result<Option<Found>, Stop>
+    requires may { MayHold graphs.now (O.known oracle.old) ledger.old book.old }
+    requires trials { AreTrials graphs.now.first guide.old.trials }
+    ensures holds { HoldsBans graphs.now (O.known oracle.old) (O.known oracle.new) ledger.old ledger.new book.old book.new result }
+    ensures trials { OnOk result (AreTrials graphs.now.first guide.new.trials) }
+    ensures found { IfOk result (λ found. IfSome found (IsFound graphs.now book.new)) }
+    ensures decided { IfOk result (λ found. IfSome found
+        (IsDecidedFound graphs.now (map decided_by (O.known oracle.new).facts))) }
+{
+    guide.forget(0);
+    let mut domains = open_domains(alloc, graphs)?;
+    let mut queue = empty_queue(alloc, &domains)?;
+    for _round in 0..rounds {
+        if let Some(found) = explore_round(
+            alloc,
+            graphs,
+            oracle,
+            guide,
+            &mut domains,
+            &mut queue,
+            book,
+            ledger,
+        )? {
+            return Ok(Some(found));
+        }
+        if guide.is_full() {
+            return Ok(None);
+        }
+        start_over(&mut domains, &mut queue, book.bans());
+        guide.begin_round(domains.pairs().len());
+    }
+    Ok(None)
+}
+
+// Searches from nothing, with the bans that are held, and doesn't start over.
+fn explore_whole<O: Oracle>(
+    alloc: Global,
+    graphs: &PairableGraphs<'_>,
+    oracle: &mut O,
+    guide: &mut Guide,
+    book: &mut BanBook,
+    ledger: &mut Ledger,
+) -> Result<Found, Stop>
+    requires may { MayHold graphs.now (O.known oracle.old) ledger.old book.old }
+    requires trials { AreTrials graphs.now.first guide.old.trials }
+    ensures serves { Serves (O.known oracle.old) (O.known oracle.new) ledger.old ledger.new result }
+    ensures valid { AreValid graphs.now (O.known oracle.new) book.new }
+    ensures found { IfOk result (IsFound graphs.now book.new) }
+    ensures decided { IfOk result (IsDecidedFound graphs.now (map decided_by (O.known oracle.new).facts)) }
+{
+    let mut domains = open_domains(alloc, graphs)?;
+    let mut queue = empty_queue(alloc, &domains)?;
+    explore_on(
         alloc,
         graphs,
         oracle,
@@ -127,9 +190,14 @@ pub(crate) fn explore_little<O: Oracle>(
         &mut queue,
         book,
         ledger,
-    )?;
-    guide.begin_round(0);
-    Ok(found)
+    )
+}
+
+// Lets all bans go.
+fn let_go(alloc: Global, book: &mut BanBook)
+    ensures { book.new ≡ [] }
+{
+    *book = BanBook::new(alloc);
 }
 
 // Searches until a round is over.
@@ -153,7 +221,7 @@ fn explore_round<O: Oracle>(
     ensures decided { IfOk result (λ found. IfSome found
         (IsDecidedFound graphs.now (map decided_by (O.known oracle.new).facts))) }
 {
-    while !guide.rounds.is_over(ledger.learned()) {
+    while !guide.is_round_over(ledger.learned()) {
         if let Some(found) = turn(alloc, graphs, oracle, guide, domains, queue, book, ledger)? {
             return Ok(Some(found));
         }

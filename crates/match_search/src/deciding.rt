@@ -25,16 +25,18 @@ use query_core::Ledger;
 use std::alloc::Global;
 use table_guess::{Effort, Guesser};
 
-/// Up to how many inputs times outputs counts are looked at before all guesses: two words of 32 bits that are compared have
-/// 128. An adder of 128 bits has 33,024, and asks for seconds there, though its table is guessed in one.
-const FEW_FLIPS: u64 = 256;
+/// Up to how many inputs times outputs counts are looked at, and a short search is made, before all guesses. An adder of 32 bits has
+/// 2,112. Near misses of an encoder of 64 bits and of a subtractor and an incrementer of 32 are refused in a quarter of the time that
+/// way, though one of a unit of 24 bits that adds and subtracts takes twice as long. An adder of 128 bits has 33,024, and asks for
+/// seconds there, though its table is guessed in one.
+const FEW_FLIPS: u64 = 2_304;
 
 /// How often a refusal by counts is tried before more tables are guessed: once, since vectors that err there say little, and of
 /// circuits that match each further try is lost.
 const FEW_TRIES: u32 = 1;
 
-/// How many lines may be learned in the short search before all guesses: a twentieth of a second's.
-const FEW_LINES: u64 = 2_000;
+/// How many lines may be learned in the short search before all guesses: an eighth of a second's.
+const FEW_LINES: u64 = 5_000;
 
 /// Decides whether two circuits with as many ports match. Tables that are guessed are compared first; where none of them is a
 /// match, `search` decides. Of circuits with few claims, tables of little effort come first, then a refusal by counts and a

@@ -5,6 +5,7 @@ ghost use Rattle.table_guess.specs.Trials.{AreTrials};
 
 use crate::compared::Compared;
 use crate::reads::{Reads, by_count};
+use crate::room::Room;
 use crate::rounds::Rounds;
 use crate::weights::Weights;
 use account_core::Ban;
@@ -41,6 +42,7 @@ pub(crate) struct Guide {
     pub(crate) decided: Option<Port>,
     pub(crate) urgent: Option<Port>,
     pub(crate) rounds: Rounds,
+    room: Room,
 }
 
 impl Guide {
@@ -73,6 +75,7 @@ impl Guide {
             decided: None,
             urgent: None,
             rounds: Rounds::new(),
+            room: Room::new(),
         })
     }
 
@@ -90,6 +93,29 @@ impl Guide {
     {
         self.forget(held);
         self.rounds.advance();
+    }
+
+    /// Notes that the search begins anew, with no bans: no pair is held, and of no output tallies are. What was learned of the
+    /// ports, as their weights, stays.
+    pub(crate) fn begin_anew(&mut self)
+        ensures { self.new.trials ≡ self.old.trials }
+    {
+        self.room = Room::new();
+        self.tallied = 0;
+        self.decided = None;
+        self.urgent = None;
+        self.begin_round(0);
+    }
+
+    /// Whether the round has had what it may have, as many lines are learned in the run as may be, or the bans take all their
+    /// room.
+    pub(crate) fn is_round_over(&self, learned: u64) -> bool {
+        self.rounds.is_over(learned) | self.is_full()
+    }
+
+    /// Whether the bans take all their room.
+    pub(crate) fn is_full(&self) -> bool {
+        self.room.is_full()
     }
 
     /// Notes an impasse. Where outputs have too few others to go to, the port that was decided last comes first until it has a
@@ -111,6 +137,7 @@ impl Guide {
         ensures { self.new.trials ≡ self.old.trials }
     {
         self.rounds.count();
+        self.room.count(bans);
         if from < bans.len() {
             self.weights.count(&bans[from..]);
         } else if let Some(learned) = ban_at(bans, dead) {

@@ -15,6 +15,7 @@ mod guessed;
 mod guide;
 mod next_port;
 mod reads;
+mod room;
 mod rounds;
 mod searching;
 mod table;

@@ -26,7 +26,7 @@ pub(crate) struct Rounds {
     is_other: bool,
     /// How many conflicts there were in the round.
     conflicts: u64,
-    /// How many lines may be learned in the run before the round ends.
+    /// How many lines may be learned in the run before rounds end.
     lines: u64,
 }
 
@@ -42,9 +42,14 @@ impl Rounds {
         }
     }
 
-    /// Has the round end once this many lines are learned in the run.
+    /// Has this round and the next ones end once this many lines are learned in the run, until `lift`.
     pub(crate) fn end_at(&mut self, lines: u64) {
         self.lines = lines;
+    }
+
+    /// Lines may be learned without a bound.
+    pub(crate) fn lift(&mut self) {
+        self.lines = u64::MAX;
     }
 
     /// Counts a conflict.
@@ -57,10 +62,9 @@ impl Rounds {
         (self.conflicts >= self.length.saturating_mul(SHORTEST)) | (learned >= self.lines)
     }
 
-    /// The next round begins, in which lines may be learned without a bound.
+    /// The next round begins.
     pub(crate) fn advance(&mut self) {
         self.conflicts = 0;
-        self.lines = u64::MAX;
         self.is_other = !self.is_other;
         if self.turn.trailing_zeros() == self.length.trailing_zeros() {
             self.turn = self.turn.saturating_add(1);

@@ -28,9 +28,10 @@ const LARGE: u64 = 60_000;
 /// Cones are small that have at most one of this many clauses.
 const PART: u64 = 8;
 
-/// How many lines questions may get as lemmas in a run. The ledger keeps those of each question, 250 bytes for a line or so. A
-/// sorter of 64 numbers gets 400,000; of a code of 57 bits that is corrected a run would take gigabytes.
-const MOST_GIVEN: u64 = 1 << 21;
+/// How many lines questions may get as lemmas in a run. Each is copied for its question, 250 bytes or so, which are free again once
+/// that is answered: all of them take some seconds. A sorter of 64 numbers gets 400,000, a code of 57 bits that is corrected
+/// millions.
+const MOST_GIVEN: u64 = 1 << 23;
 
 /// What questions about two circuits have learned, for later ones under the same feeds: as those about the outputs of one
 /// matching. Contracts see it as the circuits.

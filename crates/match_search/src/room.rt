@@ -1,0 +1,62 @@
+//! How much memory the bans of a search take.
+
+use account_core::{Ban, Step};
+
+/// How many bytes the bans may take. With the facts and what isn't counted a search took less than a gigabyte then, where it was
+/// measured.
+const MOST: u64 = 600_000_000;
+
+/// What a ban takes, with few pairs and its places in the index. Bans of wide circuits have more pairs, and those by vectors a byte
+/// for each input beside. A tally's lists aren't counted: `MOST_ASKED` bounds those of all pairs of outputs.
+const BAN: u64 = 250;
+
+/// What a reference of a cover takes. A cover of 128 ports and as many others has 32,768 of them.
+const REFERENCE: u64 = 16;
+
+/// How much memory the bans of a search take, some of a book's, which come one after the other.
+#[derive(Debug, Drop)]
+pub(crate) struct Room {
+    /// How many bytes, about.
+    taken: u64,
+    /// How many of the book's bans were counted.
+    counted: usize,
+}
+
+impl Room {
+    /// That of no bans.
+    pub(crate) fn new() -> Room {
+        Room {
+            taken: 0,
+            counted: 0,
+        }
+    }
+
+    /// Counts those of a book's bans that weren't counted.
+    pub(crate) fn count(&mut self, bans: &[Ban]) {
+        if self.counted < bans.len() {
+            self.add(&bans[self.counted..]);
+        }
+        self.counted = bans.len();
+    }
+
+    /// Whether the bans take all that they may.
+    pub(crate) fn is_full(&self) -> bool {
+        self.taken >= MOST
+    }
+
+    fn add(&mut self, bans: &[Ban]) {
+        for ban in bans.iter() {
+            self.taken = self.taken.saturating_add(bytes_of(&ban.step));
+        }
+    }
+}
+
+// What a ban of this step takes.
+fn bytes_of(step: &Step) -> u64 {
+    let Step::Cover { refs, .. } = step else {
+        return BAN;
+    };
+    REFERENCE
+        .saturating_mul(refs.len() as u64)
+        .saturating_add(BAN)
+}
