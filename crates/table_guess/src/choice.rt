@@ -18,6 +18,9 @@ struct Rank {
     size: usize,
 }
 
+/// A literal by its likeness.
+type RankedLiteral = ((u64, Reverse<usize>), usize);
+
 /// What is to be done with a state.
 #[derive(Drop)]
 pub(crate) enum Next {
@@ -206,10 +209,10 @@ fn most_alike(
 }
 
 fn likelier(
-    best: Option<((u64, Reverse<usize>), usize)>,
+    best: Option<RankedLiteral>,
     most: (u64, Reverse<usize>),
     literal: usize,
-) -> Option<((u64, Reverse<usize>), usize)> {
+) -> Option<RankedLiteral> {
     match best {
         Some((likeness, _)) if likeness >= most => best,
         _ => Some((most, literal)),
@@ -223,19 +226,34 @@ fn candidates_of(
     literal: usize,
     likeness: &Likeness,
 ) -> Result<Vec<usize>, AllocError> {
-    let cell = inputs.of(Side::First).get(literal);
     let mut ranked = Vec::new(alloc);
+    add_ranked(inputs, literal, likeness, &mut ranked)?;
+    ranked.sort_unstable();
+    literals_of(alloc, &ranked)
+}
+
+// Adds the literals that one may correspond to, each by how alike it is.
+fn add_ranked(
+    inputs: &Cells,
+    literal: usize,
+    likeness: &Likeness,
+    ranked: &mut Vec<RankedLiteral>,
+) -> Result<(), AllocError> {
+    let cell = inputs.of(Side::First).get(literal);
     for (other, its) in inputs.of(Side::Second).iter().enumerate() {
         if Some(its) == cell {
             ranked.push((likeness.of(literal / 2, other / 2), other))?;
         }
     }
-    ranked.sort_unstable();
-    let mut candidates = Vec::with_capacity(alloc, ranked.len())?;
-    for (_, other) in ranked.iter() {
-        candidates.push(*other)?;
+    Ok(())
+}
+
+fn literals_of(alloc: Global, ranked: &[RankedLiteral]) -> Result<Vec<usize>, AllocError> {
+    let mut literals = Vec::with_capacity(alloc, ranked.len())?;
+    for (_, literal) in ranked.iter() {
+        literals.push(*literal)?;
     }
-    Ok(candidates)
+    Ok(literals)
 }
 
 fn best_cell(

@@ -6,12 +6,22 @@ use port_cells::Cells;
 use std::alloc::{AllocError, Global};
 
 /// A literal of an input of the first circuit, and the literals of the second circuit that it is still to be tried with.
-#[derive(Drop)]
 pub(crate) struct ChoicePoint {
     pub(crate) state: State,
     pub(crate) literal: usize,
     /// The last one is tried next.
     pub(crate) candidates: Vec<usize>,
+}
+
+// By hand, and so one call wherever a value ends: a derived drop is expanded there, field by field, and makes proofs long.
+impl Drop for ChoicePoint {
+    fn drop(self) {
+        let ChoicePoint {
+            state: _state,
+            literal: _literal,
+            candidates: _candidates,
+        } = self;
+    }
 }
 
 impl ChoicePoint {

@@ -51,7 +51,6 @@ impl Sample {
 }
 
 /// A circuit, and what was counted of it.
-#[derive(Drop)]
 pub(crate) struct Circuit<'a> {
     pub(crate) simulator: FlipSim<'a>,
     pub(crate) counts: Counts,
@@ -59,6 +58,18 @@ pub(crate) struct Circuit<'a> {
     pub(crate) signs: Counts,
     /// Whether drawn vectors leave some inputs faint. Only then are there such vectors.
     pub(crate) is_faint: bool,
+}
+
+// By hand, and so one call wherever a value ends: a derived drop is expanded there, field by field, and makes proofs long.
+impl Drop for Circuit<'_> {
+    fn drop(self) {
+        let Circuit {
+            simulator: _simulator,
+            counts: _counts,
+            signs: _signs,
+            is_faint: _is_faint,
+        } = self;
+    }
 }
 
 /// Blocks of 256 vectors, a column for each input.

@@ -19,7 +19,7 @@ use cell_splits::{
 use flip_sim::{FlipSim, Lanes};
 use items::Items;
 use net_core::{Graph, Matching, Side};
-use port_cells::Slack;
+use port_cells::{Cells, Slack};
 use port_sides::PairableGraphs;
 use std::alloc::{AllocError, Global};
 
@@ -120,7 +120,6 @@ enum Attempt {
 
 /// What finds tables that may be a match, by counts of how outputs change with inputs and by vectors. It leaves no
 /// evidence, and where it finds nothing that says nothing of whether there is a match.
-#[derive(Drop)]
 pub struct Guesser<'a> {
     first: Circuit<'a>,
     second: Circuit<'a>,
@@ -146,6 +145,31 @@ pub struct Guesser<'a> {
     few_words: u64,
     most_words: u64,
     effort: Effort,
+}
+
+// By hand, and so one call wherever a value ends: a derived drop is expanded there, field by field, and makes proofs long.
+impl Drop for Guesser<'_> {
+    fn drop(self) {
+        let Guesser {
+            first: _first,
+            second: _second,
+            first_rare: _first_rare,
+            second_rare: _second_rare,
+            sample: _sample,
+            draws: _draws,
+            kept: _kept,
+            climbed: _climbed,
+            round: _round,
+            responses: _responses,
+            are_signs_linked: _are_signs_linked,
+            in_vain: _in_vain,
+            is_exact: _is_exact,
+            counted: _counted,
+            few_words: _few_words,
+            most_words: _most_words,
+            effort: _effort,
+        } = self;
+    }
 }
 
 impl<'a> Guesser<'a> {
@@ -273,18 +297,24 @@ impl<'a> Guesser<'a> {
         let Some(root) = self.refined(alloc, root)? else {
             return Ok(None);
         };
+        let mut states = self.anchored(alloc, &root)?;
+        self.search_last(alloc, &mut states)
+    }
+
+    // States in which vectors decide the open signs, where many are open.
+    fn anchored(&mut self, alloc: Global, root: &State) -> Result<Vec<State>, AllocError> {
         if open_in(&root.inputs) <= FEW_OPEN {
-            return Ok(None);
+            return Ok(Vec::new(alloc));
         }
         // a vector also parts inputs that may all go to each other: those with one bit on it from those with the other one
         self.are_signs_linked = has_one_open_cell(&root.inputs)
             && self.are_linked(alloc, root.copy()?)?;
         if self.are_signs_linked {
-            return Ok(None);
+            return Ok(Vec::new(alloc));
         }
-        let mut states = anchored(
+        anchored(
             alloc,
-            &root,
+            root,
             Starts {
                 first: &self.first_rare,
                 second: &self.second_rare,
@@ -292,7 +322,15 @@ impl<'a> Guesser<'a> {
             &mut self.first.simulator,
             &mut self.second.simulator,
             &mut self.draws,
-        )?;
+        )
+    }
+
+    // Searches from the last of these states on.
+    fn search_last(
+        &mut self,
+        alloc: Global,
+        states: &mut Vec<State>,
+    ) -> Result<Option<State>, AllocError> {
         while let Some(state) = states.pop() {
             if let Attempt::Paired(state) = self.search(alloc, state, ANCHOR_FAILURES)? {
                 return Ok(Some(state));
@@ -323,9 +361,20 @@ impl<'a> Guesser<'a> {
     fn search(&mut self, alloc: Global, root: State, failures: u32) -> Result<Attempt, AllocError> {
         let mut points = Vec::new(alloc);
         let mut patience = Patience::of_round(self.round, failures);
-        let mut visit = self.visit(alloc, root)?;
+        self.search_from(alloc, root, &mut points, &mut patience)
+    }
+
+    // Searches from a state and then from choice points, the last one first.
+    fn search_from(
+        &mut self,
+        alloc: Global,
+        root: State,
+        points: &mut Vec<ChoicePoint>,
+        patience: &mut Patience,
+    ) -> Result<Attempt, AllocError> {
+        let mut state = root;
         for _ in 0..MOST_STATES {
-            match visit {
+            match self.visit(alloc, state)? {
                 Visit::Paired(state) => return Ok(Attempt::Paired(state)),
                 Visit::Guess(point) => points.push(point)?,
                 Visit::Fails => patience.fail(),
@@ -334,11 +383,11 @@ impl<'a> Guesser<'a> {
                 return Ok(Attempt::Stopped);
             }
             let before = points.len();
-            let Some(state) = next_state(alloc, &mut points)? else {
+            let Some(next) = next_state(alloc, points)? else {
                 return Ok(Attempt::Exhausted);
             };
             patience.leave(before.saturating_sub(points.len()));
-            visit = self.visit(alloc, state)?;
+            state = next;
         }
         Ok(Attempt::Stopped)
     }
@@ -575,17 +624,30 @@ impl<'a> Guesser<'a> {
         alloc: Global,
         state: State,
     ) -> Result<Option<State>, AllocError> {
+        let (inputs, outputs) = self.cells_by_vectors(alloc, &state)?;
+        match state.with_inputs(inputs) {
+            Some(state) => Ok(state.with_outputs(outputs)),
+            None => Ok(None),
+        }
+    }
+
+    // The cells of inputs, and those of outputs, split by drawn vectors; None where that can't be.
+    fn cells_by_vectors(
+        &mut self,
+        alloc: Global,
+        state: &State,
+    ) -> Result<(Option<Cells>, Option<Cells>), AllocError> {
         let patterns = Patterns::draw(alloc, &state.inputs, &mut self.draws)?;
         let first = Keys::new(
             alloc,
-            &state,
+            state,
             Side::First,
             &patterns,
             &mut self.first.simulator,
         )?;
         let second = Keys::new(
             alloc,
-            &state,
+            state,
             Side::Second,
             &patterns,
             &mut self.second.simulator,
@@ -594,10 +656,7 @@ impl<'a> Guesser<'a> {
         let outputs = state
             .outputs
             .refine(alloc, &first.outputs, &second.outputs)?;
-        match state.with_inputs(inputs) {
-            Some(state) => Ok(state.with_outputs(outputs)),
-            None => Ok(None),
-        }
+        Ok((inputs, outputs))
     }
 
     // Splits cells by what was counted at first.
@@ -653,13 +712,11 @@ fn with_paired_idle(
 ) -> Result<State, AllocError> {
     let left = idle_keys(alloc, first, sample)?;
     let right = idle_keys(alloc, second, sample)?;
-    match state.inputs.refine(alloc, &left, &right)? {
-        Some(inputs) => Ok(State {
-            inputs,
-            outputs: state.outputs,
-        }),
-        None => Ok(state),
+    let mut state = state;
+    if let Some(inputs) = state.inputs.refine(alloc, &left, &right)? {
+        state.inputs = inputs;
     }
+    Ok(state)
 }
 
 // Keys of their own for the literals of each input that changes no output.

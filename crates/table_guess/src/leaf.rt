@@ -94,10 +94,19 @@ fn lanes_of_block(alloc: Global, inputs: u32, block: u64) -> Result<Vec<Lanes>, 
 }
 
 // Hashes of the bits of the outputs' literals.
-#[derive(Drop)]
 struct Hashes {
     first: Vec<u64>,
     second: Vec<u64>,
+}
+
+// By hand, and so one call wherever a value ends: a derived drop is expanded there, field by field, and makes proofs long.
+impl Drop for Hashes {
+    fn drop(self) {
+        let Hashes {
+            first: _first,
+            second: _second,
+        } = self;
+    }
 }
 
 impl Hashes {

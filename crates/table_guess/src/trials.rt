@@ -20,7 +20,7 @@ const BLOCK: usize = 8;
 
 /// Vectors of the first circuit's inputs, 64 in a word, and what its outputs have on them: all vectors of at most eleven
 /// inputs, else 2,048 that are drawn, which make room for those on which whole tables failed.
-#[derive(Debug, Drop)]
+#[derive(Debug)]
 pub struct Trials {
     /// A column for each input.
     pub inputs: Words,
@@ -28,6 +28,17 @@ pub struct Trials {
     pub outputs: Words,
     /// Which vector of the first word makes room next, up to a multiple of 64.
     pub next: u32,
+}
+
+// By hand, and so one call wherever a value ends: a derived drop is expanded there, field by field, and makes proofs long.
+impl Drop for Trials {
+    fn drop(self) {
+        let Trials {
+            inputs: _inputs,
+            outputs: _outputs,
+            next: _next,
+        } = self;
+    }
 }
 
 /// An output's pair, and a vector of the first circuit's inputs on which the partner is said to be wrong.
