@@ -54,7 +54,6 @@ pub(crate) enum Stage<'a> {
 
 /// Takes an account of two circuits record by record: the header; facts, each that holds with its log, and bans; a conclusion,
 /// which for a match has two logs for each of its outputs; the end.
-#[derive(Drop)]
 pub struct Checker<'a> {
     graphs: &'a Graphs<'a>,
     given: Given,
@@ -77,6 +76,17 @@ impl<'a> Model for Checker<'a> {
     } };
 
     ghost invariant = { λ a. IsStage a.graphs.now a.stage };
+}
+
+// By hand, and so one call wherever a value ends: a derived drop is expanded there, field by field, and makes proofs long.
+impl Drop for Checker<'_> {
+    fn drop(self) {
+        let Checker {
+            graphs: _graphs,
+            given: _given,
+            stage: _stage,
+        } = self;
+    }
 }
 
 impl<'a> Checker<'a> {

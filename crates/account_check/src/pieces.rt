@@ -21,7 +21,6 @@ use std::marker::Model;
 
 /// The check of an account of two circuits, whose bytes come in pieces, cut anywhere. Each record is taken as soon as its line
 /// is whole, and then let go: of the account's bytes only those of a line that isn't whole are kept.
-#[derive(Drop)]
 pub struct AccountCheck<'a> {
     reader: Reader,
     checker: Checker<'a>,
@@ -33,6 +32,16 @@ impl<'a> Model for AccountCheck<'a> {
     ghost Value = { Progress };
 
     ghost view = { λ a. record { reading = a.reader; account = a.checker } };
+}
+
+// By hand, and so one call wherever a value ends: a derived drop is expanded there, field by field, and makes proofs long.
+impl Drop for AccountCheck<'_> {
+    fn drop(self) {
+        let AccountCheck {
+            reader: _reader,
+            checker: _checker,
+        } = self;
+    }
 }
 
 impl<'a> AccountCheck<'a> {
