@@ -12,6 +12,7 @@ use crate::vector::vector_of;
 use cnf_core::{LogLine, Stop};
 use learn_solver::{Finding, Guide, Solver, solve_guided};
 use net_core::Graphs;
+use number_marks::Marks;
 use query_core::{ConeClauses, Ledger, Query, QueryBase};
 use std::alloc::Global;
 
@@ -68,6 +69,7 @@ fn search<G: Guide>(
     let mut solver = Solver::new(alloc, &base, cones.ids(), lemmas)?;
     match solve_guided(alloc, &mut solver, guide, ledger)? {
         Finding::Model(values) => {
+            let values = Marks::from_table(values.into_vec());
             let vector = vector_of(alloc, graphs, query, &values)?;
             Ok(Answer::Vector(vector))
         }

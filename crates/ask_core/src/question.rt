@@ -9,10 +9,9 @@ ghost use Rattle.ask_core.specs.Answers.{IsAnswer, IsAskedIn, IsBounded, IsBound
 
 use crate::vector::vector_of;
 use cnf_core::{Log, LogLine, Stop};
-use dense_solver::{Tab, solve_dense};
+use dense_solver::{DenseVerdict, Tab, solve_dense};
 use items::Items;
 use joint_hash::merge;
-use learn_solver::Verdict;
 use net_core::Graphs;
 use query_core::{ConeClauses, Ledger, Query};
 use std::alloc::Global;
@@ -104,10 +103,10 @@ fn ask_cones<W: Watch>(
     ledger.open(alloc, query, lemmas)?;
     let tab = Tab::new(alloc, ledger.budget(), ledger.learned(), watch);
     match solve_dense(alloc, cones, lemmas, tab, ledger)? {
-        Verdict::Model(values) => {
+        DenseVerdict::Model(values) => {
             let vector = vector_of(alloc, graphs, query, &values)?;
             Ok(Answer::Vector(vector))
         }
-        Verdict::Refuted(log) => Ok(Answer::Refuted(log)),
+        DenseVerdict::Refuted(log) => Ok(Answer::Refuted(log)),
     }
 }

@@ -8,6 +8,7 @@ ghost use Rattle.ask_core.specs.Answers.{IsVector};
 
 use items::Items;
 use net_core::Graphs;
+use number_marks::Marks;
 use query_core::Query;
 use std::alloc::{AllocError, Global};
 
@@ -16,7 +17,7 @@ pub(crate) fn vector_of(
     alloc: Global,
     graphs: &Graphs<'_>,
     query: &Query,
-    values: &[bool],
+    values: &Marks,
 ) -> Result<Items<bool>, AllocError>
     requires fits { IsQuery graphs.now query.now }
     requires variables { length values.now ≡ (formula_of graphs.now query.now).variables }
@@ -28,7 +29,7 @@ pub(crate) fn vector_of(
     let inputs = query.left.feed.len();
     let mut vector = Items::new(alloc);
     for input in 0..inputs {
-        vector.push(values[1 + input])?;
+        vector.push(values.has(1 + input))?;
     }
     Ok(vector)
 }

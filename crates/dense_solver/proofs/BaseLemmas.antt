@@ -1,5 +1,5 @@
 -- Clauses that are collected, their variables that are listed, and the places of these.
-use Rattle.std.proofs.Common.{◌≡◌, ℕ, ◌+◌, ◌-◌, ◌<◌, ◌≤◌, ◌^◌, ◌||◌, not, eqb, Bool, true, false, List, [], ◌∷◌, ◌++◌, length, map, take, replicate, All, Contains, slice_index_or, slice_set, inl, inr, refl, sym, ◌∙◌, ap, subst, arith}
+use Rattle.std.proofs.Common.{◌≡◌, ◌≢◌, if◌then◌else◌, ℕ, ◌+◌, ◌-◌, ◌<◌, ◌≤◌, ◌^◌, ◌||◌, not, eqb, Bool, true, false, List, [], ◌∷◌, ◌++◌, length, map, take, replicate, All, Contains, slice_index_or, slice_set, inl, inr, refl, sym, ◌∙◌, ap, subst, arith}
 use Rattle.std.specs.List.{IsDistinct, list_any, range_with_len}
 use Rattle.std.specs.List.Sorted.{IsPermutation}
 use Rattle.std.proofs.lemmas.Bool.{cases_eq, cases_lt, eq-eqb, false≢true}
@@ -18,6 +18,7 @@ use Rattle.cnf_core.specs.Clauses.{Formula, clause_at, is_negated, literal_of, l
 use Rattle.cnf_core.specs.Derivations.{clauses_of}
 use Rattle.watch_lists.specs.Propagations.{AreKnown}
 use Rattle.dense_solver.specs.Renamings.{AreListed, AreMarks, AreNames, AreOver, ArePlaces, AreTurned, IsNamed, IsOver, IsRenaming, numbers_of, renamed}
+use Rattle.number_marks.proofs.MarkLemmas.{marked_where}
 use Rattle.cnf_core.proofs.LiteralLemmas.{itself, variable_of-literal}
 use Rattle.dense_solver.proofs.LineLemmas.{is_negated-literal}
 
@@ -27,10 +28,11 @@ pub record IsPlacing (variables : ℕ) (names places : List ℕ) (count : ℕ) :
   pub few : All (λ place. place < 2 ^ 63) places
   pub each : (k : ℕ) → k < count → slice_index_or places (slice_index_or names k 0) 0 ≡ k
 
--- the first names have their bits
+-- the first names have their bits, and all else is false
 pub record IsSpreading (variables : ℕ) (names : List ℕ) (values full : List Bool) (count : ℕ) : Type 0 where
   pub size : length full ≡ variables
   pub each : (k : ℕ) → k < count → bit full (slice_index_or names k 0) ≡ bit values k
+  pub rest : (v : ℕ) → ((k : ℕ) → k < count → v ≢ slice_index_or names k 0) → bit full v ≡ false
 
 -- The variables of a clause's first literals are listed.
 pub record IsListing (variables : ℕ) (old names : List ℕ) (marked : List Bool) (clause : List SatLit) (count : ℕ) : Type 0 where
@@ -179,13 +181,20 @@ clauses_listing_more n names new marked now clauses i clause d is within clause_
   ];
 }
 
+unmarked : (n v : ℕ) → bit (replicate n false) v ≡ false
+unmarked n v =
+    elim (cases_lt v n) [
+      | inl early ↦ get_or-replicate n v false false early
+      | inr late ↦ get_or_past (replicate n false) v false (omega (arith, late, length-replicate n false))
+    ]
+
 -- nothing is listed at first
 pub no_marks : (n : ℕ) → AreMarks n [] (replicate n false)
 unfolding IsDistinct
 no_marks n = record {
   size = length-replicate n false;
   listed = record { known = λ k d below. absurd (omega (arith, below)); few = λ k d below. absurd (omega (arith, below)); distinct = tt };
-  marks = λ v at. absurd (false≢true (sym (elim (cases_lt v n) [ inl early ↦ get_or-replicate n v false false early | inr late ↦ get_or_past (replicate n false) v false (omega (arith, late, length-replicate n false)) ]) ∙ at));
+  marks = λ v at. absurd (false≢true (sym (unmarked n v) ∙ at));
   marked_are = λ k d below. absurd (omega (arith, below));
 }
 
@@ -282,17 +291,27 @@ whole_made n wanted names told dense over turned =
     ∙ (ap (map (renamed names)) (get_or-map literals_of dense k none [] (omega (arith, low, turned.size)))
     ∙ (turned.back k none none low ∙ sym (get_or-map literals_of told k none [] low)))))
 
+-- no name has a bit at first
+pub spreading_none : (variables : ℕ) (names : List ℕ) (values full : List Bool) → full ≡ replicate variables false → IsSpreading variables names values full 0
+spreading_none variables names values full is = subst (λ bs. IsSpreading variables names values bs 0) (sym is) (record {
+  size = length-replicate variables false;
+  each = λ k below. absurd (omega (arith, below));
+  rest = λ v apart. unmarked variables v;
+})
+
 -- one bit more
-pub spreading_more : (variables : ℕ) (names : List ℕ) (values full new : List Bool) (i v : ℕ) (b : Bool) → AreNames variables names → IsSpreading variables names values full i → i < length names → v ≡ slice_index_or names i v → b ≡ bit values i → new ≡ slice_set full v b → IsSpreading variables names values new (i + 1)
+pub spreading_more : (variables : ℕ) (names : List ℕ) (values full new : List Bool) (i v : ℕ) (b : Bool) → AreNames variables names → IsSpreading variables names values full i → i < length names → v ≡ slice_index_or names i v → b ≡ bit values i → new ≡ (if b then slice_set full v true else full) → IsSpreading variables names values new (i + 1)
 spreading_more variables names values full new i v b are is within v_is b_is new_is =
     let v_at : v ≡ slice_index_or names i 0 = v_is ∙ get_or_default names i v 0 within in
     let low : v < length full = omega (arith, v_at, are.known i 0 within, is.size) in
-    subst (λ bs. IsSpreading variables names values bs (i + 1)) (sym new_is) (record {
+    let others : (k : ℕ) → k < i → slice_index_or names k 0 ≢ v = λ k before e. omega (arith, are.apart k i (omega (arith, before, within)) within (e ∙ v_at), before) in
+    subst (λ bs. IsSpreading variables names values bs (i + 1)) (sym (new_is ∙ marked_where full v b (is.rest v (λ k before e. others k before (sym e))))) (record {
       size = length-set full v b ∙ is.size;
       each = λ k below. elim (cases_lt k i) [
-        | inl before ↦ get_or-set_other full v (slice_index_or names k 0) b false (λ e. omega (arith, are.apart k i (omega (arith, before, within)) within (e ∙ v_at), before)) ∙ is.each k before
+        | inl before ↦ get_or-set_other full v (slice_index_or names k 0) b false (others k before) ∙ is.each k before
         | inr late ↦
             let last : k ≡ i = omega (arith, late, below) in
             ap (bit (slice_set full v b)) (ap (λ j. slice_index_or names j 0) last ∙ sym v_at) ∙ (get_or-set_same full v b false low ∙ (b_is ∙ ap (bit values) (sym last)))
       ];
+      rest = λ u apart. get_or-set_other full v u b false (λ e. apart i (omega arith) (e ∙ v_at)) ∙ is.rest u (λ k before. apart k (omega (arith, before)));
     })

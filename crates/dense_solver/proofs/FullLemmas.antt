@@ -14,15 +14,15 @@ use Rattle.cnf_core.specs.Charges.{Charging}
 use Rattle.cnf_core.specs.Derivations.{AreDerived, clauses_of, is_empty, line_fault}
 use Rattle.watch_lists.specs.Propagations.{AreKnown}
 use Rattle.learn_solver.specs.Analyses.{has_all}
-use Rattle.learn_solver.specs.Solvers.{IsAdded, IsAsking, IsExtended, IsStopped, IsVerdict, active}
-use Rattle.learn_solver.specs.declared.verdict.Verdict.{Verdict}
-use Rattle.learn_solver.specs.declared.verdict.Verdict.TheVariants.{Model as Full, Refuted as Logged}
+use Rattle.learn_solver.specs.Solvers.{IsAdded, IsAsking, IsExtended, IsStopped, active}
+use Rattle.dense_solver.specs.declared.verdict.DenseVerdict.{DenseVerdict}
+use Rattle.dense_solver.specs.declared.verdict.DenseVerdict.TheVariants.{Model as Full, Refuted as Logged}
 use Rattle.learn_solver.specs.declared.verdict.Finding.{Finding}
 use Rattle.learn_solver.specs.declared.verdict.Finding.TheVariants.{Model, Refuted}
 use Rattle.learn_solver.proofs.AdvanceLemmas.{derived_after}
 use Rattle.learn_solver.proofs.SolverLemmas.{line_known, line_says, steps_there}
 use Rattle.dense_solver.specs.Renamings.{AreShort, IsRenaming, IsSpread, renamed, translated}
-use Rattle.dense_solver.specs.Solved.{AreCharged, AreLearned, AreRefused, IsFound, IsSettled, IsTold, IsUnsettled, start_of, with_lines_of}
+use Rattle.dense_solver.specs.Solved.{AreCharged, AreLearned, AreRefused, IsDenseVerdict, IsFound, IsSettled, IsTold, IsUnsettled, start_of, with_lines_of}
 use Rattle.dense_solver.proofs.RenameLemmas.{has_all_renamed, met_renamed}
 use Rattle.cnf_core.proofs.LiteralLemmas.{variable_of-literal}
 use Rattle.dense_solver.proofs.LineLemmas.{clauses_after, empties_renamed, is_negated-literal, line_translated, names_rename}
@@ -152,7 +152,7 @@ module _ (small : Formula) (names numbers : List ℕ) (full : Formula) (ids : Li
       twice true = refl
       twice false = refl
 
-  verdict_of : {O : Type 0} (lines : List LogLine) (before after : Charging O) (own : Finding) (answer : Verdict) → AreLearned small lines → before.lines ≡ lemmas → AreCharged before (map t lines) after → IsFound small lines own → IsTold names full.variables (lemmas ++ map t lines) own answer → IsVerdict (with_lines_of (start_of full ids lemmas) after) answer
+  verdict_of : {O : Type 0} (lines : List LogLine) (before after : Charging O) (own : Finding) (answer : DenseVerdict) → AreLearned small lines → before.lines ≡ lemmas → AreCharged before (map t lines) after → IsFound small lines own → IsTold names full.variables (lemmas ++ map t lines) own answer → IsDenseVerdict (with_lines_of (start_of full ids lemmas) after) answer
   verdict_of {O} lines before after (Model values) (Full bits) learned first charged found told =
       let r = renamed names in
       let all : All (λ c. is_met bits c ≡ true) (map (map r) small.clauses) = All-map (λ c. is_met bits c ≡ true) (map r) small.clauses (λ k d below. met_renamed (length names) r values bits (bit_spread values bits told) (slice_index_or small.clauses k d) (is.renaming.known k d below) ∙ found.1 k d below) in
@@ -176,11 +176,11 @@ module _ (small : Formula) (names numbers : List ℕ) (full : Formula) (ids : Li
   verdict_of {O} lines before after (Model values) (Logged whole) learned first charged found told = absurd told
   verdict_of {O} lines before after Refuted (Full bits) learned first charged found told = absurd told
 
-  pub dense_verdict : {O : Type 0} (before after : Charging O) (r : Result Verdict Stop) → before.lines ≡ lemmas → IfOk r (IsSettled small names numbers full lemmas before after) → IfOk r (IsVerdict (with_lines_of (start_of full ids lemmas) after))
+  pub dense_verdict : {O : Type 0} (before after : Charging O) (r : Result DenseVerdict Stop) → before.lines ≡ lemmas → IfOk r (IsSettled small names numbers full lemmas before after) → IfOk r (IsDenseVerdict (with_lines_of (start_of full ids lemmas) after))
   dense_verdict {O} before after (Ok answer) first s = verdict_of s.lines before after s.own answer s.learned first s.charged s.found s.told
   dense_verdict {O} before after (Err stop) first s = tt
 
-  pub dense_extended : {O : Type 0} (before after : Charging O) (r : Result Verdict Stop) → before.lines ≡ lemmas → IfOk r (IsSettled small names numbers full lemmas before after) → IfOk r (λ _. IsExtended (start_of full ids lemmas) (with_lines_of (start_of full ids lemmas) after) before after)
+  pub dense_extended : {O : Type 0} (before after : Charging O) (r : Result DenseVerdict Stop) → before.lines ≡ lemmas → IfOk r (IsSettled small names numbers full lemmas before after) → IfOk r (λ _. IsExtended (start_of full ids lemmas) (with_lines_of (start_of full ids lemmas) after) before after)
   dense_extended {O} before after (Ok answer) first s = charged_extended s.lines before after s.learned first s.charged
   dense_extended {O} before after (Err stop) first s = tt
 
@@ -200,11 +200,11 @@ module _ (small : Formula) (names numbers : List ℕ) (full : Formula) (ids : Li
         used = ap (λ (x : Charging O). x.made) c ∙ omega (arith, over.spent);
       }
 
-  pub dense_stopped : {O : Type 0} (before after : Charging O) (r : Result Verdict Stop) → before.lines ≡ lemmas → IfErr r (IsUnsettled small names numbers full lemmas before after) → IfErr r (IsStopped (start_of full ids lemmas) (with_lines_of (start_of full ids lemmas) after) before after)
+  pub dense_stopped : {O : Type 0} (before after : Charging O) (r : Result DenseVerdict Stop) → before.lines ≡ lemmas → IfErr r (IsUnsettled small names numbers full lemmas before after) → IfErr r (IsStopped (start_of full ids lemmas) (with_lines_of (start_of full ids lemmas) after) before after)
   dense_stopped {O} before after (Ok answer) first cut = tt
   dense_stopped {O} before after (Err stop) first cut = stopped_by before after stop first cut
 
-pub dense_asking : {O : Type 0} (small : Formula) (names numbers : List ℕ) (full : Formula) (lemmas : List LogLine) (before after : Charging O) (r : Result Verdict Stop) → before.opened ≡ true → before.spent ≡ false → IfOk r (IsSettled small names numbers full lemmas before after) → IfOk r (λ _. IsAsking after after.lines)
+pub dense_asking : {O : Type 0} (small : Formula) (names numbers : List ℕ) (full : Formula) (lemmas : List LogLine) (before after : Charging O) (r : Result DenseVerdict Stop) → before.opened ≡ true → before.spent ≡ false → IfOk r (IsSettled small names numbers full lemmas before after) → IfOk r (λ _. IsAsking after after.lines)
 dense_asking {O} small names numbers full lemmas before after (Ok answer) opened fresh s = record {
   opened = ap (λ (x : Charging O). x.opened) s.charged.charged ∙ opened;
   lines_are = refl;

@@ -8,11 +8,11 @@ use Rattle.cnf_core.specs.Clauses.{Formula, Meets}
 use Rattle.cnf_core.specs.Charges.{Charging}
 use Rattle.cnf_core.specs.Derivations.{AreDerived, clauses_of, is_empty}
 use Rattle.learn_solver.specs.Analyses.{has_all}
-use Rattle.learn_solver.specs.Solvers.{Solving}
+use Rattle.learn_solver.specs.Solvers.{IsModel, IsRefuted, Solving}
 use Rattle.learn_solver.specs.declared.verdict.Finding.{Finding}
 use Rattle.learn_solver.specs.declared.verdict.Finding.TheVariants.{Model, Refuted}
-use Rattle.learn_solver.specs.declared.verdict.Verdict.{Verdict}
-use Rattle.learn_solver.specs.declared.verdict.Verdict.TheVariants.{Model as Full, Refuted as Logged}
+use Rattle.dense_solver.specs.declared.verdict.DenseVerdict.{DenseVerdict}
+use Rattle.dense_solver.specs.declared.verdict.DenseVerdict.TheVariants.{Model as Full, Refuted as Logged}
 use Rattle.dense_solver.specs.Renamings.{IsSpread, translated}
 
 -- Lines that are derived from a formula, each of which has all the literals of no clause and no line before it.
@@ -56,11 +56,16 @@ AreRefused {O} old lines new Memory = Unit {0}
 
 -- an answer over names and the one over the formula's variables: each variable has the bit of its name, or the log has the
 -- lemmas and then the lines
-abbrev pub IsTold : List ℕ → ℕ → List LogLine → Finding → Verdict → Type 0
+abbrev pub IsTold : List ℕ → ℕ → List LogLine → Finding → DenseVerdict → Type 0
 IsTold names variables lines (Model values) (Full full) = IsSpread names values variables full
 IsTold names variables lines Refuted (Logged whole) = whole.lines ≡ lines
 IsTold names variables lines (Model values) (Logged whole) = ⊥
 IsTold names variables lines Refuted (Full full) = ⊥
+
+-- what an answer says of a solver's clauses: its model has a value for each variable of the formula
+abbrev pub IsDenseVerdict : Solving → DenseVerdict → Type 0
+IsDenseVerdict solving (Full values) = IsModel solving values
+IsDenseVerdict solving (Logged log) = IsRefuted solving log.lines
 
 -- a model has a value for each of n names
 abbrev pub HaveNamed : ℕ → Finding → Type 0
@@ -69,7 +74,7 @@ HaveNamed n Refuted = Unit {0}
 
 -- A search over names that ended with an answer: its lines were charged as the formula's.
 pub record IsSettled {O : Type 0} (small : Formula) (names numbers : List ℕ) (full : Formula) (lemmas : List LogLine)
-    (old new : Charging O) (answer : Verdict) : Type 0 where
+    (old new : Charging O) (answer : DenseVerdict) : Type 0 where
   pub lines : List LogLine
   pub own : Finding
   pub learned : AreLearned small lines

@@ -13,9 +13,11 @@ mod small;
 mod solving;
 mod tab;
 mod telling;
+mod verdict;
 
 pub use base::DenseBase;
 pub use guiding::agenda_of;
 pub use lines::translated;
 pub use solving::solve_dense;
 pub use tab::Tab;
+pub use verdict::DenseVerdict;

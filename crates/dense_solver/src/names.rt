@@ -1,12 +1,13 @@
 //! The variables of clauses.
 
-ghost use Rattle.std.specs.Prelude.{◌≡◌, ◌<◌, ◌^◌, ℕ, false, All, Contains, IfOk, OnOk, length, replicate};
+ghost use Rattle.std.specs.Prelude.{◌≡◌, ◌<◌, ◌^◌, ℕ, All, Contains, IfOk, OnOk, length};
 ghost use Rattle.std.specs.List.Sorted.{IsNonDecreasing};
 ghost use Rattle.cnf_core.specs.Clauses.{literals_of, variable_of};
 ghost use Rattle.watch_lists.specs.Propagations.{AreKnown};
 ghost use Rattle.dense_solver.specs.Renamings.{AreListed, AreMarks, AreNames, IsNamed, IsOver};
 
 use cnf_core::{Clause3, SatLit};
+use number_marks::Marks;
 use std::alloc::{AllocError, Global};
 
 /// The variables of clauses, ascending: the search looks first at those of the greatest numbers, as it would in the formula.
@@ -20,23 +21,18 @@ pub(crate) fn names_of(
     ensures all { IfOk result (λ names. All (λ clause. IsNamed names.items (literals_of clause)) clauses.now) }
     ensures ascending { IfOk result (λ names. IsNonDecreasing names.items) }
 {
-    let mut marked = unmarked(alloc, variables as usize)?;
+    let mut marked = Marks::none(alloc, variables as usize);
     let mut names = Vec::new(alloc);
-    list_clauses(clauses, &mut marked, &mut names)?;
+    list_clauses(alloc, clauses, &mut marked, &mut names)?;
     names.sort_unstable();
     Ok(names)
 }
 
-fn unmarked(alloc: Global, count: usize) -> Result<Vec<bool>, AllocError>
-    ensures { IfOk result (λ marked. marked.items ≡ replicate count false) }
-{
-    vec![in alloc; false; count]
-}
-
 // Lists the variables of clauses as they come. None is marked at first.
 fn list_clauses(
+    alloc: Global,
     clauses: &[Clause3],
-    marked: &mut [bool],
+    marked: &mut Marks,
     names: &mut Vec<u64>,
 ) -> Result<(), AllocError>
     requires over { All (IsOver (length marked.old)) clauses.now }
@@ -45,13 +41,18 @@ fn list_clauses(
     ensures named { OnOk result (All (λ clause. IsNamed names.new.items (literals_of clause)) clauses.now) }
 {
     for clause in clauses.iter() {
-        list_all(clause.literals(), marked, names)?;
+        list_all(alloc, clause.literals(), marked, names)?;
     }
     Ok(())
 }
 
 // Lists the variables of a clause that aren't marked yet, and marks them.
-fn list_all(clause: &[SatLit], marked: &mut [bool], names: &mut Vec<u64>) -> Result<(), AllocError>
+fn list_all(
+    alloc: Global,
+    clause: &[SatLit],
+    marked: &mut Marks,
+    names: &mut Vec<u64>,
+) -> Result<(), AllocError>
     requires known { AreKnown (length marked.old) clause.now }
     requires marks { AreMarks (length marked.old) names.old.items marked.old }
     ensures marks { OnOk result (AreMarks (length marked.old) names.new.items marked.new) }
@@ -59,13 +60,26 @@ fn list_all(clause: &[SatLit], marked: &mut [bool], names: &mut Vec<u64>) -> Res
     ensures stay { OnOk result ((v : ℕ) → Contains names.old.items v → Contains names.new.items v) }
 {
     for literal in clause.iter() {
-        list(literal.variable(), marked, names)?;
+        list(alloc, variable_in(*literal), marked, names)?;
     }
     Ok(())
 }
 
+// The variable that a literal reads.
+fn variable_in(literal: SatLit) -> u64
+    ensures value { result ≡ variable_of literal }
+    ensures few { result < 2 ^ 63 }
+{
+    literal.variable()
+}
+
 // Lists a variable that isn't marked yet, and marks it.
-fn list(variable: u64, marked: &mut [bool], names: &mut Vec<u64>) -> Result<(), AllocError>
+fn list(
+    alloc: Global,
+    variable: u64,
+    marked: &mut Marks,
+    names: &mut Vec<u64>,
+) -> Result<(), AllocError>
     requires known { variable < length marked.old }
     requires few { variable < 2 ^ 63 }
     requires marks { AreMarks (length marked.old) names.old.items marked.old }
@@ -73,10 +87,10 @@ fn list(variable: u64, marked: &mut [bool], names: &mut Vec<u64>) -> Result<(), 
     ensures named { OnOk result (Contains names.new.items variable) }
     ensures stay { OnOk result ((v : ℕ) → Contains names.old.items v → Contains names.new.items v) }
 {
-    if marked[variable as usize] {
+    if marked.has(variable as usize) {
         return Ok(());
     }
-    marked[variable as usize] = true;
+    marked.mark(alloc, variable as usize)?;
     names.push(variable)?;
     Ok(())
 }

@@ -3,16 +3,16 @@
 ghost use Rattle.std.specs.Prelude.{◌≡◌, ◌<◌, ◌^◌, All, IfOk, IfErr, true, false, length};
 ghost use Rattle.cnf_core.specs.Derivations.{AreDerived, clauses_of};
 ghost use Rattle.query_core.specs.Formulas.{formula_of};
-ghost use Rattle.learn_solver.specs.Solvers.{IsAsking, IsExtended, IsStopped, IsVerdict};
+ghost use Rattle.learn_solver.specs.Solvers.{IsAsking, IsExtended, IsStopped};
 ghost use Rattle.dense_solver.specs.Renamings.{AreShort, IsRenaming, small_formula};
-ghost use Rattle.dense_solver.specs.Solved.{IsOf, IsSettled, IsUnsettled, start_of, with_lines_of};
+ghost use Rattle.dense_solver.specs.Solved.{IsDenseVerdict, IsOf, IsSettled, IsUnsettled, start_of, with_lines_of};
 
 use crate::base::DenseBase;
 use crate::small::solve_small;
 use crate::tab::Tab;
 use crate::telling::{charge_told, told};
+use crate::verdict::DenseVerdict;
 use cnf_core::{Base, Charge, LogLine, Stop};
-use learn_solver::Verdict;
 use query_core::ConeClauses;
 use std::alloc::Global;
 use watch_core::Watch;
@@ -32,12 +32,12 @@ pub fn solve_dense<L: Charge, W: Watch>(
     lemmas: &[LogLine],
     tab: Tab<'_, W>,
     ledger: &mut L,
-) -> Result<Verdict, Stop>
+) -> Result<DenseVerdict, Stop>
     requires derived { AreDerived (formula_of cones.now.graphs cones.now.query) lemmas.now }
     requires short { AreShort (clauses_of lemmas.now) }
     requires asking { IsAsking (L.charging ledger.old) lemmas.now }
     requires same { IsOf tab (L.charging ledger.old) }
-    ensures verdict { IfOk result (IsVerdict (with_lines_of (start_of (formula_of cones.now.graphs cones.now.query) cones.now.ids lemmas.now) (L.charging ledger.new))) }
+    ensures verdict { IfOk result (IsDenseVerdict (with_lines_of (start_of (formula_of cones.now.graphs cones.now.query) cones.now.ids lemmas.now) (L.charging ledger.new))) }
     ensures lines { IfOk result (λ _. IsExtended (start_of (formula_of cones.now.graphs cones.now.query) cones.now.ids lemmas.now)
         (with_lines_of (start_of (formula_of cones.now.graphs cones.now.query) cones.now.ids lemmas.now) (L.charging ledger.new))
         (L.charging ledger.old) (L.charging ledger.new)) }
@@ -59,7 +59,7 @@ fn search_dense<L: Charge, W: Watch>(
     lemmas: &[LogLine],
     tab: &mut Tab<'_, W>,
     ledger: &mut L,
-) -> Result<Verdict, Stop>
+) -> Result<DenseVerdict, Stop>
     requires renaming { IsRenaming (small_formula dense.now) dense.now.names dense.now.numbers (formula_of cones.now.graphs cones.now.query) lemmas.now }
     requires few { length lemmas.now < 2 ^ 62 }
     requires opened { (L.charging ledger.old).opened ≡ true }

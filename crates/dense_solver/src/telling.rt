@@ -9,9 +9,11 @@ ghost use Rattle.dense_solver.specs.Solved.{AreCharged, AreRefused, HaveNamed, I
 use crate::base::DenseBase;
 use crate::charging::charge_all;
 use crate::lines::translated;
+use crate::verdict::DenseVerdict;
 use cnf_core::{Charge, Log, LogLine, Stop};
 use items::Items;
-use learn_solver::{Finding, Verdict};
+use learn_solver::Finding;
+use number_marks::Marks;
 use std::alloc::{AllocError, Global};
 
 /// Charges lines over names as lines of the formula, and answers these.
@@ -63,7 +65,7 @@ pub(crate) fn told(
     lemmas: &[LogLine],
     lines: Vec<LogLine>,
     own: Finding,
-) -> Result<Verdict, AllocError>
+) -> Result<DenseVerdict, AllocError>
     requires names { AreNames variables dense.now.names }
     requires named { HaveNamed (length dense.now.names) own }
     ensures { IfOk result (IsTold dense.now.names variables (lemmas.now ++ lines.items) own) }
@@ -71,31 +73,31 @@ pub(crate) fn told(
     match own {
         Finding::Model(values) => {
             let full = spread(alloc, dense.names(), &values, variables)?;
-            Ok(Verdict::Model(full))
+            Ok(DenseVerdict::Model(full))
         }
         Finding::Refuted => {
             let log = joined(alloc, lemmas, lines)?;
-            Ok(Verdict::Refuted(log))
+            Ok(DenseVerdict::Refuted(log))
         }
     }
 }
 
-// The value of each variable: that of its name, or false.
+// The variables that are true: those whose names are.
 fn spread(
     alloc: Global,
     names: &[u64],
     values: &[bool],
     variables: u64,
-) -> Result<Items<bool>, AllocError>
+) -> Result<Marks, AllocError>
     requires names { AreNames variables names.now }
     requires values { length values.now ≡ length names.now }
     ensures { IfOk result (IsSpread names.now values.now variables) }
 {
-    let mut full = vec![in alloc; false; variables as usize]?;
+    let mut full = Marks::none(alloc, variables as usize);
     for (place, name) in names.iter().enumerate() {
-        full[*name as usize] = values[place];
+        full.mark_where(alloc, *name as usize, values[place])?;
     }
-    Ok(Items::from_vec(full))
+    Ok(full)
 }
 
 // The log of lemmas and of lines after them.

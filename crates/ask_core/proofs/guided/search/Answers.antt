@@ -1,5 +1,5 @@
 -- A query's answer is that of a solver for the clauses of its cones.
-use Rattle.std.proofs.Common.{Bool, List, rules, sym, subst}
+use Rattle.std.proofs.Common.{Bool, List, rules, sym, subst, ◌∙◌}
 use Rattle.learn_solver.specs.declared.verdict.Finding.{Finding}
 use Rattle.learn_solver.specs.Findings.{IsFinding}
 use Rattle.learn_solver.proofs.StepLemmas.{passed_on}
@@ -29,7 +29,7 @@ vector_of-requires-clause-meets g c =
     let new = c.solve_guided.new.solver in
     let of = made_of_base graphs query lemmas c.args.cones.now c.in_ok-base.base c.ids.result.now s c.requires.of_graphs c.requires.of_query c.in_ok-base.ensures c.ids.ensures.value c.ids.ensures.are c.requires.derived c.in_ok-solver.ensures in
     let model = subst (λ (v : Finding). IsFinding new v) c.in-Model.is c.in_ok-values.ensures.found in
-    subst (λ (bs : List Bool). MeetsCones graphs query bs) (sym c.deref.ensures.value) (meets_cones graphs query lemmas s new (charging_of c.open.new.self) (charging_of c.solve_guided.new.ledger) c.in-Model.values of c.in_ok-values.ensures.lines model.meets)
+    subst (λ (bs : List Bool). MeetsCones graphs query bs) (sym (c.from_table-values.ensures ∙ c.into_vec.ensures)) (meets_cones graphs query lemmas s new (charging_of c.open.new.self) (charging_of c.solve_guided.new.ledger) c.in-Model.values of c.in_ok-values.ensures.lines model.meets)
 
 pub returns-in-Model-clause-answered : goal.returns-in-Model-clause-answered
 returns-in-Model-clause-answered g c =

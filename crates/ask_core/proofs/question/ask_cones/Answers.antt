@@ -1,10 +1,9 @@
 -- A query's answer is that of a solver for the clauses of its cones.
 use Rattle.std.proofs.Common.{◌≡◌, Bool, List, refl, sym, ap, subst, ◌∙◌, arith}
 use Rattle.cnf_core.specs.Derivations.{clauses_of}
-use Rattle.learn_solver.specs.declared.verdict.Verdict.{Verdict}
-use Rattle.learn_solver.specs.Solvers.{IsVerdict}
+use Rattle.dense_solver.specs.declared.verdict.DenseVerdict.{DenseVerdict}
 use Rattle.learn_solver.proofs.StepLemmas.{passed_on}
-use Rattle.dense_solver.specs.Solved.{start_of, with_lines_of}
+use Rattle.dense_solver.specs.Solved.{IsDenseVerdict, start_of, with_lines_of}
 use Rattle.query_core.specs.Formulas.{formula_of}
 use Rattle.query_core.specs.ConeClauses.{MeetsCones}
 use Rattle.cnf_core.specs.Charges.{Charging}
@@ -33,8 +32,8 @@ vector_of-requires-clause-meets g c =
     let s = start_of (formula_of c.args.cones.now.graphs c.args.cones.now.query) c.args.cones.now.ids c.args.lemmas.now in
     let new = with_lines_of s (charging_of c.solve_dense.new.ledger) in
     let of = made_of_cones graphs query c.args.lemmas.now c.args.cones.now s c.requires.of_graphs c.requires.of_query c.ids-ids.ensures.are c.requires.lemmas.derived refl in
-    let model = subst (λ (v : Verdict). IsVerdict new v) c.in-Model.is c.in_ok-values.ensures.verdict in
-    subst (λ (bs : List Bool). MeetsCones graphs query bs) (sym c.deref.ensures.value) (meets_cones graphs query c.args.lemmas.now s new (charging_of c.open.new.self) (charging_of c.solve_dense.new.ledger) c.in-Model.values of c.in_ok-values.ensures.lines model.meets)
+    let model = subst (λ (v : DenseVerdict). IsDenseVerdict new v) c.in-Model.is c.in_ok-values.ensures.verdict in
+    meets_cones graphs query c.args.lemmas.now s new (charging_of c.open.new.self) (charging_of c.solve_dense.new.ledger) c.in-Model.values of c.in_ok-values.ensures.lines model.meets
 
 pub returns-in_ok-vector-in-Model-clause-asked : goal.returns-in_ok-vector-in-Model-clause-asked
 returns-in_ok-vector-in-Model-clause-asked g c =
@@ -87,5 +86,5 @@ returns-in-Refuted-clause-joined g c =
     let s = start_of (formula_of c.args.cones.now.graphs c.args.cones.now.query) c.args.cones.now.ids c.args.lemmas.now in
     let new = with_lines_of s (charging_of c.solve_dense.new.ledger) in
     let of = made_of_cones graphs query c.args.lemmas.now c.args.cones.now s c.requires.of_graphs c.requires.of_query c.ids-ids.ensures.are c.requires.lemmas.derived refl in
-    let refuted = subst (λ (v : Verdict). IsVerdict new v) c.in-Refuted.is c.in_ok-values.ensures.verdict in
+    let refuted = subst (λ (v : DenseVerdict). IsDenseVerdict new v) c.in-Refuted.is c.in_ok-values.ensures.verdict in
     joined_in graphs query c.args.lemmas.now c.in-Refuted.log.lines c.args.cones.now s new (charging_of c.open.new.self) (charging_of c.solve_dense.new.ledger) c.requires.of_graphs c.requires.of_query of c.requires.joined c.in_ok-values.ensures.lines refuted.lines_are

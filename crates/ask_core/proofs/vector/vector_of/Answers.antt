@@ -10,7 +10,7 @@ pub loop-input-preserved : goal.loop-input-preserved
 loop-input-preserved c =
     let n = c.loop-input.input in
     let values = c.args.values.now in
-    c.in_ok-push.ensures.ok ∙ (ap (λ (bs : List Bool). bs ++ bit values (1 + n) ∷ []) c.loop-input.invariant ∙ sym (vector_more n values))
+    c.in_ok-push.ensures.ok ∙ (ap (λ b. c.loop-input.vector ++ b ∷ []) c.has.ensures ∙ (ap (λ (bs : List Bool). bs ++ bit values (1 + n) ∷ []) c.loop-input.invariant ∙ sym (vector_more n values)))
 
 pub returns : goal.returns
 returns c =
