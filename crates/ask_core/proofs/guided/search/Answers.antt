@@ -1,5 +1,6 @@
 -- A query's answer is that of a solver for the clauses of its cones.
 use Rattle.std.proofs.Common.{Bool, List, rules, sym, subst, ◌∙◌}
+use Rattle.cnf_core.specs.declared.stop.Stop.TheVariants.{Memory}
 use Rattle.learn_solver.specs.declared.verdict.Finding.{Finding}
 use Rattle.learn_solver.specs.Findings.{IsFinding}
 use Rattle.learn_solver.proofs.StepLemmas.{passed_on}
@@ -58,3 +59,10 @@ returns-clause-answered g c =
       asked = asked_with graphs query lemmas s new c.args.ledger.now c.open.new.self c.solve_guided.new.ledger of c.in_ok-open.ensures.some c.in_ok-open.ensures.opened c.in_ok-values.ensures.lines;
       not_spent = search rules;
     }
+
+pub returns-in_err-vector-in-Model-clause-stop : goal.returns-in_err-vector-in-Model-clause-stop
+returns-in_err-vector-in-Model-clause-stop g c =
+    let graphs = c.args.graphs.now in
+    let query = c.args.query.now in
+    let lemmas = c.args.lemmas.now in
+    passed_on c.from_residual-in_err-vector-in-Model.result Memory (IsStoppedWith graphs query lemmas c.args.ledger.now c.solve_guided.new.ledger) c.from_residual-in_err-vector-in-Model.ensures.1 tt
