@@ -11,4 +11,4 @@ returns-in_ok-part-in-Refuted c =
     let query = c.args.query.now in
     let formula = formula_of graphs query in
     let refuted = subst (IsAnswer graphs query) c.in-Refuted.is c.requires in
-    c.in_ok-part-in-Refuted.ensures.refutes formula (sym c.count_of-count-in-Refuted.ensures.value) (subst (IsRefutation formula) (sym c.deref-in-Refuted.ensures.value) refuted)
+    c.in_ok-part-in-Refuted.ensures.refutes formula (sym c.count_of-count.ensures.value) (subst (IsRefutation formula) (sym c.deref.ensures.value) refuted)
