@@ -18,6 +18,7 @@ mod reads;
 mod rounds;
 mod searching;
 mod table;
+mod trail;
 mod unlike;
 mod weights;
 
