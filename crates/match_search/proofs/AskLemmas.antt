@@ -32,7 +32,7 @@ use Rattle.conflict_core.specs.Named.{deleted}
 use Rattle.conflict_core.proofs.GroundedLemmas.{grounded_push}
 use Rattle.conflict_core.specs.Justified.{AreJustified}
 use Rattle.conflict_core.proofs.JustifiedLemmas.{held_append}
-use Rattle.pair_search.specs.Progress.{IsTrail, Propagates, left}
+use Rattle.pair_search.specs.Progress.{IsTrail, Propagates, StaysJustified, left}
 use Rattle.pair_search.proofs.StepLemmas.{HasOneMore, justified_one, less_one, one_more_of, trail_on}
 pub use Rattle.pair_refine.proofs.TrailLemmas.{known_of, shown_adds, shown_grows, trail_adds}
 use Rattle.match_search.specs.declared.ahead.Ahead.{Ahead}
@@ -53,6 +53,9 @@ shown_beside graphs known bans lent before after same is inputs outputs are stay
 
 pub shown_follows : (graphs : Graphs) (known : Known) (bans lent : List Ban) (before after : Domained) → lent ≡ bans → IsShownTrail graphs known bans before → Propagates lent before after → IsShownTrail graphs known bans after
 shown_follows graphs known bans lent before after same is follows = shown_beside graphs known bans lent before after same is follows.inputs follows.outputs follows.justified follows.grounded
+
+pub shown_stays : (graphs : Graphs) (known : Known) (bans lent : List Ban) (before after : Domained) → lent ≡ bans → IsShownTrail graphs known bans before → StaysJustified lent before after → IsShownTrail graphs known bans after
+shown_stays graphs known bans lent before after same is stays = shown_beside graphs known bans lent before after same is stays.inputs stays.outputs stays.justified stays.grounded
 
 -- bans come that are learned from a trail that is shown
 pub held_learned : (graphs : Graphs) (old new : Known) (a b : Ledgered) (first second third : List Ban) (es : List Entry) → HasHeld graphs old new a b first second → AreGrounded graphs (map decided_by new.facts) es → LearnsMore graphs es second third → HasHeld graphs old new a b first third

@@ -47,8 +47,8 @@ pub record IsSearching (graphs : Graphs) (old now : Known) (a b : Ledgered) (ban
   pub trials : AreTrials graphs.first vectors
 
 -- and more may be held
-pub may_go_on : (graphs : Graphs) (old now : Known) (a b : Ledgered) (first bans : List Ban) (vectors : Trials) → MayHold graphs old a first → IsSearching graphs old now a b bans vectors → MayHold graphs now b bans
-may_go_on graphs old now a b first bans vectors may is = record {
+pub may_search_on : (graphs : Graphs) (old now : Known) (a b : Ledgered) (first bans : List Ban) (vectors : Trials) → MayHold graphs old a first → IsSearching graphs old now a b bans vectors → MayHold graphs now b bans
+may_search_on graphs old now a b first bans vectors may is = record {
   graphs_are = is.valid.graphs_are;
   lawful = subst (λ (g : Graphs). AreFacts g now.facts) (sym is.valid.graphs_are) is.served.grows.lawful;
   suits = is.served.suits;

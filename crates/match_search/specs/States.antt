@@ -1,23 +1,53 @@
 -- What a step of a search leaves.
-use Rattle.std.specs.Prelude.{◌<◌, ◌≤◌, List, Contains}
+use Rattle.std.specs.Prelude.{◌<◌, ◌≤◌, List, Contains, Result, IfOk, OnOk}
+use Rattle.cnf_core.specs.declared.stop.Stop.{Stop}
 use Rattle.circuits.specs.declared.port.Pair.{Pair}
 use Rattle.net_core.specs.Sides.{Graphs}
+use Rattle.query_core.specs.Ledgers.{Ledgered}
 use Rattle.account_core.specs.declared.step.Ban.{Ban}
 use Rattle.account_core.specs.Given.{Decided}
 use Rattle.account_core.specs.Shown.{IsShownMatch}
 use Rattle.ban_book.specs.Covering.{Covers}
 use Rattle.class_refine.specs.Trails.{Domained, held_in}
-use Rattle.oracle_core.specs.Oracles.{Known}
+use Rattle.fact_bans.specs.Serving.{HoldsBans, MayHold}
+use Rattle.oracle_core.specs.Oracles.{Known, Serves}
+use Rattle.table_guess.specs.declared.trials.Trials.{Trials}
+use Rattle.table_guess.specs.Trials.{AreTrials}
 use Rattle.pair_search.specs.declared.impasse.Impasse.{Impasse}
 use Rattle.pair_search.specs.Impasses.{IsImpasse}
 use Rattle.pair_search.specs.Progress.{left}
 use Rattle.pair_refine.specs.Stable.{AreOutputsDecided}
+use Rattle.match_search.specs.Founds.{IsFound}
+use Rattle.match_search.specs.declared.found.Found.{Found}
 use Rattle.match_search.specs.declared.ahead.Ahead.{Ahead}
 use Rattle.match_search.specs.declared.ahead.Ahead.TheVariants as ahead
 use Rattle.match_search.specs.declared.ahead.Settled.{Settled}
 use Rattle.match_search.specs.declared.ahead.Settled.TheVariants as settled
 pub use Rattle.fact_bans.specs.Serving.{AreValid, HasServed}
 pub use Rattle.pair_refine.specs.Refining.{IsShownTrail}
+
+-- A step may be made: claims may be asked and bans held, facts show the trail, and the trials are the first circuit's.
+pub record MayStep (graphs : Graphs) (known : Known) (ledger : Ledgered) (bans : List Ban) (domains : Domained)
+    (vectors : Trials) : Type 0 where
+  pub may : MayHold graphs known ledger bans
+  pub trail : IsShownTrail graphs known bans domains
+  pub trials : AreTrials graphs.first vectors
+
+-- What a step does: claims were decided and bans held by their facts, whatever it answers, and where it does the next step may be
+-- made, with these pairs held and deleted and these trials.
+pub record Steps {X : Type 0} (graphs : Graphs) (old new : Known) (before after : Ledgered) (bans more : List Ban)
+    (domains : Domained) (vectors : Trials) (result : Result X Stop) : Type 0 where
+  pub holds : HoldsBans graphs old new before after bans more result
+  pub trail : OnOk result (IsShownTrail graphs new more domains)
+  pub trials : OnOk result (AreTrials graphs.first vectors)
+
+-- What a search does: claims were decided, and the bans are valid by their facts, whatever it answers; and a match that it
+-- answers is shown, or a ban without pairs.
+pub record Searches (graphs : Graphs) (old new : Known) (before after : Ledgered) (bans : List Ban) (result : Result Found Stop)
+    : Type 0 where
+  pub serves : Serves old new before after result
+  pub valid : AreValid graphs new bans
+  pub found : IfOk result (IsFound graphs bans)
 
 -- More pairs may be deleted by mismatches beside one that stays held, no more is left than before, and facts show the trail.
 pub record Deletes (graphs : Graphs) (known : Known) (bans : List Ban) (pair : Pair) (before after : Domained) : Type 0 where

@@ -6,7 +6,7 @@ use net_core::Matching;
 use pair_search::Impasse;
 
 /// What a step ahead comes to.
-#[derive(Debug, Drop)]
+#[derive(Drop)]
 pub(crate) enum Ahead {
     /// One more pair is held or deleted.
     Deeper,
@@ -17,7 +17,7 @@ pub(crate) enum Ahead {
 }
 
 /// What comparing the outputs under a whole table comes to.
-#[derive(Debug, Drop)]
+#[derive(Drop)]
 pub(crate) enum Settled {
     /// The table is a match.
     Match(Matching, Items<Log>),

@@ -1,16 +1,14 @@
 //! The search, step by step.
 
-ghost use Rattle.std.specs.Prelude.{◌≡◌, ◌<◌, ◌≤◌, [], List, IfNone, IfOk, IfSome, OnOk, map};
-ghost use Rattle.account_core.specs.declared.step.Ban.{Ban as AnyBan};
+ghost use Rattle.std.specs.Prelude.{◌≡◌, ◌<◌, [], IfNone, IfOk, IfSome, OnOk, map};
 ghost use Rattle.account_core.specs.Given.{decided_by};
 ghost use Rattle.account_core.specs.Shown.{IsShownMatch};
-ghost use Rattle.oracle_core.specs.Oracles.{Serves};
 ghost use Rattle.fact_bans.specs.Serving.{HoldsBans, MayHold};
 ghost use Rattle.match_search.specs.Founds.{IsDecidedFound, IsFound};
 ghost use Rattle.port_covers.specs.Held.{IsWhole};
 ghost use Rattle.class_refine.specs.Trails.{held_in};
-ghost use Rattle.pair_search.specs.Progress.{IsTrail, left};
-ghost use Rattle.match_search.specs.States.{AreValid, IsAhead, IsShownTrail};
+ghost use Rattle.pair_search.specs.Progress.{left};
+ghost use Rattle.match_search.specs.States.{IsAhead, IsShownTrail, MayStep, Searches, Steps};
 ghost use Rattle.table_guess.specs.Trials.{AreTrials};
 
 use crate::ahead::{Ahead, Settled};
@@ -19,8 +17,8 @@ use crate::following::follow;
 use crate::found::Found;
 use crate::guide::Guide;
 use crate::next_port::next_port;
+use crate::trail::Trail;
 use ban_book::BanBook;
-use circuits::PortKind;
 use class_refine::Domains;
 use cnf_core::{Log, Stop};
 use fact_bans::Seen;
@@ -28,10 +26,10 @@ use items::Items;
 use net_core::Matching;
 use oracle_core::Oracle;
 use pair_refine::{Refined, refine};
-use pair_search::{Impasse, Queue, branch, start_over, turn_back};
+use pair_search::{Impasse, branch, start_over, turn_back};
 use port_sides::PairableGraphs;
 use query_core::Ledger;
-use std::alloc::{AllocError, Global};
+use std::alloc::Global;
 use watch_core::Stage;
 
 /// How many rounds there are with the same bans, after each of which the search starts over. They come to some six million
@@ -67,9 +65,7 @@ pub(crate) fn explore<O: Oracle>(
 ) -> Result<Found, Stop>
     requires may { MayHold graphs.now (O.known oracle.old) ledger.old book.old }
     requires trials { AreTrials graphs.now.first guide.old.trials }
-    ensures serves { Serves (O.known oracle.old) (O.known oracle.new) ledger.old ledger.new result }
-    ensures valid { AreValid graphs.now (O.known oracle.new) book.new }
-    ensures found { IfOk result (IsFound graphs.now book.new) }
+    ensures searches { Searches graphs.now (O.known oracle.old) (O.known oracle.new) ledger.old ledger.new book.new result }
     ensures decided { IfOk result (IsDecidedFound graphs.now (map decided_by (O.known oracle.new).facts)) }
 {
     for _time in 0..MOST_TIMES {
@@ -139,26 +135,18 @@ fn explore_rounds<O: Oracle>(
         (IsDecidedFound graphs.now (map decided_by (O.known oracle.new).facts))) }
 {
     guide.forget(0);
-    let mut domains = open_domains(alloc, graphs)?;
-    let mut queue = empty_queue(alloc, &domains)?;
+    let mut trail = Trail::new(alloc, graphs)?;
     for _round in 0..rounds {
         if let Some(found) = explore_round(
-            alloc,
-            graphs,
-            oracle,
-            guide,
-            &mut domains,
-            &mut queue,
-            book,
-            ledger,
+            alloc, graphs, oracle, guide, &mut trail, book, ledger,
         )? {
             return Ok(Some(found));
         }
         if guide.is_full() {
             return Ok(None);
         }
-        start_over(&mut domains, &mut queue, book.bans());
-        guide.begin_round(domains.pairs().len());
+        start_over(&mut trail.domains, &mut trail.queue, book.bans());
+        guide.begin_round(trail.domains.pairs().len());
     }
     Ok(None)
 }
@@ -174,23 +162,11 @@ fn explore_whole<O: Oracle>(
 ) -> Result<Found, Stop>
     requires may { MayHold graphs.now (O.known oracle.old) ledger.old book.old }
     requires trials { AreTrials graphs.now.first guide.old.trials }
-    ensures serves { Serves (O.known oracle.old) (O.known oracle.new) ledger.old ledger.new result }
-    ensures valid { AreValid graphs.now (O.known oracle.new) book.new }
-    ensures found { IfOk result (IsFound graphs.now book.new) }
+    ensures searches { Searches graphs.now (O.known oracle.old) (O.known oracle.new) ledger.old ledger.new book.new result }
     ensures decided { IfOk result (IsDecidedFound graphs.now (map decided_by (O.known oracle.new).facts)) }
 {
-    let mut domains = open_domains(alloc, graphs)?;
-    let mut queue = empty_queue(alloc, &domains)?;
-    explore_on(
-        alloc,
-        graphs,
-        oracle,
-        guide,
-        &mut domains,
-        &mut queue,
-        book,
-        ledger,
-    )
+    let mut trail = Trail::new(alloc, graphs)?;
+    explore_on(alloc, graphs, oracle, guide, &mut trail, book, ledger)
 }
 
 // Lets all bans go.
@@ -206,23 +182,19 @@ fn explore_round<O: Oracle>(
     graphs: &PairableGraphs<'_>,
     oracle: &mut O,
     guide: &mut Guide,
-    domains: &mut Domains,
-    queue: &mut Queue,
+    trail: &mut Trail,
     book: &mut BanBook,
     ledger: &mut Ledger,
 ) -> Result<Option<Found>, Stop>
-    requires may { MayHold graphs.now (O.known oracle.old) ledger.old book.old }
-    requires trail { IsShownTrail graphs.now (O.known oracle.old) book.old domains.old }
-    requires trials { AreTrials graphs.now.first guide.old.trials }
-    ensures holds { HoldsBans graphs.now (O.known oracle.old) (O.known oracle.new) ledger.old ledger.new book.old book.new result }
-    ensures trials { OnOk result (AreTrials graphs.now.first guide.new.trials) }
-    ensures trail { OnOk result (IsShownTrail graphs.now (O.known oracle.new) book.new domains.new) }
+    requires may { MayStep graphs.now (O.known oracle.old) ledger.old book.old trail.old.domains guide.old.trials }
+    ensures steps { Steps graphs.now (O.known oracle.old) (O.known oracle.new) ledger.old ledger.new book.old book.new
+        trail.new.domains guide.new.trials result }
     ensures found { IfOk result (λ found. IfSome found (IsFound graphs.now book.new)) }
     ensures decided { IfOk result (λ found. IfSome found
         (IsDecidedFound graphs.now (map decided_by (O.known oracle.new).facts))) }
 {
     while !guide.is_round_over(ledger.learned()) {
-        if let Some(found) = turn(alloc, graphs, oracle, guide, domains, queue, book, ledger)? {
+        if let Some(found) = turn(alloc, graphs, oracle, guide, trail, book, ledger)? {
             return Ok(Some(found));
         }
     }
@@ -235,46 +207,19 @@ fn explore_on<O: Oracle>(
     graphs: &PairableGraphs<'_>,
     oracle: &mut O,
     guide: &mut Guide,
-    domains: &mut Domains,
-    queue: &mut Queue,
+    trail: &mut Trail,
     book: &mut BanBook,
     ledger: &mut Ledger,
 ) -> Result<Found, Stop>
-    requires may { MayHold graphs.now (O.known oracle.old) ledger.old book.old }
-    requires trail { IsShownTrail graphs.now (O.known oracle.old) book.old domains.old }
-    requires trials { AreTrials graphs.now.first guide.old.trials }
-    ensures serves { Serves (O.known oracle.old) (O.known oracle.new) ledger.old ledger.new result }
-    ensures valid { AreValid graphs.now (O.known oracle.new) book.new }
-    ensures found { IfOk result (IsFound graphs.now book.new) }
+    requires may { MayStep graphs.now (O.known oracle.old) ledger.old book.old trail.old.domains guide.old.trials }
+    ensures searches { Searches graphs.now (O.known oracle.old) (O.known oracle.new) ledger.old ledger.new book.new result }
     ensures decided { IfOk result (IsDecidedFound graphs.now (map decided_by (O.known oracle.new).facts)) }
 {
     loop {
-        if let Some(found) = turn(alloc, graphs, oracle, guide, domains, queue, book, ledger)? {
+        if let Some(found) = turn(alloc, graphs, oracle, guide, trail, book, ledger)? {
             return Ok(found);
         }
     }
-}
-
-// All pairs of two circuits are open.
-fn open_domains(alloc: Global, graphs: &PairableGraphs<'_>) -> Result<Domains, AllocError>
-    ensures trail { IfOk result (λ domains. (bans : List AnyBan) → IsTrail graphs.now bans domains) }
-    ensures none { IfOk result (λ domains. domains.entries ≡ []) }
-{
-    let _ports = graphs.graphs();
-    Domains::new(
-        alloc,
-        graphs.ports(PortKind::Input),
-        graphs.ports(PortKind::Output),
-    )
-}
-
-// Nothing was propagated, and no ban is in the index.
-fn empty_queue(alloc: Global, domains: &Domains) -> Result<Queue, AllocError> {
-    Queue::new(
-        alloc,
-        domains.ports(PortKind::Input),
-        domains.ports(PortKind::Output),
-    )
 }
 
 // One step ahead, and back from an impasse. It answers None where less is left than before.
@@ -283,18 +228,14 @@ fn turn<O: Oracle>(
     graphs: &PairableGraphs<'_>,
     oracle: &mut O,
     guide: &mut Guide,
-    domains: &mut Domains,
-    queue: &mut Queue,
+    trail: &mut Trail,
     book: &mut BanBook,
     ledger: &mut Ledger,
 ) -> Result<Option<Found>, Stop>
-    requires may { MayHold graphs.now (O.known oracle.old) ledger.old book.old }
-    requires trail { IsShownTrail graphs.now (O.known oracle.old) book.old domains.old }
-    requires trials { AreTrials graphs.now.first guide.old.trials }
-    ensures holds { HoldsBans graphs.now (O.known oracle.old) (O.known oracle.new) ledger.old ledger.new book.old book.new result }
-    ensures trials { OnOk result (AreTrials graphs.now.first guide.new.trials) }
-    ensures trail { OnOk result (IsShownTrail graphs.now (O.known oracle.new) book.new domains.new) }
-    ensures less { IfOk result (λ found. IfNone found (left domains.new < left domains.old)) }
+    requires may { MayStep graphs.now (O.known oracle.old) ledger.old book.old trail.old.domains guide.old.trials }
+    ensures steps { Steps graphs.now (O.known oracle.old) (O.known oracle.new) ledger.old ledger.new book.old book.new
+        trail.new.domains guide.new.trials result }
+    ensures less { IfOk result (λ found. IfNone found (left trail.new.domains < left trail.old.domains)) }
     ensures found { IfOk result (λ found. IfSome found (IsFound graphs.now book.new)) }
     ensures decided { IfOk result (λ found. IfSome found
         (IsDecidedFound graphs.now (map decided_by (O.known oracle.new).facts))) }
@@ -302,7 +243,7 @@ fn turn<O: Oracle>(
     oracle.at(Stage::Banning {
         bans: book.bans().len() as u64,
     });
-    let impasse = match ahead(alloc, graphs, oracle, guide, domains, queue, book, ledger)? {
+    let impasse = match ahead(alloc, graphs, oracle, guide, trail, book, ledger)? {
         Ahead::Deeper => return Ok(None),
         Ahead::Match(matching, logs) => return Ok(Some(Found::Match(matching, logs))),
         Ahead::Impasse(impasse) => impasse,
@@ -310,9 +251,16 @@ fn turn<O: Oracle>(
     let before = book.bans().len();
     let dead = impasse.ban();
     guide.hurry(&impasse);
-    let refusal = turn_back(alloc, graphs, domains, queue, impasse, book)?;
+    let refusal = turn_back(
+        alloc,
+        graphs,
+        &mut trail.domains,
+        &mut trail.queue,
+        impasse,
+        book,
+    )?;
     guide.learn(book.bans(), before, dead);
-    guide.forget(domains.pairs().len());
+    guide.forget(trail.domains.pairs().len());
     match refusal {
         None => Ok(None),
         Some(ban) => Ok(Some(Found::None(ban))),
@@ -325,22 +273,20 @@ fn ahead<O: Oracle>(
     graphs: &PairableGraphs<'_>,
     oracle: &mut O,
     guide: &mut Guide,
-    domains: &mut Domains,
-    queue: &mut Queue,
+    trail: &mut Trail,
     book: &mut BanBook,
     ledger: &mut Ledger,
 ) -> Result<Ahead, Stop>
-    requires may { MayHold graphs.now (O.known oracle.old) ledger.old book.old }
-    requires trail { IsShownTrail graphs.now (O.known oracle.old) book.old domains.old }
-    requires trials { AreTrials graphs.now.first guide.old.trials }
-    ensures holds { HoldsBans graphs.now (O.known oracle.old) (O.known oracle.new) ledger.old ledger.new book.old book.new result }
-    ensures trials { OnOk result (AreTrials graphs.now.first guide.new.trials) }
-    ensures trail { OnOk result (IsShownTrail graphs.now (O.known oracle.new) book.new domains.new) }
-    ensures ahead { IfOk result (IsAhead graphs.now (map decided_by (O.known oracle.new).facts) book.new domains.old domains.new) }
+    requires may { MayStep graphs.now (O.known oracle.old) ledger.old book.old trail.old.domains guide.old.trials }
+    ensures steps { Steps graphs.now (O.known oracle.old) (O.known oracle.new) ledger.old ledger.new book.old book.new
+        trail.new.domains guide.new.trials result }
+    ensures ahead { IfOk result
+        (IsAhead graphs.now (map decided_by (O.known oracle.new).facts) book.new trail.old.domains trail.new.domains) }
 {
-    if let Some(impasse) = follow(alloc, graphs, oracle, guide, domains, queue, book, ledger)? {
+    if let Some(impasse) = follow(alloc, graphs, oracle, guide, trail, book, ledger)? {
         return Ok(Ahead::Impasse(impasse));
     }
+    let domains = &mut trail.domains;
     go_on(alloc, graphs, oracle, guide, domains, book, ledger)
 }
 
@@ -354,12 +300,9 @@ fn go_on<O: Oracle>(
     book: &mut BanBook,
     ledger: &mut Ledger,
 ) -> Result<Ahead, Stop>
-    requires may { MayHold graphs.now (O.known oracle.old) ledger.old book.old }
-    requires trail { IsShownTrail graphs.now (O.known oracle.old) book.old domains.old }
-    requires trials { AreTrials graphs.now.first guide.old.trials }
-    ensures holds { HoldsBans graphs.now (O.known oracle.old) (O.known oracle.new) ledger.old ledger.new book.old book.new result }
-    ensures trials { OnOk result (AreTrials graphs.now.first guide.new.trials) }
-    ensures trail { OnOk result (IsShownTrail graphs.now (O.known oracle.new) book.new domains.new) }
+    requires may { MayStep graphs.now (O.known oracle.old) ledger.old book.old domains.old guide.old.trials }
+    ensures steps { Steps graphs.now (O.known oracle.old) (O.known oracle.new) ledger.old ledger.new book.old book.new
+        domains.new guide.new.trials result }
     ensures ahead { IfOk result (IsAhead graphs.now (map decided_by (O.known oracle.new).facts) book.new domains.old domains.new) }
 {
     let Some(port) = next_port(alloc, graphs, guide, domains)? else {
@@ -382,13 +325,10 @@ fn compare_held<O: Oracle>(
     book: &mut BanBook,
     ledger: &mut Ledger,
 ) -> Result<Ahead, Stop>
-    requires may { MayHold graphs.now (O.known oracle.old) ledger.old book.old }
-    requires trail { IsShownTrail graphs.now (O.known oracle.old) book.old domains.old }
+    requires may { MayStep graphs.now (O.known oracle.old) ledger.old book.old domains.old guide.old.trials }
     requires whole { IsWhole graphs.now (held_in domains.old.entries) }
-    requires trials { AreTrials graphs.now.first guide.old.trials }
-    ensures holds { HoldsBans graphs.now (O.known oracle.old) (O.known oracle.new) ledger.old ledger.new book.old book.new result }
-    ensures trials { OnOk result (AreTrials graphs.now.first guide.new.trials) }
-    ensures trail { OnOk result (IsShownTrail graphs.now (O.known oracle.new) book.new domains.new) }
+    ensures steps { Steps graphs.now (O.known oracle.old) (O.known oracle.new) ledger.old ledger.new book.old book.new
+        domains.new guide.new.trials result }
     ensures ahead { IfOk result (IsAhead graphs.now (map decided_by (O.known oracle.new).facts) book.new domains.old domains.new) }
 {
     let _lawful = domains.entries();

@@ -29,7 +29,7 @@ use vector_bans::exclude;
 use watch_core::Stage;
 
 /// An output that differs from its partner, and a vector on which it does.
-#[derive(Debug, Drop)]
+#[derive(Drop)]
 pub(crate) struct Difference {
     pub(crate) output: u32,
     pub(crate) vector: Bits,

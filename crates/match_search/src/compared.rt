@@ -4,7 +4,7 @@ use circuits::{Pair, PortKind};
 use std::alloc::{AllocError, Global};
 
 /// Which pairs were compared with ways of the other kind, by the pairs' numbers.
-#[derive(Debug, Drop)]
+#[derive(Drop)]
 pub(crate) struct Compared {
     marks: Vec<bool>,
     inputs: usize,

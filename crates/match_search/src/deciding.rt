@@ -6,7 +6,7 @@ ghost use Rattle.account_core.specs.Steps.{AreValidBans};
 ghost use Rattle.ban_book.specs.Vectors.{AreLastResorts};
 ghost use Rattle.fact_bans.specs.Serving.{MayHold};
 ghost use Rattle.match_search.specs.Founds.{IsFound};
-ghost use Rattle.match_search.specs.States.{AreValid};
+ghost use Rattle.match_search.specs.States.{Searches};
 ghost use Rattle.oracle_core.specs.Oracles.{Serves, Suits};
 ghost use Rattle.table_guess.specs.Trials.{AreTrials};
 
@@ -14,7 +14,7 @@ use crate::branching::explore_little;
 use crate::found::Found;
 use crate::guessed::compare_guesses;
 use crate::guide::Guide;
-use crate::searching::{refuse_or_explore, search};
+use crate::searching::refuse_or_explore;
 use ban_book::BanBook;
 use circuits::PortKind;
 use cnf_core::Stop;
@@ -66,20 +66,30 @@ pub fn decide<O: Oracle>(
 {
     let _facts = oracle.facts();
     let mut guesser = Guesser::new(alloc, graphs, seed)?;
+    guess_first(alloc, graphs, oracle, &mut guesser, book, seed, ledger)
+}
+
+// Compares tables first, of little effort where there are few claims, and where none of them is a match searches.
+fn guess_first<O: Oracle>(
+    alloc: Global,
+    graphs: &PairableGraphs<'_>,
+    oracle: &mut O,
+    guesser: &mut Guesser<'_>,
+    book: &mut BanBook,
+    seed: u64,
+    ledger: &mut Ledger,
+) -> Result<Found, Stop>
+    requires may { MayHold graphs.now (O.known oracle.old) ledger.old book.old }
+    ensures searches { Searches graphs.now (O.known oracle.old) (O.known oracle.new) ledger.old ledger.new book.new result }
+{
     let effort = first_effort(graphs);
-    if let Some((table, logs)) = compare_guesses(
-        alloc,
-        graphs,
-        oracle,
-        &mut guesser,
-        effort,
-        ledger,
-    )? {
+    if let Some((table, logs)) = compare_guesses(alloc, graphs, oracle, guesser, effort, ledger)? {
         return Ok(Found::Match(table, logs));
     }
+    let mut guide = Guide::new(alloc, graphs, seed)?;
     match effort {
-        Effort::Little => refuse_or_find(alloc, graphs, oracle, &mut guesser, book, seed, ledger),
-        Effort::Whole => search(alloc, graphs, oracle, book, seed, ledger),
+        Effort::Little => refuse_or_find(alloc, graphs, oracle, guesser, &mut guide, book, ledger),
+        Effort::Whole => refuse_or_explore(alloc, graphs, oracle, &mut guide, book, ledger),
     }
 }
 
@@ -102,19 +112,14 @@ fn refuse_or_find<O: Oracle>(
     graphs: &PairableGraphs<'_>,
     oracle: &mut O,
     guesser: &mut Guesser<'_>,
+    guide: &mut Guide,
     book: &mut BanBook,
-    seed: u64,
     ledger: &mut Ledger,
 ) -> Result<Found, Stop>
-    requires graphs { graphs.now ≡ (O.known oracle.old).graphs }
-    requires book { book.old ≡ [] }
-    requires suits { Suits (O.known oracle.old) ledger.old }
-    ensures serves { Serves (O.known oracle.old) (O.known oracle.new) ledger.old ledger.new result }
-    ensures valid { AreValid graphs.now (O.known oracle.new) book.new }
-    ensures found { IfOk result (IsFound graphs.now book.new) }
+    requires may { MayHold graphs.now (O.known oracle.old) ledger.old book.old }
+    requires trials { AreTrials graphs.now.first guide.old.trials }
+    ensures searches { Searches graphs.now (O.known oracle.old) (O.known oracle.new) ledger.old ledger.new book.new result }
 {
-    let _facts = oracle.facts();
-    let mut guide = Guide::new(alloc, graphs, seed)?;
     if let Some(ban) = refuse(
         alloc,
         graphs,
@@ -126,12 +131,10 @@ fn refuse_or_find<O: Oracle>(
     )? {
         return Ok(Found::None(ban));
     }
-    if let Some(found) = explore_little(
-        alloc, graphs, oracle, &mut guide, FEW_LINES, book, ledger,
-    )? {
+    if let Some(found) = explore_little(alloc, graphs, oracle, guide, FEW_LINES, book, ledger)? {
         return Ok(found);
     }
-    guess_or_explore(alloc, graphs, oracle, guesser, &mut guide, book, ledger)
+    guess_or_explore(alloc, graphs, oracle, guesser, guide, book, ledger)
 }
 
 // Compares more tables, and where none of them is a match searches.
@@ -146,9 +149,7 @@ fn guess_or_explore<O: Oracle>(
 ) -> Result<Found, Stop>
     requires may { MayHold graphs.now (O.known oracle.old) ledger.old book.old }
     requires trials { AreTrials graphs.now.first guide.old.trials }
-    ensures serves { Serves (O.known oracle.old) (O.known oracle.new) ledger.old ledger.new result }
-    ensures valid { AreValid graphs.now (O.known oracle.new) book.new }
-    ensures found { IfOk result (IsFound graphs.now book.new) }
+    ensures searches { Searches graphs.now (O.known oracle.old) (O.known oracle.new) ledger.old ledger.new book.new result }
 {
     if let Some((table, logs)) = compare_guesses(
         alloc,

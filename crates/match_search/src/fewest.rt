@@ -14,7 +14,7 @@ use port_sides::port_on;
 use std::alloc::{AllocError, Global};
 
 // A port, how many ways it has left, and its weight.
-#[derive(Clone, Copy, Debug)]
+#[derive(Clone, Copy)]
 struct Candidate {
     port: Port,
     ways: u64,

@@ -6,12 +6,13 @@ ghost use Rattle.pair_search.specs.Impasses.{IsImpasse};
 ghost use Rattle.oracle_core.specs.Oracles.{Serves, Suits};
 ghost use Rattle.class_refine.specs.Trails.{held_in};
 ghost use Rattle.pair_search.specs.Progress.{IsTrail, left};
-ghost use Rattle.match_search.specs.States.{Deletes, IsShownTrail};
+ghost use Rattle.match_search.specs.States.{Deletes, IsShownTrail, MayStep, Steps};
 ghost use Rattle.table_guess.specs.Trials.{AreTrials};
 
 use crate::asking::{ask_held, ask_output};
 use crate::exchanged::exclude_by_swaps;
 use crate::guide::Guide;
+use crate::trail::Trail;
 use crate::unlike::{delete_unlike, list_unlike};
 use account_core::Ban;
 use ban_book::BanBook;
@@ -19,7 +20,7 @@ use circuits::{Pair, PortKind};
 use class_refine::Domains;
 use cnf_core::Stop;
 use oracle_core::Oracle;
-use pair_search::{Impasse, Queue, propagate};
+use pair_search::{Impasse, propagate};
 use port_sides::PairableGraphs;
 use query_core::Ledger;
 use std::alloc::Global;
@@ -32,27 +33,24 @@ pub(crate) fn follow<O: Oracle>(
     graphs: &PairableGraphs<'_>,
     oracle: &mut O,
     guide: &mut Guide,
-    domains: &mut Domains,
-    queue: &mut Queue,
+    trail: &mut Trail,
     book: &mut BanBook,
     ledger: &mut Ledger,
 ) -> Result<Option<Impasse>, Stop>
-    requires may { MayHold graphs.now (O.known oracle.old) ledger.old book.old }
-    requires trail { IsShownTrail graphs.now (O.known oracle.old) book.old domains.old }
-    requires trials { AreTrials graphs.now.first guide.old.trials }
-    ensures holds { HoldsBans graphs.now (O.known oracle.old) (O.known oracle.new) ledger.old ledger.new book.old book.new result }
-    ensures trials { OnOk result (AreTrials graphs.now.first guide.new.trials) }
-    ensures trail { OnOk result (IsShownTrail graphs.now (O.known oracle.new) book.new domains.new) }
-    ensures less { OnOk result (left domains.new ≤ left domains.old) }
+    requires may { MayStep graphs.now (O.known oracle.old) ledger.old book.old trail.old.domains guide.old.trials }
+    ensures steps { Steps graphs.now (O.known oracle.old) (O.known oracle.new) ledger.old ledger.new book.old book.new
+        trail.new.domains guide.new.trials result }
+    ensures less { OnOk result (left trail.new.domains ≤ left trail.old.domains) }
     ensures impasse { IfOk result (λ found. IfSome found
-        (IsImpasse domains.new.inputs domains.new.outputs book.new domains.new.entries)) }
+        (IsImpasse trail.new.domains.inputs trail.new.domains.outputs book.new trail.new.domains.entries)) }
 {
-    if let Some(impasse) = settle(alloc, graphs, oracle, guide, domains, queue, book, ledger)? {
+    if let Some(impasse) = settle(alloc, graphs, oracle, guide, trail, book, ledger)? {
         return Ok(Some(impasse));
     }
     if guide.rounds.is_over(ledger.learned()) {
         return Ok(None);
     }
+    let domains = &trail.domains;
     if let Some(exchanged) = exchange_held(alloc, graphs, oracle, guide, domains, book, ledger)? {
         return Ok(Some(exchanged));
     }
@@ -100,27 +98,29 @@ fn settle<O: Oracle>(
     graphs: &PairableGraphs<'_>,
     oracle: &mut O,
     guide: &mut Guide,
-    domains: &mut Domains,
-    queue: &mut Queue,
+    trail: &mut Trail,
     book: &mut BanBook,
     ledger: &mut Ledger,
 ) -> Result<Option<Impasse>, Stop>
-    requires may { MayHold graphs.now (O.known oracle.old) ledger.old book.old }
-    requires trail { IsShownTrail graphs.now (O.known oracle.old) book.old domains.old }
-    requires trials { AreTrials graphs.now.first guide.old.trials }
-    ensures holds { HoldsBans graphs.now (O.known oracle.old) (O.known oracle.new) ledger.old ledger.new book.old book.new result }
-    ensures trials { OnOk result (AreTrials graphs.now.first guide.new.trials) }
-    ensures trail { OnOk result (IsShownTrail graphs.now (O.known oracle.new) book.new domains.new) }
-    ensures less { OnOk result (left domains.new ≤ left domains.old) }
+    requires may { MayStep graphs.now (O.known oracle.old) ledger.old book.old trail.old.domains guide.old.trials }
+    ensures steps { Steps graphs.now (O.known oracle.old) (O.known oracle.new) ledger.old ledger.new book.old book.new
+        trail.new.domains guide.new.trials result }
+    ensures less { OnOk result (left trail.new.domains ≤ left trail.old.domains) }
     ensures impasse { IfOk result (λ found. IfSome found
-        (IsImpasse domains.new.inputs domains.new.outputs book.new domains.new.entries)) }
+        (IsImpasse trail.new.domains.inputs trail.new.domains.outputs book.new trail.new.domains.entries)) }
 {
-    let inputs = domains.ports(PortKind::Input) as u64;
-    let outputs = domains.ports(PortKind::Output) as u64;
+    let inputs = trail.domains.ports(PortKind::Input) as u64;
+    let outputs = trail.domains.ports(PortKind::Output) as u64;
     for _turn in 0..inputs + 2 * outputs + 1 {
-        if let Some(impasse) = propagate(alloc, domains, queue, book.bans())? {
+        if let Some(impasse) = propagate(
+            alloc,
+            &mut trail.domains,
+            &mut trail.queue,
+            book.bans(),
+        )? {
             return Ok(Some(impasse));
         }
+        let domains = &mut trail.domains;
         let more = ask_next(alloc, graphs, oracle, guide, domains, book, ledger)?;
         if !more | guide.rounds.is_over(ledger.learned()) {
             return Ok(None);
@@ -140,11 +140,9 @@ fn ask_next<O: Oracle>(
     book: &mut BanBook,
     ledger: &mut Ledger,
 ) -> Result<bool, Stop>
-    requires may { MayHold graphs.now (O.known oracle.old) ledger.old book.old }
-    requires trail { IsShownTrail graphs.now (O.known oracle.old) book.old domains.old }
-    ensures holds { HoldsBans graphs.now (O.known oracle.old) (O.known oracle.new) ledger.old ledger.new book.old book.new result }
-    ensures trials { OnOk result (guide.new.trials ≡ guide.old.trials) }
-    ensures trail { OnOk result (IsShownTrail graphs.now (O.known oracle.new) book.new domains.new) }
+    requires may { MayStep graphs.now (O.known oracle.old) ledger.old book.old domains.old guide.old.trials }
+    ensures steps { Steps graphs.now (O.known oracle.old) (O.known oracle.new) ledger.old ledger.new book.old book.new
+        domains.new guide.new.trials result }
     ensures less { OnOk result (left domains.new ≤ left domains.old) }
 {
     let Some(output) = guide.next_output(domains.ports(PortKind::Output)) else {
@@ -167,11 +165,9 @@ fn ask_next_pair<O: Oracle>(
     book: &mut BanBook,
     ledger: &mut Ledger,
 ) -> Result<bool, Stop>
-    requires may { MayHold graphs.now (O.known oracle.old) ledger.old book.old }
-    requires trail { IsShownTrail graphs.now (O.known oracle.old) book.old domains.old }
-    ensures holds { HoldsBans graphs.now (O.known oracle.old) (O.known oracle.new) ledger.old ledger.new book.old book.new result }
-    ensures trials { OnOk result (guide.new.trials ≡ guide.old.trials) }
-    ensures trail { OnOk result (IsShownTrail graphs.now (O.known oracle.new) book.new domains.new) }
+    requires may { MayStep graphs.now (O.known oracle.old) ledger.old book.old domains.old guide.old.trials }
+    ensures steps { Steps graphs.now (O.known oracle.old) (O.known oracle.new) ledger.old ledger.new book.old book.new
+        domains.new guide.new.trials result }
     ensures less { OnOk result (left domains.new ≤ left domains.old) }
 {
     let Some(pair) = next_held(domains, guide.asked) else {

@@ -21,7 +21,7 @@ use watch_core::Stage;
 const MOST_GUESSES: u32 = 16;
 
 /// What a guess comes to.
-#[derive(Debug, Drop)]
+#[derive(Drop)]
 pub(crate) enum Guessed {
     /// The table is a match.
     Match(Matching, Items<Log>),

@@ -23,7 +23,7 @@ const MOST_ASKED: u64 = 1 << 21;
 
 /// What a search goes by: vectors that pairs are tried on, what vectors showed of claims, for each output of either circuit the
 /// inputs that it reads, and what was asked.
-#[derive(Debug, Drop)]
+#[derive(Drop)]
 pub(crate) struct Guide {
     pub(crate) trials: Trials,
     pub(crate) seen: Seen,

@@ -19,6 +19,7 @@ mod room;
 mod rounds;
 mod searching;
 mod table;
+mod trail;
 mod unlike;
 mod weights;
 

@@ -7,7 +7,7 @@ use port_sides::PairableGraphs;
 use std::alloc::{AllocError, Global};
 
 /// For each output of either circuit the inputs that it reads through gates.
-#[derive(Debug, Drop)]
+#[derive(Drop)]
 pub(crate) struct Reads {
     pub(crate) first: Items<Items<u32>>,
     pub(crate) second: Items<Items<u32>>,

@@ -14,7 +14,7 @@ const BAN: u64 = 250;
 const REFERENCE: u64 = 16;
 
 /// How much memory the bans of a search take, some of a book's, which come one after the other.
-#[derive(Debug, Drop)]
+#[derive(Drop)]
 pub(crate) struct Room {
     /// How many bytes, about.
     taken: u64,

@@ -16,7 +16,7 @@ const OTHER_FACTOR: u64 = 2;
 /// The rounds of a search, after each of which it starts over. Their lengths are as the numbers 1, 1, 2, 1, 1, 2, 4, 1, .. of
 /// Luby, Sinclair and Zuckerman (Information Processing Letters 1993), which solvers use: all rounds of a length take as many
 /// conflicts together as those of any other.
-#[derive(Debug, Drop)]
+#[derive(Drop)]
 pub(crate) struct Rounds {
     /// The numbers by which Knuth makes the sequence (reluctant doubling): the length doubles until it is the greatest power of
     /// two that divides the turn, and then the next turn begins with 1.

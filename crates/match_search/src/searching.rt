@@ -7,7 +7,7 @@ ghost use Rattle.oracle_core.specs.Oracles.{Serves, Suits};
 ghost use Rattle.fact_bans.specs.Serving.{MayHold};
 ghost use Rattle.ban_book.specs.Vectors.{AreLastResorts};
 ghost use Rattle.match_search.specs.Founds.{IsDecidedFound, IsFound};
-ghost use Rattle.match_search.specs.States.{AreValid};
+ghost use Rattle.match_search.specs.States.{Searches};
 ghost use Rattle.table_guess.specs.Trials.{AreTrials};
 
 use crate::branching::explore;
@@ -70,9 +70,7 @@ pub(crate) fn refuse_or_explore<O: Oracle>(
 ) -> Result<Found, Stop>
     requires may { MayHold graphs.now (O.known oracle.old) ledger.old book.old }
     requires trials { AreTrials graphs.now.first guide.old.trials }
-    ensures serves { Serves (O.known oracle.old) (O.known oracle.new) ledger.old ledger.new result }
-    ensures valid { AreValid graphs.now (O.known oracle.new) book.new }
-    ensures found { IfOk result (IsFound graphs.now book.new) }
+    ensures searches { Searches graphs.now (O.known oracle.old) (O.known oracle.new) ledger.old ledger.new book.new result }
     ensures decided { IfOk result (IsDecidedFound graphs.now (map decided_by (O.known oracle.new).facts)) }
 {
     let seen = &mut guide.seen;

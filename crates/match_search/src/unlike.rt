@@ -23,7 +23,7 @@ use query_core::Ledger;
 use std::alloc::{AllocError, Global};
 
 /// A port of the other kind, and what vectors break of the claims of it and a held pair's port (`Seen::broken`).
-#[derive(Clone, Copy, Debug)]
+#[derive(Clone, Copy)]
 struct Beside {
     port: u32,
     broken: u8,

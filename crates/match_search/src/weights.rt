@@ -15,7 +15,7 @@ const MOST_STEP: u64 = 1 << 40;
 
 /// A weight for each port of either circuit: in how many of the last conflicts it was, where a conflict counts for a
 /// sixteenth more than the one before it. Solvers know this as activity (Moskewicz and others, Chaff, DAC 2001).
-#[derive(Debug, Drop)]
+#[derive(Drop)]
 pub(crate) struct Weights {
     /// Of the inputs of the first circuit, those of the second, and of the outputs.
     weights: Vec<u64>,

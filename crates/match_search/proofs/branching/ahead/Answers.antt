@@ -1,15 +1,14 @@
-use Rattle.std.proofs.Common.{map, refl}
+use Rattle.std.proofs.Common.{map}
 use Rattle.account_core.specs.Given.{decided_by}
-use Rattle.fact_bans.proofs.HoldingLemmas.{held_one, held_same, holds_err, holds_last, holds_ok, may_later}
 use Rattle.match_search.proofs.AskLemmas.{ahead_later}
+use Rattle.match_search.proofs.StepLemmas.{may_go_on, steps_err, steps_last, steps_ok, way_one, way_start}
 use Rattle.match_search.proofs.branching.ahead.Goals as goal
 
-pub returns-in_err-impasse-clause-holds : goal.returns-in_err-impasse-clause-holds
-returns-in_err-impasse-clause-holds g c =
-    holds_err _ _ _ _ _ _ _ _ _ _ _ c.in_err-impasse.field-0.0 c.from_residual.ensures.1 (held_same _ _ _ _ c.requires.may) c.in_err-impasse.ensures.holds
+pub returns-in_err-impasse-clause-steps : goal.returns-in_err-impasse-clause-steps
+returns-in_err-impasse-clause-steps g c = steps_err _ _ _ _ _ _ _ _ _ _ _ _ _ c.in_err-impasse.field-0.0 c.from_residual.ensures.1 (way_start _ _ _ _ _ _ c.requires.may).held c.in_err-impasse.ensures.steps.holds
 
-pub returns-in-Some-clause-holds : goal.returns-in-Some-clause-holds
-returns-in-Some-clause-holds g c = holds_ok _ _ _ _ _ _ _ _ _ refl (held_one _ _ _ _ _ _ _ _ c.in_ok-impasse.ensures.holds)
+pub returns-in-Some-clause-steps : goal.returns-in-Some-clause-steps
+returns-in-Some-clause-steps g c = steps_ok _ _ _ _ _ _ _ _ _ _ (way_one _ _ _ _ _ _ _ _ _ _ c.in_ok-impasse.ensures.steps)
 
 pub returns-in-Some-clause-ahead : goal.returns-in-Some-clause-ahead
 returns-in-Some-clause-ahead g c = record {
@@ -17,11 +16,12 @@ returns-in-Some-clause-ahead g c = record {
   less = c.in_ok-impasse.ensures.less;
 }
 
-pub go_on-requires-clause-may : goal.go_on-requires-clause-may
-go_on-requires-clause-may g c = may_later _ _ _ _ _ _ _ c.requires.may (held_one _ _ _ _ _ _ _ _ c.in_ok-impasse.ensures.holds)
+pub go_on-requires : goal.go_on-requires
+go_on-requires g c = record { may = may_go_on _ _ _ _ _ _ _ _ _ c.requires.may.may (way_one _ _ _ _ _ _ _ _ _ _ c.in_ok-impasse.ensures.steps) }
 
-pub returns-clause-holds : goal.returns-clause-holds
-returns-clause-holds g c = holds_last _ _ _ _ _ _ _ _ _ _ _ (held_one _ _ _ _ _ _ _ _ c.in_ok-impasse.ensures.holds) c.go_on.ensures.holds
+pub returns-clause-steps : goal.returns-clause-steps
+returns-clause-steps g c = steps_last _ _ _ _ _ _ _ _ _ _ _ _ _ (way_one _ _ _ _ _ _ _ _ _ _ c.in_ok-impasse.ensures.steps).held c.go_on.ensures.steps
 
 pub returns-clause-ahead : goal.returns-clause-ahead
-returns-clause-ahead g c = ahead_later c.args.graphs.now (map decided_by (g.O.Oracle.known c.go_on.new.oracle).facts) c.go_on.new.book c.args.domains.now c.follow.new.domains c.go_on.new.domains c.go_on.result c.in_ok-impasse.ensures.less c.go_on.ensures.ahead
+returns-clause-ahead g c =
+    ahead_later c.args.graphs.now (map decided_by (g.O.Oracle.known c.go_on.new.oracle).facts) c.go_on.new.book c.args.trail.now.domains c.follow.new.trail.domains c.go_on.new.domains c.go_on.result c.in_ok-impasse.ensures.less c.go_on.ensures.ahead

@@ -1,24 +1,23 @@
-use Rattle.std.proofs.Common.{refl}
-use Rattle.fact_bans.proofs.HoldingLemmas.{held_same, holds_ok, holds_stop}
-use Rattle.match_search.proofs.AskLemmas.{shown_beside}
+use Rattle.std.proofs.Common.{List, sym, subst}
+use Rattle.account_core.specs.declared.step.Ban.{Ban}
+use Rattle.conflict_core.specs.Justified.{IsJustifiedTrail}
+use Rattle.match_search.proofs.StepLemmas.{steps_ok, steps_stop, way_start, way_stays}
 use Rattle.match_search.proofs.branching.go_on.Goals as goal
 
-pub returns-in_err-port-clause-holds : goal.returns-in_err-port-clause-holds
-returns-in_err-port-clause-holds g c =
-    holds_stop _ _ _ _ _ _ _ _ c.from_residual.ensures.1 (held_same _ _ _ _ c.requires.may)
+pub next_port-requires : goal.next_port-requires
+next_port-requires g c = record { fit = c.requires.may.trail.trail.fit }
 
-pub returns-in_err-branch-clause-holds : goal.returns-in_err-branch-clause-holds
-returns-in_err-branch-clause-holds g c =
-    holds_stop _ _ _ _ _ _ _ _ c.from_residual-in_err-branch.ensures.1 (held_same _ _ _ _ c.requires.may)
+pub returns-in_err-port-clause-steps : goal.returns-in_err-port-clause-steps
+returns-in_err-port-clause-steps g c = steps_stop _ _ _ _ _ _ _ _ _ _ c.from_residual.ensures.1 (way_start _ _ _ _ _ _ c.requires.may).held
 
-pub returns-in-None-clause-holds : goal.returns-in-None-clause-holds
-returns-in-None-clause-holds g c = holds_ok _ _ _ _ _ _ _ _ _ refl (held_same _ _ _ _ c.requires.may)
+pub branch-domains-requires-clause-justified : goal.branch-domains-requires-clause-justified
+branch-domains-requires-clause-justified g c = subst (λ (bs : List Ban). IsJustifiedTrail bs c.args.domains.now) (sym c.bans.ensures) c.requires.may.trail.trail.justified
 
-pub returns-in-Some-2-clause-holds : goal.returns-in-Some-2-clause-holds
-returns-in-Some-2-clause-holds g c = holds_ok _ _ _ _ _ _ _ _ _ refl (held_same _ _ _ _ c.requires.may)
+pub returns-in_err-branch-clause-steps : goal.returns-in_err-branch-clause-steps
+returns-in_err-branch-clause-steps g c = steps_stop _ _ _ _ _ _ _ _ _ _ c.from_residual-in_err-branch.ensures.1 (way_start _ _ _ _ _ _ c.requires.may).held
 
-pub returns-in-None-clause-trail : goal.returns-in-None-clause-trail
-returns-in-None-clause-trail g c = shown_beside _ _ _ _ _ _ c.bans.ensures c.requires.trail c.in_ok-branch.ensures.stays.inputs c.in_ok-branch.ensures.stays.outputs c.in_ok-branch.ensures.stays.justified c.in_ok-branch.ensures.stays.grounded
+pub returns-in-None-clause-steps : goal.returns-in-None-clause-steps
+returns-in-None-clause-steps g c = steps_ok _ _ _ _ _ _ _ _ _ _ (way_stays _ _ _ _ _ _ _ _ _ _ _ c.bans.ensures (way_start _ _ _ _ _ _ c.requires.may) c.in_ok-branch.ensures.stays)
 
-pub returns-in-Some-2-clause-trail : goal.returns-in-Some-2-clause-trail
-returns-in-Some-2-clause-trail g c = shown_beside _ _ _ _ _ _ c.bans.ensures c.requires.trail c.in_ok-branch.ensures.stays.inputs c.in_ok-branch.ensures.stays.outputs c.in_ok-branch.ensures.stays.justified c.in_ok-branch.ensures.stays.grounded
+pub returns-in-Some-2-clause-steps : goal.returns-in-Some-2-clause-steps
+returns-in-Some-2-clause-steps g c = steps_ok _ _ _ _ _ _ _ _ _ _ (way_stays _ _ _ _ _ _ _ _ _ _ _ c.bans.ensures (way_start _ _ _ _ _ _ c.requires.may) c.in_ok-branch.ensures.stays)

@@ -1,17 +1,17 @@
-use Rattle.std.proofs.Common.{refl}
-use Rattle.fact_bans.proofs.HoldingLemmas.{held_one, held_same, holds_err, holds_ok}
-use Rattle.match_search.proofs.AskLemmas.{shown_adds}
+use Rattle.match_search.proofs.StepLemmas.{may_tried, steps_err, steps_ok, way_bans, way_start}
 use Rattle.match_search.proofs.following.ask_next.Goals as goal
 
+pub ask_next_pair-requires : goal.ask_next_pair-requires
+ask_next_pair-requires g c = record { may = may_tried _ _ _ _ _ _ _ c.next_output.ensures.trials c.requires.may }
+
+pub ask_output-requires-clause-may : goal.ask_output-requires-clause-may
+ask_output-requires-clause-may g c = c.requires.may.may
+
 pub ask_output-requires-clause-fit : goal.ask_output-requires-clause-fit
-ask_output-requires-clause-fit g c = c.requires.trail.trail.fit
+ask_output-requires-clause-fit g c = c.requires.may.trail.trail.fit
 
-pub returns-in_err-ask_output-clause-holds : goal.returns-in_err-ask_output-clause-holds
-returns-in_err-ask_output-clause-holds g c =
-    holds_err _ _ _ _ _ _ _ _ _ _ _ c.in_err-ask_output.field-0.0 c.from_residual.ensures.1 (held_same _ _ _ _ c.requires.may) c.in_err-ask_output.ensures
+pub returns-in_err-ask_output-clause-steps : goal.returns-in_err-ask_output-clause-steps
+returns-in_err-ask_output-clause-steps g c = steps_err _ _ _ _ _ _ _ _ _ _ _ _ _ c.in_err-ask_output.field-0.0 c.from_residual.ensures.1 (way_start _ _ _ _ _ _ c.requires.may).held c.in_err-ask_output.ensures
 
-pub returns-clause-holds : goal.returns-clause-holds
-returns-clause-holds g c = holds_ok _ _ _ _ _ _ _ _ _ refl (held_one _ _ _ _ _ _ _ _ c.in_ok-ask_output.ensures)
-
-pub returns-clause-trail : goal.returns-clause-trail
-returns-clause-trail g c = shown_adds _ _ _ _ _ _ c.in_ok-ask_output.ensures.serves.grows c.in_ok-ask_output.ensures.adds c.requires.trail
+pub returns-clause-steps : goal.returns-clause-steps
+returns-clause-steps g c = steps_ok _ _ _ _ _ _ _ _ _ _ (way_bans _ _ _ _ _ _ _ _ _ _ _ _ _ _ (way_start _ _ _ _ _ _ c.requires.may) c.in_ok-ask_output.ensures c.next_output.ensures.trials)

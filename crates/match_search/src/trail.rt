@@ -1,0 +1,33 @@
+//! The pairs that are held and deleted, and what of that was followed.
+
+ghost use Rattle.std.specs.Prelude.{◌≡◌, [], List, IfOk};
+ghost use Rattle.account_core.specs.declared.step.Ban.{Ban as AnyBan};
+ghost use Rattle.pair_search.specs.Progress.{IsTrail};
+
+use circuits::PortKind;
+use class_refine::Domains;
+use pair_search::Queue;
+use port_sides::PairableGraphs;
+use std::alloc::{AllocError, Global};
+
+/// The pairs of two circuits, held and deleted in order, and how far it was followed what comes of that.
+#[derive(Drop)]
+pub(crate) struct Trail {
+    pub(crate) domains: Domains,
+    pub(crate) queue: Queue,
+}
+
+impl Trail {
+    /// All pairs are open, and nothing was propagated.
+    pub(crate) fn new(alloc: Global, graphs: &PairableGraphs<'_>) -> Result<Trail, AllocError>
+        ensures trail { IfOk result (λ trail. (bans : List AnyBan) → IsTrail graphs.now bans trail.domains) }
+        ensures none { IfOk result (λ trail. trail.domains.entries ≡ []) }
+    {
+        let _ports = graphs.graphs();
+        let inputs = graphs.ports(PortKind::Input);
+        let outputs = graphs.ports(PortKind::Output);
+        let domains = Domains::new(alloc, inputs, outputs)?;
+        let queue = Queue::new(alloc, inputs, outputs)?;
+        Ok(Trail { domains, queue })
+    }
+}
