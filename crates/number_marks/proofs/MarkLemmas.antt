@@ -1,6 +1,7 @@
 -- What is listed is what is marked.
 use Rattle.std.proofs.Common.{◌≡◌, ℕ, ◌<◌, ◌||◌, nat_eq, cond, Bool, true, false, List, [], ◌∷◌, ◌++◌, length, set, replicate, All, slice_index_or, if◌then◌else◌, inl, inr, refl, sym, ap, ◌∙◌, arith}
 use Rattle.std.specs.List.{list_any}
+use Rattle.std.proofs.lemmas.Bool.{or_right}
 use Rattle.std.proofs.lemmas.Bool.Decides.{eqb_tells}
 use Rattle.std.proofs.lemmas.List.{ext_get_or, get_or-replicate, get_or-set_other, get_or-set_same, length-replicate, length-set, set-get_or}
 use Rattle.std.proofs.lemmas.List.Elements.{All-push}
@@ -30,15 +31,11 @@ listed_more count numbers n there =
     let among = list_any (nat_eq k) numbers in
     listed_at count (numbers ++ n ∷ []) k low ∙ (list_any-append (nat_eq k) numbers (n ∷ []) ∙ elim (eqb_tells k n) [
       | inl (found, e) ↦
-          ap (λ b. among || (b || false)) found ∙ (or_true among ∙ sym (ap (λ j. slice_index_or (set old n true) j false) e ∙ get_or-set_same old n true false (omega (arith, there, length-listed count numbers))))
+          ap (λ b. among || (b || false)) found ∙ (or_right among true refl ∙ sym (ap (λ j. slice_index_or (set old n true) j false) e ∙ get_or-set_same old n true false (omega (arith, there, length-listed count numbers))))
       | inr (found, apart) ↦
           ap (λ b. among || (b || false)) found ∙ (or_false among ∙ sym (get_or-set_other old n k true false apart ∙ listed_at count numbers k low))
     ]))
   where
-    or_true : (b : Bool) → (b || true) ≡ true
-    or_true true = refl
-    or_true false = refl
-
     or_false : (b : Bool) → (b || false) ≡ b
     or_false true = refl
     or_false false = refl

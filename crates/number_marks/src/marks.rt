@@ -14,7 +14,6 @@ const NUMBERS_A_MARK: usize = 1024;
 /// Which of the numbers below a count are marked. Contracts see a list with a bit for each of these numbers.
 ///
 /// While few are marked, it takes a step and some bytes for each mark, whatever the count is.
-#[derive(Drop)]
 pub struct Marks {
     form: Form,
 }
@@ -40,6 +39,13 @@ impl Model for Marks {
     ghost view = { λ a. marks_in a.form };
 
     ghost invariant = { λ a. AreBelow a.form };
+}
+
+// By hand, and so one call wherever a value ends: a derived drop is expanded there, field by field, and makes proofs long.
+impl Drop for Marks {
+    fn drop(self) {
+        let Marks { form: _form } = self;
+    }
 }
 
 impl Marks {

@@ -15,7 +15,6 @@ use std::marker::Model;
 
 /// The clauses of a query. An assignment that meets them has, as the bits of its variables 1 to n, a vector that is
 /// asked for, and each such vector is that of an assignment.
-#[derive(Drop)]
 pub struct QueryBase<'a> {
     graphs: &'a Graphs<'a>,
     query: Query,
@@ -33,6 +32,18 @@ impl<'a> Model for QueryBase<'a> {
     ghost view = { λ a. record { graphs = a.graphs.now; query = a.query } };
 
     ghost invariant = { λ a. IsAsking a.graphs.now a.query a.left a.right };
+}
+
+// By hand, and so one call wherever a value ends: a derived drop is expanded there, field by field, and makes proofs long.
+impl Drop for QueryBase<'_> {
+    fn drop(self) {
+        let QueryBase {
+            graphs: _graphs,
+            query: _query,
+            left: _left,
+            right: _right,
+        } = self;
+    }
 }
 
 impl<'a> QueryBase<'a> {

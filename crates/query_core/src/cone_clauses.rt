@@ -19,7 +19,6 @@ use std::marker::Model;
 /// reaches, and those of the two outputs. What meets these clauses has a vector that is asked for.
 ///
 /// They cost by the cones and not by the circuits: a step for each gate that is reached and for each input.
-#[derive(Drop)]
 pub struct ConeClauses<'a> {
     graphs: &'a Graphs<'a>,
     query: Query,
@@ -38,6 +37,19 @@ impl<'a> Model for ConeClauses<'a> {
     ghost view = { λ a. record { graphs = a.graphs.now; query = a.query; ids = a.ids.items } };
 
     ghost invariant = { λ a. IsConing a.graphs.now a.query a.left a.right a.ids.items };
+}
+
+// By hand, and so one call wherever a value ends: a derived drop is expanded there, field by field, and makes proofs long.
+impl Drop for ConeClauses<'_> {
+    fn drop(self) {
+        let ConeClauses {
+            graphs: _graphs,
+            query: _query,
+            left: _left,
+            right: _right,
+            ids: _ids,
+        } = self;
+    }
 }
 
 impl<'a> ConeClauses<'a> {

@@ -23,7 +23,7 @@ use std::marker::Model;
 ///
 /// The feeds of a claim, and those that give each input its own bit, take no memory beside the value itself, however
 /// many inputs there are.
-#[derive(Debug, Drop)]
+#[derive(Debug)]
 pub struct Feeds {
     form: Form,
 }
@@ -47,6 +47,13 @@ impl Model for Feeds {
     ghost use Rattle.query_core.specs.Feeds.{feeds_in};
 
     ghost view = { λ a. feeds_in a.form };
+}
+
+// By hand, and so one call wherever a value ends: a derived drop is expanded there, field by field, and makes proofs long.
+impl Drop for Feeds {
+    fn drop(self) {
+        let Feeds { form: _form } = self;
+    }
 }
 
 impl Feeds {
