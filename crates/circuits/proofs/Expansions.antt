@@ -1,10 +1,9 @@
 -- That what a definition is expanded to has its meaning.
-use Rattle.std.proofs.Common.{ℕ, suc, ◌+◌, ◌-◌, ◌*◌, ◌/◌, ◌%◌, ◌<◌, ◌≤◌, ◌≡◌, Bool, true, false, not, ◌&&◌, ◌||◌, cond, eqb, List, [], ◌∷◌, ◌++◌, length, get_or, map, All, refl, sym, ap, ap₂, subst, ◌∙◌, inl, inr, arith}
+use Rattle.std.proofs.Common.{ℕ, ◌+◌, ◌-◌, ◌*◌, ◌/◌, ◌%◌, ◌<◌, ◌≤◌, ◌≡◌, Bool, true, false, not, ◌&&◌, ◌||◌, cond, eqb, List, [], ◌∷◌, ◌++◌, length, get_or, map, All, refl, sym, ap, ap₂, subst, ◌∙◌, inl, inr, arith}
 use Rattle.std.proofs.Math.Bool.{and_assoc}
-use Rattle.std.proofs.lemmas.Bool.{cases_lt}
 use Rattle.std.proofs.lemmas.Bool.Decides.{eqb_tells}
 use Rattle.std.proofs.lemmas.List.{length_push, get_or_append_left, get_or_push}
-use Rattle.std.proofs.lemmas.List.Elements.{All-nil, All-cons, All-map}
+use Rattle.std.proofs.lemmas.List.Elements.{All-nil, All-cons, All-map, All-tail}
 use Rattle.std.specs.List.{list_all, list_any}
 use Rattle.circuits.specs.declared.netlist.Lit.{Lit}
 use Rattle.circuits.specs.declared.netlist.Gate.{Gate}
@@ -16,6 +15,7 @@ use Rattle.circuits.specs.Literals.{bit, differ, signal_of, is_negated, literal_
 use Rattle.circuits.specs.Netlists.{gate_bit, with_gates}
 use Rattle.circuits.specs.Circuits.{named_by, row_fits, cover_bit, def_bit}
 use Rattle.circuits.specs.Expansion.{Made, made, gate_of, and_with, and_each, and_all, row_literals, row_made, inverted, or_with, or_each, cover_made, stand_in, stands_for, def_made}
+use Rattle.circuits.proofs.EachLemmas.{each_push}
 use Rattle.circuits.proofs.Valuations.{ReadsBelow, first_operand, second_operand, length-with_gates, with_gates-before}
 
 -- the bits of signs
@@ -99,19 +99,10 @@ pub record AreEarlier (first : ℕ) (gates : List Gate) : Type 0 where
   pub firsts : ReadsBelow first first_operand gates
   pub seconds : ReadsBelow first second_operand gates
 
-ReadsBelow-push : (first : ℕ) (operand : Gate → ℕ) (gates : List Gate) (gate : Gate) → ReadsBelow first operand gates → operand gate < first + length gates → ReadsBelow first operand (gates ++ gate ∷ [])
-ReadsBelow-push first operand gates gate reads h t d l =
-    elim (cases_lt t (length gates)) [
-      | inl less ↦ subst (λ g. operand g < first + t) (sym (get_or_append_left gates (gate ∷ []) d t less)) (reads t d less)
-      | inr past ↦
-          let e : length gates ≡ t = omega (arith, length_push gates gate) in
-          subst (λ g. operand g < first + t) (sym (get_or_push gates gate d t e)) (omega (arith, h))
-    ]
-
 pub AreEarlier-push : (first : ℕ) (gates : List Gate) (gate : Gate) → AreEarlier first gates → signal_of gate.a < first + length gates → signal_of gate.b < first + length gates → AreEarlier first (gates ++ gate ∷ [])
 AreEarlier-push first gates gate are a b = record {
-  firsts = ReadsBelow-push first first_operand gates gate are.firsts a;
-  seconds = ReadsBelow-push first second_operand gates gate are.seconds b;
+  firsts = each_push (λ t g. first_operand g < first + t) gates gate are.firsts a;
+  seconds = each_push (λ t g. second_operand g < first + t) gates gate are.seconds b;
 }
 
 -- the bits of the constant, the vector and the gates
@@ -166,9 +157,6 @@ IsMade-and x g p l b c is h bit_l = record {
   there = omega (arith, signal_of-plain (1 + length x + length p.gates), length_push p.gates (gate_of p.value l));
   is = literal_bit-plain (bits x (p.gates ++ gate_of p.value l ∷ [])) (1 + length x + length p.gates) ∙ (bits-at x p.gates (gate_of p.value l) ∙ ap₂ (λ d e. d && e) is.is bit_l);
 }
-
-pub All-tail : {X : Type 0} (P : X → Type 0) (x : X) (xs : List X) → All P (x ∷ xs) → All P xs
-All-tail P x xs all k d h = all (suc k) d (omega arith)
 
 pub IsMade-each : (x : List Bool) (g : List Gate) (p : Made) (ls : List Lit) (b : Bool) → IsMade x g p b → All (IsRead x g) ls → IsMade x g (and_each (1 + length x) p ls) (b && list_all (literal_bit (bits x g)) ls)
 IsMade-each x g p [] b is all = subst (IsMade x g p) (sym (and_true b)) is

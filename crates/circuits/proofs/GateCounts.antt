@@ -15,7 +15,7 @@ use Rattle.circuits.specs.Netlists.{Net}
 use Rattle.circuits.specs.Circuits.{Circuit, IsClosed, HasWideRows, def_at}
 use Rattle.circuits.specs.Expansion.{Made, Making, made, gate_of, and_with, and_each, and_all, row_literals, row_made, or_with, or_each, cover_made, stand_in, stands_for, def_made, with_def, with_defs, no_gates, gives_literal, row_gates, def_gates, gates_in}
 use Rattle.circuits.specs.Levels.{IsLevelOrder, IsOrderOf}
-use Rattle.circuits.proofs.Expansions.{All-tail}
+use Rattle.std.proofs.lemmas.List.Elements.{All-tail}
 use Rattle.circuits.proofs.LevelOrders.{IsLevelOrder-in_range}
 
 pub length-and_each : (first : ℕ) (p : Made) (ls : List Lit) → length (and_each first p ls).gates ≡ length p.gates + length ls

@@ -4,7 +4,7 @@ use Rattle.std.proofs.Math.Seq.{take-suc}
 use Rattle.std.proofs.lemmas.Bool.{cases_eq, cases_lt, or_cases}
 use Rattle.std.proofs.lemmas.Bool.Decides.{eqb_tells}
 use Rattle.std.proofs.lemmas.List.{get_or_default, get_or-set_same, get_or-set_other, length-map, length-set, length-replicate, take_all}
-use Rattle.std.proofs.lemmas.List.Elements.{All-map}
+use Rattle.std.proofs.lemmas.List.Elements.{All-map, All-tail}
 use Rattle.std.proofs.lemmas.List.Folds.{list_any_at}
 use Rattle.std.proofs.lemmas.List.FromFn.{length-range_with_len, get_or-range_with_len, length-map-range_with_len, get_or-map-range_with_len}
 use Rattle.std.proofs.lemmas.List.Sorted.{All-permutation, length_permutation, list_any-IsPermutation}
@@ -18,7 +18,7 @@ use Rattle.circuits.specs.Expansion.{Made, Making, stand_in, stands_for, def_mad
 use Rattle.circuits.specs.Functions.{Computes}
 use Rattle.circuits.specs.Levels.{IsWithin, HasLevel, IsAcyclic, IsLevelOrder, IsOrderOf}
 use Rattle.circuits.proofs.CircuitValuations.{some_valuation}
-use Rattle.circuits.proofs.Expansions.{AreEarlier, IsMade, IsMade-def, IsStoodFor, bits, kept_bit, All-tail, literal_bit-plain, signal_of-plain, stands_for-read, stands_for-bit}
+use Rattle.circuits.proofs.Expansions.{AreEarlier, IsMade, IsMade-def, IsStoodFor, bits, kept_bit, literal_bit-plain, signal_of-plain, stands_for-read, stands_for-bit}
 use Rattle.circuits.proofs.LevelLaws.{HasLevel-only, IsWithin-named, IsClosed-named}
 
 pub Contains-from_any : (d : ℕ) (order : List ℕ) → list_any (eqb d) order ≡ true → Contains order d
