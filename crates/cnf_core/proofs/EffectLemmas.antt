@@ -169,47 +169,34 @@ all_any x a (y ∷ ys) all any =
       | inr after ↦ all_any x a ys parts.1 after
     ]
 
--- two literals of a clause that differ and aren't false
-pub neither_two : (made clause : List SatLit) (a b : SatLit) → a.0 ≢ b.0 → is_false made a ≡ false → is_false made b ≡ false → list_any (is_same a) clause ≡ true → list_any (is_same b) clause ≡ true → effect_of made clause ≡ Neither
-neither_two made clause a b differ free_a free_b in_a in_b = by_open (open_ones made clause) refl
+-- it does nothing where it does nothing with all its open literals one literal, and some literal is open
+neither_from : (made clause : List SatLit) (l : SatLit) → list_any (is_same l) (open_ones made clause) ≡ true → ((x : SatLit) (others : List SatLit) → open_ones made clause ≡ x ∷ others → list_all (is_same x) others ≡ true → ((m : SatLit) → list_any (is_same m) (open_ones made clause) ≡ true → x ≡ m) → effect_of made clause ≡ Neither) → effect_of made clause ≡ Neither
+neither_from made clause l found one = by_open (open_ones made clause) refl
   where
-    found_a : list_any (is_same a) (open_ones made clause) ≡ true
-    found_a = any_in_open made a clause free_a in_a
-
-    found_b : list_any (is_same b) (open_ones made clause) ≡ true
-    found_b = any_in_open made b clause free_b in_b
-
-    by_open : (os : List SatLit) → open_ones made clause ≡ os → effect_of made clause ≡ Neither
-    by_open [] is = absurd (false≢true (sym (ap (list_any (is_same a)) is) ∙ found_a))
-    by_open (x ∷ others) is =
-        elim (cases_Bool (list_all (is_same x) others)) [
-          | inl same ↦
-              let all = and_from (is_same x x) (list_all (is_same x) others) (same_itself x) same in
-              let first = all_any x a (x ∷ others) all (sym (ap (list_any (is_same a)) is) ∙ found_a) in
-              let second = all_any x b (x ∷ others) all (sym (ap (list_any (is_same b)) is) ∙ found_b) in
-              absurd (differ (ap (λ (m : SatLit). m.0) (sym first ∙ second)))
-          | inr mixed ↦ ap (effect_by made) is ∙ ap (λ t. cond (t && not (is_true made x)) (Makes x) Neither) mixed
-        ]
-
--- a clause with a true literal
-pub neither_true : (made clause : List SatLit) (l : SatLit) → is_true made l ≡ true → is_false made l ≡ false → list_any (is_same l) clause ≡ true → effect_of made clause ≡ Neither
-neither_true made clause l holds free inside = by_open (open_ones made clause) refl
-  where
-    found : list_any (is_same l) (open_ones made clause) ≡ true
-    found = any_in_open made l clause free inside
-
     by_open : (os : List SatLit) → open_ones made clause ≡ os → effect_of made clause ≡ Neither
     by_open [] is = absurd (false≢true (sym (ap (list_any (is_same l)) is) ∙ found))
     by_open (x ∷ others) is =
         elim (cases_Bool (list_all (is_same x) others)) [
           | inl same ↦
               let all = and_from (is_same x x) (list_all (is_same x) others) (same_itself x) same in
-              let first = all_any x l (x ∷ others) all (sym (ap (list_any (is_same l)) is) ∙ found) in
-              ap (effect_by made) is
-              ∙ (ap (λ t. cond (t && not (is_true made x)) (Makes x) Neither) same
-              ∙ ap (λ t. cond (not t) (Makes x) Neither) (ap (is_true made) first ∙ holds))
+              one x others is same (λ m found_m. all_any x m (x ∷ others) all (sym (ap (list_any (is_same m)) is) ∙ found_m))
           | inr mixed ↦ ap (effect_by made) is ∙ ap (λ t. cond (t && not (is_true made x)) (Makes x) Neither) mixed
         ]
+
+-- two literals of a clause that differ and aren't false
+pub neither_two : (made clause : List SatLit) (a b : SatLit) → a.0 ≢ b.0 → is_false made a ≡ false → is_false made b ≡ false → list_any (is_same a) clause ≡ true → list_any (is_same b) clause ≡ true → effect_of made clause ≡ Neither
+neither_two made clause a b differ free_a free_b in_a in_b =
+    let found_a = any_in_open made a clause free_a in_a in
+    let found_b = any_in_open made b clause free_b in_b in
+    neither_from made clause a found_a (λ x others is same only. absurd (differ (ap (λ (m : SatLit). m.0) (sym (only a found_a) ∙ only b found_b))))
+
+-- a clause with a true literal
+pub neither_true : (made clause : List SatLit) (l : SatLit) → is_true made l ≡ true → is_false made l ≡ false → list_any (is_same l) clause ≡ true → effect_of made clause ≡ Neither
+neither_true made clause l holds free inside =
+    let found = any_in_open made l clause free inside in
+    neither_from made clause l found (λ x others is same only.
+    ap (effect_by made) is
+    ∙ (ap (λ t. cond (t && not (is_true made x)) (Makes x) Neither) same ∙ ap (λ t. cond (not t) (Makes x) Neither) (ap (is_true made) (only l found) ∙ holds)))
 
 -- a literal of a clause is known where all are
 pub known_at : (n : ℕ) (clause : List SatLit) (l : SatLit) → All (λ m. variable_of m < n) clause → list_any (is_same l) clause ≡ true → variable_of l < n
