@@ -2,7 +2,7 @@
 use Rattle.std.proofs.Common.{ℕ, suc, ◌+◌, ◌-◌, ◌*◌, ◌<◌, ◌≤◌, ◌≡◌, ◌≢◌, ◌⊎◌, max, cond, List, [], ◌∷◌, ◌++◌, length, get_or, set, take, Contains, refl, sym, ap, subst, ◌∙◌, inl, inr, arith}
 use Rattle.std.proofs.Math.Seq.{map-set_same, take-suc}
 use Rattle.std.proofs.lemmas.Bool.{cases_eq, cases_lt}
-use Rattle.std.proofs.lemmas.List.{get_or_default, get_or-set_same, get_or-set_other, get_or_append_left, get_or_push, get_or-take, get_or-map, length_push, length-map, length-set, length-take-le, map-append, take-map, take_all}
+use Rattle.std.proofs.lemmas.List.{get_or_default, get_or-set_same, get_or-set_other, get_or_append_left, get_or_push, get_or-take, get_or-map, length_push, length-map, length-set, length-take-le, map_push, nil_from_length, take-map, take_all}
 use Rattle.std.proofs.lemmas.List.Elements.{All-push, All-set, All-take, Contains-push, Contains-append_left}
 use Rattle.std.proofs.lemmas.List.Sums.{sum_by-set}
 use Rattle.circuits.specs.Circuits.{Circuit, names_of, signal_at}
@@ -194,9 +194,6 @@ fresh e = record { position = e; next = 0; highest = 0 }
 pub IsLooked-fresh : (circuit : Circuit) (steps e : ℕ) → steps ≤ 2 * length circuit.defs → IsLooked circuit steps (fresh e)
 IsLooked-fresh circuit steps e few = record { within = omega arith; have = HaveLevel-none circuit; few = omega arith }
 
-pub positions-push : (stack : List Frame) (frame : Frame) → positions (stack ++ frame ∷ []) ≡ positions stack ++ frame.position ∷ []
-positions-push stack frame = map-append (λ (f : Frame). f.position) stack (frame ∷ [])
-
 -- the position on top
 pub top-position : (stack : List Frame) (frame : Frame) → 0 < length stack → frame ≡ get_or stack (length stack - 1) frame → frame.position ≡ get_or (positions stack) (length (positions stack) - 1) frame.position
 top-position stack frame more top =
@@ -221,7 +218,7 @@ IsUnderWay-enter circuit root visits stack frame looked e more top step way = re
 
     same : positions (set stack (length stack - 1) looked ++ fresh e ∷ []) ≡ positions stack ++ e ∷ []
     same =
-        positions-push (set stack (length stack - 1) looked) (fresh e) ∙ ap (λ xs. xs ++ e ∷ []) (positions-set_top stack (length stack - 1) frame looked top step.4)
+        map_push (λ (f : Frame). f.position) (set stack (length stack - 1) looked) (fresh e) ∙ ap (λ xs. xs ++ e ∷ []) (positions-set_top stack (length stack - 1) frame looked top step.4)
 
     steps : ℕ
     steps = left (set visits e Open) (positions (set stack (length stack - 1) looked ++ fresh e ∷ []))
@@ -234,12 +231,9 @@ IsUnderWay-enter circuit root visits stack frame looked e more top step way = re
     later f is =
         IsLooked-later circuit (left visits (positions stack)) (left (set visits e Open) (positions (set stack (length stack - 1) looked ++ fresh e ∷ []))) f (omega (arith, less)) is
 
-pub positions-take : (stack : List Frame) (n : ℕ) → positions (take n stack) ≡ take n (positions stack)
-positions-take stack n = sym (take-map (λ (f : Frame). f.position) n stack)
-
 pub positions-pop : (stack : List Frame) → positions (take (length stack - 1) stack) ≡ take (length (positions stack) - 1) (positions stack)
 positions-pop stack =
-    positions-take stack (length stack - 1) ∙ ap (λ n. take (n - 1) (positions stack)) (sym (length-map stack (λ (f : Frame). f.position)))
+    sym (take-map (λ (f : Frame). f.position) (length stack - 1) stack) ∙ ap (λ n. take (n - 1) (positions stack)) (sym (length-map stack (λ (f : Frame). f.position)))
 
 pub left-closed : (visits : List Visit) (stack : List Frame) (d level : ℕ) → d < length visits → 0 < length stack → left (set visits d (Level level)) (positions (take (length stack - 1) stack)) < left visits (positions stack)
 left-closed visits stack d level h more =
@@ -281,16 +275,12 @@ AreMet-more visits count here before k l =
       | inr same ↦ let e : count ≡ k = omega arith in subst (λ n. visit_of visits n ≢ New) e here
     ]
 
-pub nil-from_length : (xs : List Frame) → length xs ≡ 0 → xs ≡ []
-nil-from_length [] h = refl
-nil-from_length (x ∷ xs) h = absurd (omega arith)
-
 pub IsUnderWay-start : (circuit : Circuit) (root : ℕ) (visits : List Visit) (stack : List Frame) → root < length circuit.defs → visit_of visits root ≡ New → IsReady circuit root visits stack → IsUnderWay circuit root (set visits root Open) (stack ++ fresh root ∷ [])
 IsUnderWay-start circuit root visits stack h new ready =
     subst (λ xs. IsUnderWay circuit root (set visits root Open) (xs ++ fresh root ∷ [])) (sym none) start
   where
     none : stack ≡ []
-    none = nil-from_length stack ready.no_stack
+    none = nil_from_length stack ready.no_stack
 
     there : root < length visits
     there = omega (arith, h, ready.knows.entries)
