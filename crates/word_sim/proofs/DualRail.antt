@@ -1,8 +1,5 @@
 -- Two bits for each of three values: the gates of rails are those of the values.
-use Rattle.std.proofs.Common.{ℕ, zero, suc, ◌+◌, ◌<◌, ◌≡◌, Bool, true, false, ◌&&◌, ◌||◌, cond, eqb, List, [], ◌∷◌, ◌++◌, length, get_or, map, take, drop, replicate, set, refl, sym, ap, ◌∙◌, inl, inr, arith, bit_or, max}
-use Rattle.std.specs.Int.{bit_at}
-use Rattle.std.specs.Prelude.{Result, Ok, Err, IfOk}
-use Rattle.std.proofs.lemmas.Nat.Bits.{bit_at_or, bit_at-lt, bit_at-zero}
+use Rattle.std.proofs.Common.{ℕ, zero, suc, ◌+◌, ◌<◌, ◌≡◌, Bool, true, false, ◌&&◌, cond, List, [], ◌∷◌, ◌++◌, length, get_or, map, take, drop, replicate, set, refl, sym, ap, ◌∙◌, arith}
 use Rattle.std.proofs.lemmas.List.{get_or-take, get_or-replicate, map-append, take-map, take_all, take_more, take_more_set, drop_all, at_drop_more}
 use Rattle.circuits.specs.declared.netlist.Lit.{Lit}
 use Rattle.circuits.specs.declared.netlist.Gate.{Gate}
@@ -14,18 +11,7 @@ use Rattle.word_sim.specs.declared.tri.Tri.TheVariants.{Zero, One, X}
 use Rattle.word_sim.specs.Columns.{word_bit, word_of}
 use Rattle.word_sim.specs.Rails.{Rail, rail_and, rail_at, rail_gate, rail_literal, rail_not, rail_of, rails_at, signed_rail, value_of}
 use Rattle.word_sim.specs.ThreeValues.{tri_and, tri_gate, tri_literal, tri_not, with_tri_gates}
-use Rattle.word_sim.proofs.Lanes.{two}
-
--- digits of base two: the greater one
-greater : (m n : ℕ) → m < 2 → n < 2 → eqb (max m n) 1 ≡ eqb m 1 || eqb n 1
-greater m n l k =
-    elim (two m l) [
-      | inl e ↦ elim (two n k) [ inl f ↦ rw e (rw f refl) | inr f ↦ rw e (rw f refl) ]
-      | inr e ↦ elim (two n k) [ inl f ↦ rw e (rw f refl) | inr f ↦ rw e (rw f refl) ]
-    ]
-
-pub or-bit : (v a b : ℕ) → word_bit v (bit_or a b) ≡ word_bit v a || word_bit v b
-or-bit v a b = ap (λ n. eqb n 1) (bit_at_or a b v) ∙ greater (bit_at a v) (bit_at b v) (bit_at-lt a v) (bit_at-lt b v)
+use Rattle.word_sim.proofs.Lanes.{zero-bit}
 
 rail_of-not : (value : Tri) → rail_of (tri_not value) ≡ rail_not (rail_of value)
 rail_of-not Zero = refl
@@ -116,7 +102,7 @@ inputs-more w v inputs signals i d here room so_far =
     ∙ ap (λ list. rail_of Zero ∷ list) (sym (map-append (rail_at w v) (take i inputs) (rails ∷ [])) ∙ ap (rails_at w v) (sym (take_more inputs i d here)))))
 
 pub no-bit : (w v : ℕ) → w < 8 → word_bit v (word_of w (replicate 8 0)) ≡ false
-no-bit w v h = ap (word_bit v) (get_or-replicate 8 w 0 0 h) ∙ ap (λ n. eqb n 1) (bit_at-zero v)
+no-bit w v h = ap (word_bit v) (get_or-replicate 8 w 0 0 h) ∙ zero-bit v
 
 -- the constant's rails
 pub constant-first : (w v : ℕ) (signals : List Rails) (rails : Rails) → 0 < length signals → w < 8 → rail_at w v rails ≡ rail_of (value_of (word_bit v (word_of w (replicate 8 0)))) → rails_at w v (take 1 (set signals 0 rails)) ≡ rail_of Zero ∷ []
@@ -130,8 +116,3 @@ make a b = record { one = a; zero = b }
 pub known-rail : (b z : Bool) → z ≡ differ b true && differ b true → make b z ≡ rail_of (value_of b)
 known-rail true z is = ap (make true) is
 known-rail false z is = ap (make false) is
-
--- what follows where a call succeeds
-pub if_ok : {T E : Type 0} (r : Result T E) (P Q : T → Type 0) → ((x : T) → P x → Q x) → IfOk r P → IfOk r Q
-if_ok (Ok x) P Q then said = then x said
-if_ok (Err e) P Q then said = tt

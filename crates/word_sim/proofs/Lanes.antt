@@ -1,7 +1,8 @@
 -- One bit of each word: the gates of words are the gates of bits.
-use Rattle.std.proofs.Common.{ℕ, zero, suc, cond, ◌%◌, ◌+◌, ◌<◌, ◌≡◌, ◌^◌, ◌-◌, ◌⊎◌, Bool, true, false, ◌&&◌, eqb, List, [], ◌∷◌, ◌++◌, get_or, map, refl, ap, ◌∙◌, inl, inr, arith, bit_and, bit_xor, min}
+use Rattle.std.proofs.Common.{ℕ, zero, suc, cond, ◌%◌, ◌+◌, ◌<◌, ◌≡◌, ◌^◌, ◌-◌, ◌⊎◌, Bool, true, false, ◌&&◌, ◌||◌, eqb, max, bit_or, List, [], ◌∷◌, ◌++◌, get_or, map, refl, ap, ◌∙◌, inl, inr, arith, bit_and, bit_xor, min}
 use Rattle.std.specs.Int.{bit_at}
-use Rattle.std.proofs.lemmas.Nat.Bits.{bit_at_and, bit_at_xor, bit_at_ones, bit_at-zero, bit_at-lt}
+use Rattle.std.proofs.lemmas.List.{map_push}
+use Rattle.std.proofs.lemmas.Nat.Bits.{bit_at_and, bit_at_or, bit_at_xor, bit_at_ones, bit_at-zero, bit_at-lt}
 use Rattle.circuits.specs.declared.netlist.Lit.{Lit}
 use Rattle.circuits.specs.declared.netlist.Gate.{Gate}
 use Rattle.circuits.specs.Literals.{bit, differ, signal_of, is_negated, literal_bit}
@@ -13,13 +14,19 @@ two zero h = inl refl
 two (suc zero) h = inr refl
 two (suc (suc n)) h = absurd (omega arith)
 
--- digits of base two: the lesser one, and the digit of a sum
-lesser : (m n : ℕ) → m < 2 → n < 2 → eqb (min m n) 1 ≡ eqb m 1 && eqb n 1
-lesser m n l k =
+-- what holds of the digits of base two: the lesser one, the greater one, and the digit of a sum
+by_digits : (P : ℕ → ℕ → Type 0) → P 0 0 → P 0 1 → P 1 0 → P 1 1 → (m n : ℕ) → m < 2 → n < 2 → P m n
+by_digits P zeros one other ones m n l k =
     elim (two m l) [
-      | inl e ↦ elim (two n k) [ inl f ↦ rw e (rw f refl) | inr f ↦ rw e (rw f refl) ]
-      | inr e ↦ elim (two n k) [ inl f ↦ rw e (rw f refl) | inr f ↦ rw e (rw f refl) ]
+      | inl e ↦ elim (two n k) [ inl f ↦ rw e (rw f zeros) | inr f ↦ rw e (rw f one) ]
+      | inr e ↦ elim (two n k) [ inl f ↦ rw e (rw f other) | inr f ↦ rw e (rw f ones) ]
     ]
+
+lesser : (m n : ℕ) → m < 2 → n < 2 → eqb (min m n) 1 ≡ eqb m 1 && eqb n 1
+lesser = by_digits (λ m n. eqb (min m n) 1 ≡ eqb m 1 && eqb n 1) refl refl refl refl
+
+greater : (m n : ℕ) → m < 2 → n < 2 → eqb (max m n) 1 ≡ eqb m 1 || eqb n 1
+greater = by_digits (λ m n. eqb (max m n) 1 ≡ eqb m 1 || eqb n 1) refl refl refl refl
 
 one_more : (m : ℕ) → m < 2 → eqb ((m + 1) % 2) 1 ≡ differ (eqb m 1) true
 one_more m l = elim (two m l) [ inl e ↦ rw e refl | inr e ↦ rw e refl ]
@@ -30,6 +37,12 @@ none_more m l = elim (two m l) [ inl e ↦ rw e refl | inr e ↦ rw e refl ]
 pub and-bit : (v a b : ℕ) → word_bit v (bit_and a b) ≡ word_bit v a && word_bit v b
 and-bit v a b = ap (λ n. eqb n 1) (bit_at_and a b v) ∙ lesser (bit_at a v) (bit_at b v) (bit_at-lt a v) (bit_at-lt b v)
 
+pub or-bit : (v a b : ℕ) → word_bit v (bit_or a b) ≡ word_bit v a || word_bit v b
+or-bit v a b = ap (λ n. eqb n 1) (bit_at_or a b v) ∙ greater (bit_at a v) (bit_at b v) (bit_at-lt a v) (bit_at-lt b v)
+
+pub zero-bit : (v : ℕ) → word_bit v 0 ≡ false
+zero-bit v = ap (λ n. eqb n 1) (bit_at-zero v)
+
 pub inverted-bit : (v a : ℕ) (negated : Bool) → v < 64 → word_bit v (bit_xor a (cond negated (2 ^ 64 - 1) 0)) ≡ differ (word_bit v a) negated
 inverted-bit v a true h =
     ap (λ n. eqb n 1) (bit_at_xor a (2 ^ 64 - 1) v) ∙ (ap (λ n. eqb ((bit_at a v + n) % 2) 1) (bit_at_ones 64 v h) ∙ one_more (bit_at a v) (bit_at-lt a v))
@@ -37,7 +50,7 @@ inverted-bit v a false h =
     ap (λ n. eqb n 1) (bit_at_xor a 0 v) ∙ (ap (λ n. eqb ((bit_at a v + n) % 2) 1) (bit_at-zero v) ∙ none_more (bit_at a v) (bit_at-lt a v))
 
 pub lane-bit : (v : ℕ) (words : List ℕ) (i : ℕ) → word_bit v (get_or words i 0) ≡ bit (lane v words) i
-lane-bit v [] i = ap (λ n. eqb n 1) (bit_at-zero v)
+lane-bit v [] i = zero-bit v
 lane-bit v (word ∷ words) zero = refl
 lane-bit v (word ∷ words) (suc i) = lane-bit v words i
 
@@ -49,14 +62,10 @@ pub lane-gate : (v : ℕ) (words : List ℕ) (gate : Gate) → v < 64 → word_b
 lane-gate v words gate h =
     and-bit v (literal_word words gate.a) (literal_word words gate.b) ∙ (ap (λ b. b && word_bit v (literal_word words gate.b)) (lane-literal v words gate.a h) ∙ ap (λ b. literal_bit (lane v words) gate.a && b) (lane-literal v words gate.b h))
 
-lane-push : (v : ℕ) (words : List ℕ) (word : ℕ) → lane v (words ++ word ∷ []) ≡ lane v words ++ word_bit v word ∷ []
-lane-push v [] word = refl
-lane-push v (first ∷ words) word = ap (λ bits. word_bit v first ∷ bits) (lane-push v words word)
-
 pub lane-gates : (v : ℕ) (words : List ℕ) (gates : List Gate) → v < 64 → lane v (with_gate_words words gates) ≡ with_gates (lane v words) gates
 lane-gates v words [] h = refl
 lane-gates v words (gate ∷ gates) h =
-    let next = lane-push v words (gate_word words gate) ∙ ap (λ b. lane v words ++ b ∷ []) (lane-gate v words gate h) in
+    let next = map_push (word_bit v) words (gate_word words gate) ∙ ap (λ b. lane v words ++ b ∷ []) (lane-gate v words gate h) in
     lane-gates v (words ++ gate_word words gate ∷ []) gates h ∙ ap (λ bits. with_gates bits gates) next
 
 pub lane-literals : (v : ℕ) (words : List ℕ) (literals : List Lit) → v < 64 → lane v (map (literal_word words) literals) ≡ map (literal_bit (lane v words)) literals
@@ -67,5 +76,5 @@ lane-literals v words (literal ∷ literals) h =
 -- the outputs' words hold the outputs' bits
 pub lane-function : (v : ℕ) (net : Net) (row : List ℕ) → v < 64 → lane v (map (literal_word (with_gate_words (0 ∷ row) net.gates)) net.outputs) ≡ function_of net (lane v row)
 lane-function v net row h =
-    let constant : lane v (0 ∷ row) ≡ false ∷ lane v row = ap (λ n. eqb n 1 ∷ lane v row) (bit_at-zero v) in
+    let constant : lane v (0 ∷ row) ≡ false ∷ lane v row = ap (λ b. b ∷ lane v row) (zero-bit v) in
     lane-literals v (with_gate_words (0 ∷ row) net.gates) net.outputs h ∙ ap (λ bits. map (literal_bit bits) net.outputs) (lane-gates v (0 ∷ row) net.gates h ∙ ap (λ bits. with_gates bits net.gates) constant)

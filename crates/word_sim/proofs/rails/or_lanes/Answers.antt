@@ -2,7 +2,7 @@
 use Rattle.std.proofs.Common.{◌∙◌, arith, ap, bit_or, get_or}
 use Rattle.std.proofs.lemmas.Simd.{get_or-zip2}
 use Rattle.word_sim.specs.Columns.{word_bit}
-use Rattle.word_sim.proofs.DualRail.{or-bit}
+use Rattle.word_sim.proofs.Lanes.{or-bit}
 use Rattle.word_sim.proofs.rails.or_lanes.Goals as goal
 
 pub returns : goal.returns
