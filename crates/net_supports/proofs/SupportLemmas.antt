@@ -1,14 +1,13 @@
 -- The bits of words, and which inputs signals reach.
-use Rattle.std.proofs.Common.{◌≡◌, ◌≢◌, ◌⊎◌, ℕ, zero, suc, ◌+◌, ◌-◌, ◌*◌, ◌%◌, ◌^◌, ◌<◌, ◌≤◌, ◌==◌, max, eqb, ◌||◌, Bool, false, List, [], ◌∷◌, ◌++◌, length, map, drop, slice_index_or, bit_or, inl, inr, refl, sym, ap, ◌∙◌, arith, eq-eqb}
+use Rattle.std.proofs.Common.{◌≡◌, ◌≢◌, ◌⊎◌, ℕ, suc, ◌+◌, ◌-◌, ◌*◌, ◌%◌, ◌^◌, ◌<◌, ◌≤◌, ◌==◌, eqb, ◌||◌, Bool, false, List, [], ◌∷◌, ◌++◌, length, map, drop, slice_index_or, bit_or, inl, inr, sym, ap, ◌∙◌, arith, eq-eqb}
 use Rattle.std.specs.Prelude.{cond, filter}
 use Rattle.std.specs.List.{range_with_len}
-use Rattle.std.specs.Int.{bit_at}
 use Rattle.std.proofs.lemmas.Bool.{ne_eqb, cases_eq}
 use Rattle.net_core.specs.Graph.{AreInOrder}
 use Rattle.std.proofs.lemmas.Nat.{pow_below}
-use Rattle.std.proofs.lemmas.Nat.Bits.{bit_at_or, bit_at-lt, bit_at-zero, bit_at-pow_same, bit_at-pow_other}
+use Rattle.std.proofs.lemmas.Nat.Bits.{bit_at-pow_same, bit_at-pow_other}
 use Rattle.std.proofs.Math.Nat.{mod-eq_of_lt}
-use Rattle.std.proofs.lemmas.List.{append_assoc, get_or-map, length-map, map-id, get_or_default}
+use Rattle.std.proofs.lemmas.List.{append_assoc, get_or-map, length-map, map_push, map-id, get_or_default}
 use Rattle.std.proofs.lemmas.List.FromFn.{filter_of_map_range_with_len_more, map-range_with_len_more}
 use Rattle.std.proofs.Math.Seq.{drop-cons}
 use Rattle.circuits.specs.declared.netlist.Gate.{Gate}
@@ -17,30 +16,8 @@ use Rattle.circuits.specs.Literals.{bit, signal_of}
 use Rattle.circuits.specs.Netlists.{Net}
 use Rattle.query_core.specs.Formulas.{reaching}
 use Rattle.word_sim.specs.Columns.{lane, word_bit}
-use Rattle.word_sim.proofs.Lanes.{lane-bit}
+use Rattle.word_sim.proofs.Lanes.{lane-bit, or-bit, zero-bit}
 use Rattle.net_supports.specs.Supports.{IsBlock, only_input, output_reaches, reaches_input}
-
-two : (m : ℕ) → m < 2 → (m ≡ 0) ⊎ (m ≡ 1)
-two zero l = inl refl
-two (suc zero) l = inr refl
-two (suc (suc m)) l = absurd (omega (arith, l))
-
-greater : (m n : ℕ) → m < 2 → n < 2 → eqb (max m n) 1 ≡ (eqb m 1 || eqb n 1)
-greater m n l k =
-    elim (two m l) [
-      | inl e ↦ elim (two n k) [ inl f ↦ rw (e, f) refl | inr f ↦ rw (e, f) refl ]
-      | inr e ↦ elim (two n k) [ inl f ↦ rw (e, f) refl | inr f ↦ rw (e, f) refl ]
-    ]
-
-pub or-bit : (v a b : ℕ) → word_bit v (bit_or a b) ≡ (word_bit v a || word_bit v b)
-or-bit v a b = ap (λ n. eqb n 1) (bit_at_or a b v) ∙ greater (bit_at a v) (bit_at b v) (bit_at-lt a v) (bit_at-lt b v)
-
-pub lane_push : (v : ℕ) (words : List ℕ) (word : ℕ) → lane v (words ++ word ∷ []) ≡ lane v words ++ word_bit v word ∷ []
-lane_push v [] word = refl
-lane_push v (first ∷ words) word = ap (λ bits. word_bit v first ∷ bits) (lane_push v words word)
-
-pub zero_bit : (v : ℕ) → word_bit v 0 ≡ false
-zero_bit v = ap (λ n. eqb n 1) (bit_at-zero v)
 
 -- the word of an input has the one bit
 pub one_bit : (first input v : ℕ) → first ≤ input → input < first + 64 → word_bit v (1 * 2 ^ (input - first) % 18446744073709551616) ≡ (input == first + v)
@@ -63,7 +40,7 @@ one_bit first input v after within =
 pub inputs_more : (first v n : ℕ) (old words : List ℕ) (word : ℕ) → lane v words ≡ lane v old ++ map (λ k. k == first + v) (range_with_len 0 n) → word_bit v word ≡ (n == first + v) → lane v (words ++ word ∷ []) ≡ lane v old ++ map (λ k. k == first + v) (range_with_len 0 (n + 1))
 inputs_more first v n old words word so_far is =
     let test : ℕ → Bool = λ k. k == first + v in
-    lane_push v words word
+    map_push (word_bit v) words word
     ∙ (ap (λ bits. bits ++ word_bit v word ∷ []) so_far
     ∙ (append_assoc (lane v old) (map test (range_with_len 0 n)) (word_bit v word ∷ [])
     ∙ ap (λ bits. lane v old ++ bits) (ap (λ b. map test (range_with_len 0 n) ++ b ∷ []) is ∙ sym (map-range_with_len_more test 0 n n (omega arith)))))
@@ -80,7 +57,7 @@ gates_more v n t words gates d first second a b whole order count within first_i
     let split : drop t gates ≡ gate ∷ drop (suc t) gates = drop-cons gates t d within in
     let next : t + 1 ≡ suc t = omega arith in
     ap (λ k. reaching (lane v (words ++ bit_or a b ∷ [])) (drop k gates)) next
-    ∙ (ap (λ bs. reaching bs (drop (suc t) gates)) (lane_push v words (bit_or a b) ∙ ap (λ x. lane v words ++ x ∷ []) bits)
+    ∙ (ap (λ bs. reaching bs (drop (suc t) gates)) (map_push (word_bit v) words (bit_or a b) ∙ ap (λ x. lane v words ++ x ∷ []) bits)
     ∙ (sym (ap (reaching (lane v words)) split) ∙ so_far))
 
 -- the words of the outputs are a block
@@ -90,7 +67,7 @@ block_is net first start inputs words list start_is inputs_are words_are list_is
   bits = λ k v d below small.
       let literal : Lit = slice_index_or net.outputs k (record { 0 = 0 }) in
       let none : Lit = record { 0 = 0 } in
-      let base : lane v inputs ≡ false ∷ only_input net.inputs (first + v) = inputs_are v small ∙ (ap (λ ws. lane v ws ++ only_input net.inputs (first + v)) start_is ∙ ap (λ b. b ∷ only_input net.inputs (first + v)) (zero_bit v)) in
+      let base : lane v inputs ≡ false ∷ only_input net.inputs (first + v) = inputs_are v small ∙ (ap (λ ws. lane v ws ++ only_input net.inputs (first + v)) start_is ∙ ap (λ b. b ∷ only_input net.inputs (first + v)) (zero-bit v)) in
       let bits : lane v words ≡ reaches_input net (first + v) = words_are v ∙ ap (λ bs. reaching bs net.gates) base in
       ap (λ ws. word_bit v (slice_index_or ws k d)) list_is
       ∙ (ap (word_bit v) (get_or-map (λ (l : Lit). slice_index_or words (signal_of l) 0) net.outputs k none d below)
