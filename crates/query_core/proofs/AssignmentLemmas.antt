@@ -1,9 +1,7 @@
 -- A vector that is asked for is that of an assignment that meets the clauses: the vector itself, and the bits of all gates.
-use Rattle.std.proofs.Common.{◌≡◌, ℕ, zero, suc, ◌+◌, ◌-◌, ◌<◌, ◌&&◌, ◌||◌, not, cond, Bool, true, false, List, [], ◌∷◌, ◌++◌, length, map, drop, All, slice_index_or, inl, inr, refl, sym, ◌∙◌, ap, subst, arith}
+use Rattle.std.proofs.Common.{[], ◌≡◌, ℕ, zero, suc, ◌+◌, ◌-◌, ◌<◌, ◌&&◌, ◌||◌, not, cond, Bool, true, false, List, ◌∷◌, ◌++◌, length, map, drop, All, slice_index_or, inl, inr, refl, sym, ◌∙◌, ap, subst, arith, ext_get_or}
 use Rattle.std.specs.List.{range_with_len}
-use Rattle.std.specs.Bool.{beq}
-use Rattle.std.proofs.lemmas.Bool.{cases_lt, cases_Bool, false≢true, or_parts}
-use Rattle.std.proofs.lemmas.Bool.Decides.{eqb_tells}
+use Rattle.std.proofs.lemmas.Bool.{cases_lt, cases_Bool, or_parts}
 use Rattle.std.proofs.lemmas.List.{get_or-map, get_or_append_left, get_or-append-add, get_or_push, length_push, get_or-drop, length-map, length-drop}
 use Rattle.std.proofs.lemmas.List.Elements.{All-from_recursion}
 use Rattle.std.proofs.lemmas.List.FromFn.{length-range_with_len, get_or-range_with_len, get_or-map-range_with_len, length-map-range_with_len}
@@ -21,13 +19,12 @@ use Rattle.net_core.specs.declared.graphs.Side.TheVariants.{First, Second}
 use Rattle.net_core.specs.Graph.{IsGraph}
 use Rattle.net_core.specs.Sides.{graph_of}
 use Rattle.query_core.specs.declared.query.Feed.{Feed}
-use Rattle.query_core.specs.declared.query.Feed.TheVariants.{Fixed, Wire}
 use Rattle.query_core.specs.declared.query.Query.{Query}
 use Rattle.query_core.specs.Queries.{feed_bit, fed, circuit_of, bits_in, vector_in, IsWired, IsQuery, MeetsQuery}
-use Rattle.query_core.specs.Formulas.{false_literal, feed_literal, plain, signal_literals, stand_in, stands_for, and_clauses, gate_clauses, half_clauses, same_feed, feeds_differ, reaching, reaches, shared_from, same_side, left_variables, right_variables, left_literals, right_literals, output_literal, query_clauses}
-use Rattle.query_core.proofs.FormulaLemmas.{signal_count, right_variable_count, reached_count, length-feeds_differ}
-use Rattle.query_core.proofs.LawLemmas.{AreMet, literal_of_bit, is_itself, fed_bit, false_there, signal_there, literal_there, ordered_side}
-use Rattle.query_core.proofs.MatchLemmas.{list_by_bits}
+use Rattle.query_core.specs.Formulas.{signal_literals, stand_in, stands_for, and_clauses, gate_clauses, half_clauses, same_feed, feeds_differ, reaching, reaches, shared_from, same_side, left_variables, right_variables, left_literals, right_literals, output_literal, query_clauses}
+use Rattle.query_core.proofs.EqualLemmas.{same_feeds}
+use Rattle.query_core.proofs.FormulaLemmas.{signal_count, right_variable_count, reached_count, recursion-append, stand_in_gate, length-feeds_differ}
+use Rattle.query_core.proofs.LawLemmas.{AreMet, input_bit, literal_of_bit, is_itself, false_there, signal_there, literal_there, ordered_side}
 use borrow.Author.Tests.{not-false}
 
 -- v is the AND of a and b: its three clauses are met
@@ -58,39 +55,38 @@ gates_hold a literals first (gate ∷ gates) each =
     ap (λ s. literal_bit a (stand_in literals s)) next ∙ each (suc t) d (omega (arith, within))) in
     (three.0, (three.1.0, (three.1.1.0, rest)))
 
+-- the literal that stands for a signal has the signal's bit
+abbrev HasBit : List Bool → List SatLit → List Bool → ℕ → Type 0
+HasBit a literals v s = bit (map (literal_bit a) literals) s ≡ bit v s
+
 -- the literals of a circuit's signals have the bits of a valuation that fits what its inputs get
 literals_hold : (a : List Bool) (n : ℕ) (net : Net) (feed : List Feed) (variables : List ℕ) (v : List Bool) → Fits net (map (feed_bit (vector_in n a)) feed) v → bit a 0 ≡ true → net.inputs ≡ n → length feed ≡ n → length variables ≡ length net.gates → All (IsWired n) feed → ((t : ℕ) → t < length net.gates → bit a (slice_index_or variables t 0) ≡ bit v (1 + net.inputs + t)) → map (literal_bit a) (signal_literals feed variables) ≡ v
 literals_hold a n net feed variables v is first inputs feeds gates wired own =
     let literals = signal_literals feed variables in
     let count = signal_count feed variables in
-    list_by_bits (map (literal_bit a) literals) v (omega (arith, length-map literals (literal_bit a), count, is.signals, inputs, feeds, gates)) (λ s below. at s (omega (arith, below, length-map literals (literal_bit a), count, feeds, gates)))
+    ext_get_or false (map (literal_bit a) literals) v (omega (arith, length-map literals (literal_bit a), count, is.signals, inputs, feeds, gates)) (λ s below. at s (omega (arith, below, length-map literals (literal_bit a), count, feeds, gates)))
   where
-    at_input : (i : ℕ) → i < n → bit (map (literal_bit a) (signal_literals feed variables)) (1 + i) ≡ bit v (1 + i)
+    at_input : (i : ℕ) → i < n → HasBit a (signal_literals feed variables) v (suc i)
     at_input i within =
-        let literals = signal_literals feed variables in
-        let here : i < length feed = omega (arith, within, feeds) in
         let next : 1 + i ≡ suc i = omega arith in
-        let none : Feed = Fixed false in
-        let stands : stand_in literals (1 + i) ≡ feed_literal (slice_index_or feed i none) =
-        ap (stand_in literals) next ∙ (get_or_append_left (map feed_literal feed) (map plain variables) false_literal i (omega (arith, here, length-map feed feed_literal)) ∙ get_or-map feed_literal feed i none false_literal here) in
-        signal_there a literals (1 + i) first ∙ (ap (literal_bit a) stands ∙ (fed_bit a n (slice_index_or feed i none) first (wired i none here) ∙ (sym (get_or-map (feed_bit (vector_in n a)) feed i none false here) ∙ sym (is.inputs i (omega (arith, within, inputs))))))
+        signal_there a (signal_literals feed variables) (suc i) first
+        ∙ (input_bit a n feed variables i first wired (omega (arith, within, feeds)) ∙ (sym (is.inputs i (omega (arith, within, inputs))) ∙ ap (bit v) next))
 
-    at_gate : (t : ℕ) → t < length net.gates → bit (map (literal_bit a) (signal_literals feed variables)) (1 + n + t) ≡ bit v (1 + n + t)
+    at_gate : (t : ℕ) → t < length net.gates → HasBit a (signal_literals feed variables) v (suc (length feed + t))
     at_gate t within =
-        let literals = signal_literals feed variables in
-        let next : 1 + n + t ≡ suc (length (map feed_literal feed) + t) = omega (arith, length-map feed feed_literal, feeds) in
-        let there : t < length variables = omega (arith, within, gates) in
-        let stands : stand_in literals (1 + n + t) ≡ plain (slice_index_or variables t 0) =
-        ap (stand_in literals) next ∙ (get_or-append-add (map feed_literal feed) (map plain variables) t false_literal ∙ get_or-map plain variables t 0 false_literal there) in
-        let same : 1 + net.inputs + t ≡ 1 + n + t = omega (arith, inputs) in
-        signal_there a literals (1 + n + t) first ∙ (ap (literal_bit a) stands ∙ (literal_of_bit a (slice_index_or variables t 0) true ∙ (sym (is_itself (bit a (slice_index_or variables t 0))) ∙ (own t within ∙ ap (bit v) same))))
+        let next : 1 + net.inputs + t ≡ suc (length feed + t) = omega (arith, inputs, feeds) in
+        signal_there a (signal_literals feed variables) (suc (length feed + t)) first
+        ∙ (ap (literal_bit a) (stand_in_gate feed variables t (omega (arith, within, gates)))
+        ∙ (literal_of_bit a (slice_index_or variables t 0) true ∙ (sym (is_itself (bit a (slice_index_or variables t 0))) ∙ (own t within ∙ ap (bit v) next))))
 
-    at : (s : ℕ) → s < 1 + n + length net.gates → bit (map (literal_bit a) (signal_literals feed variables)) s ≡ bit v s
+    at : (s : ℕ) → s < 1 + n + length net.gates → HasBit a (signal_literals feed variables) v s
     at zero below = signal_there a (signal_literals feed variables) 0 first ∙ (false_there a first ∙ sym is.constant)
     at (suc i) below =
         elim (cases_lt i n) [
-          | inl input ↦ let e : suc i ≡ 1 + i = omega arith in subst (λ s. bit (map (literal_bit a) (signal_literals feed variables)) s ≡ bit v s) (sym e) (at_input i input)
-          | inr gate ↦ let e : suc i ≡ 1 + n + (i - n) = omega (arith, gate) in subst (λ s. bit (map (literal_bit a) (signal_literals feed variables)) s ≡ bit v s) (sym e) (at_gate (i - n) (omega (arith, gate, below)))
+          | inl input ↦ at_input i input
+          | inr gate ↦
+              let e : suc (length feed + (i - n)) ≡ suc i = omega (arith, gate, feeds) in
+              subst (HasBit a (signal_literals feed variables) v) e (at_gate (i - n) (omega (arith, gate, below)))
         ]
 
 -- the clauses of such a circuit's gates are met, and that of its output where it has its value
@@ -151,25 +147,10 @@ agree_through flags v w (gate ∷ gates) lf lw a b same =
     agree_through (flags ++ flag ∷ []) (v ++ gate_bit v gate ∷ []) (w ++ gate_bit w gate ∷ []) gates (omega (arith, lf, length_push flags flag, length_push v (gate_bit v gate))) (omega (arith, lw, length_push w (gate_bit w gate), length_push v (gate_bit v gate))) (ReadsBelow-tail v (gate_bit v gate) first_operand gate gates a) (ReadsBelow-tail v (gate_bit v gate) second_operand gate gates b) (agree_more flags v w gate lf lw one other same)
 
 -- feeds that are the same give the same bit
-same_flip : (a b : Bool) → beq a b ≡ true → a ≡ b
-same_flip true true e = refl
-same_flip false false e = refl
-same_flip a b e = cc
-
-same_bit : (x : List Bool) (feed other : Feed) → same_feed feed other ≡ true → feed_bit x feed ≡ feed_bit x other
-same_bit x (Fixed true) (Fixed true) same = refl
-same_bit x (Fixed false) (Fixed false) same = refl
-same_bit x (Wire place flip) (Wire other sign) same =
-    elim (eqb_tells place other) [
-      | inl (found, e) ↦ ap (λ p. differ (bit x p) flip) e ∙ ap (differ (bit x other)) (same_flip flip sign (sym (ap (λ t. t && beq flip sign) found) ∙ same))
-      | inr (found, e) ↦ absurd (false≢true (sym (ap (λ t. t && beq flip sign) found) ∙ same))
-    ]
-same_bit x feed other same = cc
-
 feeds_agree : (x : List Bool) (left right : List Feed) (i : ℕ) → length left ≡ length right → i < length left → bit (feeds_differ left right) i ≡ false → bit (map (feed_bit x) left) i ≡ bit (map (feed_bit x) right) i
 feeds_agree x [] right i same below free = absurd (omega (arith, below))
 feeds_agree x (feed ∷ left) [] i same below free = absurd (omega (arith, same))
-feeds_agree x (feed ∷ left) (other ∷ right) zero same below free = same_bit x feed other (not-false (same_feed feed other) free)
+feeds_agree x (feed ∷ left) (other ∷ right) zero same below free = ap (feed_bit x) (same_feeds feed other (not-false (same_feed feed other) free))
 feeds_agree x (feed ∷ left) (other ∷ right) (suc i) same below free = feeds_agree x left right i (omega (arith, same)) (omega (arith, below)) free
 
 start_agrees : (x : List Bool) (left right : List Feed) → length left ≡ length right → Agree (false ∷ feeds_differ left right) (false ∷ map (feed_bit x) left) (false ∷ map (feed_bit x) right)
@@ -222,7 +203,7 @@ assigned_right n gates x v w t same count =
 assigned_vector : (n : ℕ) (x v w : List Bool) → length x ≡ n → vector_in n (assigned n x v w) ≡ x
 assigned_vector n x v w same =
     let a = assigned n x v w in
-    list_by_bits (vector_in n a) x (length-map-range_with_len (λ i. bit a (1 + i)) 0 n ∙ sym same) (λ i below.
+    ext_get_or false (vector_in n a) x (length-map-range_with_len (λ i. bit a (1 + i)) 0 n ∙ sym same) (λ i below.
     let here : i < n = omega (arith, below, length-map-range_with_len (λ i. bit a (1 + i)) 0 n) in
     get_or-map-range_with_len (λ i. bit a (1 + i)) 0 n i i false here (omega arith) ∙ assigned_input n x v w i same here)
 
@@ -244,10 +225,6 @@ one_side Second First same = cc
 one_side Second Second same = refl
 
 -- a vector that is asked for is that of an assignment that meets the clauses
-met-append : (a : List Bool) (xs ys : List (List SatLit)) → AreMet a xs → AreMet a ys → AreMet a (xs ++ ys)
-met-append a [] ys first second = second
-met-append a (x ∷ xs) ys first second = (first.0, met-append a xs ys first.1 second)
-
 pub assignment_there : (graphs : Graphs) (query : Query) (x : List Bool) → IsGraph graphs.first → IsGraph graphs.second → IsQuery graphs query → length x ≡ bits_in graphs query → MeetsQuery graphs query x → (a : List Bool) × Meets a (query_clauses graphs query) × (vector_in (bits_in graphs query) a ≡ x)
 assignment_there graphs query x first second fits same meets =
     let n = bits_in graphs query in
@@ -291,5 +268,5 @@ assignment_there graphs query x first second fits same meets =
     let outputs : AreMet a ((output_literal left ls query.left.output query.left_value ∷ []) ∷ (output_literal right rs query.right.output query.right_value ∷ []) ∷ []) =
     (output_holds a left ls y query.left.output query.left_value refl lv fits.left.output meets.left, (output_holds a right rs z query.right.output query.right_value refl rv fits.right.output meets.right, tt)) in
     let all : AreMet a (query_clauses graphs query) =
-    (ap (λ t. t || false) (literal_of_bit a 0 true), met-append a (half_clauses left ls) _ (half_holds a left ls y v fv refl lv) (met-append a (half_clauses right rs) _ (half_holds a right rs z w fw refl rv) outputs)) in
+    (ap (λ t. t || false) (literal_of_bit a 0 true), recursion-append (λ clause. is_met a clause ≡ true) (half_clauses left ls) _ (half_holds a left ls y v fv refl lv) (recursion-append (λ clause. is_met a clause ≡ true) (half_clauses right rs) _ (half_holds a right rs z w fw refl rv) outputs)) in
     (a, All-from_recursion (λ clause. is_met a clause ≡ true) (query_clauses graphs query) all, vector)

@@ -68,8 +68,12 @@ NoFall-or one true = inl (λ is. refl)
 NoFall-or true false = inr (refl, refl)
 NoFall-or false false = inl (λ is. is)
 
+-- the output doesn't fall from the shape's values to the opposite ones
+abbrev StaysAt : Net → ℕ → Shape → List Bool → Type 0
+StaysAt net k shape x = NoFall (output_bit net k (with_values shape x)) (output_bit net k (with_opposites shape x))
+
 -- no vector whose code is below n falls, or one breaks the claim
-searched : (net : Net) (k : ℕ) (shape : Shape) (count : ℕ) → IsPlaced net.inputs shape → ((code : ℕ) → code < count → NoFall (output_bit net k (with_values shape (vector_of net.inputs code))) (output_bit net k (with_opposites shape (vector_of net.inputs code)))) ⊎ ShapeFails net k shape
+searched : (net : Net) (k : ℕ) (shape : Shape) (count : ℕ) → IsPlaced net.inputs shape → ((code : ℕ) → code < count → StaysAt net k shape (vector_of net.inputs code)) ⊎ ShapeFails net k shape
 searched net k shape zero placed = inl (λ code h. absurd (omega arith))
 searched net k shape (suc count) placed =
     elim (searched net k shape count placed) [
@@ -81,11 +85,11 @@ searched net k shape (suc count) placed =
           ]
     ]
   where
-    at : (code : ℕ) → code < suc count → ((code : ℕ) → code < count → NoFall (output_bit net k (with_values shape (vector_of net.inputs code))) (output_bit net k (with_opposites shape (vector_of net.inputs code)))) → NoFall (output_bit net k (with_values shape (vector_of net.inputs count))) (output_bit net k (with_opposites shape (vector_of net.inputs count))) → (code < count) ⊎ (count ≤ code) → NoFall (output_bit net k (with_values shape (vector_of net.inputs code))) (output_bit net k (with_opposites shape (vector_of net.inputs code)))
+    at : (code : ℕ) → code < suc count → ((code : ℕ) → code < count → StaysAt net k shape (vector_of net.inputs code)) → StaysAt net k shape (vector_of net.inputs count) → (code < count) ⊎ (count ≤ code) → StaysAt net k shape (vector_of net.inputs code)
     at code h none here (inl less) = none code less
     at code h none here (inr past) =
         let e : count ≡ code = omega arith in
-        subst (λ code. NoFall (output_bit net k (with_values shape (vector_of net.inputs code))) (output_bit net k (with_opposites shape (vector_of net.inputs code)))) e here
+        subst (λ code. StaysAt net k shape (vector_of net.inputs code)) e here
 
 pub holds_or_fails : (net : Net) (k : ℕ) (shape : Shape) → IsPlaced net.inputs shape → ShapeHolds net k shape ⊎ ShapeFails net k shape
 holds_or_fails net k shape placed =
@@ -94,10 +98,10 @@ holds_or_fails net k shape placed =
       | inl none ↦ inl (λ x len. each x len none)
     ]
   where
-    each : (x : List Bool) → length x ≡ net.inputs → ((code : ℕ) → code < 2 ^ net.inputs → NoFall (output_bit net k (with_values shape (vector_of net.inputs code))) (output_bit net k (with_opposites shape (vector_of net.inputs code)))) → NoFall (output_bit net k (with_values shape x)) (output_bit net k (with_opposites shape x))
+    each : (x : List Bool) → length x ≡ net.inputs → ((code : ℕ) → code < 2 ^ net.inputs → StaysAt net k shape (vector_of net.inputs code)) → StaysAt net k shape x
     each x len none =
         let is : vector_of net.inputs (code_of x) ≡ x = ap (λ n. vector_of n (code_of x)) (sym len) ∙ sym (vector_of-code_of x) in
-        subst (λ x. NoFall (output_bit net k (with_values shape x)) (output_bit net k (with_opposites shape x))) is (none (code_of x) (subst (λ n. code_of x < 2 ^ n) len (code_of-below x)))
+        subst (StaysAt net k shape) is (none (code_of x) (subst (λ n. code_of x < 2 ^ n) len (code_of-below x)))
 
 pub no_fall_both : (one other : Bool) → NoFall one other → NoFall other one → one ≡ other
 no_fall_both true true there back = refl
@@ -105,20 +109,18 @@ no_fall_both true false there back = sym (there refl)
 no_fall_both false true there back = back refl
 no_fall_both false false there back = refl
 
-no_fall_same : (one other : Bool) → one ≡ other → NoFall one other
-no_fall_same one other same is = sym same ∙ is
+-- two bits are the same on all vectors exactly where neither falls to the other on any
+same-falls : (n : ℕ) (one other : List Bool → Bool) → ((x : List Bool) → length x ≡ n → one x ≡ other x) ↔ (((x : List Bool) → length x ≡ n → NoFall (one x) (other x)) × ((x : List Bool) → length x ≡ n → NoFall (other x) (one x)))
+same-falls n one other = (
+  λ same. (λ x len is. sym (same x len) ∙ is, λ x len is. same x len ∙ is),
+  λ both x len. no_fall_both (one x) (other x) (both.0 x len) (both.1 x len),
+)
 
 pub symmetric-swaps : (net : Net) (k i j : ℕ) → IsSymmetric net k i j ↔ (ShapeHolds net k (Swap i j false true) × ShapeHolds net k (Swap i j true false))
-symmetric-swaps net k i j = (
-  λ same. (λ x len. no_fall_same (cofactor net k i false j true x) (cofactor net k i true j false x) (same x len), λ x len. no_fall_same (cofactor net k i true j false x) (cofactor net k i false j true x) (sym (same x len))),
-  λ both x len. no_fall_both (cofactor net k i false j true x) (cofactor net k i true j false x) (both.0 x len) (both.1 x len),
-)
+symmetric-swaps net k i j = same-falls net.inputs (cofactor net k i false j true) (cofactor net k i true j false)
 
 pub skew-swaps : (net : Net) (k i j : ℕ) → IsSkew net k i j ↔ (ShapeHolds net k (Swap i j false false) × ShapeHolds net k (Swap i j true true))
-skew-swaps net k i j = (
-  λ same. (λ x len. no_fall_same (cofactor net k i false j false x) (cofactor net k i true j true x) (same x len), λ x len. no_fall_same (cofactor net k i true j true x) (cofactor net k i false j false x) (sym (same x len))),
-  λ both x len. no_fall_both (cofactor net k i false j false x) (cofactor net k i true j true x) (both.0 x len) (both.1 x len),
-)
+skew-swaps net k i j = same-falls net.inputs (cofactor net k i false j false) (cofactor net k i true j true)
 
 pub binate-fails : (net : Net) (k i : ℕ) → i < net.inputs → IsBinate net k i ↔ (ShapeFails net k (Up i) × ShapeFails net k (Down i))
 binate-fails net k i there = (
@@ -130,22 +132,19 @@ binate-fails net k i there = (
     fails shape placed never = elim (holds_or_fails net k shape placed) [ inl holds ↦ absurd (never holds) | inr found ↦ found ]
 
 pub outside-holds : (net : Net) (k i : ℕ) → i < net.inputs → OutsideSupport net k i ↔ (ShapeHolds net k (Up i) × ShapeHolds net k (Down i))
-outside-holds net k i there = (
-  λ same. (λ x len. no_fall_same (output_bit net k (set x i false)) (output_bit net k (set x i true)) (changed false same x len), λ x len. no_fall_same (output_bit net k (set x i true)) (output_bit net k (set x i false)) (changed true same x len)),
-  λ both x len. unchanged both x len (cases_Bool (bit x i)),
-)
+outside-holds net k i there = (λ same. both.0 (λ x len. changed same x len), λ holds x len. unchanged x (both.1 holds x len) (cases_Bool (bit x i)))
   where
-    changed : (b : Bool) → OutsideSupport net k i → (x : List Bool) → length x ≡ net.inputs → output_bit net k (set x i b) ≡ output_bit net k (set x i (not b))
-    changed b same x len =
-        let within : i < length x = omega (arith, there, len) in
-        let read : bit (set x i b) i ≡ b = get_or-set_same x i b false within in
-        same (set x i b) (length-set x i b ∙ len) ∙ ap (output_bit net k) (ap (λ c. set (set x i b) i (not c)) read ∙ set-set x i b (not b))
+    both : ((x : List Bool) → length x ≡ net.inputs → output_bit net k (set x i false) ≡ output_bit net k (set x i true)) ↔ (ShapeHolds net k (Up i) × ShapeHolds net k (Down i))
+    both = same-falls net.inputs (λ x. output_bit net k (set x i false)) (λ x. output_bit net k (set x i true))
 
-    unchanged : ShapeHolds net k (Up i) × ShapeHolds net k (Down i) → (x : List Bool) → length x ≡ net.inputs → (bit x i ≡ true) ⊎ (bit x i ≡ false) → output_bit net k x ≡ output_bit net k (set x i (not (bit x i)))
-    unchanged both x len (inl is) =
-        ap (output_bit net k) (sym (set-here x i true is)) ∙ (no_fall_both (output_bit net k (set x i true)) (output_bit net k (set x i false)) (both.1 x len) (both.0 x len) ∙ ap (λ b. output_bit net k (set x i (not b))) (sym is))
-    unchanged both x len (inr is) =
-        ap (output_bit net k) (sym (set-here x i false is)) ∙ (no_fall_both (output_bit net k (set x i false)) (output_bit net k (set x i true)) (both.0 x len) (both.1 x len) ∙ ap (λ b. output_bit net k (set x i (not b))) (sym is))
+    changed : OutsideSupport net k i → (x : List Bool) → length x ≡ net.inputs → output_bit net k (set x i false) ≡ output_bit net k (set x i true)
+    changed same x len =
+        let read : bit (set x i false) i ≡ false = get_or-set_same x i false false (omega (arith, there, len)) in
+        same (set x i false) (length-set x i false ∙ len) ∙ ap (output_bit net k) (ap (λ c. set (set x i false) i (not c)) read ∙ set-set x i false true)
+
+    unchanged : (x : List Bool) → output_bit net k (set x i false) ≡ output_bit net k (set x i true) → (bit x i ≡ true) ⊎ (bit x i ≡ false) → output_bit net k x ≡ output_bit net k (set x i (not (bit x i)))
+    unchanged x same (inl is) = ap (output_bit net k) (sym (set-here x i true is)) ∙ (sym same ∙ ap (λ b. output_bit net k (set x i (not b))) (sym is))
+    unchanged x same (inr is) = ap (output_bit net k) (sym (set-here x i false is)) ∙ (same ∙ ap (λ b. output_bit net k (set x i (not b))) (sym is))
 
 pub inside-fails : (net : Net) (k i : ℕ) → i < net.inputs → InSupport net k i ↔ (ShapeFails net k (Up i) ⊎ ShapeFails net k (Down i))
 inside-fails net k i there = (some, back)
@@ -161,12 +160,10 @@ inside-fails net k i there = (some, back)
               ]
         ]
 
-    up-changes : ShapeFails net k (Up i) → InSupport net k i
-    up-changes (x, breaks) = (x, breaks.inputs, λ same. false≢true (sym (ap (output_bit net k) (ap (λ b. set x i (not b)) breaks.values) ∙ breaks.after) ∙ (sym same ∙ breaks.before)))
-
-    down-changes : ShapeFails net k (Down i) → InSupport net k i
-    down-changes (x, breaks) = (x, breaks.inputs, λ same. false≢true (sym (ap (output_bit net k) (ap (λ b. set x i (not b)) breaks.values) ∙ breaks.after) ∙ (sym same ∙ breaks.before)))
+    changes : (x : List Bool) (b : Bool) → length x ≡ net.inputs → bit x i ≡ b → output_bit net k x ≡ true → output_bit net k (set x i (not b)) ≡ false → InSupport net k i
+    changes x b len value before after =
+        (x, len, λ same. false≢true (sym (ap (λ c. output_bit net k (set x i (not c))) value ∙ after) ∙ (sym same ∙ before)))
 
     back : ShapeFails net k (Up i) ⊎ ShapeFails net k (Down i) → InSupport net k i
-    back (inl fails) = up-changes fails
-    back (inr fails) = down-changes fails
+    back (inl (x, breaks)) = changes x false breaks.inputs breaks.values breaks.before breaks.after
+    back (inr (x, breaks)) = changes x true breaks.inputs breaks.values breaks.before breaks.after

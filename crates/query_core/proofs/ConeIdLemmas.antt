@@ -1,12 +1,12 @@
 -- The numbers of the clauses that belong to the cones, in ascending order.
-use Rattle.std.proofs.Common.{◌≡◌, ◌⊎◌, ◌↔◌, ℕ, zero, suc, ◌+◌, ◌*◌, ◌-◌, ◌<◌, ◌≤◌, List, [], ◌∷◌, ◌++◌, length, All, AllPairs, Contains, inl, inr, refl, sym, ap, subst, ◌∙◌, arith}
-use Rattle.std.proofs.lemmas.List.Elements.{Contains-append_left, Contains-append_right, Contains-append_cases}
+use Rattle.std.proofs.Common.{slice_index_or, ◌/◌, ◌%◌, ◌≡◌, ◌⊎◌, ◌↔◌, ℕ, zero, suc, ◌+◌, ◌*◌, ◌-◌, ◌<◌, ◌≤◌, List, [], ◌∷◌, ◌++◌, length, All, AllPairs, Contains, inl, inr, refl, sym, ap, subst, ◌∙◌, arith}
+use Rattle.std.proofs.lemmas.List.Elements.{Contains-get_or, Contains-append_left, Contains-append_right, Contains-append_cases}
 use Rattle.std.proofs.lemmas.List.{append_assoc}
 use Rattle.circuits.specs.Netlists.{Net}
 use Rattle.net_core.specs.Sides.{Graphs}
 use Rattle.query_core.specs.declared.query.Query.{Query}
 use Rattle.query_core.specs.Queries.{circuit_of}
-use Rattle.query_core.specs.ConeClauses.{AreAdded, AreConeIds, AreReached, IsConeId, IsOfReachedGate, gate_ids, left_gates, right_gates}
+use Rattle.query_core.specs.ConeClauses.{AreConeIds, AreReached, IsConeId, IsOfReachedGate, gate_ids, left_gates, right_gates}
 use Rattle.query_core.proofs.FormulaLemmas.{count_of}
 
 -- numbers from `low` on ascend, and stay below `high`
@@ -60,11 +60,6 @@ ids_ascend first low high (t ∷ gates) ascends =
     let rest = ids_ascend first (t + 1) high gates ascends.1 in
     (omega (arith, ascends.0), (omega arith, (omega arith, lower (first + 3 * t + 2 + 1) (first + 3 * (t + 1)) (first + 3 * high) (gate_ids first gates) (omega arith) rest)))
 
--- a number is one of a gate's three
-record IsOfGate (first gate id : ℕ) : Type 0 where
-  from : first + 3 * gate ≤ id
-  to : id < first + 3 * gate + 3
-
 contains-head : (x : ℕ) (xs : List ℕ) (y : ℕ) → y ≡ x → Contains (x ∷ xs) y
 contains-head x xs y same = (0, omega arith, sym same)
 
@@ -75,42 +70,25 @@ contains-cases : (x : ℕ) (xs : List ℕ) (y : ℕ) → Contains (x ∷ xs) y �
 contains-cases x xs y (zero, within, is) = inl (sym is)
 contains-cases x xs y (suc k, within, is) = inr (k, omega (arith, within), is)
 
-ids_of : (first : ℕ) (gates : List ℕ) (id : ℕ) → Contains (gate_ids first gates) id → (t : ℕ) × Contains gates t × IsOfGate first t id
-ids_of first [] id has = absurd (omega (arith, has.1))
-ids_of first (t ∷ gates) id has =
-    elim (contains-cases (first + 3 * t) ((first + 3 * t + 1) ∷ (first + 3 * t + 2) ∷ gate_ids first gates) id has) [
-      | inl e ↦ (t, contains-head t gates t refl, record { from = omega (arith, e); to = omega (arith, e) })
-      | inr second ↦
-          elim (contains-cases (first + 3 * t + 1) ((first + 3 * t + 2) ∷ gate_ids first gates) id second) [
-            | inl e ↦ (t, contains-head t gates t refl, record { from = omega (arith, e); to = omega (arith, e) })
-            | inr third ↦
-                elim (contains-cases (first + 3 * t + 2) (gate_ids first gates) id third) [
-                  | inl e ↦ (t, contains-head t gates t refl, record { from = omega (arith, e); to = omega (arith, e) })
-                  | inr rest ↦ let later = ids_of first gates id rest in (later.0, contains-tail t gates later.0 later.1, later.2)
-                ]
-          ]
-    ]
+-- the three numbers of the gate at place k stand from place 3k on
+ids_count : (first : ℕ) (gates : List ℕ) → length (gate_ids first gates) ≡ 3 * length gates
+ids_count first [] = refl
+ids_count first (t ∷ gates) = omega (arith, ids_count first gates)
 
-ids_from : (first : ℕ) (gates : List ℕ) (t id : ℕ) → Contains gates t → IsOfGate first t id → Contains (gate_ids first gates) id
-ids_from first [] t id has is = absurd (omega (arith, has.1))
-ids_from first (u ∷ gates) t id has is =
-    elim (contains-cases u gates t has) [
-      | inl e ↦ one_of_three e
-      | inr rest ↦ contains-tail (first + 3 * u) ((first + 3 * u + 1) ∷ (first + 3 * u + 2) ∷ gate_ids first gates) id (contains-tail (first + 3 * u + 1) ((first + 3 * u + 2) ∷ gate_ids first gates) id (contains-tail (first + 3 * u + 2) (gate_ids first gates) id (ids_from first gates t id rest is)))
-    ]
+ids_at : (first : ℕ) (gates : List ℕ) (k r d e : ℕ) → k < length gates → r < 3 → slice_index_or (gate_ids first gates) (3 * k + r) d ≡ first + 3 * slice_index_or gates k e + r
+ids_at first [] k r d e within small = absurd (omega (arith, within))
+ids_at first (t ∷ gates) zero r d e within small =
+    let at : 3 * 0 + r ≡ r = omega arith in
+    ap (λ n. slice_index_or (gate_ids first (t ∷ gates)) n d) at ∙ front r small
   where
-    by_part : (r : ℕ) → r < 3 → id ≡ first + 3 * u + r → Contains (gate_ids first (u ∷ gates)) id
-    by_part zero small e = contains-head (first + 3 * u) ((first + 3 * u + 1) ∷ (first + 3 * u + 2) ∷ gate_ids first gates) id (omega (arith, e))
-    by_part (suc zero) small e =
-        contains-tail (first + 3 * u) ((first + 3 * u + 1) ∷ (first + 3 * u + 2) ∷ gate_ids first gates) id (contains-head (first + 3 * u + 1) ((first + 3 * u + 2) ∷ gate_ids first gates) id (omega (arith, e)))
-    by_part (suc (suc zero)) small e =
-        contains-tail (first + 3 * u) ((first + 3 * u + 1) ∷ (first + 3 * u + 2) ∷ gate_ids first gates) id (contains-tail (first + 3 * u + 1) ((first + 3 * u + 2) ∷ gate_ids first gates) id (contains-head (first + 3 * u + 2) (gate_ids first gates) id (omega (arith, e))))
-    by_part (suc (suc (suc r))) small e = absurd (omega (arith, small))
-
-    one_of_three : t ≡ u → Contains (gate_ids first (u ∷ gates)) id
-    one_of_three e =
-        let from : first + 3 * u ≤ id = omega (arith, is.from, e) in
-        by_part (id - (first + 3 * u)) (omega (arith, is.to, e, from)) (omega (arith, from))
+    front : (r : ℕ) → r < 3 → slice_index_or (gate_ids first (t ∷ gates)) r d ≡ first + 3 * t + r
+    front zero small = omega arith
+    front (suc zero) small = omega arith
+    front (suc (suc zero)) small = omega arith
+    front (suc (suc (suc r))) small = absurd (omega (arith, small))
+ids_at first (t ∷ gates) (suc k) r d e within small =
+    let at : 3 * suc k + r ≡ suc (suc (suc (3 * k + r))) = omega arith in
+    ap (λ n. slice_index_or (gate_ids first (t ∷ gates)) n d) at ∙ ids_at first gates k r d e (omega (arith, within)) small
 
 -- the numbers of the clauses of the gates that an output reaches
 reached_ascend : (net : Net) (k first : ℕ) (gates : List ℕ) → AreReached net k gates → Ascends first (first + 3 * length net.gates) (gate_ids first gates)
@@ -118,10 +96,26 @@ reached_ascend net k first gates are =
     lower first (first + 3 * 0) (first + 3 * length net.gates) (gate_ids first gates) (omega arith) (ids_ascend first 0 (length net.gates) gates (from_pairs 0 (length net.gates) gates (omega arith) are.ascending (λ k d within. omega arith) are.there))
 
 reached_ids : (net : Net) (k first : ℕ) (gates : List ℕ) (id : ℕ) → AreReached net k gates → Contains (gate_ids first gates) id ↔ IsOfReachedGate net k first id
-reached_ids net k first gates id are = (
-  λ has. let of = ids_of first gates id has in record { gate = of.0; reached = (are.reached of.0).0 of.1; from = of.2.from; to = of.2.to },
-  λ of. ids_from first gates of.gate id ((are.reached of.gate).1 of.reached) (record { from = of.from; to = of.to }),
-)
+reached_ids net k first gates id are = (of, has)
+  where
+    of : Contains (gate_ids first gates) id → IsOfReachedGate net k first id
+    of (j, within, is) =
+        let there : j / 3 < length gates = omega (arith, within, ids_count first gates) in
+        let whole : j ≡ 3 * (j / 3) + j % 3 = omega arith in
+        let at : id ≡ first + 3 * slice_index_or gates (j / 3) 0 + j % 3 = sym is ∙ (ap (λ n. slice_index_or (gate_ids first gates) n id) whole ∙ ids_at first gates (j / 3) (j % 3) id 0 there (omega arith)) in
+        record {
+          gate = slice_index_or gates (j / 3) 0;
+          reached = (are.reached (slice_index_or gates (j / 3) 0)).0 (Contains-get_or gates (j / 3) 0 there);
+          from = omega (arith, at);
+          to = omega (arith, at);
+        }
+
+    has : IsOfReachedGate net k first id → Contains (gate_ids first gates) id
+    has of =
+        let r = id - (first + 3 * of.gate) in
+        let listed = (are.reached of.gate).1 of.reached in
+        let small : r < 3 = omega (arith, of.from, of.to) in
+        (3 * listed.0 + r, omega (arith, listed.1, small, ids_count first gates), ids_at first gates listed.0 r id of.gate listed.1 small ∙ omega (arith, listed.2, of.from))
 
 -- all numbers of the cones
 pub cone_ids_are : (graphs : Graphs) (query : Query) (left right : List ℕ) → AreReached (circuit_of graphs query.left) query.left.output left → AreReached (circuit_of graphs query.right) query.right.output right → AreConeIds graphs query (0 ∷ (gate_ids 1 left ++ (gate_ids (1 + 3 * left_gates graphs query) right ++ (1 + 3 * (left_gates graphs query + right_gates graphs query)) ∷ (2 + 3 * (left_gates graphs query + right_gates graphs query)) ∷ [])))
@@ -188,18 +182,21 @@ cone_ids_are graphs query left right of_left of_right = record {
         contains-tail 0 (lefts ++ (rights ++ outputs)) id (Contains-append_right lefts (rights ++ outputs) id (Contains-append_right rights outputs id (contains-tail (1 + 3 * (l + r)) ((2 + 3 * (l + r)) ∷ []) id (contains-head (2 + 3 * (l + r)) [] id e))))
 
 -- the same, as they are added one after the other
-pub built_are : (graphs : Graphs) (query : Query) (start left right one both : List ℕ) (first last : ℕ) → start ≡ 0 ∷ [] → AreAdded (circuit_of graphs query.left) query.left.output 1 start left → AreAdded (circuit_of graphs query.right) query.right.output first left right → first ≡ 1 + 3 * left_gates graphs query → last ≡ 1 + 3 * (left_gates graphs query + right_gates graphs query) → one ≡ right ++ last ∷ [] → both ≡ one ++ (last + 1) ∷ [] → AreConeIds graphs query both
-built_are graphs query start left right one both first last start_is of_left of_right first_is last_is one_is both_is =
-    let lefts = gate_ids 1 of_left.gates in
-    let rights = gate_ids first of_right.gates in
-    let next : last + 1 ≡ 2 + 3 * (left_gates graphs query + right_gates graphs query) = omega (arith, last_is) in
-    let left_is : left ≡ 0 ∷ lefts = of_left.added ∙ ap (λ ids. ids ++ lefts) start_is in
-    let right_is : right ≡ (0 ∷ lefts) ++ rights = of_right.added ∙ ap (λ ids. ids ++ rights) left_is in
-    let outputs_are : both ≡ right ++ last ∷ (last + 1) ∷ [] = both_is ∙ (ap (λ ids. ids ++ (last + 1) ∷ []) one_is ∙ append_assoc right (last ∷ []) ((last + 1) ∷ [])) in
-    let whole : both ≡ (0 ∷ lefts) ++ (rights ++ last ∷ (last + 1) ∷ []) =
-    outputs_are ∙ (ap (λ ids. ids ++ last ∷ (last + 1) ∷ []) right_is ∙ append_assoc (0 ∷ lefts) rights (last ∷ (last + 1) ∷ [])) in
-    let numbered : both ≡ 0 ∷ (lefts ++ (gate_ids (1 + 3 * left_gates graphs query) of_right.gates ++ (1 + 3 * (left_gates graphs query + right_gates graphs query)) ∷ (2 + 3 * (left_gates graphs query + right_gates graphs query)) ∷ [])) =
-    whole
-    ∙ (ap (λ n. 0 ∷ (lefts ++ (gate_ids n of_right.gates ++ last ∷ (last + 1) ∷ []))) first_is
-    ∙ (ap (λ n. 0 ∷ (lefts ++ (gate_ids (1 + 3 * left_gates graphs query) of_right.gates ++ n ∷ (last + 1) ∷ []))) last_is ∙ ap (λ n. 0 ∷ (lefts ++ (gate_ids (1 + 3 * left_gates graphs query) of_right.gates ++ (1 + 3 * (left_gates graphs query + right_gates graphs query)) ∷ n ∷ []))) next)) in
-    subst (AreConeIds graphs query) (sym numbered) (cone_ids_are graphs query of_left.gates of_right.gates of_left.are of_right.are)
+pub built_are : (graphs : Graphs) (query : Query) (left right ids : List ℕ) (first last : ℕ) → AreReached (circuit_of graphs query.left) query.left.output left → AreReached (circuit_of graphs query.right) query.right.output right → first ≡ 1 + 3 * left_gates graphs query → last ≡ 1 + 3 * (left_gates graphs query + right_gates graphs query) → ids ≡ ((((0 ∷ []) ++ gate_ids 1 left) ++ gate_ids first right) ++ last ∷ []) ++ (last + 1) ∷ [] → AreConeIds graphs query ids
+built_are graphs query left right ids first last of_left of_right first_is last_is ids_are =
+    subst (AreConeIds graphs query) (sym (ids_are ∙ (in_row (0 ∷ gate_ids 1 left) (gate_ids first right) ∙ (ap (λ n. row n last (last + 1)) first_is ∙ (ap (λ n. row (1 + 3 * l) n (last + 1)) last_is ∙ ap (λ n. row (1 + 3 * l) (1 + 3 * (l + r)) n) next))))) (cone_ids_are graphs query left right of_left of_right)
+  where
+    l : ℕ
+    l = left_gates graphs query
+
+    r : ℕ
+    r = right_gates graphs query
+
+    row : ℕ → ℕ → ℕ → List ℕ
+    row n one other = 0 ∷ (gate_ids 1 left ++ (gate_ids n right ++ one ∷ other ∷ []))
+
+    next : last + 1 ≡ 2 + 3 * (l + r)
+    next = omega (arith, last_is)
+
+    in_row : (xs ys : List ℕ) → ((xs ++ ys) ++ last ∷ []) ++ (last + 1) ∷ [] ≡ xs ++ (ys ++ last ∷ (last + 1) ∷ [])
+    in_row xs ys = append_assoc (xs ++ ys) (last ∷ []) ((last + 1) ∷ []) ∙ append_assoc xs ys (last ∷ (last + 1) ∷ [])

@@ -1,7 +1,7 @@
 -- What meets the clauses of the cones alone has a vector that is asked for: each signal that an output reaches has its bit.
-use Rattle.std.proofs.Common.{◌≡◌, ◌≢◌, ℕ, zero, suc, ◌+◌, ◌*◌, ◌-◌, ◌<◌, ◌≤◌, ◌&&◌, Bool, true, false, List, [], ◌∷◌, length, map, All, slice_index_or, inl, inr, refl, sym, ap, subst, ◌∙◌, arith}
-use Rattle.std.proofs.lemmas.Bool.{cases_lt}
-use Rattle.std.proofs.lemmas.List.{get_or-map, get_or_append_left, length-map}
+use Rattle.std.proofs.Common.{[], ◌≡◌, ◌≢◌, ℕ, zero, suc, ◌+◌, ◌*◌, ◌-◌, ◌<◌, ◌&&◌, Bool, true, false, List, ◌∷◌, length, map, All, slice_index_or, inl, inr, refl, sym, ap, subst, ◌∙◌, replicate, arith}
+use Rattle.std.proofs.lemmas.Bool.{cases_lt, false≢true}
+use Rattle.std.proofs.lemmas.List.{get_or-map, get_or-replicate, get_or_past, length-map, length-replicate}
 use Rattle.std.proofs.lemmas.List.FromFn.{length-range_with_len}
 use Rattle.circuits.specs.declared.netlist.Lit.{Lit}
 use Rattle.circuits.specs.declared.netlist.Gate.{Gate}
@@ -10,18 +10,17 @@ use Rattle.circuits.specs.Netlists.{Net, IsOrdered, signals_of, valuation_of, fu
 use Rattle.circuits.proofs.Valuations.{valuation_of-fits}
 use Rattle.circuits.proofs.Expansions.{or_false}
 use Rattle.cnf_core.specs.declared.literal.SatLit.{SatLit}
-use Rattle.cnf_core.specs.Clauses.{clause_at, is_met, literal_bit}
+use Rattle.cnf_core.specs.Clauses.{Meets, clause_at, is_met, literal_bit}
 use Rattle.net_core.specs.Sides.{Graphs}
 use Rattle.net_core.specs.Graph.{IsGraph}
-use Rattle.net_core.specs.Cones.{Reaches, ReachesGate, output_signal}
+use Rattle.net_core.specs.Cones.{IsFanIn, Reaches, ReachesGate, output_signal}
 use Rattle.query_core.specs.declared.query.Feed.{Feed}
-use Rattle.query_core.specs.declared.query.Feed.TheVariants.{Fixed}
 use Rattle.query_core.specs.declared.query.Query.{Query}
 use Rattle.query_core.specs.Queries.{feed_bit, circuit_of, bits_in, vector_in, IsQuery, IsWired, MeetsQuery}
-use Rattle.query_core.specs.Formulas.{feed_literal, plain, signal_literals, stand_in, stands_for, and_clauses, half_clauses, left_variables, right_variables, left_literals, right_literals, output_literal}
+use Rattle.query_core.specs.Formulas.{signal_literals, stand_in, stands_for, and_clauses, half_clauses, left_variables, right_variables, left_literals, right_literals, output_literal, query_clauses}
 use Rattle.query_core.specs.ConeClauses.{IsConeId, MeetsCones, left_gates, right_gates}
-use Rattle.query_core.proofs.FormulaLemmas.{gate_clause_at, gate_clause_count, clause_of_left, clause_of_right, first_output, second_output, right_variable_count}
-use Rattle.query_core.proofs.LawLemmas.{by_sign, fed_bit, false_there, gate_met, is_itself, literal_of_bit, ordered_side, value_there, chosen}
+use Rattle.query_core.proofs.FormulaLemmas.{count_of, at_left, at_outputs, at_right, gate_clause_at, gate_clause_count, right_variable_count}
+use Rattle.query_core.proofs.LawLemmas.{by_sign, input_bit, false_there, gate_met, is_itself, literal_of_bit, ordered_side, value_there, chosen}
 
 -- what an output reaches has its operands' signals too
 pub first_reached : (net : Net) (k t : ℕ) (d : Gate) → t < length net.gates → ReachesGate net k t → Reaches net k (signal_of (slice_index_or net.gates t d).a)
@@ -49,18 +48,6 @@ record IsHalfMet (a : List Bool) (n : ℕ) (net : Net) (feed : List Feed) (varia
 abbrev given : List Bool → ℕ → List Feed → List Bool
 given a n feed = map (feed_bit (vector_in n a)) feed
 
-input_valued : (a : List Bool) (n : ℕ) (net : Net) (feed : List Feed) (variables : List ℕ) (k : ℕ) → IsHalfMet a n net feed variables k → (i : ℕ) → i < n → literal_bit a (stand_in (signal_literals feed variables) (1 + i)) ≡ bit (valuation_of net (given a n feed)) (1 + i)
-input_valued a n net feed variables k half i within =
-    let x = given a n feed in
-    let fits = valuation_of-fits net x half.ordered (length-map feed (feed_bit (vector_in n a)) ∙ (half.feeds ∙ sym half.inputs)) in
-    let here : i < length feed = omega (arith, within, half.feeds) in
-    let next : 1 + i ≡ suc i = omega arith in
-    let none : Feed = Fixed false in
-    let stands : stand_in (signal_literals feed variables) (1 + i) ≡ feed_literal (slice_index_or feed i none) =
-    ap (stand_in (signal_literals feed variables)) next ∙ (get_or_append_left (map feed_literal feed) (map plain variables) (record { 0 = 1 }) i (omega (arith, here, length-map feed feed_literal)) ∙ get_or-map feed_literal feed i none (record { 0 = 1 }) here) in
-    ap (literal_bit a) stands
-    ∙ (fed_bit a n (slice_index_or feed i none) half.first (half.wired i none here) ∙ (sym (get_or-map (feed_bit (vector_in n a)) feed i none false here) ∙ sym (fits.inputs i (omega (arith, within, half.inputs)))))
-
 -- each signal below a number that the output reaches has its bit
 valued_below : (a : List Bool) (n : ℕ) (net : Net) (feed : List Feed) (variables : List ℕ) (k : ℕ) → IsHalfMet a n net feed variables k → (m s : ℕ) → s < m → s < signals_of net → Reaches net k s → literal_bit a (stand_in (signal_literals feed variables) s) ≡ bit (valuation_of net (given a n feed)) s
 valued_below a n net feed variables k half zero s less there reached = absurd (omega (arith, less))
@@ -84,8 +71,10 @@ valued_below a n net feed variables k half (suc m) (suc i) less there reached =
 
     input_case : (i : ℕ) → i < n → literal_bit a (stand_in literals (suc i)) ≡ bit v (suc i)
     input_case i input =
-        let e : suc i ≡ 1 + i = omega arith in
-        subst (λ s. literal_bit a (stand_in literals s) ≡ bit v s) (sym e) (input_valued a n net feed variables k half i input)
+        let fits = valuation_of-fits net (given a n feed) half.ordered (length-map feed (feed_bit (vector_in n a)) ∙ (half.feeds ∙ sym half.inputs)) in
+        let next : 1 + i ≡ suc i = omega arith in
+        input_bit a n feed variables i half.first half.wired (omega (arith, input, half.feeds))
+        ∙ (sym (fits.inputs i (omega (arith, input, half.inputs))) ∙ ap (bit v) next)
 
     gate_case : (t : ℕ) → t < length net.gates → suc i ≡ 1 + net.inputs + t → suc i < suc m → Reaches net k (suc i) → ((s : ℕ) → s < m → s < signals_of net → Reaches net k s → literal_bit a (stand_in literals s) ≡ bit v s) → literal_bit a (stand_in literals (suc i)) ≡ bit v (suc i)
     gate_case t within e less reached smaller =
@@ -117,100 +106,85 @@ output_valued a n net feed variables k value half there out =
     get_or-map (signal_bit v) net.outputs k none false there ∙ (sym is ∙ value_there (literal_bit a (stands_for literals last)) value (stands_for literals last) a refl out)
 
 pub cone_vector_there : (graphs : Graphs) (query : Query) (a : List Bool) → IsGraph graphs.first → IsGraph graphs.second → IsQuery graphs query → MeetsCones graphs query a → MeetsQuery graphs query (vector_in (bits_in graphs query) a)
-cone_vector_there graphs query a first second fits meets = record {
-  left = output_valued a n left query.left.feed (left_variables graphs query) query.left.output query.left_value left_half fits.left.output left_out;
-  right = output_valued a n right query.right.feed (right_variables graphs query) query.right.output query.right_value right_half fits.right.output right_out;
-}
-  where
-    n : ℕ
-    n = bits_in graphs query
-
-    left : Net
-    left = circuit_of graphs query.left
-
-    right : Net
-    right = circuit_of graphs query.right
-
-    ls : List SatLit
-    ls = left_literals graphs query
-
-    rs : List SatLit
-    rs = right_literals graphs query
-
-    lefts : List (List SatLit)
-    lefts = half_clauses left ls
-
-    rights : List (List SatLit)
-    rights = half_clauses right rs
-
-    one : SatLit
-    one = output_literal left ls query.left.output query.left_value
-
-    other : SatLit
-    other = output_literal right rs query.right.output query.right_value
-
-    left_count : length lefts ≡ 3 * left_gates graphs query
-    left_count = gate_clause_count ls (left.inputs + 1) left.gates
-
-    right_count : length rights ≡ 3 * right_gates graphs query
-    right_count = gate_clause_count rs (right.inputs + 1) right.gates
-
-    start : bit a 0 ≡ true
-    start = is_itself (bit a 0) ∙ (sym (literal_of_bit a 0 true) ∙ (sym (or_false (literal_bit a (record { 0 = 0 }))) ∙ meets 0 (inl refl)))
-
-    left_met : (t r : ℕ) → t < length left.gates → ReachesGate left query.left.output t → r < 3 → is_met a (clause_at lefts (3 * t + r)) ≡ true
-    left_met t r within reached small =
-        let id = 1 + (3 * t + r) in
-        let at : id - 1 ≡ 3 * t + r = omega arith in
-        let some : id ≢ 0 = omega arith in
-        let below : id - 1 < length lefts = omega (arith, left_count, within, small) in
-        let cone : IsConeId graphs query id = inr (inl (record { gate = t; reached = reached; from = omega arith; to = omega (arith, small) })) in
-        ap (λ j. is_met a (clause_at lefts j)) (sym at) ∙ (ap (is_met a) (clause_of_left lefts rights one other id some below) ∙ meets id cone)
-
-    right_met : (t r : ℕ) → t < length right.gates → ReachesGate right query.right.output t → r < 3 → is_met a (clause_at rights (3 * t + r)) ≡ true
-    right_met t r within reached small =
-        let id = 1 + 3 * left_gates graphs query + (3 * t + r) in
-        let at : id - 1 - length lefts ≡ 3 * t + r = omega (arith, left_count) in
-        let some : id ≢ 0 = omega arith in
-        let after : length lefts ≤ id - 1 = omega (arith, left_count) in
-        let below : id - 1 - length lefts < length rights = omega (arith, left_count, right_count, within, small) in
-        let cone : IsConeId graphs query id = inr (inr (inl (record { gate = t; reached = reached; from = omega arith; to = omega (arith, small) }))) in
-        ap (λ j. is_met a (clause_at rights j)) (sym at) ∙ (ap (is_met a) (clause_of_right lefts rights one other id some after below) ∙ meets id cone)
-
-    left_half : IsHalfMet a n left query.left.feed (left_variables graphs query) query.left.output
-    left_half = record {
+cone_vector_there graphs query a first second fits meets =
+    let n = bits_in graphs query in
+    let left = circuit_of graphs query.left in
+    let right = circuit_of graphs query.right in
+    let ls = left_literals graphs query in
+    let rs = right_literals graphs query in
+    let lefts = half_clauses left ls in
+    let rights = half_clauses right rs in
+    let one = output_literal left ls query.left.output query.left_value in
+    let other = output_literal right rs query.right.output query.right_value in
+    let last = 1 + 3 * (left_gates graphs query + right_gates graphs query) in
+    let left_count : length lefts ≡ 3 * left_gates graphs query = gate_clause_count ls (left.inputs + 1) left.gates in
+    let right_count : length rights ≡ 3 * right_gates graphs query = gate_clause_count rs (right.inputs + 1) right.gates in
+    let start : bit a 0 ≡ true = is_itself (bit a 0) ∙ (sym (literal_of_bit a 0 true) ∙ (sym (or_false (literal_bit a (record { 0 = 0 }))) ∙ meets 0 (inl refl))) in
+    let left_half : IsHalfMet a n left query.left.feed (left_variables graphs query) query.left.output = record {
       first = start;
       ordered = ordered_side graphs query.left.side first second;
       inputs = fits.left.inputs;
       feeds = fits.left.feed;
       gates = length-range_with_len (n + 1) (length left.gates);
       wired = fits.left.wires;
-      met = left_met;
-    }
-
-    right_half : IsHalfMet a n right query.right.feed (right_variables graphs query) query.right.output
-    right_half = record {
+      met = λ t r within reached small.
+          let id = 1 + (3 * t + r) in
+          let cone : IsConeId graphs query id = inr (inl (record { gate = t; reached = reached; from = omega arith; to = omega (arith, small) })) in
+          ap (is_met a) (sym (at_left lefts rights one other id (3 * t + r) refl (omega (arith, left_count, within, small)))) ∙ meets id cone;
+    } in
+    let right_half : IsHalfMet a n right query.right.feed (right_variables graphs query) query.right.output = record {
       first = start;
       ordered = ordered_side graphs query.right.side first second;
       inputs = fits.right.inputs;
       feeds = fits.right.feed;
       gates = right_variable_count graphs query fits;
       wired = fits.right.wires;
-      met = right_met;
+      met = λ t r within reached small.
+          let id = 1 + 3 * left_gates graphs query + (3 * t + r) in
+          let cone : IsConeId graphs query id = inr (inr (inl (record { gate = t; reached = reached; from = omega arith; to = omega (arith, small) }))) in
+          ap (is_met a) (sym (at_right lefts rights one other id (3 * t + r) (omega (arith, left_count)) (omega (arith, right_count, within, small)))) ∙ meets id cone;
+    } in
+    let outs = at_outputs lefts rights one other last (omega (arith, left_count, right_count)) in
+    let left_out : is_met a (one ∷ []) ≡ true = ap (is_met a) (sym outs.0) ∙ meets last (inr (inr (inr (inl refl)))) in
+    let right_out : is_met a (other ∷ []) ≡ true = ap (is_met a) (sym outs.1) ∙ meets (last + 1) (inr (inr (inr (inr (omega arith))))) in
+    record {
+      left = output_valued a n left query.left.feed (left_variables graphs query) query.left.output query.left_value left_half fits.left.output left_out;
+      right = output_valued a n right query.right.feed (right_variables graphs query) query.right.output query.right_value right_half fits.right.output right_out;
     }
 
-    left_out : is_met a (one ∷ []) ≡ true
-    left_out =
-        let id = 1 + 3 * (left_gates graphs query + right_gates graphs query) in
-        let some : id ≢ 0 = omega arith in
-        let after : length lefts ≤ id - 1 = omega (arith, left_count) in
-        let here : id - 1 - length lefts ≡ length rights = omega (arith, left_count, right_count) in
-        ap (is_met a) (first_output lefts rights one other id some after here) ∙ meets id (inr (inr (inr (inl refl))))
+-- a gate that an output reaches is there
+pub reached_there : (net : Net) (k t : ℕ) → IsOrdered net → k < length net.outputs → ReachesGate net k t → t < length net.gates
+reached_there net k t ordered output reached =
+    elim (cases_lt t (length net.gates)) [
+      | inl there ↦ there
+      | inr past ↦ absurd (false≢true (sym (get_or_past all (1 + net.inputs + t) false (omega (arith, past, length-replicate signals true))) ∙ reached all fan_in))
+    ]
+  where
+    signals : ℕ
+    signals = 1 + net.inputs + length net.gates
 
-    right_out : is_met a (other ∷ []) ≡ true
-    right_out =
-        let id = 2 + 3 * (left_gates graphs query + right_gates graphs query) in
-        let some : id ≢ 0 = omega arith in
-        let after : length lefts ≤ id - 1 = omega (arith, left_count) in
-        let here : id - 1 - length lefts ≡ length rights + 1 = omega (arith, left_count, right_count) in
-        ap (is_met a) (second_output lefts rights one other id some after here) ∙ meets id (inr (inr (inr (inr refl))))
+    all : List Bool
+    all = replicate signals true
+
+    in_all : (s : ℕ) → s < signals → bit all s ≡ true
+    in_all s below = get_or-replicate signals s true false below
+
+    fan_in : IsFanIn net k all
+    fan_in = record {
+      output = in_all (output_signal net k) (omega (arith, ordered.outputs k (record { 0 = 0 }) output));
+      operands = λ u d within is. (in_all (signal_of (slice_index_or net.gates u d).a) (omega (arith, ordered.first_operands u d within, within)), in_all (signal_of (slice_index_or net.gates u d).b) (omega (arith, ordered.second_operands u d within, within)));
+    }
+
+-- what meets all clauses meets those of the cones
+cone_id_there : (graphs : Graphs) (query : Query) (id : ℕ) → IsGraph graphs.first → IsGraph graphs.second → IsQuery graphs query → IsConeId graphs query id → id < length (query_clauses graphs query)
+cone_id_there graphs query id first second fits (inl e) = omega (arith, e, count_of graphs query)
+cone_id_there graphs query id first second fits (inr (inl of)) =
+    omega (arith, of.to, count_of graphs query, reached_there (circuit_of graphs query.left) query.left.output of.gate (ordered_side graphs query.left.side first second) fits.left.output of.reached)
+cone_id_there graphs query id first second fits (inr (inr (inl of))) =
+    omega (arith, of.to, count_of graphs query, reached_there (circuit_of graphs query.right) query.right.output of.gate (ordered_side graphs query.right.side first second) fits.right.output of.reached)
+cone_id_there graphs query id first second fits (inr (inr (inr (inl e)))) = omega (arith, e, count_of graphs query)
+cone_id_there graphs query id first second fits (inr (inr (inr (inr e)))) = omega (arith, e, count_of graphs query)
+
+pub vector_there : (graphs : Graphs) (query : Query) (a : List Bool) → IsGraph graphs.first → IsGraph graphs.second → IsQuery graphs query → Meets a (query_clauses graphs query) → MeetsQuery graphs query (vector_in (bits_in graphs query) a)
+vector_there graphs query a first second fits meets =
+    cone_vector_there graphs query a first second fits (λ id cone. meets id [] (cone_id_there graphs query id first second fits cone))

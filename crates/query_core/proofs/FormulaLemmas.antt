@@ -1,7 +1,7 @@
 -- The clauses of a query by their numbers, and the variables that stand in them.
-use Rattle.std.proofs.Common.{◌≡◌, ◌≢◌, ℕ, zero, suc, ◌+◌, ◌-◌, ◌*◌, ◌<◌, ◌≤◌, Bool, true, false, ◌||◌, not, cond, List, [], ◌∷◌, ◌++◌, length, map, drop, All, slice_index_or, refl, sym, ◌∙◌, ap, subst, arith}
+use Rattle.std.proofs.Common.{[], ◌≡◌, ◌≢◌, ℕ, zero, suc, ◌+◌, ◌-◌, ◌*◌, ◌<◌, ◌≤◌, Bool, true, false, ◌||◌, not, cond, List, ◌∷◌, ◌++◌, length, map, drop, All, slice_index_or, refl, sym, ◌∙◌, ap, subst, arith}
 use Rattle.std.specs.List.{range_with_len, AllByRecursion}
-use Rattle.std.proofs.lemmas.List.{get_or_append_left, get_or-append-add, length-append, length-map, length-drop}
+use Rattle.std.proofs.lemmas.List.{get_or-map, get_or_append_left, get_or-append-add, length-append, length-map, length-drop}
 use Rattle.std.proofs.lemmas.List.Elements.{All-from_recursion, recursion_from_All}
 use Rattle.std.proofs.lemmas.List.FromFn.{length-range_with_len}
 use Rattle.circuits.specs.declared.netlist.Lit.{Lit}
@@ -16,7 +16,7 @@ use Rattle.query_core.specs.declared.query.Feed.{Feed}
 use Rattle.query_core.specs.declared.query.Feed.TheVariants.{Fixed, Wire}
 use Rattle.query_core.specs.declared.query.Query.{Query}
 use Rattle.query_core.specs.Queries.{circuit_of, bits_in, IsQuery, IsWired}
-use Rattle.query_core.specs.Formulas.{feed_literal, plain, signal_literals, stand_in, stands_for, and_clauses, gate_clauses, half_clauses, clauses_by, feeds_differ, reaching, reaches, shared_from, same_side, left_variables, right_variables, left_literals, right_literals, output_literal, query_clauses, formula_of}
+use Rattle.query_core.specs.Formulas.{false_literal, feed_literal, plain, signal_literals, stand_in, stands_for, and_clauses, gate_clauses, half_clauses, clauses_by, feeds_differ, reaching, reaches, shared_from, same_side, left_variables, right_variables, left_literals, right_literals, output_literal, query_clauses, formula_of}
 
 -- how many clauses there are
 pub gate_clause_count : (literals : List SatLit) (first : ℕ) (gates : List Gate) → length (gate_clauses literals first gates) ≡ 3 * length gates
@@ -80,10 +80,38 @@ pub second_output : (left right : List (List SatLit)) (a b : SatLit) (id : ℕ) 
 second_output left right a b id some after here =
     sym (after_left left right a b id some after ∙ (ap (clause_at (right ++ (a ∷ []) ∷ (b ∷ []) ∷ [])) here ∙ get_or-append-add right ((a ∷ []) ∷ (b ∷ []) ∷ []) 1 []))
 
+-- the same, where it is told how far behind the first clause a number is
+pub at_left : (left right : List (List SatLit)) (a b : SatLit) (id k : ℕ) → id ≡ 1 + k → k < length left → clause_at (clauses_by left right a b) id ≡ clause_at left k
+at_left left right a b id k is below =
+    let at : id - 1 ≡ k = omega (arith, is) in
+    sym (clause_of_left left right a b id (omega (arith, is)) (omega (arith, is, below))) ∙ ap (clause_at left) at
+
+pub at_right : (left right : List (List SatLit)) (a b : SatLit) (id k : ℕ) → id ≡ 1 + length left + k → k < length right → clause_at (clauses_by left right a b) id ≡ clause_at right k
+at_right left right a b id k is below =
+    let at : id - 1 - length left ≡ k = omega (arith, is) in
+    sym (clause_of_right left right a b id (omega (arith, is)) (omega (arith, is)) (omega (arith, is, below))) ∙ ap (clause_at right) at
+
+pub at_outputs : (left right : List (List SatLit)) (a b : SatLit) (id : ℕ) → id ≡ 1 + length left + length right → (clause_at (clauses_by left right a b) id ≡ a ∷ []) × (clause_at (clauses_by left right a b) (id + 1) ≡ b ∷ [])
+at_outputs left right a b id is = (
+  sym (first_output left right a b id (omega (arith, is)) (omega (arith, is)) (omega (arith, is))),
+  sym (second_output left right a b (id + 1) (omega (arith, is)) (omega (arith, is)) (omega (arith, is))),
+)
+
 -- how many literals stand for signals
 pub signal_count : (feed : List Feed) (variables : List ℕ) → length (signal_literals feed variables) ≡ 1 + length feed + length variables
 signal_count feed variables =
     omega (arith, length-append (map feed_literal feed) (map plain variables), length-map feed feed_literal, length-map variables plain)
+
+-- what stands for an input, and for a gate
+pub stand_in_input : (feed : List Feed) (variables : List ℕ) (i : ℕ) (f : Feed) → i < length feed → f ≡ slice_index_or feed i f → feed_literal f ≡ stand_in (signal_literals feed variables) (suc i)
+stand_in_input feed variables i f within is =
+    ap feed_literal is ∙ sym (get_or_append_left (map feed_literal feed) (map plain variables) false_literal i (omega (arith, within, length-map feed feed_literal)) ∙ get_or-map feed_literal feed i f false_literal within)
+
+pub stand_in_gate : (feed : List Feed) (variables : List ℕ) (t : ℕ) → t < length variables → stand_in (signal_literals feed variables) (suc (length feed + t)) ≡ plain (slice_index_or variables t 0)
+stand_in_gate feed variables t within =
+    let at : length feed + t ≡ length (map feed_literal feed) + t = omega (arith, length-map feed feed_literal) in
+    ap (λ n. slice_index_or (map feed_literal feed ++ map plain variables) n false_literal) at
+    ∙ (get_or-append-add (map feed_literal feed) (map plain variables) t false_literal ∙ get_or-map plain variables t 0 false_literal within)
 
 pub length-reaching : (so_far : List Bool) (gates : List Gate) → length (reaching so_far gates) ≡ length so_far + length gates
 length-reaching so_far [] = omega arith
@@ -119,9 +147,10 @@ right_variable_count graphs query fits =
 abbrev pub AreBelow : ℕ → List SatLit → Type 0
 AreBelow n literals = AllByRecursion (λ l. variable_of l < n) literals
 
-below-append : (n : ℕ) (xs ys : List SatLit) → AreBelow n xs → AreBelow n ys → AreBelow n (xs ++ ys)
-below-append n [] ys first second = second
-below-append n (x ∷ xs) ys first second = (first.0, below-append n xs ys first.1 second)
+-- what holds of each clause of two lists, or of each literal, holds of both together
+pub recursion-append : {X : Type 0} (P : X → Type 0) (xs ys : List X) → AllByRecursion P xs → AllByRecursion P ys → AllByRecursion P (xs ++ ys)
+recursion-append P [] ys first second = second
+recursion-append P (x ∷ xs) ys first second = (first.0, recursion-append P xs ys first.1 second)
 
 feeds_below : (n m : ℕ) (feed : List Feed) → n < m → AllByRecursion (IsWired n) feed → AreBelow m (map feed_literal feed)
 feeds_below n m [] more wired = tt
@@ -167,10 +196,6 @@ output_below m net literals output false some below =
     let l = stands_for literals (slice_index_or net.outputs output (record { 0 = 0 })) in
     omega (arith, variable_of-opposite l, stands_for_below m literals (slice_index_or net.outputs output (record { 0 = 0 })) some below)
 
-clauses_below : (m : ℕ) (xs ys : List (List SatLit)) → AllByRecursion (AreBelow m) xs → AllByRecursion (AreBelow m) ys → AllByRecursion (AreBelow m) (xs ++ ys)
-clauses_below m [] ys first second = second
-clauses_below m (x ∷ xs) ys first second = (first.0, clauses_below m xs ys first.1 second)
-
 chosen_below : (m : ℕ) (s : Bool) (first own : ℕ) (reaches : List Bool) (count : ℕ) → length reaches ≡ first + count → first ≤ own → own + count ≤ m → AreBelow m (map plain (cond s (shared_from first own (drop first reaches)) (range_with_len own count)))
 chosen_below m true first own reaches count whole before within =
     shared_below first own m (drop first reaches) before (omega (arith, length-drop first reaches, whole, within))
@@ -181,7 +206,7 @@ left_below graphs query fits =
     let m = (formula_of graphs query).variables in
     let n = bits_in graphs query in
     let gates = length (circuit_of graphs query.left).gates in
-    (omega (arith, variable_of-literal 0 false), below-append m (map feed_literal query.left.feed) (map plain (left_variables graphs query)) (feeds_below n m query.left.feed (omega arith) (recursion_from_All (IsWired n) query.left.feed fits.left.wires)) (range_below (n + 1) gates m (omega arith)))
+    (omega (arith, variable_of-literal 0 false), recursion-append (λ l. variable_of l < m) (map feed_literal query.left.feed) (map plain (left_variables graphs query)) (feeds_below n m query.left.feed (omega arith) (recursion_from_All (IsWired n) query.left.feed fits.left.wires)) (range_below (n + 1) gates m (omega arith)))
 
 right_below : (graphs : Graphs) (query : Query) → IsQuery graphs query → AreBelow (formula_of graphs query).variables (right_literals graphs query)
 right_below graphs query fits =
@@ -192,7 +217,7 @@ right_below graphs query fits =
     let own = first + length (circuit_of graphs query.left).gates in
     let same : length query.left.feed ≡ length query.right.feed = fits.left.feed ∙ sym fits.right.feed in
     let whole : length (reaches query gates) ≡ first + length gates = omega (arith, reached_count query gates same, fits.left.feed) in
-    (omega (arith, variable_of-literal 0 false), below-append m (map feed_literal query.right.feed) (map plain (right_variables graphs query)) (feeds_below n m query.right.feed (omega arith) (recursion_from_All (IsWired n) query.right.feed fits.right.wires)) (chosen_below m (same_side query.left.side query.right.side) first own (reaches query gates) (length gates) whole (omega arith) (omega arith)))
+    (omega (arith, variable_of-literal 0 false), recursion-append (λ l. variable_of l < m) (map feed_literal query.right.feed) (map plain (right_variables graphs query)) (feeds_below n m query.right.feed (omega arith) (recursion_from_All (IsWired n) query.right.feed fits.right.wires)) (chosen_below m (same_side query.left.side query.right.side) first own (reaches query gates) (length gates) whole (omega arith) (omega arith)))
 
 -- each variable that stands in a clause is one of the formula's
 formula_below : (graphs : Graphs) (query : Query) → IsQuery graphs query → AllByRecursion (AreBelow (formula_of graphs query).variables) (query_clauses graphs query)
@@ -206,7 +231,7 @@ formula_below graphs query fits =
     let l = left_below graphs query fits in
     let r = right_below graphs query fits in
     let outputs : AllByRecursion (AreBelow m) ((output_literal left ls query.left.output query.left_value ∷ []) ∷ (output_literal right rs query.right.output query.right_value ∷ []) ∷ []) = ((output_below m left ls query.left.output query.left_value some l, tt), ((output_below m right rs query.right.output query.right_value some r, tt), tt)) in
-    ((omega (arith, variable_of-literal 0 true, some), tt), clauses_below m (half_clauses left ls) _ (gates_below m ls (left.inputs + 1) left.gates some l) (clauses_below m (half_clauses right rs) _ (gates_below m rs (right.inputs + 1) right.gates some r) outputs))
+    ((omega (arith, variable_of-literal 0 true, some), tt), recursion-append (AreBelow m) (half_clauses left ls) _ (gates_below m ls (left.inputs + 1) left.gates some l) (recursion-append (AreBelow m) (half_clauses right rs) _ (gates_below m rs (right.inputs + 1) right.gates some r) outputs))
 
 one_below : (m : ℕ) (clauses : List (List SatLit)) (id : ℕ) → AllByRecursion (AreBelow m) clauses → AreBelow m (clause_at clauses id)
 one_below m [] id below = tt

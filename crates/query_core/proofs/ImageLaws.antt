@@ -11,6 +11,7 @@ use Rattle.circuits.specs.Bijections.{IsSignedBijection, Moves, moved, place_of,
 use Rattle.circuits.specs.Matches.{IsMatchOfFunctions}
 use Rattle.circuits.specs.declared.port.PortKind.TheVariants.{Input, Output}
 use Rattle.circuits.specs.declared.port.Pair.{Pair}
+use Rattle.circuits.proofs.Expansions.{differ_false, differ_true}
 use Rattle.circuits.proofs.Places.{length-moved, moved-moves, moved-only}
 use Rattle.net_core.specs.Sides.{Graphs}
 use Rattle.net_core.specs.declared.graphs.Side.{Side}
@@ -29,11 +30,8 @@ places_differ : (n : ℕ) (p : List (ℕ × Bool)) (i j : ℕ) → IsSignedBijec
 places_differ n p i j bijection here there apart same =
     elim (cases_lt i j) [
       | inl less ↦ bijection.distinct i j (0, false) less there same
-      | inr more ↦ bijection.distinct j i (0, false) (strictly j i more (λ e. apart (sym e))) here (sym same)
+      | inr more ↦ bijection.distinct j i (0, false) (omega (arith, more, apart)) here (sym same)
     ]
-  where
-    strictly : (a b : ℕ) → a ≤ b → a ≢ b → a < b
-    strictly a b le apart = elim (cases_lt a b) [ inl less ↦ less | inr more ↦ absurd (apart (omega (arith, le, more))) ]
 
 -- an input that is set before the move is set at its place after it
 pub moved-set : (p : List (ℕ × Bool)) (x : List Bool) (i : ℕ) (a : Bool) → IsSignedBijection (length x) p → i < length p → moved p (with_input i a x) ≡ with_input (place_of p i) (differ a (sign_of p i)) (moved p x)
@@ -83,104 +81,74 @@ moved-unmoved p y bijection =
     back false true = refl
     back false false = refl
 
--- one input, and two, with values
-one-values : (i : ℕ) (a : Bool) (y : List Bool) → with_values (one_input i a) y ≡ with_input i a y
-one-values i true y = refl
-one-values i false y = refl
+-- a shape's inputs set to its values, or to the opposite ones
+abbrev set_to : Bool → Shape → List Bool → List Bool
+set_to opposite shape x = cond opposite (with_opposites shape x) (with_values shape x)
 
-one-opposites : (i : ℕ) (a : Bool) (y : List Bool) → with_opposites (one_input i a) y ≡ with_input i (not a) y
-one-opposites i true y = refl
-one-opposites i false y = refl
+length-set_to : (opposite : Bool) (shape : Shape) (x : List Bool) → length (set_to opposite shape x) ≡ length x
+length-set_to true shape x = length-with_opposites shape x
+length-set_to false shape x = length-with_values shape x
 
-two-values : (i : ℕ) (a : Bool) (j : ℕ) (b : Bool) (y : List Bool) → i ≢ j → with_values (two_inputs i a j b) y ≡ with_input j b (with_input i a y)
-two-values i a j b y apart = by_order (nat_lt i j)
+one-set : (opposite : Bool) (i : ℕ) (a : Bool) (x : List Bool) → set_to opposite (one_input i a) x ≡ with_input i (differ a opposite) x
+one-set true i true x = refl
+one-set true i false x = refl
+one-set false i true x = refl
+one-set false i false x = refl
+
+swap-set : (opposite : Bool) (i j : ℕ) (a b : Bool) (x : List Bool) → set_to opposite (Swap i j a b) x ≡ with_input j (differ b opposite) (with_input i (differ a opposite) x)
+swap-set true i j a b x = ap (λ c. with_input j (not b) (with_input i c x)) (sym (differ_true a)) ∙ ap (λ c. with_input j c (with_input i (differ a true) x)) (sym (differ_true b))
+swap-set false i j a b x = ap (λ c. with_input j b (with_input i c x)) (sym (differ_false a)) ∙ ap (λ c. with_input j c (with_input i (differ a false) x)) (sym (differ_false b))
+
+two-set : (opposite : Bool) (i : ℕ) (a : Bool) (j : ℕ) (b : Bool) (x : List Bool) → i ≢ j → set_to opposite (two_inputs i a j b) x ≡ with_input j (differ b opposite) (with_input i (differ a opposite) x)
+two-set opposite i a j b x apart = by_order (nat_lt i j)
   where
-    by_order : (less : Bool) → with_values (cond less (Swap i j a b) (Swap j i b a)) y ≡ with_input j b (with_input i a y)
-    by_order true = refl
-    by_order false = set_comm y j i b a (λ e. apart (sym e))
-
-two-opposites : (i : ℕ) (a : Bool) (j : ℕ) (b : Bool) (y : List Bool) → i ≢ j → with_opposites (two_inputs i a j b) y ≡ with_input j (not b) (with_input i (not a) y)
-two-opposites i a j b y apart = by_order (nat_lt i j)
-  where
-    by_order : (less : Bool) → with_opposites (cond less (Swap i j a b) (Swap j i b a)) y ≡ with_input j (not b) (with_input i (not a) y)
-    by_order true = refl
-    by_order false = set_comm y j i (not b) (not a) (λ e. apart (sym e))
+    by_order : (less : Bool) → set_to opposite (cond less (Swap i j a b) (Swap j i b a)) x ≡ with_input j (differ b opposite) (with_input i (differ a opposite) x)
+    by_order true = swap-set opposite i j a b x
+    by_order false = swap-set opposite j i b a x ∙ set_comm x j i (differ b opposite) (differ a opposite) (λ e. apart (sym e))
 
 -- A shape at its inputs' places: its values are the shape's values moved, or the opposite ones where they are exchanged.
 record IsMovedShape (p : List (ℕ × Bool)) (exchanged : Bool) (n : ℕ) (shape image : Shape) : Type 0 where
-  values : (x : List Bool) → length x ≡ n → with_values image (moved p x) ≡ moved p (cond exchanged (with_opposites shape x) (with_values shape x))
-  opposites : (x : List Bool) → length x ≡ n → with_opposites image (moved p x) ≡ moved p (cond exchanged (with_values shape x) (with_opposites shape x))
+  moves : (opposite : Bool) (x : List Bool) → length x ≡ n → set_to (differ opposite exchanged) image (moved p x) ≡ moved p (set_to opposite shape x)
   placed : IsPlaced n image
 
-twice : (b : Bool) → b ≡ not (not b)
-twice true = refl
-twice false = refl
+-- a sign that comes twice, and two in either order
+both_signed : (b c s : Bool) → differ (differ b s) (differ c s) ≡ differ b c
+both_signed true true true = refl
+both_signed true true false = refl
+both_signed true false true = refl
+both_signed true false false = refl
+both_signed false true true = refl
+both_signed false true false = refl
+both_signed false false true = refl
+both_signed false false false = refl
 
--- the value of an input at its place
-value_is : (exchanged a s : Bool) → differ (differ a s) exchanged ≡ cond exchanged (differ (not a) s) (differ a s)
-value_is true true true = refl
-value_is true true false = refl
-value_is true false true = refl
-value_is true false false = refl
-value_is false true true = refl
-value_is false true false = refl
-value_is false false true = refl
-value_is false false false = refl
+in_order : (b s t : Bool) → differ (differ b s) t ≡ differ (differ b t) s
+in_order true true true = refl
+in_order true true false = refl
+in_order true false true = refl
+in_order true false false = refl
+in_order false true true = refl
+in_order false true false = refl
+in_order false false true = refl
+in_order false false false = refl
 
-opposite_is : (exchanged a s : Bool) → not (differ (differ a s) exchanged) ≡ cond exchanged (differ a s) (differ (not a) s)
-opposite_is true true true = refl
-opposite_is true true false = refl
-opposite_is true false true = refl
-opposite_is true false false = refl
-opposite_is false true true = refl
-opposite_is false true false = refl
-opposite_is false false true = refl
-opposite_is false false false = refl
-
-one-moves : (p : List (ℕ × Bool)) (exchanged : Bool) (i : ℕ) (a : Bool) (x : List Bool) → IsSignedBijection (length x) p → i < length p → with_input (place_of p i) (cond exchanged (differ (not a) (sign_of p i)) (differ a (sign_of p i))) (moved p x) ≡ moved p (cond exchanged (with_input i (not a) x) (with_input i a x))
-one-moves p true i a x bijection there = sym (moved-set p x i (not a) bijection there)
-one-moves p false i a x bijection there = sym (moved-set p x i a bijection there)
-
-two-moves : (p : List (ℕ × Bool)) (exchanged : Bool) (i : ℕ) (a : Bool) (j : ℕ) (b : Bool) (x : List Bool) → IsSignedBijection (length x) p → i < length p → j < length p → with_input (place_of p j) (cond exchanged (differ (not b) (sign_of p j)) (differ b (sign_of p j))) (with_input (place_of p i) (cond exchanged (differ (not a) (sign_of p i)) (differ a (sign_of p i))) (moved p x)) ≡ moved p (cond exchanged (with_input j (not b) (with_input i (not a) x)) (with_input j b (with_input i a x)))
-two-moves p true i a j b x bijection here there = both p i (not a) j (not b) x bijection here there
-  where
-    both : (p : List (ℕ × Bool)) (i : ℕ) (a : Bool) (j : ℕ) (b : Bool) (x : List Bool) → IsSignedBijection (length x) p → i < length p → j < length p → with_input (place_of p j) (differ b (sign_of p j)) (with_input (place_of p i) (differ a (sign_of p i)) (moved p x)) ≡ moved p (with_input j b (with_input i a x))
-    both p i a j b x bijection here there =
-        ap (with_input (place_of p j) (differ b (sign_of p j))) (sym (moved-set p x i a bijection here)) ∙ sym (moved-set p (with_input i a x) j b (subst (λ n. IsSignedBijection n p) (sym (length-set x i a)) bijection) there)
-two-moves p false i a j b x bijection here there =
-    ap (with_input (place_of p j) (differ b (sign_of p j))) (sym (moved-set p x i a bijection here)) ∙ sym (moved-set p (with_input i a x) j b (subst (λ n. IsSignedBijection n p) (sym (length-set x i a)) bijection) there)
+-- an input is set before the move, or its place after it
+put : (p : List (ℕ × Bool)) (exchanged opposite : Bool) (i : ℕ) (a : Bool) (pair : Pair) (x : List Bool) → IsSignedBijection (length x) p → IsEntry p i pair → with_input pair.to (differ (moved_value exchanged pair a) (differ opposite exchanged)) (moved p x) ≡ moved p (with_input i (differ a opposite) x)
+put p exchanged opposite i a pair x bijection entry =
+    let value = both_signed (differ a pair.flip) opposite exchanged ∙ (in_order a pair.flip opposite ∙ ap (differ (differ a opposite)) (sym entry.sign)) in
+    ap (λ b. with_input pair.to b (moved p x)) value
+    ∙ (ap (λ place. with_input place (differ (differ a opposite) (sign_of p i)) (moved p x)) (sym entry.place) ∙ sym (moved-set p x i (differ a opposite) bijection entry.there))
 
 -- the image of a shape of one input
 one-image : (p : List (ℕ × Bool)) (exchanged : Bool) (n i : ℕ) (a : Bool) (pair : Pair) → IsSignedBijection n p → IsEntry p i pair → IsMovedShape p exchanged n (one_input i a) (moved_one exchanged a pair)
 one-image p exchanged n i a pair bijection entry = record {
-  values = λ x same.
-      one-values pair.to value (moved p x)
-      ∙ (ap (λ b. with_input pair.to b (moved p x)) (ap (λ s. differ (differ a s) exchanged) (sym entry.sign) ∙ value_is exchanged a (sign_of p i))
-      ∙ (ap (λ place. with_input place (cond exchanged (differ (not a) (sign_of p i)) (differ a (sign_of p i))) (moved p x)) (sym entry.place)
-      ∙ (one-moves p exchanged i a x (subst (λ m. IsSignedBijection m p) (sym same) bijection) entry.there ∙ ap (moved p) (sides exchanged x))));
-  opposites = λ x same.
-      one-opposites pair.to value (moved p x)
-      ∙ (ap (λ b. with_input pair.to b (moved p x)) (ap (λ s. not (differ (differ a s) exchanged)) (sym entry.sign) ∙ (opposite_is exchanged a (sign_of p i) ∙ swapped exchanged))
-      ∙ (ap (λ place. with_input place (cond exchanged (differ (not (not a)) (sign_of p i)) (differ (not a) (sign_of p i))) (moved p x)) (sym entry.place)
-      ∙ (one-moves p exchanged i (not a) x (subst (λ m. IsSignedBijection m p) (sym same) bijection) entry.there ∙ ap (moved p) (other_sides exchanged x))));
-  placed = one-placed value;
+  moves = λ opposite x same.
+      let shape = subst (λ m. IsSignedBijection m p) (sym same) bijection in
+      one-set (differ opposite exchanged) pair.to (moved_value exchanged pair a) (moved p x)
+      ∙ (put p exchanged opposite i a pair x shape entry ∙ ap (moved p) (sym (one-set opposite i a x)));
+  placed = one-placed (moved_value exchanged pair a);
 }
   where
-    value : Bool
-    value = moved_value exchanged pair a
-
-    swapped : (e : Bool) → cond e (differ a (sign_of p i)) (differ (not a) (sign_of p i)) ≡ cond e (differ (not (not a)) (sign_of p i)) (differ (not a) (sign_of p i))
-    swapped true = ap (λ b. differ b (sign_of p i)) (twice a)
-    swapped false = refl
-
-    sides : (e : Bool) (x : List Bool) → cond e (with_input i (not a) x) (with_input i a x) ≡ cond e (with_opposites (one_input i a) x) (with_values (one_input i a) x)
-    sides true x = sym (one-opposites i a x)
-    sides false x = sym (one-values i a x)
-
-    other_sides : (e : Bool) (x : List Bool) → cond e (with_input i (not (not a)) x) (with_input i (not a) x) ≡ cond e (with_values (one_input i a) x) (with_opposites (one_input i a) x)
-    other_sides true x = ap (λ b. with_input i b x) (sym (twice a)) ∙ sym (one-values i a x)
-    other_sides false x = sym (one-opposites i a x)
-
     at_place : pair.to < n
     at_place = omega (arith, bijection.in_range i (0, false) entry.there, entry.place)
 
@@ -191,34 +159,24 @@ one-image p exchanged n i a pair bijection entry = record {
 -- the image of a shape of two inputs
 two-image : (p : List (ℕ × Bool)) (exchanged : Bool) (n i j : ℕ) (a b : Bool) (first second : Pair) → IsSignedBijection n p → i ≢ j → IsEntry p i first → IsEntry p j second → IsMovedShape p exchanged n (Swap i j a b) (moved_two exchanged a b first second)
 two-image p exchanged n i j a b first second bijection apart one other = record {
-  values = λ x same.
+  moves = λ opposite x same.
       let shape = subst (λ m. IsSignedBijection m p) (sym same) bijection in
-      two-values first.to (moved_value exchanged first a) second.to (moved_value exchanged second b) (moved p x) places
-      ∙ (ap (λ c. with_input second.to c (with_input first.to (moved_value exchanged first a) (moved p x))) (ap (λ s. differ (differ b s) exchanged) (sym other.sign) ∙ value_is exchanged b (sign_of p j))
-      ∙ (ap (λ c. with_input second.to (cond exchanged (differ (not b) (sign_of p j)) (differ b (sign_of p j))) (with_input first.to c (moved p x))) (ap (λ s. differ (differ a s) exchanged) (sym one.sign) ∙ value_is exchanged a (sign_of p i))
-      ∙ (ap (λ place. with_input place (cond exchanged (differ (not b) (sign_of p j)) (differ b (sign_of p j))) (with_input first.to (cond exchanged (differ (not a) (sign_of p i)) (differ a (sign_of p i))) (moved p x))) (sym other.place)
-      ∙ (ap (λ place. with_input (place_of p j) (cond exchanged (differ (not b) (sign_of p j)) (differ b (sign_of p j))) (with_input place (cond exchanged (differ (not a) (sign_of p i)) (differ a (sign_of p i))) (moved p x))) (sym one.place) ∙ two-moves p exchanged i a j b x shape one.there other.there))));
-  opposites = λ x same.
-      let shape = subst (λ m. IsSignedBijection m p) (sym same) bijection in
-      two-opposites first.to (moved_value exchanged first a) second.to (moved_value exchanged second b) (moved p x) places
-      ∙ (ap (λ c. with_input second.to c (with_input first.to (not (moved_value exchanged first a)) (moved p x))) (ap (λ s. not (differ (differ b s) exchanged)) (sym other.sign) ∙ (opposite_is exchanged b (sign_of p j) ∙ swapped exchanged b (sign_of p j)))
-      ∙ (ap (λ c. with_input second.to (cond exchanged (differ (not (not b)) (sign_of p j)) (differ (not b) (sign_of p j))) (with_input first.to c (moved p x))) (ap (λ s. not (differ (differ a s) exchanged)) (sym one.sign) ∙ (opposite_is exchanged a (sign_of p i) ∙ swapped exchanged a (sign_of p i)))
-      ∙ (ap (λ place. with_input place (cond exchanged (differ (not (not b)) (sign_of p j)) (differ (not b) (sign_of p j))) (with_input first.to (cond exchanged (differ (not (not a)) (sign_of p i)) (differ (not a) (sign_of p i))) (moved p x))) (sym other.place)
-      ∙ (ap (λ place. with_input (place_of p j) (cond exchanged (differ (not (not b)) (sign_of p j)) (differ (not b) (sign_of p j))) (with_input place (cond exchanged (differ (not (not a)) (sign_of p i)) (differ (not a) (sign_of p i))) (moved p x))) (sym one.place) ∙ (two-moves p exchanged i (not a) j (not b) x shape one.there other.there ∙ ap (moved p) (other_sides exchanged x))))));
+      let once = with_input i (differ a opposite) x in
+      let twice = subst (λ m. IsSignedBijection m p) (sym (length-set x i (differ a opposite))) shape in
+      two-set (differ opposite exchanged) first.to v second.to w (moved p x) places
+      ∙ (ap (with_input second.to (differ w (differ opposite exchanged))) (put p exchanged opposite i a first x shape one)
+      ∙ (put p exchanged opposite j b second once twice other ∙ ap (moved p) (sym (swap-set opposite i j a b x))));
   placed = chosen (nat_lt first.to second.to) refl;
 }
   where
+    v : Bool
+    v = moved_value exchanged first a
+
+    w : Bool
+    w = moved_value exchanged second b
+
     places : first.to ≢ second.to
     places e = places_differ n p i j bijection one.there other.there apart (one.place ∙ (e ∙ sym other.place))
-
-    swapped : (e c s : Bool) → cond e (differ c s) (differ (not c) s) ≡ cond e (differ (not (not c)) s) (differ (not c) s)
-    swapped true c s = ap (λ b. differ b s) (twice c)
-    swapped false c s = refl
-
-    other_sides : (e : Bool) (x : List Bool) → cond e (with_input j (not (not b)) (with_input i (not (not a)) x)) (with_input j (not b) (with_input i (not a) x)) ≡ cond e (with_values (Swap i j a b) x) (with_opposites (Swap i j a b) x)
-    other_sides true x =
-        ap (λ c. with_input j c (with_input i (not (not a)) x)) (sym (twice b)) ∙ ap (λ c. with_input j b (with_input i c x)) (sym (twice a))
-    other_sides false x = refl
 
     first_place : first.to < n
     first_place = omega (arith, bijection.in_range i (0, false) one.there, one.place)
@@ -226,17 +184,13 @@ two-image p exchanged n i j a b first second bijection apart one other = record 
     second_place : second.to < n
     second_place = omega (arith, bijection.in_range j (0, false) other.there, other.place)
 
-    chosen : (less : Bool) → nat_lt first.to second.to ≡ less → IsPlaced n (cond less (Swap first.to second.to (moved_value exchanged first a) (moved_value exchanged second b)) (Swap second.to first.to (moved_value exchanged second b) (moved_value exchanged first a)))
+    chosen : (less : Bool) → nat_lt first.to second.to ≡ less → IsPlaced n (cond less (Swap first.to second.to v w) (Swap second.to first.to w v))
     chosen true e = (ltb-true first.to second.to e, second_place)
     chosen false e = (after (cases_lt first.to second.to), first_place)
       where
         after : (first.to < second.to) ⊎ (second.to ≤ first.to) → second.to < first.to
         after (inl less) = absurd (false≢true (sym e ∙ lt-ltb first.to second.to less))
-        after (inr more) = strictly (cases_lt second.to first.to)
-          where
-            strictly : (second.to < first.to) ⊎ (first.to ≤ second.to) → second.to < first.to
-            strictly (inl less) = less
-            strictly (inr same) = absurd (places (omega (arith, more, same)))
+        after (inr more) = omega (arith, more, places)
 
 shape_moves : (pairs : List Pair) (p q : List (ℕ × Bool)) (exchanged : Bool) (n : ℕ) (shape image : Shape) → IsSignedBijection n p → Extends pairs p q → IsPlaced n shape → moved_shape pairs exchanged shape ≡ Some image → IsMovedShape p exchanged n shape image
 shape_moves pairs p q exchanged n (Up i) image bijection extends placed is =
@@ -262,6 +216,17 @@ falls false true false = (λ h. h, λ h. h)
 falls false false true = (λ h. h, λ h. h)
 falls false false false = (λ h. h, λ h. h)
 
+-- two bits of an output, by those of its partner
+sides : (exchanged : Bool) (f g : Bool → Bool) → ((opposite : Bool) → f opposite ≡ differ (g (differ opposite exchanged)) exchanged) → NoFall (f false) (f true) ↔ NoFall (g false) (g true)
+sides exchanged f g is = (
+  λ holds. (partners exchanged).0 (λ before. sym (is true) ∙ holds (is false ∙ before)),
+  λ holds before. is true ∙ (partners exchanged).1 holds (sym (is false) ∙ before),
+)
+  where
+    partners : (e : Bool) → NoFall (differ (g (differ false e)) e) (differ (g (differ true e)) e) ↔ NoFall (g false) (g true)
+    partners true = falls true (g true) (g false)
+    partners false = falls false (g false) (g true)
+
 shape_image_holds : (first second : Net) (p q : List (ℕ × Bool)) (k : ℕ) (output : Pair) (shape image : Shape) → IsMatchOfFunctions first second p q → IsEntry q k output → IsMovedShape p output.flip first.inputs shape image → ShapeHolds first k shape ↔ ShapeHolds second output.to image
 shape_image_holds first second p q k output shape image functions entry is = (there, back)
   where
@@ -277,22 +242,7 @@ shape_image_holds first second p q k output shape image functions entry is = (th
     -- on one vector the claim and its image say the same
     on_one : (x : List Bool) → length x ≡ first.inputs → NoFall (output_bit first k (with_values shape x)) (output_bit first k (with_opposites shape x)) ↔ NoFall (output_bit second output.to (with_values image (moved p x))) (output_bit second output.to (with_opposites image (moved p x)))
     on_one x same =
-        let u = with_values shape x in
-        let w = with_opposites shape x in
-        let at_u = partner u (length-with_values shape x ∙ same) in
-        let at_w = partner w (length-with_opposites shape x ∙ same) in
-        let gu = output_bit second output.to (moved p u) in
-        let gw = output_bit second output.to (moved p w) in
-        let values : output_bit second output.to (with_values image (moved p x)) ≡ cond e gw gu = ap (output_bit second output.to) (is.values x same) ∙ chosen e w u in
-        let opposites : output_bit second output.to (with_opposites image (moved p x)) ≡ cond e gu gw = ap (output_bit second output.to) (is.opposites x same) ∙ chosen e u w in
-        let both = falls e gu gw in (
-          λ holds before. opposites ∙ both.0 (λ up. sym at_w ∙ holds (at_u ∙ up)) (sym values ∙ before),
-          λ holds before. at_w ∙ both.1 (λ up. sym opposites ∙ holds (values ∙ up)) (sym at_u ∙ before),
-        )
-      where
-        chosen : (e : Bool) (y z : List Bool) → output_bit second output.to (moved p (cond e y z)) ≡ cond e (output_bit second output.to (moved p y)) (output_bit second output.to (moved p z))
-        chosen true y z = refl
-        chosen false y z = refl
+        sides e (λ o. output_bit first k (set_to o shape x)) (λ o. output_bit second output.to (set_to o image (moved p x))) (λ o. partner (set_to o shape x) (length-set_to o shape x ∙ same) ∙ ap (λ y. differ (output_bit second output.to y) e) (sym (is.moves o x same)))
 
     there : ShapeHolds first k shape → ShapeHolds second output.to image
     there holds y same =

@@ -49,58 +49,39 @@ pub chained : {X Y : Type 0} (f : X → Option Y) (o : Option X) (y : Y) → opt
 chained f None y e = cc
 chained f (Some x) y e = (x, refl, e)
 
-map-none : {X Y : Type 0} (f : X → Y) (o : Option X) → option_map f o ≡ None → o ≡ None
-map-none f None e = refl
-map-none f (Some x) e = cc
+-- there is no port's pair where no pair is of the port
+no-pair : (pairs : List Pair) (kind : PortKind) (port : ℕ) → (pair_of pairs kind port ≡ None) ↔ Lacks pairs kind port
+no-pair pairs kind port = (none-passes (is_of kind port) pairs, none-found (is_of kind port) pairs)
 
-chain-none : {X Y : Type 0} (f : X → Option Y) (o : Option X) → ((x : X) → f x ≡ None) → option_and_then f o ≡ None
-chain-none f None each = refl
-chain-none f (Some x) each = each x
+-- an option by a function of what it holds is empty where it is, and one of two options where either is
+no-image : {X Y L : Type 0} (f : X → Y) (o : Option X) → (o ≡ None) ↔ L → (option_map f o ≡ None) ↔ L
+no-image f None lacks = (λ e. lacks.0 refl, λ l. refl)
+no-image f (Some x) lacks = (λ e. cc, λ l. ap (option_map f) (lacks.1 l))
 
-chain-cases : {X Y : Type 0} (f : X → Option Y) (o : Option X) → option_and_then f o ≡ None → (o ≡ None) ⊎ ((x : X) × (f x ≡ None))
-chain-cases f None e = inl refl
-chain-cases f (Some x) e = inr (x, e)
+no-images : {X Y Z K L : Type 0} (f : X → Y → Z) (o : Option X) (p : X → Option Y) → (o ≡ None) ↔ K → ((x : X) → (p x ≡ None) ↔ L) → (option_and_then (λ x. option_map (f x) (p x)) o ≡ None) ↔ (K ⊎ L)
+no-images f None p first second = (λ e. inl (first.0 refl), λ lacks. refl)
+no-images f (Some x) p first second = (
+  λ e. inr ((no-image (f x) (p x) (second x)).0 e),
+  λ lacks. elim lacks [ inl k ↦ cc (first.1 k) | inr l ↦ (no-image (f x) (p x) (second x)).1 l ],
+)
 
--- a shape has no image exactly where an input has no pair
-shape-lacks : (pairs : List Pair) (exchanged : Bool) (shape : Shape) → moved_shape pairs exchanged shape ≡ None → LacksInput pairs shape
-shape-lacks pairs exchanged (Up i) none =
-    none-passes (is_of Input i) pairs (map-none (moved_one exchanged false) (pair_of pairs Input i) none)
-shape-lacks pairs exchanged (Down i) none =
-    none-passes (is_of Input i) pairs (map-none (moved_one exchanged true) (pair_of pairs Input i) none)
-shape-lacks pairs exchanged (Swap i j a b) none =
-    elim (chain-cases (λ first. option_map (moved_two exchanged a b first) (pair_of pairs Input j)) (pair_of pairs Input i) none) [
-      | inl first ↦ inl (none-passes (is_of Input i) pairs first)
-      | inr second ↦ inr (none-passes (is_of Input j) pairs (map-none (moved_two exchanged a b second.0) (pair_of pairs Input j) second.1))
-    ]
-
-lacks-shape : (pairs : List Pair) (exchanged : Bool) (shape : Shape) → LacksInput pairs shape → moved_shape pairs exchanged shape ≡ None
-lacks-shape pairs exchanged (Up i) lacks = ap (option_map (moved_one exchanged false)) (none-found (is_of Input i) pairs lacks)
-lacks-shape pairs exchanged (Down i) lacks = ap (option_map (moved_one exchanged true)) (none-found (is_of Input i) pairs lacks)
-lacks-shape pairs exchanged (Swap i j a b) (inl lacks) =
-    ap (option_and_then (λ first. option_map (moved_two exchanged a b first) (pair_of pairs Input j))) (none-found (is_of Input i) pairs lacks)
-lacks-shape pairs exchanged (Swap i j a b) (inr lacks) =
-    chain-none (λ first. option_map (moved_two exchanged a b first) (pair_of pairs Input j)) (pair_of pairs Input i) (λ first. ap (option_map (moved_two exchanged a b first)) (none-found (is_of Input j) pairs lacks))
-
--- so has a claim
-claim-lacks : (pairs : List Pair) (claim : Claim) → image_of pairs claim ≡ None → Lacks pairs Output claim.output ⊎ LacksInput pairs claim.shape
-claim-lacks pairs claim none =
-    elim (chain-cases (λ output. option_map (claim_of_second output.to) (moved_shape pairs output.flip claim.shape)) (pair_of pairs Output claim.output) none) [
-      | inl output ↦ inl (none-passes (is_of Output claim.output) pairs output)
-      | inr shape ↦ inr (shape-lacks pairs shape.0.flip claim.shape (map-none (claim_of_second shape.0.to) (moved_shape pairs shape.0.flip claim.shape) shape.1))
-    ]
-
-lacks-claim : (pairs : List Pair) (claim : Claim) → Lacks pairs Output claim.output ⊎ LacksInput pairs claim.shape → image_of pairs claim ≡ None
-lacks-claim pairs claim (inl lacks) =
-    ap (option_and_then (λ output. option_map (claim_of_second output.to) (moved_shape pairs output.flip claim.shape))) (none-found (is_of Output claim.output) pairs lacks)
-lacks-claim pairs claim (inr lacks) =
-    chain-none (λ output. option_map (claim_of_second output.to) (moved_shape pairs output.flip claim.shape)) (pair_of pairs Output claim.output) (λ output. ap (option_map (claim_of_second output.to)) (lacks-shape pairs output.flip claim.shape lacks))
+-- a shape has no image exactly where an input has no pair, and a claim where its output or such an input has none
+no-shape : (pairs : List Pair) (exchanged : Bool) (shape : Shape) → (moved_shape pairs exchanged shape ≡ None) ↔ LacksInput pairs shape
+no-shape pairs exchanged (Up i) = no-image (moved_one exchanged false) (pair_of pairs Input i) (no-pair pairs Input i)
+no-shape pairs exchanged (Down i) = no-image (moved_one exchanged true) (pair_of pairs Input i) (no-pair pairs Input i)
+no-shape pairs exchanged (Swap i j a b) =
+    no-images (moved_two exchanged a b) (pair_of pairs Input i) (λ first. pair_of pairs Input j) (no-pair pairs Input i) (λ first. no-pair pairs Input j)
 
 pub none_lacks : (pairs : List Pair) (claim : Claim) (result : Option Claim) → result ≡ image_of pairs claim → IsNone result ↔ (Lacks pairs Output claim.output ⊎ LacksInput pairs claim.shape)
 none_lacks pairs claim result is = (
-  λ none. claim-lacks pairs claim (sym is ∙ empty result none),
-  λ lacks. ap (λ (o : Option Claim). is_some o) (is ∙ lacks-claim pairs claim lacks),
+  λ none. lacks.0 (sym is ∙ empty result none),
+  λ lacking. ap (λ (o : Option Claim). is_some o) (is ∙ lacks.1 lacking),
 )
   where
+    lacks : (image_of pairs claim ≡ None) ↔ (Lacks pairs Output claim.output ⊎ LacksInput pairs claim.shape)
+    lacks =
+        no-images (λ (output : Pair). claim_of_second output.to) (pair_of pairs Output claim.output) (λ output. moved_shape pairs output.flip claim.shape) (no-pair pairs Output claim.output) (λ output. no-shape pairs output.flip claim.shape)
+
     empty : (o : Option Claim) → is_some o ≡ false → o ≡ None
     empty None e = refl
     empty (Some x) e = cc

@@ -1,5 +1,5 @@
 -- Lines counted over the entries of a ledger.
-use Rattle.std.proofs.Common.{◌≡◌, ℕ, ◌+◌, ◌-◌, ◌<◌, ◌≤◌, eqb, cond, Bool, true, false, List, [], ◌∷◌, ◌++◌, length, take, All, sum_by, slice_index_or, slice_set, inl, inr, ◌∙◌, ap, arith}
+use Rattle.std.proofs.Common.{◌≡◌, ℕ, ◌+◌, ◌-◌, ◌<◌, ◌≤◌, eqb, cond, Bool, true, false, List, [], ◌∷◌, ◌++◌, length, take, All, sum_by, slice_index_or, slice_set, inl, inr, sym, subst, ◌∙◌, ap, arith}
 use Rattle.std.proofs.lemmas.Bool.{cases_eq}
 use Rattle.std.proofs.lemmas.Bool.Decides.{eqb_tells}
 use Rattle.std.proofs.lemmas.List.{get_or_default, length-append, take_all}
@@ -8,7 +8,7 @@ use Rattle.std.proofs.lemmas.List.Elements.{All-set, All-push, All-take}
 use Rattle.cnf_core.specs.declared.log.LogLine.{LogLine}
 use Rattle.query_core.specs.declared.query.Query.{Query}
 use Rattle.query_core.specs.declared.ledger.Asked.{Asked}
-use Rattle.query_core.specs.Ledgers.{IsLedger, Ledgered, charged_front, charged_in, entry_of, last_asked, learned_in, nothing_asked, one_if, opened, with_line}
+use Rattle.query_core.specs.Ledgers.{IsLedger, IsSpent, Ledgered, charged_front, charged_in, entry_of, last_asked, learned_in, nothing_asked, one_if, opened, with_line}
 
 -- what is written over the last entry
 pub written : (asked : List Asked) (at : ℕ) (line : LogLine) (lent entry : Asked) → at ≡ length asked - 1 → 0 < length asked → lent ≡ slice_index_or asked at lent → entry ≡ record lent { lines = lent.lines ++ line ∷ [] } → slice_set asked at entry ≡ with_line line asked
@@ -36,20 +36,51 @@ lemmas_kept asked line there lemmas =
 pub learned_is : (ledger : Ledgered) (learned : ℕ) → IsLedger ledger learned → learned_in ledger ≡ learned
 learned_is ledger learned is = omega (arith, is.counted)
 
--- one line more is charged, or refused
-pub kept_charged : (ledger : Ledgered) (learned : ℕ) (line : LogLine) → IsLedger ledger learned → ledger.spent ≡ false → 0 < length ledger.asked → learned < ledger.budget → IsLedger (record ledger { asked = with_line line ledger.asked }) (learned + 1)
-kept_charged ledger learned line is not_spent there room = record {
-  counted = omega (arith, is.counted, one_more ledger.asked line there is.lemmas);
-  within = omega (arith, room);
-  lemmas = lemmas_kept ledger.asked line there is.lemmas;
-}
+-- A line was written to the last entry of a ledger, to which it may be charged.
+pub record IsLined (ledger : Ledgered) (learned : ℕ) (line : LogLine) (asked : List Asked) : Type 0 where
+  pub kept : IsLedger ledger learned
+  pub unspent : one_if ledger.spent ≡ 0
+  pub counted : sum_by charged_in asked ≡ learned + 1
+  pub lemmas : All (λ entry. entry.lemmas ≤ length entry.lines) asked
+  pub is : asked ≡ with_line line ledger.asked
 
-pub kept_spent : (ledger : Ledgered) (learned : ℕ) (line : LogLine) → IsLedger ledger learned → ledger.spent ≡ false → 0 < length ledger.asked → IsLedger (record ledger { asked = with_line line ledger.asked; spent = true }) learned
-kept_spent ledger learned line is not_spent there = record {
-  counted = omega (arith, is.counted, ap one_if not_spent, one_more ledger.asked line there is.lemmas);
-  within = is.within;
-  lemmas = lemmas_kept ledger.asked line there is.lemmas;
-}
+pub lined_in : {view ledger : Ledgered} {learned : ℕ} {line : LogLine} {asked : List Asked} → ledger ≡ view → view.spent ≡ false → 0 < length view.asked → IsLedger ledger learned → asked ≡ with_line line ledger.asked → IsLined ledger learned line asked
+lined_in {view} {ledger} {learned} {line} {asked} same not_spent some kept is =
+    let there : 0 < length ledger.asked = subst (λ (l : Ledgered). 0 < length l.asked) (sym same) some in
+    let unspent : one_if ledger.spent ≡ 0 = ap (λ (l : Ledgered). one_if l.spent) same ∙ ap one_if not_spent in
+    record {
+      kept = kept;
+      unspent = unspent;
+      counted = omega (arith, ap (sum_by charged_in) is, one_more ledger.asked line there kept.lemmas, kept.counted, unspent);
+      lemmas = subst (All (λ (e : Asked). e.lemmas ≤ length e.lines)) (sym is) (lemmas_kept ledger.asked line there kept.lemmas);
+      is = is;
+    }
+
+-- it is charged, or refused
+pub kept_charged : {ledger : Ledgered} {learned : ℕ} {line : LogLine} {asked : List Asked} → IsLined ledger learned line asked → learned < ledger.budget → IsLedger (record ledger { asked = asked }) (learned + 1)
+kept_charged lined room =
+    record { counted = omega (arith, lined.counted, lined.unspent); within = omega (arith, room); lemmas = lined.lemmas }
+
+pub kept_spent : {ledger : Ledgered} {learned : ℕ} {line : LogLine} {asked : List Asked} → IsLined ledger learned line asked → IsLedger (record ledger { asked = asked; spent = true }) learned
+kept_spent lined = record { counted = omega (arith, lined.counted); within = lined.kept.within; lemmas = lined.lemmas }
+
+pub is_charged : {view ledger : Ledgered} {learned : ℕ} {line : LogLine} {asked : List Asked} → ledger ≡ view → IsLined ledger learned line asked → record ledger { asked = asked } ≡ record view { asked = with_line line view.asked }
+is_charged {ledger = ledger} {line = line} same lined =
+    ap (λ (xs : List Asked). record ledger { asked = xs }) lined.is ∙ ap (λ (l : Ledgered). record l { asked = with_line line l.asked }) same
+
+pub one_learned : {view ledger : Ledgered} {learned : ℕ} {line : LogLine} {asked : List Asked} → ledger ≡ view → IsLined ledger learned line asked → learned_in (record ledger { asked = asked }) ≡ learned_in view + 1
+one_learned {ledger = ledger} {asked = asked} same lined =
+    subst (λ (l : Ledgered). learned_in (record ledger { asked = asked }) ≡ learned_in l + 1) same (omega (arith, lined.counted, lined.unspent, lined.kept.counted))
+
+pub is_spent : {view ledger : Ledgered} {learned : ℕ} {line : LogLine} {asked : List Asked} → ledger ≡ view → IsLined ledger learned line asked → learned ≡ ledger.budget → IsSpent view line (record ledger { asked = asked; spent = true }) learned
+is_spent {ledger = ledger} {learned = learned} {line = line} {asked = asked} same lined full =
+    subst (λ (l : Ledgered). IsSpent l line (record ledger { asked = asked; spent = true }) learned) same (record {
+      learned_is = full;
+      budget = omega (arith, lined.kept.counted, lined.unspent, full);
+      counted = omega (arith, lined.counted, full);
+      made = omega (arith, lined.counted, full);
+      refused = ap (λ (xs : List Asked). record ledger { asked = xs; spent = true }) lined.is;
+    })
 
 -- an entry without learned lines doesn't count
 front_counts : (asked : List Asked) → sum_by charged_in (charged_front asked) ≡ sum_by charged_in asked

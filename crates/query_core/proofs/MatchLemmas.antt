@@ -1,14 +1,15 @@
 -- The queries of a match: their feeds, and what they ask for.
-use Rattle.std.proofs.Common.{◌≡◌, ◌≢◌, ℕ, zero, suc, ◌+◌, ◌≤◌, ◌<◌, ◌⊎◌, not, Bool, true, false, cond, eqb, List, [], ◌∷◌, All, AllPairs, length, map, slice_index_or, inl, inr, refl, sym, ap, subst, ◌∙◌, arith, eq-eqb, ne_eqb}
+use Rattle.std.proofs.Common.{◌≡◌, ◌≢◌, ℕ, zero, suc, ◌+◌, ◌≤◌, ◌<◌, ◌⊎◌, not, Bool, true, false, cond, eqb, List, [], ◌∷◌, All, AllPairs, length, map, slice_index_or, inl, inr, refl, sym, ap, subst, ◌∙◌, arith, eq-eqb, ne_eqb, ext_get_or}
 use Rattle.std.proofs.lemmas.Bool.{cond-true, cond-false}
 use Rattle.std.specs.List.{range_with_len}
-use Rattle.std.proofs.lemmas.List.{same_lists, get_or_default, get_or-map, length-map}
+use Rattle.std.proofs.lemmas.List.{same_lists, get_or-map, length-map}
 use Rattle.std.proofs.lemmas.List.Elements.{All-map}
 use Rattle.std.proofs.lemmas.List.FromFn.{length-range_with_len, length-map-range_with_len, get_or-range_with_len, get_or-map-range_with_len}
 use Rattle.circuits.specs.Literals.{bit, differ}
 use Rattle.circuits.specs.Netlists.{function_of}
 use Rattle.circuits.specs.Bijections.{IsSignedBijection, Moves, moved, place_of, sign_of}
 use Rattle.circuits.specs.Matches.{HavePorts, IsMatchOfFunctions}
+use Rattle.circuits.proofs.MatchLaws.{match_from_all}
 use Rattle.circuits.proofs.Places.{moved-only, IsSignedBijection-onto}
 use Rattle.circuits.proofs.Expansions.{differ_false}
 use Rattle.net_core.specs.Sides.{Graphs}
@@ -28,15 +29,10 @@ straight_wired n =
     let below : k < n = omega (arith, within, length-range_with_len 0 n) in
     omega (arith, get_or-range_with_len 0 n k d below, below))
 
--- two vectors with the same bits are one
-pub list_by_bits : (xs ys : List Bool) → length xs ≡ length ys → ((k : ℕ) → k < length xs → bit xs k ≡ bit ys k) → xs ≡ ys
-list_by_bits xs ys same bits =
-    same_lists xs ys same (λ k d below. get_or_default xs k d false below ∙ (bits k below ∙ get_or_default ys k false d (subst (λ n. k < n) same below)))
-
 -- straight feeds give the vector itself
 pub straight_bits : (x : List Bool) (n : ℕ) → length x ≡ n → map (feed_bit x) (straight n) ≡ x
 straight_bits x n same =
-    list_by_bits (map (feed_bit x) (straight n)) x (length-map (straight n) (feed_bit x) ∙ (straight_count n ∙ sym same)) (λ i below.
+    ext_get_or false (map (feed_bit x) (straight n)) x (length-map (straight n) (feed_bit x) ∙ (straight_count n ∙ sym same)) (λ i below.
     let here : i < n = omega (arith, below, length-map (straight n) (feed_bit x), straight_count n) in
     let none : Feed = Wire 0 false in
     get_or-map (feed_bit x) (straight n) i none false (omega (arith, here, straight_count n))
@@ -128,23 +124,18 @@ not_both false false false agree ask = cc
 
 -- no query of any output is met: the tables are a match
 pub match_of_unmet : (graphs : Graphs) (matching : Matching) → IsGraph graphs.first → IsGraph graphs.second → HavePorts graphs.first graphs.second matching.inputs matching.outputs → ((k : ℕ) (value : Bool) → k < length graphs.first.outputs → IsUnmet graphs (match_query graphs.first.inputs matching k value)) → IsMatchOfFunctions graphs.first graphs.second matching.inputs matching.outputs
-match_of_unmet graphs matching first second ports unmet = record {
-  same_inputs = ports.same_inputs;
-  same_outputs = ports.same_outputs;
-  inputs = ports.inputs;
-  outputs = ports.outputs;
-  agree = λ x same k below.
-      let p = matching.inputs in
-      let q = matching.outputs in
-      let here : k < length graphs.first.outputs = omega (arith, below, ports.outputs.entries) in
-      let b = bit (function_of graphs.first x) k in
-      let c = bit (function_of graphs.second (moved p x)) (place_of q k) in
-      let shape = subst (λ n. IsSignedBijection n p) (sym same) ports.inputs in
-      elim (agree_or_ask b c (sign_of q k)) [
-        | inl agree ↦ agree
-        | inr ask ↦ absurd (unmet k b here x same (record { left = left_bit graphs matching k b x same; right = right_bit graphs matching k b x shape ∙ ask }))
-      ];
-}
+match_of_unmet graphs matching first second ports unmet =
+    let p = matching.inputs in
+    let q = matching.outputs in
+    match_from_all graphs.first graphs.second p q ports (λ x same k below.
+    let here : k < length graphs.first.outputs = omega (arith, below, ports.outputs.entries) in
+    let b = bit (function_of graphs.first x) k in
+    let c = bit (function_of graphs.second (moved p x)) (place_of q k) in
+    let shape = subst (λ n. IsSignedBijection n p) (sym same) ports.inputs in
+    elim (agree_or_ask b c (sign_of q k)) [
+      | inl agree ↦ agree
+      | inr ask ↦ absurd (unmet k b here x same (record { left = left_bit graphs matching k b x same; right = right_bit graphs matching k b x shape ∙ ask }))
+    ])
 
 -- the tables are a match: no query of any output is met
 pub unmet_of_match : (graphs : Graphs) (matching : Matching) → IsGraph graphs.first → IsGraph graphs.second → IsMatchOfFunctions graphs.first graphs.second matching.inputs matching.outputs → (k : ℕ) (value : Bool) → k < length graphs.first.outputs → IsUnmet graphs (match_query graphs.first.inputs matching k value)

@@ -9,10 +9,10 @@ use Rattle.net_core.specs.Graph.{AreInOrder, IsGraph}
 use Rattle.net_core.specs.Cones.{Reaches, ReachesGate}
 use Rattle.number_marks.proofs.MarkLemmas.{marked_where}
 use Rattle.query_core.specs.declared.query.Feed.{Feed}
-use Rattle.query_core.specs.declared.query.Feed.TheVariants.{Fixed, Wire}
 use Rattle.query_core.specs.contracts.query.FeedPartialEq.TheImpl.{eq-value as feed_eq}
 use Rattle.query_core.specs.Formulas.{feeds_differ, reaching, same_feed}
 use Rattle.query_core.specs.ConeClauses.{AreReached}
+use Rattle.query_core.proofs.EqualLemmas.{feed_same}
 use Rattle.query_core.proofs.ConeLaws.{first_reached, second_reached}
 use Rattle.query_core.proofs.FormulaLemmas.{length-feeds_differ}
 
@@ -55,12 +55,6 @@ differ_at [] right i d e same within = absurd (omega (arith, within))
 differ_at (feed ∷ left) [] i d e same within = absurd (omega (arith, same))
 differ_at (feed ∷ left) (other ∷ right) zero d e same within = refl
 differ_at (feed ∷ left) (other ∷ right) (suc i) d e same within = differ_at left right i d e (omega (arith, same)) (omega (arith, within))
-
-feed_same : (x y : Feed) → feed_eq.it x y ≡ same_feed x y
-feed_same (Fixed b) (Fixed c) = refl
-feed_same (Fixed b) (Wire place flip) = refl
-feed_same (Wire place flip) (Fixed b) = refl
-feed_same (Wire place flip) (Wire other sign) = refl
 
 pub input_differs : (left right : List Feed) (i : ℕ) (f g : Feed) (b : Bool) → length left ≡ length right → i < length left → f ≡ slice_index_or left i f → g ≡ slice_index_or right i g → b ≡ not (feed_eq.it f g) → b ≡ bit (feeds_differ left right) i
 input_differs left right i f g b same within f_is g_is b_is =

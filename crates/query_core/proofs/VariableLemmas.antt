@@ -1,7 +1,7 @@
 -- The variables that stand for gates, and the clauses by them.
-use Rattle.std.proofs.Common.{◌≡◌, ◌≢◌, ℕ, zero, suc, ◌+◌, ◌*◌, ◌-◌, ◌<◌, ◌≤◌, cond, Bool, true, false, List, [], ◌∷◌, ◌++◌, length, map, drop, replicate, slice_index_or, inl, inr, refl, sym, ap, subst, ◌∙◌, arith}
-use Rattle.std.proofs.lemmas.Bool.{cases_lt, false≢true}
-use Rattle.std.proofs.lemmas.List.{get_or-map, get_or-replicate, get_or_append_left, get_or-append-add, get_or_default, get_or_past, get_or-drop, length-drop, length-map, length-replicate}
+use Rattle.std.proofs.Common.{[], ◌≡◌, ℕ, zero, suc, ◌+◌, ◌*◌, ◌-◌, ◌<◌, cond, Bool, false, List, ◌∷◌, length, drop, slice_index_or, inl, inr, refl, sym, ap, subst, ◌∙◌, arith}
+use Rattle.std.proofs.lemmas.Bool.{cases_lt}
+use Rattle.std.proofs.lemmas.List.{get_or_default, get_or-drop, length-drop}
 use Rattle.std.proofs.lemmas.List.FromFn.{get_or-range_with_len, length-range_with_len}
 use Rattle.circuits.specs.declared.netlist.Lit.{Lit}
 use Rattle.circuits.specs.declared.netlist.Gate.{Gate}
@@ -10,19 +10,20 @@ use Rattle.circuits.specs.Netlists.{Net, IsOrdered}
 use Rattle.cnf_core.specs.declared.literal.SatLit.{SatLit}
 use Rattle.cnf_core.specs.Clauses.{clause_at, opposite}
 use Rattle.net_core.specs.Sides.{Graphs}
-use Rattle.net_core.specs.Cones.{IsFanIn, Reaches, ReachesGate, output_signal}
+use Rattle.net_core.specs.Cones.{Reaches, ReachesGate, output_signal}
 use Rattle.query_core.specs.declared.query.Feed.{Feed}
 use Rattle.query_core.specs.declared.query.Feed.TheVariants.{Fixed}
 use Rattle.query_core.specs.declared.query.Query.{Query}
 use Rattle.query_core.specs.declared.variables.Variables.{Variables}
 use Rattle.query_core.specs.declared.variables.Variables.TheVariants.{Own, Shared}
 use Rattle.query_core.specs.Queries.{circuit_of}
-use Rattle.query_core.specs.Formulas.{and_clauses, clauses_by, feed_literal, false_literal, half_clauses, left_literals, left_variables, output_literal, plain, query_clauses, right_literals, right_variables, shared_from, signal_literals, stand_in, stands_for}
-use Rattle.query_core.specs.ConeClauses.{IsConeId, IsOfReachedGate, left_gates, right_gates}
+use Rattle.query_core.specs.Formulas.{and_clauses, clauses_by, half_clauses, left_literals, left_variables, output_literal, plain, query_clauses, right_literals, right_variables, shared_from, signal_literals, stand_in, stands_for}
+use Rattle.query_core.specs.ConeClauses.{IsConeId, left_gates, right_gates}
 use Rattle.query_core.specs.Variables.{AreFor, IsConing, IsHalf, clauses_over, literals_by, variable_at, variables_in}
-use Rattle.query_core.proofs.FormulaLemmas.{clause_of_left, clause_of_right, first_output, gate_clause_at, gate_clause_count, length-shared_from, right_variable_count, second_output}
+use Rattle.query_core.proofs.FormulaLemmas.{at_left, at_outputs, at_right, gate_clause_at, gate_clause_count, length-shared_from, right_variable_count, stand_in_gate, stand_in_input}
 use Rattle.query_core.proofs.AssignmentLemmas.{shared_at}
 use Rattle.query_core.proofs.ConeLaws.{first_reached, second_reached}
+pub use Rattle.query_core.proofs.ConeLaws.{reached_there}
 
 -- how many there are
 pub variable_count : (variables : Variables) (count : ℕ) → AreFor count variables → length (variables_in variables count) ≡ count
@@ -36,17 +37,6 @@ variable_in (Own first) count t for below = get_or-range_with_len first count t 
 variable_in (Shared first own marked) count t for below =
     shared_at first own (drop first marked) t (omega (arith, length-drop first marked, for.marks, below))
     ∙ ap (λ b. cond b (own + t) (first + t)) (get_or-drop first marked t false)
-
--- what stands for an input, and for a gate
-pub stand_in_input : (feed : List Feed) (variables : List ℕ) (i : ℕ) (f : Feed) → i < length feed → f ≡ slice_index_or feed i f → feed_literal f ≡ stand_in (signal_literals feed variables) (suc i)
-stand_in_input feed variables i f within is =
-    ap feed_literal is ∙ sym (get_or_append_left (map feed_literal feed) (map plain variables) false_literal i (omega (arith, within, length-map feed feed_literal)) ∙ get_or-map feed_literal feed i f false_literal within)
-
-pub stand_in_gate : (feed : List Feed) (variables : List ℕ) (t : ℕ) → t < length variables → stand_in (signal_literals feed variables) (suc (length feed + t)) ≡ plain (slice_index_or variables t 0)
-stand_in_gate feed variables t within =
-    let at : length feed + t ≡ length (map feed_literal feed) + t = omega (arith, length-map feed feed_literal) in
-    ap (λ n. slice_index_or (map feed_literal feed ++ map plain variables) n false_literal) at
-    ∙ (get_or-append-add (map feed_literal feed) (map plain variables) t false_literal ∙ get_or-map plain variables t 0 false_literal within)
 
 -- by the variables of its gates, what stands for a gate
 pub stand_in_by : (net : Net) (feed : List Feed) (variables : Variables) (output s : ℕ) → IsHalf net feed variables output → length feed < s → s < net.inputs + 1 + length net.gates → plain (variable_at variables (s - 1 - length feed)) ≡ stand_in (literals_by net feed variables) s
@@ -122,29 +112,6 @@ same_output net k feed vs ws value ordered feeds agree there =
     let same = same_literal (signal_literals feed vs) (signal_literals feed ws) last (same_signal net k feed vs ws (output_signal net k) feeds agree (omega (arith, within)) (λ other fan_in. fan_in.output)) in
     ap (λ l. cond value l (opposite l)) same
 
--- a gate that an output reaches is there
-pub reached_there : (net : Net) (k t : ℕ) → IsOrdered net → k < length net.outputs → ReachesGate net k t → t < length net.gates
-reached_there net k t ordered output reached =
-    elim (cases_lt t (length net.gates)) [
-      | inl there ↦ there
-      | inr past ↦ absurd (false≢true (sym (get_or_past all (1 + net.inputs + t) false (omega (arith, past, length-replicate signals true))) ∙ reached all fan_in))
-    ]
-  where
-    signals : ℕ
-    signals = 1 + net.inputs + length net.gates
-
-    all : List Bool
-    all = replicate signals true
-
-    in_all : (s : ℕ) → s < signals → bit all s ≡ true
-    in_all s below = get_or-replicate signals s true false below
-
-    fan_in : IsFanIn net k all
-    fan_in = record {
-      output = in_all (output_signal net k) (omega (arith, ordered.outputs k (record { 0 = 0 }) output));
-      operands = λ u d within is. (in_all (signal_of (slice_index_or net.gates u d).a) (omega (arith, ordered.first_operands u d within, within)), in_all (signal_of (slice_index_or net.gates u d).b) (omega (arith, ordered.second_operands u d within, within)));
-    }
-
 -- a clause of the cones is told right by variables that are right for the gates of the cones
 pub cone_clause : (graphs : Graphs) (query : Query) (left right : Variables) (ids : List ℕ) (id : ℕ) → IsOrdered (circuit_of graphs query.left) → IsOrdered (circuit_of graphs query.right) → IsConing graphs query left right ids → IsConeId graphs query id → clause_at (clauses_over graphs query left right) id ≡ clause_at (query_clauses graphs query) id
 cone_clause graphs query left right ids id one_ordered ordered coning cone =
@@ -156,8 +123,8 @@ cone_clause graphs query left right ids id one_ordered ordered coning cone =
     other : Net
     other = circuit_of graphs query.right
 
-    k : ℕ
-    k = query.right.output
+    l : ℕ
+    l = left_gates graphs query
 
     vs : List ℕ
     vs = variables_in right (right_gates graphs query)
@@ -171,15 +138,8 @@ cone_clause graphs query left right ids id one_ordered ordered coning cone =
     wanted : List SatLit
     wanted = right_literals graphs query
 
-    over : List SatLit → List SatLit → List (List SatLit)
-    over ls rs =
-        clauses_by (half_clauses one ls) (half_clauses other rs) (output_literal one ls query.left.output query.left_value) (output_literal other rs query.right.output query.right_value)
-
     ls : List SatLit
     ls = left_literals graphs query
-
-    lefts : List (List SatLit)
-    lefts = half_clauses one ls
 
     first : SatLit
     first = output_literal one ls query.left.output query.left_value
@@ -187,7 +147,10 @@ cone_clause graphs query left right ids id one_ordered ordered coning cone =
     last : List SatLit → SatLit
     last rs = output_literal other rs query.right.output query.right_value
 
-    left_count : length lefts ≡ 3 * left_gates graphs query
+    over : List SatLit → List SatLit → List (List SatLit)
+    over ls rs = clauses_by (half_clauses one ls) (half_clauses other rs) (output_literal one ls query.left.output query.left_value) (last rs)
+
+    left_count : length (half_clauses one ls) ≡ 3 * l
     left_count = gate_clause_count ls (one.inputs + 1) one.gates
 
     right_count : (rs : List SatLit) → length (half_clauses other rs) ≡ 3 * right_gates graphs query
@@ -196,45 +159,42 @@ cone_clause graphs query left right ids id one_ordered ordered coning cone =
     feeds : length query.right.feed ≡ other.inputs
     feeds = coning.fits.right.feed ∙ sym coning.fits.right.inputs
 
-    agree : AgreeOn other k vs ws
+    agree : AgreeOn other query.right.output vs ws
     agree = record {
       size = variable_count right (right_gates graphs query) coning.right_fits;
       same_size = right_variable_count graphs query coning.fits;
       same = λ t there reached. variable_in right (right_gates graphs query) t coning.right_fits there ∙ coning.right_is t reached;
     }
 
-    in_left : IsOfReachedGate one query.left.output 1 id → id - 1 < length lefts → clause_at (over ls given) id ≡ clause_at (over ls wanted) id
-    in_left of below =
-        let some : id ≢ 0 = omega (arith, of.from) in
-        sym (clause_of_left lefts (half_clauses other given) first (last given) id some below) ∙ clause_of_left lefts (half_clauses other wanted) first (last wanted) id some below
+    -- a clause by its number, whatever the literals of the right circuit are
+    left_at : (rs : List SatLit) (k : ℕ) → id ≡ 1 + k → k < 3 * l → clause_at (over ls rs) id ≡ clause_at (half_clauses one ls) k
+    left_at rs k is below = at_left (half_clauses one ls) (half_clauses other rs) first (last rs) id k is (omega (arith, below, left_count))
 
-    in_right : (of : IsOfReachedGate other k (1 + 3 * left_gates graphs query) id) → of.gate < length other.gates → clause_at (over ls given) id ≡ clause_at (over ls wanted) id
-    in_right of there =
-        let t = of.gate in
-        let r = id - (1 + 3 * left_gates graphs query + 3 * t) in
-        let some : id ≢ 0 = omega (arith, of.from) in
-        let following : length lefts ≤ id - 1 = omega (arith, of.from, left_count) in
-        let at : id - 1 - length lefts ≡ 3 * t + r = omega (arith, of.from, left_count) in
-        let below : id - 1 - length lefts < 3 * right_gates graphs query = omega (arith, of.to, of.from, left_count, there) in
-        let same = same_clause other k query.right.feed vs ws t r ordered feeds agree there of.reached (omega (arith, of.to, of.from)) in
-        sym (clause_of_right lefts (half_clauses other given) first (last given) id some following (omega (arith, below, right_count given)))
-        ∙ (ap (clause_at (half_clauses other given)) at ∙ (same ∙ (sym (ap (clause_at (half_clauses other wanted)) at) ∙ clause_of_right lefts (half_clauses other wanted) first (last wanted) id some following (omega (arith, below, right_count wanted)))))
+    right_at : (rs : List SatLit) (k : ℕ) → id ≡ 1 + 3 * l + k → k < 3 * right_gates graphs query → clause_at (over ls rs) id ≡ clause_at (half_clauses other rs) k
+    right_at rs k is below =
+        at_right (half_clauses one ls) (half_clauses other rs) first (last rs) id k (omega (arith, is, left_count)) (omega (arith, below, right_count rs))
+
+    outputs_at : (rs : List SatLit) (at : ℕ) → at ≡ 1 + 3 * (l + right_gates graphs query) → (clause_at (over ls rs) at ≡ first ∷ []) × (clause_at (over ls rs) (at + 1) ≡ last rs ∷ [])
+    outputs_at rs at is = at_outputs (half_clauses one ls) (half_clauses other rs) first (last rs) at (omega (arith, is, left_count, right_count rs))
 
     by_kind : IsConeId graphs query id → clause_at (over ls given) id ≡ clause_at (over ls wanted) id
     by_kind (inl e) = ap (clause_at (over ls given)) e ∙ sym (ap (clause_at (over ls wanted)) e)
-    by_kind (inr (inl of)) = in_left of (omega (arith, of.to, left_count, reached_there one query.left.output of.gate one_ordered coning.fits.left.output of.reached))
-    by_kind (inr (inr (inl of))) = in_right of (reached_there other k of.gate ordered coning.fits.right.output of.reached)
-    by_kind (inr (inr (inr (inl e)))) =
-        let some : id ≢ 0 = omega (arith, e) in
-        let following : length lefts ≤ id - 1 = omega (arith, e, left_count) in
-        let here : (rs : List SatLit) → id - 1 - length lefts ≡ length (half_clauses other rs) = λ rs. omega (arith, e, left_count, right_count rs) in
-        sym (first_output lefts (half_clauses other given) first (last given) id some following (here given)) ∙ first_output lefts (half_clauses other wanted) first (last wanted) id some following (here wanted)
+    by_kind (inr (inl of)) =
+        let below : id - 1 < 3 * l = omega (arith, of.from, of.to, reached_there one query.left.output of.gate one_ordered coning.fits.left.output of.reached) in
+        left_at given (id - 1) (omega (arith, of.from)) below ∙ sym (left_at wanted (id - 1) (omega (arith, of.from)) below)
+    by_kind (inr (inr (inl of))) =
+        let there = reached_there other query.right.output of.gate ordered coning.fits.right.output of.reached in
+        let r = id - (1 + 3 * l + 3 * of.gate) in
+        let small : r < 3 = omega (arith, of.from, of.to) in
+        let at : id ≡ 1 + 3 * l + (3 * of.gate + r) = omega (arith, of.from) in
+        let below : 3 * of.gate + r < 3 * right_gates graphs query = omega (arith, small, there) in
+        right_at given (3 * of.gate + r) at below
+        ∙ (same_clause other query.right.output query.right.feed vs ws of.gate r ordered feeds agree there of.reached small ∙ sym (right_at wanted (3 * of.gate + r) at below))
+    by_kind (inr (inr (inr (inl e)))) = (outputs_at given id e).0 ∙ sym (outputs_at wanted id e).0
     by_kind (inr (inr (inr (inr e)))) =
-        let some : id ≢ 0 = omega (arith, e) in
-        let following : length lefts ≤ id - 1 = omega (arith, e, left_count) in
-        let here : (rs : List SatLit) → id - 1 - length lefts ≡ length (half_clauses other rs) + 1 = λ rs. omega (arith, e, left_count, right_count rs) in
-        let same = same_output other k query.right.feed vs ws query.right_value ordered feeds agree coning.fits.right.output in
-        sym (second_output lefts (half_clauses other given) first (last given) id some following (here given)) ∙ (ap (λ b. b ∷ []) same ∙ second_output lefts (half_clauses other wanted) first (last wanted) id some following (here wanted))
+        let at : id ≡ 1 + 3 * (l + right_gates graphs query) + 1 = omega (arith, e) in
+        let same = same_output other query.right.output query.right.feed vs ws query.right_value ordered feeds agree coning.fits.right.output in
+        subst (λ n. clause_at (over ls given) n ≡ clause_at (over ls wanted) n) (sym at) ((outputs_at given (1 + 3 * (l + right_gates graphs query)) refl).1 ∙ (ap (λ b. b ∷ []) same ∙ sym (outputs_at wanted (1 + 3 * (l + right_gates graphs query)) refl).1))
 
 -- a gate that may be shared has the query's variable where its mark is right
 pub shared_right : (first own t : ℕ) (marked whole : List Bool) → first + t < length whole → bit marked (first + t) ≡ bit whole (first + t) → variable_at (Shared first own marked) t ≡ slice_index_or (shared_from first own (drop first whole)) t 0

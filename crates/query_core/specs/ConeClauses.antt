@@ -1,5 +1,5 @@
 -- The clauses of a query that belong to its two cones.
-use Rattle.std.specs.Prelude.{◌≡◌, ◌⊎◌, ◌↔◌, ℕ, ◌+◌, ◌*◌, ◌<◌, ◌≤◌, Bool, true, List, [], ◌∷◌, ◌++◌, length, All, AllPairs, Contains}
+use Rattle.std.specs.Prelude.{◌≡◌, ◌⊎◌, ◌↔◌, ℕ, ◌+◌, ◌*◌, ◌<◌, ◌≤◌, Bool, true, List, [], ◌∷◌, length, All, AllPairs, Contains}
 use Rattle.circuits.specs.Netlists.{Net}
 use Rattle.cnf_core.specs.declared.literal.SatLit.{SatLit}
 use Rattle.cnf_core.specs.Clauses.{clause_at, is_met}
@@ -56,12 +56,6 @@ pub record IsSomeCone (net : Net) (gates : List ℕ) : Type 0 where
 abbrev pub gate_ids : ℕ → List ℕ → List ℕ
 gate_ids first [] = []
 gate_ids first (t ∷ gates) = (first + 3 * t) ∷ (first + 3 * t + 1) ∷ (first + 3 * t + 2) ∷ gate_ids first gates
-
--- The numbers of the clauses of the gates that output k reaches were added.
-pub record AreAdded (net : Net) (k first : ℕ) (old new : List ℕ) : Type 0 where
-  pub gates : List ℕ
-  pub are : AreReached net k gates
-  pub added : new ≡ old ++ gate_ids first gates
 
 -- the numbers of the clauses that belong to the cones, ascending
 pub record AreConeIds (graphs : Graphs) (query : Query) (ids : List ℕ) : Type 0 where

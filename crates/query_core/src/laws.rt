@@ -38,6 +38,7 @@ pub fn cone_assignment_is_a_vector()
 {}
 
 /// Each vector that is asked for is that of an assignment that meets a query's clauses.
+#[tactic(auto, using(crate::proofs::AssignmentLemmas::assignment_there))]
 pub fn vector_has_an_assignment()
     ensures { (graphs : TwoGraphs) (query : Question) (x : List Bool)
         → IsGraph graphs.first → IsGraph graphs.second → IsQuery graphs query → length x ≡ bits_in graphs query
@@ -71,6 +72,7 @@ pub fn match_by_queries()
 
 /// Signed bijections of the ports are a match where logs refute the queries of a matching: of each output, for either
 /// of its values.
+#[tactic(auto, using(crate::proofs::RefutedLemmas::match_of_refuted))]
 pub fn refuted_queries_are_a_match()
     ensures { (graphs : TwoGraphs) (matching : Table) → IsGraph graphs.first → IsGraph graphs.second
         → HavePorts graphs.first graphs.second matching.inputs matching.outputs

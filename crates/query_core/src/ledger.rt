@@ -96,8 +96,7 @@ impl Ledger {
             ≡ record self.old { asked = with_line line.now self.old.asked }) }
         ensures refused { IfErr result (IsRefused self.old line.now self.new) }
     {
-        let last = self.asked.len() - 1;
-        push_line(&mut self.asked[last], line)?;
+        push_last(&mut self.asked, line)?;
         if self.learned == self.budget {
             self.spent = true;
             return Err(Stop::Spent(self.learned));
@@ -175,6 +174,18 @@ fn drop_uncharged(asked: &mut Vec<Asked>)
     if last.lines.len() as u64 == last.lemmas {
         let _ = asked.pop();
     }
+}
+
+// Adds a line to the last entry. A refusal changes nothing.
+fn push_last(asked: &mut Vec<Asked>, line: &LogLine) -> Result<(), Stop>
+    requires { 0 < length asked.old.items }
+    ensures pushed { OnOk result (asked.new.items ≡ with_line line.now asked.old.items) }
+    ensures refused { OnErr result (asked.new.items ≡ asked.old.items) }
+    ensures stop { IfErr result (λ stop. stop ≡ Stop.Memory) }
+{
+    let last = asked.len() - 1;
+    push_line(&mut asked[last], line)?;
+    Ok(())
 }
 
 // Adds a line to an entry. A refusal changes nothing.

@@ -19,7 +19,8 @@ use Rattle.query_core.specs.Queries.{IsQuery, IsUnmet, bits_in, circuit_of, vect
 use Rattle.query_core.specs.Formulas.{formula_of, half_clauses, left_literals, left_variables, output_literal, query_clauses, right_literals, right_variables, true_literal}
 use Rattle.query_core.specs.ConeClauses.{left_gates, right_gates}
 use Rattle.query_core.proofs.FormulaLemmas.{clause_below, clause_of_left, clause_of_right, count_of, first_output, gate_clause_count, second_output}
-use Rattle.query_core.proofs.LawLemmas.{literal_of_bit, ordered_side, vector_there}
+use Rattle.query_core.proofs.ConeLaws.{vector_there}
+use Rattle.query_core.proofs.LawLemmas.{literal_of_bit, ordered_side}
 use Rattle.table_oracle.proofs.KnownLemmas.{AreApart, IsHeld, IsKnown, unit_held}
 use Rattle.table_oracle.proofs.HalfLemmas.{IsHalfHeld, next_held}
 

@@ -1,4 +1,4 @@
-use Rattle.query_core.proofs.LawLemmas.{vector_there}
+use Rattle.query_core.proofs.ConeLaws.{vector_there}
 use Rattle.query_core.proofs.laws.assignment_is_a_vector.Goals as goal
 
 pub returns : goal.returns
