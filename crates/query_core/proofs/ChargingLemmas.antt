@@ -10,23 +10,25 @@ use Rattle.cnf_core.specs.Charges.{IsRefused as IsNotCharged}
 use Rattle.query_core.specs.declared.ledger.Asked.{Asked}
 use Rattle.query_core.specs.Ledgers.{IsRefused, Ledgered, charging_of, last_asked, learned_in, lines_in, nothing_asked, one_if, with_line, with_lines}
 
+-- the last entry with other lines
+last_with : (asked : List Asked) (lines : List LogLine) → 0 < length asked → last_asked (with_lines lines asked) ≡ record (last_asked asked) { lines = lines }
+last_with asked lines there =
+    let at = length asked - 1 in
+    let e = last_asked asked in
+    let last : length (with_lines lines asked) - 1 ≡ at = omega (arith, length-set asked at (record e { lines = lines })) in
+    ap (λ k. slice_index_or (with_lines lines asked) k nothing_asked) last ∙ get_or-set_same asked at (record e { lines = lines }) nothing_asked (omega (arith, there))
+
+last_lines : (asked : List Asked) (lines : List LogLine) → 0 < length asked → (last_asked (with_lines lines asked)).lines ≡ lines
+last_lines asked lines there = ap (λ (x : Asked). x.lines) (last_with asked lines there)
+
 -- lines given twice to the last entry
 pub lines_twice : (asked : List Asked) (first second : List LogLine) → 0 < length asked → with_lines second (with_lines first asked) ≡ with_lines second asked
 lines_twice asked first second there =
     let at = length asked - 1 in
     let e = last_asked asked in
-    let size = length-set asked at (record e { lines = first }) in
-    let last : length (with_lines first asked) - 1 ≡ at = omega (arith, size) in
-    let entry : last_asked (with_lines first asked) ≡ record e { lines = first } = ap (λ k. slice_index_or (with_lines first asked) k nothing_asked) last ∙ get_or-set_same asked at (record e { lines = first }) nothing_asked (omega (arith, there)) in
+    let last : length (with_lines first asked) - 1 ≡ at = omega (arith, length-set asked at (record e { lines = first })) in
     ap (λ k. slice_set (with_lines first asked) k (record (last_asked (with_lines first asked)) { lines = second })) last
-    ∙ (ap (λ (x : Asked). slice_set (with_lines first asked) at (record x { lines = second })) entry ∙ set-set asked at (record e { lines = first }) (record e { lines = second }))
-
-last_lines : (asked : List Asked) (lines : List LogLine) → 0 < length asked → (last_asked (with_lines lines asked)).lines ≡ lines
-last_lines asked lines there =
-    let at = length asked - 1 in
-    let e = last_asked asked in
-    let last : length (with_lines lines asked) - 1 ≡ at = omega (arith, length-set asked at (record e { lines = lines })) in
-    ap (λ k. (slice_index_or (with_lines lines asked) k nothing_asked).lines) last ∙ ap (λ (x : Asked). x.lines) (get_or-set_same asked at (record e { lines = lines }) nothing_asked (omega (arith, there)))
+    ∙ (ap (λ (x : Asked). slice_set (with_lines first asked) at (record x { lines = second })) (last_with asked first there) ∙ set-set asked at (record e { lines = first }) (record e { lines = second }))
 
 own_lines : (asked : List Asked) → with_lines (last_asked asked).lines asked ≡ asked
 own_lines asked = set-get_or asked (length asked - 1) nothing_asked

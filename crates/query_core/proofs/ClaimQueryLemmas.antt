@@ -58,21 +58,16 @@ meets-breaks graphs claim x is same meets =
     fall (graph_of graphs claim.side) claim.output claim.shape x is.placed same (sym (left_is graphs claim x same) ∙ meets.left) (sym (right_is graphs claim x same) ∙ meets.right)
 
 -- the query fits the circuits
-fixed_count : (feed : List Feed) (i : ℕ) (b : Bool) → length (with_fixed i b feed) ≡ length feed
-fixed_count feed i b = length-set feed i (Fixed b)
+values_keep : (P : List Feed → Type 0) (n : ℕ) (shape : Shape) → ((feed : List Feed) (i : ℕ) (b : Bool) → P feed → P (with_fixed i b feed)) → P (straight n) → P (values_feed n shape)
+values_keep P n (Up i) fixed start = fixed (straight n) i false start
+values_keep P n (Down i) fixed start = fixed (straight n) i true start
+values_keep P n (Swap i j a b) fixed start = fixed (with_fixed i a (straight n)) j b (fixed (straight n) i a start)
 
 pub values_count : (n : ℕ) (shape : Shape) → length (values_feed n shape) ≡ n
-values_count n (Up i) = fixed_count (straight n) i false ∙ straight_count n
-values_count n (Down i) = fixed_count (straight n) i true ∙ straight_count n
-values_count n (Swap i j a b) = fixed_count (with_fixed i a (straight n)) j b ∙ (fixed_count (straight n) i a ∙ straight_count n)
-
-fixed_wired : (n : ℕ) (feed : List Feed) (i : ℕ) (b : Bool) → All (IsWired n) feed → All (IsWired n) (with_fixed i b feed)
-fixed_wired n feed i b wired = All-set (IsWired n) feed i (Fixed b) tt wired
+values_count n shape = values_keep (λ feed. length feed ≡ n) n shape (λ feed i b count. length-set feed i (Fixed b) ∙ count) (straight_count n)
 
 pub values_wired : (n : ℕ) (shape : Shape) → All (IsWired n) (values_feed n shape)
-values_wired n (Up i) = fixed_wired n (straight n) i false (straight_wired n)
-values_wired n (Down i) = fixed_wired n (straight n) i true (straight_wired n)
-values_wired n (Swap i j a b) = fixed_wired n (with_fixed i a (straight n)) j b (fixed_wired n (straight n) i a (straight_wired n))
+values_wired n shape = values_keep (All (IsWired n)) n shape (λ feed i b wired. All-set (IsWired n) feed i (Fixed b) tt wired) (straight_wired n)
 
 pub claim_query_fits : (graphs : Graphs) (claim : Claim) → IsClaim graphs claim → IsQuery graphs (claim_query graphs claim)
 claim_query_fits graphs claim is =
