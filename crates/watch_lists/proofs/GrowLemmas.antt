@@ -1,6 +1,6 @@
 -- Trails that grow.
 use Rattle.std.proofs.Common.{◌≡◌, ℕ, ◌+◌, ◌<◌, ◌≤◌, cond, List, Option, [], ◌∷◌, ◌++◌, length, take, is_none, inl, inr, sym, ◌∙◌, ap, subst, arith}
-use Rattle.std.proofs.lemmas.List.{map-append, take-append-le, take-take, take_all, get_or_append_left, get_or_at, length-append, length-map}
+use Rattle.std.proofs.lemmas.List.{map-append, take-append-le, take-take, take_all, get_or_append_left, get_or_at, length-map}
 use Rattle.std.proofs.lemmas.List.Sums.{sum_by-take-le}
 use Rattle.cnf_core.specs.declared.literal.SatLit.{SatLit}
 use Rattle.trail_core.specs.declared.assigned.Assigned.{Assigned}
