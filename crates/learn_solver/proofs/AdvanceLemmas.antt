@@ -1,73 +1,28 @@
--- A search that goes on: after a decision, and after going back with a learned line.
+-- A search that begins, what is left to do for it, and the lines that it adds.
 use Rattle.std.proofs.Common.{◌≡◌, ℕ, suc, ◌+◌, ◌-◌, ◌*◌, ◌<◌, ◌≤◌, ◌||◌, false, List, [], ◌∷◌, ◌++◌, length, take, filter, Option, None, Some, nat_le, slice_index_or, inl, inr, refl, sym, ◌∙◌, ap, subst, arith}
 use Rattle.std.specs.List.{list_any}
 use Rattle.std.proofs.Math.Nat.{mul-suc}
 use Rattle.std.proofs.lemmas.Bool.{cases_lt, leb-true, or_from}
 use Rattle.std.proofs.lemmas.List.{get_or_append_left, get_or-take, length-append, length-take, take-take, take_all}
-use Rattle.std.proofs.lemmas.List.Elements.{All-push, filter_passes}
 use Rattle.std.proofs.lemmas.List.Folds.{list_any-append}
-use Rattle.cnf_core.specs.declared.literal.SatLit.{SatLit}
 use Rattle.cnf_core.specs.declared.log.LogLine.{LogLine}
 use Rattle.cnf_core.specs.declared.stop.Stop.{Stop}
 use Rattle.cnf_core.specs.declared.stop.Stop.TheVariants.{Spent, Memory}
-use Rattle.cnf_core.specs.declared.effect.Effect.TheVariants.{Neither}
-use Rattle.cnf_core.specs.Derivations.{AreDerived, clauses_of, effect_of, is_empty, line_fault}
-use Rattle.trail_core.specs.declared.assigned.Assigned.{Assigned}
-use Rattle.trail_core.specs.Trails.{Trailing, entry_at, literals, nothing}
+use Rattle.cnf_core.specs.Derivations.{AreDerived, clauses_of, is_empty, line_fault}
+use Rattle.trail_core.specs.Trails.{Trailing}
 use Rattle.cnf_core.specs.Charges.{Charging, IsCharged}
-use Rattle.watch_lists.specs.Propagations.{IsJustified, IsQuiet, IsSound, before}
+use Rattle.watch_lists.specs.Propagations.{IsSound}
 use Rattle.learn_solver.specs.declared.search.Search.{Search}
-use Rattle.learn_solver.specs.Searches.{IsLearnt, IsLesson, IsRunning, IsSearching, remaining}
+use Rattle.learn_solver.specs.Searches.{IsLearnt, IsRunning, remaining}
 use Rattle.learn_solver.specs.Solvers.{IsAdded, IsAsking, IsExtended, IsSolver, IsStopped, Solving, active}
-use Rattle.learn_solver.specs.Starts.{AreTools, IsBegun, IsStarting}
-use Rattle.watch_lists.proofs.GrowLemmas.{sound_more}
-use Rattle.learn_solver.proofs.GoneLemmas.{before_front}
-use Rattle.learn_solver.proofs.SolverLemmas.{active_more, clauses_more}
+use Rattle.learn_solver.specs.Starts.{AreTools, IsBegun, IsFitting, IsStarting}
+use Rattle.learn_solver.proofs.SolverLemmas.{clauses_more}
 use Rattle.learn_solver.proofs.StepLemmas.{asking_charged, extended_charged}
-
--- after a decision
-pub decided : (s : Solving) (old new : Trailing) (l : SatLit) → IsSearching s old → IsQuiet (active s.formula s.ids s.lines) (literals old.entries) → new ≡ record old { entries = old.entries ++ record { literal = l; level = old.level + 1; reason = None } ∷ []; level = old.level + 1 } → IsSearching s new
-decided s old new l searching quiet new_is =
-    let e : Assigned = record { literal = l; level = old.level + 1; reason = None } in
-    let entries : new.entries ≡ old.entries ++ e ∷ [] = ap (λ (t : Trailing). t.entries) new_is in
-    record {
-      variables = ap (λ (t : Trailing). t.variables) new_is ∙ searching.variables;
-      unrefuted = searching.unrefuted;
-      sound = sound_more (active s.formula s.ids s.lines) old new e searching.sound quiet entries;
-    }
-
--- what is justified stays so with one clause more
-justified_more : (clauses : List (List SatLit)) (clause : List SatLit) (made : List SatLit) (l : SatLit) (r : Option ℕ) → IsJustified clauses made l r → (r ≡ None → effect_of made clause ≡ Neither) → IsJustified (clauses ++ clause ∷ []) made l r
-justified_more clauses clause made l None quiet more = All-push (λ c. effect_of made c ≡ Neither) clauses clause quiet (more refl)
-justified_more clauses clause made l (Some id) reason more = record {
-  there = omega (arith, reason.there, length-append clauses (clause ∷ []));
-  makes = ap (effect_of made) (get_or_append_left clauses (clause ∷ []) [] id reason.there) ∙ reason.makes;
-}
 
 -- a line that isn't empty refutes nothing
 pub unrefuted_more : (lines : List LogLine) (line : LogLine) → list_any is_empty (clauses_of lines) ≡ false → is_empty line.clause ≡ false → list_any is_empty (clauses_of (lines ++ line ∷ [])) ≡ false
 unrefuted_more lines line unrefuted filled =
     ap (list_any is_empty) (clauses_more lines line) ∙ (list_any-append is_empty (clauses_of lines) (line.clause ∷ []) ∙ or_from (list_any is_empty (clauses_of lines)) (is_empty line.clause || false) unrefuted (or_from (is_empty line.clause) false filled refl))
-
--- after going back with a learned line
-pub gone_back : (old new : Solving) (line : LogLine) (t back : Trailing) (level : ℕ) → IsSearching old t → IsLesson old t line level → is_empty line.clause ≡ false → new ≡ record old { lines = old.lines ++ line ∷ [] } → back.variables ≡ t.variables → back.entries ≡ filter (λ e. nat_le e.level level) t.entries → back.entries ≡ take (length back.entries) t.entries → IsSearching new back
-gone_back old new line t back level searching lesson filled added variables kept front = subst (λ (s : Solving). IsSearching s back) (sym added) (record {
-  variables = variables ∙ searching.variables;
-  unrefuted = unrefuted_more old.lines line searching.unrefuted filled;
-  sound = record {
-    justified = λ k within.
-        let n = length back.entries in
-        let inside : k < length t.entries = omega (arith, within, ap length front, length-take n t.entries) in
-        let at : entry_at back.entries k ≡ entry_at t.entries k = ap (λ es. entry_at es k) front ∙ get_or-take n t.entries k nothing within in
-        let made : before back.entries k ≡ before t.entries k = ap (λ es. before es k) front ∙ before_front t.entries n k (omega (arith, within)) in
-        let e = entry_at t.entries k in
-        let passes = filter_passes (λ (x : Assigned). nat_le x.level level) t.entries k nothing (subst (λ (es : List Assigned). k < length es) kept within) in
-        let low : e.level ≤ level = leb-true e.level level (sym (ap (λ (es : List Assigned). nat_le (entry_at es k).level level) (sym kept ∙ front) ∙ ap (λ (x : Assigned). nat_le x.level level) (get_or-take n t.entries k nothing within)) ∙ passes) in
-        let more = justified_more (active old.formula old.ids old.lines) line.clause (before t.entries k) e.literal e.reason (searching.sound.justified k inside) (λ decision. lesson.not_single k inside decision low) in
-        let all = subst (λ (cs : List (List SatLit)). IsJustified cs (before t.entries k) e.literal e.reason) (sym (active_more old.formula old.ids old.lines line)) more in
-        subst (λ (x : Assigned). IsJustified (active old.formula old.ids (old.lines ++ line ∷ [])) (before back.entries k) x.literal x.reason) (sym at) (subst (λ m. IsJustified (active old.formula old.ids (old.lines ++ line ∷ [])) m e.literal e.reason) (sym made) all);
-  };
-})
 
 -- less is left to do after a decision, and after a learned line
 pub less_decided : {O : Type 0} (charging : Charging O) (old new : Trailing) → new.variables ≡ old.variables → length old.entries < length new.entries → length new.entries ≤ new.variables → remaining charging new < remaining charging old
@@ -140,30 +95,26 @@ pub asking_learnt : {O : Type 0} (old new : Solving) (first after : Charging O) 
 asking_learnt {O} old new first after t back asking learnt =
     subst (λ (s : Solving). IsAsking after s.lines) (sym learnt.added) (asking_charged old.lines learnt.line first after asking learnt.charged)
 
--- A search that has come from the first lines to these.
-pub record IsUnderWay {O : Type 0} (old now : Solving) (first charging : Charging O) (search : Search) : Type 0 where
-  pub running : IsRunning now search.trail search.watches search.tools
-  pub extended : IsExtended old now first charging
-  pub asking : IsAsking charging now.lines
+-- what a search that is under way is
+pub running_from : (s : Solving) (search : Search) → IsFitting search.watches search.trail → IsSolver s.formula s.ids s.lines search.watches.clauses → search.trail.variables ≡ s.formula.variables → list_any is_empty (clauses_of s.lines) ≡ false → AreTools s.formula s.ids search.tools → IsRunning s search.trail search.watches search.tools
+running_from s search fitting solver variables unrefuted tools_are = record {
+  searching = record {
+    variables = variables;
+    unrefuted = unrefuted;
+    sound = subst (λ cs. IsSound cs search.trail) solver.stored fitting.sound;
+  };
+  solver = solver;
+  fits = fitting.fits;
+  present = fitting.present;
+  covered = fitting.covered;
+  tools_are = tools_are;
+}
 
 -- a search begins
-pub under_way : {O : Type 0} (s : Solving) (first : Charging O) (idle now : Search) → IsBegun s idle.trail idle.watches idle.tools → IsStarting idle.watches now.watches now.trail (length idle.watches.clauses) → now.tools ≡ idle.tools → list_any is_empty (clauses_of s.lines) ≡ false → IsAsking first s.lines → IsUnderWay s s first first now
-under_way {O} s first idle now begun is tools_are unrefuted asking = record {
-  running = record {
-    searching = record {
-      variables = is.fits.variables ∙ (is.variables ∙ begun.variables);
-      unrefuted = unrefuted;
-      sound = subst (λ cs. IsSound cs now.trail) (is.clauses ∙ begun.solver.stored) is.sound;
-    };
-    solver = subst (IsSolver s.formula s.ids s.lines) (sym is.clauses) begun.solver;
-    fits = is.fits;
-    present = is.present;
-    covered = λ id within. is.covered id (omega (arith, within, ap length is.clauses));
-    tools_are = subst (AreTools s.formula s.ids) (sym tools_are) begun.tools_are;
-  };
-  extended = extended_none s first asking;
-  asking = asking;
-}
+pub running_first : (s : Solving) (idle now : Search) → IsBegun s idle.trail idle.watches idle.tools → IsStarting idle.watches now.watches now.trail (length idle.watches.clauses) → now.tools ≡ idle.tools → list_any is_empty (clauses_of s.lines) ≡ false → IsRunning s now.trail now.watches now.tools
+running_first s idle now begun is tools_are unrefuted =
+    let fitting : IsFitting now.watches now.trail = record { fits = is.fits; present = is.present; sound = is.sound; covered = λ id within. is.covered id (omega (arith, within, ap length is.clauses)) } in
+    running_from s now fitting (subst (IsSolver s.formula s.ids s.lines) (sym is.clauses) begun.solver) (is.fits.variables ∙ (is.variables ∙ begun.variables)) unrefuted (subst (AreTools s.formula s.ids) (sym tools_are) begun.tools_are)
 
 -- lines that were added to derived ones are derived
 pub derived_after : {O : Type 0} (old new : Solving) (first after : Charging O) → AreDerived old.formula old.lines → IsExtended old new first after → AreDerived new.formula new.lines

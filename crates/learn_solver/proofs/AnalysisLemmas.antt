@@ -15,14 +15,11 @@ use Rattle.trail_core.specs.declared.assigned.Assigned.{Assigned}
 use Rattle.trail_core.specs.Trails.{IsTrail, Trailing, entry_at, literals, nothing}
 use Rattle.watch_lists.specs.Propagations.{IsJustified, IsReason, IsSound, before}
 use Rattle.learn_solver.specs.Analyses.{AreBefore, AreMarked, IsAnalysed, StayMarked, here_in, is_marked, kept_here}
-use Rattle.learn_solver.proofs.MarkLemmas.{none_pass}
+use Rattle.learn_solver.proofs.MarkLemmas.{none_pass, one_at_most}
 use Rattle.watch_lists.proofs.EffectLemmas.{conflict_from, conflict_says, makes_says, same_literal}
-use Rattle.learn_solver.proofs.DeriveLemmas.{derive_conflict, derive_reason, derive_unmarked}
+use Rattle.learn_solver.proofs.DeriveLemmas.{IsAway, derive_away, derive_conflict, derive_unmarked}
 use Rattle.watch_lists.proofs.GrowLemmas.{low_level}
-use Rattle.learn_solver.proofs.PlaceLemmas.{ascend, before_whole, counted_here, decision_level, decision_raises, found_here, is_counted, last_decision, place_of_false, stands, true_before, variable_of-opposite}
-
-abbrev no_literal : SatLit
-no_literal = record { 0 = 0 }
+use Rattle.learn_solver.proofs.PlaceLemmas.{ascend, before_whole, counted_here, decision_level, decision_raises, found_here, is_counted, last_decision, no_literal, place_of_false, stands, true_before, variable_of-opposite}
 
 -- where nothing is marked, nothing counts
 pub unmarked_bit : (n v : ℕ) → bit (replicate n false) v ≡ false
@@ -76,10 +73,6 @@ top_level t trail marked q within some =
 -- one place further down
 pub here_down : (t : Trailing) (marked : List Bool) (q : ℕ) → q < length t.entries → here_in t marked (q + 1) ≡ here_in t marked q + cond (is_counted t marked (entry_at t.entries q)) 1 0
 here_down t marked q within = sum_by_more (λ (x : Assigned). cond (is_counted t marked x) 1 0) t.entries q nothing within
-
-one_at_most : (b : Bool) → cond b 1 0 ≤ 1
-one_at_most true = omega arith
-one_at_most false = omega arith
 
 -- a decision is the only one of its level that is left
 pub decision_alone : (t : Trailing) → IsTrail t → (marked : List Bool) (q : ℕ) → q < length t.entries → (entry_at t.entries q).reason ≡ None → (entry_at t.entries q).level ≡ t.level → here_in t marked (q + 1) ≤ kept_here t.level
@@ -148,11 +141,20 @@ analysed_reason clauses t trail old new q here more id steps is kept marked_ther
       within = omega (arith, is.within);
       count = omega (arith, is.count, counted, here_down t new q within, one);
       present = λ some. omega (arith, kept_one some, kept);
-      derives = derive_reason clauses t.entries old new q id steps within marked_there reason stay are_marked is.derives;
+      derives = derive_away clauses t trail old new q (q + 1) q id steps within (omega arith) (omega arith) (λ k early other. omega (arith, early, other)) reason away is.derives;
     }
   where
     kept_one : 0 < t.level → kept_here t.level ≡ 1
     kept_one some = ap (λ b. cond {A = ℕ} b 0 1) (ne_eqb t.level 0 (λ e. omega (arith, some, e)))
+
+    away : IsAway t old new q q (clause_at clauses id)
+    away = record {
+      size = size;
+      gone = λ before. absurd (omega (arith, before));
+      stay = λ k _ _ was. stay (variable_of (entry_at t.entries k).literal) was;
+      later = λ k after before _. absurd (omega (arith, after, before));
+      others = λ k inside _. are_marked k no_literal inside;
+    }
 
 -- a literal that isn't marked was passed
 pub analysed_unmarked : (clauses : List (List SatLit)) (t : Trailing) → IsTrail t → (marked : List Bool) (q here : ℕ) (steps : List ℕ) → IsAnalysed clauses t marked (q + 1) here steps → is_marked marked (entry_at t.entries q) ≡ false → IsAnalysed clauses t marked q here steps

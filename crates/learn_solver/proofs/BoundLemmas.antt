@@ -1,11 +1,13 @@
 -- How many lines can be learned over n variables: each is another clause without a repeated variable, and there are 3^n of these.
-use Rattle.std.proofs.Common.{◌≡◌, ◌≢◌, ℕ, zero, suc, ◌+◌, ◌-◌, ◌*◌, ◌/◌, ◌%◌, ◌^◌, ◌<◌, ◌≤◌, ◌==◌, ◌⊎◌, eqb, cond, Bool, true, false, List, [], ◌∷◌, length, map, drop, take, All, AllPairs, Result, Ok, Err, IfOk, IfErr, slice_index_or, inl, inr, refl, sym, ◌∙◌, ap, subst, arith}
+use Rattle.std.proofs.Common.{◌≡◌, ◌≢◌, ℕ, zero, suc, ◌+◌, ◌-◌, ◌*◌, ◌/◌, ◌%◌, ◌^◌, ◌<◌, ◌≤◌, ◌==◌, ◌⊎◌, eqb, cond, not, Bool, true, false, List, [], ◌∷◌, length, map, drop, take, All, AllPairs, Result, Ok, Err, IfOk, IfErr, slice_index_or, inl, inr, refl, sym, ◌∙◌, ap, subst, arith}
 use native.Mathlib.Nat.{pow-suc}
 use Rattle.std.specs.List.{IsDistinct, list_any, list_all}
-use Rattle.std.proofs.lemmas.Bool.{cases_eq, cases_Bool, both_ways, eq-eqb, eqb-true, false≢true, or_cases, or_left, or_parts, or_right}
+use Rattle.std.proofs.lemmas.Bool.{cases_eq, cases_Bool, both_ways, eq-eqb, eqb-true, false≢true, false_from_ne_true, or_cases, or_left, or_parts, or_right}
 use Rattle.std.proofs.lemmas.List.{get_or-append-add, get_or-drop, get_or-map, get_or-take, length-append, length-drop, length-map, length-take}
 use Rattle.std.proofs.lemmas.List.Folds.{list_any_at}
 use Rattle.std.proofs.lemmas.List.Recursion.{and_from_places}
+use Rattle.std.proofs.lemmas.List.Elements.{All-contains}
+use Rattle.std.proofs.lemmas.Map.Views.{Contains-from_any}
 use Rattle.std.proofs.lemmas.Map.Made.{IsDistinct-from_AllPairs}
 use Rattle.std.proofs.lemmas.Map.Steps.{length-le_from_distinct_below}
 use Rattle.cnf_core.specs.declared.literal.SatLit.{SatLit}
@@ -13,14 +15,14 @@ use Rattle.cnf_core.specs.declared.log.LogLine.{LogLine}
 use Rattle.cnf_core.specs.declared.stop.Stop.{Stop}
 use Rattle.cnf_core.specs.declared.stop.Stop.TheVariants.{Spent, Memory}
 use Rattle.cnf_core.specs.Charges.{Charging}
-use Rattle.cnf_core.specs.Clauses.{literal_of, variable_of}
+use Rattle.cnf_core.specs.Clauses.{is_negated, literal_of, variable_of}
 use Rattle.cnf_core.specs.Derivations.{clauses_of, is_same, is_true, repeats_variable}
 use Rattle.watch_lists.specs.Propagations.{AreKnown}
-use Rattle.watch_lists.proofs.EffectLemmas.{same_itself, same_literal}
+use Rattle.cnf_core.proofs.LiteralLemmas.{itself, same_itself, same_literal}
 use Rattle.learn_solver.specs.Analyses.{has_all}
 use Rattle.learn_solver.specs.Searches.{no_line}
 use Rattle.learn_solver.specs.Solvers.{IsBounded, IsBoundedStop, IsExtended, IsStopped, Solving, wanted}
-use Rattle.learn_solver.proofs.KeptLemmas.{no_literal}
+use Rattle.learn_solver.proofs.PlaceLemmas.{no_literal}
 use Rattle.learn_solver.proofs.SolverLemmas.{line_known, line_says}
 
 -- a variable's digit in base 3: 1 where the clause has it, 2 where it has its opposite, else 0
@@ -56,20 +58,11 @@ same_digits (suc n) c d same v low =
     ]
 
 -- a literal is its variable's, plain or negated
-plain_literal : (l : SatLit) → l.0 % 2 ≡ 0 → l ≡ literal_of (variable_of l) true
-plain_literal l even = ap (λ n. record { 0 = n }) (number l.0 even)
-  where
-    number : (n : ℕ) → n % 2 ≡ 0 → n ≡ 2 * (n / 2)
-    number n rest = omega (arith, rest)
-
-negated_literal : (l : SatLit) → l.0 % 2 ≢ 0 → l ≡ literal_of (variable_of l) false
-negated_literal l odd = ap (λ n. record { 0 = n }) (number l.0 odd)
-  where
-    number : (n : ℕ) → n % 2 ≢ 0 → n ≡ 2 * (n / 2) + 1
-    number n rest = omega (arith, rest)
-
 plain_or_negated : (l : SatLit) → (l ≡ literal_of (variable_of l) true) ⊎ (l ≡ literal_of (variable_of l) false)
-plain_or_negated l = elim (cases_eq (l.0 % 2) 0) [ inl even ↦ inl (plain_literal l even) | inr odd ↦ inr (negated_literal l odd) ]
+plain_or_negated l = elim (cases_Bool (is_negated l)) [
+  | inl negated ↦ inr (sym (ap (λ (b : Bool). literal_of (variable_of l) (not b)) (sym negated) ∙ itself l))
+  | inr plain ↦ inl (sym (ap (λ (b : Bool). literal_of (variable_of l) (not b)) (sym plain) ∙ itself l))
+]
 
 -- a clause without a repeated variable doesn't have two literals of one
 has_variable : (clause : List SatLit) (l : SatLit) (v : ℕ) → variable_of l ≡ v → is_true clause l ≡ true → list_any (λ other. variable_of other == v) clause ≡ true
@@ -119,13 +112,10 @@ has_same n c d same known once = and_from_places (list_all (is_true c)) (is_true
     by_sign l low there (inr negated) =
         let v = variable_of l in
         let here : is_true d (literal_of v false) ≡ true = ap (is_true d) (sym negated) ∙ there in
-        let none : is_true d (literal_of v true) ≡ false = elim (cases_Bool (is_true d (literal_of v true))) [
-          | inr fails ↦ fails
-          | inl too ↦
-              let one_variable : variable_of (literal_of v true) ≡ variable_of (literal_of v false) = omega arith in
-              let numbers : 2 * v ≡ 2 * v + 1 = ap (λ (m : SatLit). m.0) (one_of_each d (literal_of v true) (literal_of v false) once one_variable too here) in
-              absurd (omega (arith, numbers))
-        ] in
+        let none : is_true d (literal_of v true) ≡ false = false_from_ne_true (is_true d (literal_of v true)) (λ too.
+        let one_variable : variable_of (literal_of v true) ≡ variable_of (literal_of v false) = omega arith in
+        let numbers : 2 * v ≡ 2 * v + 1 = ap (λ (m : SatLit). m.0) (one_of_each d (literal_of v true) (literal_of v false) once one_variable too here) in
+        omega (arith, numbers)) in
         let two : digit d v ≡ 2 = ap (λ b. digit_by b (is_true d (literal_of v false))) none ∙ ap (λ b. digit_by false b) here in
         ap (is_true c) negated ∙ digit_two (is_true c (literal_of v true)) (is_true c (literal_of v false)) (same_digits n c d same v low ∙ two)
 
@@ -146,13 +136,6 @@ pub record AreUnlike (n first : ℕ) (lines : List LogLine) : Type 0 where
       → j < k
       → k < length lines
       → has_all (line_at lines k).clause (line_at lines j).clause ≡ false
-
-all_below : (xs : List ℕ) (m q : ℕ) → All (λ x. x < m) xs → list_any (eqb q) xs ≡ true → q < m
-all_below [] m q all found = absurd (false≢true found)
-all_below (x ∷ xs) m q all found = elim (or_cases (eqb q x) (list_any (eqb q) xs) found) [
-  | inl here ↦ omega (arith, eqb-true q x here, all 0 0 (omega arith))
-  | inr following ↦ all_below xs m q (λ k d within. all (suc k) d (omega (arith, within))) following
-]
 
 abbrev line_number : ℕ → LogLine → ℕ
 line_number n line = number_of n line.clause
@@ -185,7 +168,7 @@ pub few_lines : (n first : ℕ) (lines : List LogLine) → AreUnlike n first lin
 few_lines n first lines are =
     let xs = numbers_from n first lines in
     let distinct : IsDistinct eqb xs = IsDistinct-from_AllPairs (λ a b. (eqb-true a b, eq-eqb a b)) xs (numbers_apart n first lines are) in
-    let few = length-le_from_distinct_below xs (3 ^ n) distinct (λ q found. all_below xs (3 ^ n) q (numbers_below n first lines) found) in
+    let few = length-le_from_distinct_below xs (3 ^ n) distinct (λ q found. All-contains (λ x. x < 3 ^ n) xs q (numbers_below n first lines) (Contains-from_any (λ x y same. eqb-true x y same) q xs found)) in
     omega (arith, few, length-numbers_from n first lines)
 
 -- a line that has all the literals of none of the earlier lines, at one of these
@@ -214,16 +197,12 @@ added_unlike {O} old new before after extended = record {
 pub bounded_by : {O : Type 0} (old new : Solving) (before after : Charging O) → IsExtended old new before after → after.made ≤ before.made + 3 ^ old.formula.variables
 bounded_by {O} old new before after extended = omega (arith, few_lines old.formula.variables (length old.lines) new.lines (added_unlike old new before after extended), extended.counted, extended.longer)
 
--- so it is where the budget is spent
-pub bounded_stop : {O : Type 0} (old new : Solving) (before after : Charging O) (stop : Stop) → IsStopped old new before after stop → IsBoundedStop old.formula.variables before after stop
-bounded_stop {O} old new before after Memory stopped = tt
-bounded_stop {O} old new before after (Spent learned) stopped = bounded_by old new before after stopped.extended
-
--- so it is of an answer
+-- so it is of an answer, and where the budget is spent
 pub bounded_answer : {O V : Type 0} (old new : Solving) (before after : Charging O) (result : Result V Stop) → IfOk result (λ _. IsExtended old new before after) → IfOk result (λ _. IsBounded old.formula.variables before after)
 bounded_answer {O} {V} old new before after (Ok verdict) extended = bounded_by old new before after extended
 bounded_answer {O} {V} old new before after (Err stop) extended = tt
 
 pub bounded_stops : {O V : Type 0} (old new : Solving) (before after : Charging O) (result : Result V Stop) → IfErr result (IsStopped old new before after) → IfErr result (IsBoundedStop old.formula.variables before after)
 bounded_stops {O} {V} old new before after (Ok verdict) stopped = tt
-bounded_stops {O} {V} old new before after (Err stop) stopped = bounded_stop old new before after stop stopped
+bounded_stops {O} {V} old new before after (Err Memory) stopped = tt
+bounded_stops {O} {V} old new before after (Err (Spent learned)) stopped = bounded_by old new before after stopped.extended

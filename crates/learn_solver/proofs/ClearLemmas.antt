@@ -1,6 +1,6 @@
 -- Marks of variables on the trail, and how they are taken away along it.
 use Rattle.std.proofs.Common.{◌≡◌, ℕ, suc, ◌+◌, ◌<◌, Bool, false, List, [], ◌∷◌, length, replicate, slice_set, refl, sym, ◌∙◌, ap, inl, inr, arith}
-use Rattle.std.proofs.lemmas.Bool.{cases_eq, cases_Bool, false≢true}
+use Rattle.std.proofs.lemmas.Bool.{both_ways, cases_eq, false≢true, false_from_ne_true}
 use Rattle.std.proofs.lemmas.List.{get_or-set_same, get_or-set_other, length-set}
 use Rattle.circuits.specs.Literals.{bit}
 use Rattle.cnf_core.specs.declared.literal.SatLit.{SatLit}
@@ -10,6 +10,7 @@ use Rattle.trail_core.specs.Trails.{IsTrail, Trailing, entry_at}
 use Rattle.learn_solver.specs.declared.conflict.Analysis.{Analysis}
 use Rattle.learn_solver.specs.Analyses.{AreOnTrail, IsAnalysis}
 use Rattle.learn_solver.proofs.AnalysisLemmas.{unmarked_bit}
+use Rattle.learn_solver.proofs.MarkLemmas.{still}
 
 -- An analysis is under way, with marks of variables that are on the trail.
 pub record IsResolving (clauses : List (List SatLit)) (trail : Trailing) (marked : List Bool) (analysis : Analysis) : Type 0 where
@@ -31,12 +32,6 @@ unset_on_trail es marked v known before w was = elim (cases_eq w v) [
   | inr other ↦ before w (sym (get_or-set_other marked v w false false other) ∙ was)
 ]
 
-still_unset : (marked : List Bool) (v w : ℕ) → v < length marked → bit marked w ≡ false → bit (slice_set marked v false) w ≡ false
-still_unset marked v w known was = elim (cases_eq w v) [
-  | inl same ↦ ap (bit (slice_set marked v false)) same ∙ get_or-set_same marked v false false known
-  | inr other ↦ get_or-set_other marked v w false false other ∙ was
-]
-
 -- the mark of one literal more is taken away
 pub clearing_more : (t : Trailing) → IsTrail t → (marked : List Bool) (count v : ℕ) → IsClearing t marked count → count < length t.entries → v ≡ variable_of (entry_at t.entries count).literal → IsClearing t (slice_set marked v false) (count + 1)
 clearing_more t trail marked count v is within at =
@@ -46,7 +41,7 @@ clearing_more t trail marked count v is within at =
       on_trail = unset_on_trail t.entries marked v known is.on_trail;
       cleared = λ j below. elim (cases_eq j count) [
         | inl same ↦ ap (λ k. bit (slice_set marked v false) (variable_of (entry_at t.entries k).literal)) same ∙ (ap (bit (slice_set marked v false)) (sym at) ∙ get_or-set_same marked v false false known)
-        | inr other ↦ still_unset marked v (variable_of (entry_at t.entries j).literal) known (is.cleared j (omega (arith, below, other)))
+        | inr other ↦ still marked v (variable_of (entry_at t.entries j).literal) false known (is.cleared j (omega (arith, below, other)))
       ];
     }
 
@@ -59,9 +54,5 @@ pub clearing_done : (t : Trailing) (marked : List Bool) → IsClearing t marked 
 clearing_done t marked is = all_unset marked none ∙ ap (λ n. replicate n false) is.size
   where
     none : (v : ℕ) → bit marked v ≡ false
-    none v = elim (cases_Bool (bit marked v)) [
-      | inl was ↦
-          let p = is.on_trail v was in
-          ap (bit marked) (sym p.there) ∙ is.cleared p.at p.within
-      | inr free ↦ free
-    ]
+    none v = false_from_ne_true (bit marked v) (λ was.
+        let p = is.on_trail v was in both_ways (bit marked v) (ap (bit marked) (sym p.there) ∙ is.cleared p.at p.within) was)

@@ -1,22 +1,14 @@
 -- The variables of clauses, marked and listed.
 use Rattle.std.proofs.Common.{◌≡◌, ℕ, ◌+◌, ◌<◌, Bool, true, false, List, [], length, set, All, slice_index_or, inl, inr, sym, ap, subst, ◌∙◌, arith}
 use Rattle.std.proofs.lemmas.Bool.{cases_lt}
-use Rattle.std.proofs.lemmas.Bool.Decides.{eqb_tells}
-use Rattle.std.proofs.lemmas.List.{get_or_default, get_or-set_same, get_or-set_other, length-set}
+use Rattle.std.proofs.lemmas.List.{get_or_default, get_or-set_same, length-set}
 use Rattle.circuits.specs.Literals.{bit}
 use Rattle.cnf_core.specs.declared.literal.SatLit.{SatLit}
 use Rattle.cnf_core.specs.Clauses.{clause_at, variable_of}
 use Rattle.watch_lists.specs.Propagations.{AreKnown}
 use Rattle.learn_solver.specs.Analyses.{AreMarked, AreMarkedPlaces, StayMarked}
 use Rattle.learn_solver.specs.Solvers.{HaveVariables}
-
--- what was marked stays so with one variable more
-stays : (marked : List Bool) (v : ℕ) → v < length marked → StayMarked marked (set marked v true)
-stays marked v there u is =
-    elim (eqb_tells u v) [
-      | inl (found, e) ↦ subst (λ n. bit (set marked v true) n ≡ true) (sym e) (get_or-set_same marked v true false there)
-      | inr (found, apart) ↦ get_or-set_other marked v u true false apart ∙ is
-    ]
+use Rattle.learn_solver.proofs.MarkLemmas.{still}
 
 -- The variables of the first n literals of a clause are marked.
 pub record IsMarkingClause (old marked : List Bool) (clause : List SatLit) (count : ℕ) : Type 0 where
@@ -27,10 +19,10 @@ pub record IsMarkingClause (old marked : List Bool) (clause : List SatLit) (coun
 pub literal_marked : (old marked : List Bool) (clause : List SatLit) (count : ℕ) (none : SatLit) (v : ℕ) → AreKnown (length old) clause → IsMarkingClause old marked clause count → count < length clause → v ≡ variable_of (slice_index_or clause count none) → IsMarkingClause old (set marked v true) clause (count + 1)
 literal_marked old marked clause count none v known marking within v_is = record {
   size = length-set marked v true ∙ marking.size;
-  stay = λ u is. stays marked v there u (marking.stay u is);
+  stay = λ u is. still marked v u true there (marking.stay u is);
   marked_are = λ k d below.
       elim (cases_lt k count) [
-        | inl before ↦ stays marked v there (variable_of (slice_index_or clause k d)) (marking.marked_are k d before)
+        | inl before ↦ still marked v (variable_of (slice_index_or clause k d)) true there (marking.marked_are k d before)
         | inr last ↦
             let e : k ≡ count = omega (arith, last, below) in
             let same : variable_of (slice_index_or clause k d) ≡ v = ap (λ n. variable_of (slice_index_or clause n d)) e ∙ (ap variable_of (get_or_default clause count d none within) ∙ sym v_is) in

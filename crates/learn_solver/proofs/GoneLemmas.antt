@@ -3,7 +3,9 @@ use Rattle.std.proofs.Common.{◌≡◌, ℕ, zero, suc, ◌*◌, ◌<◌, ◌�
 use Rattle.std.specs.List.{list_all}
 use Rattle.std.proofs.lemmas.Bool.{and_parts, cases_Bool, cases_eq, cases_lt, false≢true, le-leb, leb-true, or_cases}
 use Rattle.std.proofs.lemmas.List.{get_or_append_left, get_or_at, get_or-take, length-append, length-take, take-map, take-take}
-use Rattle.std.proofs.lemmas.List.Elements.{filter_passes}
+use Rattle.std.proofs.lemmas.List.Elements.{All-contains, filter_passes}
+use Rattle.std.proofs.lemmas.List.Recursion.{and_at}
+use Rattle.std.proofs.lemmas.Map.Views.{Contains-from_any}
 use Rattle.cnf_core.specs.declared.literal.SatLit.{SatLit}
 use Rattle.cnf_core.specs.Clauses.{clause_at, opposite, variable_of}
 use Rattle.cnf_core.specs.declared.effect.Effect.TheVariants.{Conflict}
@@ -21,7 +23,7 @@ use Rattle.learn_solver.specs.Analyses.{IsAsserting}
 use Rattle.learn_solver.specs.Starts.{IsBack, IsFitting}
 
 -- what stands before a place of the front
-pub before_front : (es : List Assigned) (n k : ℕ) → k ≤ n → before (take n es) k ≡ before es k
+before_front : (es : List Assigned) (n k : ℕ) → k ≤ n → before (take n es) k ≡ before es k
 before_front es n k low = ap (take k) (sym (take-map (λ (e : Assigned). e.literal) n es)) ∙ take-take k n (literals es) low
 
 -- what passes a test is kept by a filter
@@ -129,23 +131,14 @@ covered_grown before after old new id there rewatched grown (inr rooted) =
 
 -- ---- a learned clause is attached after going back
 
--- all literals of a conflict are false
-conflict_at : (made clause : List SatLit) (l : SatLit) → list_all (is_false made) clause ≡ true → is_true clause l ≡ true → is_false made l ≡ true
-conflict_at made [] l all e = absurd (false≢true e)
-conflict_at made (m ∷ clause) l all e =
-    let parts = and_parts (is_false made m) (list_all (is_false made) clause) all in
-    elim (or_cases (is_same l m) (is_true clause l) e) [
-      | inl here ↦ ap (is_false made) (same_literal l m here) ∙ parts.0
-      | inr following ↦ conflict_at made clause l parts.1 following
-    ]
-
 -- the literal that became false last isn't false any more
 pub freed : (old back : Trailing) (level : ℕ) (clause : List SatLit) → IsTrail old → IsBack old back level → IsAsserting old clause level → 0 < old.level → effect_of (literals back.entries) clause ≡ Conflict → ⊥
 freed old back level clause trail is asserting above conflict =
     let u = asserting.last above in
     let e = entry_at old.entries u.place in
     let l = opposite e.literal in
-    let falsity = conflict_at (literals back.entries) clause l (conflict_says (literals back.entries) clause conflict) u.there in
+    let all = conflict_says (literals back.entries) clause conflict in
+    let falsity = All-contains (λ m. is_false (literals back.entries) m ≡ true) clause l (λ k d within. and_at (list_all (is_false (literals back.entries))) (is_false (literals back.entries)) refl (λ _ _. refl) clause k d within all) (Contains-from_any same_literal l clause u.there) in
     let j = place_of_true back.entries (opposite l) falsity in
     let same = front_at old back level is j.0 j.1 in
     let inside = front_within old back level is j.0 j.1 in
@@ -195,13 +188,15 @@ gone w after clause old back new level fitting size is rewatched fits present so
 -- ---- a search begins anew
 
 -- what is justified stays so after going back
+pub justified_back : (clauses : List (List SatLit)) (old back : Trailing) (level : ℕ) → IsBack old back level → (k : ℕ) → k < length back.entries → IsJustified clauses (before old.entries k) (entry_at old.entries k).literal (entry_at old.entries k).reason → IsJustified clauses (before back.entries k) (entry_at back.entries k).literal (entry_at back.entries k).reason
+justified_back clauses old back level is k within justified =
+    let made : before back.entries k ≡ before old.entries k = ap (λ es. before es k) is.front ∙ before_front old.entries (length back.entries) k (omega (arith, within)) in
+    let e = entry_at old.entries k in
+    subst (λ (x : Assigned). IsJustified clauses (before back.entries k) x.literal x.reason) (sym (front_at old back level is k within)) (subst (λ m. IsJustified clauses m e.literal e.reason) (sym made) justified)
+
 back_sound : (clauses : List (List SatLit)) (old back : Trailing) (level : ℕ) → IsBack old back level → IsSound clauses old → IsSound clauses back
 back_sound clauses old back level is sound = record {
-  justified = λ k within.
-      let inside = front_within old back level is k within in
-      let made : before back.entries k ≡ before old.entries k = ap (λ es. before es k) is.front ∙ before_front old.entries (length back.entries) k (omega (arith, within)) in
-      let e = entry_at old.entries k in
-      subst (λ (x : Assigned). IsJustified clauses (before back.entries k) x.literal x.reason) (sym (front_at old back level is k within)) (subst (λ m. IsJustified clauses m e.literal e.reason) (sym made) (sound.justified k inside));
+  justified = λ k within. justified_back clauses old back level is k within (sound.justified k (front_within old back level is k within));
 }
 
 pub fitting_back : (w : Watching) (old back : Trailing) (level : ℕ) → IsFitting w old → IsBack old back level → level < old.level → IsFitting w back

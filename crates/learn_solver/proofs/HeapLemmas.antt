@@ -126,13 +126,13 @@ same_marks held later places now size each =
     let low : v < length places = omega (arith, within, as_many_held later now, size) in
     held_at later now v 0 (omega (arith, low, size)) ∙ (each v low ∙ sym (held_at held places v 0 low)))
 
--- exchanges among the held ones leave them held
-pub held_exchanged : (count held : ℕ) (numbers places : List ℕ) (one other : ℕ) → AreInverse count numbers places → one < count → other < count → one < held → other < held → are_held held (exchanged numbers places one other) ≡ are_held held places
-held_exchanged count held numbers places one other is low lower first second =
+-- what is held stays so where both places are held ones, or neither is
+pub held_exchanged : (count held : ℕ) (numbers places : List ℕ) (one other : ℕ) → AreInverse count numbers places → one < count → other < count → nat_lt one held ≡ nat_lt other held → are_held held (exchanged numbers places one other) ≡ are_held held places
+held_exchanged count held numbers places one other is low lower same =
     same_marks held held places (exchanged numbers places one other) (as_many_exchanged numbers places one other) (λ v within.
     elim (moved count numbers places one other v 0 is low lower (omega (arith, within, is.as_many_places))) [
-      | inl at ↦ lt-ltb _ held (omega (arith, at.1, second)) ∙ sym (lt-ltb _ held (omega (arith, at.0, first)))
-      | inr (inl at) ↦ lt-ltb _ held (omega (arith, at.1, first)) ∙ sym (lt-ltb _ held (omega (arith, at.0, second)))
+      | inl at ↦ ap (λ p. nat_lt p held) at.1 ∙ (sym same ∙ ap (λ p. nat_lt p held) (sym at.0))
+      | inr (inl at) ↦ ap (λ p. nat_lt p held) at.1 ∙ (same ∙ ap (λ p. nat_lt p held) (sym at.0))
       | inr (inr at) ↦ ap (λ p. nat_lt p held) at.2
     ])
 
@@ -146,56 +146,44 @@ set_marks held later v mark places now size there own others =
       | inr apart ↦ held_at later now u 0 (omega (arith, low, size)) ∙ (others u low apart ∙ sym (get_or-set_other (are_held held places) v u mark false apart ∙ held_at held places u 0 low))
     ])
 
--- a number that stands after the held ones is exchanged with the first of these, and held
-pub admitted : (count held : ℕ) (numbers places : List ℕ) (place v : ℕ) → AreInverse count numbers places → v < count → place ≡ slice_index_or places v 0 → held ≤ place → are_held (held + 1) (exchanged numbers places place held) ≡ slice_set (are_held held places) v true
-admitted count held numbers places place v is known place_is late =
-    let within : place < count = omega (arith, place_is, is.within v 0 (omega (arith, known, is.as_many_places))) in
-    set_marks held (held + 1) v true places (exchanged numbers places place held) (as_many_exchanged numbers places place held) (omega (arith, known, is.as_many_places)) own others
-  where
-    own : nat_lt (slice_index_or (exchanged numbers places place held) v 0) (held + 1) ≡ true
-    own = elim (moved count numbers places place held v 0 is (omega (arith, place_is, is.within v 0 (omega (arith, known, is.as_many_places)))) (omega (arith, late, place_is, is.within v 0 (omega (arith, known, is.as_many_places)))) known) [
-      | inl at ↦ lt-ltb _ (held + 1) (omega (arith, at.1))
-      | inr (inl at) ↦ lt-ltb _ (held + 1) (omega (arith, at.0, at.1, place_is))
-      | inr (inr at) ↦ absurd (at.0 (sym place_is))
-    ]
+-- a number stands at the place with which its own was exchanged
+moved_there : (count : ℕ) (numbers places : List ℕ) (place other v : ℕ) → AreInverse count numbers places → place < count → other < count → v < count → place ≡ slice_index_or places v 0 → slice_index_or (exchanged numbers places place other) v 0 ≡ other
+moved_there count numbers places place other v is low lower known place_is = elim (moved count numbers places place other v 0 is low lower known) [
+  | inl at ↦ at.1
+  | inr (inl at) ↦ omega (arith, at.0, at.1, place_is)
+  | inr (inr at) ↦ absurd (at.0 (sym place_is))
+]
 
-    others : (u : ℕ) → u < length places → u ≢ v → nat_lt (slice_index_or (exchanged numbers places place held) u 0) (held + 1) ≡ nat_lt (slice_index_or places u 0) held
-    others u low apart = elim (moved count numbers places place held u 0 is (omega (arith, place_is, is.within v 0 (omega (arith, known, is.as_many_places)))) (omega (arith, late, place_is, is.within v 0 (omega (arith, known, is.as_many_places)))) (omega (arith, low, is.as_many_places))) [
-      | inl at ↦ absurd (apart (sym (is.back u 0 0 (omega (arith, low, is.as_many_places))) ∙ (ap (λ p. slice_index_or numbers p 0) (at.0 ∙ place_is) ∙ is.back v 0 0 known)))
-      | inr (inl at) ↦ elim (cases_eq place held) [
-        | inl same ↦ absurd (apart (sym (is.back u 0 0 (omega (arith, low, is.as_many_places))) ∙ (ap (λ p. slice_index_or numbers p 0) (at.0 ∙ (sym same ∙ place_is)) ∙ is.back v 0 0 known)))
-        | inr more ↦ le-ltb _ (held + 1) (omega (arith, at.1, late, more)) ∙ sym (le-ltb _ held (omega (arith, at.0)))
-      ]
-      | inr (inr at) ↦ elim (cases_lt (slice_index_or places u 0) held) [
-        | inl front ↦ lt-ltb _ (held + 1) (omega (arith, at.2, front)) ∙ sym (lt-ltb _ held front)
-        | inr rest ↦ le-ltb _ (held + 1) (omega (arith, at.2, rest, at.1)) ∙ sym (le-ltb _ held rest)
-      ]
-    ]
+-- whether another number is held doesn't change with the one that stands right after the held ones
+others_held : (count held : ℕ) (numbers places : List ℕ) (v : ℕ) → AreInverse count numbers places → v < count → slice_index_or places v 0 ≡ held → (u : ℕ) → u < length places → u ≢ v → nat_lt (slice_index_or places u 0) (held + 1) ≡ nat_lt (slice_index_or places u 0) held
+others_held count held numbers places v is known there u low other = elim (cases_lt (slice_index_or places u 0) held) [
+  | inl front ↦ lt-ltb _ (held + 1) (omega (arith, front)) ∙ sym (lt-ltb _ held front)
+  | inr rest ↦ le-ltb _ (held + 1) (omega (arith, rest, there, apart)) ∙ sym (le-ltb _ held rest)
+]
+  where
+    apart : slice_index_or places u 0 ≢ slice_index_or places v 0
+    apart same = other (sym (is.back u 0 0 (omega (arith, low, is.as_many_places))) ∙ (ap (λ p. slice_index_or numbers p 0) same ∙ is.back v 0 0 known))
+
+-- a number that stands after the held ones is exchanged with the first of these, and held
+pub admitted : (count held : ℕ) (numbers places now moved_now : List ℕ) (place v : ℕ) → AreInverse count numbers places → moved_now ≡ exchanged numbers places place held → AreInverse (length numbers) now moved_now → v < count → place ≡ slice_index_or places v 0 → held ≤ place → are_held (held + 1) moved_now ≡ slice_set (are_held held places) v true
+admitted count held numbers places now moved_now place v is moved_is inverse known place_is late =
+    let new = subst (λ n. AreInverse n now moved_now) is.as_many inverse in
+    let within : place < count = omega (arith, place_is, is.within v 0 (omega (arith, known, is.as_many_places))) in
+    let low : held < count = omega (arith, late, within) in
+    let there = ap (λ ps. slice_index_or ps v 0) moved_is ∙ moved_there count numbers places place held v is within low known place_is in
+    let kept = ap (are_held held) moved_is ∙ held_exchanged count held numbers places place held is within low (le-ltb place held late ∙ sym (le-ltb held held (omega arith))) in
+    set_marks held (held + 1) v true moved_now moved_now refl (omega (arith, known, new.as_many_places)) (lt-ltb _ (held + 1) (omega (arith, there))) (others_held count held now moved_now v new known there)
+    ∙ ap (λ marks. slice_set marks v true) kept
 
 -- a held number is exchanged with the last held one, and taken out
-pub dismissed : (count held last : ℕ) (numbers places : List ℕ) (place v : ℕ) → AreInverse count numbers places → held ≤ count → v < count → place ≡ slice_index_or places v 0 → place < held → held ≡ last + 1 → are_held last (exchanged numbers places place last) ≡ slice_set (are_held held places) v false
-dismissed count held last numbers places place v is most known place_is low one_less =
-    set_marks held last v false places (exchanged numbers places place last) (as_many_exchanged numbers places place last) (omega (arith, known, is.as_many_places)) own others
-  where
-    own : nat_lt (slice_index_or (exchanged numbers places place last) v 0) last ≡ false
-    own = elim (moved count numbers places place last v 0 is (omega (arith, low, most)) (omega (arith, one_less, most)) known) [
-      | inl at ↦ le-ltb _ last (omega (arith, at.1))
-      | inr (inl at) ↦ le-ltb _ last (omega (arith, at.0, at.1, place_is))
-      | inr (inr at) ↦ absurd (at.0 (sym place_is))
-    ]
-
-    others : (u : ℕ) → u < length places → u ≢ v → nat_lt (slice_index_or (exchanged numbers places place last) u 0) last ≡ nat_lt (slice_index_or places u 0) held
-    others u there apart = elim (moved count numbers places place last u 0 is (omega (arith, low, most)) (omega (arith, one_less, most)) (omega (arith, there, is.as_many_places))) [
-      | inl at ↦ absurd (apart (sym (is.back u 0 0 (omega (arith, there, is.as_many_places))) ∙ (ap (λ p. slice_index_or numbers p 0) (at.0 ∙ place_is) ∙ is.back v 0 0 known)))
-      | inr (inl at) ↦ elim (cases_eq place last) [
-        | inl same ↦ absurd (apart (sym (is.back u 0 0 (omega (arith, there, is.as_many_places))) ∙ (ap (λ p. slice_index_or numbers p 0) (at.0 ∙ (sym same ∙ place_is)) ∙ is.back v 0 0 known)))
-        | inr less ↦ lt-ltb _ last (omega (arith, at.1, low, one_less, less)) ∙ sym (lt-ltb _ held (omega (arith, at.0, one_less)))
-      ]
-      | inr (inr at) ↦ elim (cases_lt (slice_index_or places u 0) held) [
-        | inl front ↦ lt-ltb _ last (omega (arith, at.2, front, at.1, one_less)) ∙ sym (lt-ltb _ held front)
-        | inr rest ↦ le-ltb _ last (omega (arith, at.2, rest, one_less)) ∙ sym (le-ltb _ held rest)
-      ]
-    ]
+pub dismissed : (count last : ℕ) (numbers places now moved_now : List ℕ) (place v : ℕ) → AreInverse count numbers places → moved_now ≡ exchanged numbers places place last → AreInverse (length numbers) now moved_now → last < count → v < count → place ≡ slice_index_or places v 0 → place < last + 1 → are_held last moved_now ≡ slice_set (are_held (last + 1) places) v false
+dismissed count last numbers places now moved_now place v is moved_is inverse low known place_is front =
+    let new = subst (λ n. AreInverse n now moved_now) is.as_many inverse in
+    let within : place < count = omega (arith, front, low) in
+    let there = ap (λ ps. slice_index_or ps v 0) moved_is ∙ moved_there count numbers places place last v is within low known place_is in
+    let kept = ap (are_held (last + 1)) moved_is ∙ held_exchanged count (last + 1) numbers places place last is within low (lt-ltb place (last + 1) front ∙ sym (lt-ltb last (last + 1) (omega arith))) in
+    set_marks (last + 1) last v false moved_now moved_now refl (omega (arith, known, new.as_many_places)) (le-ltb _ last (omega (arith, there))) (λ u inside other. sym (others_held count last now moved_now v new known there u inside other))
+    ∙ ap (λ marks. slice_set marks v false) kept
 
 -- none is held
 pub none_held : (held : ℕ) (places : List ℕ) (count : ℕ) → held ≡ 0 → length places ≡ count → are_held held places ≡ replicate count false
@@ -217,7 +205,7 @@ lifting_on count first places numbers now later moved_now place above is less mo
   inverse = subst (λ n. AreInverse n later moved_now) is.inverse.as_many inverse;
   low = omega (arith, is.low, less);
   known = is.known;
-  held = λ held late. ap (are_held held) moved_is ∙ (held_exchanged count held numbers now place above is.inverse (omega (arith, is.low, is.known)) (omega (arith, is.low, is.known, less)) (omega (arith, is.low, late)) (omega (arith, is.low, late, less)) ∙ is.held held late);
+  held = λ held late. ap (are_held held) moved_is ∙ (held_exchanged count held numbers now place above is.inverse (omega (arith, is.low, is.known)) (omega (arith, is.low, is.known, less)) (lt-ltb place held (omega (arith, is.low, late)) ∙ sym (lt-ltb above held (omega (arith, is.low, late, less)))) ∙ is.held held late);
 }
 
 -- The first number is moved back among the held ones, which stay so.
@@ -229,7 +217,7 @@ pub record IsSinking (count held : ℕ) (places : List ℕ) (numbers now : List 
 pub sinking_on : (count held : ℕ) (places numbers now later moved_now : List ℕ) (place below : ℕ) → IsSinking count held places numbers now → held ≤ count → place < below → below < held → moved_now ≡ exchanged numbers now place below → AreInverse (length numbers) later moved_now → IsSinking count held places later moved_now
 sinking_on count held places numbers now later moved_now place below is most more there moved_is inverse = record {
   inverse = subst (λ n. AreInverse n later moved_now) is.inverse.as_many inverse;
-  held_are = ap (are_held held) moved_is ∙ (held_exchanged count held numbers now place below is.inverse (omega (arith, more, there, most)) (omega (arith, there, most)) (omega (arith, more, there)) there ∙ is.held_are);
+  held_are = ap (are_held held) moved_is ∙ (held_exchanged count held numbers now place below is.inverse (omega (arith, more, there, most)) (omega (arith, there, most)) (lt-ltb place held (omega (arith, more, there)) ∙ sym (lt-ltb below held there)) ∙ is.held_are);
 }
 
 -- one number more

@@ -1,20 +1,21 @@
 -- The marked literals before a place, and the clause of their opposites.
-use Rattle.std.proofs.Common.{◌≡◌, ℕ, zero, suc, ◌+◌, ◌<◌, cond, Bool, true, false, List, [], ◌∷◌, ◌++◌, length, map, inl, inr, refl, sym, ◌∙◌, ap, arith}
-use Rattle.std.proofs.lemmas.Bool.{cases_Bool, false≢true, or_cases, or_left, or_right}
+use Rattle.std.proofs.Common.{◌≡◌, ℕ, zero, suc, ◌+◌, ◌<◌, ◌&&◌, cond, Bool, true, false, List, [], ◌∷◌, ◌++◌, length, map, slice_index_or, inl, inr, refl, sym, ◌∙◌, ap, arith}
+use Rattle.std.proofs.lemmas.Bool.{and_from, and_parts, or_cases, or_left, or_right}
 use Rattle.std.proofs.lemmas.List.{append-nil, get_or-map, length-map, map-append}
 use Rattle.std.proofs.lemmas.List.Elements.{filter_more}
+use Rattle.std.proofs.lemmas.List.Folds.{map_fixed}
+use Rattle.std.proofs.lemmas.Map.Views.{any-filter_same}
+use Rattle.std.proofs.lemmas.Simd.{map-map}
 use Rattle.circuits.specs.Literals.{bit}
 use Rattle.cnf_core.specs.declared.literal.SatLit.{SatLit}
 use Rattle.cnf_core.specs.Clauses.{opposite, variable_of}
 use Rattle.cnf_core.specs.Derivations.{is_same, is_true}
 use Rattle.trail_core.specs.declared.assigned.Assigned.{Assigned}
 use Rattle.trail_core.specs.Trails.{entry_at, literals, nothing}
+use Rattle.watch_lists.specs.Propagations.{before}
 use Rattle.learn_solver.specs.Analyses.{is_marked, kept_literals}
 use Rattle.watch_lists.proofs.EffectLemmas.{same_itself, same_literal}
-use Rattle.learn_solver.proofs.PlaceLemmas.{opposite_twice}
-
-abbrev pub no_literal : SatLit
-no_literal = record { 0 = 0 }
+use Rattle.learn_solver.proofs.PlaceLemmas.{no_literal, opposite_twice, stands, true_before}
 
 -- one literal further
 kept_more : (es : List Assigned) (marked : List Bool) (p : ℕ) → p < length es → kept_literals es marked (p + 1) ≡ kept_literals es marked p ++ cond (is_marked marked (entry_at es p)) ((entry_at es p).literal ∷ []) []
@@ -41,37 +42,20 @@ pub record IsKeptAt (es : List Assigned) (marked : List Bool) (p : ℕ) (l : Sat
   pub marked_there : is_marked marked (entry_at es at) ≡ true
   pub is : (entry_at es at).literal ≡ l
 
+-- the marked ones are those that stand there and are marked
+kept_true : (es : List Assigned) (marked : List Bool) (p : ℕ) (l : SatLit) → is_true (kept_literals es marked p) l ≡ (bit marked (variable_of l) && is_true (before es p) l)
+kept_true es marked p l =
+    any-filter_same (is_same l) (λ m. bit marked (variable_of m)) (bit marked (variable_of l)) (λ m same. ap (λ (x : SatLit). bit marked (variable_of x)) (sym (same_literal l m same))) (before es p)
+
 pub kept_at : (es : List Assigned) (marked : List Bool) (p : ℕ) (l : SatLit) → is_true (kept_literals es marked p) l ≡ true → IsKeptAt es marked p l
-kept_at [] marked zero l e = absurd (false≢true e)
-kept_at [] marked (suc p) l e = absurd (false≢true e)
-kept_at (x ∷ es) marked zero l e = absurd (false≢true e)
-kept_at (x ∷ es) marked (suc p) l e =
-    elim (cases_Bool (is_marked marked x)) [
-      | inl found_marked ↦
-          let found = sym (ap (λ b. is_true (cond b (x.literal ∷ kept_literals es marked p) (kept_literals es marked p)) l) found_marked) ∙ e in
-          elim (or_cases (is_same l x.literal) (is_true (kept_literals es marked p) l) found) [
-            | inl here ↦ record { at = 0; early = omega arith; within = omega arith; marked_there = found_marked; is = sym (same_literal l x.literal here) }
-            | inr after ↦ later (kept_at es marked p l after)
-          ]
-      | inr found_free ↦ later (kept_at es marked p l (sym (ap (λ b. is_true (cond b (x.literal ∷ kept_literals es marked p) (kept_literals es marked p)) l) found_free) ∙ e))
-    ]
-  where
-    later : IsKeptAt es marked p l → IsKeptAt (x ∷ es) marked (suc p) l
-    later k = record { at = suc k.at; early = omega (arith, k.early); within = omega (arith, k.within); marked_there = k.marked_there; is = k.is }
+kept_at es marked p l e =
+    let parts = and_parts (bit marked (variable_of l)) (is_true (before es p) l) (sym (kept_true es marked p l) ∙ e) in
+    let s = stands es p l parts.1 in
+    record { at = s.at; early = s.early; within = s.within; marked_there = ap (λ (x : SatLit). bit marked (variable_of x)) s.is ∙ parts.0; is = s.is }
 
 pub kept_there : (es : List Assigned) (marked : List Bool) (p j : ℕ) → j < p → j < length es → is_marked marked (entry_at es j) ≡ true → is_true (kept_literals es marked p) (entry_at es j).literal ≡ true
-kept_there [] marked p j early within m = absurd (omega (arith, within))
-kept_there (x ∷ es) marked zero j early within m = absurd (omega (arith, early))
-kept_there (x ∷ es) marked (suc p) zero early within m =
-    ap (λ b. is_true (cond b (x.literal ∷ kept_literals es marked p) (kept_literals es marked p)) x.literal) m
-    ∙ or_left (is_same x.literal x.literal) (is_true (kept_literals es marked p) x.literal) (same_itself x.literal)
-kept_there (x ∷ es) marked (suc p) (suc j) early within m =
-    let l = (entry_at es j).literal in
-    let rest = kept_there es marked p j (omega (arith, early)) (omega (arith, within)) m in
-    elim (cases_Bool (is_marked marked x)) [
-      | inl found_marked ↦ ap (λ b. is_true (cond b (x.literal ∷ kept_literals es marked p) (kept_literals es marked p)) l) found_marked ∙ or_right (is_same l x.literal) (is_true (kept_literals es marked p) l) rest
-      | inr found_free ↦ ap (λ b. is_true (cond b (x.literal ∷ kept_literals es marked p) (kept_literals es marked p)) l) found_free ∙ rest
-    ]
+kept_there es marked p j early within m =
+    kept_true es marked p (entry_at es j).literal ∙ and_from (is_marked marked (entry_at es j)) (is_true (before es p) (entry_at es j).literal) m (true_before es p j early within)
 
 -- the opposites of literals
 pub opposite_there : (ls : List SatLit) (l : SatLit) → is_true ls l ≡ true → is_true (map opposite ls) (opposite l) ≡ true
@@ -83,8 +67,7 @@ opposite_there (m ∷ ls) l e =
     ]
 
 pub opposites_twice : (ls : List SatLit) → map opposite (map opposite ls) ≡ ls
-opposites_twice [] = refl
-opposites_twice (l ∷ ls) = ap (λ m. m ∷ map opposite (map opposite ls)) (opposite_twice l) ∙ ap (λ ms. l ∷ ms) (opposites_twice ls)
+opposites_twice ls = map-map opposite opposite ls ∙ map_fixed (λ l. opposite (opposite l)) ls (λ k d _. opposite_twice (slice_index_or ls k d))
 
 -- a literal of the learned clause is the opposite of a marked one
 pub learned_at : (es : List Assigned) (marked : List Bool) (p : ℕ) (l : SatLit) → is_true (map opposite (kept_literals es marked p)) l ≡ true → IsKeptAt es marked p (opposite l)

@@ -1,7 +1,7 @@
 -- What is learned at the end of an analysis.
 use Rattle.std.proofs.Common.{◌≡◌, ◌≢◌, ℕ, zero, suc, ◌/◌, ◌<◌, ◌≤◌, ◌==◌, ◌||◌, cond, Bool, true, false, List, [], ◌∷◌, length, map, reverse, All, None, slice_index_or, inl, inr, refl, sym, ◌∙◌, ap, subst, arith}
 use Rattle.std.specs.List.{list_any, list_all}
-use Rattle.std.proofs.lemmas.Bool.{cases_eq, cases_Bool, eq-eqb, eqb-true, false≢true, or_cases, or_from, or_left, or_right}
+use Rattle.std.proofs.lemmas.Bool.{cases_eq, cases_Bool, cases_lt, eq-eqb, eqb-true, false≢true, false_from_ne_true, or_cases, or_from, or_left, or_right}
 use Rattle.std.proofs.lemmas.Bool.Decides.{eqb_tells, leb_tells}
 use Rattle.std.proofs.lemmas.List.Folds.{list_any_at}
 use Rattle.std.proofs.lemmas.List.Recursion.{and_at, and_from_places}
@@ -14,9 +14,9 @@ use Rattle.trail_core.specs.Trails.{IsTrail, Trailing, entry_at}
 use Rattle.watch_lists.specs.Propagations.{IsJustified, IsSound, before}
 use Rattle.learn_solver.specs.Analyses.{IsBackLevel, IsLearnedAs, IsLeft, IsReduced, has_all, here_in, is_marked, kept_here, kept_literals}
 use Rattle.watch_lists.proofs.EffectLemmas.{neither_two, not_neither, same_itself}
-use Rattle.learn_solver.proofs.KeptLemmas.{kept_at, kept_there, learned_at, no_literal, opposite_there, opposites_twice}
+use Rattle.learn_solver.proofs.KeptLemmas.{kept_at, kept_there, learned_at, opposite_there, opposites_twice}
 use Rattle.watch_lists.proofs.GrowLemmas.{low_level}
-use Rattle.learn_solver.proofs.PlaceLemmas.{IsHere, ascend, counted_here, decision_level, decision_raises, found_here, last_decision, only_here, opposite_twice, same_place, stands, true_before, variable_of-opposite}
+use Rattle.learn_solver.proofs.PlaceLemmas.{IsHere, ascend, counted_here, decision_level, decision_raises, found_here, last_decision, no_literal, only_here, opposite_twice, same_place, stands, true_before, variable_of-opposite}
 
 -- all marked literals that are left, and no others, are true where the clause is negated
 kept_left : (es : List Assigned) (marked : List Bool) (p : ℕ) → IsLeft es marked 0 p (kept_literals es marked p)
@@ -49,10 +49,7 @@ once (x ∷ es) distinct marked (suc p) =
       | inl m ↦
           let tail = map opposite (kept_literals es marked p) in
           ap (λ b. repeats_variable (map opposite (cond b (x.literal ∷ kept_literals es marked p) (kept_literals es marked p)))) m
-          ∙ or_from (list_any (λ other. variable_of other == variable_of (opposite x.literal)) tail) (repeats_variable tail) (elim (cases_Bool (list_any (λ other. variable_of other == variable_of (opposite x.literal)) tail)) [
-            | inl found ↦ absurd (not_again found)
-            | inr never ↦ never
-          ]) rest
+          ∙ or_from (list_any (λ other. variable_of other == variable_of (opposite x.literal)) tail) (repeats_variable tail) (false_from_ne_true (list_any (λ other. variable_of other == variable_of (opposite x.literal)) tail) not_again) rest
       | inr f ↦ ap (λ b. repeats_variable (map opposite (cond b (x.literal ∷ kept_literals es marked p) (kept_literals es marked p)))) f ∙ rest
     ]
   where
@@ -106,13 +103,10 @@ fresh_above clauses t marked p here steps is above id d there all =
       | inl (found, after) ↦ after
       | inr (found, ahead) ↦ absurd (omega (arith, decision_raises t is.trail u.at s.at ahead s.within s.decision, u.level_there, s.level_there))
     ] in
-    let not_true : is_true (before es s.at) one ≡ false = elim (cases_Bool (is_true (before es s.at) one)) [
-      | inl holds ↦
-          let j = stands es s.at one holds in
-          let same = same_place t is.trail j.at u.at j.within u.within (ap variable_of j.is ∙ variable_of-opposite (entry_at es u.at).literal) in
-          absurd (omega (arith, same, j.early, late))
-      | inr fails ↦ fails
-    ] in
+    let not_true : is_true (before es s.at) one ≡ false = false_from_ne_true (is_true (before es s.at) one) (λ holds.
+    let j = stands es s.at one holds in
+    let same = same_place t is.trail j.at u.at j.within u.within (ap variable_of j.is ∙ variable_of-opposite (entry_at es u.at).literal) in
+    omega (arith, same, j.early, late)) in
     not_neither (before es s.at) (slice_index_or clauses id d) one (and_from_places (list_all (λ y. is_false (before es s.at) y || is_same one y)) (λ y. is_false (before es s.at) y || is_same one y) refl (λ _ _. refl) (slice_index_or clauses id d) no_literal (each s.at u s.level_there s.within)) not_true (quiet id d there)
   where
     each : (s : ℕ) (u : IsHere t marked p) → (entry_at t.entries s).level ≡ t.level → s < length t.entries → (k : ℕ) → k < length (slice_index_or clauses id d) → (is_false (before t.entries s) (slice_index_or (slice_index_or clauses id d) k no_literal) || is_same (opposite (entry_at t.entries u.at).literal) (slice_index_or (slice_index_or clauses id d) k no_literal)) ≡ true
@@ -156,13 +150,10 @@ not_single clauses t marked p here level steps is back k within decision low =
     not_there : (j : ℕ) → j < length t.entries → (j < k → ⊥) → is_false (before t.entries k) (opposite (entry_at t.entries j).literal) ≡ false
     not_there j inside late =
         let l = (entry_at t.entries j).literal in
-        elim (cases_Bool (is_false (before t.entries k) (opposite l))) [
-          | inl holds ↦
-              let s = stands t.entries k (opposite (opposite l)) holds in
-              let same = same_place t is.trail s.at j s.within inside (ap variable_of (s.is ∙ opposite_twice l)) in
-              absurd (late (omega (arith, same, s.early)))
-          | inr fails ↦ fails
-        ]
+        false_from_ne_true (is_false (before t.entries k) (opposite l)) (λ holds.
+        let s = stands t.entries k (opposite (opposite l)) holds in
+        let same = same_place t is.trail s.at j s.within inside (ap variable_of (s.is ∙ opposite_twice l)) in
+        late (omega (arith, same, s.early)))
 
 pub learned : (clauses : List (List SatLit)) (t : Trailing) (marked : List Bool) (p here level : ℕ) (steps : List ℕ) → IsDone clauses t marked p here steps → IsBackLevel t marked p level → IsLearnedAs clauses t (map opposite (kept_literals t.entries marked p)) (reverse steps) level
 learned clauses t marked p here level steps is back =
@@ -175,24 +166,18 @@ learned clauses t marked p here level steps is back =
           let l = slice_index_or (map opposite kept) k d in
           let at = learned_at es marked p l (found_at (map opposite kept) k d within) in
           omega (arith, is.trail.known at.at at.within, ap variable_of at.is, variable_of-opposite l);
-      fresh = λ id d there. elim (cases_Bool (has_all (map opposite kept) (slice_index_or clauses id d))) [
-        | inr fails ↦ fails
-        | inl all ↦ elim (eqb_tells t.level 0) [
-          | inl (found, lowest) ↦ absurd (empty_has_none (slice_index_or clauses id d) (is.filled id d there) (ap (λ c. has_all c (slice_index_or clauses id d)) (sym (closing clauses t marked p here steps is lowest)) ∙ all))
-          | inr (found, above) ↦ absurd (fresh_above clauses t marked p here steps is (omega (arith, above)) id d there all)
-        ]
-      ];
+      fresh = λ id d there. false_from_ne_true (has_all (map opposite kept) (slice_index_or clauses id d)) (λ all. elim (cases_eq t.level 0) [
+        | inl lowest ↦ empty_has_none (slice_index_or clauses id d) (is.filled id d there) (ap (λ c. has_all c (slice_index_or clauses id d)) (sym (closing clauses t marked p here steps is lowest)) ∙ all)
+        | inr above ↦ fresh_above clauses t marked p here steps is (omega (arith, above)) id d there all
+      ]);
       closing = closing clauses t marked p here steps is;
-      low = low_back;
+      low = elim (cases_lt t.level level) [ inl above ↦ omega (arith, (back.reached (omega (arith, above))).below) | inr low ↦ low ];
       not_single = not_single clauses t marked p here level steps is back;
       asserting = record {
         last = λ above.
             let u = found_here t marked p (omega (arith, is.reduced.count, is.reduced.present above)) in
             record { place = u.at; within = u.within; level_there = u.level_there; there = opposite_there kept (entry_at es u.at).literal (kept_there es marked p u.at u.early u.within u.marked_there) };
-        lower = λ above. elim (cases_eq level 0) [
-          | inl none ↦ omega (arith, none, above)
-          | inr some ↦ let w = back.reached (omega (arith, some)) in omega (arith, w.below)
-        ];
+        lower = lower;
         reached = λ some.
             let w = back.reached some in
             let inside : w.at < length es = omega (arith, w.early, is.reduced.within) in
@@ -200,9 +185,8 @@ learned clauses t marked p here level steps is back =
       };
     }
   where
-    low_back : level ≤ t.level
-    low_back =
-        elim (cases_eq level 0) [
-          | inl none ↦ omega (arith, none)
-          | inr some ↦ let w = back.reached (omega (arith, some)) in omega (arith, w.below)
-        ]
+    lower : 0 < t.level → level < t.level
+    lower above = elim (cases_eq level 0) [
+      | inl none ↦ omega (arith, none, above)
+      | inr some ↦ omega (arith, (back.reached (omega (arith, some))).below)
+    ]

@@ -6,7 +6,6 @@ pub mod AnalysisLemmas
 pub mod ClearLemmas
 pub mod MinimizeLemmas
 pub mod LearnLemmas
-pub mod SearchLemmas
 pub mod SolverLemmas
 pub mod StepLemmas
 pub mod ModelLemmas

@@ -3,7 +3,8 @@ use Rattle.std.proofs.Common.{◌≡◌, ◌≢◌, ℕ, zero, suc, ◌+◌, ◌
 use Rattle.std.proofs.lemmas.Bool.{cases_eq, cases_Bool}
 use Rattle.std.proofs.lemmas.Bool.Decides.{leb_tells}
 use Rattle.std.proofs.lemmas.List.{get_or_default, get_or-set_same, get_or-set_other, get_or-take, length-take, length-set}
-use Rattle.std.proofs.lemmas.List.Sums.{sum_by-cons}
+use Rattle.std.proofs.lemmas.List.Elements.{All-from_get_or}
+use Rattle.std.proofs.lemmas.List.Sums.{get_or-le-sum_by, sum_by-cons, sum_by-le}
 use Rattle.circuits.specs.Literals.{bit}
 use Rattle.cnf_core.specs.declared.literal.SatLit.{SatLit}
 use Rattle.cnf_core.specs.Clauses.{variable_of}
@@ -21,7 +22,7 @@ pub record IsMarking (trail : Trailing) (old now : List Bool) (clause : List Sat
   pub few : here ≤ count
   pub counted : (place : ℕ) → AreBefore trail.entries place clause → here_in trail now place ≡ here_in trail old place + here
 
-abbrev one_if : Bool → ℕ
+abbrev pub one_if : Bool → ℕ
 one_if t = cond t 1 0
 
 -- one element more that passes
@@ -42,9 +43,7 @@ one_more_counted f g (x ∷ xs) (suc j) d within fails same =
 
 -- an element that passes is counted
 pub counts_one : {X : Type 0} (f : X → Bool) (xs : List X) (j : ℕ) (d : X) → j < length xs → f (slice_index_or xs j d) ≡ true → 0 < count_by f xs
-counts_one f [] j d within passes = absurd (omega (arith, within))
-counts_one f (x ∷ xs) zero d within passes = omega (arith, count_cons f x xs, ap (λ t. one_if t) passes)
-counts_one f (x ∷ xs) (suc j) d within passes = omega (arith, count_cons f x xs, counts_one f xs j d (omega (arith, within)) passes)
+counts_one f xs j d within passes = omega (arith, get_or-le-sum_by (λ x. one_if (f x)) xs j d within, ap (λ t. one_if t) passes)
 
 pub counts_two : {X : Type 0} (f : X → Bool) (xs : List X) (i j : ℕ) (d : X) → i < j → j < length xs → f (slice_index_or xs i d) ≡ true → f (slice_index_or xs j d) ≡ true → 1 < count_by f xs
 counts_two f [] i j d order within first second = absurd (omega (arith, within))
@@ -64,8 +63,8 @@ passes_somewhere f (x ∷ xs) d some =
     ]
 
 pub none_pass : {X : Type 0} (f : X → Bool) (xs : List X) (d : X) → ((k : ℕ) → k < length xs → f (slice_index_or xs k d) ≡ false) → count_by f xs ≡ 0
-none_pass f [] d none = refl
-none_pass f (x ∷ xs) d none = omega (arith, count_cons f x xs, ap (λ t. one_if t) (none 0 (omega arith)), none_pass f xs d (λ k h. none (suc k) (omega (arith, h))))
+none_pass f xs d none =
+    omega (arith, sum_by-le (λ x. one_if (f x)) 0 xs (All-from_get_or (λ x. one_if (f x) ≤ 0) xs d (λ k h. omega (arith, ap (λ t. one_if t) (none k h)))))
 
 -- a literal whose variable was marked before
 pub marking_old : (t : Trailing) (old now : List Bool) (clause : List SatLit) (k here : ℕ) (d : SatLit) → IsMarking t old now clause k here → k < length clause → bit now (variable_of (slice_index_or clause k d)) ≡ true → IsMarking t old now clause (k + 1) here
@@ -82,7 +81,7 @@ marking_old t old now clause k here d is within marked = record {
   counted = is.counted;
 }
 
-one_at_most : (t : Bool) → one_if t ≤ 1
+pub one_at_most : (t : Bool) → one_if t ≤ 1
 one_at_most true = omega arith
 one_at_most false = omega arith
 
@@ -111,10 +110,11 @@ counted_more t trail now v more place known fresh p present =
     ap g there ∙ (ap (λ b. b && ((entry_at es j).level == t.level)) (get_or-set_other now v (variable_of (entry_at es j).literal) true false other) ∙ sym (ap f there)) in
     one_more_counted f g (take place es) p.at nothing inside fails same ∙ ap (λ n. count_by f (take place es) + n) (ap (λ b. one_if b) passes ∙ sym (present p.at (record { within = p.within; there = p.there })))
 
-still : (now : List Bool) (v w : ℕ) → v < length now → bit now w ≡ true → bit (slice_set now v true) w ≡ true
-still now v w known was = elim (cases_eq w v) [
-  | inl same ↦ ap (bit (slice_set now v true)) same ∙ get_or-set_same now v true false known
-  | inr other ↦ get_or-set_other now v w true false other ∙ was
+-- what is marked stays so with one variable more, and so does what isn't with one less
+pub still : (now : List Bool) (v w : ℕ) (mark : Bool) → v < length now → bit now w ≡ mark → bit (slice_set now v mark) w ≡ mark
+still now v w mark known was = elim (cases_eq w v) [
+  | inl same ↦ ap (bit (slice_set now v mark)) same ∙ get_or-set_same now v mark false known
+  | inr other ↦ get_or-set_other now v w mark false other ∙ was
 ]
 
 -- a mark more, of a variable whose literal is on the trail
@@ -128,10 +128,10 @@ mark_on_trail es now v before there w was = elim (cases_eq w v) [
 pub marking_new : (t : Trailing) → IsTrail t → (old now : List Bool) (clause : List SatLit) (k here more v : ℕ) (d : SatLit) → IsMarking t old now clause k here → k < length clause → variable_of (slice_index_or clause k d) ≡ v → v < length now → bit now v ≡ false → AreBefore t.entries (length t.entries) clause → ((place : ℕ) → IsPlace t.entries v place → more ≡ cond ((entry_at t.entries place).level == t.level) 1 0) → IsMarking t old (slice_set now v true) clause (k + 1) (here + more)
 marking_new t trail old now clause k here more v d is within at_k known fresh places present = record {
   size = length-set now v true ∙ is.size;
-  stay = λ w was. still now v w known (is.stay w was);
+  stay = λ w was. still now v w true known (is.stay w was);
   marked = λ j e h. elim (cases_eq j k) [
     | inl same ↦ ap (λ n. bit (slice_set now v true) (variable_of (slice_index_or clause n e))) same ∙ (ap (λ (l : SatLit). bit (slice_set now v true) (variable_of l)) (get_or_default clause k e d within) ∙ (ap (bit (slice_set now v true)) at_k ∙ get_or-set_same now v true false known))
-    | inr other ↦ still now v (variable_of (slice_index_or clause j e)) known (is.marked j e (omega (arith, h, other)))
+    | inr other ↦ still now v (variable_of (slice_index_or clause j e)) true known (is.marked j e (omega (arith, h, other)))
   ];
   on_trail = λ before w was.
       let p = places k d within in

@@ -1,8 +1,7 @@
 -- Values that make the literals of a trail true meet clauses that leave nothing open.
-use Rattle.std.proofs.Common.{◌≡◌, ℕ, suc, ◌+◌, ◌-◌, ◌*◌, ◌/◌, ◌%◌, ◌<◌, cond, eqb, Bool, true, false, List, [], ◌∷◌, length, All, None, Some, slice_index_or, inl, inr, refl, sym, ◌∙◌, ap, subst, arith}
+use Rattle.std.proofs.Common.{◌≡◌, ℕ, suc, ◌<◌, cond, not, Bool, true, false, List, [], ◌∷◌, length, All, None, Some, slice_index_or, inl, inr, refl, sym, ◌∙◌, ap, subst, arith}
 use Rattle.std.specs.List.{list_any, list_all}
 use Rattle.std.proofs.lemmas.Bool.{and_from, cases_Bool, both_ways, or_parts, true_from_ne_false}
-use Rattle.std.proofs.lemmas.Bool.Decides.{eqb_tells}
 use Rattle.std.proofs.lemmas.List.{get_or_append_left, length-append}
 use Rattle.std.proofs.lemmas.List.Elements.{All-contains}
 use Rattle.circuits.specs.Literals.{bit, differ}
@@ -14,31 +13,9 @@ use Rattle.trail_core.specs.Trails.{Trailing, literals, value_in}
 use Rattle.watch_lists.specs.Propagations.{AreKnown, IsQuiet}
 use Rattle.learn_solver.specs.Searches.{AreValues, IsAssigned, IsSearching}
 use Rattle.learn_solver.specs.Solvers.{HaveVariables, IsModel, IsSolver, Solving, active, wanted}
+use Rattle.trail_core.proofs.TrailLemmas.{value_none}
 use Rattle.watch_lists.proofs.EffectLemmas.{conflict_from}
-use Rattle.learn_solver.proofs.PlaceLemmas.{opposite_twice}
-
--- a literal is that of its variable with its sign, and its opposite that with the other one
-plain_is : (l : SatLit) → is_negated l ≡ false → literal_of (variable_of l) true ≡ l
-plain_is l plain = ap (λ n. record { 0 = n }) (number l.0 plain)
-  where
-    number : (n : ℕ) → eqb (n % 2) 1 ≡ false → 2 * (n / 2) ≡ n
-    number n e = elim (eqb_tells (n % 2) 1) [ inl (odd, _) ↦ absurd (both_ways (eqb (n % 2) 1) e odd) | inr (even, ne) ↦ omega (arith, ne) ]
-
-negated_is : (l : SatLit) → is_negated l ≡ true → literal_of (variable_of l) true ≡ opposite l
-negated_is l negated = ap (λ n. record { 0 = n }) (number l.0 negated)
-  where
-    number : (n : ℕ) → eqb (n % 2) 1 ≡ true → 2 * (n / 2) ≡ 2 * (n / 2) + (1 - n % 2)
-    number n e = elim (eqb_tells (n % 2) 1) [ inl (odd, one) ↦ omega (arith, one) | inr (even, _) ↦ absurd (both_ways (eqb (n % 2) 1) even e) ]
-
-other_is : (l : SatLit) → is_negated l ≡ false → literal_of (variable_of l) false ≡ opposite l
-other_is l plain = ap (λ n. record { 0 = n }) (number l.0 plain)
-  where
-    number : (n : ℕ) → eqb (n % 2) 1 ≡ false → 2 * (n / 2) + 1 ≡ 2 * (n / 2) + (1 - n % 2)
-    number n e = elim (eqb_tells (n % 2) 1) [ inl (odd, _) ↦ absurd (both_ways (eqb (n % 2) 1) e odd) | inr (even, ne) ↦ omega (arith, ne) ]
-
--- a variable whose literals are both not true has no value
-no_value : (made : List SatLit) (m : SatLit) → is_true made m ≡ false → is_false made m ≡ false → value_in made m ≡ None
-no_value made m t f = ap (λ b. cond b (Some true) (cond (is_false made m) (Some false) None)) t ∙ ap (λ b. cond b (Some false) None) f
+use Rattle.cnf_core.proofs.LiteralLemmas.{itself, its_opposite, opposite_twice}
 
 -- a literal that the values make false is false on the trail
 false_on : (t : Trailing) (values : List Bool) → AreValues t values → (l : SatLit) → IsAssigned t (variable_of l) → variable_of l < t.variables → literal_bit values l ≡ false → is_false (literals t.entries) l ≡ true
@@ -49,13 +26,13 @@ false_on t values are l assigned known falsity =
     elim (cases_Bool (is_negated l)) [
       | inl negated ↦
           let held : bit values v ≡ true = by_negated (bit values v) (ap (differ (bit values v)) (sym negated) ∙ falsity) in
-          ap (is_true made) (sym (negated_is l negated)) ∙ (sym at ∙ held)
+          ap (is_true made) (sym (ap (literal_of v) (sym negated) ∙ its_opposite l)) ∙ (sym at ∙ held)
       | inr plain ↦
           let held : bit values v ≡ false = by_plain (bit values v) (ap (differ (bit values v)) (sym plain) ∙ falsity) in
-          let not_made : is_true made l ≡ false = ap (is_true made) (sym (plain_is l plain)) ∙ (sym at ∙ held) in
+          let not_made : is_true made l ≡ false = ap (is_true made) (sym (ap (λ (b : Bool). literal_of v (not b)) (sym plain) ∙ itself l)) ∙ (sym at ∙ held) in
           true_from_ne_false (is_false made l) (λ free.
-          let other = other_is l plain in
-          let none : value_in made (literal_of v false) ≡ None = ap (value_in made) other ∙ no_value made (opposite l) free (ap (is_true made) (opposite_twice l) ∙ not_made) in
+          let other : literal_of v false ≡ opposite l = ap (literal_of v) (sym plain) ∙ its_opposite l in
+          let none : value_in made (literal_of v false) ≡ None = ap (value_in made) other ∙ value_none made (opposite l) free (ap (is_true made) (opposite_twice l) ∙ not_made) in
           assigned none)
     ]
   where

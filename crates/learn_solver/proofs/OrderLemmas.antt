@@ -1,18 +1,16 @@
 -- The order in which variables are decided.
-use Rattle.std.proofs.Common.{◌≡◌, ℕ, ◌<◌, ◌≤◌, cond, Bool, true, false, List, length, slice_set, sum_by, ap, arith}
+use Rattle.std.proofs.Common.{◌≡◌, ℕ, ◌<◌, ◌≤◌, Bool, true, false, List, length, slice_set, sum_by, ap, arith}
 use Rattle.std.proofs.lemmas.List.Sums.{sum_by-set}
 use Rattle.circuits.specs.Literals.{bit}
 use Rattle.trail_core.specs.Trails.{Trailing}
 use Rattle.learn_solver.specs.declared.order.Order.{Order}
 use Rattle.learn_solver.specs.Orders.{IsOrder}
+use Rattle.learn_solver.proofs.MarkLemmas.{one_if}
 
 -- literals are noted from the end of a trail down
 pub record IsReleasing (trail : Trailing) (order : Order) (place : ℕ) : Type 0 where
   pub order_is : IsOrder trail.variables order
   pub within : place ≤ length trail.entries
-
-abbrev pub one_if : Bool → ℕ
-one_if mark = cond mark 1 0
 
 -- how many are held
 abbrev pub how_many : List Bool → ℕ

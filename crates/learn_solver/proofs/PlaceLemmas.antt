@@ -17,6 +17,10 @@ use Rattle.learn_solver.specs.Analyses.{AreBefore, HasPlace, here_in, is_marked}
 use Rattle.learn_solver.proofs.MarkLemmas.{apart, counts_one, counts_two, passes_somewhere}
 use Rattle.watch_lists.proofs.EffectLemmas.{conflict_says, same_itself, same_literal}
 pub use Rattle.cnf_core.proofs.LiteralLemmas.{opposite_twice, variable_of-opposite}
+pub use Rattle.trail_core.proofs.CutLemmas.{ascend}
+
+abbrev pub no_literal : SatLit
+no_literal = record { 0 = 0 }
 
 -- A literal stands before a place.
 pub record Stands (entries : List Assigned) (place : ℕ) (literal : SatLit) : Type 0 where
@@ -69,14 +73,6 @@ conflict_places es clause e k d within =
     let all = conflict_says (literals es) clause e in
     let here = and_at (list_all (is_false (literals es))) (is_false (literals es)) refl (λ _ _. refl) clause k d within all in
     place_of_false es (length es) (slice_index_or clause k d) (ap (λ made. is_false made (slice_index_or clause k d)) (before_whole es) ∙ here)
-
--- levels ascend
-pub ascend : (t : Trailing) → IsTrail t → (j k : ℕ) → j ≤ k → k < length t.entries → (entry_at t.entries j).level ≤ (entry_at t.entries k).level
-ascend t is j k order within =
-    let es = t.entries in
-    let fewer = sum_by-take-le (λ (x : Assigned). cond (is_none x.reason) 1 0) (take (k + 1) es) (j + 1) in
-    let front : take (j + 1) (take (k + 1) es) ≡ take (j + 1) es = take-take (j + 1) (k + 1) es (omega (arith, order)) in
-    omega (arith, is.levels j (omega (arith, order, within)), is.levels k within, fewer, ap decisions front)
 
 pub decision_counts : (es : List Assigned) (q : ℕ) → q < length es → (entry_at es q).reason ≡ None → decisions (take (q + 1) es) ≡ decisions (take q es) + 1
 decision_counts es q within none =

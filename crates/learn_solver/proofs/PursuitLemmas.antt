@@ -1,51 +1,57 @@
 -- A search that goes on from one part of the question to the next.
-use Rattle.std.proofs.Common.{◌<◌, List, All, sym, subst, ◌∙◌}
-use Rattle.cnf_core.specs.declared.literal.SatLit.{SatLit}
+use Rattle.std.proofs.Common.{◌≡◌, ◌<◌, All, Option, None, Some, Result, IfErr, sym, subst}
+use Rattle.std.specs.Result.{IsErrAnd}
+use Rattle.cnf_core.specs.declared.stop.Stop.{Stop}
 use Rattle.cnf_core.specs.Charges.{Charging}
-use Rattle.watch_lists.specs.Propagations.{IsSound}
 use Rattle.learn_solver.specs.declared.search.Search.{Search}
-use Rattle.learn_solver.specs.Orders.{IsOrder}
-use Rattle.learn_solver.specs.Searches.{CanTurn, HasTurned, IsRunning}
-use Rattle.learn_solver.specs.Solvers.{IsAsking, IsExtended, IsSolver, Solving}
-use Rattle.learn_solver.proofs.AdvanceLemmas.{IsUnderWay, extended_none, extended_twice}
-use Rattle.learn_solver.proofs.RunLemmas.{fitting_of}
-
--- from level 0 on
-pub running_again : (s : Solving) (old new : Search) → IsRunning s old.trail old.watches old.tools → HasTurned old new → IsRunning s new.trail new.watches new.tools
-running_again s old new is turned = record {
-  searching = record {
-    variables = turned.variables ∙ is.searching.variables;
-    unrefuted = is.searching.unrefuted;
-    sound = subst (λ (cs : List (List SatLit)). IsSound cs new.trail) (turned.clauses ∙ is.solver.stored) turned.fitting.sound;
-  };
-  solver = subst (IsSolver s.formula s.ids s.lines) (sym turned.clauses) is.solver;
-  fits = turned.fitting.fits;
-  present = turned.fitting.present;
-  covered = turned.fitting.covered;
-  tools_are = turned.tools s.formula s.ids is.tools_are;
-}
-
--- what is under way may go back
-pub can_turn : (s : Solving) (search : Search) → IsRunning s search.trail search.watches search.tools → CanTurn search
-can_turn s search is = record {
-  fitting = fitting_of s search.trail search.watches search.tools is;
-  order = subst (λ n. IsOrder n search.tools.order) (sym is.searching.variables) is.tools_are.order;
-}
+use Rattle.learn_solver.specs.declared.verdict.Finding.{Finding}
+use Rattle.learn_solver.specs.Searches.{CanGo, HasEnded, HasGone, HasTurned, IsRunning}
+use Rattle.learn_solver.specs.Solvers.{IsStopped, Solving}
+use Rattle.learn_solver.proofs.AdvanceLemmas.{extended_none, extended_twice, stopped_after}
+use Rattle.learn_solver.proofs.RunLemmas.{running_again}
+use Rattle.learn_solver.proofs.StepLemmas.{passed_on}
 
 -- the variables that are decided are those of the trail
 pub decided_known : (s : Solving) (search : Search) → IsRunning s search.trail search.watches search.tools → All (λ v. v < search.trail.variables) search.tools.occurring.items
 decided_known s search is = subst (λ n. All (λ v. v < n) search.tools.occurring.items) (sym is.searching.variables) is.tools_are.variables.known
 
-pub under_way_from : {O : Type 0} (s : Solving) (first : Charging O) (search : Search) → IsRunning s search.trail search.watches search.tools → IsAsking first s.lines → IsUnderWay s s first first search
-under_way_from {O} s first search running asking = record {
-  running = running;
-  extended = extended_none s first asking;
-  asking = asking;
+-- ---- a search that went on, without an answer so far
+
+pub gone_none : {O : Type 0} {s : Solving} {first : Charging O} {search : Search} → CanGo s first search → HasGone s s first first search None
+gone_none {O} {s} {first} {search} can = record { extended = extended_none s first can.asking; asking = can.asking; answer_is = can.running }
+
+pub gone_with : {O : Type 0} {one two : Solving} {first second : Charging O} {mid : Search} {answer back : Option Finding} → HasGone one two first second mid answer → answer ≡ back → HasGone one two first second mid back
+gone_with {O} {one} {two} {first} {second} {mid} {answer} {back} gone is = subst (HasGone one two first second mid) is gone
+
+pub gone_on : {O : Type 0} {one two three : Solving} {first second third : Charging O} {mid next : Search} {answer : Option Finding} → HasGone one two first second mid None → HasGone two three second third next answer → HasGone one three first third next answer
+gone_on {O} {one} {two} {three} {first} {second} {third} {mid} {next} {answer} so_far gone = record {
+  extended = extended_twice one two three first second third so_far.extended gone.extended;
+  asking = gone.asking;
+  answer_is = gone.answer_is;
 }
 
-pub under_way_on : {O : Type 0} (one two three : Solving) (first second third : Charging O) (search next : Search) → IsUnderWay one two first second search → IsExtended two three second third → IsAsking third three.lines → IsRunning three next.trail next.watches next.tools → IsUnderWay one three first third next
-under_way_on {O} one two three first second third search next is extended asking running = record {
-  running = running;
-  extended = extended_twice one two three first second third is.extended extended;
-  asking = asking;
+pub gone_turned : {O : Type 0} {one two : Solving} {first second : Charging O} {mid next : Search} → HasGone one two first second mid None → HasTurned mid next → HasGone one two first second next None
+gone_turned {O} {one} {two} {first} {second} {mid} {next} so_far turned = record {
+  extended = so_far.extended;
+  asking = so_far.asking;
+  answer_is = running_again two mid next so_far.answer_is turned;
 }
+
+pub can_go : {O : Type 0} {one two : Solving} {first second : Charging O} {mid : Search} → HasGone one two first second mid None → CanGo two second mid
+can_go {O} {one} {two} {first} {second} {mid} so_far = record { running = so_far.answer_is; asking = so_far.asking }
+
+-- ---- how it ends
+
+pub ended_with : {O : Type 0} {one two : Solving} {first second : Charging O} {mid : Search} {found : Finding} → HasGone one two first second mid (Some found) → HasEnded one two first second found
+ended_with {O} {one} {two} {first} {second} {mid} {found} gone = record { extended = gone.extended; asking = gone.asking; found_is = gone.answer_is }
+
+pub ended_on : {O : Type 0} {one two three : Solving} {first second third : Charging O} {mid : Search} {found : Finding} → HasGone one two first second mid None → HasEnded two three second third found → HasEnded one three first third found
+ended_on {O} {one} {two} {three} {first} {second} {third} {mid} {found} so_far ended = record {
+  extended = extended_twice one two three first second third so_far.extended ended.extended;
+  asking = ended.asking;
+  found_is = ended.found_is;
+}
+
+pub stopped_on : {O : Type 0} {one two : Solving} {first second : Charging O} {mid : Search} {T : Type 0} (three : Solving) (third : Charging O) (r : Result T Stop) (stop : Stop) → HasGone one two first second mid None → IsStopped two three second third stop → IsErrAnd r (λ e. e ≡ stop) → IfErr r (IsStopped one three first third)
+stopped_on {O} {one} {two} {first} {second} {mid} {T} three third r stop so_far stopped is =
+    passed_on r stop (IsStopped one three first third) is (stopped_after one two three first second third stop so_far.extended stopped)

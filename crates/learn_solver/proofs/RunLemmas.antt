@@ -1,5 +1,7 @@
 -- A search that is under way.
-use Rattle.std.proofs.Common.{◌≡◌, ℕ, ◌+◌, ◌<◌, false, List, [], ◌∷◌, ◌++◌, length, Option, None, Some, IfNone, inl, inr, refl, sym, ◌∙◌, ap, subst, arith}
+use Rattle.std.proofs.Common.{◌≡◌, ℕ, ◌+◌, ◌<◌, ◌≤◌, false, List, [], ◌∷◌, ◌++◌, length, Option, None, Some, IfNone, inl, inr, refl, sym, ◌∙◌, ap, subst, arith}
+use Rattle.std.proofs.lemmas.Bool.{both_ways, cases_lt}
+use Rattle.std.proofs.lemmas.List.Elements.{All-push}
 use Rattle.std.proofs.lemmas.List.{get_or_append_left, get_or_at, get_or_default, length-append}
 use Rattle.cnf_core.specs.declared.literal.SatLit.{SatLit}
 use Rattle.cnf_core.specs.declared.log.LogLine.{LogLine}
@@ -9,22 +11,28 @@ use Rattle.cnf_core.specs.Derivations.{clauses_of, effect_of, is_empty, is_true,
 use Rattle.trail_core.specs.declared.assigned.Assigned.{Assigned}
 use Rattle.trail_core.specs.Trails.{IsTrail, Trailing, entry_at, literals, nothing}
 use Rattle.trail_core.proofs.TrailLemmas.{true_at}
-use Rattle.watch_lists.specs.Propagations.{IsGrown, IsQuiet, IsSound}
+use Rattle.watch_lists.specs.Propagations.{AreKnown, IsGrown, IsJustified, IsQuiet, IsSound, before}
 use Rattle.watch_lists.specs.Watched.{AreQuiet, Fits, IsCovered, IsPresent, IsRewatched, Watching}
+use Rattle.watch_lists.proofs.AttachLemmas.{fits_grown}
 use Rattle.watch_lists.proofs.EffectLemmas.{neither_true}
 use Rattle.watch_lists.proofs.FitLemmas.{true_not_false}
+use Rattle.watch_lists.proofs.GrowLemmas.{sound_more}
+use Rattle.learn_solver.specs.declared.focus.Focus.{Focus}
+use Rattle.learn_solver.specs.declared.restarts.Restarts.{Restarts}
+use Rattle.learn_solver.specs.declared.search.Search.{Search}
 use Rattle.learn_solver.specs.declared.search.Tools.{Tools}
 use Rattle.learn_solver.specs.Orders.{IsOrder}
-use Rattle.learn_solver.specs.Searches.{IsDecided, IsLearning, IsLesson, IsRunning, IsSearching}
+use Rattle.learn_solver.specs.Searches.{CanReturn, CanTurn, HasReturned, HasTurned, IsDecided, IsLearning, IsLesson, IsRunning, IsSame, IsSearching}
 use Rattle.learn_solver.specs.Solvers.{HaveVariables, IsSolver, Solving, active, wanted}
-use Rattle.learn_solver.specs.Starts.{IsFitting, IsPropagated, IsSoundBack, StayTools}
-use Rattle.learn_solver.proofs.AdvanceLemmas.{decided, gone_back, unrefuted_more}
-use Rattle.learn_solver.proofs.GoneLemmas.{covered_grown}
-use Rattle.learn_solver.proofs.SolverLemmas.{active_more, solver_more}
+use Rattle.learn_solver.specs.Starts.{IsFitting, IsSoundBack, StayTools}
+use Rattle.learn_solver.proofs.AdvanceLemmas.{running_from, unrefuted_more}
+use Rattle.learn_solver.proofs.GoneLemmas.{covered_grown, front_at, front_within, justified_back, low_at}
+use Rattle.learn_solver.proofs.SolverLemmas.{active_more, line_known, solver_more}
 
 -- where the attached clauses are quiet, all are
-pub all_quiet : (watching : Watching) (t : Trailing) → IsTrail t → ((id : ℕ) → id < length watching.clauses → IsCovered watching t.entries id) → AreQuiet watching (literals t.entries) → IsQuiet watching.clauses (literals t.entries)
-all_quiet watching t trail covered quiet k d within =
+pub all_quiet_if : (watching : Watching) (t : Trailing) (r : Option ℕ) → IsTrail t → ((id : ℕ) → id < length watching.clauses → IsCovered watching t.entries id) → IfNone r (AreQuiet watching (literals t.entries)) → IfNone r (IsQuiet watching.clauses (literals t.entries))
+all_quiet_if watching t (Some x) trail covered quiet = tt
+all_quiet_if watching t None trail covered quiet = λ k d within.
     subst (λ c. effect_of (literals t.entries) c ≡ Neither) (get_or_default watching.clauses k [] d within) (elim (covered k within) [
       | inl attached ↦ quiet.quiet k within attached
       | inr rooted ↦
@@ -33,21 +41,13 @@ all_quiet watching t trail covered quiet k d within =
           neither_true (literals t.entries) (clause_at watching.clauses k) l holds (true_not_false t trail l holds) rooted.there
     ])
 
-pub all_quiet_if : (watching : Watching) (t : Trailing) (r : Option ℕ) → IsTrail t → ((id : ℕ) → id < length watching.clauses → IsCovered watching t.entries id) → IfNone r (AreQuiet watching (literals t.entries)) → IfNone r (IsQuiet watching.clauses (literals t.entries))
-all_quiet_if watching t None trail covered quiet = all_quiet watching t trail covered quiet
-all_quiet_if watching t (Some x) trail covered quiet = tt
-
--- a search that was propagated
-pub propagated : (before after : Watching) (old new : Trailing) → IsFitting before old → IsRewatched before after → Fits after new → IsPresent new → IsSound after.clauses new → IsGrown old new → IsPropagated before after old new
-propagated before after old new is rewatched fits present sound grown = record {
-  fitting = record {
-    fits = fits;
-    present = present;
-    sound = sound;
-    covered = λ id within. covered_grown before after old new id (omega (arith, within, ap length rewatched.clauses)) rewatched grown (is.covered id (omega (arith, within, ap length rewatched.clauses)));
-  };
-  clauses = rewatched.clauses;
-  grown = grown;
+-- what was propagated fits
+pub fitting_on : (before after : Watching) (old new : Trailing) → IsFitting before old → IsRewatched before after → Fits after new → IsPresent new → IsSound after.clauses new → IsGrown old new → IsFitting after new
+fitting_on before after old new is rewatched fits present sound grown = record {
+  fits = fits;
+  present = present;
+  sound = sound;
+  covered = λ id within. covered_grown before after old new id (omega (arith, within, ap length rewatched.clauses)) rewatched grown (is.covered id (omega (arith, within, ap length rewatched.clauses)));
 }
 
 -- what is under way fits
@@ -62,50 +62,54 @@ fitting_of s t w tools is = record {
 pub learning_of : (s : Solving) (t : Trailing) (w : Watching) (tools : Tools) → IsRunning s t w tools → IsLearning s t w tools
 learning_of s t w tools is = record { searching = is.searching; solver = is.solver; tools_are = is.tools_are }
 
--- and goes on after propagation
-pub running_on : (s : Solving) (old new : Trailing) (before after : Watching) (tools tools_new : Tools) → IsRunning s old before tools → IsPropagated before after old new → tools_new ≡ tools → IsRunning s new after tools_new
-running_on s old new before after tools tools_new is on tools_are = subst (IsRunning s new after) (sym tools_are) (record {
-  searching = record {
-    variables = on.grown.variables ∙ is.searching.variables;
-    unrefuted = is.searching.unrefuted;
-    sound = subst (λ cs. IsSound cs new) (on.clauses ∙ is.solver.stored) on.fitting.sound;
-  };
-  solver = subst (IsSolver s.formula s.ids s.lines) (sym on.clauses) is.solver;
-  fits = on.fitting.fits;
-  present = on.fitting.present;
-  covered = on.fitting.covered;
-  tools_are = is.tools_are;
+-- it is under way after going back, or staying where it was
+pub running_again : (s : Solving) (old new : Search) → IsRunning s old.trail old.watches old.tools → HasTurned old new → IsRunning s new.trail new.watches new.tools
+running_again s old new is turned =
+    running_from s new turned.fitting (subst (IsSolver s.formula s.ids s.lines) (sym turned.clauses) is.solver) (turned.variables ∙ is.searching.variables) is.searching.unrefuted (turned.tools s.formula s.ids is.tools_are)
+
+-- and may go back
+pub can_turn : (s : Solving) (search : Search) → IsRunning s search.trail search.watches search.tools → CanTurn search
+can_turn s search is = record {
+  fitting = fitting_of s search.trail search.watches search.tools is;
+  order = subst (λ n. IsOrder n search.tools.order) (sym is.searching.variables) is.tools_are.order;
+}
+
+-- what it is after, and when it begins anew, are none of what is kept of the variables
+pub turned_beside : (old new : Search) (focus : Focus) (restarts : Restarts) → HasTurned (record old { tools = record old.tools { focus = focus; restarts = restarts } }) new → HasTurned old new
+turned_beside old new focus restarts turned = record {
+  fitting = turned.fitting;
+  clauses = turned.clauses;
+  variables = turned.variables;
+  tools = λ formula ids are. turned.tools formula ids (record { variables = are.variables; unmarked = are.unmarked; order = are.order });
+}
+
+-- so it is where it stayed as it was
+pub running_same : (s : Solving) (old new : Search) → IsRunning s old.trail old.watches old.tools → IsSame old new → IsRunning s new.trail new.watches new.tools
+running_same s old new is same = running_again s old new is (record {
+  fitting = subst (λ (t : Trailing). IsFitting new.watches t) (sym same.trail) (subst (λ (w : Watching). IsFitting w old.trail) (sym same.watches) (fitting_of s old.trail old.watches old.tools is));
+  clauses = ap (λ (w : Watching). w.clauses) same.watches;
+  variables = ap (λ (t : Trailing). t.variables) same.trail;
+  tools = same.tools;
 })
 
 -- after a decision
 pub decided_on : (s : Solving) (old new : Trailing) (w : Watching) (tools tools_new : Tools) (l : SatLit) → IsRunning s old w tools → StayTools tools tools_new → IsQuiet (active s.formula s.ids s.lines) (literals old.entries) → old.walked ≡ length old.entries → new ≡ record old { entries = old.entries ++ record { literal = l; level = old.level + 1; reason = None } ∷ []; level = old.level + 1 } → length old.entries < old.variables → IsDecided s old new w tools_new
-decided_on s old new w tools tools_new l is stay quiet walked new_is room = record {
+decided_on s old new w tools tools_new l is stay quiet walked new_is room = subst (λ (t : Trailing). IsDecided s old t w tools_new) (sym new_is) (record {
   running = record {
-    searching = decided s old new l is.searching quiet new_is;
-    solver = is.solver;
-    fits = record {
-      variables = ap (λ (t : Trailing). t.variables) new_is ∙ is.fits.variables;
-      watched = λ k within attached j early inside at.
-          let before : j < length old.entries = omega (arith, early, ap (λ (t : Trailing). t.walked) new_is, walked) in
-          let same = front j before in
-          let held = is.fits.watched k within attached j (omega (arith, before, walked)) before (sym (ap (λ (x : Assigned). x.literal.0) same) ∙ at) in
-          let there = front held.at held.within in
-          record {
-            at = held.at;
-            within = omega (arith, held.within, size);
-            is = ap (λ (x : Assigned). x.literal.0) there ∙ held.is;
-            low = omega (arith, held.low, ap (λ (x : Assigned). x.level) there, ap (λ (x : Assigned). x.level) same);
-          };
+    searching = record {
+      variables = is.searching.variables;
+      unrefuted = is.searching.unrefuted;
+      sound = sound_more (active s.formula s.ids s.lines) old decided e is.searching.sound quiet refl;
     };
+    solver = is.solver;
+    fits = record { variables = fits.variables; watched = fits.watched };
     present = record {
-      present = λ k late within.
-          let here : k ≡ length old.entries = omega (arith, late, within, size, ap (λ (t : Trailing). t.walked) new_is, walked) in
-          ap (λ i. (entry_at new.entries i).level) here ∙ (ap (λ (es : List Assigned). (entry_at es (length old.entries)).level) entries ∙ (ap (λ (x : Assigned). x.level) (get_or_at old.entries e [] nothing (length old.entries) refl) ∙ sym (ap (λ (t : Trailing). t.level) new_is)));
+      present = λ k late within. ap (λ (x : Assigned). x.level) (get_or_at old.entries e [] nothing k (omega (arith, late, within, size, walked)));
     };
     covered = λ id within. elim (is.covered id within) [
       | inl attached ↦ inl attached
       | inr rooted ↦
-          let same = front rooted.at rooted.within in
+          let same = get_or_append_left old.entries (e ∷ []) nothing rooted.at rooted.within in
           inr (record {
             at = rooted.at;
             within = omega (arith, rooted.within, size);
@@ -116,20 +120,20 @@ decided_on s old new w tools tools_new l is stay quiet walked new_is room = reco
     tools_are = stay s.formula s.ids is.tools_are;
   };
   longer = omega (arith, size);
-  most = omega (arith, size, ap (λ (t : Trailing). t.variables) new_is, room);
-}
+  most = omega (arith, size, room);
+})
   where
     e : Assigned
     e = record { literal = l; level = old.level + 1; reason = None }
 
-    entries : new.entries ≡ old.entries ++ record { literal = l; level = old.level + 1; reason = None } ∷ []
-    entries = ap (λ (t : Trailing). t.entries) new_is
+    decided : Trailing
+    decided = record old { entries = old.entries ++ e ∷ []; level = old.level + 1 }
 
-    size : length new.entries ≡ length old.entries + 1
-    size = ap length entries ∙ length-append old.entries (record { literal = l; level = old.level + 1; reason = None } ∷ [])
+    size : length (old.entries ++ e ∷ []) ≡ length old.entries + 1
+    size = length-append old.entries (e ∷ [])
 
-    front : (k : ℕ) → k < length old.entries → entry_at new.entries k ≡ entry_at old.entries k
-    front k within = ap (λ es. entry_at es k) entries ∙ get_or_append_left old.entries (record { literal = l; level = old.level + 1; reason = None } ∷ []) nothing k within
+    fits : Fits w (record old { entries = old.entries ++ e ∷ [] })
+    fits = fits_grown w old (record old { entries = old.entries ++ e ∷ [] }) e is.fits (omega (arith, walked)) refl
 
 -- what is kept of the variables, with another order
 pub stay_from : (n : ℕ) (old new : Tools) → new.occurring.items ≡ old.occurring.items → new.marks.items ≡ old.marks.items → IsOrder n old.order → IsOrder n new.order → StayTools old new
@@ -141,25 +145,40 @@ stay_from n old new occurring marks before after formula ids are = record {
 
 -- ---- going back with a learned line
 
-pub sound_back : (s : Solving) (line : LogLine) (t : Trailing) (w : Watching) (level : ℕ) → IsSearching s t → IsSolver s.formula s.ids s.lines w.clauses → IsLesson s t line level → is_empty line.clause ≡ false → IsSoundBack w line.clause t level
-sound_back s line t w level searching solver lesson filled = λ back is.
-    let new : Solving = record s { lines = s.lines ++ line ∷ [] } in
-    let gone = gone_back s new line t back level searching lesson filled refl is.variables is.entries is.front in
-    subst (λ (cs : List (List SatLit)). IsSound cs back) (active_more s.formula s.ids s.lines line ∙ ap (λ (cs : List (List SatLit)). cs ++ line.clause ∷ []) (sym solver.stored)) gone.sound
+-- what is justified stays so with one clause more
+justified_more : (clauses : List (List SatLit)) (clause : List SatLit) (made : List SatLit) (l : SatLit) (r : Option ℕ) → IsJustified clauses made l r → (r ≡ None → effect_of made clause ≡ Neither) → IsJustified (clauses ++ clause ∷ []) made l r
+justified_more clauses clause made l None quiet more = All-push (λ c. effect_of made c ≡ Neither) clauses clause quiet (more refl)
+justified_more clauses clause made l (Some id) reason more = record {
+  there = omega (arith, reason.there, length-append clauses (clause ∷ []));
+  makes = ap (effect_of made) (get_or_append_left clauses (clause ∷ []) [] id reason.there) ∙ reason.makes;
+}
 
-pub running_back : (old new : Solving) (line : LogLine) (t back : Trailing) (w after : Watching) (tools tools_new : Tools) → IsRunning old t w tools → new ≡ record old { lines = old.lines ++ line ∷ [] } → line_fault old.formula (clauses_of old.lines) line ≡ None → is_empty line.clause ≡ false → IsFitting after back → after.clauses ≡ w.clauses ++ line.clause ∷ [] → back.variables ≡ t.variables → StayTools tools tools_new → IsRunning new back after tools_new
-running_back old new line t back w after tools tools_new is new_is good filled fitting clauses variables stay =
+sound_back : (s : Solving) (line : LogLine) (t : Trailing) (w : Watching) (level : ℕ) → IsSearching s t → IsSolver s.formula s.ids s.lines w.clauses → IsLesson s t line level → IsSoundBack w line.clause t level
+sound_back s line t w level searching solver lesson back is = record {
+  justified = λ k within.
+      let inside = front_within t back level is k within in
+      let e = entry_at t.entries k in
+      let low : e.level ≤ level = omega (arith, low_at t back level is k within, ap (λ (x : Assigned). x.level) (front_at t back level is k within)) in
+      let old = subst (λ (cs : List (List SatLit)). IsJustified cs (before t.entries k) e.literal e.reason) (sym solver.stored) (searching.sound.justified k inside) in
+      justified_back (w.clauses ++ line.clause ∷ []) t back level is k within (justified_more w.clauses line.clause (before t.entries k) e.literal e.reason old (λ decision. lesson.not_single k inside decision low));
+}
+
+pub can_return : (s : Solving) (line : LogLine) (search : Search) (level : ℕ) → IsRunning s search.trail search.watches search.tools → IsLesson s search.trail line level → is_empty line.clause ≡ false → CanReturn search line.clause level
+can_return s line search level is lesson filled = record {
+  turn = can_turn s search is;
+  known = subst (λ n. AreKnown n line.clause) (sym is.searching.variables ∙ is.fits.variables) (line_known s.formula (clauses_of s.lines) line lesson.good);
+  filled = filled;
+  above = elim (cases_lt 0 search.trail.level) [
+    | inl above ↦ above
+    | inr lowest ↦ absurd (both_ways (is_empty line.clause) filled (lesson.closing (omega (arith, lowest))))
+  ];
+  asserting = lesson.asserting;
+  sound = sound_back s line search.trail search.watches level is.searching is.solver lesson;
+}
+
+pub running_back : (old new : Solving) (line : LogLine) (mid next : Search) → IsRunning old mid.trail mid.watches mid.tools → new ≡ record old { lines = old.lines ++ line ∷ [] } → line_fault old.formula (clauses_of old.lines) line ≡ None → is_empty line.clause ≡ false → HasReturned mid next line.clause → IsRunning new next.trail next.watches next.tools
+running_back old new line mid next is new_is good filled back =
     let more : Solving = record old { lines = old.lines ++ line ∷ [] } in
-    let solver = solver_more old.formula old.ids old.lines more.lines w.clauses after.clauses line is.solver good refl clauses in
-    subst (λ s. IsRunning s back after tools_new) (sym new_is) (record {
-      searching = record {
-        variables = variables ∙ is.searching.variables;
-        unrefuted = unrefuted_more old.lines line is.searching.unrefuted filled;
-        sound = subst (λ (cs : List (List SatLit)). IsSound cs back) solver.stored fitting.sound;
-      };
-      solver = solver;
-      fits = fitting.fits;
-      present = fitting.present;
-      covered = fitting.covered;
-      tools_are = stay old.formula old.ids is.tools_are;
-    })
+    let solver = solver_more old.formula old.ids old.lines more.lines mid.watches.clauses next.watches.clauses line is.solver good refl back.clauses in
+    let unrefuted = unrefuted_more old.lines line is.searching.unrefuted filled in
+    subst (λ s. IsRunning s next.trail next.watches next.tools) (sym new_is) (running_from more next back.fitting solver (back.variables ∙ is.searching.variables) unrefuted (back.tools old.formula old.ids is.tools_are))

@@ -1,5 +1,5 @@
 -- Lines that are added to a solver, and the numbers of its clauses.
-use Rattle.std.proofs.Common.{◌≡◌, ℕ, zero, suc, ◌+◌, ◌-◌, ◌<◌, not, cond, Bool, true, false, List, [], ◌∷◌, ◌++◌, length, map, take, All, Option, None, Some, nat_lt, slice_index_or, inl, inr, refl, sym, ◌∙◌, ap, subst, arith}
+use Rattle.std.proofs.Common.{◌≡◌, ℕ, zero, suc, ◌+◌, ◌-◌, ◌<◌, not, cond, Bool, true, false, List, [], ◌∷◌, ◌++◌, length, map, take, drop, All, Option, None, Some, nat_lt, slice_index_or, inl, inr, refl, sym, ◌∙◌, ap, subst, arith}
 use Rattle.std.specs.List.{list_any, list_all}
 use Rattle.std.proofs.lemmas.Bool.{cases_lt, cond-false, le-ltb, lt-ltb, ltb-true}
 use Rattle.std.proofs.lemmas.List.{append_assoc, get_or_append_left, get_or-append_right, get_or-map, length-append, length-map}
@@ -57,16 +57,19 @@ solver_more formula ids lines new clauses put line is good new_is put_is = recor
   derived = subst (λ ls. AreDerived formula ls) (sym new_is) (derived_more formula lines line is.derived good);
 }
 
+-- the lines are known
+pub lines_known : (formula : Formula) (lines : List LogLine) → AreDerived formula lines → All (AreKnown formula.variables) (clauses_of lines)
+lines_known formula lines derived = All-map (AreKnown formula.variables) (λ (l : LogLine). l.clause) lines (λ k d within. line_known formula (clauses_of (take k lines)) (slice_index_or lines k d) (derived k d within))
+
 -- a new solver
-pub solver_new : (formula : Formula) (ids given : List ℕ) (lemmas lines : List LogLine) (put clauses : List (List SatLit)) → All (λ id. id < length formula.clauses) ids → AreDerived formula lemmas → ArePut formula ids put → clauses ≡ put ++ clauses_of lemmas → given ≡ ids → lines ≡ lemmas → IsSolver formula given lines clauses
-solver_new formula ids given lemmas lines put clauses there derived is clauses_are given_are lines_are =
-    subst (λ g. IsSolver formula g lines clauses) (sym given_are) (subst (λ ls. IsSolver formula ids ls clauses) (sym lines_are) (record {
-      stored = clauses_are ∙ ap (λ cs. cs ++ clauses_of lemmas) is.put;
-      there = there;
-      known = subst (λ (cs : List (List SatLit)). All (AreKnown formula.variables) cs) (sym clauses_are) (All-append (AreKnown formula.variables) put (clauses_of lemmas) is.known (All-map (AreKnown formula.variables) (λ (l : LogLine). l.clause) lemmas (λ k d within. line_known formula (clauses_of (take k lemmas)) (slice_index_or lemmas k d) (derived k d within))));
-      filled = subst (λ (cs : List (List SatLit)). All (λ c. is_empty c ≡ false) cs) is.put is.filled;
-      derived = derived;
-    }))
+pub solver_new : (formula : Formula) (ids : List ℕ) (lines : List LogLine) (put clauses : List (List SatLit)) → All (λ id. id < length formula.clauses) ids → AreDerived formula lines → ArePut formula ids put → clauses ≡ put ++ clauses_of lines → IsSolver formula ids lines clauses
+solver_new formula ids lines put clauses there derived is clauses_are = record {
+  stored = clauses_are ∙ ap (λ cs. cs ++ clauses_of lines) is.put;
+  there = there;
+  known = subst (λ (cs : List (List SatLit)). All (AreKnown formula.variables) cs) (sym clauses_are) (All-append (AreKnown formula.variables) put (clauses_of lines) is.known (lines_known formula lines derived));
+  filled = subst (λ (cs : List (List SatLit)). All (λ c. is_empty c ≡ false) cs) is.put is.filled;
+  derived = derived;
+}
 
 -- each clause that is looked at is the one of its number
 pub at_number : (formula : Formula) (ids : List ℕ) (lines : List LogLine) → All (λ id. id < length formula.clauses) ids → (k : ℕ) → k < length (active formula ids lines) → (id_at formula ids k < length (formula.clauses ++ clauses_of lines)) × (clause_at (formula.clauses ++ clauses_of lines) (id_at formula ids k) ≡ clause_at (active formula ids lines) k)
@@ -109,23 +112,30 @@ steps_there clauses made (s ∷ steps) e k d within =
         ends [] goes' h' = absurd (omega (arith, h'))
         ends (x ∷ left) goes' h' = absurd (let y : Some fault.AfterConflict ≡ None = goes' in cc)
 
--- the hints of steps go through as the steps do
-pub hints_follow : (clauses all : List (List SatLit)) (number : ℕ → ℕ) → ((k : ℕ) → k < length clauses → (number k < length all) × (clause_at all (number k) ≡ clause_at clauses k)) → (made : List SatLit) (steps : List ℕ) → hint_fault clauses made steps ≡ None → hint_fault all made (map number steps) ≡ None
-hints_follow clauses all number same made [] e = e
-hints_follow clauses all number same made (s ∷ steps) e =
-    elim (cases_lt s (length clauses)) [
-      | inr late ↦ let found = le-ltb s (length clauses) late in absurd (let x : Some fault.UnknownHint ≡ None = sym (ap (λ b. cond b (fault_after (effect_of made (clause_at clauses s)) steps (λ m. hint_fault clauses (made ++ m ∷ []) steps)) (Some fault.UnknownHint)) found) ∙ e in cc)
+-- hints lead to a conflict wherever their clauses stand
+pub hints_carried : (clauses all : List (List SatLit)) (number : ℕ → Option ℕ) → ((h n : ℕ) → h < length clauses → number h ≡ Some n → (n < length all) × (clause_at all n ≡ clause_at clauses h)) → (made : List SatLit) (hints own : List ℕ) → map number hints ≡ map Some own → hint_fault clauses made hints ≡ None → hint_fault all made own ≡ None
+hints_carried clauses all number each made [] [] same e = absurd (let x : Some fault.NoConflict ≡ None = e in cc)
+hints_carried clauses all number each made [] (n ∷ own) same e = absurd (let x : Some fault.NoConflict ≡ None = e in cc)
+hints_carried clauses all number each made (h ∷ hints) [] same e = absurd (let x : number h ∷ map number hints ≡ [] = same in cc)
+hints_carried clauses all number each made (h ∷ hints) (n ∷ own) same e =
+    elim (cases_lt h (length clauses)) [
+      | inr late ↦
+          let found = le-ltb h (length clauses) late in
+          absurd (let x : Some fault.UnknownHint ≡ None = sym (ap (λ b. cond b (fault_after (effect_of made (clause_at clauses h)) hints (λ m. hint_fault clauses (made ++ m ∷ []) hints)) (Some fault.UnknownHint)) found) ∙ e in cc)
       | inl low ↦
-          let found = lt-ltb s (length clauses) low in
-          let there = same s low in
-          let after = sym (ap (λ b. cond b (fault_after (effect_of made (clause_at clauses s)) steps (λ m. hint_fault clauses (made ++ m ∷ []) steps)) (Some fault.UnknownHint)) found) ∙ e in
-          ap (λ b. cond b (fault_after (effect_of made (clause_at all (number s))) (map number steps) (λ m. hint_fault all (made ++ m ∷ []) (map number steps))) (Some fault.UnknownHint)) (lt-ltb (number s) (length all) there.0)
-          ∙ (ap (λ c. fault_after (effect_of made c) (map number steps) (λ m. hint_fault all (made ++ m ∷ []) (map number steps))) there.1
-          ∙ by_effect (effect_of made (clause_at clauses s)) steps (λ m left. hints_follow clauses all number same (made ++ m ∷ []) steps left) after)
+          let found = lt-ltb h (length clauses) low in
+          let head : number h ≡ Some n = cc in
+          let rest : map number hints ≡ map Some own = ap (drop 1) same in
+          let there = each h n low head in
+          let after = sym (ap (λ b. cond b (fault_after (effect_of made (clause_at clauses h)) hints (λ m. hint_fault clauses (made ++ m ∷ []) hints)) (Some fault.UnknownHint)) found) ∙ e in
+          ap (λ b. cond b (fault_after (effect_of made (clause_at all n)) own (λ m. hint_fault all (made ++ m ∷ []) own)) (Some fault.UnknownHint)) (lt-ltb n (length all) there.0)
+          ∙ (ap (λ c. fault_after (effect_of made c) own (λ m. hint_fault all (made ++ m ∷ []) own)) there.1
+          ∙ by_effect (effect_of made (clause_at clauses h)) hints own rest (λ m left. hints_carried clauses all number each (made ++ m ∷ []) hints own rest left) after)
     ]
   where
-    by_effect : (effect : Effect) (left : List ℕ) → ((m : SatLit) → hint_fault clauses (made ++ m ∷ []) steps ≡ None → hint_fault all (made ++ m ∷ []) (map number steps) ≡ None) → fault_after effect left (λ m. hint_fault clauses (made ++ m ∷ []) steps) ≡ None → fault_after effect (map number left) (λ m. hint_fault all (made ++ m ∷ []) (map number steps)) ≡ None
-    by_effect Conflict [] rest goes = refl
-    by_effect Conflict (x ∷ left) rest goes = absurd (let y : Some fault.AfterConflict ≡ None = goes in cc)
-    by_effect (Makes m) left rest goes = rest m goes
-    by_effect Neither left rest goes = absurd (let y : Some fault.NotUnit ≡ None = goes in cc)
+    by_effect : (effect : Effect) (left mine : List ℕ) → map number left ≡ map Some mine → ((m : SatLit) → hint_fault clauses (made ++ m ∷ []) hints ≡ None → hint_fault all (made ++ m ∷ []) own ≡ None) → fault_after effect left (λ m. hint_fault clauses (made ++ m ∷ []) hints) ≡ None → fault_after effect mine (λ m. hint_fault all (made ++ m ∷ []) own) ≡ None
+    by_effect Conflict [] [] same rest goes = refl
+    by_effect Conflict [] (y ∷ mine) same rest goes = absurd (let x : [] ≡ Some y ∷ map Some mine = same in cc)
+    by_effect Conflict (x ∷ left) mine same rest goes = absurd (let y : Some fault.AfterConflict ≡ None = goes in cc)
+    by_effect (Makes m) left mine same rest goes = rest m goes
+    by_effect Neither left mine same rest goes = absurd (let y : Some fault.NotUnit ≡ None = goes in cc)

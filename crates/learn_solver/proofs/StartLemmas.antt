@@ -2,7 +2,7 @@
 use Rattle.std.proofs.Common.{◌≡◌, ◌≢◌, ℕ, ◌+◌, ◌*◌, ◌%◌, ◌<◌, false, List, [], ◌∷◌, ◌++◌, length, take, All, replicate, slice_index_or, inl, inr, refl, sym, ◌∙◌, ap, subst, arith}
 use Rattle.std.proofs.lemmas.Bool.{cases_eq, cases_lt}
 use Rattle.std.proofs.lemmas.List.{append_assoc, get_or-map, get_or_past, length-append, length-map, map-append, take_more}
-use Rattle.std.proofs.lemmas.List.Elements.{All-map, All-push}
+use Rattle.std.proofs.lemmas.List.Elements.{All-push}
 use Rattle.cnf_core.specs.declared.literal.SatLit.{SatLit}
 use Rattle.cnf_core.specs.declared.log.LogLine.{LogLine}
 use Rattle.cnf_core.specs.Clauses.{Formula, clause_at}
@@ -17,7 +17,7 @@ use Rattle.learn_solver.specs.Solvers.{ArePut, HaveVariables, Solving, wanted}
 use Rattle.learn_solver.specs.declared.search.Tools.{Tools}
 use Rattle.learn_solver.specs.Orders.{IsOrder}
 use Rattle.learn_solver.specs.Starts.{AreIdle, AreLoose, IsBegun, IsStarting, IsStuck}
-use Rattle.learn_solver.proofs.SolverLemmas.{line_known, solver_new}
+use Rattle.learn_solver.proofs.SolverLemmas.{solver_new}
 use Rattle.learn_solver.proofs.GoneLemmas.{covered_grown}
 
 -- nothing is attached yet
@@ -109,15 +109,11 @@ lines_more old mid new lines k line clause is within line_is clause_is size new_
 -- what a search begins with
 pub begun_is : (s : Solving) (trail : Trailing) (wanted_in all : Watching) (tools : Tools) → All (λ id. id < length s.formula.clauses) s.ids → AreDerived s.formula s.lines → IsPutting s.formula s.ids wanted_in → all.clauses ≡ wanted_in.clauses ++ clauses_of s.lines → AreLoose all 0 → all.variables ≡ wanted_in.variables → trail ≡ record { variables = s.formula.variables; entries = []; level = 0; walked = 0 } → HaveVariables s.formula.variables wanted_in.clauses tools.occurring.items → tools.marks.items ≡ replicate s.formula.variables false → IsOrder s.formula.variables tools.order → IsBegun s trail all tools
 begun_is s trail wanted_in all tools there derived put clauses loose variables trail_is have marks_are order = record {
-  solver = solver_new s.formula s.ids s.ids s.lines s.lines wanted_in.clauses all.clauses there derived put.put clauses refl refl;
+  solver = solver_new s.formula s.ids s.lines wanted_in.clauses all.clauses there derived put.put clauses;
   variables = variables ∙ put.variables;
   idle = record { empty = trail_is ∙ ap (λ n. record { variables = n; entries = []; level = 0; walked = 0 }) (sym (variables ∙ put.variables)); loose = loose };
   tools_are = record { variables = subst (λ (cs : List (List SatLit)). HaveVariables s.formula.variables cs tools.occurring.items) put.put.put have; unmarked = marks_are; order = order };
 }
-
--- the lines are known and filled
-pub lines_known : (formula : Formula) (lines : List LogLine) → AreDerived formula lines → All (AreKnown formula.variables) (clauses_of lines)
-lines_known formula lines derived = All-map (AreKnown formula.variables) (λ (l : LogLine). l.clause) lines (λ k d within. line_known formula (clauses_of (take k lines)) (slice_index_or lines k d) (derived k d within))
 
 -- what holds of all clauses of lines holds of each
 pub line_clause : (P : List SatLit → Type 0) (lines : List LogLine) (k : ℕ) (line : LogLine) → k < length lines → line ≡ slice_index_or lines k line → All P (clauses_of lines) → P line.clause

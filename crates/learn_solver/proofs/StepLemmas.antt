@@ -1,10 +1,12 @@
 -- One step of a search: a line is learned from a conflict.
-use Rattle.std.proofs.Common.{◌≡◌, ℕ, zero, suc, ◌+◌, ◌-◌, ◌<◌, ◌≤◌, Bool, true, false, List, [], ◌∷◌, ◌++◌, length, map, take, All, Result, Ok, Err, IfErr, nat_lt, slice_index_or, refl, sym, ◌∙◌, ap, subst, arith}
+use Rattle.std.proofs.Common.{◌≡◌, ℕ, zero, suc, ◌+◌, ◌-◌, ◌<◌, ◌≤◌, Bool, true, false, List, [], ◌∷◌, ◌++◌, length, map, take, All, Some, Result, Ok, Err, IfErr, nat_lt, slice_index_or, refl, sym, ◌∙◌, ap, subst, arith}
 use Rattle.std.specs.Result.{IsErrAnd}
 use Rattle.std.specs.List.{list_any, list_all}
-use Rattle.std.proofs.lemmas.Bool.{lt-ltb, or_parts}
+use Rattle.std.proofs.lemmas.Bool.{both_ways, false_from_ne_true, lt-ltb}
 use Rattle.std.proofs.lemmas.List.{get_or_at, length-append, take_at}
 use Rattle.std.proofs.lemmas.List.Elements.{All-append}
+use Rattle.std.proofs.lemmas.Simd.{map-map}
+use Rattle.std.proofs.lemmas.List.Folds.{list_any_at}
 use Rattle.std.proofs.lemmas.List.Recursion.{and_from_places}
 use Rattle.cnf_core.specs.declared.literal.SatLit.{SatLit}
 use Rattle.cnf_core.specs.declared.log.LogLine.{LogLine}
@@ -17,16 +19,13 @@ use Rattle.cnf_core.specs.Charges.{Charging, IsCharged, IsRefused}
 use Rattle.learn_solver.specs.Analyses.{IsLearnedAs, has_all}
 use Rattle.learn_solver.specs.Solvers.{IsAdded, IsAsking, IsExtended, IsSolver, IsStopped, Solving, id_at, wanted}
 use Rattle.learn_solver.specs.Searches.{IsLesson, IsSearching, last_line, no_line}
-use Rattle.learn_solver.proofs.SolverLemmas.{at_number, hints_follow, line_from}
-
-abbrev no_literal : SatLit
-no_literal = record { 0 = 0 }
+use Rattle.learn_solver.proofs.PlaceLemmas.{no_literal}
+use Rattle.learn_solver.proofs.SolverLemmas.{at_number, hints_carried, line_from}
 
 -- none of the clauses that are looked at is empty
-none_empty : (cs : List (List SatLit)) → list_any is_empty cs ≡ false → (k : ℕ) (d : List SatLit) → k < length cs → is_empty (slice_index_or cs k d) ≡ false
-none_empty [] e k d within = absurd (omega (arith, within))
-none_empty (c ∷ cs) e zero d within = (or_parts (is_empty c) (list_any is_empty cs) e).0
-none_empty (c ∷ cs) e (suc k) d within = none_empty cs (or_parts (is_empty c) (list_any is_empty cs) e).1 k d (omega (arith, within))
+none_empty : (cs : List (List SatLit)) → list_any is_empty cs ≡ false → All (λ c. is_empty c ≡ false) cs
+none_empty cs e k d within =
+    false_from_ne_true (is_empty (slice_index_or cs k d)) (λ empty. both_ways (list_any is_empty cs) e (list_any_at is_empty cs k d within empty))
 
 pub all_filled : (formula : Formula) (ids : List ℕ) (lines : List LogLine) (clauses : List (List SatLit)) → IsSolver formula ids lines clauses → list_any is_empty (clauses_of lines) ≡ false → All (λ c. is_empty c ≡ false) clauses
 all_filled formula ids lines clauses is unrefuted =
@@ -34,24 +33,25 @@ all_filled formula ids lines clauses is unrefuted =
 
 -- what was learned is a lesson
 pub lesson_from : (s : Solving) (t : Trailing) (clauses : List (List SatLit)) (line : LogLine) (steps : List ℕ) (level : ℕ) → IsSolver s.formula s.ids s.lines clauses → IsSearching s t → IsLearnedAs clauses t line.clause steps level → line.hints ≡ map (id_at s.formula s.ids) steps → IsLesson s t line level
-lesson_from s t clauses line steps level is searching learned hints = record {
+lesson_from s t clauses line steps level is_solver searching learned hints = record {
   good = line_from s.formula (clauses_of s.lines) line (record {
     unclosed = searching.unrefuted;
     known = and_from_places (list_all (λ l. nat_lt (variable_of l) s.formula.variables)) (λ l. nat_lt (variable_of l) s.formula.variables) refl (λ _ _. refl) line.clause no_literal (λ k within. lt-ltb (variable_of (slice_index_or line.clause k no_literal)) s.formula.variables (omega (arith, learned.known k no_literal within, searching.variables)));
     once = learned.once;
-    hints = ap (hint_fault (s.formula.clauses ++ clauses_of s.lines) (map opposite line.clause)) hints ∙ hints_follow clauses (s.formula.clauses ++ clauses_of s.lines) (id_at s.formula s.ids) same (map opposite line.clause) steps learned.derived;
+    hints = ap (hint_fault (s.formula.clauses ++ clauses_of s.lines) (map opposite line.clause)) hints ∙ hints_carried clauses (s.formula.clauses ++ clauses_of s.lines) (λ k. Some (id_at s.formula s.ids k)) there (map opposite line.clause) steps (map (id_at s.formula s.ids) steps) (sym (map-map Some (id_at s.formula s.ids) steps)) learned.derived;
   });
-  fresh = subst (λ (cs : List (List SatLit)). All (λ c. has_all line.clause c ≡ false) cs) is.stored learned.fresh;
+  fresh = subst (λ (cs : List (List SatLit)). All (λ c. has_all line.clause c ≡ false) cs) is_solver.stored learned.fresh;
   low = learned.low;
   not_single = learned.not_single;
   asserting = learned.asserting;
   closing = λ lowest. ap is_empty (learned.closing lowest);
 }
   where
-    same : (k : ℕ) → k < length clauses → (id_at s.formula s.ids k < length (s.formula.clauses ++ clauses_of s.lines)) × (clause_at (s.formula.clauses ++ clauses_of s.lines) (id_at s.formula s.ids k) ≡ clause_at clauses k)
-    same k within =
-        let there = at_number s.formula s.ids s.lines is.there k (omega (arith, within, ap length is.stored)) in
-        (there.0, there.1 ∙ ap (λ cs. clause_at cs k) (sym is.stored))
+    there : (k n : ℕ) → k < length clauses → Some (id_at s.formula s.ids k) ≡ Some n → (n < length (s.formula.clauses ++ clauses_of s.lines)) × (clause_at (s.formula.clauses ++ clauses_of s.lines) n ≡ clause_at clauses k)
+    there k n within is =
+        let number : id_at s.formula s.ids k ≡ n = cc in
+        let at = at_number s.formula s.ids s.lines is_solver.there k (omega (arith, within, ap length is_solver.stored)) in
+        (omega (arith, number, at.0), ap (clause_at (s.formula.clauses ++ clauses_of s.lines)) (sym number) ∙ (at.1 ∙ ap (λ cs. clause_at cs k) (sym is_solver.stored)))
 
 -- the last of lines with one more
 last_is : (lines : List LogLine) (line : LogLine) → last_line (lines ++ line ∷ []) ≡ line

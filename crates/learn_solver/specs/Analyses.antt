@@ -1,16 +1,16 @@
 -- What is learned from a conflict, and how far an analysis has come (Marques-Silva and Sakallah, GRASP, 1999).
-use Rattle.std.specs.Prelude.{◌≡◌, ℕ, ◌<◌, ◌≤◌, ◌==◌, ◌&&◌, Bool, true, false, List, [], length, map, take, filter, reverse, All, Contains, None, count_by, if◌then◌else◌, ◌⊎◌}
+use Rattle.std.specs.Prelude.{◌≡◌, ℕ, ◌<◌, ◌≤◌, ◌==◌, ◌&&◌, Bool, true, false, List, [], length, map, take, filter, reverse, replicate, All, Contains, None, count_by, if◌then◌else◌, ◌⊎◌}
 use Rattle.std.specs.List.{list_all}
 use Rattle.circuits.specs.Literals.{bit}
 use Rattle.cnf_core.specs.declared.literal.SatLit.{SatLit}
 use Rattle.cnf_core.specs.declared.effect.Effect.TheVariants.{Neither}
 use Rattle.cnf_core.specs.Clauses.{opposite, variable_of}
-use Rattle.cnf_core.specs.Derivations.{effect_of, hint_fault, is_true, repeats_variable}
+use Rattle.cnf_core.specs.Derivations.{effect_of, hint_fault, is_empty, is_true, repeats_variable}
 use Rattle.trail_core.specs.declared.assigned.Assigned.{Assigned}
-use Rattle.trail_core.specs.Trails.{Trailing, entry_at}
+use Rattle.trail_core.specs.Trails.{Trailing, entry_at, literals}
 use Rattle.learn_solver.specs.declared.conflict.Analysis.{Analysis}
 use Rattle.learn_solver.specs.declared.conflict.Learned.{Learned}
-use Rattle.watch_lists.specs.Propagations.{AreKnown, before}
+use Rattle.watch_lists.specs.Propagations.{AreKnown, IsConflict, IsSound, before}
 
 -- whether a clause has all the literals of another
 abbrev pub has_all : List SatLit → List SatLit → Bool
@@ -54,6 +54,14 @@ pub record IsLearnedAs (clauses : List (List SatLit)) (trail : Trailing) (clause
 
 abbrev pub IsLearned : List (List SatLit) → Trailing → Learned → Type 0
 IsLearned clauses trail learned = IsLearnedAs clauses trail learned.clause learned.steps.items learned.level
+
+-- A clause all of whose literals are false, from which something can be learned: nothing is marked.
+pub record CanAnalyse (clauses : List (List SatLit)) (trail : Trailing) (marked : List Bool) (id : ℕ) : Type 0 where
+  pub clear : marked ≡ replicate trail.variables false
+  pub known : All (AreKnown trail.variables) clauses
+  pub filled : All (λ clause. is_empty clause ≡ false) clauses
+  pub sound : IsSound clauses trail
+  pub conflict : IsConflict clauses (literals trail.entries) id
 
 -- whether an entry's variable is marked
 abbrev pub is_marked : List Bool → Assigned → Bool
@@ -103,31 +111,6 @@ pub record AreMarkedPlaces (marked : List Bool) (count : ℕ) (places : List ℕ
   pub below : All (λ place. place < count) places
   pub all : (place : ℕ) → place < count → bit marked place ≡ true → Contains places place
 
--- these are true: the marked ones of the first n literals, and at most all of the first n
-pub record IsBetween (entries : List Assigned) (marked : List Bool) (place : ℕ) (made : List SatLit) : Type 0 where
-  pub needed : (k : ℕ)
-      → k < place
-      → k < length entries
-      → is_marked marked (entry_at entries k) ≡ true
-      → is_true made (entry_at entries k).literal ≡ true
-  pub within : (literal : SatLit) → is_true made literal ≡ true → is_true (before entries place) literal ≡ true
-
--- How far an analysis has come: wherever the marked literals that are left are true, and no later ones, the steps lead
--- to the conflict.
-pub record IsAnalysed (clauses : List (List SatLit)) (trail : Trailing) (marked : List Bool) (below here : ℕ) (steps : List ℕ)
-    : Type 0 where
-  pub size : length marked ≡ trail.variables
-  pub within : below ≤ length trail.entries
-  pub count : here ≡ here_in trail marked below
-  pub present : 0 < trail.level → 0 < here
-  pub derives : (made : List SatLit)
-      → IsBetween trail.entries marked below made
-      → hint_fault clauses made (reverse steps) ≡ None
-
-abbrev pub IsAnalysis : List (List SatLit) → Trailing → List Bool → Analysis → Type 0
-IsAnalysis clauses trail marked analysis =
-    IsAnalysed clauses trail marked analysis.below analysis.here analysis.steps.items
-
 -- these are true: the marked ones of the first `top` literals, and no others but such as stand before a place
 pub record IsLeft (entries : List Assigned) (marked : List Bool) (place top : ℕ) (made : List SatLit) : Type 0 where
   pub needed : (k : ℕ)
@@ -138,6 +121,22 @@ pub record IsLeft (entries : List Assigned) (marked : List Bool) (place top : �
   pub within : (literal : SatLit)
       → is_true made literal ≡ true
       → (is_true (before entries place) literal ≡ true) ⊎ (is_true (kept_literals entries marked top) literal ≡ true)
+
+-- How far an analysis has come: wherever the marked literals that are left are true, and no later ones, the steps lead
+-- to the conflict.
+pub record IsAnalysed (clauses : List (List SatLit)) (trail : Trailing) (marked : List Bool) (below here : ℕ) (steps : List ℕ)
+    : Type 0 where
+  pub size : length marked ≡ trail.variables
+  pub within : below ≤ length trail.entries
+  pub count : here ≡ here_in trail marked below
+  pub present : 0 < trail.level → 0 < here
+  pub derives : (made : List SatLit)
+      → IsLeft trail.entries marked below below made
+      → hint_fault clauses made (reverse steps) ≡ None
+
+abbrev pub IsAnalysis : List (List SatLit) → Trailing → List Bool → Analysis → Type 0
+IsAnalysis clauses trail marked analysis =
+    IsAnalysed clauses trail marked analysis.below analysis.here analysis.steps.items
 
 -- How far a clause is minimized, from its last literal down to a place: wherever its literals are false, and none beside
 -- them but such as stand before the place, the steps lead to the conflict. As few literals of the present level are left as

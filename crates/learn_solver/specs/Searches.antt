@@ -1,13 +1,14 @@
 -- Where a search stands.
 use Rattle.std.specs.Prelude.{◌≡◌, ◌≢◌, ℕ, ◌+◌, ◌-◌, ◌*◌, ◌<◌, ◌≤◌, ◌++◌, ◌∷◌, Bool, true, false, List, [], length, All, Option, None, Some, MatchOption, slice_index_or}
 use Rattle.std.specs.List.{list_any}
+use Rattle.cnf_core.specs.declared.literal.SatLit.{SatLit}
 use Rattle.cnf_core.specs.declared.log.LogLine.{LogLine}
 use Rattle.cnf_core.specs.Clauses.{literal_of}
 use Rattle.cnf_core.specs.declared.effect.Effect.TheVariants.{Neither}
 use Rattle.cnf_core.specs.Derivations.{clauses_of, effect_of, is_empty, is_true, line_fault}
 use Rattle.cnf_core.specs.Charges.{Charging, IsCharged}
 use Rattle.trail_core.specs.Trails.{Trailing, entry_at, literals, value_in}
-use Rattle.watch_lists.specs.Propagations.{IsSound, before}
+use Rattle.watch_lists.specs.Propagations.{AreKnown, IsSound, before}
 use Rattle.learn_solver.specs.Analyses.{IsAsserting, has_all}
 use Rattle.learn_solver.specs.Solvers.{IsAdded, IsAsking, IsExtended, IsSolver, Solving, active}
 use Rattle.learn_solver.specs.declared.search.Search.{Search}
@@ -15,19 +16,23 @@ use Rattle.learn_solver.specs.declared.search.Tools.{Tools}
 use Rattle.learn_solver.specs.declared.verdict.Finding.{Finding}
 use Rattle.learn_solver.specs.Findings.{IsFinding}
 use Rattle.learn_solver.specs.Orders.{IsOrder}
-use Rattle.learn_solver.specs.Starts.{AreTools, IsFitting, StayTools}
+use Rattle.learn_solver.specs.Starts.{AreTools, IsFitting, IsSoundBack, StayTools}
 use Rattle.watch_lists.specs.Watched.{Fits, IsCovered, IsPresent, Watching}
 
 -- a variable is assigned
 abbrev pub IsAssigned : Trailing → ℕ → Type 0
 IsAssigned trail v = value_in (literals trail.entries) (literal_of v false) ≢ None
 
--- the value of each variable
-pub record AreValues (trail : Trailing) (values : List Bool) : Type 0 where
-  pub count : length values ≡ trail.variables
+-- The values of the first n variables.
+pub record AreFirst (trail : Trailing) (n : ℕ) (values : List Bool) : Type 0 where
+  pub count : length values ≡ n
   pub each : (v : ℕ) (d : Bool)
       → v < length values
       → slice_index_or values v d ≡ is_true (literals trail.entries) (literal_of v true)
+
+-- the value of each variable
+abbrev pub AreValues : Trailing → List Bool → Type 0
+AreValues trail values = AreFirst trail trail.variables values
 
 -- A search is under way: no line is empty, and the trail is sound for the clauses that are looked at.
 pub record IsSearching (solving : Solving) (trail : Trailing) : Type 0 where
@@ -103,23 +108,34 @@ abbrev pub remaining : {Others : Type 0} → Charging Others → Trailing → �
 remaining {Others} charging trail =
     (trail.variables + 1) * (charging.budget + 1 - charging.made) + (trail.variables - length trail.entries)
 
--- The search goes on, with less to do.
-pub record IsAdvanced {Others : Type 0} (solving : Solving) (first after : Charging Others) (old new : Trailing)
-    (watching : Watching) (tools : Tools) : Type 0 where
-  pub running : IsRunning solving new watching tools
-  pub less : remaining after new < remaining first old
-
 -- A search that may go back: the watches fit the trail, whose variables the order has.
 pub record CanTurn (search : Search) : Type 0 where
   pub fitting : IsFitting search.watches search.trail
   pub order : IsOrder search.trail.variables search.tools.order
 
--- A search went back, or stayed where it was, with what it has.
-pub record HasTurned (old new : Search) : Type 0 where
+-- A search went back, or stayed where it was, with what it has, and now has these clauses.
+pub record HasMoved (old new : Search) (all : List (List SatLit)) : Type 0 where
   pub fitting : IsFitting new.watches new.trail
-  pub clauses : new.watches.clauses ≡ old.watches.clauses
+  pub clauses : new.watches.clauses ≡ all
   pub variables : new.trail.variables ≡ old.trail.variables
   pub tools : StayTools old.tools new.tools
+
+-- its clauses are those that it had
+abbrev pub HasTurned : Search → Search → Type 0
+HasTurned old new = HasMoved old new old.watches.clauses
+
+-- it has one clause more
+abbrev pub HasReturned : Search → Search → List SatLit → Type 0
+HasReturned old new clause = HasMoved old new (old.watches.clauses ++ clause ∷ [])
+
+-- A search that may go back to a level with a learned clause, of which one literal alone isn't false there.
+pub record CanReturn (search : Search) (clause : List SatLit) (level : ℕ) : Type 0 where
+  pub turn : CanTurn search
+  pub known : AreKnown search.watches.variables clause
+  pub filled : is_empty clause ≡ false
+  pub above : 0 < search.trail.level
+  pub asserting : IsAsserting search.trail clause level
+  pub sound : IsSoundBack search.watches clause search.trail level
 
 -- A search that may go on: it is under way, and its lines are those that were charged.
 pub record CanGo {Others : Type 0} (solving : Solving) (charging : Charging Others) (search : Search) : Type 0 where

@@ -67,12 +67,6 @@ pub record IsFitting (watching : Watching) (trail : Trailing) : Type 0 where
   pub sound : IsSound watching.clauses trail
   pub covered : (id : ℕ) → id < length watching.clauses → IsCovered watching trail.entries id
 
--- It was propagated.
-pub record IsPropagated (before after : Watching) (old new : Trailing) : Type 0 where
-  pub fitting : IsFitting after new
-  pub clauses : after.clauses ≡ before.clauses
-  pub grown : IsGrown old new
-
 -- A trail after going back.
 pub record IsBack (old back : Trailing) (level : ℕ) : Type 0 where
   pub variables : back.variables ≡ old.variables

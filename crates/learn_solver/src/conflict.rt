@@ -3,9 +3,9 @@
 ghost use Rattle.std.specs.Prelude.{◌≡◌, ◌+◌, ◌<◌, ◌≤◌, ◌==◌, false, All, IfOk, OnOk, length, map, replicate, ℕ, if◌then◌else◌};
 ghost use Rattle.cnf_core.specs.Clauses.{opposite};
 ghost use Rattle.cnf_core.specs.Derivations.{is_empty};
-ghost use Rattle.trail_core.specs.Trails.{IsPlace, IsTrail, entry_at, literals};
-ghost use Rattle.watch_lists.specs.Propagations.{AreKnown, IsConflict, IsSound};
-ghost use Rattle.learn_solver.specs.Analyses.{AreBefore, AreMarked, AreOnTrail, HasPlace, IsAnalysis, IsBackLevel, IsLearned, IsMinimized, IsReducing, StayFrom, StayMarked, here_in, kept_literals, kept_here};
+ghost use Rattle.trail_core.specs.Trails.{IsPlace, IsTrail, entry_at};
+ghost use Rattle.watch_lists.specs.Propagations.{AreKnown, IsSound};
+ghost use Rattle.learn_solver.specs.Analyses.{AreBefore, AreMarked, AreOnTrail, CanAnalyse, HasPlace, IsAnalysis, IsBackLevel, IsLearned, IsMinimized, IsReducing, StayFrom, StayMarked, here_in, kept_literals, kept_here};
 
 use cnf_core::{ClauseStore, SatLit};
 use items::Items;
@@ -44,11 +44,7 @@ pub(crate) fn analyse(
     marked: &mut [bool],
     conflict: u64,
 ) -> Result<Learned, AllocError>
-    requires clear { marked.old ≡ replicate trail.now.variables false }
-    requires known { All (AreKnown trail.now.variables) clauses.now.clauses }
-    requires filled { All (λ clause. is_empty clause ≡ false) clauses.now.clauses }
-    requires sound { IsSound clauses.now.clauses trail.now }
-    requires conflict { IsConflict clauses.now.clauses (literals trail.now.entries) conflict }
+    requires { CanAnalyse clauses.now.clauses trail.now marked.old conflict }
     ensures learned { IfOk result (IsLearned clauses.now.clauses trail.now) }
     ensures clear { marked.new ≡ replicate trail.now.variables false }
 {
@@ -65,11 +61,7 @@ fn resolved(
     marked: &mut [bool],
     conflict: u64,
 ) -> Result<Learned, AllocError>
-    requires clear { marked.old ≡ replicate trail.now.variables false }
-    requires known { All (AreKnown trail.now.variables) clauses.now.clauses }
-    requires filled { All (λ clause. is_empty clause ≡ false) clauses.now.clauses }
-    requires sound { IsSound clauses.now.clauses trail.now }
-    requires conflict { IsConflict clauses.now.clauses (literals trail.now.entries) conflict }
+    requires { CanAnalyse clauses.now.clauses trail.now marked.old conflict }
     ensures learned { IfOk result (IsLearned clauses.now.clauses trail.now) }
     ensures size { length marked.new ≡ trail.now.variables }
     ensures on_trail { AreOnTrail trail.now.entries marked.new }
@@ -110,10 +102,7 @@ impl Analysis {
         marked: &mut [bool],
         conflict: u64,
     ) -> Result<Analysis, AllocError>
-        requires clear { marked.old ≡ replicate trail.now.variables false }
-        requires known { All (AreKnown trail.now.variables) clauses.now.clauses }
-        requires sound { IsSound clauses.now.clauses trail.now }
-        requires conflict { IsConflict clauses.now.clauses (literals trail.now.entries) conflict }
+        requires { CanAnalyse clauses.now.clauses trail.now marked.old conflict }
         ensures analysis { IfOk result (IsAnalysis clauses.now.clauses trail.now marked.new) }
         ensures size { length marked.new ≡ trail.now.variables }
         ensures on_trail { AreOnTrail trail.now.entries marked.new }
@@ -210,8 +199,8 @@ impl Analysis {
             return Ok(());
         }
         let _ = mark(marked, trail, clauses.get(id));
-        marked[variable] = false;
         self.steps.push(id)?;
+        marked[variable] = false;
         Ok(())
     }
 

@@ -241,7 +241,8 @@ fn numbers_below(alloc: Global, count: usize) -> Result<Vec<usize>, AllocError>
     Ok(numbers)
 }
 
-fn zeros(alloc: Global, count: usize) -> Result<Vec<u64>, AllocError>
+/// n zeros.
+pub(crate) fn zeros(alloc: Global, count: usize) -> Result<Vec<u64>, AllocError>
     ensures { IfOk result (λ zeros. length zeros.items ≡ count) }
 {
     vec![in alloc; 0; count]

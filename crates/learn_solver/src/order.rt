@@ -6,8 +6,9 @@ ghost use Rattle.trail_core.specs.Trails.{IsFree};
 ghost use Rattle.watch_lists.specs.Propagations.{AreKnown};
 ghost use Rattle.learn_solver.specs.Orders.{IsOrder};
 
+use crate::conflict::no_marks;
 use crate::focus::Focus;
-use crate::heap::Heap;
+use crate::heap::{Heap, zeros};
 use cnf_core::{ClauseStore, SatLit};
 use std::alloc::{AllocError, Global};
 use trail_core::Trail;
@@ -66,7 +67,7 @@ impl Order {
     {
         let mut order = Order {
             heap: Heap::new(alloc, variables)?,
-            phases: falses(alloc, variables)?,
+            phases: no_marks(alloc, variables)?,
             weight: LEAST,
             named: zeros(alloc, variables)?,
             conflicts: 0,
@@ -176,16 +177,4 @@ pub(crate) fn bump_all(order: &mut Order, clauses: &ClauseStore, steps: &[u64])
     for step in steps.iter() {
         order.name_all(clauses.get(*step));
     }
-}
-
-fn zeros(alloc: Global, count: usize) -> Result<Vec<u64>, AllocError>
-    ensures { IfOk result (λ zeros. length zeros.items ≡ count) }
-{
-    vec![in alloc; 0; count]
-}
-
-fn falses(alloc: Global, count: usize) -> Result<Vec<bool>, AllocError>
-    ensures { IfOk result (λ falses. length falses.items ≡ count) }
-{
-    vec![in alloc; false; count]
 }

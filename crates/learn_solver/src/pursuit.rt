@@ -48,7 +48,7 @@ impl<'a, B: Base> Solver<'a, B> {
         Ok(None)
     }
 
-    // Looks at each candidate, and tells the guide.
+    // Looks for each candidate whether its literals can be true together, and tells the guide.
     fn follow<G: Guide, L: Charge>(
         &mut self,
         alloc: Global,
@@ -62,28 +62,13 @@ impl<'a, B: Base> Solver<'a, B> {
         ensures stop { IfErr result (IsStopped self.old self.new (L.charging ledger.old) (L.charging ledger.new)) }
     {
         for candidate in candidates.iter() {
-            if let Some(found) = self.look_at(alloc, search, *candidate, ledger)? {
+            search.narrow(*candidate);
+            if let Some(found) = self.pursue(alloc, search, MOST, ledger)? {
                 return Ok(Some(found));
             }
             guide.done_with(*candidate, self.count())?;
         }
         Ok(None)
-    }
-
-    // Looks whether a candidate's literals can be true together.
-    fn look_at<L: Charge>(
-        &mut self,
-        alloc: Global,
-        search: &mut Search,
-        candidate: Candidate,
-        ledger: &mut L,
-    ) -> Result<Option<Finding>, Stop>
-        requires { CanGo self.old (L.charging ledger.old) search.old }
-        ensures gone { IfOk result (HasGone self.old self.new (L.charging ledger.old) (L.charging ledger.new) search.new) }
-        ensures stop { IfErr result (IsStopped self.old self.new (L.charging ledger.old) (L.charging ledger.new)) }
-    {
-        search.narrow(candidate);
-        self.pursue(alloc, search, MOST, ledger)
     }
 
     // Searches until the goal is settled, for n lines at most.

@@ -1,14 +1,13 @@
 //! A search for a model: the trail, the watched clauses, and what is decided.
 
-ghost use Rattle.std.specs.Prelude.{◌≡◌, ◌<◌, ◌++◌, ◌∷◌, [], false, IfOk, IfNone, IfSome, OnOk, All, length};
+ghost use Rattle.std.specs.Prelude.{◌≡◌, ◌<◌, ◌≤◌, ◌++◌, ◌∷◌, [], false, IfOk, IfNone, IfSome, OnOk, All, length};
 ghost use Rattle.std.specs.List.{list_any};
 ghost use Rattle.cnf_core.specs.Derivations.{AreDerived, clauses_of, is_empty};
 ghost use Rattle.trail_core.specs.Trails.{IsFree, literals};
-ghost use Rattle.learn_solver.specs.Searches.{CanTurn, HasTurned, IsAssigned};
-ghost use Rattle.watch_lists.specs.Propagations.{AreKnown, IsConflict, IsQuiet};
-ghost use Rattle.learn_solver.specs.Starts.{AreAllLoose, AreIdle, IsBegun, IsFitting, IsPropagated, IsSoundBack, IsStarting, IsStuck, StayTools};
+ghost use Rattle.learn_solver.specs.Searches.{CanReturn, CanTurn, HasReturned, HasTurned, IsAssigned};
+ghost use Rattle.watch_lists.specs.Propagations.{AreKnown, IsConflict, IsGrown, IsQuiet};
+ghost use Rattle.learn_solver.specs.Starts.{AreAllLoose, AreIdle, IsBack, IsBegun, IsFitting, IsStarting, IsStuck, StayTools};
 ghost use Rattle.learn_solver.specs.Orders.{IsOrder};
-ghost use Rattle.learn_solver.specs.Analyses.{IsAsserting};
 ghost use Rattle.learn_solver.specs.Solvers.{ArePut};
 
 use crate::candidate::{Candidate, Operands};
@@ -168,11 +167,11 @@ impl Search {
     /// false.
     pub(crate) fn propagate(&mut self) -> Option<u64>
         requires { IsFitting self.old.watches self.old.trail }
-        ensures propagated { IsPropagated self.old.watches self.new.watches self.old.trail self.new.trail }
+        ensures turned { HasTurned self.old self.new }
+        ensures grown { IsGrown self.old.trail self.new.trail }
         ensures none { IfNone result (IsQuiet self.new.watches.clauses (literals self.new.trail.entries)) }
         ensures walked { IfNone result (self.new.trail.walked ≡ length self.new.trail.entries) }
         ensures some { IfSome result (IsConflict self.new.watches.clauses (literals self.new.trail.entries)) }
-        ensures tools { self.new.tools ≡ self.old.tools }
     {
         let conflict = self.watches.propagate(&mut self.trail);
         let _walked = self.trail.walked();
@@ -183,17 +182,8 @@ impl Search {
     /// level 0 where it is time to begin anew. A restart comes after a learned line alone, each of which costs a unit, so
     /// there are no more of them than units.
     pub(crate) fn go_back(&mut self, clause: &[SatLit], level: u64) -> Result<(), AllocError>
-        requires fitting { IsFitting self.old.watches self.old.trail }
-        requires order { IsOrder self.old.trail.variables self.old.tools.order }
-        requires known { AreKnown self.old.watches.variables clause.now }
-        requires filled { is_empty clause.now ≡ false }
-        requires above { 0 < self.old.trail.level }
-        requires asserting { IsAsserting self.old.trail clause.now level }
-        requires sound { IsSoundBack self.old.watches clause.now self.old.trail level }
-        ensures fitting { OnOk result (IsFitting self.new.watches self.new.trail) }
-        ensures clauses { OnOk result (self.new.watches.clauses ≡ self.old.watches.clauses ++ clause.now ∷ []) }
-        ensures variables { OnOk result (self.new.trail.variables ≡ self.old.trail.variables) }
-        ensures tools { StayTools self.old.tools self.new.tools }
+        requires { CanReturn self.old clause.now level }
+        ensures { OnOk result (HasReturned self.old self.new clause.now) }
     {
         self.assert(clause, level)?;
         self.restart();
@@ -254,29 +244,31 @@ impl Search {
         if self.trail.level() == 0 {
             return;
         }
-        release_above(&self.trail, 0, &self.tools.focus, &mut self.tools.order);
-        self.trail.back_to(0);
+        self.leave(0);
+    }
+
+    // Goes back to a level, and notes that the literals of greater ones are no longer assigned.
+    fn leave(&mut self, level: u64)
+        requires order { IsOrder self.old.trail.variables self.old.tools.order }
+        requires level { level ≤ self.old.trail.level }
+        ensures back { IsBack self.old.trail self.new.trail level }
+        ensures order { IsOrder self.old.trail.variables self.new.tools.order }
+        ensures tools { StayTools self.old.tools self.new.tools }
+        ensures watches { self.new.watches ≡ self.old.watches }
+    {
+        release_above(&self.trail, level, &self.tools.focus, &mut self.tools.order);
+        self.trail.back_to(level);
     }
 
     // Goes back to a level with a learned clause, of which one literal alone isn't false there.
     fn assert(&mut self, clause: &[SatLit], level: u64) -> Result<(), AllocError>
-        requires fitting { IsFitting self.old.watches self.old.trail }
-        requires order { IsOrder self.old.trail.variables self.old.tools.order }
-        requires known { AreKnown self.old.watches.variables clause.now }
-        requires filled { is_empty clause.now ≡ false }
-        requires above { 0 < self.old.trail.level }
-        requires asserting { IsAsserting self.old.trail clause.now level }
-        requires sound { IsSoundBack self.old.watches clause.now self.old.trail level }
-        ensures fitting { OnOk result (IsFitting self.new.watches self.new.trail) }
-        ensures clauses { OnOk result (self.new.watches.clauses ≡ self.old.watches.clauses ++ clause.now ∷ []) }
-        ensures variables { OnOk result (self.new.trail.variables ≡ self.old.trail.variables) }
+        requires { CanReturn self.old clause.now level }
+        ensures returned { OnOk result (HasReturned self.old self.new clause.now) }
         ensures order { IsOrder self.old.trail.variables self.new.tools.order }
-        ensures tools { StayTools self.old.tools self.new.tools }
     {
         let id = self.watches.add(clause)?;
         let _walked = self.trail.walked();
-        release_above(&self.trail, level, &self.tools.focus, &mut self.tools.order);
-        self.trail.back_to(level);
+        self.leave(level);
         let None = self.watches.attach(id, &mut self.trail) else {
             unreachable!()
         };

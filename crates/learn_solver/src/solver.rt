@@ -1,6 +1,6 @@
 //! The solver.
 
-ghost use Rattle.std.specs.Prelude.{◌≡◌, ◌+◌, ◌<◌, ◌≤◌, ◌++◌, ◌∷◌, [], true, false, None, All, MatchOption, IfOk, IfErr, OnOk, OnErr, length, map};
+ghost use Rattle.std.specs.Prelude.{◌≡◌, ◌+◌, ◌<◌, ◌≤◌, ◌++◌, ◌∷◌, [], true, false, None, All, MatchOption, IfOk, IfErr, IfNone, OnOk, OnErr, length, map};
 ghost use Rattle.std.specs.List.{list_any};
 ghost use Rattle.cnf_core.specs.Clauses.{clause_at};
 ghost use Rattle.cnf_core.specs.Derivations.{AreDerived, clauses_of, is_empty, line_fault};
@@ -8,7 +8,7 @@ ghost use Rattle.trail_core.specs.Trails.{literals};
 ghost use Rattle.watch_lists.specs.Propagations.{IsConflict, IsQuiet};
 ghost use Rattle.learn_solver.specs.Analyses.{has_all};
 ghost use Rattle.cnf_core.specs.Charges.{IsCharged, IsRefused};
-ghost use Rattle.learn_solver.specs.Searches.{CanGo, HasEnded, IsAdvanced, IsDecided, IsLearning, IsLearnt, IsLesson, IsRunning, IsSame, last_line};
+ghost use Rattle.learn_solver.specs.Searches.{CanGo, HasEnded, HasGone, IsDecided, IsLearning, IsLearnt, IsLesson, IsRunning, IsSame, last_line, remaining};
 ghost use Rattle.learn_solver.specs.Solvers.{IsAsking, IsBounded, IsBoundedStop, IsExtended, IsModel, IsStopped, IsVerdict, ArePut, active, id_at, wanted};
 ghost use Rattle.learn_solver.specs.Findings.{IsFinding};
 ghost use Rattle.learn_solver.specs.Starts.{IsBegun};
@@ -212,14 +212,10 @@ impl<'a, B: Base> Solver<'a, B> {
         ledger: &mut L,
     ) -> Result<Option<Finding>, Stop>
         requires { CanGo self.old (L.charging ledger.old) search.old }
-        ensures extended { IfOk result
-            (λ _. IsExtended self.old self.new (L.charging ledger.old) (L.charging ledger.new)) }
-        ensures asking { IfOk result (λ _. IsAsking (L.charging ledger.new) self.new.lines) }
-        ensures answer { IfOk result (λ answer. MatchOption answer
-            (IsAdvanced self.new (L.charging ledger.old) (L.charging ledger.new) search.old.trail search.new.trail
-            search.new.watches search.new.tools) (IsFinding self.new)) }
-        ensures stop { IfErr result
-            (IsStopped self.old self.new (L.charging ledger.old) (L.charging ledger.new)) }
+        ensures gone { IfOk result (HasGone self.old self.new (L.charging ledger.old) (L.charging ledger.new) search.new) }
+        ensures less { IfOk result (λ answer. IfNone answer
+            (remaining (L.charging ledger.new) search.new.trail < remaining (L.charging ledger.old) search.old.trail)) }
+        ensures stop { IfErr result (IsStopped self.old self.new (L.charging ledger.old) (L.charging ledger.new)) }
     {
         let Some(conflict) = search.propagate() else {
             let answer = self.decide(alloc, search)?;
@@ -228,7 +224,7 @@ impl<'a, B: Base> Solver<'a, B> {
         let Some(level) = self.learn(alloc, search, conflict, ledger)? else {
             return Ok(Some(self.refuted()));
         };
-        search.go_back(&self.lines[self.lines.len() - 1].clause, level)?;
+        search.go_back(&self.last().clause, level)?;
         Ok(None)
     }
 
@@ -264,7 +260,15 @@ impl<'a, B: Base> Solver<'a, B> {
         ensures refused { IfErr result
             (IsRefused (L.charging ledger.old) (last_line self.now.lines) (L.charging ledger.new)) }
     {
-        ledger.charge(&self.lines[self.lines.len() - 1])
+        ledger.charge(self.last())
+    }
+
+    // The last line.
+    fn last(&self) -> &LogLine
+        requires { 0 < length self.now.lines }
+        ensures { result.now ≡ last_line self.now.lines }
+    {
+        &self.lines[self.lines.len() - 1]
     }
 
     // Adds a derived line. A refusal changes nothing.

@@ -1,12 +1,12 @@
 -- Literals that were made true, by the bits of their variables.
-use Rattle.std.proofs.Common.{◌≡◌, ℕ, zero, suc, ◌+◌, ◌<◌, ◌||◌, not, cond, Bool, true, false, List, [], ◌∷◌, ◌++◌, length, drop, Option, None, Some, is_some, count_by, slice_set, replicate, Vec, vec_capacity, inl, inr, refl, sym, ◌∙◌, ap, subst, arith}
+use Rattle.std.proofs.Common.{◌≡◌, ℕ, suc, ◌+◌, ◌<◌, ◌||◌, not, cond, Bool, true, false, List, [], ◌∷◌, ◌++◌, length, drop, Option, None, Some, is_some, count_by, slice_set, replicate, Vec, vec_capacity, inl, inr, refl, sym, ◌∙◌, ap, subst, arith}
 use Rattle.std.specs.Bool.{beq}
 use Rattle.std.specs.List.{list_any}
 use Rattle.std.proofs.lemmas.Bool.{cases_eq, false≢true}
 use Rattle.std.proofs.lemmas.Bool.Decides.{eqb_tells}
 use Rattle.std.proofs.lemmas.List.{get_or-set_same, get_or-set_other, length-set, length-append}
 use Rattle.std.proofs.lemmas.List.Folds.{list_any-append}
-use Rattle.std.proofs.lemmas.List.Sums.{count_by-le-length, sum_by-cons}
+use Rattle.std.proofs.lemmas.List.Sums.{count_by-le-length, sum_by-set}
 use Rattle.std.proofs.lemmas.List.Elements.{All-append, All-cons, All-nil}
 use Rattle.std.specs.declared.alloc.Global.{Global}
 use Rattle.cnf_core.specs.declared.literal.SatLit.{SatLit}
@@ -41,27 +41,15 @@ pub all_none : (bits : List (Option Bool)) → ((v : ℕ) → v < length bits �
 all_none [] none = refl
 all_none (b ∷ bits) none = ap (λ c. c ∷ bits) (none 0 (omega arith)) ∙ ap (λ bs. None ∷ bs) (all_none bits (λ v below. none (suc v) (omega (arith, below))))
 
--- how many bits there are, with one more in front
-count_none : (bits : List (Option Bool)) → count_by (is_some {T = Bool}) (None ∷ bits) ≡ count_by (is_some {T = Bool}) bits
-count_none bits = let e : count_by (is_some {T = Bool}) (None ∷ bits) ≡ 0 + count_by (is_some {T = Bool}) bits = sum_by-cons (λ b. cond (is_some {T = Bool} b) 1 0) None bits in omega (arith, e)
-
-count_some : (b : Bool) (bits : List (Option Bool)) → count_by (is_some {T = Bool}) (Some b ∷ bits) ≡ suc (count_by (is_some {T = Bool}) bits)
-count_some b bits = let e : count_by (is_some {T = Bool}) (Some b ∷ bits) ≡ 1 + count_by (is_some {T = Bool}) bits = sum_by-cons (λ b. cond (is_some {T = Bool} b) 1 0) (Some b) bits in omega (arith, e)
-
 -- one bit more
-pub count_less : (bits : List (Option Bool)) (v : ℕ) → v < length bits → bit_at bits v ≡ None → count_by (is_some {T = Bool}) bits < length bits
-count_less [] v below none = absurd (omega (arith, below))
-count_less (None ∷ bits) zero below none = omega (arith, count_none bits, count_by-le-length (is_some {T = Bool}) bits)
-count_less (Some b ∷ bits) zero below none = cc
-count_less (None ∷ bits) (suc v) below none = omega (arith, count_none bits, count_less bits v (omega (arith, below)) none)
-count_less (Some b ∷ bits) (suc v) below none = omega (arith, count_some b bits, count_less bits v (omega (arith, below)) none)
-
 pub count_more : (bits : List (Option Bool)) (v : ℕ) (b : Bool) → v < length bits → bit_at bits v ≡ None → count_by (is_some {T = Bool}) (slice_set bits v (Some b)) ≡ count_by (is_some {T = Bool}) bits + 1
-count_more [] v b below none = absurd (omega (arith, below))
-count_more (None ∷ bits) zero b below none = omega (arith, count_none bits, count_some b bits)
-count_more (Some c ∷ bits) zero b below none = cc
-count_more (None ∷ bits) (suc v) b below none = omega (arith, count_none bits, count_none (slice_set bits v (Some b)), count_more bits v b (omega (arith, below)) none)
-count_more (Some c ∷ bits) (suc v) b below none = omega (arith, count_some c bits, count_some c (slice_set bits v (Some b)), count_more bits v b (omega (arith, below)) none)
+count_more bits v b below none =
+    let f : Option Bool → ℕ = λ held. cond (is_some {T = Bool} held) 1 0 in omega (arith, sum_by-set f bits v (Some b) None below, ap f none)
+
+-- where a bit is missing, there are fewer than variables
+pub count_less : (bits : List (Option Bool)) (v : ℕ) → v < length bits → bit_at bits v ≡ None → count_by (is_some {T = Bool}) bits < length bits
+count_less bits v below none =
+    omega (arith, count_more bits v true below none, count_by-le-length (is_some {T = Bool}) (slice_set bits v (Some true)), length-set bits v (Some true))
 
 -- the bit of a literal that can be made
 pub no_bit : (bits : List (Option Bool)) (made : List SatLit) (l : SatLit) → ((v : ℕ) (b : Bool) → v < length bits → tells (bit_at bits v) b ≡ is_true made (literal_of v b)) → variable_of l < length bits → is_true made l ≡ false → is_false made l ≡ false → bit_at bits (variable_of l) ≡ None

@@ -2,7 +2,7 @@
 use Rattle.std.proofs.Common.{◌≡◌, ℕ, suc, ◌<◌, ◌==◌, ◌||◌, Bool, true, false, List, [], ◌∷◌, ◌++◌, length, map, take, drop, Some, slice_index_or, inl, inr, refl, sym, ◌∙◌, ap, subst, arith}
 use Rattle.std.specs.List.{list_any}
 use Rattle.std.proofs.lemmas.Bool.{eq-eqb}
-use Rattle.std.proofs.lemmas.List.Folds.{list_any-append}
+use Rattle.std.proofs.lemmas.List.Folds.{list_any-append, list_any_none}
 use Rattle.std.proofs.lemmas.Bool.Decides.{eqb_tells}
 use Rattle.std.proofs.lemmas.List.{map-append}
 use Rattle.std.proofs.Math.Seq.{drop-cons, take-suc}
@@ -72,10 +72,6 @@ met_before (m ∷ earlier) l =
     by_twos (is_same l (opposite m)) (is_true (map opposite earlier) l) (is_same (opposite l) (opposite m)) (is_false (map opposite earlier) l)
     ∙ (ap (λ t. t || (is_true (map opposite earlier) l || is_false (map opposite earlier) l)) (same_variable l m) ∙ ap (λ t. (variable_of m == variable_of l) || t) (met_before earlier l))
 
-none_found : (clause : List SatLit) → list_any (λ l. false) clause ≡ false
-none_found [] = refl
-none_found (l ∷ clause) = none_found clause
-
 symmetric : (a b : ℕ) → (a == b) ≡ (b == a)
 symmetric a b =
     elim (eqb_tells a b) [
@@ -115,7 +111,7 @@ twice_either earlier (l ∷ left) =
     ap (λ t. before || t) (twice_either (earlier ++ l ∷ []) left ∙ ap (λ t. t || repeats_variable left) (any_earlier earlier l left)) ∙ in_order before rest later (repeats_variable left)
 
 pub twice_in_all : (clause : List SatLit) → twice_after [] clause ≡ repeats_variable clause
-twice_in_all clause = twice_either [] clause ∙ ap (λ t. t || repeats_variable clause) (none_found clause)
+twice_in_all clause = twice_either [] clause ∙ ap (λ t. t || repeats_variable clause) (list_any_none (λ (l : SatLit). false) clause (λ _ _ _. refl))
 
 -- a literal whose variable has a bit already
 pub found_twice : (old now : Made) (clause : List SatLit) (k : ℕ) (d : SatLit) → IsNegated old now clause k → k < length clause → (is_true now.made (slice_index_or clause k d) || is_false now.made (slice_index_or clause k d)) ≡ true → repeats_variable clause ≡ true

@@ -1,8 +1,8 @@
 -- The last literals taken off a trail, those of greater levels.
-use Rattle.std.proofs.Common.{◌≡◌, ◌≢◌, ℕ, zero, suc, ◌+◌, ◌-◌, ◌<◌, ◌≤◌, cond, Bool, true, false, List, [], ◌∷◌, ◌++◌, length, take, drop, filter, min, nat_le, All, Option, None, Some, is_none, slice_index_or, Vec, vec_capacity, inl, inr, refl, sym, ◌∙◌, ap, subst, arith}
+use Rattle.std.proofs.Common.{◌≡◌, ◌≢◌, ℕ, zero, suc, ◌+◌, ◌-◌, ◌<◌, ◌≤◌, cond, Bool, true, false, List, [], ◌∷◌, ◌++◌, length, take, drop, filter, min, nat_le, All, Option, None, Some, is_none, Vec, vec_capacity, inl, inr, refl, sym, ◌∙◌, ap, subst, arith}
 use Rattle.std.proofs.lemmas.Bool.{cases_eq, le-leb, lt-leb}
 use Rattle.std.proofs.lemmas.Bool.Decides.{leb_tells}
-use Rattle.std.proofs.lemmas.List.{append-nil, get_or-take, get_or-drop, length-take-le, length-drop, take-take, take-append-drop, take_all}
+use Rattle.std.proofs.lemmas.List.{append-nil, get_or_default, get_or-take, get_or-drop, length-take-le, length-drop, take-take, take-append-drop, take_all}
 use Rattle.std.proofs.lemmas.List.Elements.{All-head, All-tail, filter-append}
 use Rattle.std.proofs.lemmas.List.Sums.{sum_by-take-le}
 use Rattle.std.specs.declared.alloc.Global.{Global}
@@ -39,11 +39,6 @@ passes_none p [] none = refl
 passes_none p (x ∷ xs) none =
     ap (λ t. cond t (x ∷ filter p xs) (filter p xs)) (All-head (λ x. p x ≡ false) x xs none) ∙ passes_none p xs (All-tail (λ x. p x ≡ false) x xs none)
 
-pub at_any : (xs : List Assigned) (k : ℕ) (d : Assigned) → k < length xs → slice_index_or xs k d ≡ entry_at xs k
-at_any [] k d within = absurd (omega (arith, within))
-at_any (x ∷ xs) zero d within = refl
-at_any (x ∷ xs) (suc k) d within = at_any xs k d (omega (arith, within))
-
 -- what is kept is what has no greater level
 pub kept_is_filter : (t : Trailing) → IsTrail t → (level kept : ℕ) → IsCutAt level t.entries kept → take kept t.entries ≡ filter (λ e. nat_le e.level level) t.entries
 kept_is_filter t is level kept cut =
@@ -56,13 +51,13 @@ kept_is_filter t is level kept cut =
     low : All (λ (e : Assigned). nat_le e.level level ≡ true) (take kept t.entries)
     low k d h =
         let below : k < kept = omega (arith, h, length-take-le kept t.entries cut.within) in
-        let there = get_or-take kept t.entries k d below ∙ at_any t.entries k d (omega (arith, below, cut.within)) in
+        let there = get_or-take kept t.entries k d below ∙ get_or_default t.entries k d nothing (omega (arith, below, cut.within)) in
         ap (λ (e : Assigned). nat_le e.level level) there ∙ le-leb (entry_at t.entries k).level level (kept_low t is level kept cut k below)
 
     high : All (λ (e : Assigned). nat_le e.level level ≡ false) (drop kept t.entries)
     high k d h =
         let inside : kept + k < length t.entries = omega (arith, h, length-drop kept t.entries) in
-        let there = get_or-drop kept t.entries k d ∙ at_any t.entries (kept + k) d inside in
+        let there = get_or-drop kept t.entries k d ∙ get_or_default t.entries (kept + k) d nothing inside in
         ap (λ (e : Assigned). nat_le e.level level) there ∙ lt-leb (entry_at t.entries (kept + k)).level level (cut.dropped (kept + k) (omega arith) inside)
 
 one_at_most : (r : Option ℕ) → cond (is_none r) 1 0 ≤ 1

@@ -1,11 +1,13 @@
 -- What is true on a trail, where the literals of variables stand, and one literal more at the end.
-use Rattle.std.proofs.Common.{◌≡◌, ◌≢◌, ℕ, zero, suc, ◌+◌, ◌/◌, ◌<◌, ◌≤◌, ◌||◌, cond, eqb, Bool, true, false, List, [], ◌∷◌, ◌++◌, length, map, take, drop, All, Option, None, Some, is_none, slice_index_or, slice_set, Vec, vec_capacity, ◌⊎◌, inl, inr, refl, sym, ◌∙◌, ap, subst, arith}
+use Rattle.std.proofs.Common.{◌≡◌, ◌≢◌, ℕ, suc, ◌+◌, ◌/◌, ◌<◌, ◌≤◌, ◌||◌, cond, eqb, Bool, true, false, List, [], ◌∷◌, ◌++◌, length, map, take, drop, All, Option, None, Some, is_none, slice_index_or, slice_set, Vec, vec_capacity, ◌⊎◌, inl, inr, refl, sym, ◌∙◌, ap, subst, arith}
 use Rattle.std.specs.List.{list_any}
-use Rattle.std.proofs.lemmas.Bool.{cases_eq, cases_Bool, false≢true, eq-eqb, ne_eqb}
+use Rattle.std.proofs.lemmas.Bool.{cases_eq, false≢true, false_from_ne_true, eq-eqb, eqb-true, ne_eqb}
 use Rattle.std.proofs.lemmas.Bool.Decides.{eqb_tells, leb_tells}
 use Rattle.std.proofs.lemmas.List.{get_or-map, get_or-set_same, get_or-set_other, get_or_append_left, get_or_at, length-set, length-append, length-map, take-append-le, take_all, take_at}
+use Rattle.std.proofs.lemmas.List.Elements.{All-contains, All-from_get_or, All-map}
 use Rattle.std.proofs.lemmas.List.Folds.{list_any_at}
 use Rattle.std.proofs.lemmas.List.Sums.{sum_by_push, sum_by_more}
+use Rattle.std.proofs.lemmas.Map.Views.{Contains-from_any}
 use Rattle.std.proofs.lemmas.Map.Keys.{IsDistinct-from_apart}
 use Rattle.std.proofs.lemmas.Map.Steps.{length-le_from_distinct_below}
 use Rattle.std.specs.declared.alloc.Global.{Global}
@@ -38,10 +40,7 @@ place_of_true (x ∷ es) l e =
 -- where no literal has the variable, the literal isn't true
 pub not_true_of : (es : List Assigned) (l : SatLit) → All (λ e. variable_of e.literal ≢ variable_of l) es → is_true (literals es) l ≡ false
 not_true_of es l none =
-    elim (cases_Bool (is_true (literals es) l)) [
-      | inl holds ↦ let there = place_of_true es l holds in absurd (none there.0 nothing there.1 (ap (λ n. n / 2) there.2))
-      | inr fails ↦ fails
-    ]
+    false_from_ne_true (is_true (literals es) l) (λ holds. let there = place_of_true es l holds in none there.0 nothing there.1 (ap (λ n. n / 2) there.2))
 
 -- what a value of None says
 first_of_none : (t f : Bool) → cond t (Some true) (cond f (Some false) None) ≡ None → t ≡ false
@@ -81,6 +80,16 @@ free_at es l free j within same =
       | inr ne ↦ false≢true (sym (not_false (literals es) l free) ∙ true_at es j (opposite l) within (opposites m l same ne))
     ]
 
+-- the literal of a variable stands at one place
+pub same_place : (t : Trailing) → IsTrail t → (i j : ℕ) → i < length t.entries → j < length t.entries → variable_of (entry_at t.entries i).literal ≡ variable_of (entry_at t.entries j).literal → i ≡ j
+same_place t is i j hi hj same = elim (cases_eq i j) [
+  | inl e ↦ e
+  | inr ne ↦ absurd (elim (leb_tells i j) [
+    | inl (found, low) ↦ is.distinct i j (omega (arith, low, ne)) hj same
+    | inr (found, high) ↦ is.distinct j i high hi (sym same)
+  ])
+]
+
 -- the value of a literal whose variable's literal stands at a place
 pub value_at : (t : Trailing) → IsTrail t → (l : SatLit) (p : ℕ) → IsPlace t.entries (variable_of l) p → Some (eqb (entry_at t.entries p).literal.0 l.0) ≡ value_in (literals t.entries) l
 value_at t is l p place =
@@ -90,27 +99,11 @@ value_at t is l p place =
       | inl (found, e) ↦ ap Some found ∙ sym (value_true (literals es) l (true_at es p l place.within e))
       | inr (found, ne) ↦
           let falsity = true_at es p (opposite l) place.within (opposites m l place.there ne) in
-          let other : is_true (literals es) l ≡ false = elim (cases_Bool (is_true (literals es) l)) [
-            | inl holds ↦ let there = place_of_true es l holds in absurd (apart there.0 there.1 there.2 ne)
-            | inr fails ↦ fails
-          ] in
+          let other : is_true (literals es) l ≡ false = false_from_ne_true (is_true (literals es) l) (λ holds.
+          let there = place_of_true es l holds in
+          ne (ap (λ k. (entry_at es k).literal.0) (same_place t is p there.0 place.within there.1 (place.there ∙ sym (ap (λ n. n / 2) there.2))) ∙ there.2)) in
           ap Some found ∙ sym (value_false (literals es) l other falsity)
     ]
-  where
-    apart : (j : ℕ) → j < length t.entries → (entry_at t.entries j).literal.0 ≡ l.0 → (entry_at t.entries p).literal.0 ≢ l.0 → ⊥
-    apart j within same ne =
-        let one : variable_of (entry_at t.entries j).literal ≡ variable_of (entry_at t.entries p).literal = ap (λ n. n / 2) same ∙ sym place.there in
-        elim (cases_eq j p) [
-          | inl e ↦ ne (ap (λ k. (entry_at t.entries k).literal.0) (sym e) ∙ same)
-          | inr differ ↦ by_order j within one differ
-        ]
-      where
-        by_order : (j : ℕ) → j < length t.entries → variable_of (entry_at t.entries j).literal ≡ variable_of (entry_at t.entries p).literal → j ≢ p → ⊥
-        by_order j within one differ =
-            elim (leb_tells j p) [
-              | inl (found, low) ↦ is.distinct j p (omega (arith, low, differ)) place.within one
-              | inr (found, high) ↦ is.distinct p j high within (sym one)
-            ]
 
 -- what is at each place, with one literal more at the end
 at_before : (es : List Assigned) (e : Assigned) (k : ℕ) → k < length es → entry_at (es ++ e ∷ []) k ≡ entry_at es k
@@ -119,7 +112,7 @@ at_before es e k within = get_or_append_left es (e ∷ []) nothing k within
 at_last : (es : List Assigned) (e : Assigned) (k : ℕ) → k ≡ length es → entry_at (es ++ e ∷ []) k ≡ e
 at_last es e k last = get_or_at es e [] nothing k (sym last)
 
-before_or_last : (es : List Assigned) (e : Assigned) (k : ℕ) → k < length (es ++ e ∷ []) → (k < length es) ⊎ (k ≡ length es)
+pub before_or_last : (es : List Assigned) (e : Assigned) (k : ℕ) → k < length (es ++ e ∷ []) → (k < length es) ⊎ (k ≡ length es)
 before_or_last es e k within =
     elim (cases_eq k (length es)) [ inl last ↦ inr last | inr other ↦ inl (omega (arith, within, length-append es (e ∷ []), other)) ]
 
@@ -128,42 +121,6 @@ decisions_push es e = sum_by_push (λ (x : Assigned). cond (is_none x.reason) 1 
 
 pub decisions_more : (es : List Assigned) (k : ℕ) → k < length es → decisions (take (k + 1) es) ≡ decisions (take k es) + cond (is_none (entry_at es k).reason) 1 0
 decisions_more es k within = sum_by_more (λ (x : Assigned). cond (is_none x.reason) 1 0) es k nothing within
-
--- fewer literals than variables are assigned where one is free
-pub fewer : (t : Trailing) → IsTrail t → (l : SatLit) → IsFree t l → length t.entries < t.variables
-fewer t is l free =
-    let vs = variable_of l ∷ map (λ (e : Assigned). variable_of e.literal) t.entries in
-    let count = length-le_from_distinct_below vs t.variables (IsDistinct-from_apart eqb vs apart) below in
-    omega (arith, count, length-map t.entries (λ (e : Assigned). variable_of e.literal))
-  where
-    at_map : (k d : ℕ) → k < length t.entries → slice_index_or (map (λ (e : Assigned). variable_of e.literal) t.entries) k d ≡ variable_of (entry_at t.entries k).literal
-    at_map k d within = get_or-map (λ (e : Assigned). variable_of e.literal) t.entries k nothing d within
-
-    apart : (i j d : ℕ) → i < j → j < length (variable_of l ∷ map (λ (e : Assigned). variable_of e.literal) t.entries) → eqb (slice_index_or (variable_of l ∷ map (λ (e : Assigned). variable_of e.literal) t.entries) i d) (slice_index_or (variable_of l ∷ map (λ (e : Assigned). variable_of e.literal) t.entries) j d) ≡ false
-    apart zero zero d before within = absurd (omega (arith, before))
-    apart zero (suc j) d before within =
-        let inside : j < length t.entries = omega (arith, within, length-map t.entries (λ (e : Assigned). variable_of e.literal)) in
-        ne_eqb _ _ (λ same. free_at t.entries l free.unassigned j inside (sym (at_map j d inside) ∙ sym same))
-    apart (suc i) zero d before within = absurd (omega (arith, before))
-    apart (suc i) (suc j) d before within =
-        let inside : j < length t.entries = omega (arith, within, length-map t.entries (λ (e : Assigned). variable_of e.literal)) in
-        let first : i < length t.entries = omega (arith, inside, before) in
-        ne_eqb _ _ (λ same. is.distinct i j (omega (arith, before)) inside (sym (at_map i d first) ∙ (same ∙ at_map j d inside)))
-
-    below : (q : ℕ) → list_any (eqb q) (variable_of l ∷ map (λ (e : Assigned). variable_of e.literal) t.entries) ≡ true → q < t.variables
-    below q e =
-        elim (eqb_tells q (variable_of l)) [
-          | inl (found, same) ↦ omega (arith, same, free.known)
-          | inr (found, differ) ↦ within_all t.entries (λ k h. is.known k h) (sym (ap (λ t'. t' || list_any (eqb q) (map (λ (e : Assigned). variable_of e.literal) t.entries)) found) ∙ e)
-        ]
-      where
-        within_all : (es : List Assigned) → ((k : ℕ) → k < length es → variable_of (entry_at es k).literal < t.variables) → list_any (eqb q) (map (λ (e : Assigned). variable_of e.literal) es) ≡ true → q < t.variables
-        within_all [] known e = absurd (false≢true e)
-        within_all (x ∷ es) known e =
-            elim (eqb_tells q (variable_of x.literal)) [
-              | inl (found, same) ↦ let low = known 0 (omega arith) in omega (arith, same, low)
-              | inr (found, differ) ↦ within_all es (λ k h. known (suc k) (omega (arith, h))) (sym (ap (λ t'. t' || list_any (eqb q) (map (λ (e : Assigned). variable_of e.literal) es)) found) ∙ e)
-            ]
 
 -- a trail with one literal more
 trail_more : (n : ℕ) (es : List Assigned) (level walked : ℕ) (e : Assigned) → IsTrail (record { variables = n; entries = es; level = level; walked = walked }) → variable_of e.literal < n → value_in (literals es) e.literal ≡ None → e.level ≡ level + cond (is_none e.reason) 1 0 → IsTrail (record { variables = n; entries = es ++ e ∷ []; level = e.level; walked = walked })
@@ -194,6 +151,34 @@ trail_more n es level walked e is known free raised = record {
   where
     whole : e.level ≡ decisions (es ++ e ∷ [])
     whole = raised ∙ (ap (λ m. m + cond (is_none e.reason) 1 0) is.level ∙ sym (decisions_push es e))
+
+-- at most as many literals are assigned as there are variables
+pub at_most : (t : Trailing) → IsTrail t → length t.entries ≤ t.variables
+at_most t is =
+    let vs = map (λ (e : Assigned). variable_of e.literal) t.entries in
+    let count = length-le_from_distinct_below vs t.variables (IsDistinct-from_apart eqb vs apart) below in
+    omega (arith, count, length-map t.entries (λ (e : Assigned). variable_of e.literal))
+  where
+    at_map : (k d : ℕ) → k < length t.entries → slice_index_or (map (λ (e : Assigned). variable_of e.literal) t.entries) k d ≡ variable_of (entry_at t.entries k).literal
+    at_map k d within = get_or-map (λ (e : Assigned). variable_of e.literal) t.entries k nothing d within
+
+    apart : (i j d : ℕ) → i < j → j < length (map (λ (e : Assigned). variable_of e.literal) t.entries) → eqb (slice_index_or (map (λ (e : Assigned). variable_of e.literal) t.entries) i d) (slice_index_or (map (λ (e : Assigned). variable_of e.literal) t.entries) j d) ≡ false
+    apart i j d before within =
+        let inside : j < length t.entries = omega (arith, within, length-map t.entries (λ (e : Assigned). variable_of e.literal)) in
+        ne_eqb _ _ (λ same. is.distinct i j before inside (sym (at_map i d (omega (arith, before, inside))) ∙ (same ∙ at_map j d inside)))
+
+    below : (q : ℕ) → list_any (eqb q) (map (λ (e : Assigned). variable_of e.literal) t.entries) ≡ true → q < t.variables
+    below q found =
+        let vs = map (λ (e : Assigned). variable_of e.literal) t.entries in
+        let known = All-map (λ v. v < t.variables) (λ (e : Assigned). variable_of e.literal) t.entries (All-from_get_or (λ (e : Assigned). variable_of e.literal < t.variables) t.entries nothing is.known) in
+        All-contains (λ v. v < t.variables) vs q known (Contains-from_any (λ x y same. eqb-true x y same) q vs found)
+
+-- fewer are where one is free
+pub fewer : (t : Trailing) → IsTrail t → (l : SatLit) → IsFree t l → length t.entries < t.variables
+fewer t is l free =
+    let e : Assigned = record { literal = l; level = t.level + 1; reason = None } in
+    let more = trail_more t.variables t.entries t.level t.walked e is free.known free.unassigned refl in
+    omega (arith, at_most _ more, length-append t.entries (e ∷ []))
 
 -- what a trail keeps, with one literal more
 pub kept_more : (entries new : Vec Assigned Global) (places : List (Option ℕ)) (level walked n : ℕ) (e : Assigned) → IsKept entries places level walked → variable_of e.literal < length places → value_in (literals entries.items) e.literal ≡ None → e.level ≡ level + cond (is_none e.reason) 1 0 → n ≡ length entries.items → new.items ≡ entries.items ++ e ∷ [] → vec_capacity new ≡ vec_capacity entries → IsKept new (slice_set places (variable_of e.literal) (Some n)) e.level walked
@@ -240,29 +225,6 @@ kept_more entries new places level walked n e is known free raised counted items
               }
         ]
 
--- places lent to be written to, once they are given back
-pub given_back : (size : ℕ) (old lent now : List (Option ℕ)) → lent ≡ old → length now ≡ length lent → length old ≡ size → take size (now ++ drop (length now) old) ≡ now
+-- what is lent to be written to, once it is given back
+pub given_back : {X : Type 0} (size : ℕ) (old lent now : List X) → lent ≡ old → length now ≡ length lent → length old ≡ size → take size (now ++ drop (length now) old) ≡ now
 given_back size old lent now value same full = take_at now (drop (length now) old) size (same ∙ (ap length value ∙ full))
-
--- at most as many literals are assigned as there are variables
-pub at_most : (t : Trailing) → IsTrail t → length t.entries ≤ t.variables
-at_most t is =
-    let vs = map (λ (e : Assigned). variable_of e.literal) t.entries in
-    let count = length-le_from_distinct_below vs t.variables (IsDistinct-from_apart eqb vs apart) (below t.entries (λ k h. is.known k h)) in
-    omega (arith, count, length-map t.entries (λ (e : Assigned). variable_of e.literal))
-  where
-    at_map : (k d : ℕ) → k < length t.entries → slice_index_or (map (λ (e : Assigned). variable_of e.literal) t.entries) k d ≡ variable_of (entry_at t.entries k).literal
-    at_map k d within = get_or-map (λ (e : Assigned). variable_of e.literal) t.entries k nothing d within
-
-    apart : (i j d : ℕ) → i < j → j < length (map (λ (e : Assigned). variable_of e.literal) t.entries) → eqb (slice_index_or (map (λ (e : Assigned). variable_of e.literal) t.entries) i d) (slice_index_or (map (λ (e : Assigned). variable_of e.literal) t.entries) j d) ≡ false
-    apart i j d before within =
-        let inside : j < length t.entries = omega (arith, within, length-map t.entries (λ (e : Assigned). variable_of e.literal)) in
-        ne_eqb _ _ (λ same. is.distinct i j before inside (sym (at_map i d (omega (arith, before, inside))) ∙ (same ∙ at_map j d inside)))
-
-    below : (es : List Assigned) → ((k : ℕ) → k < length es → variable_of (entry_at es k).literal < t.variables) → (q : ℕ) → list_any (eqb q) (map (λ (e : Assigned). variable_of e.literal) es) ≡ true → q < t.variables
-    below [] known q e = absurd (false≢true e)
-    below (x ∷ es) known q e =
-        elim (eqb_tells q (variable_of x.literal)) [
-          | inl (found, same) ↦ let low = known 0 (omega arith) in omega (arith, same, low)
-          | inr (found, differ) ↦ below es (λ k h. known (suc k) (omega (arith, h))) q (sym (ap (λ t'. t' || list_any (eqb q) (map (λ (e : Assigned). variable_of e.literal) es)) found) ∙ e)
-        ]

@@ -1,6 +1,6 @@
 //! The trail.
 
-ghost use Rattle.std.specs.Prelude.{◌≡◌, ◌≢◌, ◌+◌, ◌^◌, ◌<◌, ◌≤◌, ◌++◌, ◌∷◌, [], None, Some, IfOk, IfSome, IfNone, All, length, take, drop, filter, min, replicate, nat_le, ◌==◌, slice_set, vec_len, vec_capacity};
+ghost use Rattle.std.specs.Prelude.{◌≡◌, ◌≢◌, ◌+◌, ◌^◌, ◌<◌, ◌≤◌, ◌++◌, ◌∷◌, [], None, Some, IfOk, IfSome, IfNone, All, length, take, drop, filter, min, replicate, nat_le, ◌==◌, is_none, if◌then◌else◌, slice_set, vec_len, vec_capacity};
 ghost use Rattle.cnf_core.specs.Clauses.{variable_of};
 ghost use Rattle.trail_core.specs.Trails.{IsTrail, IsPlace, IsFree, IsCutAt, entry_at, literals, value_in};
 ghost use Rattle.trail_core.specs.Places.{IsUnset};
@@ -14,13 +14,25 @@ use std::marker::Model;
 /// Sakallah, GRASP, 1999, kept as a list by Eén and Sörensson, MiniSat, 2003). The level is the number of decisions. The
 /// first `walked` literals are those whose consequences were looked for. No variable is assigned twice. Only
 /// `with_variables` takes memory.
-#[derive(Debug, Drop)]
+#[derive(Debug)]
 pub struct Trail {
     entries: Vec<Assigned>,
     /// Where the literal of each variable stands, if it has one.
     places: Vec<Option<usize>>,
     level: u64,
     walked: usize,
+}
+
+// By hand, and so one call wherever a value ends: a derived drop is expanded there, field by field, and makes proofs long.
+impl Drop for Trail {
+    fn drop(self) {
+        let Trail {
+            entries: _entries,
+            places: _places,
+            level: _level,
+            walked: _walked,
+        } = self;
+    }
 }
 
 impl Model for Trail {
@@ -60,13 +72,11 @@ impl Trail {
         ensures most { length self.old.entries < self.old.variables }
     {
         let level = self.level + 1;
-        let entry = Assigned {
+        self.push(Assigned {
             literal: lit,
             level,
             reason: None,
-        };
-        put(&mut self.entries, &mut self.places, entry);
-        self.level = level;
+        });
     }
 
     /// Assigns a literal at the present level, by the clause that leaves nothing else.
@@ -76,12 +86,23 @@ impl Trail {
           entries = self.old.entries ++ record { literal = lit; level = self.old.level; reason = Some reason } ∷ [];
         } }
     {
-        let entry = Assigned {
+        let level = self.level;
+        self.push(Assigned {
             literal: lit,
-            level: self.level,
+            level,
             reason: Some(reason),
-        };
+        });
+    }
+
+    // Adds a literal at the end, of a variable that is free. Its level is the present one, or for a decision the next one.
+    fn push(&mut self, entry: Assigned)
+        requires free { IsFree self.old entry.literal }
+        requires level { entry.level ≡ self.old.level + (if is_none entry.reason then 1 else 0) }
+        ensures pushed { self.new ≡ record self.old { entries = self.old.entries ++ entry ∷ []; level = entry.level } }
+        ensures most { length self.old.entries < self.old.variables }
+    {
         put(&mut self.entries, &mut self.places, entry);
+        self.level = entry.level;
     }
 
     /// How many literals were walked.

@@ -1,5 +1,5 @@
 -- Clauses that are added and attached.
-use Rattle.std.proofs.Common.{◌≡◌, ◌≢◌, ℕ, zero, suc, ◌+◌, ◌*◌, ◌/◌, ◌%◌, ◌^◌, ◌<◌, ◌≤◌, false, List, [], ◌∷◌, ◌++◌, length, take, Some, replicate, inl, inr, refl, sym, ◌∙◌, ap, subst, arith}
+use Rattle.std.proofs.Common.{◌≡◌, ℕ, zero, suc, ◌+◌, ◌*◌, ◌/◌, ◌%◌, ◌^◌, ◌<◌, ◌≤◌, false, List, [], ◌∷◌, ◌++◌, length, take, Some, replicate, inl, inr, refl, sym, ◌∙◌, ap, subst, arith}
 use Rattle.std.proofs.lemmas.Bool.{cases_eq, cases_lt, false≢true}
 use Rattle.std.proofs.lemmas.List.{get_or_append_left, get_or_at, get_or_past, get_or-append-add, get_or-replicate, length-append, length-replicate, take_at}
 use Rattle.std.proofs.lemmas.List.Elements.{All-push}
@@ -14,9 +14,9 @@ use Rattle.watch_lists.specs.Feet.{ArePair, IsSettled}
 use Rattle.watch_lists.specs.Propagations.{AreKnown, IsGrown, IsSound}
 use Rattle.watch_lists.specs.Threads.{ArePut, AreThreaded, IsAttached, IsIn, IsOnce, head_at, links, list_of, literal_at, no_head, no_watch, partner, watch_at}
 use Rattle.watch_lists.specs.Watched.{AreKept, Fits, IsHeld, IsPresent, Watching, loose_watch, with_clause}
-use Rattle.watch_lists.proofs.GrowLemmas.{sound_more}
+use Rattle.watch_lists.proofs.GrowLemmas.{present_more, sound_more}
 use Rattle.watch_lists.proofs.PassLemmas.{grown_none}
-use Rattle.watch_lists.proofs.ThreadLemmas.{partner_within}
+use Rattle.watch_lists.proofs.ThreadLemmas.{partner_within, put_before, put_other}
 
 -- ---- no clause
 
@@ -134,24 +134,6 @@ kept_added variables clauses put ws new heads clause is known filled put_is new_
 
 -- ---- a clause is attached
 
-put_other : (old new : List Watch) (s : ℕ) (a b : SatLit) → s % 2 ≡ 0 → ArePut old new s a b → (t : ℕ) → t ≢ s → t ≢ s + 1 → (literal_at new t ≡ literal_at old t) × (literal_at new (partner t) ≡ literal_at old (partner t))
-put_other old new s a b even put t not_s not_next = (put.others t not_s not_next, put.others (partner t) (λ e. omega (arith, e, not_next, even)) (λ e. omega (arith, e, not_s, even)))
-
-pub put_attached : (old new : List Watch) (s : ℕ) (a b : SatLit) → s % 2 ≡ 0 → ArePut old new s a b → a.0 ≢ b.0 → IsAttached new s
-put_attached old new s a b even put differ e =
-    let next : partner s ≡ s + 1 = omega (arith, even) in
-    differ (sym (ap (λ (l : SatLit). l.0) put.first_is) ∙ (e ∙ (ap (λ k. (literal_at new k).0) next ∙ ap (λ (l : SatLit). l.0) put.second_is)))
-
-pub put_before : (old new : List Watch) (s : ℕ) (a b : SatLit) → s % 2 ≡ 0 → ArePut old new s a b → (t : ℕ) → t ≢ s → t ≢ s + 1 → IsAttached new t → IsAttached old t
-put_before old new s a b even put t not_s not_next attached e =
-    let p = put_other old new s a b even put t not_s not_next in
-    attached (ap (λ (l : SatLit). l.0) p.0 ∙ (e ∙ ap (λ (l : SatLit). l.0) (sym p.1)))
-
-pub put_after : (old new : List Watch) (s : ℕ) (a b : SatLit) → s % 2 ≡ 0 → ArePut old new s a b → (t : ℕ) → t ≢ s → t ≢ s + 1 → IsAttached old t → IsAttached new t
-put_after old new s a b even put t not_s not_next attached e =
-    let p = put_other old new s a b even put t not_s not_next in
-    attached (sym (ap (λ (l : SatLit). l.0) p.0) ∙ (e ∙ ap (λ (l : SatLit). l.0) p.1))
-
 -- the watches that a clause got are its own
 pub kept_attached : (variables : ℕ) (clauses : List (List SatLit)) (ws new : List Watch) (hs heads : List Head) (id s : ℕ) (a b : SatLit) (entries : List Assigned) → AreKept variables clauses ws hs → AreThreaded new heads [] → length heads ≡ length hs → s ≡ 2 * id → ArePut ws new s a b → ArePair entries (clause_at clauses id) a b → AreKept variables clauses new heads
 kept_attached variables clauses ws new hs heads id s a b entries is threaded same_heads s_is put pair = record {
@@ -210,20 +192,7 @@ settled_sound clauses old new id there sound (inr (l, makes, is)) =
 
 pub settled_present : (old new : Trailing) (clause : List SatLit) (id : ℕ) → IsPresent old → IsSettled old new clause id → IsPresent new
 settled_present old new clause id present (inl same) = subst IsPresent (sym same) present
-settled_present old new clause id present (inr (l, makes, is)) =
-    let e : Assigned = record { literal = l; level = old.level; reason = Some id } in
-    let entries : new.entries ≡ old.entries ++ e ∷ [] = ap (λ (t : Trailing). t.entries) is in
-    let size : length new.entries ≡ length old.entries + 1 = ap length entries ∙ length-append old.entries (e ∷ []) in
-    let level : new.level ≡ old.level = ap (λ (t : Trailing). t.level) is in
-    record {
-      present = λ k late within. elim (cases_eq k (length old.entries)) [
-        | inl here ↦ ap (λ i. (entry_at new.entries i).level) here ∙ (ap (λ (es : List Assigned). (entry_at es (length old.entries)).level) entries ∙ (ap (λ (x : Assigned). x.level) (get_or_at old.entries e [] nothing (length old.entries) refl) ∙ sym level))
-        | inr other ↦
-            let inside : k < length old.entries = omega (arith, within, size, other) in
-            let same = ap (λ es. entry_at es k) entries ∙ get_or_append_left old.entries (e ∷ []) nothing k inside in
-            ap (λ (x : Assigned). x.level) same ∙ (present.present k (omega (arith, late, ap (λ (t : Trailing). t.walked) is)) inside ∙ sym level)
-      ];
-    }
+settled_present old new clause id present (inr (l, makes, is)) = present_more old new l (Some id) present is
 
 -- watches that fit a trail fit it with one literal more
 pub fits_grown : (watching : Watching) (old new : Trailing) (e : Assigned) → Fits watching old → old.walked ≤ length old.entries → new ≡ record old { entries = old.entries ++ e ∷ [] } → Fits watching new

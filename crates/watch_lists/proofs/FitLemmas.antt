@@ -1,13 +1,13 @@
 -- Watches that fit a trail, while the list of a false literal is walked.
 use Rattle.std.proofs.Common.{◌≡◌, ◌≢◌, ℕ, ◌+◌, ◌*◌, ◌/◌, ◌<◌, true, false, List, [], ◌∷◌, ◌++◌, length, All, Some, slice_set, inl, inr, refl, sym, ◌∙◌, ap, subst, arith}
-use Rattle.std.proofs.lemmas.Bool.{both_ways, cases_Bool, cases_eq, cases_lt}
+use Rattle.std.proofs.lemmas.Bool.{both_ways, cases_eq, false_from_ne_true}
 use Rattle.std.proofs.lemmas.List.{append-nil, get_or-set_same, get_or-set_other, get_or_append_left, get_or_at, length-append, length-set}
 use Rattle.cnf_core.specs.declared.literal.SatLit.{SatLit}
 use Rattle.cnf_core.specs.Clauses.{clause_at, opposite, variable_of}
 use Rattle.cnf_core.specs.Derivations.{is_false, is_true}
 use Rattle.trail_core.specs.declared.assigned.Assigned.{Assigned}
 use Rattle.trail_core.specs.Trails.{IsTrail, Trailing, entry_at, literals, nothing}
-use Rattle.trail_core.proofs.TrailLemmas.{place_of_true, true_at}
+use Rattle.trail_core.proofs.TrailLemmas.{place_of_true, same_place, true_at}
 use Rattle.watch_lists.specs.declared.threads.Watch.{Watch}
 use Rattle.watch_lists.specs.declared.threads.Head.{Head}
 use Rattle.watch_lists.specs.Looks.{IsBeside, IsHalfFalse, IsTarget}
@@ -15,7 +15,7 @@ use Rattle.watch_lists.specs.Propagations.{AreKnown, IsReason, IsSound}
 use Rattle.watch_lists.specs.Threads.{AreAlike, IsAttached, IsIn, head_at, literal_at, no_watch, partner}
 use Rattle.watch_lists.specs.Watched.{AreOfClauses, IsHeld, IsPresent, IsWalking, IsWatched}
 use Rattle.watch_lists.proofs.EffectLemmas.{known_at}
-use Rattle.watch_lists.proofs.GrowLemmas.{low_level, sound_more}
+use Rattle.watch_lists.proofs.GrowLemmas.{low_level, present_more, sound_more}
 use Rattle.watch_lists.proofs.ThreadLemmas.{attached_before, partner_twice, partner_within, pushed}
 
 -- ---- values on a trail
@@ -29,19 +29,10 @@ consistent t trail l holds fails =
     let i = place_of_true t.entries l holds in
     let j = place_of_true t.entries (opposite l) fails in
     let same : variable_of (entry_at t.entries i.0).literal ≡ variable_of (entry_at t.entries j.0).literal = omega (arith, i.2, j.2) in
-    elim (cases_eq i.0 j.0) [
-      | inl e ↦ omega (arith, i.2, j.2, ap (λ k. (entry_at t.entries k).literal.0) e)
-      | inr ne ↦ elim (cases_lt i.0 j.0) [
-        | inl before ↦ trail.distinct i.0 j.0 before j.1 same
-        | inr after ↦ trail.distinct j.0 i.0 (omega (arith, after, ne)) i.1 (sym same)
-      ]
-    ]
+    omega (arith, i.2, j.2, ap (λ k. (entry_at t.entries k).literal.0) (same_place t trail i.0 j.0 i.1 j.1 same))
 
 pub true_not_false : (t : Trailing) → IsTrail t → (l : SatLit) → is_true (literals t.entries) l ≡ true → is_false (literals t.entries) l ≡ false
-true_not_false t trail l holds = elim (cases_Bool (is_false (literals t.entries) l)) [
-  | inl fails ↦ absurd (consistent t trail l holds fails)
-  | inr free ↦ free
-]
+true_not_false t trail l holds = false_from_ne_true (is_false (literals t.entries) l) (consistent t trail l holds)
 
 pub held_true : (es : List Assigned) (l : SatLit) (level : ℕ) → IsHeld es l level → is_true (literals es) l ≡ true
 held_true es l level held = true_at es held.at l held.within held.is
@@ -256,15 +247,7 @@ looked clauses ws hs old new f l s out is trail (inr (inl made)) =
     let last : entry_at new.entries (length old.entries) ≡ e = ap (λ es. entry_at es (length old.entries)) entries ∙ get_or_at old.entries e [] nothing (length old.entries) refl in
     let level : new.level ≡ old.level = ap (λ (t : Trailing). t.level) made.assigned in
     let size : length new.entries ≡ length old.entries + 1 = ap length entries ∙ length-append old.entries (e ∷ []) in
-    let present : IsPresent new = record {
-      present = λ k late within. elim (cases_eq k (length old.entries)) [
-        | inl here ↦ ap (λ i. (entry_at new.entries i).level) here ∙ (ap (λ (x : Assigned). x.level) last ∙ sym level)
-        | inr other_place ↦
-            let inside : k < length old.entries = omega (arith, within, size, other_place) in
-            let same = ap (λ es. entry_at es k) entries ∙ get_or_append_left old.entries (e ∷ []) nothing k inside in
-            ap (λ (x : Assigned). x.level) same ∙ (is.present.present k (omega (arith, late, ap (λ (t : Trailing). t.walked) made.assigned)) inside ∙ sym level)
-      ];
-    } in
+    let present = present_more old new other (Some id) is.present made.assigned in
     let held : IsHeld new.entries other new.level = record { at = length old.entries; within = omega (arith, size); is = ap (λ (x : Assigned). x.literal.0) last; low = omega (arith, ap (λ (x : Assigned). x.level) last, level) } in
     let walking = stayed clauses ws hs old new (e ∷ []) f s out is made.assigned trail sound present low held in
     subst (λ x. IsWalking clauses (slice_set ws s (record { literal = x; next = (head_at hs x.0).first })) (slice_set hs x.0 (record { first = s; count = (head_at hs x.0).count + 1 })) new f out) (sym made.stays) walking

@@ -1,16 +1,18 @@
 -- How a clause can be attached on a trail.
-use Rattle.std.proofs.Common.{◌≡◌, ℕ, suc, true, false, List, [], ◌∷◌, ◌++◌, length, All, Option, None, Some, IfSome, IfNone, inl, inr, refl, sym, ◌∙◌, ap, subst, arith}
-use Rattle.std.specs.List.{list_any, list_all}
-use Rattle.std.proofs.lemmas.Bool.{both_ways, cases_eq, cases_lt, false≢true, or_cases}
+use Rattle.std.proofs.Common.{◌≡◌, ℕ, true, false, List, [], ◌∷◌, ◌++◌, length, All, Option, None, Some, IfSome, IfNone, inl, inr, refl, sym, ◌∙◌, ap, subst, arith}
+use Rattle.std.specs.List.{list_all}
+use Rattle.std.proofs.lemmas.Bool.{both_ways, cases_eq}
 use Rattle.std.proofs.lemmas.List.{get_or_append_left, get_or_at, length-append}
+use Rattle.std.proofs.lemmas.List.Elements.{All-contains}
 use Rattle.std.proofs.lemmas.List.Recursion.{and_from_places}
+use Rattle.std.proofs.lemmas.Map.Views.{Contains-from_any}
 use Rattle.cnf_core.specs.declared.literal.SatLit.{SatLit}
 use Rattle.cnf_core.specs.declared.effect.Effect.TheVariants.{Conflict as AllFalse}
 use Rattle.cnf_core.specs.Clauses.{opposite, variable_of}
-use Rattle.cnf_core.specs.Derivations.{effect_of, is_false, is_same, is_true}
+use Rattle.cnf_core.specs.Derivations.{effect_of, is_false, is_true}
 use Rattle.trail_core.specs.declared.assigned.Assigned.{Assigned}
 use Rattle.trail_core.specs.Trails.{IsTrail, Trailing, entry_at, literals, nothing}
-use Rattle.trail_core.proofs.TrailLemmas.{not_true, true_at}
+use Rattle.trail_core.proofs.TrailLemmas.{not_true, same_place, true_at}
 use Rattle.watch_lists.specs.Feet.{ArePair, IsElsewhere, IsFallen, IsGuarded, IsMade, IsOpen, IsReached, IsSettled}
 use Rattle.watch_lists.specs.Looks.{IsBeside, IsOut}
 use Rattle.watch_lists.specs.Watched.{IsHeld, IsRooted}
@@ -75,22 +77,9 @@ pair_fallen t trail clause first second there holds fallen = record {
   second_guarded = λ j within at.
       let p = fallen.top.place in
       let same : variable_of (entry_at t.entries j).literal ≡ variable_of (entry_at t.entries p).literal = omega (arith, at, fallen.top.is_place.there) in
-      let here : j ≡ p = elim (cases_eq j p) [
-        | inl e ↦ e
-        | inr ne ↦ elim (cases_lt j p) [
-          | inl before ↦ absurd (trail.distinct j p before fallen.top.is_place.within same)
-          | inr after ↦ absurd (trail.distinct p j (omega (arith, after, ne)) within (sym same))
-        ]
-      ] in
+      let here = same_place t trail j p within fallen.top.is_place.within same in
       subst (λ n. IsHeld t.entries first n) (sym (ap (λ k. (entry_at t.entries k).level) here ∙ fallen.top.level)) (held_here t trail first holds);
 }
-
-elsewhere_at : (t : Trailing) (first : SatLit) (clause : List SatLit) (l : SatLit) → All (IsElsewhere t first) clause → is_true clause l ≡ true → IsElsewhere t first l
-elsewhere_at t first [] l all e = absurd (false≢true e)
-elsewhere_at t first (m ∷ clause) l all e = elim (or_cases (is_same l m) (list_any (is_same l) clause) e) [
-  | inl here ↦ subst (IsElsewhere t first) (sym (same_literal l m here)) (all 0 l (omega arith))
-  | inr following ↦ elsewhere_at t first clause l (λ k d within. all (suc k) d (omega (arith, within))) following
-]
 
 -- a true literal that stands alone is true at level 0
 pub rooted_alone : (old t : Trailing) (id : ℕ) → IsTrail t → (clause : List SatLit) (first : SatLit) → IsReached old clause → IsMade old t first id → is_true clause first ≡ true → All (IsElsewhere t first) clause → IsRooted t.entries clause
@@ -106,7 +95,7 @@ rooted_alone old t id trail clause first reached_old made there elsewhere =
           let m = opposite e.literal in
           absurd (elim (cases_eq m.0 first.0) [
             | inl same ↦ consistent t trail first holds (true_at t.entries top.place (opposite first) top.within (omega (arith, same)))
-            | inr differs ↦ elsewhere_at t first clause m elsewhere top.there differs top.place (record { within = top.within; there = omega arith }) top.level
+            | inr differs ↦ All-contains (IsElsewhere t first) clause m elsewhere (Contains-from_any same_literal m clause top.there) differs top.place (record { within = top.within; there = omega arith }) top.level
           ])
     ] in
     record {

@@ -1,12 +1,13 @@
 -- Trails that grow.
-use Rattle.std.proofs.Common.{◌≡◌, ℕ, ◌+◌, ◌<◌, ◌≤◌, cond, List, [], ◌∷◌, ◌++◌, length, take, is_none, ◌⊎◌, inl, inr, sym, ◌∙◌, ap, subst, arith}
-use Rattle.std.proofs.lemmas.Bool.{cases_eq}
-use Rattle.std.proofs.lemmas.List.{map-append, take-append-le, take-take, take_all, get_or_append_left, get_or_at, length-append, length-map}
+use Rattle.std.proofs.Common.{◌≡◌, ℕ, ◌+◌, ◌<◌, ◌≤◌, cond, List, Option, [], ◌∷◌, ◌++◌, length, take, is_none, inl, inr, sym, ◌∙◌, ap, subst, arith}
+use Rattle.std.proofs.lemmas.List.{map-append, take-append-le, take-take, take_all, get_or_append_left, get_or_at, length-map}
 use Rattle.std.proofs.lemmas.List.Sums.{sum_by-take-le}
 use Rattle.cnf_core.specs.declared.literal.SatLit.{SatLit}
 use Rattle.trail_core.specs.declared.assigned.Assigned.{Assigned}
 use Rattle.trail_core.specs.Trails.{IsTrail, Trailing, entry_at, literals, nothing}
+use Rattle.trail_core.proofs.TrailLemmas.{before_or_last}
 use Rattle.watch_lists.specs.Propagations.{IsGrown, IsJustified, IsSound, before}
+use Rattle.watch_lists.specs.Watched.{IsPresent}
 
 -- what stands before a place, with one literal more at the end
 pub before_front : (es : List Assigned) (e : Assigned) (k : ℕ) → k ≤ length es → before (es ++ e ∷ []) k ≡ before es k
@@ -15,10 +16,6 @@ before_front es e k within =
 
 pub before_all : (es : List Assigned) (k : ℕ) → length es ≤ k → before es k ≡ literals es
 before_all es k within = take_all k (literals es) (omega (arith, within, length-map es (λ (x : Assigned). x.literal)))
-
-before_or_last : (es : List Assigned) (e : Assigned) (k : ℕ) → k < length (es ++ e ∷ []) → (k < length es) ⊎ (k ≡ length es)
-before_or_last es e k within =
-    elim (cases_eq k (length es)) [ inl last ↦ inr last | inr other ↦ inl (omega (arith, within, length-append es (e ∷ []), other)) ]
 
 -- one literal more, which is justified
 pub sound_more : (clauses : List (List SatLit)) (now new : Trailing) (e : Assigned) → IsSound clauses now → IsJustified clauses (literals now.entries) e.literal e.reason → new.entries ≡ now.entries ++ e ∷ [] → IsSound clauses new
@@ -36,6 +33,18 @@ sound_more clauses now new e sound here more = record {
               let made : before (es ++ e ∷ []) k ≡ literals es = before_front es e k (omega (arith, last)) ∙ before_all es k (omega (arith, last)) in
               subst (λ (x : Assigned). IsJustified clauses (before (es ++ e ∷ []) k) x.literal x.reason) (sym (get_or_at es e [] nothing k (sym last))) (subst (λ m. IsJustified clauses m e.literal e.reason) (sym made) here)
         ]
+
+-- one literal more at the present level
+pub present_more : (old new : Trailing) (l : SatLit) (reason : Option ℕ) → IsPresent old → new ≡ record old { entries = old.entries ++ record { literal = l; level = old.level; reason = reason } ∷ [] } → IsPresent new
+present_more old new l reason is assigned = subst IsPresent (sym assigned) (record {
+  present = λ k late within. elim (before_or_last old.entries e k within) [
+    | inl before_it ↦ ap (λ (x : Assigned). x.level) (get_or_append_left old.entries (e ∷ []) nothing k before_it) ∙ is.present k late before_it
+    | inr last ↦ ap (λ (x : Assigned). x.level) (get_or_at old.entries e [] nothing k (sym last))
+  ];
+})
+  where
+    e : Assigned
+    e = record { literal = l; level = old.level; reason = reason }
 
 -- a trail that has grown twice has grown
 pub grown_twice : (old mid now : Trailing) → IsGrown old mid → IsGrown mid now → IsGrown old now

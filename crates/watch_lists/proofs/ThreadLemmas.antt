@@ -263,16 +263,43 @@ count_few watches heads c out is low =
 
 -- ---- the watches of a clause that isn't attached
 
+-- what two writes leave
+put_once : (ws : List Watch) (s : ℕ) (a b : Watch) → s + 1 < length ws → ArePut ws (slice_set (slice_set ws s a) (s + 1) b) s a.literal b.literal
+put_once ws s a b there = record {
+  size = length-set (slice_set ws s a) (s + 1) b ∙ length-set ws s a;
+  first_is = ap (λ (w : Watch). w.literal) (watch_same (slice_set ws s a) (s + 1) s b (λ e. omega (arith, e)) ∙ watch_new ws s a (omega (arith, there)));
+  second_is = ap (λ (w : Watch). w.literal) (watch_new (slice_set ws s a) (s + 1) b (omega (arith, there, length-set ws s a)));
+  others = λ t not_s not_next. ap (λ (w : Watch). w.literal) (watch_same (slice_set ws s a) (s + 1) t b not_next ∙ watch_same ws s t a not_s);
+}
+
+pub put_other : (old new : List Watch) (s : ℕ) (a b : SatLit) → s % 2 ≡ 0 → ArePut old new s a b → (t : ℕ) → t ≢ s → t ≢ s + 1 → (literal_at new t ≡ literal_at old t) × (literal_at new (partner t) ≡ literal_at old (partner t))
+put_other old new s a b even put t not_s not_next = (put.others t not_s not_next, put.others (partner t) (λ e. omega (arith, e, not_next, even)) (λ e. omega (arith, e, not_s, even)))
+
+pub put_attached : (old new : List Watch) (s : ℕ) (a b : SatLit) → s % 2 ≡ 0 → ArePut old new s a b → a.0 ≢ b.0 → IsAttached new s
+put_attached old new s a b even put differ e =
+    let next : partner s ≡ s + 1 = omega (arith, even) in
+    differ (sym (ap (λ (l : SatLit). l.0) put.first_is) ∙ (e ∙ (ap (λ k. (literal_at new k).0) next ∙ ap (λ (l : SatLit). l.0) put.second_is)))
+
+pub put_before : (old new : List Watch) (s : ℕ) (a b : SatLit) → s % 2 ≡ 0 → ArePut old new s a b → (t : ℕ) → t ≢ s → t ≢ s + 1 → IsAttached new t → IsAttached old t
+put_before old new s a b even put t not_s not_next attached e =
+    let p = put_other old new s a b even put t not_s not_next in
+    attached (ap (λ (l : SatLit). l.0) p.0 ∙ (e ∙ ap (λ (l : SatLit). l.0) (sym p.1)))
+
+pub put_after : (old new : List Watch) (s : ℕ) (a b : SatLit) → s % 2 ≡ 0 → ArePut old new s a b → (t : ℕ) → t ≢ s → t ≢ s + 1 → IsAttached old t → IsAttached new t
+put_after old new s a b even put t not_s not_next attached e =
+    let p = put_other old new s a b even put t not_s not_next in
+    attached (sym (ap (λ (l : SatLit). l.0) p.0) ∙ (e ∙ ap (λ (l : SatLit). l.0) p.1))
+
 -- with two literals they are in no list
 pub unthreaded : (ws : List Watch) (hs : List Head) (s : ℕ) (a b : Watch) → AreThreaded ws hs [] → s + 1 < length ws → s % 2 ≡ 0 → (IsAttached ws s → ⊥) → a.literal.0 < length hs → b.literal.0 < length hs → a.literal.0 ≢ b.literal.0 → AreThreaded (slice_set (slice_set ws s a) (s + 1) b) hs (s ∷ (s + 1) ∷ [])
 unthreaded ws hs s a b is there even loose low_a low_b differ = record {
   even = ap (λ n. n % 2) size ∙ is.even;
   few = omega (arith, is.few, size);
   known = λ t within. elim (cases_eq t s) [
-    | inl mine ↦ omega (arith, ap (λ k. (literal_at new k).0) mine, ap (λ (l : SatLit). l.0) at_s, low_a)
+    | inl mine ↦ omega (arith, ap (λ k. (literal_at new k).0) mine, ap (λ (l : SatLit). l.0) put.first_is, low_a)
     | inr not_s ↦ elim (cases_eq t (s + 1)) [
-      | inl mine ↦ omega (arith, ap (λ k. (literal_at new k).0) mine, ap (λ (l : SatLit). l.0) at_next, low_b)
-      | inr not_next ↦ omega (arith, ap (λ (l : SatLit). l.0) (ap (λ (w : Watch). w.literal) (at_other t not_s not_next)), is.known t (omega (arith, within, size)))
+      | inl mine ↦ omega (arith, ap (λ k. (literal_at new k).0) mine, ap (λ (l : SatLit). l.0) put.second_is, low_b)
+      | inr not_next ↦ omega (arith, ap (λ (l : SatLit). l.0) (put.others t not_s not_next), is.known t (omega (arith, within, size)))
     ]
   ];
   own = λ c t low here.
@@ -280,8 +307,8 @@ unthreaded ws hs s a b is there even loose low_a low_b differ = record {
       let out = apart_from t old.attached in
       record {
         within = omega (arith, old.within, size);
-        is = ap (λ (w : Watch). w.literal.0) (at_other t out.0 out.1) ∙ old.is;
-        attached = attached_other t out.0 out.1 old.attached;
+        is = ap (λ (l : SatLit). l.0) (put.others t out.0 out.1) ∙ old.is;
+        attached = put_after ws new s a.literal b.literal even put t out.0 out.1 old.attached;
       };
   once = λ c low. subst IsOnce (sym (same c low)) (is.once c low);
   out_once = ((λ e. elim e [ inl clash ↦ omega (arith, clash) | inr none ↦ none ]), ((λ none. none), tt));
@@ -304,10 +331,10 @@ unthreaded ws hs s a b is there even loose low_a low_b differ = record {
       | inl mine ↦ inl (inr (inl mine))
       | inr not_next ↦
           let low = is.known t (omega (arith, within, size)) in
-          elim (is.all t (omega (arith, within, size)) (attached_old t not_s not_next attached)) [
+          elim (is.all t (omega (arith, within, size)) (put_before ws new s a.literal b.literal even put t not_s not_next attached)) [
             | inl none ↦ absurd none
             | inr here ↦
-                let at : (literal_at new t).0 ≡ (literal_at ws t).0 = ap (λ (w : Watch). w.literal.0) (at_other t not_s not_next) in
+                let at : (literal_at new t).0 ≡ (literal_at ws t).0 = ap (λ (l : SatLit). l.0) (put.others t not_s not_next) in
                 inr (subst (λ c. IsIn t (list_of new hs c)) (sym at) (subst (IsIn t) (sym (same (literal_at ws t).0 low)) here))
           ]
     ]
@@ -329,14 +356,8 @@ unthreaded ws hs s a b is there even loose low_a low_b differ = record {
     partner_next : partner (s + 1) ≡ s
     partner_next = omega (arith, even)
 
-    at_s : literal_at new s ≡ a.literal
-    at_s = ap (λ (w : Watch). w.literal) (watch_same mid (s + 1) s b (λ e. omega (arith, e))) ∙ ap (λ (w : Watch). w.literal) (watch_new ws s a (omega (arith, there)))
-
-    at_next : literal_at new (s + 1) ≡ b.literal
-    at_next = ap (λ (w : Watch). w.literal) (watch_new mid (s + 1) b (omega (arith, there, length-set ws s a)))
-
-    at_other : (t : ℕ) → t ≢ s → t ≢ s + 1 → watch_at new t ≡ watch_at ws t
-    at_other t not_s not_next = watch_same mid (s + 1) t b not_next ∙ watch_same ws s t a not_s
+    put : ArePut ws (slice_set (slice_set ws s a) (s + 1) b) s a.literal b.literal
+    put = put_once ws s a b there
 
     loose_next : IsAttached ws (s + 1) → ⊥
     loose_next attached = loose (λ e. attached (ap (λ k. (literal_at ws k).0) (sym partner_s) ∙ (sym e ∙ ap (λ k. (literal_at ws k).0) (sym partner_next))))
@@ -344,24 +365,11 @@ unthreaded ws hs s a b is there even loose low_a low_b differ = record {
     apart_from : (t : ℕ) → IsAttached ws t → (t ≢ s) × (t ≢ s + 1)
     apart_from t attached = ((λ e. loose (subst (IsAttached ws) e attached)), (λ e. loose_next (subst (IsAttached ws) e attached)))
 
-    partner_apart : (t : ℕ) → t ≢ s → t ≢ s + 1 → (partner t ≢ s) × (partner t ≢ s + 1)
-    partner_apart t not_s not_next = ((λ e. omega (arith, e, not_next, even)), (λ e. omega (arith, e, not_s, even)))
-
-    attached_other : (t : ℕ) → t ≢ s → t ≢ s + 1 → IsAttached ws t → IsAttached (slice_set (slice_set ws s a) (s + 1) b) t
-    attached_other t not_s not_next attached e =
-        let p = partner_apart t not_s not_next in
-        attached (ap (λ (w : Watch). w.literal.0) (sym (at_other t not_s not_next)) ∙ (e ∙ ap (λ (w : Watch). w.literal.0) (at_other (partner t) p.0 p.1)))
-
-    attached_old : (t : ℕ) → t ≢ s → t ≢ s + 1 → IsAttached (slice_set (slice_set ws s a) (s + 1) b) t → IsAttached ws t
-    attached_old t not_s not_next attached e =
-        let p = partner_apart t not_s not_next in
-        attached (ap (λ (w : Watch). w.literal.0) (at_other t not_s not_next) ∙ (e ∙ ap (λ (w : Watch). w.literal.0) (sym (at_other (partner t) p.0 p.1))))
-
     attached_s : IsAttached (slice_set (slice_set ws s a) (s + 1) b) s
-    attached_s e = differ (sym (ap (λ (l : SatLit). l.0) at_s) ∙ (e ∙ (ap (λ k. (literal_at new k).0) partner_s ∙ ap (λ (l : SatLit). l.0) at_next)))
+    attached_s = put_attached ws new s a.literal b.literal even put differ
 
     attached_next : IsAttached (slice_set (slice_set ws s a) (s + 1) b) (s + 1)
-    attached_next e = differ (sym (ap (λ (l : SatLit). l.0) at_s) ∙ (ap (λ k. (literal_at new k).0) (sym partner_next) ∙ (sym e ∙ ap (λ (l : SatLit). l.0) at_next)))
+    attached_next e = attached_s (ap (λ k. (literal_at new k).0) (sym partner_next) ∙ (sym e ∙ ap (λ k. (literal_at new k).0) (sym partner_s)))
 
     same : (c : ℕ) → c < length hs → list_of (slice_set (slice_set ws s a) (s + 1) b) hs c ≡ list_of ws hs c
     same c low =
@@ -377,15 +385,16 @@ unthreaded ws hs s a b is there even loose low_a low_b differ = record {
 
 -- what four writes to two watches leave
 pub put_twice : (ws : List Watch) (s : ℕ) (a b c d : Watch) → s + 1 < length ws → ArePut ws (slice_set (slice_set (slice_set (slice_set ws s a) (s + 1) b) s c) (s + 1) d) s c.literal d.literal
-put_twice ws s a b c d there = record {
-  size = length-set (slice_set (slice_set (slice_set ws s a) (s + 1) b) s c) (s + 1) d ∙ (length-set (slice_set (slice_set ws s a) (s + 1) b) s c ∙ sizes);
-  first_is = ap (λ (w : Watch). w.literal) (watch_same (slice_set (slice_set (slice_set ws s a) (s + 1) b) s c) (s + 1) s d (λ e. omega (arith, e)) ∙ watch_new (slice_set (slice_set ws s a) (s + 1) b) s c (omega (arith, there, sizes)));
-  second_is = ap (λ (w : Watch). w.literal) (watch_new (slice_set (slice_set (slice_set ws s a) (s + 1) b) s c) (s + 1) d (omega (arith, there, sizes, length-set (slice_set (slice_set ws s a) (s + 1) b) s c)));
-  others = λ t not_s not_next. ap (λ (w : Watch). w.literal) (watch_same (slice_set (slice_set (slice_set ws s a) (s + 1) b) s c) (s + 1) t d not_next ∙ (watch_same (slice_set (slice_set ws s a) (s + 1) b) s t c not_s ∙ (watch_same (slice_set ws s a) (s + 1) t b not_next ∙ watch_same ws s t a not_s)));
-}
-  where
-    sizes : length (slice_set (slice_set ws s a) (s + 1) b) ≡ length ws
-    sizes = length-set (slice_set ws s a) (s + 1) b ∙ length-set ws s a
+put_twice ws s a b c d there =
+    let mid = slice_set (slice_set ws s a) (s + 1) b in
+    let one = put_once ws s a b there in
+    let two = put_once mid s c d (omega (arith, there, one.size)) in
+    record {
+      size = two.size ∙ one.size;
+      first_is = two.first_is;
+      second_is = two.second_is;
+      others = λ t not_s not_next. two.others t not_s not_next ∙ one.others t not_s not_next;
+    }
 
 -- the first of the two is put into its list
 pub one_pushed : (ws new : List Watch) (hs heads : List Head) (s : ℕ) (a b : SatLit) → AreThreaded ws hs [] → s + 1 < length ws → s % 2 ≡ 0 → (IsAttached ws s → ⊥) → a.0 < length hs → b.0 < length hs → a.0 ≢ b.0 → new ≡ slice_set (slice_set (slice_set ws s (record { literal = a; next = 0 })) (s + 1) (record { literal = b; next = 0 })) s (record { literal = a; next = (head_at hs a.0).first }) → heads ≡ slice_set hs a.0 (record { first = s; count = (head_at hs a.0).count + 1 }) → AreThreaded new heads ((s + 1) ∷ [])

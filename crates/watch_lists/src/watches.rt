@@ -20,11 +20,21 @@ use trail_core::Trail;
 /// Clauses, of which each that is attached is in the lists of two of its literals, the watched ones. While one of these isn't
 /// false, or the other one is true, the clause leaves nothing to be assigned, so it is looked at only when a watched
 /// literal becomes false. Only `new` and `add` take memory.
-#[derive(Drop)]
 pub struct Watches {
     variables: u64,
     clauses: Arena,
     threads: Threads,
+}
+
+// By hand, and so one call wherever a value ends: a derived drop is expanded there, field by field, and makes proofs long.
+impl Drop for Watches {
+    fn drop(self) {
+        let Watches {
+            variables: _variables,
+            clauses: _clauses,
+            threads: _threads,
+        } = self;
+    }
 }
 
 impl Model for Watches {

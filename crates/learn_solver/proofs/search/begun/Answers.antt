@@ -6,7 +6,8 @@ use Rattle.watch_lists.specs.Propagations.{AreKnown}
 use Rattle.watch_lists.specs.Watched.{Watching}
 use Rattle.learn_solver.specs.Orders.{IsOrder}
 use Rattle.learn_solver.specs.Solvers.{HaveVariables}
-use Rattle.learn_solver.proofs.StartLemmas.{begun_is, lines_known}
+use Rattle.learn_solver.proofs.StartLemmas.{begun_is}
+use Rattle.learn_solver.proofs.SolverLemmas.{lines_known}
 use Rattle.learn_solver.proofs.search.begun.Goals as goal
 
 pub put_lines-requires-clause-known : goal.put_lines-requires-clause-known

@@ -39,12 +39,7 @@ mark-requires-clause-places c =
     subst (λ (clause : List SatLit). AreBefore t.entries (length t.entries) clause) (sym c.get.ensures) (places_further t.entries (q + 1) (length t.entries) (clause_at c.args.clauses.now.clauses id) (omega (arith, within)) (reason_places c.args.clauses.now.clauses t q id within reason))
 
 pub returns-in_err-push-clause-on_trail : goal.returns-in_err-push-clause-on_trail
-returns-in_err-push-clause-on_trail c =
-    let t = c.args.trail.now in
-    let is = c.requires.reducing in
-    let at = c.variable-variable.ensures ∙ ap variable_of c.lit_at.ensures in
-    let known = variable_known t c.requires.trail c.mark.new.marked c.args.place c.variable-variable.result (omega (arith, is.low, is.within)) (c.mark.auto.marked ∙ is.size) at in
-    unset_on_trail t.entries c.mark.new.marked c.variable-variable.result known (c.mark.ensures.on_trail c.requires.on_trail)
+returns-in_err-push-clause-on_trail c = c.mark.ensures.on_trail c.requires.on_trail
 
 pub returns-clause-reducing : goal.returns-clause-reducing
 returns-clause-reducing c =
@@ -63,7 +58,7 @@ returns-clause-reducing c =
     let lower : (entry_at t.entries q).level < t.level = omega (arith, is_lower (bit c.args.marked.now v) c.level_at.result c.level.result c.if-marked-variable.false, c.level_at.ensures, c.level.ensures.value) in
     let places = subst (λ (clause : List SatLit). AreBefore t.entries (q + 1) clause) (sym c.get.ensures) (reason_places clauses t q id within reason) in
     let are_marked = subst (λ (clause : List SatLit). AreMarked now clause) c.get.ensures c.mark.ensures.marked in
-    let away = away_from t c.requires.trail c.args.marked.now now q v (clause_at clauses id) within at known c.mark.auto.marked c.mark.ensures.stay are_marked (c.mark.ensures.later (q + 1) places) in
+    let away = away_from t c.requires.trail c.args.marked.now now q v a.below (clause_at clauses id) within at known c.mark.auto.marked c.mark.ensures.stay are_marked (c.mark.ensures.later (q + 1) places) in
     let next = reduced_away clauses t c.requires.trail c.args.marked.now (slice_set now v false) a.below a.here q id a.steps.items is reason lower away in
     subst (λ (ss : List ℕ). IsReduced clauses t (slice_set now v false) a.below a.here ss q) (sym c.in_ok-push.ensures.items) next
 

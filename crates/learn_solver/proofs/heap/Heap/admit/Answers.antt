@@ -1,9 +1,8 @@
 -- A number more.
-use Rattle.std.proofs.Common.{◌≡◌, ◌+◌, ◌<◌, ◌≤◌, true, length, slice_index_or, slice_set, sym, ap, ◌∙◌, arith}
+use Rattle.std.proofs.Common.{◌≡◌, ◌<◌, ◌≤◌, true, length, slice_index_or, slice_set, sym, ap, ◌∙◌, arith}
 use Rattle.std.proofs.lemmas.Bool.{ltb-false}
 use Rattle.std.proofs.lemmas.List.{get_or_read}
 use Rattle.circuits.specs.Literals.{bit}
-use Rattle.learn_solver.specs.Heaps.{are_held}
 use Rattle.learn_solver.proofs.HeapLemmas.{admitted, as_many_held, held_at}
 use Rattle.learn_solver.proofs.heap.Heap.admit.Goals as goal
 
@@ -17,4 +16,5 @@ returns c =
     let within : v < length places = omega (arith, size, c.requires.known) in
     let at = get_or_read places v place within c.index-place.ensures 0 in
     let late : old.held ≤ slice_index_or places v 0 = ltb-false _ _ (sym (held_at old.held places v 0 within) ∙ (ap (λ held. bit held v) c.self.view_is ∙ c.requires.loose)) in
-    ap (are_held (old.held + 1)) c.exchange.ensures.places ∙ (admitted (length old.keys.items) old.held old.numbers.items places place v c.self.invariant.inverse (omega (arith, within, c.self.invariant.inverse.as_many_places)) at (omega (arith, at, late)) ∙ ap (λ held. slice_set held v true) c.self.view_is)
+    admitted (length old.keys.items) old.held old.numbers.items places c.exchange.new.numbers.items c.exchange.new.places.items place v c.self.invariant.inverse c.exchange.ensures.places c.exchange.ensures.inverse (omega (arith, within, c.self.invariant.inverse.as_many_places)) at (omega (arith, at, late))
+    ∙ ap (λ held. slice_set held v true) c.self.view_is

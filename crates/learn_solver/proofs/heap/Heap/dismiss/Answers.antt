@@ -1,5 +1,5 @@
 -- A number less.
-use Rattle.std.proofs.Common.{◌≡◌, ◌-◌, ◌<◌, false, length, slice_index_or, slice_set, sym, ap, ◌∙◌, arith}
+use Rattle.std.proofs.Common.{◌≡◌, ◌-◌, ◌+◌, ◌<◌, false, length, slice_index_or, slice_set, sym, ap, ◌∙◌, arith}
 use Rattle.std.proofs.lemmas.Bool.{ltb-true}
 use Rattle.std.proofs.lemmas.List.{get_or_read}
 use Rattle.circuits.specs.Literals.{bit}
@@ -17,4 +17,6 @@ returns c =
     let within : v < length places = omega (arith, size, c.requires.known) in
     let at = get_or_read places v place within c.index-place.ensures 0 in
     let low : slice_index_or places v 0 < old.held = ltb-true _ _ (sym (held_at old.held places v 0 within) ∙ (ap (λ held. bit held v) c.self.view_is ∙ c.requires.held)) in
-    ap (are_held (old.held - 1)) c.exchange.ensures.places ∙ (dismissed (length old.keys.items) old.held (old.held - 1) old.numbers.items places place v c.self.invariant.inverse c.self.invariant.most (omega (arith, within, c.self.invariant.inverse.as_many_places)) at (omega (arith, at, low)) (omega (arith, low)) ∙ ap (λ held. slice_set held v false) c.self.view_is)
+    let last : old.held - 1 + 1 ≡ old.held = omega (arith, low) in
+    dismissed (length old.keys.items) (old.held - 1) old.numbers.items places c.exchange.new.numbers.items c.exchange.new.places.items place v c.self.invariant.inverse c.exchange.ensures.places c.exchange.ensures.inverse (omega (arith, low, c.self.invariant.most)) (omega (arith, within, c.self.invariant.inverse.as_many_places)) at (omega (arith, at, low))
+    ∙ (ap (λ held. slice_set (are_held held places) v false) last ∙ ap (λ held. slice_set held v false) c.self.view_is)

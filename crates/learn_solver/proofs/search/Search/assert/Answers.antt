@@ -8,58 +8,50 @@ use Rattle.trail_core.specs.Trails.{Trailing, literals}
 use Rattle.watch_lists.specs.Feet.{IsReached}
 use Rattle.watch_lists.specs.Watched.{Fits, IsCovered, IsRewatched, Watching, with_clause}
 use Rattle.watch_lists.proofs.AttachLemmas.{fits_added}
-use Rattle.learn_solver.specs.Starts.{IsBack}
 use Rattle.learn_solver.proofs.GoneLemmas.{added_at, back_fits, back_present, back_reached, freed, gone}
 use Rattle.learn_solver.proofs.search.Search.assert.Goals as goal
+
+pub leave-requires-clause-level : goal.leave-requires-clause-level
+leave-requires-clause-level c = omega (arith, c.requires.asserting.lower c.requires.above)
 
 pub attach-requires-clause-fits : goal.attach-requires-clause-fits
 attach-requires-clause-fits c =
     let w = c.args.self.now.watches in
-    let t = c.args.self.now.trail in
-    let back = c.back_to.new.self in
-    let e = c.back_to.ensures in
-    let is : IsBack t back c.args.level = record { variables = e.variables; entries = e.entries; front = e.front; level_is = e.level; walked = e.walked } in
-    subst (λ (x : Watching). Fits x back) (sym c.in_ok-id.ensures.added) (fits_added w c.args.clause.now back (omega (arith, c.in_ok-id.ensures.size)) (back_fits w t back c.args.level is c.requires.fitting.fits))
+    let back = c.leave.new.self in
+    let added = c.leave.ensures.watches ∙ c.in_ok-id.ensures.added in
+    subst (λ (x : Watching). Fits x back.trail) (sym added) (fits_added w c.args.clause.now back.trail (omega (arith, c.in_ok-id.ensures.size)) (back_fits w c.args.self.now.trail back.trail c.args.level c.leave.ensures.back c.requires.turn.fitting.fits))
 
 pub attach-requires-clause-present : goal.attach-requires-clause-present
-attach-requires-clause-present c =
-    let t = c.args.self.now.trail in
-    let back = c.back_to.new.self in
-    let e = c.back_to.ensures in
-    let is : IsBack t back c.args.level = record { variables = e.variables; entries = e.entries; front = e.front; level_is = e.level; walked = e.walked } in
-    back_present t back c.args.level is c.requires.fitting.present (c.requires.asserting.lower c.requires.above)
+attach-requires-clause-present c = back_present c.args.self.now.trail c.leave.new.self.trail c.args.level c.leave.ensures.back c.requires.turn.fitting.present (c.requires.asserting.lower c.requires.above)
 
 pub attach-requires-clause-reached : goal.attach-requires-clause-reached
 attach-requires-clause-reached c =
     let w = c.args.self.now.watches in
-    let t = c.args.self.now.trail in
-    let back = c.back_to.new.self in
-    let e = c.back_to.ensures in
-    let is : IsBack t back c.args.level = record { variables = e.variables; entries = e.entries; front = e.front; level_is = e.level; walked = e.walked } in
-    let there = ap (λ (x : Watching). clause_at x.clauses c.in_ok-id.id) c.in_ok-id.ensures.added ∙ (ap (clause_at (with_clause c.args.clause.now w).clauses) c.in_ok-id.ensures.number ∙ added_at w c.args.clause.now) in
-    subst (λ (cl : List SatLit). IsReached back cl) (sym there) (back_reached t back c.args.level c.args.clause.now is c.requires.asserting)
+    let added = c.leave.ensures.watches ∙ c.in_ok-id.ensures.added in
+    let there = ap (λ (x : Watching). clause_at x.clauses c.in_ok-id.id) added ∙ (ap (clause_at (with_clause c.args.clause.now w).clauses) c.in_ok-id.ensures.number ∙ added_at w c.args.clause.now) in
+    subst (λ (cl : List SatLit). IsReached c.leave.new.self.trail cl) (sym there) (back_reached c.args.self.now.trail c.leave.new.self.trail c.args.level c.args.clause.now c.leave.ensures.back c.requires.asserting)
 
 pub unreachable-requires : goal.unreachable-requires
 unreachable-requires c =
     let w = c.args.self.now.watches in
-    let t = c.args.self.now.trail in
     let clause = c.args.clause.now in
-    let back = c.back_to.new.self in
-    let e = c.back_to.ensures in
-    let is : IsBack t back c.args.level = record { variables = e.variables; entries = e.entries; front = e.front; level_is = e.level; walked = e.walked } in
-    let clauses = c.in_default.ensures.attached.clauses ∙ ap (λ (x : Watching). x.clauses) c.in_ok-id.ensures.added in
+    let back = c.leave.new.self.trail in
+    let clauses = c.in_default.ensures.attached.clauses ∙ ap (λ (x : Watching). x.clauses) (c.leave.ensures.watches ∙ c.in_ok-id.ensures.added) in
     let there = ap (clause_at c.attach.new.self.clauses) (c.in_default.ensures.named ∙ c.in_ok-id.ensures.number) ∙ (ap (λ (cs : List (List SatLit)). clause_at cs (length w.clauses)) clauses ∙ added_at w clause) in
     let conflict : effect_of (literals back.entries) clause ≡ Conflict = ap (effect_of (literals back.entries)) (sym there) ∙ (ap (λ (x : Trailing). effect_of (literals x.entries) (clause_at c.attach.new.self.clauses c.in_default.field-0)) (sym c.in_default.ensures.same) ∙ c.in_default.ensures.conflict.conflict) in
-    freed t back c.args.level clause c.walked-walked.ensures.trail is c.requires.asserting c.requires.above conflict
+    freed c.args.self.now.trail back c.args.level clause c.walked-walked.ensures.trail c.leave.ensures.back c.requires.asserting c.requires.above conflict
 
-pub returns-clause-fitting : goal.returns-clause-fitting
-returns-clause-fitting c =
+pub returns-clause-returned : goal.returns-clause-returned
+returns-clause-returned c =
     let w = c.args.self.now.watches in
-    let t = c.args.self.now.trail in
     let clause = c.args.clause.now in
-    let back = c.back_to.new.self in
-    let e = c.back_to.ensures in
-    let is : IsBack t back c.args.level = record { variables = e.variables; entries = e.entries; front = e.front; level_is = e.level; walked = e.walked } in
-    let rewatched = subst (λ (x : Watching). IsRewatched x c.attach.new.self) c.in_ok-id.ensures.added c.attach.ensures.attached in
-    let covered = subst (IsCovered c.attach.new.self c.attach.new.trail.entries) c.in_ok-id.ensures.number c.in-None.ensures.covered in
-    gone w c.attach.new.self clause t back c.attach.new.trail c.args.level c.requires.fitting c.in_ok-id.ensures.size is rewatched c.attach.ensures.fits c.attach.ensures.present c.attach.ensures.sound c.attach.ensures.grown covered
+    let after = c.attach.new.self in
+    let is = c.leave.ensures.back in
+    let rewatched = subst (λ (x : Watching). IsRewatched x after) (c.leave.ensures.watches ∙ c.in_ok-id.ensures.added) c.attach.ensures.attached in
+    let covered = subst (IsCovered after c.attach.new.trail.entries) c.in_ok-id.ensures.number c.in-None.ensures.covered in
+    record {
+      fitting = gone w after clause c.args.self.now.trail c.leave.new.self.trail c.attach.new.trail c.args.level c.requires.turn.fitting c.in_ok-id.ensures.size is rewatched c.attach.ensures.fits c.attach.ensures.present c.attach.ensures.sound c.attach.ensures.grown covered;
+      clauses = rewatched.clauses;
+      variables = c.attach.ensures.grown.variables ∙ is.variables;
+      tools = c.leave.ensures.tools;
+    }

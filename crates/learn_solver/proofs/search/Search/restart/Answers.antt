@@ -1,10 +1,6 @@
 -- The schedule is none of what is kept of the variables.
+use Rattle.learn_solver.proofs.RunLemmas.{turned_beside}
 use Rattle.learn_solver.proofs.search.Search.restart.Goals as goal
 
 pub returns : goal.returns
-returns c = record {
-  fitting = c.begin_anew.ensures.fitting;
-  clauses = c.begin_anew.ensures.clauses;
-  variables = c.begin_anew.ensures.variables;
-  tools = λ formula ids are. c.begin_anew.ensures.tools formula ids (record { variables = are.variables; unmarked = are.unmarked; order = are.order });
-}
+returns c = turned_beside c.args.self.now c.begin_anew.new.self c.args.self.now.tools.focus c.count.new.self c.begin_anew.ensures

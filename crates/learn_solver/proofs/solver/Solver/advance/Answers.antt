@@ -1,86 +1,60 @@
 -- The search goes on after a decision, or with a learned line after going back.
-use Rattle.std.proofs.Common.{◌≡◌, ℕ, ◌-◌, ◌++◌, ◌∷◌, [], List, Option, length, slice_index_or, sym, subst, ap, ◌∙◌, arith}
-use Rattle.std.proofs.lemmas.List.{get_or_at, length-append}
+use Rattle.std.proofs.Common.{◌≡◌, ℕ, List, Option, sym, subst, ap, ◌∙◌}
 use Rattle.cnf_core.specs.declared.literal.SatLit.{SatLit}
 use Rattle.cnf_core.specs.declared.log.LogLine.{LogLine}
 use Rattle.trail_core.specs.Trails.{Trailing}
-use Rattle.watch_lists.specs.Watched.{Watching}
-use Rattle.watch_lists.specs.Propagations.{AreKnown}
-use Rattle.cnf_core.specs.Derivations.{clauses_of}
-use Rattle.learn_solver.specs.Orders.{IsOrder}
-use Rattle.learn_solver.specs.Searches.{IsWayBack}
-use Rattle.learn_solver.specs.Solvers.{Solving}
-use Rattle.learn_solver.specs.Starts.{IsSoundBack}
-use Rattle.learn_solver.proofs.AdvanceLemmas.{less_learned}
-use Rattle.learn_solver.proofs.RunLemmas.{running_back, running_on, sound_back}
-use Rattle.learn_solver.proofs.SolverLemmas.{line_known}
+use Rattle.learn_solver.specs.Searches.{CanReturn, HasReturned, IsLesson, IsWayBack}
+use Rattle.learn_solver.proofs.AdvanceLemmas.{asking_learnt, extended_learnt, less_learned}
+use Rattle.learn_solver.proofs.RunLemmas.{can_return, learning_of, running_again, running_back, running_same}
+use Rattle.learn_solver.proofs.StepLemmas.{last_added}
 use Rattle.learn_solver.proofs.solver.Solver.advance.Goals as goal
 
-pub go_back-requires-clause-sound : goal.go_back-requires-clause-sound
-go_back-requires-clause-sound g c =
+pub decide-requires-clause-running : goal.decide-requires-clause-running
+decide-requires-clause-running g c = running_again c.args.self.now c.args.search.now c.propagate.new.self c.requires.running c.propagate.ensures.turned
+
+pub learn-requires-clause-learning : goal.learn-requires-clause-learning
+learn-requires-clause-learning g c =
+    let mid = c.propagate.new.self in
+    learning_of c.args.self.now mid.trail mid.watches mid.tools (running_again c.args.self.now c.args.search.now mid c.requires.running c.propagate.ensures.turned)
+
+pub go_back-requires : goal.go_back-requires
+go_back-requires g c =
     let old = c.args.self.now in
-    let first = c.args.search.now in
     let mid = c.propagate.new.self in
     let now = c.learn.new.search in
     let learnt = c.in_ok-level.ensures.learnt in
     let same = c.in_ok-level.ensures.same in
     let line = learnt.line in
     let level = c.in-Some-2.level in
-    let running = running_on old first.trail mid.trail first.watches mid.watches first.tools mid.tools c.requires.running c.propagate.ensures.propagated c.propagate.ensures.tools in
+    let running = running_same old mid now (running_again old c.args.search.now mid c.requires.running c.propagate.ensures.turned) same in
     let way = subst (λ (b : Option ℕ). IsWayBack old mid.trail line b) c.in-Some-2.is learnt.way in
-    let whole : c.self.inside.lines.items ≡ old.lines ++ line ∷ [] = ap (λ (s : Solving). s.lines) (c.self.view_is ∙ learnt.added) in
-    let at : c.len.result - 1 ≡ length old.lines = omega (arith, c.len.ensures, ap length whole, length-append old.lines (line ∷ []), c.self.inside.lines.ok.0) in
-    let is_line : c.index.result.now ≡ line = c.index.ensures ∙ (ap (λ (ls : List LogLine). slice_index_or ls (c.len.result - 1) c.index.result.now) whole ∙ get_or_at old.lines line [] c.index.result.now (c.len.result - 1) (sym at)) in
-    let clause : c.deref.result.now ≡ line.clause = c.deref.ensures.value ∙ ap (λ (l : LogLine). l.clause) is_line in
-    let sound = sound_back old line mid.trail mid.watches level running.searching running.solver way.1 way.0 in
-    subst (λ (cl : List SatLit). IsSoundBack now.watches cl now.trail level) (sym clause) (subst (λ (t : Trailing). IsSoundBack now.watches line.clause t level) (sym same.trail) (subst (λ (x : Watching). IsSoundBack x line.clause mid.trail level) (sym same.watches) sound))
+    let lesson = subst (λ (t : Trailing). IsLesson old t line level) (sym same.trail) way.1 in
+    let clause : c.deref.result.now ≡ line.clause = c.deref.ensures.value ∙ ap (λ (l : LogLine). l.clause) (c.last.ensures ∙ last_added old c.learn.new.self line learnt.added) in
+    subst (λ (cl : List SatLit). CanReturn now cl level) (sym clause) (can_return old line now level running lesson way.0)
 
-pub go_back-requires-clause-order : goal.go_back-requires-clause-order
-go_back-requires-clause-order g c =
+pub returns-clause-gone : goal.returns-clause-gone
+returns-clause-gone g c =
+    let charging = g.L.Charge.charging in
     let old = c.args.self.now in
-    let first = c.args.search.now in
     let mid = c.propagate.new.self in
     let now = c.learn.new.search in
-    let same = c.in_ok-level.ensures.same in
-    let running = running_on old first.trail mid.trail first.watches mid.watches first.tools mid.tools c.requires.running c.propagate.ensures.propagated c.propagate.ensures.tools in
-    let variables = ap (λ (t : Trailing). t.variables) same.trail ∙ running.searching.variables in
-    subst (λ n. IsOrder n now.tools.order) (sym variables) (same.tools old.formula old.ids running.tools_are).order
-
-pub go_back-requires-clause-known : goal.go_back-requires-clause-known
-go_back-requires-clause-known g c =
-    let old = c.args.self.now in
-    let first = c.args.search.now in
-    let mid = c.propagate.new.self in
+    let first = charging c.args.ledger.now in
+    let after = charging c.learn.new.ledger in
     let learnt = c.in_ok-level.ensures.learnt in
-    let same = c.in_ok-level.ensures.same in
     let line = learnt.line in
-    let running = running_on old first.trail mid.trail first.watches mid.watches first.tools mid.tools c.requires.running c.propagate.ensures.propagated c.propagate.ensures.tools in
-    let whole : c.self.inside.lines.items ≡ old.lines ++ line ∷ [] = ap (λ (s : Solving). s.lines) (c.self.view_is ∙ learnt.added) in
-    let at : c.len.result - 1 ≡ length old.lines = omega (arith, c.len.ensures, ap length whole, length-append old.lines (line ∷ []), c.self.inside.lines.ok.0) in
-    let is_line : c.index.result.now ≡ line = c.index.ensures ∙ (ap (λ (ls : List LogLine). slice_index_or ls (c.len.result - 1) c.index.result.now) whole ∙ get_or_at old.lines line [] c.index.result.now (c.len.result - 1) (sym at)) in
-    let clause : c.deref.result.now ≡ line.clause = c.deref.ensures.value ∙ ap (λ (l : LogLine). l.clause) is_line in
-    let variables = ap (λ (x : Watching). x.variables) same.watches ∙ (sym running.fits.variables ∙ running.searching.variables) in
-    subst (λ (cl : List SatLit). AreKnown c.learn.new.search.watches.variables cl) (sym clause) (subst (λ n. AreKnown n line.clause) (sym variables) (line_known old.formula (clauses_of old.lines) line learnt.learned_is.derived))
-
-pub returns-clause-answer : goal.returns-clause-answer
-returns-clause-answer g c =
-    let old = c.args.self.now in
-    let first = c.args.search.now in
-    let mid = c.propagate.new.self in
-    let new = c.go_back.new.self in
-    let learnt = c.in_ok-level.ensures.learnt in
-    let same = c.in_ok-level.ensures.same in
-    let line = learnt.line in
-    let back = c.in_ok-go_back.ensures in
-    let running = running_on old first.trail mid.trail first.watches mid.watches first.tools mid.tools c.requires.running c.propagate.ensures.propagated c.propagate.ensures.tools in
+    let running = running_same old mid now (running_again old c.args.search.now mid c.requires.running c.propagate.ensures.turned) c.in_ok-level.ensures.same in
     let way = subst (λ (b : Option ℕ). IsWayBack old mid.trail line b) c.in-Some-2.is learnt.way in
-    let whole : c.self.inside.lines.items ≡ old.lines ++ line ∷ [] = ap (λ (s : Solving). s.lines) (c.self.view_is ∙ learnt.added) in
-    let at : c.len.result - 1 ≡ length old.lines = omega (arith, c.len.ensures, ap length whole, length-append old.lines (line ∷ []), c.self.inside.lines.ok.0) in
-    let is_line : c.index.result.now ≡ line = c.index.ensures ∙ (ap (λ (ls : List LogLine). slice_index_or ls (c.len.result - 1) c.index.result.now) whole ∙ get_or_at old.lines line [] c.index.result.now (c.len.result - 1) (sym at)) in
-    let clause : c.deref.result.now ≡ line.clause = c.deref.ensures.value ∙ ap (λ (l : LogLine). l.clause) is_line in
-    let clauses = back.clauses ∙ (ap (λ (x : Watching). x.clauses ++ c.deref.result.now ∷ []) same.watches ∙ ap (λ (cl : List SatLit). mid.watches.clauses ++ cl ∷ []) clause) in
-    let variables = back.variables ∙ ap (λ (t : Trailing). t.variables) same.trail in
+    let clause : c.deref.result.now ≡ line.clause = c.deref.ensures.value ∙ ap (λ (l : LogLine). l.clause) (c.last.ensures ∙ last_added old c.learn.new.self line learnt.added) in
+    let back = subst (HasReturned now c.go_back.new.self) clause c.in_ok-go_back.ensures in
     record {
-      running = running_back old c.learn.new.self line mid.trail new.trail mid.watches new.watches mid.tools new.tools running learnt.added learnt.learned_is.derived way.0 back.fitting clauses variables (λ formula ids are. c.go_back.ensures.tools formula ids (same.tools formula ids are));
-      less = less_learned line (g.L.Charge.charging c.args.ledger.now) (g.L.Charge.charging c.learn.new.ledger) first.trail new.trail (variables ∙ c.propagate.ensures.propagated.grown.variables) learnt.charged;
+      extended = extended_learnt old c.learn.new.self first after mid.trail _ c.requires.asking learnt;
+      asking = asking_learnt old c.learn.new.self first after mid.trail _ c.requires.asking learnt;
+      answer_is = running_back old c.learn.new.self line now c.go_back.new.self running learnt.added learnt.learned_is.derived way.0 back;
     }
+
+pub returns-clause-less : goal.returns-clause-less
+returns-clause-less g c =
+    let charging = g.L.Charge.charging in
+    let learnt = c.in_ok-level.ensures.learnt in
+    let same = ap (λ (t : Trailing). t.variables) c.in_ok-level.ensures.same.trail in
+    less_learned learnt.line (charging c.args.ledger.now) (charging c.learn.new.ledger) c.args.search.now.trail c.go_back.new.self.trail (c.in_ok-go_back.ensures.variables ∙ (same ∙ c.propagate.ensures.turned.variables)) learnt.charged
