@@ -1,6 +1,9 @@
 -- What a solver's answer over the clauses of a query's cones says of the query.
-use Rattle.std.proofs.Common.{◌≡◌, ℕ, ◌+◌, ◌<◌, Bool, true, false, List, [], ◌∷◌, ◌++◌, length, take, drop, All, Contains, slice_index_or, inl, inr, take-append-drop, sym, ◌∙◌, ap, subst, arith}
-use Rattle.std.proofs.lemmas.List.{get_or-map, get_or_append_left, get_or-append-add, length-append, length-map, map-append}
+use Rattle.std.proofs.Common.{◌≡◌, ℕ, ◌+◌, ◌<◌, ◌≤◌, Bool, true, false, List, [], ◌∷◌, ◌++◌, length, take, drop, All, Contains, slice_index_or, inl, inr, refl, take-append-drop, sym, ◌∙◌, ap, subst, arith}
+use Rattle.std.specs.List.{list_any}
+use Rattle.std.proofs.lemmas.Bool.{both_ways}
+use Rattle.std.proofs.lemmas.List.Folds.{list_any_at}
+use Rattle.std.proofs.lemmas.List.{get_or-map, get_or-append-add, length-append, length-map, map-append}
 use Rattle.std.proofs.lemmas.List.Elements.{Contains-append_left}
 use Rattle.std.proofs.lemmas.List.FromFn.{length-map-range_with_len, map-range_with_len_more}
 use Rattle.circuits.specs.Literals.{bit}
@@ -8,7 +11,7 @@ use Rattle.cnf_core.specs.declared.literal.SatLit.{SatLit}
 use Rattle.cnf_core.specs.declared.stop.Stop.{Stop}
 use Rattle.cnf_core.specs.declared.stop.Stop.TheVariants.{Spent, Memory}
 use Rattle.cnf_core.specs.Clauses.{Formula, Meets, clause_at, is_met, opposite}
-use Rattle.cnf_core.specs.Derivations.{AreDerived, clauses_of, line_fault}
+use Rattle.cnf_core.specs.Derivations.{AreDerived, clauses_of, is_empty, line_fault}
 use Rattle.cnf_core.specs.declared.log.LogLine.{LogLine}
 use Rattle.joint_hash.specs.Merging.{AreLemmas}
 use Rattle.joint_hash.specs.Trees.{AreJoined}
@@ -24,7 +27,10 @@ use Rattle.query_core.proofs.ChargingLemmas.{asked_after, is_opened}
 use Rattle.learn_solver.specs.Analyses.{has_all}
 use Rattle.learn_solver.specs.Solvers.{IsExtended, Solving, wanted}
 use Rattle.learn_solver.specs.Solvers.{IsStopped as IsSolverStopped}
-use Rattle.ask_core.specs.Answers.{IsAskedIn, IsAskedWith, IsStopped, IsStoppedWith}
+use Rattle.dense_solver.specs.Renamings.{AreShort}
+use Rattle.dense_solver.specs.Solved.{start_of, with_lines_of}
+use Rattle.dense_solver.proofs.FullLemmas.{front_all}
+use Rattle.ask_core.specs.Answers.{IsAskedIn, IsAskedWith, IsStopped, IsStoppedAfter, IsStoppedWith}
 
 pub vector_more : (n : ℕ) (values : List Bool) → vector_in (n + 1) values ≡ vector_in n values ++ bit values (1 + n) ∷ []
 vector_more n values = map-range_with_len_more (λ i. bit values (1 + i)) 0 n n (omega arith)
@@ -38,11 +44,7 @@ wanted-each P formula ids id all (k, within, is) =
     let here : k < length (wanted formula ids) = omega (arith, within, length-map ids (clause_at formula.clauses)) in
     subst (λ j. P (clause_at formula.clauses j)) is (subst P (get_or-map (clause_at formula.clauses) ids k id [] within) (all k [] here))
 
--- what holds of all holds of those in front and of those after
-front-all : (P : List SatLit → Type 0) (xs ys : List (List SatLit)) → All P (xs ++ ys) → All P xs
-front-all P xs ys all k d within =
-    subst P (get_or_append_left xs ys d k within) (all k d (omega (arith, within, length-append xs ys)))
-
+-- what holds of all holds of those after some
 after-all : (P : List SatLit → Type 0) (xs ys : List (List SatLit)) → All P (xs ++ ys) → All P ys
 after-all P xs ys all k d within =
     subst P (get_or-append-add xs ys k d) (all (length xs + k) d (omega (arith, within, length-append xs ys)))
@@ -75,74 +77,35 @@ asked_with graphs query lemmas s new old first after of there opened_is extended
       let P : List SatLit → Type 0 = λ c. has_all (slice_index_or new.lines k d).clause c ≡ false in
       record {
         derived = ap (λ f. line_fault f (clauses_of (take k new.lines)) (slice_index_or new.lines k d)) (sym of.formula) ∙ added.derived;
-        fresh = all-cones P graphs query lemmas s of (front-all P (wanted s.formula s.ids) (clauses_of (take k new.lines)) added.fresh);
+        fresh = all-cones P graphs query lemmas s of (front_all P (wanted s.formula s.ids) (clauses_of (take k new.lines)) added.fresh);
         unlike_earlier = after-all P (wanted s.formula s.ids) (clauses_of (take k new.lines)) added.fresh;
       };
   budget = extended.budget ∙ ap (λ (l : Ledgered). l.budget) opened_is;
   asked = asked_after first after new.lines (is_opened first there) (extended.opened ∙ is_opened first there) extended.lines_are extended.others ∙ ap (λ (l : Ledgered). with_lines new.lines l.asked) opened_is;
 }
 
--- lemmas of cones are those of the query that they are of
-pub are_own : (cones : Coned) (graphs : Graphs) (query : Query) (lemmas : List LogLine) → cones.graphs ≡ graphs → cones.query ≡ query → AreLemmas (formula_of cones.graphs cones.query) lemmas → AreLemmas (formula_of graphs query) lemmas
-are_own cones graphs query lemmas graphs_are query_is are =
-    subst (λ (q : Query). AreLemmas (formula_of graphs q) lemmas) query_is (subst (λ (g : Graphs). AreLemmas (formula_of g cones.query) lemmas) graphs_are are)
-
--- lemmas that are short
-pub short_asked : (graphs : Graphs) (query : Query) (lemmas : List LogLine) (old new : Ledgered) → AreLemmas (formula_of graphs query) lemmas → IsAskedWith graphs query lemmas old new → IsAskedIn graphs query old new
-short_asked graphs query lemmas old new are is = record {
-  lemmas = lemmas;
-  lines = is.lines;
-  are = are;
-  begin = is.begin;
-  derived = is.derived;
-  learned = is.learned;
-  budget = is.budget;
-  asked = is.asked;
-}
-
--- a query that was asked by short lemmas was asked by lemmas
-pub whole_of : (graphs : Graphs) (query : Query) (old new : Ledgered) (is : IsAskedIn graphs query old new) → IsAskedWith graphs query is.lemmas old new
-whole_of graphs query old new is = record {
-  lines = is.lines;
-  begin = is.begin;
-  derived = is.derived;
-  learned = is.learned;
-  budget = is.budget;
-  asked = is.asked;
+-- no answer, where less is said of what was asked
+pub stopped_weaker : {P Q : Type 0} (old new : Ledgered) (stop : Stop) → (P → Q) → IsStoppedAfter P old new stop → IsStoppedAfter Q old new stop
+stopped_weaker old new Memory weaker stopped = tt
+stopped_weaker old new (Spent learned) weaker stopped = record {
+  asked = weaker stopped.asked;
+  learned_is = stopped.learned_is;
+  used = stopped.used;
+  made = stopped.made;
+  spent = stopped.spent;
 }
 
 pub stopped_with : (graphs : Graphs) (query : Query) (lemmas : List LogLine) (s new : Solving) (old first after : Ledgered) (stop : Stop) → IsOfCones graphs query lemmas s → 0 < length first.asked → first ≡ record old { asked = opened query lemmas old.asked } → IsSolverStopped s new (charging_of first) (charging_of after) stop → IsStoppedWith graphs query lemmas old after stop
 stopped_with graphs query lemmas s new old first after Memory of there opened_is stopped = tt
 stopped_with graphs query lemmas s new old first after (Spent learned) of there opened_is stopped = record {
-  asked_with = asked_with graphs query lemmas s new old first after of there opened_is stopped.extended;
+  asked = asked_with graphs query lemmas s new old first after of there opened_is stopped.extended;
   learned_is = stopped.learned_is ∙ ap (λ (l : Ledgered). l.budget) opened_is;
   used = omega (arith, stopped.used, ap one_if stopped.spent, ap (λ (l : Ledgered). l.budget) opened_is);
   made = omega (arith, stopped.used, ap (λ (l : Ledgered). l.budget) opened_is);
   spent = stopped.spent;
 }
 
-pub short_stopped : (graphs : Graphs) (query : Query) (lemmas : List LogLine) (old new : Ledgered) (stop : Stop) → AreLemmas (formula_of graphs query) lemmas → IsStoppedWith graphs query lemmas old new stop → IsStopped graphs query old new stop
-short_stopped graphs query lemmas old new Memory are is = tt
-short_stopped graphs query lemmas old new (Spent learned) are is = record {
-  asked_in = short_asked graphs query lemmas old new are is.asked_with;
-  learned_is = is.learned_is;
-  used = is.used;
-  made = is.made;
-  spent = is.spent;
-}
-
--- the solver that is made for the clauses of the cones
-pub made_of_cones : (graphs : Graphs) (query : Query) (lemmas : List LogLine) (cones : Coned) (s : Solving) → cones.graphs ≡ graphs → cones.query ≡ query → AreConeIds cones.graphs cones.query cones.ids → AreDerived (formula_of cones.graphs cones.query) lemmas → s ≡ record { formula = formula_of cones.graphs cones.query; ids = cones.ids; lines = lemmas } → IsOfCones graphs query lemmas s
-made_of_cones graphs query lemmas cones s graphs_are query_is ids derived is = record {
-  formula = ap (λ (x : Solving). x.formula) is ∙ (ap (λ (g : Graphs). formula_of g cones.query) graphs_are ∙ ap (formula_of graphs) query_is);
-  ids = λ id cone.
-      let own = (ids.cones id).1 (subst (λ (q : Query). IsConeId cones.graphs q id) (sym query_is) (subst (λ (g : Graphs). IsConeId g query id) (sym graphs_are) cone)) in
-      subst (λ (xs : List ℕ). Contains xs id) (sym (ap (λ (x : Solving). x.ids) is)) own;
-  lines = ap (λ (x : Solving). x.lines) is;
-  derived = subst (λ (q : Query). AreDerived (formula_of graphs q) lemmas) query_is (subst (λ (g : Graphs). AreDerived (formula_of g cones.query) lemmas) graphs_are derived);
-}
-
--- the solver that is made for the clauses of the cones, of which a query's base tells each
+-- the solver that is made for the clauses of the cones, of which a base tells each
 pub made_of_base : (graphs : Graphs) (query : Query) (lemmas : List LogLine) (cones : Coned) (base : Asking) (ids : List ℕ) (s : Solving) → cones.graphs ≡ graphs → cones.query ≡ query → base ≡ record { graphs = graphs; query = query } → ids ≡ cones.ids → AreConeIds cones.graphs cones.query cones.ids → AreDerived (formula_of graphs query) lemmas → s ≡ record { formula = formula_of base.graphs base.query; ids = ids; lines = lemmas } → IsOfCones graphs query lemmas s
 made_of_base graphs query lemmas cones base ids s graphs_are query_is base_is ids_are cone_ids derived is = record {
   formula = ap (λ (x : Solving). x.formula) is ∙ ap (λ (b : Asking). formula_of b.graphs b.query) base_is;
@@ -174,8 +137,48 @@ joined_longer graphs query lemmas lines are begin gate is =
         let split : lemmas ++ rest ≡ lines = ap (λ (ls : List LogLine). ls ++ rest) (sym begin) ∙ take-append-drop (length lemmas) lines in
         subst (λ (cs : List (List SatLit)). Contains cs clause) (sym (map-append (λ (l : LogLine). l.clause) lemmas rest) ∙ ap clauses_of split) (Contains-append_left (clauses_of lemmas) (clauses_of rest) clause has)
 
-pub joined_in : {O : Type 0} (graphs : Graphs) (query : Query) (lemmas lines : List LogLine) (cones : Coned) (s new : Solving) (first after : Charging O) → cones.graphs ≡ graphs → cones.query ≡ query → IsOfCones graphs query lemmas s → AreJoined cones.graphs cones.query lemmas → IsExtended s new first after → lines ≡ new.lines → AreJoined graphs query lines
-joined_in {O} graphs query lemmas lines cones s new first after graphs_are query_is of joined extended are =
-    let begin : take (length lemmas) new.lines ≡ lemmas = ap (λ (ls : List LogLine). take (length ls) new.lines) (sym of.lines) ∙ (extended.kept ∙ of.lines) in
-    let own = subst (λ (q : Query). AreJoined graphs q lemmas) query_is (subst (λ (g : Graphs). AreJoined g cones.query lemmas) graphs_are joined) in
-    subst (AreJoined graphs query) (sym are) (joined_longer graphs query lemmas new.lines own begin)
+-- clauses of which none is empty or longer than three literals are short
+pub short_from : (clauses : List (List SatLit)) → list_any is_empty clauses ≡ false → All (λ clause. length clause ≤ 3) clauses → AreShort clauses
+short_from clauses filled short k d within = (some (slice_index_or clauses k d) refl, short k d within)
+  where
+    some : (clause : List SatLit) → slice_index_or clauses k d ≡ clause → 1 ≤ length clause
+    some [] is = absurd (both_ways (list_any is_empty clauses) filled (list_any_at is_empty clauses k d within (ap is_empty is)))
+    some (l ∷ clause) is = omega arith
+
+-- A query that is asked by the clauses of its cones and by lemmas that join gates, in an entry that was opened for it.
+module _ (graphs : Graphs) (query : Query) (lemmas : List LogLine) (cones : Coned) (old first after : Ledgered) (graphs_are : cones.graphs ≡ graphs) (query_is : cones.query ≡ query) (ids : AreConeIds cones.graphs cones.query cones.ids) (are : AreLemmas (formula_of cones.graphs cones.query) lemmas) where
+  abbrev pub start : Solving
+  start = start_of (formula_of cones.graphs cones.query) cones.ids lemmas
+
+  abbrev pub done : Solving
+  done = with_lines_of start (charging_of after)
+
+  -- what holds of the cones' circuits and query holds of these
+  of_these : (P : Graphs → Query → Type 0) → P cones.graphs cones.query → P graphs query
+  of_these P holds = subst (P graphs) query_is (subst (λ (g : Graphs). P g cones.query) graphs_are holds)
+
+  own : AreLemmas (formula_of graphs query) lemmas
+  own = of_these (λ g q. AreLemmas (formula_of g q) lemmas) are
+
+  of : IsOfCones graphs query lemmas start
+  of =
+      let both : Asking = record { graphs = cones.graphs; query = cones.query } in
+      made_of_base graphs query lemmas cones both cones.ids start graphs_are query_is (λ i. record { graphs = graphs_are i; query = query_is i }) refl ids own.derived refl
+
+  pub cones_asked : 0 < length first.asked → first ≡ record old { asked = opened query lemmas old.asked } → IsExtended start done (charging_of first) (charging_of after) → IsAskedIn graphs query old after
+  cones_asked there opened_is extended = record {
+    lemmas = lemmas;
+    are = own;
+    with_them = asked_with graphs query lemmas start done old first after of there opened_is extended;
+  }
+
+  pub cones_stopped : (stop : Stop) → 0 < length first.asked → first ≡ record old { asked = opened query lemmas old.asked } → IsSolverStopped start done (charging_of first) (charging_of after) stop → IsStopped graphs query old after stop
+  cones_stopped stop there opened_is stopped =
+      stopped_weaker old after stop (λ is. record { lemmas = lemmas; are = own; with_them = is }) (stopped_with graphs query lemmas start done old first after stop of there opened_is stopped)
+
+  pub cones_met : (values : List Bool) → IsExtended start done (charging_of first) (charging_of after) → Meets values (wanted done.formula done.ids) → MeetsCones graphs query values
+  cones_met values extended meets = meets_cones graphs query lemmas start done (charging_of first) (charging_of after) values of extended meets
+
+  pub cones_joined : (lines : List LogLine) → AreJoined cones.graphs cones.query lemmas → IsExtended start done (charging_of first) (charging_of after) → lines ≡ done.lines → AreJoined graphs query lines
+  cones_joined lines joined extended lines_are =
+      subst (AreJoined graphs query) (sym lines_are) (joined_longer graphs query lemmas done.lines (of_these (λ g q. AreJoined g q lemmas) joined) extended.kept)

@@ -1,5 +1,5 @@
 -- How many lines can be learned for a query.
-use Rattle.std.proofs.Common.{◌≡◌, ◌+◌, ◌-◌, List, [], ◌∷◌, length, take, Result, Ok, Err, IfOk, IfErr, slice_index_or, slice_set, ◌∙◌, ap, arith}
+use Rattle.std.proofs.Common.{◌≡◌, ◌+◌, ◌-◌, List, [], ◌∷◌, length, take, slice_index_or, slice_set, ◌∙◌, ap, arith}
 use Rattle.std.proofs.lemmas.List.{get_or-set_same, get_or_at, length-append, length-set}
 use Rattle.cnf_core.specs.declared.log.LogLine.{LogLine}
 use Rattle.cnf_core.specs.declared.stop.Stop.{Stop}
@@ -13,9 +13,7 @@ use Rattle.query_core.specs.declared.query.Query.{Query}
 use Rattle.query_core.specs.declared.ledger.Asked.{Asked}
 use Rattle.query_core.specs.Formulas.{formula_of}
 use Rattle.query_core.specs.Ledgers.{Ledgered, charged_front, charged_in, entry_of, last_asked, nothing_asked, opened, with_lines}
-use Rattle.ask_core.specs.declared.question.Answer.{Answer}
-use Rattle.ask_core.proofs.AskLemmas.{whole_of}
-use Rattle.ask_core.specs.Answers.{IsAskedIn, IsAskedWith, IsBounded, IsBoundedStop, IsStopped, IsStoppedWith}
+use Rattle.ask_core.specs.Answers.{IsAskedIn, IsAskedWith, IsBounded, IsBoundedStop, IsStoppedAfter}
 
 -- the last entry of a query that was opened, with lines in place of its lemmas
 last_with : (query : Query) (lemmas lines : List LogLine) (asked : List Asked) → last_asked (with_lines lines (opened query lemmas asked)) ≡ record (entry_of query lemmas) { lines = lines }
@@ -40,31 +38,9 @@ bounded_with graphs query lemmas old new is =
     omega (arith, few_lines f.variables first is.lines unlike, ap charged_in (ap last_asked is.asked ∙ last_with query lemmas is.lines old.asked))
 
 pub bounded_in : (graphs : Graphs) (query : Query) (old new : Ledgered) → IsAskedIn graphs query old new → IsBounded graphs query new
-bounded_in graphs query old new is =
-    bounded_with graphs query is.lemmas old new (whole_of graphs query old new is)
+bounded_in graphs query old new is = bounded_with graphs query is.lemmas old new is.with_them
 
-bounded_at : (graphs : Graphs) (query : Query) (old new : Ledgered) (stop : Stop) → IsStopped graphs query old new stop → IsBoundedStop graphs query new stop
-bounded_at graphs query old new Memory stopped = tt
-bounded_at graphs query old new (Spent learned) stopped = bounded_in graphs query old new stopped.asked_in
-
--- so it is of each answer
-pub bounded_answer : (graphs : Graphs) (query : Query) (old new : Ledgered) (result : Result Answer Stop) → IfOk result (λ _. IsAskedIn graphs query old new) → IfOk result (λ _. IsBounded graphs query new)
-bounded_answer graphs query old new (Ok answer) asked = bounded_in graphs query old new asked
-bounded_answer graphs query old new (Err stop) asked = tt
-
-pub bounded_stops : (graphs : Graphs) (query : Query) (old new : Ledgered) (result : Result Answer Stop) → IfErr result (IsStopped graphs query old new) → IfErr result (IsBoundedStop graphs query new)
-bounded_stops graphs query old new (Ok answer) stopped = tt
-bounded_stops graphs query old new (Err stop) stopped = bounded_at graphs query old new stop stopped
-
-bounded_with_at : (graphs : Graphs) (query : Query) (lemmas : List LogLine) (old new : Ledgered) (stop : Stop) → IsStoppedWith graphs query lemmas old new stop → IsBoundedStop graphs query new stop
-bounded_with_at graphs query lemmas old new Memory stopped = tt
-bounded_with_at graphs query lemmas old new (Spent learned) stopped = bounded_with graphs query lemmas old new stopped.asked_with
-
--- so it is of each answer by lemmas
-pub bounded_answer_with : (graphs : Graphs) (query : Query) (lemmas : List LogLine) (old new : Ledgered) (result : Result Answer Stop) → IfOk result (λ _. IsAskedWith graphs query lemmas old new) → IfOk result (λ _. IsBounded graphs query new)
-bounded_answer_with graphs query lemmas old new (Ok answer) asked = bounded_with graphs query lemmas old new asked
-bounded_answer_with graphs query lemmas old new (Err stop) asked = tt
-
-pub bounded_stops_with : (graphs : Graphs) (query : Query) (lemmas : List LogLine) (old new : Ledgered) (result : Result Answer Stop) → IfErr result (IsStoppedWith graphs query lemmas old new) → IfErr result (IsBoundedStop graphs query new)
-bounded_stops_with graphs query lemmas old new (Ok answer) stopped = tt
-bounded_stops_with graphs query lemmas old new (Err stop) stopped = bounded_with_at graphs query lemmas old new stop stopped
+-- so it is where the budget is spent
+pub bounded_stop : {P : Type 0} (graphs : Graphs) (query : Query) (old new : Ledgered) (stop : Stop) → (P → IsBounded graphs query new) → IsStoppedAfter P old new stop → IsBoundedStop graphs query new stop
+bounded_stop graphs query old new Memory bounded stopped = tt
+bounded_stop graphs query old new (Spent learned) bounded stopped = bounded stopped.asked

@@ -1,18 +1,17 @@
 -- What an answer to a query says, and what the ledger says of it.
 use Rattle.std.specs.Prelude.{◌≡◌, ℕ, ◌+◌, ◌^◌, ◌<◌, ◌≤◌, Bool, true, false, List, length, take, All, None, slice_index_or}
-use Rattle.std.specs.List.{list_any}
 use Rattle.cnf_core.specs.declared.log.LogLine.{LogLine}
 use Rattle.cnf_core.specs.declared.stop.Stop.{Stop}
 use Rattle.cnf_core.specs.declared.stop.Stop.TheVariants.{Spent, Memory}
-use Rattle.cnf_core.specs.Derivations.{AreDerived, IsRefutation, clauses_of, is_empty, line_fault}
+use Rattle.cnf_core.specs.Derivations.{AreDerived, IsRefutation, clauses_of, line_fault}
 use Rattle.joint_hash.specs.Merging.{AreLemmas}
 use Rattle.joint_hash.specs.Trees.{AreJoined}
 use Rattle.learn_solver.specs.Analyses.{has_all}
 use Rattle.net_core.specs.Sides.{Graphs}
 use Rattle.query_core.specs.declared.query.Query.{Query}
-use Rattle.query_core.specs.Queries.{IsQuery, MeetsQuery, bits_in}
+use Rattle.query_core.specs.Queries.{MeetsQuery, bits_in}
 use Rattle.query_core.specs.Formulas.{formula_of}
-use Rattle.query_core.specs.ConeClauses.{AllOfCones, Coned}
+use Rattle.query_core.specs.ConeClauses.{AllOfCones}
 use Rattle.query_core.specs.Ledgers.{Ledgered, charged_in, last_asked, learned_in, lines_in, opened, with_lines}
 use Rattle.ask_core.specs.declared.question.Answer.{Answer}
 use Rattle.ask_core.specs.declared.question.Answer.TheVariants.{Vector, Refuted}
@@ -56,62 +55,30 @@ pub record IsAskedWith (graphs : Graphs) (query : Query) (lemmas : List LogLine)
   pub budget : new.budget ≡ old.budget
   pub asked : new.asked ≡ with_lines lines (opened query lemmas old.asked)
 
--- A query may be asked by these lemmas, and by clauses that are those of its cones.
-pub record MayBeAsked (graphs : Graphs) (query : Query) (cones : Coned) (lemmas : List LogLine) (ledger : Ledgered) : Type 0 where
-  pub fits : IsQuery graphs query
-  pub of_graphs : cones.graphs ≡ graphs
-  pub of_query : cones.query ≡ query
-  pub derived : AreDerived (formula_of graphs query) lemmas
-  pub unclosed : list_any is_empty (clauses_of lemmas) ≡ false
-  pub not_spent : ledger.spent ≡ false
-
--- It was answered by them.
-pub record IsAnsweredWith (graphs : Graphs) (query : Query) (lemmas : List LogLine) (old new : Ledgered) (answer : Answer)
-    : Type 0 where
-  pub right : IsAnswer graphs query answer
-  pub asked : IsAskedWith graphs query lemmas old new
-  pub not_spent : new.spent ≡ false
-
--- The budget is spent, and the query's last line is the refused one.
-pub record IsSpentWith (graphs : Graphs) (query : Query) (lemmas : List LogLine) (old new : Ledgered) (learned : ℕ) : Type 0 where
-  pub asked_with : IsAskedWith graphs query lemmas old new
-  pub learned_is : learned ≡ old.budget
-  pub used : learned_in new ≡ old.budget
-  pub made : lines_in new ≡ old.budget + 1
-  pub spent : new.spent ≡ true
-
--- no answer: the budget is spent, or memory ran out
-abbrev pub IsStoppedWith : Graphs → Query → List LogLine → Ledgered → Ledgered → Stop → Type 0
-IsStoppedWith graphs query lemmas old new (Spent learned) = IsSpentWith graphs query lemmas old new learned
-IsStoppedWith graphs query lemmas old new Memory = Unit {0}
-
--- A query was asked: it stands last in the ledger, with lemmas and then with lines that were learned for it. The entries
--- before stay.
+-- A query was asked, by lemmas that make gates of one structure one.
 pub record IsAskedIn (graphs : Graphs) (query : Query) (old new : Ledgered) : Type 0 where
   pub lemmas : List LogLine
-  pub lines : List LogLine
   pub are : AreLemmas (formula_of graphs query) lemmas
-  pub begin : take (length lemmas) lines ≡ lemmas
-  pub derived : AreDerived (formula_of graphs query) lines
-  pub learned : (k : ℕ) (d : LogLine)
-      → length lemmas ≤ k
-      → k < length lines
-      → IsLearnedLine graphs query (take k lines) (slice_index_or lines k d)
-  pub budget : new.budget ≡ old.budget
-  pub asked : new.asked ≡ with_lines lines (opened query lemmas old.asked)
+  pub with_them : IsAskedWith graphs query lemmas old new
 
--- The budget is spent, and the query's last line is the refused one.
-pub record IsSpentOn (graphs : Graphs) (query : Query) (old new : Ledgered) (learned : ℕ) : Type 0 where
-  pub asked_in : IsAskedIn graphs query old new
+-- The budget is spent, once this was asked, and the query's last line is the refused one.
+pub record IsSpentAfter (P : Type 0) (old new : Ledgered) (learned : ℕ) : Type 0 where
+  pub asked : P
   pub learned_is : learned ≡ old.budget
   pub used : learned_in new ≡ old.budget
   pub made : lines_in new ≡ old.budget + 1
   pub spent : new.spent ≡ true
 
--- no answer: the budget is spent, or memory ran out
+-- no answer: the budget is spent, once this was asked, or memory ran out
+abbrev pub IsStoppedAfter : Type 0 → Ledgered → Ledgered → Stop → Type 0
+IsStoppedAfter P old new (Spent learned) = IsSpentAfter P old new learned
+IsStoppedAfter P old new Memory = Unit {0}
+
+abbrev pub IsStoppedWith : Graphs → Query → List LogLine → Ledgered → Ledgered → Stop → Type 0
+IsStoppedWith graphs query lemmas old new = IsStoppedAfter (IsAskedWith graphs query lemmas old new) old new
+
 abbrev pub IsStopped : Graphs → Query → Ledgered → Ledgered → Stop → Type 0
-IsStopped graphs query old new (Spent learned) = IsSpentOn graphs query old new learned
-IsStopped graphs query old new Memory = Unit {0}
+IsStopped graphs query old new = IsStoppedAfter (IsAskedIn graphs query old new) old new
 
 -- at most 3^n lines were learned for the last entry, a refused one counted, over the n variables of a query's formula: as
 -- many as there are clauses in which each of them stands plain, stands negated or doesn't stand

@@ -5,7 +5,7 @@ ghost use Rattle.std.specs.List.{list_any};
 ghost use Rattle.cnf_core.specs.Derivations.{AreDerived, clauses_of, is_empty};
 ghost use Rattle.query_core.specs.Formulas.{formula_of};
 ghost use Rattle.query_core.specs.Queries.{IsQuery};
-ghost use Rattle.ask_core.specs.Answers.{IsAnswer, IsAnsweredWith, IsAskedWith, IsBounded, IsBoundedStop, IsStoppedWith, MayBeAsked};
+ghost use Rattle.ask_core.specs.Answers.{IsAnswer, IsAskedWith, IsBounded, IsBoundedStop, IsStoppedWith};
 
 use crate::question::Answer;
 use crate::vector::vector_of;
@@ -46,23 +46,6 @@ pub fn ask_guided<G: Guide>(
     ensures stop { IfErr result (IsStoppedWith graphs.now query.now lemmas.now ledger.old ledger.new) }
     ensures bounded { IfOk result (λ _. IsBounded graphs.now query.now ledger.new) }
     ensures bounded_stop { IfErr result (IsBoundedStop graphs.now query.now ledger.new) }
-{
-    search(alloc, graphs, query, cones, lemmas, guide, ledger)
-}
-
-// The same, without the bound.
-fn search<G: Guide>(
-    alloc: Global,
-    graphs: &Graphs<'_>,
-    query: &Query,
-    cones: &ConeClauses<'_>,
-    lemmas: &[LogLine],
-    guide: &mut G,
-    ledger: &mut Ledger,
-) -> Result<Answer, Stop>
-    requires { MayBeAsked graphs.now query.now cones.now lemmas.now ledger.old }
-    ensures answered { IfOk result (IsAnsweredWith graphs.now query.now lemmas.now ledger.old ledger.new) }
-    ensures stop { IfErr result (IsStoppedWith graphs.now query.now lemmas.now ledger.old ledger.new) }
 {
     ledger.open(alloc, query, lemmas)?;
     let base = QueryBase::new(alloc, graphs, query)?;

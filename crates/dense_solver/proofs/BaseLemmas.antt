@@ -1,13 +1,14 @@
 -- Clauses that are collected, their variables that are listed, and the places of these.
-use Rattle.std.proofs.Common.{◌≡◌, ◌≢◌, if◌then◌else◌, ℕ, ◌+◌, ◌-◌, ◌<◌, ◌≤◌, ◌^◌, ◌||◌, not, eqb, Bool, true, false, List, [], ◌∷◌, ◌++◌, length, map, take, replicate, All, Contains, slice_index_or, slice_set, inl, inr, refl, sym, ◌∙◌, ap, subst, arith}
+use Rattle.std.proofs.Common.{◌≡◌, ◌≢◌, if◌then◌else◌, ℕ, ◌+◌, ◌-◌, ◌<◌, ◌≤◌, ◌^◌, not, eqb, ne_eqb, Bool, true, false, List, [], ◌∷◌, ◌++◌, length, map, take, replicate, All, Contains, slice_index_or, slice_set, inl, inr, refl, sym, ◌∙◌, ap, subst, arith}
 use Rattle.std.specs.List.{IsDistinct, list_any, range_with_len}
 use Rattle.std.specs.List.Sorted.{IsPermutation}
 use Rattle.std.proofs.lemmas.Bool.{cases_eq, cases_lt, eq-eqb, false≢true}
 use Rattle.std.proofs.lemmas.Bool.Decides.{eqb_tells}
 use Rattle.std.proofs.lemmas.Cmp.{nat_eq_equiv}
-use Rattle.std.proofs.lemmas.List.{append_assoc, get_or_append_left, get_or_at, get_or_default, get_or_past, get_or-append_right, get_or-map, get_or-replicate, get_or-set_same, get_or-set_other, length-append, length-map, length-replicate, length-set, map-append, take_more}
+use Rattle.std.proofs.lemmas.List.{append_assoc, get_or_append_left, get_or_at, get_or_default, get_or-append_right, get_or-map, get_or-set_same, get_or-set_other, length-append, length-map, length-replicate, length-set, map-append, take_more}
 use Rattle.std.proofs.lemmas.List.FromFn.{fill_by_all, get_or-map-range_with_len, length-map-range_with_len, map-range_with_len_more}
-use Rattle.std.proofs.lemmas.List.Elements.{All-head, All-map, All-push, All-tail, Contains-append_left, Contains-push}
+use Rattle.std.proofs.lemmas.List.Folds.{list_any_none}
+use Rattle.std.proofs.lemmas.List.Elements.{All-map, All-push, All-set, Contains-append_left, Contains-push}
 use Rattle.std.proofs.lemmas.List.Sorted.{All-permutation, Contains-permutation}
 use Rattle.std.proofs.lemmas.Map.Keys.{IsDistinct-push, IsDistinct-IsPermutation, apart_from_distinct}
 use Rattle.circuits.specs.Literals.{bit}
@@ -19,8 +20,9 @@ use Rattle.cnf_core.specs.Derivations.{clauses_of}
 use Rattle.watch_lists.specs.Propagations.{AreKnown}
 use Rattle.dense_solver.specs.Renamings.{AreListed, AreMarks, AreNames, AreOver, ArePlaces, AreTurned, IsNamed, IsOver, IsRenaming, numbers_of, renamed}
 use Rattle.number_marks.proofs.MarkLemmas.{marked_where}
+use Rattle.learn_solver.proofs.AnalysisLemmas.{unmarked_bit}
 use Rattle.cnf_core.proofs.LiteralLemmas.{itself, variable_of-literal}
-use Rattle.dense_solver.proofs.LineLemmas.{is_negated-literal}
+use Rattle.dense_solver.proofs.LineLemmas.{is_negated-literal, turned_twice}
 
 -- the first names have their places
 pub record IsPlacing (variables : ℕ) (names places : List ℕ) (count : ℕ) : Type 0 where
@@ -75,12 +77,8 @@ pub back_again : (names : List ℕ) (place : ℕ) (l m : SatLit) → place < len
 back_again names place l m there at m_is =
     let s = not (is_negated l) in
     let variable : variable_of m ≡ place = ap variable_of m_is ∙ variable_of-literal place s in
-    let sign : not (is_negated m) ≡ s = ap not (ap is_negated m_is ∙ is_negated-literal place s) ∙ twice s in
+    let sign : not (is_negated m) ≡ s = ap not (ap is_negated m_is ∙ is_negated-literal place s) ∙ turned_twice s in
     (ap (λ v. literal_of (slice_index_or names v 0) (not (is_negated m))) variable ∙ (ap (λ b. literal_of (slice_index_or names place 0) b) sign ∙ (ap (λ v. literal_of v s) at ∙ itself l)), omega (arith, variable, there))
-  where
-    twice : (b : Bool) → not (not b) ≡ b
-    twice true = refl
-    twice false = refl
 
 -- one clause more over the places
 pub turned_more : (names : List ℕ) (clauses : List Clause3) (i : ℕ) (dense new : List Clause3) (t : Clause3) (clause : List SatLit) (d : Clause3) → AreTurned names clauses dense i → i < length clauses → clause ≡ literals_of (slice_index_or clauses i d) → 1 ≤ length clause → map (renamed names) (literals_of t) ≡ clause → AreKnown (length names) (literals_of t) → 1 ≤ t.len → t.len ≤ 3 → new ≡ dense ++ t ∷ [] → AreTurned names clauses new (i + 1)
@@ -107,7 +105,7 @@ placing_more variables names places new i v are is within v_is small new_is =
     let low : v < length places = omega (arith, v_at, are.known i 0 within, is.size) in
     subst (λ ps. IsPlacing variables names ps (i + 1)) (sym new_is) (record {
       size = length-set places v i ∙ is.size;
-      few = All-set places v i small is.few;
+      few = All-set (λ place. place < 2 ^ 63) places v i small is.few;
       each = λ k below. elim (cases_lt k i) [
         | inl before ↦ get_or-set_other places v (slice_index_or names k 0) i 0 (λ e. omega (arith, are.apart k i (omega (arith, before, within)) within (e ∙ v_at), before)) ∙ is.each k before
         | inr late ↦
@@ -115,23 +113,11 @@ placing_more variables names places new i v are is within v_is small new_is =
             ap (λ w. slice_index_or (slice_set places v i) w 0) (ap (λ j. slice_index_or names j 0) last ∙ sym v_at) ∙ (get_or-set_same places v i 0 low ∙ sym last)
       ];
     })
-  where
-    All-set : (xs : List ℕ) (j x : ℕ) → x < 2 ^ 63 → All (λ place. place < 2 ^ 63) xs → All (λ place. place < 2 ^ 63) (slice_set xs j x)
-    All-set xs j x own all k d below =
-        let size = length-set xs j x in
-        elim (eqb_tells k j) [
-          | inl (found, e) ↦ subst (λ n. n < 2 ^ 63) (sym (ap (λ m. slice_index_or (slice_set xs j x) m d) e ∙ get_or-set_same xs j x d (omega (arith, below, size, e)))) own
-          | inr (found, apart) ↦ subst (λ n. n < 2 ^ 63) (sym (get_or-set_other xs j k x d apart)) (all k d (omega (arith, below, size)))
-        ]
 
 -- what isn't marked isn't listed
 not_among : (marked : List Bool) (v : ℕ) (names : List ℕ) → bit marked v ≡ false → All (λ w. bit marked w ≡ true) names → list_any (eqb v) names ≡ false
-not_among marked v [] unmarked all = refl
-not_among marked v (w ∷ names) unmarked all =
-    elim (eqb_tells v w) [
-      | inl (found, e) ↦ absurd (false≢true (sym unmarked ∙ (ap (bit marked) e ∙ All-head (λ u. bit marked u ≡ true) w names all)))
-      | inr (found, apart) ↦ ap (λ b. b || list_any (eqb v) names) found ∙ not_among marked v names unmarked (All-tail (λ u. bit marked u ≡ true) w names all)
-    ]
+not_among marked v names unmarked all =
+    list_any_none (eqb v) names (λ k d within. ne_eqb v (slice_index_or names k d) (λ e. false≢true (sym unmarked ∙ (ap (bit marked) e ∙ all k d within))))
 
 -- one variable more is listed and marked
 pub marks_more : (n : ℕ) (names new : List ℕ) (marked : List Bool) (v : ℕ) → AreMarks n names marked → v < length marked → v < 2 ^ 63 → bit marked v ≡ false → new ≡ names ++ v ∷ [] → AreMarks n new (slice_set marked v true)
@@ -181,20 +167,13 @@ clauses_listing_more n names new marked now clauses i clause d is within clause_
   ];
 }
 
-unmarked : (n v : ℕ) → bit (replicate n false) v ≡ false
-unmarked n v =
-    elim (cases_lt v n) [
-      | inl early ↦ get_or-replicate n v false false early
-      | inr late ↦ get_or_past (replicate n false) v false (omega (arith, late, length-replicate n false))
-    ]
-
 -- nothing is listed at first
 pub no_marks : (n : ℕ) → AreMarks n [] (replicate n false)
 unfolding IsDistinct
 no_marks n = record {
   size = length-replicate n false;
   listed = record { known = λ k d below. absurd (omega (arith, below)); few = λ k d below. absurd (omega (arith, below)); distinct = tt };
-  marks = λ v at. absurd (false≢true (sym (unmarked n v) ∙ at));
+  marks = λ v at. absurd (false≢true (sym (unmarked_bit n v) ∙ at));
   marked_are = λ k d below. absurd (omega (arith, below));
 }
 
@@ -296,7 +275,7 @@ pub spreading_none : (variables : ℕ) (names : List ℕ) (values full : List Bo
 spreading_none variables names values full is = subst (λ bs. IsSpreading variables names values bs 0) (sym is) (record {
   size = length-replicate variables false;
   each = λ k below. absurd (omega (arith, below));
-  rest = λ v apart. unmarked variables v;
+  rest = λ v apart. unmarked_bit variables v;
 })
 
 -- one bit more

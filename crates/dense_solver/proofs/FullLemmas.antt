@@ -20,23 +20,20 @@ use Rattle.dense_solver.specs.declared.verdict.DenseVerdict.TheVariants.{Model a
 use Rattle.learn_solver.specs.declared.verdict.Finding.{Finding}
 use Rattle.learn_solver.specs.declared.verdict.Finding.TheVariants.{Model, Refuted}
 use Rattle.learn_solver.proofs.AdvanceLemmas.{derived_after}
+use Rattle.learn_solver.proofs.StartLemmas.{lines_known}
 use Rattle.learn_solver.proofs.SolverLemmas.{line_known, line_says, steps_there}
 use Rattle.dense_solver.specs.Renamings.{AreShort, IsRenaming, IsSpread, renamed, translated}
 use Rattle.dense_solver.specs.Solved.{AreCharged, AreLearned, AreRefused, IsDenseVerdict, IsFound, IsSettled, IsTold, IsUnsettled, start_of, with_lines_of}
 use Rattle.dense_solver.proofs.RenameLemmas.{has_all_renamed, met_renamed}
 use Rattle.cnf_core.proofs.LiteralLemmas.{variable_of-literal}
-use Rattle.dense_solver.proofs.LineLemmas.{clauses_after, empties_renamed, is_negated-literal, line_translated, names_rename}
+use Rattle.dense_solver.proofs.LineLemmas.{clauses_after, empties_renamed, is_negated-literal, line_translated, names_rename, turned_twice}
 
 no_line : LogLine
 no_line = record { clause = []; hints = [] }
 
--- lemmas are over the formula's variables
-pub lemmas_known : (full : Formula) (lemmas : List LogLine) → AreDerived full lemmas → All (AreKnown full.variables) (clauses_of lemmas)
-lemmas_known full lemmas derived = All-map (AreKnown full.variables) (λ (l : LogLine). l.clause) lemmas (λ k d within. line_known full (clauses_of (take k lemmas)) (slice_index_or lemmas k d) (derived k d within))
-
 -- learned lines are over the names
 pub learned_known : (small : Formula) (n : ℕ) (lines : List LogLine) → AreLearned small lines → small.variables ≡ n → All (AreKnown n) (clauses_of lines)
-learned_known small n lines learned variables = subst (λ m. All (AreKnown m) (clauses_of lines)) variables (lemmas_known small lines learned.derived)
+learned_known small n lines learned variables = subst (λ m. All (AreKnown m) (clauses_of lines)) variables (lines_known small lines learned.derived)
 
 -- their hints are numbers
 pub learned_few : (small : Formula) (lines : List LogLine) (next : ℕ) → AreLearned small lines → next < 2 ^ 63 → length small.clauses < 2 ^ 62 → length lines < 2 ^ 62 → All (λ line. All (λ hint. next + hint < 2 ^ 64) line.hints) lines
@@ -71,12 +68,21 @@ pub record IsTranslating (small : Formula) (names numbers : List ℕ) (full : Fo
   pub filled : list_any is_empty (clauses_of lemmas) ≡ false
   pub derived : AreDerived full lemmas
 
-pub none_empty : (clauses : List (List SatLit)) → AreShort clauses → list_any is_empty clauses ≡ false
+none_empty : (clauses : List (List SatLit)) → AreShort clauses → list_any is_empty clauses ≡ false
 none_empty [] short = refl
 none_empty ([] ∷ clauses) short = absurd (omega (arith, (short 0 [] (omega arith)).0))
 none_empty ((l ∷ clause) ∷ clauses) short = none_empty clauses (All-tail (λ (c : List SatLit). (1 ≤ length c) × (length c ≤ 3)) (l ∷ clause) clauses short)
 
-front_all : (P : List SatLit → Type 0) (xs ys : List (List SatLit)) → All P (xs ++ ys) → All P xs
+pub translating : (small : Formula) (names numbers : List ℕ) (full : Formula) (ids : List ℕ) (lemmas : List LogLine) → IsRenaming small names numbers full lemmas → map (clause_at full.clauses) ids ++ clauses_of lemmas ≡ map (map (renamed names)) small.clauses → AreShort (clauses_of lemmas) → AreDerived full lemmas → IsTranslating small names numbers full ids lemmas
+translating small names numbers full ids lemmas renaming whole short derived = record {
+  renaming = renaming;
+  whole = whole;
+  filled = none_empty (clauses_of lemmas) short;
+  derived = derived;
+}
+
+-- what holds of all holds of those in front
+pub front_all : (P : List SatLit → Type 0) (xs ys : List (List SatLit)) → All P (xs ++ ys) → All P xs
 front_all P xs ys all k d within =
     subst P (get_or_append_left xs ys d k within) (all k d (omega (arith, within, length-append xs ys)))
 
@@ -146,11 +152,7 @@ module _ (small : Formula) (names numbers : List ℕ) (full : Formula) (ids : Li
       let s = not (is_negated l) in
       ap (λ n. differ (bit bits n) (is_negated (renamed names l))) (variable_of-literal v s)
       ∙ (ap (λ b. differ b (is_negated (renamed names l))) (spread.each (variable_of l) below)
-      ∙ ap (differ (bit values (variable_of l))) (is_negated-literal v s ∙ twice (is_negated l)))
-    where
-      twice : (b : Bool) → not (not b) ≡ b
-      twice true = refl
-      twice false = refl
+      ∙ ap (differ (bit values (variable_of l))) (is_negated-literal v s ∙ turned_twice (is_negated l)))
 
   verdict_of : {O : Type 0} (lines : List LogLine) (before after : Charging O) (own : Finding) (answer : DenseVerdict) → AreLearned small lines → before.lines ≡ lemmas → AreCharged before (map t lines) after → IsFound small lines own → IsTold names full.variables (lemmas ++ map t lines) own answer → IsDenseVerdict (with_lines_of (start_of full ids lemmas) after) answer
   verdict_of {O} lines before after (Model values) (Full bits) learned first charged found told =

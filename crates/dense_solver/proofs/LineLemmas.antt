@@ -32,11 +32,9 @@ tests_agree a b c d there back =
       | inr (no_, e) ↦ elim (eqb_tells c d) [ inl (is, f) ↦ absurd (e (back f)) | inr (is, f) ↦ no_ ∙ sym is ]
     ]
 
-not_twice : (a b : Bool) → not a ≡ not b → a ≡ b
-not_twice true true e = refl
-not_twice true false e = sym e
-not_twice false true e = sym e
-not_twice false false e = refl
+pub turned_twice : (b : Bool) → not (not b) ≡ b
+turned_twice true = refl
+turned_twice false = refl
 
 -- names that are apart rename literals apart
 pub names_rename : (variables : ℕ) (names : List ℕ) → AreNames variables names → Renames (length names) (renamed names)
@@ -58,7 +56,7 @@ names_rename variables names are = record {
         let variables_are : name l ≡ name m = sym (variable_of-literal (name l) (not (is_negated l))) ∙ (ap variable_of e ∙ variable_of-literal (name m) (not (is_negated m))) in
         let v = are.apart (variable_of l) (variable_of m) below there variables_are in
         let signs : not (not (is_negated l)) ≡ not (not (is_negated m)) = sym (is_negated-literal (name l) (not (is_negated l))) ∙ (ap is_negated e ∙ is_negated-literal (name m) (not (is_negated m))) in
-        let s = not_twice (not (is_negated l)) (not (is_negated m)) signs in
+        let s = sym (turned_twice (not (is_negated l))) ∙ (ap not signs ∙ turned_twice (not (is_negated m))) in
         ap (λ (x : SatLit). x.0) (sym (itself l) ∙ (ap (λ w. literal_of w (not (is_negated l))) v ∙ (ap (literal_of (variable_of m)) s ∙ itself m)))
 
 -- a renamed clause is over the formula's variables

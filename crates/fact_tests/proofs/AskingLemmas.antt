@@ -1,6 +1,7 @@
 -- What an answered query, and one refuted by its outputs, make of a ledger.
 use Rattle.std.proofs.lemmas.List.{length-take}
-use Rattle.std.proofs.Common.{◌≡◌, ℕ, zero, suc, ◌<◌, ◌≤◌, length, [], ◌∷◌, take, slice_index_or, List, ap, ◌∙◌, arith, ◌+◌}
+use Rattle.std.proofs.Common.{◌≡◌, ℕ, zero, suc, ◌<◌, ◌≤◌, length, [], ◌∷◌, take, slice_index_or, List, ap, ◌∙◌, arith, ◌+◌, ◌*◌}
+use Rattle.circuits.specs.declared.netlist.Gate.{Gate}
 use Rattle.circuits.specs.Netlists.{signals_of}
 use Rattle.cnf_core.specs.declared.log.LogLine.{LogLine}
 use Rattle.cnf_core.specs.declared.stop.Stop.{Stop}
@@ -19,8 +20,8 @@ use Rattle.query_core.specs.Ledgers.{Ledgered, opened, with_line, IsRefused}
 use Rattle.query_core.specs.Queries.{IsQuery}
 use Rattle.query_core.proofs.ClaimQueryLemmas.{claim_query_fits}
 use Rattle.oracle_core.specs.Work.{IsLearned, IsWorkOn}
-use Rattle.ask_core.specs.Answers.{IsAskedIn, IsAskedWith, IsStopped, IsStoppedWith}
-use Rattle.ask_core.proofs.AskLemmas.{whole_of}
+use Rattle.ask_core.specs.Answers.{IsAskedIn, IsAskedWith}
+use Rattle.shared_lemmas.specs.Shared.{IsAskedBy}
 use Rattle.fact_tests.specs.Asking.{IsAsked, IsHalted, entry_with}
 use Rattle.fact_tests.specs.Supports.{IsOutside, closing_line}
 use Rattle.fact_tests.proofs.ConeLemmas.{empty_is_new, graph_is}
@@ -50,28 +51,11 @@ asked_with_of graphs query lemmas before after fits is = record {
     within : length lemmas ≤ length is.lines
     within = omega (arith, ap length is.begin, length-take (length lemmas) is.lines)
 
-pub halted_with_of : (graphs : Graphs) (query : Query) (lemmas : List LogLine) (before after : Ledgered) (stop : Stop) → IsQuery graphs query → IsStoppedWith graphs query lemmas before after stop → IsHalted graphs query before after stop
-halted_with_of graphs query lemmas before after Memory fits stopped = tt
-halted_with_of graphs query lemmas before after (Spent learned) fits stopped = record {
-  asked = asked_with_of graphs query lemmas before after fits stopped.asked_with;
-  learned_is = stopped.learned_is;
-  used = stopped.used;
-  made = stopped.made;
-  refused = stopped.spent;
-}
-
 pub asked_of : (graphs : Graphs) (query : Query) (before after : Ledgered) → IsQuery graphs query → IsAskedIn graphs query before after → IsAsked graphs query before after
-asked_of graphs query before after fits is = asked_with_of graphs query is.lemmas before after fits (whole_of graphs query before after is)
+asked_of graphs query before after fits is = asked_with_of graphs query is.lemmas before after fits is.with_them
 
-pub halted_of : (graphs : Graphs) (query : Query) (before after : Ledgered) (stop : Stop) → IsQuery graphs query → IsStopped graphs query before after stop → IsHalted graphs query before after stop
-halted_of graphs query before after Memory fits stopped = tt
-halted_of graphs query before after (Spent learned) fits stopped = record {
-  asked = asked_of graphs query before after fits stopped.asked_in;
-  learned_is = stopped.learned_is;
-  used = stopped.used;
-  made = stopped.made;
-  refused = stopped.spent;
-}
+pub asked_by_of : (graphs : Graphs) (query : Query) (before after : Ledgered) → IsQuery graphs query → IsAskedBy graphs query before after → IsAsked graphs query before after
+asked_by_of graphs query before after fits is = asked_with_of graphs query is.lemmas before after fits is.with_them
 
 -- the output of a claim is a signal
 output_there : (graphs : Graphs) (claim : Claim) → IsGraph graphs.first → IsGraph graphs.second → IsClaim graphs claim → output_signal (graph_of graphs claim.side) claim.output < signals_of (graph_of graphs claim.side)
@@ -88,8 +72,8 @@ outside_closed graphs claim first second placed outside =
     let query = claim_query graphs claim in
     let line = closing_line graphs claim in
     let there = output_there graphs claim first second placed in
-    let refuted = outside_refuted graphs claim (omega (arith, there)) outside in
     let fits = claim_query_fits graphs claim placed in
+    let refuted = outside_refuted graphs claim fits (omega (arith, there)) outside in
     record {
       refuted = refuted;
       work = record {
@@ -107,6 +91,10 @@ outside_closed graphs claim first second placed outside =
       beside_lines = λ i e none. absurd (omega (arith, none));
     }
     at_line query line fits refuted (suc k) d below = absurd (omega (arith, below))
+
+-- the line that is made of the number of a circuit's gates is that line
+pub closing_is : (graphs : Graphs) (claim : Claim) (gates : List Gate) (line : LogLine) → line ≡ record { clause = []; hints = (1 + 6 * length gates) ∷ (1 + 6 * length gates + 1) ∷ [] } → gates ≡ (graph_of graphs claim.side).gates → line ≡ closing_line graphs claim
+closing_is graphs claim gates line is same = is ∙ ap (λ (gs : List Gate). record { clause = []; hints = (1 + 6 * length gs) ∷ (1 + 6 * length gs + 1) ∷ [] }) same
 
 pub closed_asked : (graphs : Graphs) (claim : Claim) (query : Query) (line : LogLine) (before mid after : Ledgered) → IsClosed graphs claim → query ≡ claim_query graphs claim → line ≡ closing_line graphs claim → mid ≡ record before { asked = opened query [] before.asked } → after.asked ≡ with_line line mid.asked → after.budget ≡ mid.budget → IsAsked graphs (claim_query graphs claim) before after
 closed_asked graphs claim query line before mid after closed query_is line_is open_is asked_is budget_is = record {
@@ -130,5 +118,5 @@ closed_halted graphs claim query line before mid after (Spent learned) closed qu
       learned_is = refused.learned_is ∙ budget;
       used = refused.counted ∙ budget;
       made = refused.made ∙ ap (λ (n : ℕ). n + 1) budget;
-      refused = ap (λ (l : Ledgered). l.spent) refused.refused;
+      spent = ap (λ (l : Ledgered). l.spent) refused.refused;
     }

@@ -8,7 +8,9 @@ use Rattle.std.proofs.lemmas.List.Elements.{All-push}
 use Rattle.std.proofs.lemmas.List.Quantifiers.{Any-push, all_pairs_push}
 use Rattle.cnf_core.specs.declared.stop.Stop.{Stop}
 use Rattle.cnf_core.specs.declared.stop.Stop.TheVariants.{Spent, Memory}
+use Rattle.circuits.specs.Matches.{HavePorts}
 use Rattle.net_core.specs.Sides.{Graphs}
+use Rattle.net_core.specs.declared.matching.Matching.{Matching}
 use Rattle.net_core.specs.declared.graphs.Side.TheVariants.{First, Second}
 use Rattle.net_core.specs.Sides.{graph_of}
 use Rattle.query_core.specs.declared.claims.Claim.{Claim}
@@ -19,24 +21,26 @@ use Rattle.query_core.specs.declared.query.Feed.TheVariants.{Fixed, Wire}
 use Rattle.query_core.specs.declared.query.Query.{Query}
 use Rattle.query_core.specs.Claims.{IsClaim, IsPlaced}
 use Rattle.query_core.specs.ClaimQueries.{claim_query, values_feed, with_fixed}
-use Rattle.query_core.specs.MatchQueries.{straight}
+use Rattle.query_core.specs.MatchQueries.{match_query, straight}
 use Rattle.query_core.specs.Ledgers.{Ledgered}
 use Rattle.query_core.proofs.MatchLemmas.{straight_count}
 use Rattle.account_core.specs.declared.fact.Evidence.{Evidence}
 use Rattle.account_core.specs.declared.fact.Evidence.TheVariants.{Fails}
 use Rattle.account_core.specs.declared.fact.Fact.{Fact}
-use Rattle.oracle_core.specs.Work.{IsOfClaim, IsOfMatch, IsWorkOfClaimsAndMatches}
+use Rattle.oracle_core.specs.Work.{IsOfMatch, IsWorkOfClaimsAndMatches}
 use Rattle.account_core.specs.Facts.{AreFacts, IsEvidence, IsFact}
-use Rattle.oracle_core.specs.Oracles.{Claims, Grows, IsAnswered, IsNumberOf, IsStopped, Keeps, Known, Serves, Suits}
+use Rattle.oracle_core.specs.declared.oracle.Compared.TheVariants.{Differs}
+use Rattle.oracle_core.specs.Oracles.{Claims, Compares, Grows, IsAnswered, IsDifference, IsNumberOf, IsStopped, Keeps, Known, Serves, Suits}
 use Rattle.oracle_core.proofs.ServeLemmas.{grows_same, keeps_same, served_one, serves_last, serves_ok}
 use Rattle.ask_core.specs.declared.question.Answer.{Answer}
 use Rattle.ask_core.specs.declared.question.Answer.TheVariants.{Vector}
 use Rattle.ask_core.specs.Answers.{IsAnswer}
 use Rattle.fact_tests.specs.Kept.{Kept}
-use Rattle.fact_tests.specs.Asking.{IsAsked, IsDecided, IsHalted}
+use Rattle.fact_tests.specs.Asking.{IsDecided, IsHalted}
 use Rattle.fact_tests.specs.Books.{IsKept, known_by}
+use Rattle.fact_tests.proofs.MatchBits.{met_difference}
 use Rattle.fact_tests.proofs.StructureLemmas.{first_of, second_of, apart_from, own_bit}
-use Rattle.fact_tests.proofs.WorkLemmas.{IsAskedNew, asked_keeps, asked_suits, asked_work}
+use Rattle.fact_tests.proofs.WorkLemmas.{IsUnanswered, asked_keeps, asked_suits, asked_work}
 use Rattle.query_core.proofs.FeedLemmas.{straight_at}
 
 -- ---- different claims ask different queries
@@ -248,21 +252,6 @@ facts_more graphs facts fact are missing is = record {
   distinct = all_pairs_push (λ (one other : Fact). one.claim ≢ other.claim) facts fact are.distinct missing;
 }
 
-asked_new : (known : Known) (query : Query) (before after : Ledgered) → (IsAnswered known query → ⊥) → IsOfClaim known.graphs query ⊎ IsOfMatch known.graphs query → IsAsked known.graphs query before after → IsAskedNew known query before after
-asked_new known query before after unanswered kind asked = record {
-  lemmas = asked.lemmas;
-  lines = asked.lines;
-  unanswered = unanswered;
-  of_known = kind;
-  work = asked.work;
-  budget = asked.budget;
-  asked = asked.asked;
-}
-
-decided_keeps : (known : Known) (query : Query) (before after : Ledgered) → (IsAnswered known query → ⊥) → IsOfClaim known.graphs query ⊎ IsOfMatch known.graphs query → IsDecided known.graphs query before after → Keeps known before after
-decided_keeps known query before after unanswered kind (inl same) = subst (Keeps known before) (sym same) (keeps_same known before)
-decided_keeps known query before after unanswered kind (inr asked) = asked_keeps known query before after (asked_new known query before after unanswered kind asked)
-
 same_suits : (known later : Known) (ledger : Ledgered) → later.graphs ≡ known.graphs → ((q : Query) → IsAnswered known q → IsAnswered later q) → Suits known ledger → Suits later ledger
 same_suits known later ledger graphs more suits = record {
   work = subst (λ (g : Graphs). IsWorkOfClaimsAndMatches g ledger) (sym graphs) suits.work;
@@ -270,50 +259,57 @@ same_suits known later ledger graphs more suits = record {
   answered = λ k d below charged. more (slice_index_or ledger.asked k d).query (suits.answered k d below charged);
 }
 
-decided_suits : (known later : Known) (query : Query) (before after : Ledgered) → Grows known later → IsAnswered later query → (IsAnswered known query → ⊥) → IsOfClaim known.graphs query ⊎ IsOfMatch known.graphs query → IsDecided known.graphs query before after → after.spent ≡ false → Suits known before → Suits later after
-decided_suits known later query before after grows answered unanswered kind (inl same) unspent suits =
-    subst (Suits later) (sym same) (same_suits known later before grows.graphs grows.answered suits)
-decided_suits known later query before after grows answered unanswered kind (inr asked) unspent suits =
-    asked_suits known query before after (asked_new known query before after unanswered kind asked) later grows.graphs grows.answered answered unspent suits
+module _ (known : Known) (query : Query) (before after : Ledgered) (fresh : IsUnanswered known query) (suits : Suits known before) where
+  decided_keeps : IsDecided known.graphs query before after → Keeps known before after
+  decided_keeps (inl same) = subst (Keeps known before) (sym same) (keeps_same known before)
+  decided_keeps (inr asked) = asked_keeps known query before after fresh asked
 
-pub serves_decided : {X : Type 0} (known later : Known) (query : Query) (before after : Ledgered) (answer : X) → Grows known later → IsAnswered later query → (IsAnswered known query → ⊥) → IsOfClaim known.graphs query ⊎ IsOfMatch known.graphs query → IsDecided known.graphs query before after → after.spent ≡ false → Suits known before → Serves {X = X} known later before after (Ok answer)
-serves_decided {X} known later query before after answer grows answered unanswered kind decided unspent suits = record {
-  grows = grows;
-  suits = decided_suits known later query before after grows answered unanswered kind decided unspent suits;
-  keeps = decided_keeps known query before after unanswered kind decided;
-  stopped = tt;
-}
+  decided_suits : (later : Known) → Grows known later → IsAnswered later query → IsDecided known.graphs query before after → after.spent ≡ false → Suits later after
+  decided_suits later grows answered (inl same) unspent =
+      subst (Suits later) (sym same) (same_suits known later before grows.graphs grows.answered suits)
+  decided_suits later grows answered (inr asked) unspent =
+      asked_suits known query before after fresh asked later grows.graphs grows.answered answered unspent suits
 
-halted_stopped : (known : Known) (query : Query) (before after : Ledgered) (stop : Stop) → (IsAnswered known query → ⊥) → IsOfClaim known.graphs query ⊎ IsOfMatch known.graphs query → IsHalted known.graphs query before after stop → Suits known before → IsStopped known before after stop
-halted_stopped known query before after Memory unanswered kind halted suits = tt
-halted_stopped known query before after (Spent learned) unanswered kind halted suits =
-    let new = asked_new known query before after unanswered kind halted.asked in
-    record {
-      learned_is = halted.learned_is;
-      used = halted.used;
-      made = halted.made;
-      refused = halted.refused;
-      work = asked_work known query before after new suits;
-      keeps = asked_keeps known query before after new;
-    }
+  pub serves_decided : {X : Type 0} (later : Known) (answer : X) → Grows known later → IsAnswered later query → IsDecided known.graphs query before after → after.spent ≡ false → Serves {X = X} known later before after (Ok answer)
+  serves_decided {X} later answer grows answered decided unspent = record {
+    grows = grows;
+    suits = decided_suits later grows answered decided unspent;
+    keeps = decided_keeps decided;
+    stopped = tt;
+  }
 
-pub serves_halted : {X : Type 0} (known : Known) (query : Query) (before after : Ledgered) (stop : Stop) → AreFacts known.graphs known.facts → (IsAnswered known query → ⊥) → IsOfClaim known.graphs query ⊎ IsOfMatch known.graphs query → IsHalted known.graphs query before after stop → Suits known before → Serves {X = X} known known before after (Err stop)
-serves_halted {X} known query before after stop lawful unanswered kind halted suits = record {
-  grows = grows_same known lawful;
-  suits = tt;
-  keeps = tt;
-  stopped = halted_stopped known query before after stop unanswered kind halted suits;
-}
+  halted_stopped : (stop : Stop) → IsHalted known.graphs query before after stop → IsStopped known before after stop
+  halted_stopped Memory halted = tt
+  halted_stopped (Spent learned) halted = record {
+    learned_is = halted.learned_is;
+    used = halted.used;
+    made = halted.made;
+    refused = halted.spent;
+    work = asked_work known query before after fresh halted.asked suits;
+    keeps = asked_keeps known query before after fresh halted.asked;
+  }
 
--- another answer in the place of one
-pub answers_ok : {X Y : Type 0} (old new : Known) (before after : Ledgered) (r : Result X Stop) (x : X) (y : Y) → r ≡ Ok x → Serves {X = X} old new before after r → Serves {X = Y} old new before after (Ok y)
-answers_ok {X} old new before after r x y is serves =
-    serves_ok old new before after (Ok y) y refl (served_one old new before after x (subst (λ (q : Result X Stop). Serves {X = X} old new before after q) is serves))
+  pub serves_halted : {X : Type 0} (stop : Stop) → AreFacts known.graphs known.facts → IsHalted known.graphs query before after stop → Serves {X = X} known known before after (Err stop)
+  serves_halted {X} stop lawful halted = record {
+    grows = grows_same known lawful;
+    suits = tt;
+    keeps = tt;
+    stopped = halted_stopped stop halted;
+  }
 
 -- one call after another
 pub answers_then : {X Y : Type 0} (old mid new : Known) (before between after : Ledgered) (r : Result X Stop) (x : X) (s : Result Y Stop) → r ≡ Ok x → Serves {X = X} old mid before between r → Serves {X = Y} mid new between after s → Serves {X = Y} old new before after s
 answers_then {X} old mid new before between after r x s is one other =
     serves_last old mid new before between after s (served_one old mid before between x (subst (λ (q : Result X Stop). Serves {X = X} old mid before between q) is one)) other
+
+-- a vector answers the query of a match, and is a difference
+pub differs : (matching : Matching) (k : ℕ) (value : Bool) (old new : Known) (before after : Ledgered) (r : Result Answer Stop) (answer : Answer) (x bits : List Bool) → HavePorts old.graphs.first old.graphs.second matching.inputs matching.outputs → Serves {X = Answer} old new before after r → r ≡ Ok answer → answer ≡ Vector x → IsAnswer old.graphs (match_query old.graphs.first.inputs matching k value) answer → bits ≡ x → Compares matching k old new before after (Ok (Differs bits))
+differs matching k value old new before after r answer x bits ports serves is vector_is right bits_are =
+    let told = subst (IsAnswer old.graphs (match_query old.graphs.first.inputs matching k value)) vector_is right in
+    record {
+      serves = serves_ok old new before after (Ok (Differs bits)) (Differs bits) refl (served_one old new before after answer (subst (λ (q : Result Answer Stop). Serves {X = Answer} old new before after q) is serves));
+      compared = subst (IsDifference old.graphs matching k) (sym bits_are) (met_difference old.graphs matching k value x ports told.bits told.meets);
+    }
 
 -- ---- a claim is decided
 
@@ -324,8 +320,11 @@ module _ (graphs : Graphs) (facts : List Fact) (kept : List Kept) (claim : Claim
   missing_here : All (λ fact. fact.claim ≢ claim) facts
   missing_here = subst (λ (k : Known). All (λ fact. fact.claim ≢ claim) k.facts) (sym is) missing
 
-  unanswered_here : IsAnswered (known_by graphs facts kept) (claim_query graphs claim) → ⊥
-  unanswered_here = unanswered_claim graphs facts kept claim are.each keeps placed_here missing_here
+  fresh_claim : IsUnanswered (known_by graphs facts kept) (claim_query graphs claim)
+  fresh_claim = record {
+    never = unanswered_claim graphs facts kept claim are.each keeps placed_here missing_here;
+    of_known = inl (claim, placed_here, refl);
+  }
 
   not_held : {T : Type 0} (number : ℕ) → IsNumberOf known.facts claim number → T
   not_held {T} number number_is =
@@ -348,7 +347,7 @@ module _ (graphs : Graphs) (facts : List Fact) (kept : List Kept) (claim : Claim
       } in
       let answered : IsAnswered (known_by graphs later kept) (claim_query graphs claim) = subst (λ (fs : List Fact). IsAnswered (known_by graphs fs kept) (claim_query graphs claim)) (sym more) (new_fact graphs facts kept fact) in
       let suits_here = subst (λ (k : Known). Suits k before) (sym is) suits in
-      let serves = serves_decided {X = ℕ} (known_by graphs facts kept) (known_by graphs later kept) (claim_query graphs claim) before after number grows answered unanswered_here (inl (claim, placed_here, refl)) decided unspent suits_here in
+      let serves = serves_decided (known_by graphs facts kept) (claim_query graphs claim) before after fresh_claim suits_here {X = ℕ} (known_by graphs later kept) number grows answered decided unspent in
       let n : number ≡ length facts + 0 = omega (arith, number_is) in
       record {
         serves = subst (λ (k : Known). Serves {X = ℕ} k (known_by graphs later kept) before after (Ok number)) is serves;
@@ -362,7 +361,7 @@ module _ (graphs : Graphs) (facts : List Fact) (kept : List Kept) (claim : Claim
   pub claims_stopped : (before after : Ledgered) (stop : Stop) → Suits known before → IsHalted graphs (claim_query graphs claim) before after stop → Claims claim known (known_by graphs facts kept) before after (Err stop)
   claims_stopped before after stop suits halted =
       let suits_here = subst (λ (k : Known). Suits k before) (sym is) suits in
-      let serves = serves_halted {X = ℕ} (known_by graphs facts kept) (claim_query graphs claim) before after stop are unanswered_here (inl (claim, placed_here, refl)) halted suits_here in
+      let serves = serves_halted (known_by graphs facts kept) (claim_query graphs claim) before after fresh_claim suits_here {X = ℕ} stop are halted in
       record {
         serves = subst (λ (k : Known). Serves {X = ℕ} k (known_by graphs facts kept) before after (Err stop)) is serves;
         number = tt;
@@ -382,8 +381,11 @@ module _ (graphs : Graphs) (facts : List Fact) (kept : List Kept) (query : Query
   match_here : IsOfMatch graphs query
   match_here = subst (λ (k : Known). IsOfMatch k.graphs query) (sym is) of_match
 
-  missing_there : IsAnswered (known_by graphs facts kept) query → ⊥
-  missing_there answered = missing (subst (λ (k : Known). IsAnswered k query) is answered)
+  fresh_match : IsUnanswered (known_by graphs facts kept) query
+  fresh_match = record {
+    never = λ answered. missing (subst (λ (k : Known). IsAnswered k query) is answered);
+    of_known = inr match_here;
+  }
 
   pub missing_kept : All (λ entry. entry.query ≢ query) kept
   missing_kept i d below same =
@@ -391,7 +393,7 @@ module _ (graphs : Graphs) (facts : List Fact) (kept : List Kept) (query : Query
       let of_fact : Fact → Query = λ (fact : Fact). claim_query graphs fact.claim in
       let x = of_kept (slice_index_or kept i d) in
       let there : i < length (map of_kept kept) = omega (arith, below, length-map kept of_kept) in
-      missing_there (any_right (λ other. other ≡ query) (map of_fact facts) (map of_kept kept) (i, x, there, get_or-map of_kept kept i d x below, same))
+      fresh_match.never (any_right (λ other. other ≡ query) (map of_fact facts) (map of_kept kept) (i, x, there, get_or-map of_kept kept i d x below, same))
 
   pub kept_more : (answer : Answer) (later : List Kept) → All (IsKept graphs) kept → IsAnswer graphs query answer → later ≡ kept ++ record { query = query; answer = answer } ∷ [] → All (IsKept graphs) later
   kept_more answer later keeps answer_is more =
@@ -409,11 +411,11 @@ module _ (graphs : Graphs) (facts : List Fact) (kept : List Kept) (query : Query
       } in
       let answered : IsAnswered (known_by graphs facts later) query = subst (λ (ks : List Kept). IsAnswered (known_by graphs facts ks) query) (sym more) (new_kept graphs facts kept entry) in
       let suits_here = subst (λ (k : Known). Suits k before) (sym is) suits in
-      let serves = serves_decided {X = X} (known_by graphs facts kept) (known_by graphs facts later) query before after x grows answered missing_there (inr match_here) decided unspent suits_here in
+      let serves = serves_decided (known_by graphs facts kept) query before after fresh_match suits_here {X = X} (known_by graphs facts later) x grows answered decided unspent in
       subst (λ (k : Known). Serves {X = X} k (known_by graphs facts later) before after (Ok x)) is serves
 
   pub answer_stopped : {X : Type 0} (before after : Ledgered) (stop : Stop) → Suits known before → IsHalted graphs query before after stop → Serves {X = X} known known before after (Err stop)
   answer_stopped {X} before after stop suits halted =
       let suits_here = subst (λ (k : Known). Suits k before) (sym is) suits in
-      let serves = serves_halted {X = X} (known_by graphs facts kept) query before after stop are missing_there (inr match_here) halted suits_here in
+      let serves = serves_halted (known_by graphs facts kept) query before after fresh_match suits_here {X = X} stop are halted in
       subst (λ (k : Known). Serves {X = X} k k before after (Err stop)) is serves

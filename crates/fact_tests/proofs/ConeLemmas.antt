@@ -1,5 +1,5 @@
 -- The clauses of a query's cones, and lines that say something new beside them.
-use Rattle.std.proofs.Common.{ℕ, ◌+◌, ◌<◌, List, [], ◌∷◌, ◌++◌, length, inl, inr, refl, arith}
+use Rattle.std.proofs.Common.{ℕ, ◌+◌, ◌<◌, List, [], ◌∷◌, ◌++◌, length, All, inl, inr, refl, arith}
 use Rattle.std.specs.List.{AllByRecursion}
 use Rattle.std.proofs.lemmas.List.Elements.{All-from_recursion}
 use Rattle.circuits.specs.declared.netlist.Gate.{Gate}
@@ -47,7 +47,10 @@ clauses_some graphs query =
     let right = circuit_of graphs query.right in
     (refl, some_append (half_clauses left (left_literals graphs query)) _ (gates_some (left_literals graphs query) (left.inputs + 1) left.gates) (some_append (half_clauses right (right_literals graphs query)) _ (gates_some (right_literals graphs query) (right.inputs + 1) right.gates) (refl, (refl, tt))))
 
+pub none_empty : (graphs : Graphs) (query : Query) → All (IsNewBeside []) (query_clauses graphs query)
+none_empty graphs query = All-from_recursion (IsNewBeside []) (query_clauses graphs query) (clauses_some graphs query)
+
 -- the empty line says something that no clause says
 pub empty_is_new : (graphs : Graphs) (query : Query) → IsGraph graphs.first → IsGraph graphs.second → IsQuery graphs query → AllOfCones graphs query (IsNewBeside [])
 empty_is_new graphs query first second fits id of_cone =
-    All-from_recursion (IsNewBeside []) (query_clauses graphs query) (clauses_some graphs query) id [] (cone_id_below graphs query id first second fits of_cone)
+    none_empty graphs query id [] (cone_id_below graphs query id first second fits of_cone)

@@ -1,11 +1,12 @@
 -- What stands in a list under a key, and the numbers of keys.
-use Rattle.std.proofs.Common.{◌≡◌, ◌≢◌, ℕ, ◌<◌, Bool, true, false, List, [], ◌∷◌, ◌++◌, length, map, cond, All, Some, refl, sym, ap, ◌∙◌, slice_index_or, arith, position}
+use Rattle.std.proofs.Common.{◌≡◌, ◌≢◌, ℕ, ◌<◌, Bool, false, List, [], ◌∷◌, ◌++◌, length, map, cond, All, Some, sym, ap, ◌∙◌, slice_index_or, arith, position}
 use Rattle.std.specs.Bool.{Decides}
 use Rattle.std.specs.List.{list_any}
-use Rattle.std.proofs.lemmas.Bool.{false≢true}
+use Rattle.std.proofs.lemmas.Bool.{false≢true, false_from_ne_true}
 use Rattle.std.proofs.lemmas.List.{get_or-map, length-map, map_push}
 use Rattle.std.proofs.lemmas.List.Quantifiers.{position-Some}
-use Rattle.std.proofs.lemmas.List.Folds.{Any-from_list_any, list_any-from_Any}
+use Rattle.std.proofs.lemmas.List.Elements.{All-map}
+use Rattle.std.proofs.lemmas.List.Folds.{list_any_none, list_any-from_Any}
 use Rattle.indexmap.specs.IndexSet.{insert_key}
 
 module _ {K X : Type 0} (eq : K → K → Bool) (decides : (x y : K) → Decides (eq x y) (x ≡ y)) (key : X → K) where
@@ -24,18 +25,14 @@ module _ {K X : Type 0} (eq : K → K → Bool) (decides : (x y : K) → Decides
       let at = get_or-map key xs i d x below in
       false≢true (sym missing ∙ list_any-from_Any (eq k) (map key xs) (i, x, there, at, (decides k x).1 (sym same)))
 
-  absent : (xs : List X) (x : X) → All (λ other. key other ≢ key x) xs → (b : Bool) → list_any (eq (key x)) (map key xs) ≡ b → list_any (eq (key x)) (map key xs) ≡ false
-  absent xs x apart false is = is
-  absent xs x apart true is =
-      let any = Any-from_list_any (eq (key x)) (map key xs) is in
-      let i = any.0 in
-      let y = any.1 in
-      let below : i < length xs = omega (arith, any.2, length-map xs key) in
-      let at : key (slice_index_or xs i x) ≡ y = sym (get_or-map key xs i x y below) ∙ any.3 in
-      absurd (apart i x below (at ∙ sym ((decides (key x) y).0 any.4)))
+  absent : (xs : List X) (x : X) → All (λ other. key other ≢ key x) xs → list_any (eq (key x)) (map key xs) ≡ false
+  absent xs x apart =
+      list_any_none (eq (key x)) (map key xs) (All-map (λ k. eq (key x) k ≡ false) key xs (λ i d below.
+      let k = key (slice_index_or xs i d) in
+      false_from_ne_true (eq (key x) k) (λ same. apart i d below (sym ((decides (key x) k).0 same)))))
 
   -- a key that none of them has comes last
   pub added : (xs : List X) (x : X) → All (λ other. key other ≢ key x) xs → insert_key eq (map key xs) (key x) ≡ map key (xs ++ x ∷ [])
   added xs x apart =
-      let missing = absent xs x apart (list_any (eq (key x)) (map key xs)) refl in
+      let missing = absent xs x apart in
       ap (λ b. cond b (map key xs) (map key xs ++ key x ∷ [])) missing ∙ sym (map_push key xs x)

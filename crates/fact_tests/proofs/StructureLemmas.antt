@@ -1,23 +1,21 @@
 -- The clauses of a claim whose inputs the output doesn't reach: those of the two outputs contradict each other.
-use Rattle.std.proofs.Common.{◌≡◌, ◌≢◌, ◌⊎◌, ℕ, zero, suc, ◌+◌, ◌-◌, ◌*◌, ◌<◌, ◌≤◌, eqb, cond, ◌||◌, ◌&&◌, not, Bool, true, false, Option, None, Some, List, [], ◌∷◌, ◌++◌, length, map, drop, take, slice_index_or, nat_lt, inl, inr, refl, sym, ap, ◌∙◌, arith, eq-eqb}
+use Rattle.std.proofs.Common.{◌≡◌, ◌≢◌, ◌⊎◌, ℕ, zero, suc, ◌+◌, ◌-◌, ◌*◌, ◌<◌, ◌≤◌, eqb, cond, ◌||◌, ◌&&◌, not, Bool, true, false, None, List, [], ◌∷◌, ◌++◌, length, take, slice_index_or, inl, inr, refl, sym, ap, ◌∙◌, arith, eq-eqb}
 use Rattle.std.specs.Bool.{beq}
-use Rattle.std.specs.List.{range_with_len}
-use Rattle.std.proofs.lemmas.Bool.{and_parts, cases_eq, cases_lt, eqb-true, false≢true, not-false, or_cases, or_left, or_right}
-use Rattle.std.proofs.lemmas.Bool.Decides.{nat_tests}
-use Rattle.std.proofs.lemmas.List.{get_or_append_left, get_or-append-add, get_or_past, get_or-map, get_or-drop, get_or-set_other, length-append, length-map, length-drop, append-nil}
-use Rattle.std.proofs.lemmas.List.FromFn.{get_or-map-range_with_len, get_or-range_with_len, length-range_with_len, length-map-range_with_len}
+use Rattle.std.proofs.lemmas.Bool.{cases_eq, cases_lt, false≢true, or_cases, or_left, or_right}
+use Rattle.std.proofs.lemmas.List.{get_or_append_left, get_or-append-add, get_or_past, get_or-set_other, length-append, append-nil}
+use Rattle.std.proofs.lemmas.List.FromFn.{get_or-map-range_with_len, length-map-range_with_len}
 use Rattle.circuits.specs.declared.netlist.Gate.{Gate}
 use Rattle.circuits.specs.declared.netlist.Lit.{Lit}
 use Rattle.circuits.specs.Literals.{bit, signal_of, is_negated as inverts}
 use Rattle.circuits.specs.Netlists.{Net}
 use Rattle.cnf_core.specs.declared.literal.SatLit.{SatLit}
 use Rattle.cnf_core.specs.declared.log.LogLine.{LogLine}
-use Rattle.cnf_core.specs.declared.fault.LineFault.{LineFault}
-use Rattle.cnf_core.specs.declared.fault.LineFault.TheVariants as fault
-use Rattle.cnf_core.specs.declared.effect.Effect.{Effect}
 use Rattle.cnf_core.specs.declared.effect.Effect.TheVariants.{Conflict}
 use Rattle.cnf_core.specs.Clauses.{Formula, clause_at, opposite}
-use Rattle.cnf_core.specs.Derivations.{IsRefutation, clauses_of, effect_by, effect_of, fault_after, hint_fault, line_fault}
+use Rattle.cnf_core.specs.Derivations.{IsRefutation, clauses_of, effect_of, hint_fault, line_fault}
+use Rattle.cnf_core.proofs.EffectLemmas.{conflict_from}
+use Rattle.cnf_core.proofs.LiteralLemmas.{opposite_twice, same_from}
+use Rattle.learn_solver.proofs.DeriveLemmas.{step_conflict, step_makes}
 use Rattle.net_core.specs.Sides.{Graphs}
 use Rattle.net_core.specs.declared.graphs.Side.{Side}
 use Rattle.net_core.specs.declared.graphs.Side.TheVariants.{First, Second}
@@ -29,15 +27,16 @@ use Rattle.query_core.specs.declared.claims.Shape.TheVariants.{Up, Down, Swap}
 use Rattle.query_core.specs.declared.query.Feed.{Feed}
 use Rattle.query_core.specs.declared.query.Feed.TheVariants.{Fixed, Wire}
 use Rattle.query_core.specs.declared.query.Query.{Query}
+use Rattle.query_core.specs.Queries.{IsQuery}
 use Rattle.query_core.specs.MatchQueries.{straight}
 use Rattle.query_core.specs.ClaimQueries.{claim_query, opposite_shape, values_feed, with_fixed}
-use Rattle.query_core.specs.Formulas.{feed_literal, feeds_differ, false_literal, formula_of, plain, query_clauses, reaching, reaches, same_feed, same_side, shared_from, signal_literals, stand_in, stands_for, left_literals, right_literals, half_clauses}
+use Rattle.query_core.specs.Formulas.{feeds_differ, formula_of, query_clauses, reaching, reaches, same_feed, same_side, stand_in, stands_for, left_literals, right_literals, half_clauses}
 use Rattle.query_core.proofs.ClaimQueryLemmas.{values_count}
 use Rattle.query_core.proofs.EqualLemmas.{bool_decides}
-use Rattle.query_core.proofs.FormulaLemmas.{count_of, first_output, second_output, gate_clause_count, length-reaching, length-feeds_differ, length-shared_from}
+use Rattle.query_core.proofs.FormulaLemmas.{count_of, first_output, second_output, gate_clause_count, length-feeds_differ}
 use Rattle.net_supports.specs.Supports.{only_input, output_reaches, reaches_input}
 use Rattle.fact_tests.specs.Supports.{IsOutside, closing_line}
-use Rattle.query_core.proofs.ReachingLemmas.{reaching_keeps}
+use Rattle.joint_hash.proofs.SharedLemmas.{same_literals}
 
 -- ---- what reaches what
 
@@ -113,16 +112,6 @@ feeds_at (feed ∷ left) (other ∷ right) (suc k) d same below = feeds_at left 
 same_self : (feed : Feed) → same_feed feed feed ≡ true
 same_self (Fixed b) = (bool_decides b b).1 refl
 same_self (Wire place flip) = ap (λ b. b && beq flip flip) (eq-eqb place place refl) ∙ (bool_decides flip flip).1 refl
-
-same_is : (feed other : Feed) → same_feed feed other ≡ true → feed ≡ other
-same_is (Fixed b) (Fixed c) is = ap Fixed ((bool_decides b c).0 is)
-same_is (Fixed b) (Wire place flip) is = absurd (false≢true is)
-same_is (Wire place flip) (Fixed b) is = absurd (false≢true is)
-same_is (Wire place flip) (Wire other sign) is =
-    let both = and_parts (eqb place other) (beq flip sign) is in
-    let e = eqb-true place other both.0 in
-    let f = (bool_decides flip sign).0 both.1 in
-    cc
 
 -- input k isn't one of the shape's
 abbrev pub IsApart : ℕ → Shape → Type 0
@@ -215,97 +204,16 @@ unreached net k shape outside =
           | inr p ↦ absurd (false≢true (sym both.1 ∙ p))
         ]
 
--- ---- the literals that stand for signals
-
-shared_own : (first own : ℕ) (flags : List Bool) (t : ℕ) → t < length flags → bit flags t ≡ false → slice_index_or (shared_from first own flags) t 0 ≡ first + t
-shared_own first own [] t below unset = absurd (omega (arith, below))
-shared_own first own (true ∷ flags) zero below unset = absurd (false≢true (sym unset))
-shared_own first own (false ∷ flags) zero below unset = omega arith
-shared_own first own (flag ∷ flags) (suc t) below unset =
-    let n : first + 1 + t ≡ first + suc t = omega arith in
-    shared_own (first + 1) (own + 1) flags t (omega (arith, below)) unset ∙ n
-
--- an unreached signal has one literal in both halves
-same_literal : (left right : List Feed) (gates : List Gate) (n own s : ℕ) → length left ≡ n → length right ≡ n → s < 1 + n + length gates → bit (reaching (false ∷ feeds_differ left right) gates) s ≡ false → stand_in (signal_literals left (range_with_len (n + 1) (length gates))) s ≡ stand_in (signal_literals right (shared_from (n + 1) own (drop (n + 1) (reaching (false ∷ feeds_differ left right) gates)))) s
-same_literal left right gates n own zero l r below unset = refl
-same_literal left right gates n own (suc k) l r below unset =
-    elim (cases_lt k n) [
-      | inl input ↦
-          let a : k < length left = omega (arith, input, l) in
-          let b : k < length right = omega (arith, input, r) in
-          let before = sym (reaching_keeps (false ∷ feeds_differ left right) gates (suc k) (omega (arith, a, fd))) ∙ unset in
-          let alike = not-false (same_feed (slice_index_or left k none) (slice_index_or right k none)) (sym (feeds_at left right k none (l ∙ sym r) a) ∙ before) in
-          let same = same_is (slice_index_or left k none) (slice_index_or right k none) alike in
-          get_or_append_left (map feed_literal left) (map plain lefts) false_literal k (omega (arith, a, length-map left feed_literal))
-          ∙ (get_or-map feed_literal left k none false_literal a
-          ∙ (ap feed_literal same
-          ∙ (sym (get_or-map feed_literal right k none false_literal b)
-          ∙ sym (get_or_append_left (map feed_literal right) (map plain rights) false_literal k (omega (arith, b, length-map right feed_literal))))))
-      | inr gate ↦
-          let t = k - n in
-          let at : k ≡ n + t = omega (arith, gate) in
-          let small : t < length gates = omega (arith, at, below) in
-          let at_left : k ≡ length (map feed_literal left) + t = omega (arith, at, l, length-map left feed_literal) in
-          let at_right : k ≡ length (map feed_literal right) + t = omega (arith, at, r, length-map right feed_literal) in
-          let left_size : t < length lefts = omega (arith, small, length-range_with_len (n + 1) (length gates)) in
-          let flag_size : t < length flags = omega (arith, small, size) in
-          let right_size : t < length rights = omega (arith, flag_size, length-shared_from (n + 1) own flags) in
-          let place : n + 1 + t ≡ suc k = omega (arith, at) in
-          let flag : bit flags t ≡ false = get_or-drop (n + 1) marks t false ∙ (ap (bit marks) place ∙ unset) in
-          ap (λ j. slice_index_or (map feed_literal left ++ map plain lefts) j false_literal) at_left
-          ∙ (get_or-append-add (map feed_literal left) (map plain lefts) t false_literal
-          ∙ (get_or-map plain lefts t 0 false_literal left_size
-          ∙ (ap plain (get_or-range_with_len (n + 1) (length gates) t 0 small ∙ sym (shared_own (n + 1) own flags t flag_size flag))
-          ∙ (sym (get_or-map plain rights t 0 false_literal right_size)
-          ∙ (sym (get_or-append-add (map feed_literal right) (map plain rights) t false_literal)
-          ∙ ap (λ j. slice_index_or (map feed_literal right ++ map plain rights) j false_literal) (sym at_right))))))
-    ]
-  where
-    none : Feed
-    none = Fixed false
-
-    marks : List Bool
-    marks = reaching (false ∷ feeds_differ left right) gates
-
-    flags : List Bool
-    flags = drop (n + 1) marks
-
-    lefts : List ℕ
-    lefts = range_with_len (n + 1) (length gates)
-
-    rights : List ℕ
-    rights = shared_from (n + 1) own flags
-
-    fd : length (feeds_differ left right) ≡ length left
-    fd = length-feeds_differ left right (l ∙ sym r)
-
-    size : length flags ≡ length gates
-    size = omega (arith, length-drop (n + 1) marks, length-reaching (false ∷ feeds_differ left right) gates, fd, l)
-
 -- ---- the two clauses
 
 -- two opposite clauses of one literal are a conflict
-opposite_twice : (l : SatLit) → eqb (opposite (opposite l)).0 l.0 ≡ true
-opposite_twice l = eq-eqb (opposite (opposite l)).0 l.0 (omega arith)
-
 conflict_of : (l : SatLit) → effect_of (l ∷ []) (opposite l ∷ []) ≡ Conflict
-conflict_of l = ap (by_test l) (opposite_twice l)
-  where
-    by_test : SatLit → Bool → Effect
-    by_test l b = effect_by (l ∷ []) (cond (not (b || false)) (opposite l ∷ []) [])
-
-below_true : (m n : ℕ) → m < n → nat_lt m n ≡ true
-below_true m n below = grind (arith, nat_tests)
+conflict_of l =
+    conflict_from (l ∷ []) (opposite l ∷ []) (ap (λ b. (b || false) && true) (same_from (opposite (opposite l)) l (opposite_twice l)))
 
 units_hint : (clauses : List (List SatLit)) (unit : ℕ) (l : SatLit) → unit + 1 < length clauses → clause_at clauses unit ≡ l ∷ [] → clause_at clauses (unit + 1) ≡ opposite l ∷ [] → hint_fault clauses [] (unit ∷ (unit + 1) ∷ []) ≡ None
 units_hint clauses unit l within one other =
-    let last : SatLit → Option LineFault = λ (x : SatLit). Some fault.NoConflict in
-    let go : SatLit → Option LineFault = λ (x : SatLit). hint_fault clauses (x ∷ []) ((unit + 1) ∷ []) in
-    ap (λ t. cond t (fault_after (effect_of [] (clause_at clauses unit)) ((unit + 1) ∷ []) go) (Some fault.UnknownHint)) (below_true unit (length clauses) (omega (arith, within)))
-    ∙ (ap (λ c. fault_after (effect_of [] c) ((unit + 1) ∷ []) go) one
-    ∙ (ap (λ t. cond t (fault_after (effect_of (l ∷ []) (clause_at clauses (unit + 1))) [] last) (Some fault.UnknownHint)) (below_true (unit + 1) (length clauses) within)
-    ∙ (ap (λ c. fault_after (effect_of (l ∷ []) c) [] last) other
-    ∙ ap (λ e. fault_after e [] last) (conflict_of l))))
+    step_makes clauses [] unit ((unit + 1) ∷ []) l (omega (arith, within)) (ap (effect_of []) one) (step_conflict clauses (l ∷ []) (unit + 1) within (ap (effect_of (l ∷ [])) other ∙ conflict_of l))
 
 pub units_close : (formula : Formula) (unit : ℕ) (l : SatLit) → unit + 1 < length formula.clauses → clause_at formula.clauses unit ≡ l ∷ [] → clause_at formula.clauses (unit + 1) ≡ opposite l ∷ [] → line_fault formula [] (record { clause = []; hints = unit ∷ (unit + 1) ∷ [] }) ≡ None
 units_close formula unit l within one other =
@@ -316,8 +224,8 @@ side_same First = refl
 side_same Second = refl
 
 -- the log of a claim whose inputs the output doesn't reach
-pub outside_refuted : (graphs : Graphs) (claim : Claim) → output_signal (graph_of graphs claim.side) claim.output < 1 + (graph_of graphs claim.side).inputs + length (graph_of graphs claim.side).gates → IsOutside (graph_of graphs claim.side) claim.output claim.shape → IsRefutation (formula_of graphs (claim_query graphs claim)) (closing_line graphs claim ∷ [])
-outside_refuted graphs claim there outside = record {
+pub outside_refuted : (graphs : Graphs) (claim : Claim) → IsQuery graphs (claim_query graphs claim) → output_signal (graph_of graphs claim.side) claim.output < 1 + (graph_of graphs claim.side).inputs + length (graph_of graphs claim.side).gates → IsOutside (graph_of graphs claim.side) claim.output claim.shape → IsRefutation (formula_of graphs (claim_query graphs claim)) (closing_line graphs claim ∷ [])
+outside_refuted graphs claim fits there outside = record {
   derived = λ k d below. at_line k d below;
   closed = refl;
 }
@@ -334,20 +242,16 @@ outside_refuted graphs claim there outside = record {
     output : Lit
     output = slice_index_or net.outputs claim.output (record { 0 = 0 })
 
-    own : ℕ
-    own = net.inputs + 1 + gates
-
     left : List SatLit
     left = left_literals graphs query
 
     right : List SatLit
     right = right_literals graphs query
 
-    right_is : right ≡ signal_literals query.right.feed (shared_from (net.inputs + 1) own (drop (net.inputs + 1) (reaches query net.gates)))
-    right_is = ap (λ b. signal_literals query.right.feed (cond b (shared_from (net.inputs + 1) own (drop (net.inputs + 1) (reaches query net.gates))) (range_with_len own gates))) (side_same claim.side)
-
     stand : stand_in left (signal_of output) ≡ stand_in right (signal_of output)
-    stand = same_literal query.left.feed query.right.feed net.gates net.inputs own (signal_of output) (values_count net.inputs claim.shape) (values_count net.inputs (opposite_shape claim.shape)) there (unreached net claim.output claim.shape outside) ∙ ap (λ ls. stand_in ls (signal_of output)) (sym right_is)
+    stand =
+        let below : signal_of output < net.inputs + 1 + gates = omega (arith, there) in
+        same_literals graphs query fits (side_same claim.side) (signal_of output) below (unreached net claim.output claim.shape outside)
 
     literal : SatLit
     literal = stands_for left output

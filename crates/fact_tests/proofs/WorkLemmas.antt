@@ -11,7 +11,7 @@ use Rattle.query_core.specs.declared.query.Query.{Query}
 use Rattle.query_core.specs.declared.ledger.Asked.{Asked}
 use Rattle.query_core.specs.Ledgers.{Ledgered, charged_front, entry_of, last_asked, nothing_asked, opened, with_line, with_lines}
 use Rattle.oracle_core.specs.Work.{AreApart, IsCharged, IsOfClaim, IsOfMatch, IsWorkOn, IsWorkOfClaimsAndMatches}
-use Rattle.fact_tests.specs.Asking.{entry_with}
+use Rattle.fact_tests.specs.Asking.{IsAsked, entry_with}
 use Rattle.oracle_core.specs.Oracles.{Known, IsAnswered, IsAsBefore, Keeps, Suits, entry_at}
 
 -- the last one of a list with one more
@@ -70,18 +70,13 @@ front_is asked =
         let last : IsCharged (last_asked asked) = subst (λ j. IsCharged (entry_at asked j)) n charged in
         absurd (omega (arith, same, last))
 
--- A query was asked that wasn't answered before: the ledger is that before with one entry more, after those for which lines
--- were learned.
-pub record IsAskedNew (known : Known) (query : Query) (before after : Ledgered) : Type 0 where
-  pub lemmas : ℕ
-  pub lines : List LogLine
-  pub unanswered : IsAnswered known query → ⊥
+-- A query of a claim or of a match that wasn't answered.
+pub record IsUnanswered (known : Known) (query : Query) : Type 0 where
+  pub never : IsAnswered known query → ⊥
   pub of_known : IsOfClaim known.graphs query ⊎ IsOfMatch known.graphs query
-  pub work : IsWorkOn known.graphs (entry_with query lemmas lines)
-  pub budget : after.budget ≡ before.budget
-  pub asked : after.asked ≡ charged_front before.asked ++ entry_with query lemmas lines ∷ []
 
-module _ (known : Known) (query : Query) (before after : Ledgered) (new : IsAskedNew known query before after) where
+-- Such a query was asked: the ledger is that before with one entry more, after those for which lines were learned.
+module _ (known : Known) (query : Query) (before after : Ledgered) (fresh : IsUnanswered known query) (new : IsAsked known.graphs query before after) where
   front_same : (front : IsFront before.asked (charged_front before.asked)) (k : ℕ) → k < front.count → IsAsBefore before.asked after.asked k
   front_same front k below =
       let size : length (take front.count before.asked) ≡ front.count = omega (arith, length-take front.count before.asked, front.within) in
@@ -106,7 +101,7 @@ module _ (known : Known) (query : Query) (before after : Ledgered) (new : IsAske
           let whole = new.asked ∙ ap (λ (xs : List Asked). xs ++ entry_with query new.lemmas new.lines ∷ []) front.is in
           let n : k ≡ length (take front.count before.asked) + 0 = omega (arith, ap length whole, length-append (take front.count before.asked) (entry_with query new.lemmas new.lines ∷ []), size, below, past) in
           let e : entry_at after.asked k ≡ entry_with query new.lemmas new.lines = ap (λ (xs : List Asked). entry_at xs k) whole ∙ (ap (entry_at (take front.count before.asked ++ entry_with query new.lemmas new.lines ∷ [])) n ∙ get_or-append-add (take front.count before.asked) (entry_with query new.lemmas new.lines ∷ []) 0 nothing_asked) in
-          inr (λ answered. new.unanswered (subst (IsAnswered known) (ap (λ (x : Asked). x.query) e) answered))
+          inr (λ answered. fresh.never (subst (IsAnswered known) (ap (λ (x : Asked). x.query) e) answered))
 
   -- what holds of the entries before and of the new one holds of all
   all_of : (P : Asked → Type 0) → All P before.asked → P (entry_with query new.lemmas new.lines) → All P after.asked
@@ -122,9 +117,9 @@ module _ (known : Known) (query : Query) (before after : Ledgered) (new : IsAske
           let front = front_is before.asked in
           let e = entry_with query new.lemmas new.lines in
           let answered = subst (All (λ (x : Asked). IsCharged x → IsAnswered known x.query)) (sym front.is) (All-take (λ (x : Asked). IsCharged x → IsAnswered known x.query) front.count before.asked suits.answered) in
-          subst (AllPairs AreApart) (sym new.asked) (all_pairs_push AreApart (charged_front before.asked) e (subst (AllPairs AreApart) (sym front.is) (pairs_take front.count before.asked front.within suits.work.work.once)) (λ k d below one other same. new.unanswered (subst (IsAnswered known) same (answered k d below one))));
+          subst (AllPairs AreApart) (sym new.asked) (all_pairs_push AreApart (charged_front before.asked) e (subst (AllPairs AreApart) (sym front.is) (pairs_take front.count before.asked front.within suits.work.work.once)) (λ k d below one other same. fresh.never (subst (IsAnswered known) same (answered k d below one))));
     };
-    queries = all_of (λ (x : Asked). IsOfClaim known.graphs x.query ⊎ IsOfMatch known.graphs x.query) suits.work.queries new.of_known;
+    queries = all_of (λ (x : Asked). IsOfClaim known.graphs x.query ⊎ IsOfMatch known.graphs x.query) suits.work.queries fresh.of_known;
   }
     where
       pairs_take : (n : ℕ) (xs : List Asked) → n ≤ length xs → AllPairs AreApart xs → AllPairs AreApart (take n xs)

@@ -1,17 +1,17 @@
 -- What deciding a query makes of a ledger.
-use Rattle.std.specs.Prelude.{◌≡◌, ◌⊎◌, ℕ, ◌+◌, true, false, List, [], ◌∷◌, ◌++◌, Result, IfOk, IfErr}
+use Rattle.std.specs.Prelude.{◌≡◌, ◌⊎◌, ℕ, false, List, [], ◌∷◌, ◌++◌, Result, IfOk, IfErr}
 use Rattle.cnf_core.specs.declared.log.LogLine.{LogLine}
 use Rattle.cnf_core.specs.declared.stop.Stop.{Stop}
-use Rattle.cnf_core.specs.declared.stop.Stop.TheVariants.{Spent, Memory}
 use Rattle.net_core.specs.Sides.{Graphs}
 use Rattle.query_core.specs.declared.claims.Claim.{Claim}
 use Rattle.query_core.specs.declared.query.Query.{Query}
 use Rattle.query_core.specs.declared.ledger.Asked.{Asked}
 use Rattle.query_core.specs.ClaimQueries.{claim_query}
-use Rattle.query_core.specs.Ledgers.{Ledgered, charged_front, learned_in, lines_in}
+use Rattle.query_core.specs.Ledgers.{Ledgered, charged_front}
 use Rattle.account_core.specs.declared.fact.Evidence.{Evidence}
 use Rattle.account_core.specs.Facts.{IsEvidence}
 use Rattle.oracle_core.specs.Work.{IsWorkOn}
+use Rattle.ask_core.specs.Answers.{IsStoppedAfter}
 
 -- the entry of a query with lines, of which the first n are lemmas and the others were learned for it
 abbrev pub entry_with : Query → ℕ → List LogLine → Asked
@@ -25,18 +25,9 @@ pub record IsAsked (graphs : Graphs) (query : Query) (before after : Ledgered) :
   pub budget : after.budget ≡ before.budget
   pub asked : after.asked ≡ charged_front before.asked ++ entry_with query lemmas lines ∷ []
 
--- The budget is spent, and the query's last line is the refused one.
-pub record IsSpent (graphs : Graphs) (query : Query) (before after : Ledgered) (learned : ℕ) : Type 0 where
-  pub asked : IsAsked graphs query before after
-  pub learned_is : learned ≡ before.budget
-  pub used : learned_in after ≡ before.budget
-  pub made : lines_in after ≡ before.budget + 1
-  pub refused : after.spent ≡ true
-
 -- no answer: the budget is spent, or memory ran out
 abbrev pub IsHalted : Graphs → Query → Ledgered → Ledgered → Stop → Type 0
-IsHalted graphs query before after (Spent learned) = IsSpent graphs query before after learned
-IsHalted graphs query before after Memory = Unit {0}
+IsHalted graphs query before after = IsStoppedAfter (IsAsked graphs query before after) before after
 
 -- a query was decided, and asked where that was needed
 abbrev pub IsDecided : Graphs → Query → Ledgered → Ledgered → Type 0

@@ -1,16 +1,14 @@
 //! Queries, decided at the cost of a ledger.
 
 ghost use Rattle.std.specs.Prelude.{◌≡◌, ◌+◌, ◌*◌, ◌^◌, ◌<◌, [], ◌∷◌, false, IfOk, IfErr};
-ghost use Rattle.cnf_core.specs.Derivations.{IsRefutation};
 ghost use Rattle.net_core.specs.Sides.{graph_of};
 ghost use Rattle.query_core.specs.Claims.{IsClaim};
-ghost use Rattle.query_core.specs.ClaimQueries.{claim_query};
-ghost use Rattle.query_core.specs.Formulas.{formula_of};
 ghost use Rattle.query_core.specs.Queries.{IsQuery};
 ghost use Rattle.ask_core.specs.Answers.{IsAnswer};
-ghost use Rattle.fact_tests.specs.Asking.{IsAsked, IsHalted};
+ghost use Rattle.fact_tests.specs.Asking.{Decides, IsAsked, IsHalted};
 ghost use Rattle.fact_tests.specs.Supports.{IsOutside};
 
+use account_core::Evidence;
 use ask_core::{Answer, ask_watched};
 use cnf_core::{Log, LogLine, Stop};
 use items::Items;
@@ -21,7 +19,8 @@ use shared_lemmas::SharedLemmas;
 use std::alloc::{AllocError, Global};
 use watch_core::Watch;
 
-/// Finds a vector that meets a query, or a log that refutes it.
+/// Finds a vector that meets a query, or a log that refutes it: the lines that its last one rests on, and that line. A fact is
+/// kept as long as the run goes on, and most of what is learned was tried in vain.
 pub(crate) fn answer_to<W: Watch>(
     alloc: Global,
     graphs: &Graphs<'_>,
@@ -36,20 +35,7 @@ pub(crate) fn answer_to<W: Watch>(
     ensures unspent { IfOk result (λ _. ledger.new.spent ≡ false) }
     ensures stop { IfErr result (IsHalted graphs.now query.now ledger.old ledger.new) }
 {
-    ask_watched(alloc, graphs, query, ledger, watch)
-}
-
-/// The answer of a query: of a refutation the lines that its last one rests on, and that line. A fact is kept as long as the run
-/// goes on, and most of its lines were tried in vain.
-pub(crate) fn trimmed(
-    alloc: Global,
-    graphs: &Graphs<'_>,
-    query: &Query,
-    answer: Answer,
-) -> Result<Answer, AllocError>
-    requires { IsAnswer graphs.now query.now answer }
-    ensures { IfOk result (IsAnswer graphs.now query.now) }
-{
+    let answer = ask_watched(alloc, graphs, query, ledger, watch)?;
     match answer {
         Answer::Vector(vector) => Ok(Answer::Vector(vector)),
         Answer::Refuted(log) => {
@@ -79,23 +65,18 @@ pub(crate) fn shared_answer_to<W: Watch>(
     shared.ask(alloc, query, ledger, watch)
 }
 
-/// Refutes a claim whose output reaches none of the shape's inputs. The clauses of the query's two outputs are
-/// opposites, and
-/// the empty line follows from them. It costs one unit of the budget.
-pub(crate) fn refute_outside(
+/// That a claim holds whose output reaches none of the shape's inputs. The clauses of the query's two outputs are opposites,
+/// and the empty line follows from them. It costs one unit of the budget.
+pub(crate) fn by_structure(
     alloc: Global,
     graphs: &Graphs<'_>,
     claim: &Claim,
     ledger: &mut Ledger,
-) -> Result<Log, Stop>
+) -> Result<Evidence, Stop>
     requires placed { IsClaim graphs.now claim.now }
     requires outside { IsOutside (graph_of graphs.now claim.now.side) claim.now.output claim.now.shape }
     requires unspent { ledger.old.spent ≡ false }
-    ensures log { IfOk result
-        (λ log. IsRefutation (formula_of graphs.now (claim_query graphs.now claim.now)) log.lines) }
-    ensures asked { IfOk result (λ _. IsAsked graphs.now (claim_query graphs.now claim.now) ledger.old ledger.new) }
-    ensures unspent { IfOk result (λ _. ledger.new.spent ≡ false) }
-    ensures stop { IfErr result (IsHalted graphs.now (claim_query graphs.now claim.now) ledger.old ledger.new) }
+    ensures { Decides graphs.now claim.now ledger.old ledger.new result }
 {
     let _first = graphs.first();
     let _second = graphs.second();
@@ -106,7 +87,7 @@ pub(crate) fn refute_outside(
     match ledger.charge(&line) {
         Ok(()) => {
             let log = log_of(alloc, line)?;
-            Ok(log)
+            Ok(Evidence::Holds(log))
         }
         Err(stop) => Err(stop),
     }

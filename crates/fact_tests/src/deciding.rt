@@ -10,7 +10,7 @@ ghost use Rattle.fact_tests.specs.Asking.{Decides};
 ghost use Rattle.fact_tests.specs.Books.{IsSource};
 ghost use Rattle.fact_tests.specs.Supports.{IsOutside};
 
-use crate::asking::{answer_to, refute_outside, shared_answer_to, trimmed};
+use crate::asking::{answer_to, by_structure, shared_answer_to};
 use crate::decide::Decide;
 use crate::nearby::Nearby;
 use crate::sightings::Sightings;
@@ -191,24 +191,6 @@ fn is_outside(supports: &Supports<'_>, output: u32, shape: &Shape) -> bool
     }
 }
 
-/// That a claim holds whose output reaches none of the shape's inputs.
-fn by_structure(
-    alloc: Global,
-    graphs: &Graphs<'_>,
-    claim: &Claim,
-    ledger: &mut Ledger,
-) -> Result<Evidence, Stop>
-    requires placed { IsClaim graphs.now claim.now }
-    requires outside { IsOutside (graph_of graphs.now claim.now.side) claim.now.output claim.now.shape }
-    requires unspent { ledger.old.spent ≡ false }
-    ensures { Decides graphs.now claim.now ledger.old ledger.new result }
-{
-    match refute_outside(alloc, graphs, claim, ledger) {
-        Ok(log) => Ok(Evidence::Holds(log)),
-        Err(stop) => Err(stop),
-    }
-}
-
 /// Decides a claim by asking. Where a vector breaks it, later claims are tried on others near it.
 fn by_asking<W: Watch>(
     alloc: Global,
@@ -248,10 +230,7 @@ fn asked<W: Watch>(
 {
     let query = of_claim(alloc, graphs, claim)?;
     match answer_to(alloc, graphs, &query, ledger, watch) {
-        Ok(answer) => {
-            let short = trimmed(alloc, graphs, &query, answer)?;
-            Ok(evidence_of(alloc, graphs, claim, short)?)
-        }
+        Ok(answer) => Ok(evidence_of(alloc, graphs, claim, answer)?),
         Err(stop) => Err(stop),
     }
 }

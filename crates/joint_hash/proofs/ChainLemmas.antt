@@ -1,5 +1,5 @@
 -- The clauses by which a gate implies another of its class lead to a conflict.
-use Rattle.std.proofs.Common.{◌≡◌, ℕ, ◌+◌, ◌<◌, ◌||◌, cond, Bool, true, false, List, [], ◌∷◌, ◌++◌, length, Option, None, Some, inl, inr, refl, sym, ◌∙◌, ap, subst, arith, append_assoc, length-append}
+use Rattle.std.proofs.Common.{◌≡◌, ℕ, ◌+◌, ◌<◌, ◌≤◌, ◌||◌, cond, Bool, true, false, List, [], ◌∷◌, ◌++◌, length, Option, None, Some, inl, inr, refl, sym, ◌∙◌, ap, subst, arith, append_assoc, length-append}
 use Rattle.std.proofs.lemmas.Bool.{or_left, or_right}
 use Rattle.std.proofs.lemmas.List.{get_or_append_left}
 use Rattle.std.specs.Bool.{beq}
@@ -152,18 +152,19 @@ module _ (count : ℕ) (clauses : List (List SatLit)) (twins : ℕ → Option Tw
       let other = opposite (opposite start.output) in
       chain_leads (one ∷ other ∷ []) start end of_start of_end same (or_right (is_same start.output one) (is_same start.output other || false) (or_left (is_same start.output other) false (same_from start.output other (sym (opposite_twice start.output))))) (or_left (is_same one one) (is_same one other || false) (same_itself one))
 
--- twins where clauses follow
+-- a twin where clauses follow
+pub twin_later : (count : ℕ) (clauses more : List (List SatLit)) (v : ℕ) (twin : Twin) → length clauses ≤ length more → ((k : ℕ) → k < length clauses → clause_at more k ≡ clause_at clauses k) → IsTwin count clauses v twin → IsTwin count more v twin
+twin_later count clauses more v twin longer before is = record {
+  late_to = is.late_to;
+  late_from = is.late_from;
+  there_to = omega (arith, is.there_to, longer);
+  there_from = omega (arith, is.there_from, longer);
+  to_variable = before twin.to_variable is.there_to ∙ is.to_variable;
+  from_variable = before twin.from_variable is.there_from ∙ is.from_variable;
+}
+
 pub twins_after : (count : ℕ) (front middle more whole : List (List SatLit)) (twins : ℕ → Option Twin) → whole ≡ middle ++ more → AreTwins count (front ++ middle) twins → AreTwins count (front ++ whole) twins
 twins_after count front middle more whole twins is are v twin there =
-    let own = are v twin there in
     let grown : front ++ whole ≡ (front ++ middle) ++ more = ap (λ (cs : List (List SatLit)). front ++ cs) is ∙ sym (append_assoc front middle more) in
-    let longer : length (front ++ whole) ≡ length (front ++ middle) + length more = ap length grown ∙ length-append (front ++ middle) more in
-    let before : (k : ℕ) → k < length (front ++ middle) → clause_at (front ++ whole) k ≡ clause_at (front ++ middle) k = λ k within. ap (λ (cs : List (List SatLit)). clause_at cs k) grown ∙ get_or_append_left (front ++ middle) more [] k within in
-    record {
-      late_to = own.late_to;
-      late_from = own.late_from;
-      there_to = omega (arith, own.there_to, longer);
-      there_from = omega (arith, own.there_from, longer);
-      to_variable = before twin.to_variable own.there_to ∙ own.to_variable;
-      from_variable = before twin.from_variable own.there_from ∙ own.from_variable;
-    }
+    let longer : length (front ++ middle) ≤ length (front ++ whole) = omega (arith, ap length grown, length-append (front ++ middle) more) in
+    twin_later count (front ++ middle) (front ++ whole) v twin longer (λ k within. ap (λ (cs : List (List SatLit)). clause_at cs k) grown ∙ get_or_append_left (front ++ middle) more [] k within) (are v twin there)

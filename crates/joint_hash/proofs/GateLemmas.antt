@@ -1,17 +1,17 @@
 -- The gates of a query's cones: their clauses, and that operands come first and one variable has one pair of operands.
-use Rattle.std.proofs.Common.{◌≡◌, ◌≢◌, ℕ, zero, suc, ◌+◌, ◌-◌, ◌*◌, ◌%◌, ◌<◌, ◌≤◌, cond, Bool, true, false, List, [], ◌∷◌, ◌++◌, length, take, All, replicate, slice_index_or, inl, inr, refl, sym, ◌∙◌, ap, subst, arith}
-use Rattle.std.proofs.lemmas.Bool.{cases_lt, false≢true}
-use Rattle.std.proofs.lemmas.List.{get_or_append_left, get_or_default, get_or-replicate, length-append, length-replicate, get_or_past}
+use Rattle.std.proofs.Common.{◌≡◌, ◌≢◌, ℕ, zero, suc, ◌+◌, ◌-◌, ◌*◌, ◌%◌, ◌<◌, ◌≤◌, cond, Bool, true, false, List, [], ◌∷◌, ◌++◌, length, take, All, slice_index_or, inl, inr, refl, sym, ◌∙◌, ap, subst, arith}
+use Rattle.std.proofs.lemmas.Bool.{cases_lt}
+use Rattle.std.proofs.lemmas.List.{get_or_append_left, get_or_default, get_or-take, length-append, length-take}
 use Rattle.std.proofs.lemmas.List.FromFn.{length-range_with_len}
 use Rattle.circuits.specs.declared.netlist.Lit.{Lit}
 use Rattle.circuits.specs.declared.netlist.Gate.{Gate}
-use Rattle.circuits.specs.Literals.{bit, signal_of, is_negated as inverts}
-use Rattle.circuits.specs.Netlists.{Net, IsOrdered, signals_of}
+use Rattle.circuits.specs.Literals.{signal_of, is_negated as inverts}
+use Rattle.circuits.specs.Netlists.{Net, IsOrdered}
 use Rattle.cnf_core.specs.declared.literal.SatLit.{SatLit}
 use Rattle.cnf_core.specs.Clauses.{clause_at, is_negated, opposite, variable_of}
 use Rattle.net_core.specs.Sides.{Graphs}
 use Rattle.net_core.specs.Graph.{IsGraph}
-use Rattle.net_core.specs.Cones.{IsFanIn, Reaches, ReachesGate, output_signal}
+use Rattle.net_core.specs.Cones.{Reaches, ReachesGate}
 use Rattle.query_core.specs.declared.query.Feed.{Feed}
 use Rattle.query_core.specs.declared.query.Feed.TheVariants.{Fixed, Wire}
 use Rattle.query_core.specs.declared.query.Query.{Query}
@@ -19,7 +19,9 @@ use Rattle.query_core.specs.Queries.{IsQuery, IsWired, bits_in, circuit_of}
 use Rattle.query_core.specs.Formulas.{and_clauses, feed_literal, formula_of, half_clauses, left_literals, left_variables, output_literal, plain, query_clauses, right_literals, right_variables, signal_literals, stand_in, stands_for}
 use Rattle.query_core.specs.ConeClauses.{IsConeId, left_gates, right_gates}
 use Rattle.query_core.proofs.FormulaLemmas.{clause_below, clause_of_left, clause_of_right, count_of, gate_clause_at, gate_clause_count, right_variable_count}
+use Rattle.query_core.proofs.ConeLaws.{first_reached, second_reached}
 use Rattle.query_core.proofs.LawLemmas.{ordered_side}
+use Rattle.query_core.proofs.VariableLemmas.{reached_there}
 use Rattle.joint_hash.specs.declared.gates.ConeGate.{ConeGate}
 use Rattle.joint_hash.specs.Trees.{IsGateOf, IsReachedGate}
 use Rattle.joint_hash.specs.Classes.{HasGate}
@@ -31,26 +33,6 @@ use Rattle.joint_hash.proofs.SharedLemmas.{gate_literal, input_literal, left_var
 
 abbrev pub no_gate : Gate
 no_gate = record { a = record { 0 = 0 }; b = record { 0 = 0 } }
-
--- a gate that an output reaches is there: the set of all signals has all operands
-pub reached_there : (net : Net) (k t : ℕ) → IsOrdered net → k < length net.outputs → ReachesGate net k t → t < length net.gates
-reached_there net k t ordered output reached =
-    elim (cases_lt t (length net.gates)) [
-      | inl there ↦ there
-      | inr beyond ↦ absurd (false≢true (sym (get_or_past whole (1 + net.inputs + t) false (omega (arith, beyond, length-replicate (signals_of net) true))) ∙ reached whole fan_in))
-    ]
-  where
-    whole : List Bool
-    whole = replicate (signals_of net) true
-
-    has : (s : ℕ) → s < signals_of net → bit (replicate (signals_of net) true) s ≡ true
-    has s below = get_or-replicate (signals_of net) s true false below
-
-    fan_in : IsFanIn net k (replicate (signals_of net) true)
-    fan_in = record {
-      output = has (output_signal net k) (ordered.outputs k (record { 0 = 0 }) output);
-      operands = λ u d below _. (has (signal_of (slice_index_or net.gates u d).a) (omega (arith, ordered.first_operands u d below, below)), has (signal_of (slice_index_or net.gates u d).b) (omega (arith, ordered.second_operands u d below, below)));
-    }
 
 -- the gate that has these clauses
 pub gate_made : (net : Net) (literals : List SatLit) (k from t : ℕ) → t < length net.gates → ReachesGate net k t → (gate : ConeGate) → gate.id ≡ from + 3 * t → gate.output ≡ stand_in literals (net.inputs + 1 + t) → gate.first ≡ stands_for literals (slice_index_or net.gates t no_gate).a → gate.second ≡ stands_for literals (slice_index_or net.gates t no_gate).b → IsReachedGate net literals k from gate
@@ -141,18 +123,10 @@ gate_third graphs query gate (inr of) = omega (arith, of.id_is)
 
 -- the literals of a clause of three
 pub three_in : (lits : List SatLit) (len : ℕ) (x y z d : SatLit) → take len lits ≡ x ∷ y ∷ z ∷ [] → (slice_index_or lits 0 d ≡ x) × (slice_index_or lits 1 d ≡ y) × (slice_index_or lits 2 d ≡ z)
-three_in [] zero x y z d e = absurd (let f : [] ≡ x ∷ y ∷ z ∷ [] = e in cc)
-three_in [] (suc n) x y z d e = absurd (let f : [] ≡ x ∷ y ∷ z ∷ [] = e in cc)
-three_in (a ∷ lits) zero x y z d e = absurd (let f : [] ≡ x ∷ y ∷ z ∷ [] = e in cc)
-three_in (a ∷ []) (suc zero) x y z d e = absurd (let f : a ∷ [] ≡ x ∷ y ∷ z ∷ [] = e in cc)
-three_in (a ∷ []) (suc (suc n)) x y z d e = absurd (let f : a ∷ [] ≡ x ∷ y ∷ z ∷ [] = e in cc)
-three_in (a ∷ b ∷ lits) (suc zero) x y z d e = absurd (let f : a ∷ [] ≡ x ∷ y ∷ z ∷ [] = e in cc)
-three_in (a ∷ b ∷ []) (suc (suc zero)) x y z d e = absurd (let f : a ∷ b ∷ [] ≡ x ∷ y ∷ z ∷ [] = e in cc)
-three_in (a ∷ b ∷ []) (suc (suc (suc n))) x y z d e = absurd (let f : a ∷ b ∷ [] ≡ x ∷ y ∷ z ∷ [] = e in cc)
-three_in (a ∷ b ∷ c ∷ lits) (suc (suc zero)) x y z d e = absurd (let f : a ∷ b ∷ [] ≡ x ∷ y ∷ z ∷ [] = e in cc)
-three_in (a ∷ b ∷ c ∷ lits) (suc (suc (suc n))) x y z d e =
-    let f : a ∷ b ∷ c ∷ take n lits ≡ x ∷ y ∷ z ∷ [] = e in
-    ((cc), (cc), (cc))
+three_in lits len x y z d e =
+    let size : 3 ≤ len = omega (arith, ap length e, length-take len lits) in
+    let at : (k : ℕ) → k < 3 → slice_index_or lits k d ≡ slice_index_or (x ∷ y ∷ z ∷ []) k d = λ k small. sym (get_or-take len lits k d (omega (arith, small, size))) ∙ ap (λ (ls : List SatLit). slice_index_or ls k d) e in
+    (at 0 (omega arith), at 1 (omega arith), at 2 (omega arith))
 
 -- the gate whose last clause has this number
 pub gate_at : (graphs : Graphs) (query : Query) (last : ℕ) (gate : ConeGate) → IsGraph graphs.first → IsGraph graphs.second → IsQuery graphs query → IsConeId graphs query last → last ≢ 0 → last % 3 ≡ 0 → gate.id + 2 ≡ last → ((x y z : SatLit) → clause_at (query_clauses graphs query) last ≡ x ∷ y ∷ z ∷ [] → (gate.output ≡ x) × (gate.first ≡ opposite y) × (gate.second ≡ opposite z)) → IsGateOf graphs query gate
@@ -237,12 +211,6 @@ operand_early n net feed variables half k from id t variable l id_is there below
             variable_is = ap (λ m. variable_of (stand_in literals m)) (sym at_gate) ∙ own;
           }
     ]
-
-first_reached : (net : Net) (k t : ℕ) (d : Gate) → t < length net.gates → ReachesGate net k t → Reaches net k (signal_of (slice_index_or net.gates t d).a)
-first_reached net k t d within reached other fan_in = (fan_in.operands t d within (reached other fan_in)).0
-
-second_reached : (net : Net) (k t : ℕ) (d : Gate) → t < length net.gates → ReachesGate net k t → Reaches net k (signal_of (slice_index_or net.gates t d).b)
-second_reached net k t d within reached other fan_in = (fan_in.operands t d within (reached other fan_in)).1
 
 -- gates with equal parts
 same_gate : (g h : ConeGate) → g.id ≡ h.id → g.output ≡ h.output → g.first ≡ h.first → g.second ≡ h.second → g ≡ h
@@ -357,7 +325,7 @@ module _ (graphs : Graphs) (query : Query) (first : IsGraph graphs.first) (secon
             let t = there.place in
             let early_a : signal_of (slice_index_or right.gates t no_gate).a < inputs + 1 + t = omega (arith, right_half.ordered.first_operands t no_gate there.there, fits.right.inputs) in
             let early_b : signal_of (slice_index_or right.gates t no_gate).b < inputs + 1 + t = omega (arith, right_half.ordered.second_operands t no_gate there.there, fits.right.inputs) in
-            let flags = operand_flags graphs query fits t no_gate there.there early_a early_b free in
+            let flags = operand_flags graphs query fits t no_gate right_half.ordered there.there free in
             let of_a : (slice_index_or left.gates is.place no_gate).a ≡ (slice_index_or right.gates t no_gate).a = ap (λ (m : Net). (slice_index_or m.gates is.place no_gate).a) net ∙ ap (λ u. (slice_index_or right.gates u no_gate).a) place in
             let of_b : (slice_index_or left.gates is.place no_gate).b ≡ (slice_index_or right.gates t no_gate).b = ap (λ (m : Net). (slice_index_or m.gates is.place no_gate).b) net ∙ ap (λ u. (slice_index_or right.gates u no_gate).b) place in
             let a = same_literals graphs query fits one (signal_of (slice_index_or right.gates t no_gate).a) (omega (arith, early_a, there.there)) flags.0 in

@@ -9,6 +9,7 @@ use Rattle.joint_hash.specs.declared.gates.ConeGate.{ConeGate}
 use Rattle.joint_hash.specs.declared.twins.Twin.{Twin}
 use Rattle.joint_hash.specs.Trees.{IsCongruence}
 use Rattle.joint_hash.specs.Classes.{AreMerged, HasGate, IsFound, IsKept, IsTwin, IsVisited, in_order, operands_of, representative, same_operands, twin_literal}
+use Rattle.joint_hash.proofs.ChainLemmas.{twin_later}
 use Rattle.joint_hash.proofs.LiteralLemmas.{in_order_same, operands_from, operands_same, plain_is, negated_is}
 
 -- Gates whose operands come first, each once under its number, and with the same operands where two have one variable.
@@ -259,15 +260,7 @@ module _ (IsGate : ConeGate → Type 0) (nested : AreNested IsGate) where
             let this : own ≡ twin = some_is own twin (sym (ap (λ b. cond b (Some own) (twins v)) same) ∙ is) in
             subst (λ (u : ℕ). IsTwin count more u twin) (eqb-true w v same) (subst (IsTwin count more w) this own_twin)
         twin_at v twin (inr other) is =
-            let kept = merged.are_twins v twin (sym (ap (λ b. cond b (Some own) (twins v)) other) ∙ is) in
-            record {
-              late_to = kept.late_to;
-              late_from = kept.late_from;
-              there_to = omega (arith, kept.there_to, longer);
-              there_from = omega (arith, kept.there_from, longer);
-              to_variable = before twin.to_variable kept.there_to ∙ kept.to_variable;
-              from_variable = before twin.from_variable kept.there_from ∙ kept.from_variable;
-            }
+            twin_later count clauses more v twin (omega (arith, longer)) before (merged.are_twins v twin (sym (ap (λ b. cond b (Some own) (twins v)) other) ∙ is))
 
         gate_at : (v : ℕ) (twin : Twin) → ((w == v) ≡ true) ⊎ ((w == v) ≡ false) → cond (w == v) (Some own) (twins v) ≡ Some twin → HasGate IsGate (limit + 1) v
         gate_at v twin (inl same) is =

@@ -1,30 +1,33 @@
 -- A signal of the right circuit that reaches no input whose feeds differ has the literal that it has in the left one.
-use Rattle.std.proofs.Common.{◌≡◌, ◌⊎◌, ℕ, zero, suc, ◌+◌, ◌-◌, ◌<◌, ◌&&◌, ◌||◌, cond, Bool, true, false, List, [], ◌∷◌, ◌++◌, length, map, drop, slice_index_or, inl, inr, refl, sym, ◌∙◌, ap, arith}
+use Rattle.std.proofs.Common.{◌≡◌, ◌⊎◌, ℕ, zero, suc, ◌+◌, ◌-◌, ◌<◌, cond, eqb, eqb-true, Bool, true, false, List, [], ◌∷◌, length, map, drop, slice_index_or, inl, inr, refl, sym, ◌∙◌, ap, arith}
 use Rattle.std.specs.List.{range_with_len}
 use Rattle.std.specs.Bool.{beq}
-use Rattle.std.proofs.lemmas.Bool.{cases_lt, cases_Bool, false≢true}
+use Rattle.std.proofs.lemmas.Bool.{cases_lt, cases_Bool}
 use Rattle.std.proofs.lemmas.Bool as lemmas
-use Rattle.std.proofs.lemmas.Bool.Decides.{eqb_tells}
-use Rattle.std.proofs.lemmas.List.{get_or-map, get_or_append_left, get_or-append-add, get_or_push, length_push, get_or-drop, length-map, length-drop}
+use Rattle.std.proofs.lemmas.List.{get_or-map, get_or_append_left, get_or-drop, length-map, length-drop}
 use Rattle.std.proofs.lemmas.List.FromFn.{length-range_with_len, get_or-range_with_len}
 use Rattle.circuits.specs.declared.netlist.Gate.{Gate}
 use Rattle.circuits.specs.Literals.{bit, signal_of}
-use Rattle.circuits.specs.Netlists.{Net}
+use Rattle.circuits.specs.Netlists.{IsOrdered, Net}
+use Rattle.net_core.specs.Graph.{AreInOrder}
 use Rattle.net_core.specs.Sides.{Graphs, graph_of}
 use Rattle.query_core.specs.declared.query.Feed.{Feed}
 use Rattle.query_core.specs.declared.query.Feed.TheVariants.{Fixed, Wire}
 use Rattle.query_core.specs.declared.query.Query.{Query}
 use Rattle.query_core.specs.Queries.{IsQuery, bits_in, circuit_of}
-use Rattle.query_core.specs.Formulas.{false_literal, feed_literal, feeds_differ, left_literals, left_variables, plain, reaches, reaching, right_literals, right_variables, same_feed, same_side, shared_from, signal_literals, stand_in}
+use Rattle.query_core.specs.Formulas.{false_literal, feed_literal, feeds_differ, left_literals, left_variables, plain, reaches, right_literals, right_variables, same_feed, same_side, shared_from, signal_literals, stand_in}
 use Rattle.query_core.specs.ConeClauses.{left_gates}
 use Rattle.query_core.proofs.AssignmentLemmas.{one_side, shared_at}
+use Rattle.query_core.proofs.EqualLemmas.{bool_decides}
+use Rattle.query_core.proofs.ReachingLemmas.{reaching_at, reaching_keeps}
+use Rattle.query_core.proofs.VariableLemmas.{stand_in_gate}
 use Rattle.query_core.proofs.FormulaLemmas.{length-feeds_differ, reached_count, right_variable_count}
 
 -- the literal of a gate is its variable
 pub gate_literal : (n : ℕ) (feed : List Feed) (variables : List ℕ) (t : ℕ) → length feed ≡ n → t < length variables → stand_in (signal_literals feed variables) (n + 1 + t) ≡ plain (slice_index_or variables t 0)
 gate_literal n feed variables t feeds there =
-    let next : n + 1 + t ≡ suc (length (map feed_literal feed) + t) = omega (arith, feeds, length-map feed feed_literal) in
-    ap (stand_in (signal_literals feed variables)) next ∙ (get_or-append-add (map feed_literal feed) (map plain variables) t false_literal ∙ get_or-map plain variables t 0 false_literal there)
+    let next : n + 1 + t ≡ suc (length feed + t) = omega (arith, feeds) in
+    ap (stand_in (signal_literals feed variables)) next ∙ stand_in_gate feed variables t there
 
 -- the literal of an input is that of what it gets
 pub input_literal : (n : ℕ) (feed : List Feed) (variables : List ℕ) (i : ℕ) → length feed ≡ n → i < n → stand_in (signal_literals feed variables) (suc i) ≡ feed_literal (slice_index_or feed i (Fixed false))
@@ -34,56 +37,18 @@ input_literal n feed variables i feeds within =
 
 -- feeds that are the same have one literal
 same_feeds : (feed other : Feed) → same_feed feed other ≡ true → feed_literal feed ≡ feed_literal other
-same_feeds (Fixed true) (Fixed true) same = refl
-same_feeds (Fixed true) (Fixed false) same = cc
-same_feeds (Fixed false) (Fixed true) same = cc
-same_feeds (Fixed false) (Fixed false) same = refl
+same_feeds (Fixed b) (Fixed c) same = ap (λ x. feed_literal (Fixed x)) ((bool_decides b c).0 same)
 same_feeds (Fixed b) (Wire place flip) same = cc
 same_feeds (Wire place flip) (Fixed b) same = cc
 same_feeds (Wire place flip) (Wire other sign) same =
-    elim (eqb_tells place other) [
-      | inl (found, e) ↦ ap (λ p. feed_literal (Wire p flip)) e ∙ ap (λ b. feed_literal (Wire other b)) (same_flip flip sign (sym (ap (λ t. t && beq flip sign) found) ∙ same))
-      | inr (found, e) ↦ absurd (false≢true (sym (ap (λ t. t && beq flip sign) found) ∙ same))
-    ]
-  where
-    same_flip : (a b : Bool) → beq a b ≡ true → a ≡ b
-    same_flip true true e = refl
-    same_flip true false e = cc
-    same_flip false true e = cc
-    same_flip false false e = refl
+    let both = lemmas.and_parts (eqb place other) (beq flip sign) same in
+    ap (λ p. feed_literal (Wire p flip)) (eqb-true place other both.0) ∙ ap (λ b. feed_literal (Wire other b)) ((bool_decides flip sign).0 both.1)
 
 feeds_stand : (left right : List Feed) (i : ℕ) → length left ≡ length right → i < length left → bit (feeds_differ left right) i ≡ false → feed_literal (slice_index_or left i (Fixed false)) ≡ feed_literal (slice_index_or right i (Fixed false))
 feeds_stand [] right i same below free = absurd (omega (arith, below))
 feeds_stand (feed ∷ left) [] i same below free = absurd (omega (arith, same))
 feeds_stand (feed ∷ left) (other ∷ right) zero same below free = same_feeds feed other (lemmas.not-false (same_feed feed other) free)
 feeds_stand (feed ∷ left) (other ∷ right) (suc i) same below free = feeds_stand left right i (omega (arith, same)) (omega (arith, below)) free
-
--- ---- what reaches an input whose feeds differ
-
-reaching_front : (so_far : List Bool) (gates : List Gate) (s : ℕ) → s < length so_far → bit (reaching so_far gates) s ≡ bit so_far s
-reaching_front so_far [] s within = refl
-reaching_front so_far (gate ∷ gates) s within =
-    let flag = bit so_far (signal_of gate.a) || bit so_far (signal_of gate.b) in
-    reaching_front (so_far ++ flag ∷ []) gates s (omega (arith, within, length_push so_far flag)) ∙ get_or_append_left so_far (flag ∷ []) false s within
-
-reaching_at : (so_far : List Bool) (gates : List Gate) (t : ℕ) (d : Gate) → t < length gates → signal_of (slice_index_or gates t d).a < length so_far + t → signal_of (slice_index_or gates t d).b < length so_far + t → bit (reaching so_far gates) (length so_far + t) ≡ (bit (reaching so_far gates) (signal_of (slice_index_or gates t d).a) || bit (reaching so_far gates) (signal_of (slice_index_or gates t d).b))
-reaching_at so_far [] t d there a b = absurd (omega (arith, there))
-reaching_at so_far (gate ∷ gates) zero d there a b =
-    let flag = bit so_far (signal_of gate.a) || bit so_far (signal_of gate.b) in
-    let longer = so_far ++ flag ∷ [] in
-    let size = length_push so_far flag in
-    let at : length so_far + 0 ≡ length so_far = omega arith in
-    let early_a : signal_of gate.a < length so_far = omega (arith, a) in
-    let early_b : signal_of gate.b < length so_far = omega (arith, b) in
-    ap (bit (reaching longer gates)) at
-    ∙ (reaching_front longer gates (length so_far) (omega (arith, size))
-    ∙ (get_or_push so_far flag false (length so_far) refl
-    ∙ (ap (λ x. x || bit so_far (signal_of gate.b)) (sym (reaching_front longer gates (signal_of gate.a) (omega (arith, early_a, size)) ∙ get_or_append_left so_far (flag ∷ []) false (signal_of gate.a) early_a)) ∙ ap (λ x. bit (reaching longer gates) (signal_of gate.a) || x) (sym (reaching_front longer gates (signal_of gate.b) (omega (arith, early_b, size)) ∙ get_or_append_left so_far (flag ∷ []) false (signal_of gate.b) early_b)))))
-reaching_at so_far (gate ∷ gates) (suc t) d there a b =
-    let flag = bit so_far (signal_of gate.a) || bit so_far (signal_of gate.b) in
-    let size = length_push so_far flag in
-    let at : length so_far + suc t ≡ length (so_far ++ flag ∷ []) + t = omega (arith, size) in
-    ap (bit (reaching (so_far ++ flag ∷ []) gates)) at ∙ reaching_at (so_far ++ flag ∷ []) gates t d (omega (arith, there)) (omega (arith, a, size)) (omega (arith, b, size))
 
 module _ (graphs : Graphs) (query : Query) (fits : IsQuery graphs query) where
   abbrev inputs : ℕ
@@ -137,7 +102,7 @@ module _ (graphs : Graphs) (query : Query) (fits : IsQuery graphs query) where
 
   flag_of_input : (i : ℕ) → i < inputs → bit flags (suc i) ≡ bit (feeds_differ query.left.feed query.right.feed) i
   flag_of_input i within =
-      reaching_front (false ∷ feeds_differ query.left.feed query.right.feed) (circuit_of graphs query.right).gates (suc i) (omega (arith, within, fits.left.feed, length-feeds_differ query.left.feed query.right.feed same_count))
+      reaching_keeps (false ∷ feeds_differ query.left.feed query.right.feed) (circuit_of graphs query.right).gates (suc i) (omega (arith, within, fits.left.feed, length-feeds_differ query.left.feed query.right.feed same_count))
 
   pub same_literals : same_side query.left.side query.right.side ≡ true → (s : ℕ) → s < inputs + 1 + count → bit flags s ≡ false → stand_in (left_literals graphs query) s ≡ stand_in (right_literals graphs query) s
   same_literals one zero below free = refl
@@ -159,11 +124,15 @@ module _ (graphs : Graphs) (query : Query) (fits : IsQuery graphs query) where
           ∙ (left ∙ (ap plain (left_variable t there_left ∙ sym variable) ∙ (sym right ∙ ap (stand_in (right_literals graphs query)) (sym at))))
 
   -- the operands of a gate that reaches no such input reach none either
-  pub operand_flags : (t : ℕ) (d : Gate) → t < count → signal_of (slice_index_or (circuit_of graphs query.right).gates t d).a < inputs + 1 + t → signal_of (slice_index_or (circuit_of graphs query.right).gates t d).b < inputs + 1 + t → bit flags (inputs + 1 + t) ≡ false → (bit flags (signal_of (slice_index_or (circuit_of graphs query.right).gates t d).a) ≡ false) × (bit flags (signal_of (slice_index_or (circuit_of graphs query.right).gates t d).b) ≡ false)
-  operand_flags t d there a b free =
+  pub operand_flags : (t : ℕ) (d : Gate) → IsOrdered (circuit_of graphs query.right) → t < count → bit flags (inputs + 1 + t) ≡ false → (bit flags (signal_of (slice_index_or (circuit_of graphs query.right).gates t d).a) ≡ false) × (bit flags (signal_of (slice_index_or (circuit_of graphs query.right).gates t d).b) ≡ false)
+  operand_flags t d ordered there free =
       let start = false ∷ feeds_differ query.left.feed query.right.feed in
       let gates = (circuit_of graphs query.right).gates in
       let size : length start ≡ inputs + 1 = omega (arith, fits.left.feed, length-feeds_differ query.left.feed query.right.feed same_count) in
       let at : length start + t ≡ inputs + 1 + t = omega (arith, size) in
-      let either = reaching_at start gates t d there (omega (arith, a, at)) (omega (arith, b, at)) in
+      let order : AreInOrder (length start) gates = record {
+        first_operands = λ k e below. omega (arith, size, fits.right.inputs, ordered.first_operands k e below);
+        second_operands = λ k e below. omega (arith, size, fits.right.inputs, ordered.second_operands k e below);
+      } in
+      let either = reaching_at start gates t d order there in
       lemmas.or_parts (bit flags (signal_of (slice_index_or gates t d).a)) (bit flags (signal_of (slice_index_or gates t d).b)) (sym either ∙ (ap (bit flags) at ∙ free))

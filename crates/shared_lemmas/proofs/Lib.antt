@@ -1,4 +1,3 @@
 pub mod FormulaLemmas
 pub mod SharedLaws
-pub mod AloneLemmas
 pub mod AnswerLemmas

@@ -8,7 +8,7 @@ use Rattle.query_core.specs.Formulas.{formula_of}
 use Rattle.query_core.specs.Ledgers.{Ledgered}
 use Rattle.log_parts.specs.Parts.{MayGoOn}
 use Rattle.ask_core.specs.declared.question.Answer.{Answer}
-use Rattle.ask_core.specs.Answers.{IsAnswer, IsAskedWith, IsBounded, IsBoundedStop, IsStoppedWith}
+use Rattle.ask_core.specs.Answers.{IsAnswer, IsAskedWith, IsBounded, IsBoundedStop, IsStoppedAfter}
 
 -- Two queries are of the same circuits, whose inputs get the same bits.
 pub record HaveSameFeeds (one other : Query) : Type 0 where
@@ -38,9 +38,8 @@ pub record IsAskedBy (graphs : Graphs) (query : Query) (old new : Ledgered) : Ty
   pub with_them : IsAskedWith graphs query lemmas old new
 
 -- no answer, by some lemmas: the budget is spent, or memory ran out
-pub record IsStoppedBy (graphs : Graphs) (query : Query) (old new : Ledgered) (stop : Stop) : Type 0 where
-  pub lemmas : List LogLine
-  pub with_them : IsStoppedWith graphs query lemmas old new stop
+abbrev pub IsStoppedBy : Graphs → Query → Ledgered → Ledgered → Stop → Type 0
+IsStoppedBy graphs query old new = IsStoppedAfter (IsAskedBy graphs query old new) old new
 
 -- A query was answered, and the ledger says what was asked.
 pub record IsAnswered (graphs : Graphs) (query : Query) (old new : Ledgered) (answer : Answer) : Type 0 where

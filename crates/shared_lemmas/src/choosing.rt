@@ -1,9 +1,10 @@
 //! Which lines a question gets.
 
-ghost use Rattle.std.specs.Prelude.{◌≡◌, IfOk, length};
+ghost use Rattle.std.specs.Prelude.{◌≡◌, ◌<◌, ◌^◌, IfOk, length};
 
 use cnf_core::{Base, LogLine, SatLit};
 use log_parts::mark_hinted;
+use number_marks::Marks;
 use query_core::QueryBase;
 use std::alloc::{AllocError, Global};
 
@@ -23,7 +24,7 @@ pub(crate) fn chosen(
 }
 
 // Marks of the lines over marked variables.
-fn marks_over(alloc: Global, variables: &[bool], lines: &[LogLine]) -> Result<Vec<bool>, AllocError>
+fn marks_over(alloc: Global, variables: &Marks, lines: &[LogLine]) -> Result<Vec<bool>, AllocError>
     ensures { IfOk result (λ marked. length marked.items ≡ length lines.now) }
 {
     let mut marked = Vec::with_capacity(alloc, lines.len())?;
@@ -34,41 +35,55 @@ fn marks_over(alloc: Global, variables: &[bool], lines: &[LogLine]) -> Result<Ve
 }
 
 // Whether a clause is over marked variables.
-fn is_over(clause: &[SatLit], variables: &[bool]) -> bool {
-    clause
-        .iter()
-        .all(|literal| is_marked(variables, literal.variable()))
+fn is_over(clause: &[SatLit], variables: &Marks) -> bool {
+    clause.iter().all(|literal| is_marked(variables, *literal))
 }
 
-fn is_marked(variables: &[bool], variable: u64) -> bool {
+fn is_marked(variables: &Marks, literal: SatLit) -> bool {
+    let variable = variable_in(literal);
     if variable < variables.len() as u64 {
-        return variables[variable as usize];
+        return variables.has(variable as usize);
     }
     false
 }
 
 // Marks of the variables of the clauses of these numbers.
-fn variables_of(alloc: Global, base: &QueryBase<'_>, ids: &[u64]) -> Result<Vec<bool>, AllocError> {
-    let mut marked = vec![in alloc; false; base.variables() as usize]?;
+fn variables_of(alloc: Global, base: &QueryBase<'_>, ids: &[u64]) -> Result<Marks, AllocError> {
+    let mut marked = Marks::none(alloc, base.variables() as usize);
     for id in ids.iter() {
-        mark_clause(base, *id, &mut marked);
+        mark_clause(alloc, base, *id, &mut marked)?;
     }
     Ok(marked)
 }
 
 // Marks the variables of the clause of a number.
-fn mark_clause(base: &QueryBase<'_>, id: u64, marked: &mut [bool]) {
+fn mark_clause(
+    alloc: Global,
+    base: &QueryBase<'_>,
+    id: u64,
+    marked: &mut Marks,
+) -> Result<(), AllocError> {
     if id >= base.count() {
-        return;
+        return Ok(());
     }
     let clause = base.clause(id);
     for literal in clause.literals().iter() {
-        mark(literal.variable(), marked);
+        mark(alloc, *literal, marked)?;
     }
+    Ok(())
 }
 
-fn mark(variable: u64, marked: &mut [bool]) {
+fn mark(alloc: Global, literal: SatLit, marked: &mut Marks) -> Result<(), AllocError> {
+    let variable = variable_in(literal);
     if variable < marked.len() as u64 {
-        marked[variable as usize] = true;
+        marked.mark(alloc, variable as usize)?;
     }
+    Ok(())
+}
+
+// The variable that a literal reads.
+fn variable_in(literal: SatLit) -> u64
+    ensures { result < 2 ^ 63 }
+{
+    literal.variable()
 }

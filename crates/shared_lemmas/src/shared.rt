@@ -64,7 +64,8 @@ impl<'a> SharedLemmas<'a> {
     }
 
     /// Answers a query that fits the circuits, by what was learned under its feeds too, which are the first lemmas of its entry
-    /// in the ledger. The log of a refutation has what its last line rests on, and no more.
+    /// in the ledger. The log of a refutation has what its last line rests on, and no more, unless the query is asked by itself:
+    /// where its cones are small, or many lines were given.
     ///
     /// # Errors
     ///

@@ -1,30 +1,12 @@
 -- A query that was asked by its own lemmas was asked by lemmas.
-use Rattle.std.proofs.lemmas.Result.{IfOk-weaker, IfErr-weaker}
-use Rattle.ask_core.specs.declared.question.Answer.{Answer}
-use Rattle.cnf_core.specs.declared.stop.Stop.{Stop}
-use Rattle.ask_core.specs.Answers.{IsAskedIn, IsStopped}
-use Rattle.ask_core.proofs.AskLemmas.{whole_of}
-use Rattle.shared_lemmas.specs.Shared.{IsAskedBy, IsStoppedBy}
-use Rattle.shared_lemmas.proofs.AloneLemmas.{stopped_by}
-use Rattle.shared_lemmas.proofs.AnswerLemmas.{answered_from, halted_from}
+use Rattle.shared_lemmas.proofs.AnswerLemmas.{answered_from, by_own, halted_from}
 use Rattle.shared_lemmas.proofs.shared.ask_alone.Goals as goal
 
 pub returns-clause-answered : goal.returns-clause-answered
 returns-clause-answered g c =
-    let graphs = c.args.graphs.now in
-    let query = c.args.query.now in
-    let before = c.args.ledger.now in
-    let after = c.ask_watched.new.ledger in
-    let r = c.ask_watched.result in
     let e = c.ask_watched.ensures in
-    answered_from graphs query before after r e.answer (IfOk-weaker r (λ (a : Answer). IsAskedIn graphs query before after) (λ (a : Answer). IsAskedBy graphs query before after) (λ a is. record { lemmas = is.lemmas; with_them = whole_of graphs query before after is }) e.asked) e.not_spent e.bounded
+    answered_from _ _ _ _ c.ask_watched.result (by_own _ _ _ _) e.answer e.asked e.not_spent e.bounded
 
 pub returns-clause-halted : goal.returns-clause-halted
 returns-clause-halted g c =
-    let graphs = c.args.graphs.now in
-    let query = c.args.query.now in
-    let before = c.args.ledger.now in
-    let after = c.ask_watched.new.ledger in
-    let r = c.ask_watched.result in
-    let e = c.ask_watched.ensures in
-    halted_from graphs query before after r (IfErr-weaker r (IsStopped graphs query before after) (IsStoppedBy graphs query before after) (λ (s : Stop) is. stopped_by graphs query before after s is) e.stop) e.bounded_stop
+    halted_from _ _ _ _ c.ask_watched.result (by_own _ _ _ _) c.ask_watched.ensures.stop c.ask_watched.ensures.bounded_stop

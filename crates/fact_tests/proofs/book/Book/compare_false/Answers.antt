@@ -1,25 +1,7 @@
-use Rattle.std.proofs.Common.{sym, subst, ◌∙◌, false}
-use Rattle.ask_core.specs.declared.question.Answer.{Answer}
-use Rattle.ask_core.specs.Answers.{IsAnswer}
-use Rattle.oracle_core.specs.declared.oracle.Compared.{Compared}
-use Rattle.oracle_core.specs.declared.oracle.Compared.TheVariants.{Differs}
-use Rattle.oracle_core.specs.Oracles.{IsDifference}
-use Rattle.query_core.specs.MatchQueries.{match_query}
-use Rattle.fact_tests.proofs.BookLemmas.{answers_ok}
-use Rattle.fact_tests.proofs.MatchBits.{met_difference}
+use Rattle.std.proofs.Common.{◌∙◌, false}
+use Rattle.fact_tests.proofs.BookLemmas.{differs}
 use Rattle.fact_tests.proofs.book.Book.compare_false.Goals as goal
 
 pub returns-in_ok-from_slice-in-Ok-Vector : goal.returns-in_ok-from_slice-in-Ok-Vector
 returns-in_ok-from_slice-in-Ok-Vector g c =
-    let graphs = c.args.self.now.graphs in
-    let matching = c.args.matching.now in
-    let k = c.args.output in
-    let x = c.in-Ok-Vector.vector in
-    let bits = c.in_ok-from_slice-in-Ok-Vector.field-0 in
-    let told = subst (IsAnswer graphs (match_query graphs.first.inputs matching k false)) c.in-Ok-Vector.field-0-is c.in-Ok-Vector.ensures.answer in
-    let h = c.in_ok-from_slice-in-Ok-Vector.ensures in
-    let d = c.deref.ensures.value in
-    record {
-      serves = answers_ok {X = Answer} {Y = Compared} c.args.self.now c.answer.new.self c.args.ledger.now c.answer.new.ledger c.answer.result c.in-Ok-Vector.field-0 (Differs bits) c.in-Ok-Vector.is c.answer.ensures.serves;
-      compared = subst (IsDifference graphs matching k) (sym (h ∙ d)) (met_difference graphs matching k false x c.requires.ports told.bits told.meets);
-    }
+    differs c.args.matching.now c.args.output false c.args.self.now c.answer.new.self c.args.ledger.now c.answer.new.ledger c.answer.result _ _ _ c.requires.ports c.answer.ensures.serves c.in-Ok-Vector.is c.in-Ok-Vector.field-0-is c.in-Ok-Vector.ensures.answer (c.in_ok-from_slice-in-Ok-Vector.ensures ∙ c.deref.ensures.value)
