@@ -3,8 +3,10 @@ use Rattle.std.proofs.Common.{◌≡◌, ◌≢◌, ℕ, ◌+◌, ◌*◌, ◌/�
 use Rattle.std.specs.Prelude.{codes}
 use Rattle.std.specs.List.{range_with_len, Contains, take_while}
 use Rattle.std.proofs.lemmas.Bool.{le-ltb}
-use Rattle.std.proofs.lemmas.List.{length-map, append-nil, length-replicate, get_or_append_left, get_or_default, get_or-map}
+use Rattle.std.proofs.lemmas.List.{length-map, append-nil, get_or_append_left, get_or_default, get_or-map}
 use Rattle.std.proofs.lemmas.List.Elements.{All-nil, All-cons, All-append, All-map, All-drop}
+use Rattle.std.proofs.lemmas.List.FromFn.{length-map-range_with_len}
+use Rattle.std.proofs.lemmas.Slice.Zip.{AllZip-long}
 use Rattle.std.proofs.lemmas.Grind.{flat_map-append}
 use Rattle.std.proofs.Math.Nat.{mul-div-le}
 use Rattle.std.proofs.Math.Seq.{drop-append_seam}
@@ -25,11 +27,11 @@ use Rattle.aiger_reader.specs.Headers.{AigerHeader, header_numbers, header_fault
 use Rattle.aiger_reader.specs.Bodies.{Role, Input, Output, Gate as GateLine, roles_of, role_at, defined, body_lines, line_offset, IsBody, IsKnown, IsKnownRow, reads, text_circuit, literal_of, and_on, first_of}
 use Rattle.aiger_reader.specs.Symbols.{AreNames, ArePortNames, GiveNames, is_comment, port_at}
 use Rattle.aiger_reader.specs.Aiger.{IsAiger}
-use Rattle.net_print.specs.Rows.{numbers_line, header_numbers as printed_numbers, header_line, input_rows, output_row, gate_rows, symbols, symbol_lines}
+use Rattle.net_print.specs.Rows.{numbers_line, header_numbers as printed_numbers, header_line, input_row, input_rows, output_row, gate_rows, symbols, symbol_lines}
 use Rattle.net_print.specs.Files.{aag_rows, aag_text}
 use Rattle.print_laws.specs.Printable.{IsWithinLimits, IsPrintable}
 use Rattle.print_laws.proofs.NumberLines.{AreWords, IsLine-numbers_line, numbers_on-numbers_line}
-use Rattle.print_laws.proofs.Fitting.{AreFit, ReadsUpTo, fit_length, fit_at, fit_append, fit_inputs, fit_outputs, fit_gates, defined_append, defined_inputs, defined_outputs, defined_gates, range_append, range_distinct, range_contains}
+use Rattle.print_laws.proofs.Fitting.{IsFit, AreFit, ReadsUpTo, fit_at, IsSection, section_append, inputs_section, outputs_section, gates_section, range_append, range_distinct, range_contains}
 use Rattle.print_laws.proofs.Circuits.{outputs_same, gates_same, rows_after, rows_before}
 use Rattle.print_laws.proofs.SymbolLines.{IsSymbol, IsBefore, symbols_good, all_taken, given, entries_from, all_entries, inputs_named, outputs_named}
 
@@ -79,13 +81,6 @@ pub header_written : (binary : Bool) (net : Net) → IsWithinLimits net → numb
 header_written binary net within =
     numbers_on-numbers_line (printed_numbers net) (wider (printed_numbers net) (numbers_small binary net within))
 
--- the lines of the file
-abbrev body_of : Named → List (List ℕ)
-body_of named = map numbers_line (aag_rows named.graph) ++ symbols named
-
-abbrev first_line : Net → List ℕ
-first_line net = numbers_line (printed_numbers net)
-
 -- the operands of the gates are signals
 pub gates_read : (net : Net) → IsOrdered net → All (ReadsUpTo (greatest_of net)) net.gates
 gates_read net ordered k d h = (omega (arith, ordered.first_operands k d h, h), omega (arith, ordered.second_operands k d h, h))
@@ -111,58 +106,88 @@ output_roles net = replicate (length net.outputs) Output
 abbrev gate_roles : Net → List Role
 gate_roles net = replicate (length net.gates) GateLine
 
-inputs_fit : (net : Net) → AreFit (greatest_of net) (input_roles net) (ins net)
-inputs_fit net = fit_inputs (greatest_of net) 0 net.inputs (omega arith)
-
-outputs_fit : (net : Net) → IsOrdered net → AreFit (greatest_of net) (output_roles net) (outs net)
-outputs_fit net ordered = fit_outputs (greatest_of net) net.outputs (outputs_read net ordered)
-
 roles_are : (net : Net) → roles_of (aag_header net) ≡ input_roles net ++ (output_roles net ++ gate_roles net)
 roles_are net = append_assoc (input_roles net) (output_roles net) (gate_roles net)
 
-rows_fit : (net : Net) → IsOrdered net → AreFit (greatest_of net) (roles_of (aag_header net)) (aag_rows net)
-rows_fit net ordered =
+-- the rows fit, and define the variables from 1 on
+aag_section : (net : Net) → IsOrdered net → IsSection (greatest_of net) (roles_of (aag_header net)) (aag_rows net) (range_with_len 1 (greatest_of net))
+aag_section net ordered =
     let m = greatest_of net in
-    let gates_fit = fit_gates m (net.inputs + 1) net.gates (omega arith) (omega arith) (gates_read net ordered) in
-    subst (λ (roles : List Role). AreFit m roles (aag_rows net)) (sym (roles_are net))
-    (fit_append m (input_roles net) (output_roles net ++ gate_roles net) (ins net) (outs net ++ gates net) (inputs_fit net)
-    (fit_append m (output_roles net) (gate_roles net) (outs net) (gates net) (outputs_fit net ordered) gates_fit))
+    let first = range_with_len 1 net.inputs in
+    let second = range_with_len (net.inputs + 1) (length net.gates) in
+    let inputs : IsSection m (input_roles net) (ins net) first = inputs_section m 0 net.inputs (omega arith) in
+    let outputs : IsSection m (output_roles net) (outs net) [] = outputs_section m net.outputs (outputs_read net ordered) in
+    let gates_are = gates_section m (net.inputs + 1) net.gates (omega arith) (omega arith) (gates_read net ordered) in
+    let all = section_append m (input_roles net) (output_roles net ++ gate_roles net) (ins net) (outs net ++ gates net) first second inputs (section_append m (output_roles net) (gate_roles net) (outs net) (gates net) [] second outputs gates_are) in
+    subst (λ (roles : List Role). IsSection m roles (aag_rows net) (range_with_len 1 m)) (sym (roles_are net))
+    (subst (IsSection m (input_roles net ++ (output_roles net ++ gate_roles net)) (aag_rows net)) (range_append 1 (net.inputs + 1) net.inputs (length net.gates) m (omega arith) refl) all)
 
--- they define the variables from 1 on
-variables_are : (net : Net) → IsOrdered net → defined (roles_of (aag_header net)) (aag_rows net) ≡ range_with_len 1 (greatest_of net)
-variables_are net ordered =
-    let m = greatest_of net in
-    let few = fit_length m (input_roles net) (ins net) (inputs_fit net) in
-    let also = fit_length m (output_roles net) (outs net) (outputs_fit net ordered) in
-    ap (λ (roles : List Role). defined roles (aag_rows net)) (roles_are net)
-    ∙ defined_append (input_roles net) (output_roles net ++ gate_roles net) (ins net) (outs net ++ gates net) few
-    ∙ ap (λ (vs : List ℕ). vs ++ defined (output_roles net ++ gate_roles net) (outs net ++ gates net)) (defined_inputs 0 net.inputs)
-    ∙ ap (λ (vs : List ℕ). range_with_len 1 net.inputs ++ vs)
-    (defined_append (output_roles net) (gate_roles net) (outs net) (gates net) also
-    ∙ ap (λ (vs : List ℕ). vs ++ defined (gate_roles net) (gates net)) (defined_outputs net.outputs)
-    ∙ defined_gates (net.inputs + 1) net.gates)
-    ∙ range_append 1 (net.inputs + 1) net.inputs (length net.gates) m (omega arith) refl
+-- the header's line
+abbrev first_line : Net → List ℕ
+first_line net = numbers_line (printed_numbers net)
 
--- the file, line by line
-abbrev aag_lines : Named → List (List ℕ)
-aag_lines named = header_line (codes "aag ") named.graph ∷ body_of named
+header_on_line : (net : Net) → IsWithinLimits net → IsLine (first_line net)
+header_on_line net within = IsLine-numbers_line (printed_numbers net) (wider (printed_numbers net) (numbers_small false net within))
 
--- Rows that fit the lines of a header: their numbers are small, and the lines that write them are the body's.
-module _ (binary : Bool) (net : Net) (within : IsWithinLimits net) (rows : List (List ℕ)) (fits : AreFit (greatest_of net) (roles_of (header_of_net binary net)) rows) where
+four_on_line : (second : ℕ) → is_line_feed second ≡ false → IsLine (97 ∷ second ∷ 103 ∷ 32 ∷ [])
+four_on_line second h =
+    let P : ℕ → Type 0 = λ byte. is_line_feed byte ≡ false in
+    All-cons P 97 (second ∷ 103 ∷ 32 ∷ []) refl (All-cons P second (103 ∷ 32 ∷ []) h (All-cons P 103 (32 ∷ []) refl (All-cons P 32 [] refl (All-nil P))))
+
+keyword_on_line : (binary : Bool) → IsLine (keyword binary)
+keyword_on_line false = four_on_line 97 refl
+keyword_on_line true = four_on_line 105 refl
+
+-- A file of a form: the header, lines of rows that fit it, and what stands after them.
+pub record IsFile (binary : Bool) (net : Net) (rows : List (List ℕ)) (back bytes : List ℕ) : Type 0 where
+  pub fits : AreFit (greatest_of net) (roles_of (header_of_net binary net)) rows
+  pub distinct : AllPairs (λ one other. one ≢ other) (defined (roles_of (header_of_net binary net)) rows)
+  pub begins : take 4 bytes ≡ keyword binary
+  pub whole : bytes ≡ text_of_lines (header_line (keyword binary) net ∷ map numbers_line rows) ++ back
+  pub after_keyword : drop 4 bytes ≡ text_of_lines (numbers_line (printed_numbers net) ∷ map numbers_line rows) ++ back
+
+-- It is read as this header, these rows and what stands after them.
+module _ (binary : Bool) (net : Net) (within : IsWithinLimits net) (rows : List (List ℕ)) (back bytes : List ℕ) (file : IsFile binary net rows back bytes) where
   rows_wide : (k : ℕ) → k < length rows → AreWords (get_or rows k [])
   rows_wide k h i d there =
-      let fit = fit_at (greatest_of net) (roles_of (header_of_net binary net)) rows k fits h in
+      let fit = fit_at (greatest_of net) (roles_of (header_of_net binary net)) rows k file.fits h in
       omega (arith, fit.in_range i d there, within.inputs, within.gates)
 
-  pub rows_on_lines : All IsLine (map numbers_line rows)
+  rows_on_lines : All IsLine (map numbers_line rows)
   rows_on_lines = All-map IsLine numbers_line rows (λ k d h. subst IsLine (ap numbers_line (get_or_default rows k [] d h)) (IsLine-numbers_line (get_or rows k []) (rows_wide k h)))
 
-  pub rows_are_body : (bytes : List ℕ) (after : List (List ℕ)) → body_lines bytes ≡ map numbers_line rows ++ after
-      → AllPairs (λ one other. one ≢ other) (defined (roles_of (header_of_net binary net)) rows) → IsBody bytes (header_of_net binary net) rows
-  rows_are_body bytes after body distinct =
+  lines_are : lines bytes ≡ (header_line (keyword binary) net ∷ map numbers_line rows) ++ lines back
+  lines_are =
+      let head = All-append (λ byte. is_line_feed byte ≡ false) (keyword binary) (first_line net) (keyword_on_line binary) (header_on_line net within) in
+      ap lines file.whole
+      ∙ lines-text_of_lines (header_line (keyword binary) net ∷ map numbers_line rows) back (All-cons IsLine (header_line (keyword binary) net) (map numbers_line rows) head rows_on_lines)
+
+  pub file_begins : Begins bytes (header_of_net binary net)
+  file_begins =
+      let line : line_after bytes ≡ first_line net =
+      ap (λ (bs : List ℕ). get_or (lines bs) 0 []) file.after_keyword
+      ∙ ap (λ (ls : List (List ℕ)). get_or ls 0 []) (lines-text_of_lines (first_line net ∷ map numbers_line rows) back (All-cons IsLine (first_line net) (map numbers_line rows) (header_on_line net within) rows_on_lines)) in
+      record {
+        header = record {
+          begins = file.begins;
+          numbers = record {
+            written = ap numbers_on line ∙ header_written binary net within;
+            few = omega arith;
+            small = numbers_small binary net within;
+          };
+          counted = omega arith;
+          no_gaps = λ _. omega arith;
+        };
+        accepted = accepted binary net within;
+      }
+
+  pub file_body : IsBody bytes (header_of_net binary net) rows
+  file_body =
       let roles = roles_of (header_of_net binary net) in
-      let whole = fit_length (greatest_of net) roles rows fits in
+      let whole = AllZip-long (IsFit (greatest_of net)) roles rows file.fits in
       let lined = map numbers_line rows in
+      let after = lines back in
+      let body : body_lines bytes ≡ lined ++ after = ap (drop 1) lines_are in
       let row_line : (k : ℕ) → k < length rows → get_or (body_lines bytes) k [] ≡ numbers_line (get_or rows k []) =
       λ k h. ap (λ (ls : List (List ℕ)). get_or ls k []) body
       ∙ get_or_append_left lined after [] k (omega (arith, h, length-map rows numbers_line))
@@ -173,31 +198,38 @@ module _ (binary : Bool) (net : Net) (within : IsWithinLimits net) (rows : List 
           there = omega (arith, ap length body, length-append lined after, length-map rows numbers_line);
           written = λ k h. record {
             numbers = ap numbers_on (row_line k h) ∙ numbers_on-numbers_line (get_or rows k []) (rows_wide k h);
-            width = (fit_at (greatest_of net) roles rows k fits h).width;
+            width = (fit_at (greatest_of net) roles rows k file.fits h).width;
           };
           good = λ k h.
-              let row = fit_at (greatest_of net) roles rows k fits h in
+              let row = fit_at (greatest_of net) roles rows k file.fits h in
               record { in_range = row.in_range; plain = row.plain };
-          distinct = distinct;
+          distinct = file.distinct;
         };
         whole = whole;
       }
 
--- a text begins with the header of its first line
-pub begins_with : (binary : Bool) (net : Net) → IsWithinLimits net → (bytes : List ℕ) → take 4 bytes ≡ keyword binary → line_after bytes ≡ numbers_line (printed_numbers net) → Begins bytes (header_of_net binary net)
-begins_with binary net within bytes first line = record {
-  header = record {
-    begins = first;
-    numbers = record {
-      written = ap numbers_on line ∙ header_written binary net within;
-      few = omega arith;
-      small = numbers_small binary net within;
-    };
-    counted = omega arith;
-    no_gaps = λ _. omega arith;
-  };
-  accepted = accepted binary net within;
-}
+  pub file_rest : back ≡ drop (line_offset bytes (1 + length rows)) bytes
+  file_rest =
+      let front = header_line (keyword binary) net ∷ map numbers_line rows in
+      let count : length front ≡ 1 + length rows = omega (arith, length-map rows numbers_line) in
+      let first : take (1 + length rows) (lines bytes) ≡ front =
+      ap (take (1 + length rows)) lines_are ∙ rows_before (1 + length rows) front (lines back) count in
+      sym (ap (λ (ls : List (List ℕ)). drop (length (text_of_lines ls)) bytes) first
+      ∙ ap (drop (length (text_of_lines front))) file.whole
+      ∙ drop-append_seam (text_of_lines front) back)
+
+-- a file of the ASCII form ends with the symbols
+aag_file : (named : Named) → IsPrintable named → IsFile false named.graph (aag_rows named.graph) (text_of_lines (symbols named)) (aag_text named)
+aag_file named good =
+    let net = named.graph in
+    let rows = map numbers_line (aag_rows net) in
+    record {
+      fits = (aag_section net good.within.ordered).fits;
+      distinct = subst (λ (vs : List ℕ). AllPairs (λ one other. one ≢ other) vs) (sym (aag_section net good.within.ordered).defines) (range_distinct 1 (greatest_of net));
+      begins = refl;
+      whole = flat_map-append (λ line. line ++ 10 ∷ []) (header_line (codes "aag ") net ∷ rows) (symbols named);
+      after_keyword = flat_map-append (λ line. line ++ 10 ∷ []) (first_line net ∷ rows) (symbols named);
+    }
 
 pub names_on_lines : (named : Named) → IsPrintable named → All IsSymbol (symbols named)
 names_on_lines named good =
@@ -209,47 +241,15 @@ names_on_lines named good =
 pub symbols_on_lines : (named : Named) → IsPrintable named → All IsLine (symbols named)
 symbols_on_lines named good = λ k d h. (names_on_lines named good k d h).0
 
-pub header_on_line : (net : Net) → IsWithinLimits net → IsLine (first_line net)
-header_on_line net within = IsLine-numbers_line (printed_numbers net) (wider (printed_numbers net) (numbers_small false net within))
-
-pub keyword_on_line : (binary : Bool) → IsLine (keyword binary)
-keyword_on_line false =
-    let P : ℕ → Type 0 = λ byte. is_line_feed byte ≡ false in
-    All-cons P 97 (97 ∷ 103 ∷ 32 ∷ []) refl (All-cons P 97 (103 ∷ 32 ∷ []) refl (All-cons P 103 (32 ∷ []) refl (All-cons P 32 [] refl (All-nil P))))
-keyword_on_line true =
-    let P : ℕ → Type 0 = λ byte. is_line_feed byte ≡ false in
-    All-cons P 97 (105 ∷ 103 ∷ 32 ∷ []) refl (All-cons P 105 (103 ∷ 32 ∷ []) refl (All-cons P 103 (32 ∷ []) refl (All-cons P 32 [] refl (All-nil P))))
-
 pub lines_of : (parts : List (List ℕ)) → All IsLine parts → lines (text_of_lines parts) ≡ parts
 lines_of parts all =
     ap lines (sym (append-nil (text_of_lines parts))) ∙ lines-text_of_lines parts [] all ∙ append-nil parts
-
-body_on_lines : (named : Named) → IsPrintable named → All IsLine (body_of named)
-body_on_lines named good =
-    All-append IsLine (map numbers_line (aag_rows named.graph)) (symbols named) (rows_on_lines false named.graph good.within (aag_rows named.graph) (rows_fit named.graph good.within.ordered)) (symbols_on_lines named good)
-
-lines_are : (named : Named) → IsPrintable named → lines (aag_text named) ≡ aag_lines named
-lines_are named good =
-    let P : ℕ → Type 0 = λ byte. is_line_feed byte ≡ false in
-    let head = All-append P (codes "aag ") (first_line named.graph) (keyword_on_line false) (header_on_line named.graph good.within) in
-    lines_of (aag_lines named) (All-cons IsLine (header_line (codes "aag ") named.graph) (body_of named) head (body_on_lines named good))
-
--- the first line after the keyword
-line_is : (named : Named) → IsPrintable named → line_after (aag_text named) ≡ first_line named.graph
-line_is named good =
-    ap (λ (ls : List (List ℕ)). get_or ls 0 []) (lines_of (first_line named.graph ∷ body_of named) (All-cons IsLine (first_line named.graph) (body_of named) (header_on_line named.graph good.within) (body_on_lines named good)))
-
-aag_body : (named : Named) → IsPrintable named → IsBody (aag_text named) (aag_header named.graph) (aag_rows named.graph)
-aag_body named good =
-    let net = named.graph in
-    rows_are_body false net good.within (aag_rows net) (rows_fit net good.within.ordered) (aag_text named) (symbols named) (ap (drop 1) (lines_are named good))
-    (subst (λ (vs : List ℕ). AllPairs (λ one other. one ≢ other) vs) (sym (variables_are net good.within.ordered)) (range_distinct 1 (greatest_of net)))
 
 -- a literal in range is known
 known : (net : Net) (literal : ℕ) → IsOrdered net → literal ≤ 2 * greatest_of net + 1 → IsKnown (defined (roles_of (aag_header net)) (aag_rows net)) literal
 known net literal ordered low some =
     let m = greatest_of net in
-    subst (λ (vs : List ℕ). Contains vs (literal / 2)) (sym (variables_are net ordered))
+    subst (λ (vs : List ℕ). Contains vs (literal / 2)) (sym (aag_section net ordered).defines)
     (range_contains 1 m (literal / 2) (omega (arith, some)) (omega (arith, low, mul-div-le literal 2)))
 
 read_in_range : (role : Role) (row : List ℕ) (m : ℕ) → All (λ literal. literal ≤ m) row → All (λ literal. literal ≤ m) (reads role row)
@@ -260,7 +260,7 @@ read_in_range GateLine row m all = All-drop (λ literal. literal ≤ m) 1 row al
 aag_known : (net : Net) → IsWithinLimits net → (k : ℕ) → k < length (aag_rows net) → IsKnownRow (aag_header net) (aag_rows net) k
 aag_known net within k h i d there =
     let role = role_at (aag_header net) k in
-    let fit = fit_at (greatest_of net) (roles_of (aag_header net)) (aag_rows net) k (rows_fit net within.ordered) h in
+    let fit = fit_at (greatest_of net) (roles_of (aag_header net)) (aag_rows net) k (aag_section net within.ordered).fits h in
     known net (get_or (reads role (get_or (aag_rows net) k [])) i d) within.ordered (read_in_range role (get_or (aag_rows net) k []) (2 * greatest_of net + 1) fit.in_range i d there)
 
 abbrev pub circuit_of : ℕ → List Def → List Lit → Circuit
@@ -269,7 +269,7 @@ circuit_of n defs outputs = record { inputs = n; defs = defs; outputs = outputs 
 aag_circuit : (net : Net) → IsOrdered net → as_circuit net ≡ text_circuit (aag_header net) (aag_rows net)
 aag_circuit net ordered =
     let m = greatest_of net in
-    let few = fit_length m (input_roles net) (ins net) (inputs_fit net) ∙ length-replicate net.inputs Input in
+    let few : length (ins net) ≡ net.inputs = length-map-range_with_len input_row 0 net.inputs in
     let also : length (outs net) ≡ length net.outputs = length-map net.outputs output_row in
     let gate_part : drop (net.inputs + length net.outputs) (aag_rows net) ≡ gates net =
     ap (drop (net.inputs + length net.outputs)) (sym (append_assoc (ins net) (outs net) (gates net)))
@@ -277,7 +277,7 @@ aag_circuit net ordered =
     let out_part : take (length net.outputs) (drop net.inputs (aag_rows net)) ≡ outs net =
     ap (take (length net.outputs)) (rows_after net.inputs (ins net) (outs net ++ gates net) few)
     ∙ rows_before (length net.outputs) (outs net) (gates net) also in
-    let variables = variables_are net ordered in
+    let variables = (aag_section net ordered).defines in
     let defs : map (and_on (defined (roles_of (aag_header net)) (aag_rows net))) (drop (net.inputs + length net.outputs) (aag_rows net)) ≡ map gate_def net.gates =
     ap (λ (vs : List ℕ). map (and_on vs) (drop (net.inputs + length net.outputs) (aag_rows net))) variables
     ∙ ap (map (and_on (range_with_len 1 m))) gate_part
@@ -288,20 +288,6 @@ aag_circuit net ordered =
     ∙ outputs_same m net.outputs (outputs_read net ordered) in
     sym (ap (λ (ds : List Def). circuit_of net.inputs ds (map (λ row. literal_of (defined (roles_of (aag_header net)) (aag_rows net)) (first_of row)) (take (length net.outputs) (drop net.inputs (aag_rows net))))) defs
     ∙ ap (circuit_of net.inputs (map gate_def net.gates)) outputs)
-
--- what stands after a first part of the lines
-pub text_after : (bytes : List ℕ) (front back : List (List ℕ)) (k : ℕ) → bytes ≡ text_of_lines (front ++ back) → lines bytes ≡ front ++ back → length front ≡ k → text_of_lines back ≡ drop (line_offset bytes k) bytes
-text_after bytes front back k text whole count =
-    let first : take k (lines bytes) ≡ front = ap (take k) whole ∙ rows_before k front back count in
-    let split = text ∙ flat_map-append (λ line. line ++ 10 ∷ []) front back in
-    sym (ap (λ (ls : List (List ℕ)). drop (length (text_of_lines ls)) bytes) first
-    ∙ ap (drop (length (text_of_lines front))) split
-    ∙ drop-append_seam (text_of_lines front) (text_of_lines back))
-
-aag_rest : (named : Named) → IsPrintable named → text_of_lines (symbols named) ≡ drop (line_offset (aag_text named) (1 + length (aag_rows named.graph))) (aag_text named)
-aag_rest named good =
-    let rows = map numbers_line (aag_rows named.graph) in
-    text_after (aag_text named) (header_line (codes "aag ") named.graph ∷ rows) (symbols named) (1 + length (aag_rows named.graph)) refl (lines_are named good) (omega (arith, length-map (aag_rows named.graph) numbers_line))
 
 -- the symbols give each port its name
 pub symbols_read : (named : Named) → IsPrintable named → AreNames named.graph.inputs (length named.graph.outputs) (text_of_lines (symbols named)) named.input_names named.output_names
@@ -327,19 +313,23 @@ symbols_read named good =
     inputs_before (name ∷ names) position = All-cons (IsBefore OutputPort 0) (port_at InputPort position, name) (entries_from InputPort (position + 1) names) (λ clash. absurd (cc clash)) (inputs_before names (position + 1))
 
 pub aag_is : (named : Named) → IsPrintable named → IsAiger (aag_text named) (as_circuit named.graph) named.input_names named.output_names
-aag_is named good = record {
-  h = aag_header named.graph;
-  rest = text_of_lines (symbols named);
-  netlist = record {
-    begins = begins_with false named.graph good.within (aag_text named) refl (line_is named good);
-    rows = aag_rows named.graph;
-    body = aag_body named good;
-    form = record {
-      known = aag_known named.graph good.within;
-      same = aag_circuit named.graph good.within.ordered;
-      after = aag_rest named good;
-    };
-  };
-  acyclic = as_circuit-acyclic named.graph good.within.ordered;
-  names = symbols_read named good;
-}
+aag_is named good =
+    let net = named.graph in
+    let rest = text_of_lines (symbols named) in
+    let file = aag_file named good in
+    record {
+      h = aag_header net;
+      rest = rest;
+      netlist = record {
+        begins = file_begins false net good.within (aag_rows net) rest (aag_text named) file;
+        rows = aag_rows net;
+        body = file_body false net good.within (aag_rows net) rest (aag_text named) file;
+        form = record {
+          known = aag_known net good.within;
+          same = aag_circuit net good.within.ordered;
+          after = file_rest false net good.within (aag_rows net) rest (aag_text named) file;
+        };
+      };
+      acyclic = as_circuit-acyclic net good.within.ordered;
+      names = symbols_read named good;
+    }

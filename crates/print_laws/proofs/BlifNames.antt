@@ -5,7 +5,7 @@ use Rattle.std.specs.List.{range_with_len, position_or_len, list_any}
 use Rattle.std.specs.Str.{bytes_eq}
 use Rattle.std.proofs.lemmas.Bool.{cases_lt, ne_eqb, le-ltb, lt-ltb}
 use Rattle.std.proofs.lemmas.Slice.Eq.{bytes_eq-Decides}
-use Rattle.std.proofs.lemmas.List.{length-append}
+use Rattle.std.proofs.lemmas.List.{append-nil, length-append}
 use Rattle.std.proofs.lemmas.List.Elements.{All-nil, All-cons, All-head, All-tail}
 use Rattle.std.proofs.lemmas.List.FromFn.{length-map-range_with_len}
 use Rattle.text_core.specs.Numbers.{number}
@@ -105,17 +105,13 @@ module _ (n g m : ℕ) (few : n + g + m < 2 ^ 32) where
   output_place k h =
       let w = name 111 k in
       let here : k ≡ 0 + k = omega arith in
-      let end : names 111 0 m ≡ names 111 0 m ++ [] = sym (nil_at_end (names 111 0 m)) in
+      let end : names 111 0 m ≡ names 111 0 m ++ [] = sym (append-nil (names 111 0 m)) in
       let outputs : position_or_len (bytes_eq w) (names 111 0 m) ≡ k =
       ap (λ x. position_or_len (bytes_eq (name 111 x)) (names 111 0 m)) here
       ∙ ap (position_or_len (bytes_eq (name 111 (0 + k)))) end
       ∙ place_there 111 0 m k [] (omega (arith, few)) h in
       let constant : position_or_len (bytes_eq w) (defined_names g m) ≡ 1 + position_or_len (bytes_eq w) (names 103 0 g ++ names 111 0 m) = refl in
       omega (arith, place_after w (names 105 0 n) (defined_names g m) (other_letters w 105 0 n (λ x. refl)), place_after w (names 103 0 g) (names 111 0 m) (other_letters w 103 0 g (λ x. refl)), length-names 105 0 n, length-names 103 0 g, constant, outputs)
-    where
-      nil_at_end : (xs : List (List ℕ)) → xs ++ [] ≡ xs
-      nil_at_end [] = refl
-      nil_at_end (x ∷ xs) = ap (λ l. x ∷ l) (nil_at_end xs)
 
   -- the number that a signal's name has in the file
   pub signal_place : (s : ℕ) → s < 1 + n + g → 1 + position_or_len (bytes_eq (signal_name n s)) (all_names n g m) ≡ printed_signal n s

@@ -1,16 +1,16 @@
 -- A printed BLIF file is read as the netlist that it is a text of.
-use Rattle.std.proofs.Common.{◌≡◌, ℕ, zero, suc, ◌+◌, ◌-◌, ◌^◌, ◌<◌, ◌≤◌, ◌==◌, ◌&&◌, ◌||◌, Bool, true, false, not, List, [], ◌∷◌, ◌++◌, length, map, take, drop, get_or, codes, nat_lt, if◌then◌else◌, All, refl, sym, ap, subst, ◌∙◌, append_assoc, take-append-drop, inl, inr, arith, append-nil}
+use Rattle.std.proofs.Common.{◌≡◌, ℕ, zero, suc, ◌+◌, ◌-◌, ◌^◌, ◌<◌, ◌≤◌, ◌==◌, ◌&&◌, ◌||◌, Bool, true, false, not, List, [], ◌∷◌, ◌++◌, length, map, take, drop, get_or, codes, nat_lt, if◌then◌else◌, All, refl, sym, ap, ap₂, subst, ◌∙◌, append_assoc, take-append-drop, inl, inr, arith, append-nil}
 use Rattle.std.specs.Fmt.{decimal}
 use Rattle.std.specs.Int.{IsInRange}
 use Rattle.std.specs.List.{range_with_len, position_or_len, list_any, list_all, sum_by, join_with_byte}
 use Rattle.std.specs.Str.{bytes_eq}
-use Rattle.std.proofs.lemmas.Bool.{cases_lt, and_parts}
+use Rattle.std.proofs.lemmas.Bool.{cases_lt}
 use Rattle.std.proofs.lemmas.Bool.Decides.{nat_tests}
 use Rattle.std.proofs.lemmas.Fmt.{digits_decimal}
 use Rattle.std.proofs.lemmas.Str.Parse.{digit_at}
 use Rattle.std.proofs.lemmas.List.{map-append, take-map, get_or-map, get_or_append_left, get_or-append-add, length-map, length-append, length-take}
 use Rattle.std.proofs.lemmas.List.Folds.{list_any-append}
-use Rattle.std.proofs.lemmas.List.Sums.{sum_by-cons}
+use Rattle.std.proofs.lemmas.List.Sums.{sum_by-cons, AllPass-from_list_all}
 use Rattle.std.proofs.lemmas.List.Elements.{All-nil, All-cons, All-head, All-tail, All-append, All-from_get_or}
 use Rattle.std.proofs.lemmas.List.FromFn.{map-range_with_len_more, get_or-map-range_with_len}
 use Rattle.text_core.specs.Bytes.{is_blank, is_line_feed}
@@ -33,16 +33,17 @@ use Rattle.blif_reader.specs.Names.{same_name, named_ports, port_words, words_of
 use Rattle.blif_reader.specs.Faults.{has_line, is_faulty, AreDeclared, AreDistinct, AreDefinedOnce, AreKnown}
 use Rattle.blif_reader.specs.Covers.{signal_names, literal_named, cover_of, covers_of}
 use Rattle.blif_reader.specs.Building.{IsKnownIn}
-use Rattle.blif_reader.specs.Blif.{AreBlif, IsBlif}
+use Rattle.blif_reader.specs.Blif.{AreBlif, IsBlif, blif_lines}
 use Rattle.blif_reader.proofs.NumberLemmas.{list_any-map, repeats_named, words_of_kind-append}
 use Rattle.blif_reader.proofs.BlifLemmas.{all_known, port_names-bytes}
-use Rattle.net_print.specs.BlifLines.{row_byte, signal_name, gate_name, output_name, input_name, gates_lines, outputs_lines, blif_words, blif_text}
+use Rattle.net_print.specs.BlifLines.{row_byte, signal_name, gate_name, output_name, input_name, declarations, words_text, blif_text}
 use Rattle.print_laws.specs.Printable.{IsWithinLimits}
 use Rattle.print_laws.specs.PrintedCircuits.{gate_cover, output_cover, printed_signal, printed_circuit}
-use Rattle.print_laws.proofs.PrintedMeaning.{constant_signal, input_signal, gate_signal, printed_acyclic}
+use Rattle.print_laws.proofs.PrintedMeaning.{signal_below, printed_acyclic}
 use Rattle.print_laws.proofs.BlifWords.{IsPlainByte, IsPlain, IsPlainLine, lined, blif_lines_are}
 use Rattle.print_laws.proofs.BlifNames.{name, names, defined_names, all_names, length-names, apart_names, constant_place, gate_place, output_place, signal_place, known_name, none_before}
-use Rattle.print_laws.proofs.BlifLines.{none_ahead_gates, none_ahead_outputs, none_ahead_end, IsPlaced, IsGatePlaced, covers_gates, covers_outputs, no_ports_in_gates, no_ports_in_outputs, defined_in_gates, defined_in_outputs, HoldsOf, HoldsOfGate, read_in_gates, read_in_outputs, NoneFrom, none_from, sound_gates, sound_outputs, sound_end}
+use Rattle.print_laws.proofs.PrintedCovers.{Printed, OfGate, OfOutput, name_of, def_of, names_words, row_words, covers_lines, numbered, printed_covers, map_numbered, names_numbered, ReadsBelow, covers_read, words_are}
+use Rattle.print_laws.proofs.BlifLines.{covers_at, none_ahead, ArePlaced, covers_are, no_ports, defined_are, HoldsBelow, read_hold, NoneFrom, none_from, sound_covers}
 
 bytes_placed : (at : ℕ) (ws : List (List ℕ)) → map (λ (w : Piece). w.bytes) (placed at ws) ≡ ws
 bytes_placed at [] = refl
@@ -180,7 +181,10 @@ sum_gates n (gate ∷ gates) outputs =
     omega (arith, sum_by-cons def_gates (gate_cover n gate) (map (gate_cover n) gates ++ map (output_cover n) outputs), gate_count (printed_signal n (signal_of gate.a) ∷ printed_signal n (signal_of gate.b) ∷ []) (is_negated gate.a) (is_negated gate.b), sum_gates n gates outputs)
 
 -- words of bytes that stand for themselves
-plain_byte : (byte : ℕ) → (not (is_blank byte) && (not (is_line_feed byte) && (not (is_comment_sign byte) && not (byte == 92)))) ≡ true → IsPlainByte byte
+abbrev is_plain : ℕ → Bool
+is_plain byte = not (is_blank byte) && (not (is_line_feed byte) && (not (is_comment_sign byte) && not (byte == 92)))
+
+plain_byte : (byte : ℕ) → is_plain byte ≡ true → IsPlainByte byte
 plain_byte byte h = by_tests (is_blank byte) (is_line_feed byte) (is_comment_sign byte) (byte == 92) refl refl refl refl h
   where
     by_tests : (a b c d : Bool) → is_blank byte ≡ a → is_line_feed byte ≡ b → is_comment_sign byte ≡ c → (byte == 92) ≡ d → (not a && (not b && (not c && not d))) ≡ true → IsPlainByte byte
@@ -195,20 +199,13 @@ decimal_plain n h =
     let digits = numerals.to (decimal n) (digits_decimal numerals n h) in
     All-from_get_or IsPlainByte (decimal n) 0 (λ i below. digit_plain _ (digit_at (decimal n) i digits below))
 
--- every byte of the word passes
-abbrev tests_plain : List ℕ → Bool
-tests_plain word = list_all (λ byte. not (is_blank byte) && (not (is_line_feed byte) && (not (is_comment_sign byte) && not (byte == 92)))) word
+all_plain : (word : List ℕ) → list_all is_plain word ≡ true → All IsPlainByte word
+all_plain word h k d below = plain_byte (get_or word k d) (AllPass-from_list_all is_plain word h k d below)
 
-all_plain : (word : List ℕ) → tests_plain word ≡ true → All IsPlainByte word
-all_plain [] h = All-nil IsPlainByte
-all_plain (byte ∷ word) h =
-    let both = and_parts (not (is_blank byte) && (not (is_line_feed byte) && (not (is_comment_sign byte) && not (byte == 92)))) (tests_plain word) h in
-    All-cons IsPlainByte byte word (plain_byte byte both.0) (all_plain word both.1)
-
-word_plain : (word : List ℕ) → 0 < length word → tests_plain word ≡ true → IsPlain word
+word_plain : (word : List ℕ) → 0 < length word → list_all is_plain word ≡ true → IsPlain word
 word_plain word some h = record { filled = some; plain = all_plain word h }
 
-name_plain : (letter n : ℕ) → tests_plain (letter ∷ []) ≡ true → n < 2 ^ 64 → IsPlain (name letter n)
+name_plain : (letter n : ℕ) → list_all is_plain (letter ∷ []) ≡ true → n < 2 ^ 64 → IsPlain (name letter n)
 name_plain letter n h few = record {
   filled = omega arith;
   plain = All-cons IsPlainByte letter (decimal n) (All-head IsPlainByte letter [] (all_plain (letter ∷ []) h)) (decimal_plain n few);
@@ -238,80 +235,71 @@ line_of word words first rest = record { some = omega arith; all = All-cons IsPl
 row_plain : (word : List ℕ) → IsPlain word → IsPlainLine (word ∷ codes "1" ∷ [])
 row_plain word plain = line_of word (codes "1" ∷ []) plain (All-cons IsPlain (codes "1") [] (word_plain (codes "1") (omega arith) refl) (All-nil IsPlain))
 
-names_plain : (letter a n : ℕ) → tests_plain (letter ∷ []) ≡ true → a + n < 2 ^ 32 → All IsPlain (names letter a n)
+names_plain : (letter a n : ℕ) → list_all is_plain (letter ∷ []) ≡ true → a + n < 2 ^ 32 → All IsPlain (names letter a n)
 names_plain letter a zero h few = All-nil IsPlain
 names_plain letter a (suc n) h few = All-cons IsPlain (name letter a) (names letter (a + 1) n) (name_plain letter a h (omega (arith, few))) (names_plain letter (a + 1) n h (omega (arith, few)))
 
 names_line_plain : (words : List (List ℕ)) → All IsPlain words → IsPlainLine (codes ".names" ∷ words)
 names_line_plain words all = line_of (codes ".names") words (word_plain (codes ".names") (omega arith) refl) all
 
-abbrev SmallGate : Gate → Type 0
-SmallGate gate = (signal_of gate.a < 2 ^ 32) × (signal_of gate.b < 2 ^ 32)
+-- the lines of a cover
+record ArePlainLines (n : ℕ) (cover : Printed) : Type 0 where
+  names_line : IsPlainLine (names_words n cover)
+  row_line : IsPlainLine (row_words cover)
 
-gates_plain : (n t : ℕ) (gates : List Gate) → n < 2 ^ 32 → t + length gates < 2 ^ 32 → All SmallGate gates → All IsPlainLine (gates_lines n t gates)
-gates_plain n t [] few short small = All-nil IsPlainLine
-gates_plain n t (gate ∷ gates) few short small =
-    let both = All-head SmallGate gate gates small in
-    let left = signal_name n (signal_of gate.a) in
+cover_plain : (n bound : ℕ) (cover : Printed) → n < 2 ^ 32 → bound ≤ 2 ^ 32 → ReadsBelow bound cover → ArePlainLines n cover
+cover_plain n bound (OfGate t gate) few small reads =
     let right = signal_name n (signal_of gate.b) in
-    let words = All-cons IsPlain left (right ∷ gate_name t ∷ []) (signal_plain n (signal_of gate.a) (omega (arith, both.0)) few)
-    (All-cons IsPlain right (gate_name t ∷ []) (signal_plain n (signal_of gate.b) (omega (arith, both.1)) few)
-    (All-cons IsPlain (gate_name t) [] (name_plain 103 t refl (omega (arith, short))) (All-nil IsPlain))) in
-    let row = (row_byte gate.a ∷ row_byte gate.b ∷ []) ∷ codes "1" ∷ [] in
-    All-cons IsPlainLine (codes ".names" ∷ left ∷ right ∷ gate_name t ∷ []) (row ∷ gates_lines n (t + 1) gates) (names_line_plain (left ∷ right ∷ gate_name t ∷ []) words)
-    (All-cons IsPlainLine row (gates_lines n (t + 1) gates) (row_plain (row_byte gate.a ∷ row_byte gate.b ∷ []) (two_plain (is_negated gate.a) (is_negated gate.b)))
-    (gates_plain n (t + 1) gates few (omega (arith, short)) (All-tail SmallGate gate gates small)))
+    let own = All-cons IsPlain (gate_name t) [] (name_plain 103 t refl (omega (arith, reads.0))) (All-nil IsPlain) in
+    let operands = All-cons IsPlain right (gate_name t ∷ []) (signal_plain n (signal_of gate.b) (omega (arith, reads.2, small)) few) own in
+    let all = All-cons IsPlain (signal_name n (signal_of gate.a)) (right ∷ gate_name t ∷ []) (signal_plain n (signal_of gate.a) (omega (arith, reads.1, small)) few) operands in
+    record {
+      names_line = names_line_plain (signal_name n (signal_of gate.a) ∷ right ∷ gate_name t ∷ []) all;
+      row_line = row_plain (row_byte gate.a ∷ row_byte gate.b ∷ []) (two_plain (is_negated gate.a) (is_negated gate.b));
+    }
+cover_plain n bound (OfOutput k output) few small reads =
+    let own = All-cons IsPlain (output_name k) [] (name_plain 111 k refl (omega (arith, reads.0))) (All-nil IsPlain) in
+    let all = All-cons IsPlain (signal_name n (signal_of output)) (output_name k ∷ []) (signal_plain n (signal_of output) (omega (arith, reads.1, small)) few) own in
+    record {
+      names_line = names_line_plain (signal_name n (signal_of output) ∷ output_name k ∷ []) all;
+      row_line = row_plain (row_byte output ∷ []) (one_plain (is_negated output));
+    }
 
-outputs_plain : (n k : ℕ) (outputs : List Lit) → n < 2 ^ 32 → k + length outputs < 2 ^ 32 → All (λ output. signal_of output < 2 ^ 32) outputs → All IsPlainLine (outputs_lines n k outputs)
-outputs_plain n k [] few short small = All-nil IsPlainLine
-outputs_plain n k (output ∷ outputs) few short small =
-    let P : Lit → Type 0 = λ output. signal_of output < 2 ^ 32 in
-    let left = signal_name n (signal_of output) in
-    let words = All-cons IsPlain left (output_name k ∷ []) (signal_plain n (signal_of output) (omega (arith, All-head P output outputs small)) few)
-    (All-cons IsPlain (output_name k) [] (name_plain 111 k refl (omega (arith, short))) (All-nil IsPlain)) in
-    let row = (row_byte output ∷ []) ∷ codes "1" ∷ [] in
-    All-cons IsPlainLine (codes ".names" ∷ left ∷ output_name k ∷ []) (row ∷ outputs_lines n (k + 1) outputs) (names_line_plain (left ∷ output_name k ∷ []) words)
-    (All-cons IsPlainLine row (outputs_lines n (k + 1) outputs) (row_plain (row_byte output ∷ []) (one_plain (is_negated output)))
-    (outputs_plain n (k + 1) outputs few (omega (arith, short)) (All-tail P output outputs small)))
+covers_plain : (n bound : ℕ) (covers : List Printed) → n < 2 ^ 32 → bound ≤ 2 ^ 32 → All (ReadsBelow bound) covers → All IsPlainLine (covers_lines n covers)
+covers_plain n bound [] few small reads =
+    let last = line_of (codes ".end") [] (word_plain (codes ".end") (omega arith) refl) (All-nil IsPlain) in
+    All-cons IsPlainLine (codes ".end" ∷ []) [] last (All-nil IsPlainLine)
+covers_plain n bound (cover ∷ covers) few small reads =
+    let lines = cover_plain n bound cover few small (All-head (ReadsBelow bound) cover covers reads) in
+    All-cons IsPlainLine (names_words n cover) (row_words cover ∷ covers_lines n covers) lines.names_line
+    (All-cons IsPlainLine (row_words cover) (covers_lines n covers) lines.row_line
+    (covers_plain n bound covers few small (All-tail (ReadsBelow bound) cover covers reads)))
 
--- the lines after the declarations
-abbrev body : Net → List (List (List ℕ))
-body net = gates_lines net.inputs 0 net.gates ++ (outputs_lines net.inputs 0 net.outputs ++ (codes ".end" ∷ []) ∷ [])
+-- the lines of the file
+abbrev file_lines : Net → List (List (List ℕ))
+file_lines net = declarations net ++ covers_lines net.inputs (printed_covers net)
 
-all_lines_plain : (net : Net) → IsWithinLimits net → All IsPlainLine (blif_words net)
-all_lines_plain net within =
+file_plain : (net : Net) → IsWithinLimits net → All IsPlainLine (file_lines net)
+file_plain net within =
     let n = net.inputs in
     let m = length net.outputs in
-    let few : n < 2 ^ 32 = omega (arith, within.inputs) in
     let inputs = codes ".inputs" ∷ names 105 0 n in
     let outputs = codes ".outputs" ∷ names 111 0 m in
-    let gates = gates_plain n 0 net.gates few (omega (arith, within.gates)) (λ t d h. (omega (arith, within.ordered.first_operands t d h, within.inputs, within.gates, h), omega (arith, within.ordered.second_operands t d h, within.inputs, within.gates, h))) in
-    let covers = outputs_plain n 0 net.outputs few (omega (arith, within.outputs)) (λ k d h. omega (arith, within.ordered.outputs k d h, within.inputs, within.gates)) in
-    let last = line_of (codes ".end") [] (word_plain (codes ".end") (omega arith) refl) (All-nil IsPlain) in
-    let end = All-cons IsPlainLine (codes ".end" ∷ []) [] last (All-nil IsPlainLine) in
-    let after = All-append IsPlainLine (gates_lines n 0 net.gates) (outputs_lines n 0 net.outputs ++ (codes ".end" ∷ []) ∷ []) gates
-    (All-append IsPlainLine (outputs_lines n 0 net.outputs) ((codes ".end" ∷ []) ∷ []) covers end) in
+    let constant = codes ".names" ∷ codes "z" ∷ [] in
+    let after = covers_lines n (printed_covers net) in
+    let covers = covers_plain n (1 + n + length net.gates) (printed_covers net) (omega (arith, within.inputs)) (omega (arith, within.inputs, within.gates)) (covers_read net within) in
     let model = line_of (codes ".model") (codes "npnp" ∷ []) (word_plain (codes ".model") (omega arith) refl) (All-cons IsPlain (codes "npnp") [] (word_plain (codes "npnp") (omega arith) refl) (All-nil IsPlain)) in
     let input_line = line_of (codes ".inputs") (names 105 0 n) (word_plain (codes ".inputs") (omega arith) refl) (names_plain 105 0 n refl (omega (arith, within.inputs))) in
     let output_line = line_of (codes ".outputs") (names 111 0 m) (word_plain (codes ".outputs") (omega arith) refl) (names_plain 111 0 m refl (omega (arith, within.outputs))) in
-    let constant = names_line_plain (codes "z" ∷ []) (All-cons IsPlain (codes "z") [] (word_plain (codes "z") (omega arith) refl) (All-nil IsPlain)) in
-    All-cons IsPlainLine (codes ".model" ∷ codes "npnp" ∷ []) (inputs ∷ outputs ∷ (codes ".names" ∷ codes "z" ∷ []) ∷ body net) model
-    (All-cons IsPlainLine inputs (outputs ∷ (codes ".names" ∷ codes "z" ∷ []) ∷ body net) input_line
-    (All-cons IsPlainLine outputs ((codes ".names" ∷ codes "z" ∷ []) ∷ body net) output_line
-    (All-cons IsPlainLine (codes ".names" ∷ codes "z" ∷ []) (body net) constant after)))
+    let constant_line = names_line_plain (codes "z" ∷ []) (All-cons IsPlain (codes "z") [] (word_plain (codes "z") (omega arith) refl) (All-nil IsPlain)) in
+    All-cons IsPlainLine (codes ".model" ∷ codes "npnp" ∷ []) (inputs ∷ outputs ∷ constant ∷ after) model
+    (All-cons IsPlainLine inputs (outputs ∷ constant ∷ after) input_line
+    (All-cons IsPlainLine outputs (constant ∷ after) output_line
+    (All-cons IsPlainLine constant after constant_line covers)))
 
 -- a signal's name is among the names
 known_below : (n g m : ℕ) → n + g + m < 2 ^ 32 → (s : ℕ) → s < 1 + n + g → position_or_len (bytes_eq (signal_name n s)) (all_names n g m) < 1 + n + g + m
-known_below n g m few s h =
-    elim (cases_lt n s) [
-      | inl many ↦ omega (arith, signal_place n g m few s h, gate_signal n s many, h)
-      | inr few_inputs ↦ elim (cases_lt 0 s) [
-        | inl some ↦ omega (arith, signal_place n g m few s h, input_signal n s some few_inputs, h)
-        | inr none ↦
-            let constant : s ≡ 0 = omega (arith, none) in
-            omega (arith, signal_place n g m few s h, ap (printed_signal n) constant, constant_signal n)
-      ]
-    ]
+known_below n g m few s h = omega (arith, signal_place n g m few s h, signal_below n s (1 + n + g) h (omega arith))
 
 -- a word is one of the names
 abbrev IsFileName : Net → Piece → Type 0
@@ -323,43 +311,38 @@ record Says (net : Net) (lines : List (List Piece)) : Type 0 where
   output_place : ℕ
   ports : port_words lines ≡ named_ports Input (placed input_place (names 105 0 net.inputs)) ++ (named_ports Output (placed output_place (names 111 0 (length net.outputs))) ++ [])
   defined : map (λ (w : Piece). w.bytes) (defined_words lines) ≡ defined_names (length net.gates) (length net.outputs)
-  read : All (IsFileName net) (placed output_place (names 111 0 (length net.outputs))) → All (HoldsOfGate (IsFileName net) net.inputs) net.gates → All (HoldsOf (IsFileName net) net.inputs) net.outputs → All (IsFileName net) (read_words lines)
-  covers : (all : List (List ℕ)) → All (IsGatePlaced net.inputs all) net.gates → All (IsPlaced net.inputs all) net.outputs → covers_of all lines ≡ (printed_circuit net).defs
+  read : All (IsFileName net) (placed output_place (names 111 0 (length net.outputs))) → HoldsBelow (IsFileName net) net.inputs (1 + net.inputs + length net.gates) → All (IsFileName net) (read_words lines)
+  covers : (all : List (List ℕ)) → ArePlaced net.inputs (1 + net.inputs + length net.gates) all → covers_of all lines ≡ (printed_circuit net).defs
   sound : NoneIs is_faulty lines
   has_inputs : has_line is_inputs lines ≡ true
   has_outputs : has_line is_outputs lines ≡ true
 
-end_says_nothing : (all : List (List ℕ)) (at : ℕ) → covers_of all (lined at ((codes ".end" ∷ []) ∷ [])) ≡ []
-end_says_nothing all at = refl
-
-says : (net : Net) → Says net (lined 0 (blif_words net))
-says net =
+says : (net : Net) → IsWithinLimits net → Says net (lined 0 (file_lines net))
+says net within =
     let n = net.inputs in
     let m = length net.outputs in
-    let g = length net.gates in
-    let end = (codes ".end" ∷ []) ∷ [] in
-    let rest = outputs_lines n 0 net.outputs ++ end in
+    let bound = 1 + n + length net.gates in
+    let covers = printed_covers net in
+    let reads = covers_read net within in
+    let gates = numbered OfGate 0 net.gates in
+    let others = numbered OfOutput 0 net.outputs in
     let i = 0 + length (join_with_byte 32 (codes ".model" ∷ codes "npnp" ∷ [])) + 1 in
     let o = i + length (join_with_byte 32 (codes ".inputs" ∷ names 105 0 n)) + 1 in
     let z = o + length (join_with_byte 32 (codes ".outputs" ∷ names 111 0 m)) + 1 in
     let b = z + length (join_with_byte 32 (codes ".names" ∷ codes "z" ∷ [])) + 1 in
     let inputs = placed (i + length (codes ".inputs") + 1) (names 105 0 n) in
     let outputs = placed (o + length (codes ".outputs") + 1) (names 111 0 m) in
+    let left = covers_at n covers b in
     record {
       input_place = i + length (codes ".inputs") + 1;
       output_place = o + length (codes ".outputs") + 1;
-      ports = ap (λ ps. named_ports Input inputs ++ (named_ports Output outputs ++ ps)) (no_ports_in_gates n 0 net.gates rest (no_ports_in_outputs n 0 net.outputs end (λ at. refl)) b);
-      defined = ap (λ ws. codes "z" ∷ ws) (defined_in_gates n 0 net.gates rest (names 111 0 m) (λ at. defined_in_outputs n 0 net.outputs end [] (λ at. refl) at ∙ append-nil (names 111 0 m)) b);
-      read = λ own gates covers.
-          let P : Piece → Type 0 = IsFileName net in
-          All-append P outputs (read_words (lined b (gates_lines n 0 net.gates ++ rest))) own
-          (read_in_gates P n 0 net.gates rest gates (read_in_outputs P n 0 net.outputs end covers (λ at. All-nil P)) b);
-      covers = λ all gates covers.
-          let none = none_ahead_gates n 0 net.gates rest (none_ahead_outputs n 0 net.outputs end none_ahead_end) b in
-          let left = lined b (gates_lines n 0 net.gates ++ rest) in
-          ap (λ rs. cover_of all (placed z (codes ".names" ∷ codes "z" ∷ [])) rs ∷ covers_of all left) none
-          ∙ ap (λ ds. Cover [] [] true ∷ ds) (covers_gates all n 0 net.gates rest (map (output_cover n) net.outputs) gates (none_ahead_outputs n 0 net.outputs end none_ahead_end) (λ at. covers_outputs all n 0 net.outputs end [] covers none_ahead_end (end_says_nothing all) at ∙ append-nil (map (output_cover n) net.outputs)) b);
-      sound = none_from is_faulty [] (lined 0 (blif_words net)) (λ k d h. absurd (omega (arith, h))) (refl, (refl, (refl, (refl, sound_gates n 0 net.gates rest (sound_outputs n 0 net.outputs end sound_end) b _ refl))));
+      ports = ap (λ ps. named_ports Input inputs ++ (named_ports Output outputs ++ ps)) (no_ports n covers b);
+      defined = ap (λ ws. codes "z" ∷ ws) (defined_are n covers b ∙ map-append name_of gates others ∙ ap₂ (λ (xs ys : List (List ℕ)). xs ++ ys) (names_numbered OfGate 103 0 net.gates (λ t gate. refl)) (names_numbered OfOutput 111 0 net.outputs (λ k output. refl)));
+      read = λ own holds. All-append (IsFileName net) outputs (read_words left) own (read_hold (IsFileName net) n bound covers holds reads b);
+      covers = λ all here.
+          ap (λ rs. cover_of all (placed z (codes ".names" ∷ codes "z" ∷ [])) rs ∷ covers_of all left) (none_ahead n covers b)
+          ∙ ap (λ ds. Cover [] [] true ∷ ds) (covers_are all n bound covers here reads b ∙ map-append (def_of n) gates others ∙ ap₂ (λ (xs ys : List Def). xs ++ ys) (map_numbered OfGate (def_of n) (gate_cover n) 0 net.gates (λ t gate. refl)) (map_numbered OfOutput (def_of n) (output_cover n) 0 net.outputs (λ k output. refl)));
+      sound = none_from is_faulty [] (lined 0 (file_lines net)) (λ k d h. absurd (omega (arith, h))) (refl, (refl, (refl, (refl, sound_covers n covers b _ refl))));
       has_inputs = refl;
       has_outputs = refl;
     }
@@ -384,14 +367,8 @@ are_blif net lines within said =
     let all : signal_names lines ≡ all_names n g m =
     map-append B (input_words lines) (defined_words lines) ∙ ap (λ l. l ++ map B (defined_words lines)) input_bytes ∙ ap (λ l. names 105 0 n ++ l) said.defined in
     let N = all_names n g m in
-    let placed_at : (lit : Lit) → signal_of lit < 1 + n + g → IsPlaced n N lit = λ lit h at. signal_place n g m few (signal_of lit) h in
-    let gates_placed : All (IsGatePlaced n N) net.gates = λ t d h. (placed_at (get_or net.gates t d).a (omega (arith, within.ordered.first_operands t d h, h)), placed_at (get_or net.gates t d).b (omega (arith, within.ordered.second_operands t d h, h))) in
-    let outputs_placed : All (IsPlaced n N) net.outputs = λ k d h. placed_at (get_or net.outputs k d) (within.ordered.outputs k d h) in
-    let known_at : (lit : Lit) → signal_of lit < 1 + n + g → HoldsOf (IsKnownIn N) n lit = λ lit h at. known_name n g m few (signal_name n (signal_of lit)) (known_below n g m few (signal_of lit) h) in
-    let known_words : All (IsKnownIn N) (read_words lines) =
-    said.read (outputs_known n g m 0 m said.output_place few (omega arith))
-    (λ t d h. (known_at (get_or net.gates t d).a (omega (arith, within.ordered.first_operands t d h, h)), known_at (get_or net.gates t d).b (omega (arith, within.ordered.second_operands t d h, h))))
-    (λ k d h. known_at (get_or net.outputs k d) (within.ordered.outputs k d h)) in
+    let here : ArePlaced n (1 + n + g) N = λ s at h. signal_place n g m few s h in
+    let known_words : All (IsKnownIn N) (read_words lines) = said.read (outputs_known n g m 0 m said.output_place few (omega arith)) (λ s at h. known_name n g m few (signal_name n s) (known_below n g m few s h)) in
     let declared : AreDeclared lines = record { sound = said.sound; inputs = said.has_inputs; outputs = said.has_outputs } in
     let once : NoneIs repeats_port (port_words lines) =
     subst (NoneIs repeats_port) (sym said.ports)
@@ -411,7 +388,7 @@ are_blif net lines within said =
     let known : AreKnown lines = all_known lines single (subst (λ ns. All (IsKnownIn ns) (read_words lines)) (sym all) known_words) in
     let count_in : length (input_words lines) ≡ n = ap length inputs_are ∙ length_placed said.input_place (names 105 0 n) ∙ length-names 105 0 n in
     let count_out : length (output_words lines) ≡ m = ap length outputs_are ∙ length_placed said.output_place (names 111 0 m) ∙ length-names 111 0 m in
-    let defs : covers_of (signal_names lines) lines ≡ (printed_circuit net).defs = ap (λ ns. covers_of ns lines) all ∙ said.covers N gates_placed outputs_placed in
+    let defs : covers_of (signal_names lines) lines ≡ (printed_circuit net).defs = ap (λ ns. covers_of ns lines) all ∙ said.covers N here in
     let literals : map (literal_named (signal_names lines)) (output_words lines) ≡ (printed_circuit net).outputs =
     ap (λ ns. map (literal_named ns) (output_words lines)) all ∙ ap (map (literal_named N)) outputs_are ∙ outputs_numbered n g m 0 m said.output_place few (omega arith) in
     let no_gates : def_gates (Cover [] [] true) ≡ 0 = refl in
@@ -429,5 +406,6 @@ are_blif net lines within said =
 
 pub printed_blif : (net : Net) → IsWithinLimits net → IsBlif (blif_text net) (printed_circuit net) (names 105 0 net.inputs) (names 111 0 (length net.outputs))
 printed_blif net within =
-    subst (λ lines. AreBlif lines (printed_circuit net) (names 105 0 net.inputs) (names 111 0 (length net.outputs))) (sym (blif_lines_are (blif_words net) (all_lines_plain net within)))
-    (are_blif net (lined 0 (blif_words net)) within (says net))
+    let lines : blif_lines (blif_text net) ≡ lined 0 (file_lines net) = ap (λ ws. blif_lines (words_text ws)) (words_are net) ∙ blif_lines_are (file_lines net) (file_plain net within) in
+    subst (λ lines. AreBlif lines (printed_circuit net) (names 105 0 net.inputs) (names 111 0 (length net.outputs))) (sym lines)
+    (are_blif net (lined 0 (file_lines net)) within (says net within))

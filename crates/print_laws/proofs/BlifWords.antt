@@ -4,7 +4,7 @@ use Rattle.std.specs.List.{join_with_byte, slice_split, prefix_len, before_first
 use Rattle.std.proofs.lemmas.Bool.{ne_eqb}
 use Rattle.std.proofs.lemmas.Bool.Decides.{nat_tests}
 use Rattle.std.proofs.lemmas.List.{take_all, get_or-append-add, reverse-append}
-use Rattle.std.proofs.lemmas.List.Elements.{All-nil, All-cons, All-head, All-tail, All-append, All-map}
+use Rattle.std.proofs.lemmas.List.Elements.{All-head, All-tail, All-map}
 use Rattle.std.proofs.lemmas.List.Sums.{position_or_len_is}
 use Rattle.std.proofs.lemmas.List.Splits.{slice_split_none, slice_split_at}
 use Rattle.text_core.specs.Bytes.{is_blank, is_line_feed}
@@ -14,6 +14,7 @@ use Rattle.text_core.specs.Piece.{Piece}
 use Rattle.blif_reader.specs.JoinedLines.{placed, words_at, is_comment_sign, trimmed, content, ends_with_backslash, goes_on, without_backslash, line_words, onto_next, joined, has_words}
 use Rattle.blif_reader.specs.Blif.{blif_lines}
 use Rattle.net_print.specs.BlifLines.{words_text}
+use Rattle.print_laws.proofs.NumberLines.{all_joined}
 use Rattle.print_laws.proofs.Aag.{lines_of}
 
 -- a byte that stands for itself wherever it stands in a word
@@ -32,14 +33,6 @@ pub record IsPlain (word : List ℕ) : Type 0 where
 pub record IsPlainLine (words : List (List ℕ)) : Type 0 where
   pub some : 0 < length words
   pub all : All IsPlain words
-
--- what holds of the blank and of each byte of the words holds of the line
-all_joined : (P : ℕ → Type 0) (words : List (List ℕ)) → P 32 → All (All P) words → All P (join_with_byte 32 words)
-all_joined P [] blank all = All-nil P
-all_joined P (word ∷ []) blank all = All-head (All P) word [] all
-all_joined P (word ∷ next ∷ words) blank all =
-    All-append P word (32 ∷ join_with_byte 32 (next ∷ words)) (All-head (All P) word (next ∷ words) all)
-    (All-cons P 32 (join_with_byte 32 (next ∷ words)) blank (all_joined P (next ∷ words) blank (All-tail (All P) word (next ∷ words) all)))
 
 -- The bytes end with one of which this holds.
 record EndsWith (P : ℕ → Type 0) (bytes : List ℕ) : Type 0 where

@@ -1,9 +1,10 @@
 -- The deltas that are printed are read as the gates, the greater operand first.
-use Rattle.std.proofs.Common.{◌≡◌, ℕ, zero, suc, ◌+◌, ◌-◌, ◌*◌, ◌/◌, ◌%◌, ◌^◌, ◌<◌, ◌≤◌, min, max, Bool, true, false, List, [], ◌∷◌, ◌++◌, length, map, get_or, nat_lt, if◌then◌else◌, refl, ◌∙◌, arith, append_assoc}
+use Rattle.std.proofs.Common.{◌≡◌, ℕ, zero, suc, ◌+◌, ◌-◌, ◌*◌, ◌/◌, ◌%◌, ◌^◌, ◌<◌, ◌≤◌, min, max, Bool, true, false, List, [], ◌∷◌, ◌++◌, length, map, get_or, nat_lt, if◌then◌else◌, refl, sym, subst, ◌∙◌, arith, append_assoc}
 use Rattle.std.proofs.Math.Nat.{mod-eq-sub-mul-div, mul-div-le}
 use Rattle.std.proofs.lemmas.Bool.{ltb-true}
 use Rattle.circuits.specs.declared.netlist.Gate.{Gate}
 use Rattle.aiger_reader.specs.Deltas.{IsInGroups, BeginsGates}
+use Rattle.aiger_reader.proofs.DeltaLemmas.{more_groups}
 use Rattle.net_print.specs.Deltas.{groups, delta_groups, deltas}
 
 -- numbers below this have one group more than `more` at most
@@ -14,17 +15,13 @@ top (suc more) = 128 * top more
 top_is : top 4 ≡ 34359738368
 top_is = refl
 
--- a byte that is marked, in front of the groups of the rest
-marked : (byte high n : ℕ) (rest : List ℕ) → IsInGroups rest high → 128 ≤ byte → n ≡ byte - 128 + 128 * high → IsInGroups (byte ∷ rest) n
-marked byte high n [] is low whole = absurd is
-marked byte high n (next ∷ rest) is low whole = (low, high, whole, is)
-
 parts : (n : ℕ) → n ≡ 128 + n % 128 - 128 + 128 * (n / 128)
 parts n = omega (arith, mod-eq-sub-mul-div n 128, mul-div-le n 128)
 
 in_groups_by_test : (t : Bool) (more n : ℕ) → nat_lt n 128 ≡ t → IsInGroups (groups more (n / 128)) (n / 128) → IsInGroups (if t then n ∷ [] else (128 + n % 128) ∷ groups more (n / 128)) n
 in_groups_by_test true more n test is = (ltb-true n 128 test, refl)
-in_groups_by_test false more n test is = marked (128 + n % 128) (n / 128) n (groups more (n / 128)) is (omega arith) (parts n)
+in_groups_by_test false more n test is =
+    subst (IsInGroups ((128 + n % 128) ∷ groups more (n / 128))) (sym (parts n)) (more_groups (128 + n % 128) (n / 128) (groups more (n / 128)) (omega arith) is)
 
 in_groups : (more n : ℕ) → n < top more → IsInGroups (groups more n) n
 in_groups zero n h = (h, refl)

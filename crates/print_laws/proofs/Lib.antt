@@ -9,6 +9,7 @@ pub mod Aig
 pub mod PrintedMeaning
 pub mod BlifWords
 pub mod BlifNames
+pub mod PrintedCovers
 pub mod BlifLines
 pub mod BlifReads
 pub mod SizeLemmas

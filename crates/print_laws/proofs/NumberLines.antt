@@ -2,10 +2,11 @@
 use Rattle.std.proofs.Common.{◌≡◌, ℕ, ◌^◌, ◌<◌, false, List, [], ◌∷◌, map, All, Some, refl, ap, ◌∙◌, arith}
 use Rattle.std.specs.Fmt.{decimal}
 use Rattle.std.specs.Int.{IsInRange}
+use Rattle.std.specs.List.{join_with_byte}
 use Rattle.std.proofs.lemmas.Fmt.{digits_decimal}
 use Rattle.std.proofs.lemmas.Str.Parse.{digit_at}
 use Rattle.std.proofs.lemmas.Bool.Decides.{nat_tests}
-use Rattle.std.proofs.lemmas.List.Elements.{All-nil, All-cons, All-head, All-tail, All-append, All-from_get_or}
+use Rattle.std.proofs.lemmas.List.Elements.{All-nil, All-cons, All-head, All-tail, All-append, All-map, All-from_get_or}
 use Rattle.text_core.specs.Bytes.{is_line_feed}
 use Rattle.text_core.specs.Lines.{IsLine}
 use Rattle.text_core.specs.Words.{words}
@@ -33,13 +34,17 @@ first n ns all = All-head (λ n. n < 2 ^ 64) n ns all
 rest : (n : ℕ) (ns : List ℕ) → AreWords (n ∷ ns) → AreWords ns
 rest n ns all = All-tail (λ n. n < 2 ^ 64) n ns all
 
+-- what holds of the blank and of each byte of the words holds of the line
+pub all_joined : (P : ℕ → Type 0) (words : List (List ℕ)) → P 32 → All (All P) words → All P (join_with_byte 32 words)
+all_joined P [] blank all = All-nil P
+all_joined P (word ∷ []) blank all = All-head (All P) word [] all
+all_joined P (word ∷ next ∷ words) blank all =
+    All-append P word (32 ∷ join_with_byte 32 (next ∷ words)) (All-head (All P) word (next ∷ words) all)
+    (All-cons P 32 (join_with_byte 32 (next ∷ words)) blank (all_joined P (next ∷ words) blank (All-tail (All P) word (next ∷ words) all)))
+
 pub IsLine-numbers_line : (ns : List ℕ) → AreWords ns → IsLine (numbers_line ns)
-IsLine-numbers_line [] all = All-nil (λ byte. is_line_feed byte ≡ false)
-IsLine-numbers_line (n ∷ []) all = IsLine-decimal n (first n [] all)
-IsLine-numbers_line (n ∷ m ∷ ns) all =
-    let P : ℕ → Type 0 = λ byte. is_line_feed byte ≡ false in
-    let more = numbers_line (m ∷ ns) in
-    All-append P (decimal n) (32 ∷ more) (IsLine-decimal n (first n (m ∷ ns) all)) (All-cons P 32 more refl (IsLine-numbers_line (m ∷ ns) (rest n (m ∷ ns) all)))
+IsLine-numbers_line ns all =
+    all_joined (λ byte. is_line_feed byte ≡ false) (map decimal ns) refl (All-map IsLine decimal ns (λ k d h. IsLine-decimal _ (all k d h)))
 
 words_are : (ns : List ℕ) → AreWords ns → words (numbers_line ns) ≡ map decimal ns
 words_are [] all = refl

@@ -155,7 +155,7 @@ printed_computes net ordered = record {
 }
 
 -- a cover names earlier signals
-signal_below : (inputs s bound : ℕ) → s < bound → 1 + inputs ≤ bound → printed_signal inputs s < 1 + bound
+pub signal_below : (inputs s bound : ℕ) → s < bound → 1 + inputs ≤ bound → printed_signal inputs s < 1 + bound
 signal_below inputs s bound low wide =
     elim (cases_lt inputs s) [
       | inl many ↦ omega (arith, gate_signal inputs s many, low)

@@ -12,12 +12,13 @@ use Rattle.circuits.specs.Netlists.{Net}
 use Rattle.circuits.specs.declared.netlist.Lit.{Lit}
 use Rattle.circuits.specs.declared.netlist.Gate.{Gate}
 use Rattle.net_file.specs.declared.named.Named.{Named}
-use Rattle.net_print.specs.BlifLines.{signal_name, gate_name, input_name, gates_lines, outputs_lines, ports_line, words_text, blif_text, row_byte}
+use Rattle.net_print.specs.BlifLines.{signal_name, gate_name, output_name, input_name, ports_line, words_text, blif_text, row_byte}
 use Rattle.net_print.specs.Deltas.{delta_groups, deltas}
 use Rattle.net_print.specs.Files.{aig_text}
 use Rattle.net_print.specs.Rows.{numbers_line, header_numbers, header_line, output_row, symbol_lines, symbols}
 use Rattle.print_laws.specs.Printable.{IsPrintable, IsShortName, IsWithinLimits}
 use Rattle.print_laws.proofs.Deltas.{few_groups}
+use Rattle.print_laws.proofs.PrintedCovers.{Printed, OfGate, OfOutput, names_words, row_words, covers_lines, numbered, printed_covers, length-numbered, ReadsBelow, covers_read, words_are}
 
 -- a number of 32 bits has ten digits at most
 digits_few : (n : ℕ) → n < 2 ^ 32 → length (decimal n) ≤ 10
@@ -41,52 +42,46 @@ join_size word next words = omega (arith, length-append word (32 ∷ join_with_b
 
 -- the lines of BLIF
 
-abbrev SmallGate : Gate → Type 0
-SmallGate gate = (signal_of gate.a < 2 ^ 32) × (signal_of gate.b < 2 ^ 32)
-
-abbrev SmallOutput : Lit → Type 0
-SmallOutput output = signal_of output < 2 ^ 32
-
-gates_size : (n t : ℕ) (gates : List Gate) (rest : List (List (List ℕ))) → t + length gates < 2 ^ 32 → All SmallGate gates → length (words_text (gates_lines n t gates ++ rest)) ≤ 48 * length gates + length (words_text rest)
-gates_size n t [] rest few small = omega arith
-gates_size n t (gate ∷ gates) rest few small =
-    let both = All-head SmallGate gate gates small in
+cover_size : (n bound : ℕ) (cover : Printed) (rest : List (List (List ℕ))) → bound ≤ 2 ^ 32 → ReadsBelow bound cover → length (words_text (names_words n cover ∷ row_words cover ∷ rest)) ≤ 48 + length (words_text rest)
+cover_size n bound (OfGate t gate) rest small reads =
     let left = signal_name n (signal_of gate.a) in
     let right = signal_name n (signal_of gate.b) in
     let name = gate_name t in
     let row = row_byte gate.a ∷ row_byte gate.b ∷ [] in
-    let after = gates_lines n (t + 1) gates ++ rest in
     omega (
       arith,
-      line_size (codes ".names" ∷ left ∷ right ∷ name ∷ []) ((row ∷ codes "1" ∷ []) ∷ after),
-      line_size (row ∷ codes "1" ∷ []) after,
+      line_size (codes ".names" ∷ left ∷ right ∷ name ∷ []) ((row ∷ codes "1" ∷ []) ∷ rest),
+      line_size (row ∷ codes "1" ∷ []) rest,
       join_size (codes ".names") left (right ∷ name ∷ []),
       join_size left right (name ∷ []),
       join_size right name [],
       join_size row (codes "1") [],
-      signal_short n (signal_of gate.a) both.0,
-      signal_short n (signal_of gate.b) both.1,
-      digits_few t (omega (arith, few)),
-      gates_size n (t + 1) gates rest (omega (arith, few)) (All-tail SmallGate gate gates small),
+      signal_short n (signal_of gate.a) (omega (arith, reads.1, small)),
+      signal_short n (signal_of gate.b) (omega (arith, reads.2, small)),
+      digits_few t reads.0,
     )
-
-outputs_size : (n k : ℕ) (outputs : List Lit) (rest : List (List (List ℕ))) → k + length outputs < 2 ^ 32 → All SmallOutput outputs → length (words_text (outputs_lines n k outputs ++ rest)) ≤ 48 * length outputs + length (words_text rest)
-outputs_size n k [] rest few small = omega arith
-outputs_size n k (output ∷ outputs) rest few small =
+cover_size n bound (OfOutput k output) rest small reads =
     let left = signal_name n (signal_of output) in
-    let name : List ℕ = 111 ∷ decimal k in
+    let name = output_name k in
     let row = row_byte output ∷ [] in
-    let after = outputs_lines n (k + 1) outputs ++ rest in
     omega (
       arith,
-      line_size (codes ".names" ∷ left ∷ name ∷ []) ((row ∷ codes "1" ∷ []) ∷ after),
-      line_size (row ∷ codes "1" ∷ []) after,
+      line_size (codes ".names" ∷ left ∷ name ∷ []) ((row ∷ codes "1" ∷ []) ∷ rest),
+      line_size (row ∷ codes "1" ∷ []) rest,
       join_size (codes ".names") left (name ∷ []),
       join_size left name [],
       join_size row (codes "1") [],
-      signal_short n (signal_of output) (All-head SmallOutput output outputs small),
-      digits_few k (omega (arith, few)),
-      outputs_size n (k + 1) outputs rest (omega (arith, few)) (All-tail SmallOutput output outputs small),
+      signal_short n (signal_of output) (omega (arith, reads.1, small)),
+      digits_few k reads.0,
+    )
+
+covers_size : (n bound : ℕ) (covers : List Printed) → bound ≤ 2 ^ 32 → All (ReadsBelow bound) covers → length (words_text (covers_lines n covers)) ≤ 48 * length covers + 5
+covers_size n bound [] small reads = omega (arith, line_size (codes ".end" ∷ []) [])
+covers_size n bound (cover ∷ covers) small reads =
+    omega (
+      arith,
+      cover_size n bound cover (covers_lines n covers) small (All-head (ReadsBelow bound) cover covers reads),
+      covers_size n bound covers small (All-tail (ReadsBelow bound) cover covers reads),
     )
 
 ports_size : (word : List ℕ) (letter a n : ℕ) → a + n < 2 ^ 32 → length (join_with_byte 32 (word ∷ map (λ port. letter ∷ decimal port) (range_with_len a n))) ≤ length word + 12 * n
@@ -103,12 +98,12 @@ pub blif_short : (net : Net) → IsWithinLimits net → length (blif_text net) �
 blif_short net within =
     let n = net.inputs in
     let m = length net.outputs in
-    let last : List (List (List ℕ)) = (codes ".end" ∷ []) ∷ [] in
-    let covers = outputs_lines n 0 net.outputs ++ last in
-    let after = gates_lines n 0 net.gates ++ covers in
+    let covers = printed_covers net in
+    let after = covers_lines n covers in
     let inputs = ports_line (codes ".inputs") 105 n in
     let outputs = ports_line (codes ".outputs") 111 m in
     let constant : List (List ℕ) = codes ".names" ∷ codes "z" ∷ [] in
+    let whole : blif_text net ≡ words_text ((codes ".model" ∷ codes "npnp" ∷ []) ∷ inputs ∷ outputs ∷ constant ∷ after) = ap words_text (words_are net) in
     omega (
       arith,
       within.inputs,
@@ -122,9 +117,11 @@ blif_short net within =
       join_size (codes ".names") (codes "z") [],
       ports_size (codes ".inputs") 105 0 n (omega (arith, within.inputs)),
       ports_size (codes ".outputs") 111 0 m (omega (arith, within.outputs)),
-      gates_size n 0 net.gates covers (omega (arith, within.gates)) (λ t d h. (omega (arith, within.ordered.first_operands t d h, within.inputs, within.gates, h), omega (arith, within.ordered.second_operands t d h, within.inputs, within.gates, h))),
-      outputs_size n 0 net.outputs last (omega (arith, within.outputs)) (λ k d h. omega (arith, within.ordered.outputs k d h, within.inputs, within.gates)),
-      line_size (codes ".end" ∷ []) [],
+      covers_size n (1 + n + length net.gates) covers (omega (arith, within.inputs, within.gates)) (covers_read net within),
+      length-append (numbered OfGate 0 net.gates) (numbered OfOutput 0 net.outputs),
+      length-numbered OfGate 0 net.gates,
+      length-numbered OfOutput 0 net.outputs,
+      ap length whole,
     )
 
 -- the binary form of AIGER

@@ -1,11 +1,9 @@
 -- The symbols that are printed name each port once, by its name.
 use Rattle.std.proofs.Common.{◌≡◌, ◌≢◌, ℕ, zero, suc, ◌+◌, ◌^◌, ◌<◌, ◌≤◌, Bool, true, false, not, List, [], ◌∷◌, ◌++◌, length, get_or, take, All, refl, sym, ap, subst, ◌∙◌, inr, arith, append_assoc, length-append}
 use Rattle.std.specs.List.{take_while}
-use Rattle.std.proofs.lemmas.List.{take_all}
 use Rattle.std.proofs.lemmas.List.Sums.{prefix_len_is}
 use Rattle.std.specs.Fmt.{decimal}
-use Rattle.std.proofs.lemmas.List.{append-nil}
-use Rattle.std.proofs.lemmas.List.{get_or-append-add, get_or_append_left, get_or_default}
+use Rattle.std.proofs.lemmas.List.{append-nil, take_all, get_or-append-add, get_or_append_left, get_or_default}
 use Rattle.std.proofs.lemmas.List.Elements.{All-nil, All-cons, All-head, All-tail, All-append}
 use Rattle.text_core.specs.Bytes.{is_line_feed}
 use Rattle.text_core.specs.Lines.{IsLine}
@@ -149,51 +147,33 @@ from_zero names j = ap (λ n. get_or names n []) (no_more j)
 abbrev pub all_entries : List (List ℕ) → List (List ℕ) → List Entry
 all_entries ins outs = entries_from Input 0 ins ++ entries_from Output 0 outs
 
--- The entries give each of these names to its own port.
-record HasPorts (kind : PortKind) (names : List (List ℕ)) (entries : List Entry) : Type 0 where
-  place : ℕ → ℕ
-  there : (position : ℕ) → position < length names → place position < length entries
-  port : (position : ℕ) (d : Entry) → position < length names → (get_or entries (place position) d).0 ≡ port_at kind position
-
-port_names : (kind : PortKind) (names : List (List ℕ)) (entries : List Entry) → All (IsNameAt kind names) entries → HasPorts kind names entries → ArePortNames entries kind (length names) names
-port_names kind names entries all has = record {
-  count_is = refl;
-  each = λ position d h. record {
-    given = λ k few e is. get_or_default names position d [] h ∙ all k e few position h is;
-    unnamed = λ none.
-        let e : Entry = (port_at kind position, []) in
-        absurd (none (has.place position) e (has.there position h) (has.port position e h));
-  };
-}
+-- the ports of a kind have their names, where all entries beside theirs are of other kinds
+named_among : (kind : PortKind) (names : List (List ℕ)) (front back : List Entry) → All (IsNameAt kind names) front → All (IsNameAt kind names) back → ArePortNames (front ++ (entries_from kind 0 names ++ back)) kind (length names) names
+named_among kind names front back before after =
+    let P : Entry → Type 0 = IsNameAt kind names in
+    let own = entries_from kind 0 names in
+    let wide = length-entries_from kind 0 names in
+    let all = All-append P front (own ++ back) before (All-append P own back (own_names kind names names 0 (λ j h. from_zero names j)) after) in
+    record {
+      count_is = refl;
+      each = λ position d h.
+          let e : Entry = (port_at kind position, []) in
+          let port : (get_or (front ++ (own ++ back)) (length front + position) e).0 ≡ port_at kind position =
+          ap (λ (entry : Entry). entry.0) (get_or-append-add front (own ++ back) position e ∙ get_or_append_left own back e position (omega (arith, h, wide)))
+          ∙ entry_at kind 0 names position e h
+          ∙ ap (port_at kind) (no_more position) in
+          record {
+            given = λ k few e is. get_or_default names position d [] h ∙ all k e few position h is;
+            unnamed = λ none. absurd (none (length front + position) e (omega (arith, h, length-append front (own ++ back), length-append own back, wide)) port);
+          };
+    }
 
 pub inputs_named : (ins outs : List (List ℕ)) → ArePortNames (all_entries ins outs) Input (length ins) ins
 inputs_named ins outs =
-    let P : Entry → Type 0 = IsNameAt Input ins in
-    let front = entries_from Input 0 ins in
-    let back = entries_from Output 0 outs in
-    let wide = length-entries_from Input 0 ins in
-    let all = All-append P front back (own_names Input ins ins 0 (λ j h. from_zero ins j)) (other_names Input Output ins outs 0 (λ clash. cc clash)) in
-    port_names Input ins (front ++ back) all (record {
-      place = λ position. position;
-      there = λ position h. omega (arith, h, length-append front back, wide);
-      port = λ position d h.
-          ap (λ (entry : Entry). entry.0) (get_or_append_left front back d position (omega (arith, h, wide)))
-          ∙ entry_at Input 0 ins position d h
-          ∙ ap (port_at Input) (no_more position);
-    })
+    named_among Input ins [] (entries_from Output 0 outs) (All-nil (IsNameAt Input ins)) (other_names Input Output ins outs 0 (λ clash. cc clash))
 
 pub outputs_named : (ins outs : List (List ℕ)) → ArePortNames (all_entries ins outs) Output (length outs) outs
 outputs_named ins outs =
-    let P : Entry → Type 0 = IsNameAt Output outs in
     let front = entries_from Input 0 ins in
-    let back = entries_from Output 0 outs in
-    let wide = length-entries_from Output 0 outs in
-    let all = All-append P front back (other_names Output Input outs ins 0 (λ clash. cc clash)) (own_names Output outs outs 0 (λ j h. from_zero outs j)) in
-    port_names Output outs (front ++ back) all (record {
-      place = λ position. length front + position;
-      there = λ position h. omega (arith, h, length-append front back, wide);
-      port = λ position d h.
-          ap (λ (entry : Entry). entry.0) (get_or-append-add front back position d)
-          ∙ entry_at Output 0 outs position d h
-          ∙ ap (port_at Output) (no_more position);
-    })
+    subst (λ (own : List Entry). ArePortNames (front ++ own) Output (length outs) outs) (append-nil (entries_from Output 0 outs))
+    (named_among Output outs front [] (other_names Output Input outs ins 0 (λ clash. cc clash)) (All-nil (IsNameAt Output outs)))

@@ -11,6 +11,7 @@ ghost use Rattle.print_laws.specs.Printable.{IsPrintable, IsShortName, IsWithinL
 ghost use Rattle.print_laws.specs.PrintedCircuits.{printed_circuit, printed_inputs, printed_outputs};
 
 /// What is printed in the ASCII form of AIGER is a file of the same netlist, gate by gate, with the same names.
+#[tactic(auto, using(crate::proofs::Aag::aag_is))]
 pub fn aag_reads_back()
     ensures { (named : Named)
         → IsPrintable named
@@ -41,6 +42,7 @@ pub fn blif_reads_back()
 
 /// What is printed is no longer than what is read: a netlist within the limits as BLIF, and in the binary form of AIGER where
 /// no name has more than 20,000 bytes.
+#[tactic(auto, using(crate::proofs::SizeLemmas::aig_short, crate::proofs::SizeLemmas::blif_short))]
 pub fn printed_is_short()
     ensures blif { (net : Net)
         → IsWithinLimits net
