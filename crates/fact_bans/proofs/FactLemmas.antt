@@ -1,9 +1,8 @@
 -- Facts that were decided, and lists of their numbers.
-use Rattle.std.proofs.Common.{◌≡◌, ℕ, ◌+◌, Bool, List, [], ◌∷◌, ◌++◌, length, map, sym, ap, subst, ◌∙◌, arith}
+use Rattle.std.proofs.Common.{◌≡◌, ℕ, ◌+◌, Bool, true, false, List, [], ◌∷◌, ◌++◌, length, map, refl, sym, ap, subst, ◌∙◌, arith}
 use Rattle.std.proofs.lemmas.List.{length-append, map-append}
 use Rattle.net_core.specs.declared.graphs.Side.{Side}
 use Rattle.query_core.specs.declared.claims.Claim.{Claim}
-use Rattle.query_core.specs.declared.claims.Shape.{Shape}
 use Rattle.query_core.specs.declared.claims.Shape.TheVariants.{Up, Down}
 use Rattle.query_core.specs.Images.{one_input}
 use Rattle.account_core.specs.Given.{Decided, decided_by}
@@ -16,18 +15,20 @@ use Rattle.std.proofs.lemmas.Result.{IfOk-weaker}
 use Rattle.claim_rows.specs.declared.told.InputTold.{InputTold}
 use Rattle.claim_rows.specs.Rows.{IsRow, IsTold}
 use Rattle.claim_rows.specs.Told.{AddsFact, IsToldAs}
-use Rattle.claim_rows.specs.Listed.{ListsBoth, ListsOf, ListsOne}
+use Rattle.claim_rows.specs.Listed.{ListsOf}
 use Rattle.claim_rows.proofs.ListedLemmas.{lists_both, lists_none, lists_one, lists_stay, told_stays}
 use Rattle.claim_rows.proofs.RowLemmas.{row_none, row_push, row_stays}
+use Rattle.fact_bans.specs.declared.lists.Wanted.{Wanted}
 use Rattle.fact_bans.specs.Serving.{HasServed}
+use Rattle.fact_bans.specs.Wanted.{ListsWanted, shaped_by}
 use Rattle.fact_bans.proofs.ServeLemmas.{served_same, served_then}
 
 grown : (old new : Known) → Grows old new → (P : List Decided → Type 0) → ((added : List Decided) → P (map decided_by old.facts ++ added)) → P (map decided_by new.facts)
 grown old new grows P is = subst P (sym (ap (map decided_by) grows.facts ∙ map-append decided_by old.facts grows.added)) (is (map decided_by grows.added))
 
-pub lists_grow : (old new : Known) (shaped : List ℕ → List Shape → Type 0) (holds : Bool) (side : Side) (output below : ℕ) (numbers : List ℕ) → Grows old new → ListsOf shaped (map decided_by old.facts) holds side output below numbers → ListsOf shaped (map decided_by new.facts) holds side output below numbers
-lists_grow old new shaped holds side output below numbers grows is =
-    grown old new grows (λ facts. ListsOf shaped facts holds side output below numbers) (λ added. lists_stay (map decided_by old.facts) added shaped holds side output below numbers is)
+pub wanted_grow : (old new : Known) (wanted : Wanted) (below : ℕ) (numbers : List ℕ) → Grows old new → ListsWanted old wanted below numbers → ListsWanted new wanted below numbers
+wanted_grow old new wanted below numbers grows is =
+    grown old new grows (λ facts. ListsOf (shaped_by wanted.both) facts wanted.holds wanted.side wanted.output below numbers) (λ added. lists_stay (map decided_by old.facts) added (shaped_by wanted.both) wanted.holds wanted.side wanted.output below numbers is)
 
 pub told_grows : (old new : Known) (claim : Claim) (holds : Bool) (number : ℕ) → Grows old new → IsToldAs (map decided_by old.facts) claim holds number → IsToldAs (map decided_by new.facts) claim holds number
 told_grows old new claim holds number grows is =
@@ -37,14 +38,18 @@ pub row_grows : (old new : Known) (side : Side) (output : ℕ) (row : List Input
 row_grows old new side output row grows is =
     grown old new grows (λ facts. IsRow facts side output row) (λ added. row_stays (map decided_by old.facts) added side output row is)
 
--- one fact was added, if it is said so
-pub one_added : (facts : List Decided) (holds : Bool) (side : Side) (output input : ℕ) (value : Bool) (shape : Shape) (claim : Claim) (before after : List ℕ) (result : Result Bool Stop) → claim ≡ record { side = side; output = output; shape = one_input input value } → ListsOne facts holds side output input before → IfOk result (λ added. IsTrue added → AddsFact facts claim holds before after) → IfOk result (λ added. IsTrue added → ListsOne facts holds side output (input + 1) after)
-one_added facts holds side output input value shape claim before after result is lists added =
-    IfOk-weaker result (λ a. IsTrue a → AddsFact facts claim holds before after) (λ a. IsTrue a → ListsOne facts holds side output (input + 1) after) (λ a then truth. lists_one facts holds side output input value before after lists (subst (λ (c : Claim). AddsFact facts c holds before after) is (then truth))) added
+-- one fact of an input was added, if it is said so, or both
+pub one_added : (known : Known) (wanted : Wanted) (input : ℕ) (value : Bool) (claim : Claim) (before after : List ℕ) (result : Result Bool Stop) → wanted.both ≡ false → claim ≡ record { side = wanted.side; output = wanted.output; shape = one_input input value } → ListsWanted known wanted input before → IfOk result (λ added. IsTrue added → AddsFact (map decided_by known.facts) claim wanted.holds before after) → IfOk result (λ added. IsTrue added → ListsWanted known wanted (input + 1) after)
+one_added known wanted input value claim before after result one is lists added =
+    let facts = map decided_by known.facts in
+    IfOk-weaker result (λ a. IsTrue a → AddsFact facts claim wanted.holds before after) (λ a. IsTrue a → ListsWanted known wanted (input + 1) after) (λ a then truth.
+    subst (λ b. ListsOf (shaped_by b) facts wanted.holds wanted.side wanted.output (input + 1) after) (sym one) (lists_one facts wanted.holds wanted.side wanted.output input value before after (subst (λ b. ListsOf (shaped_by b) facts wanted.holds wanted.side wanted.output input before) one lists) (subst (λ (c : Claim). AddsFact facts c wanted.holds before after) is (then truth)))) added
 
-pub both_added : (facts : List Decided) (holds : Bool) (side : Side) (output input : ℕ) (up down : Claim) (before mid after : List ℕ) (result : Result Bool Stop) → up ≡ record { side = side; output = output; shape = Up input } → down ≡ record { side = side; output = output; shape = Down input } → ListsBoth facts holds side output input before → AddsFact facts up holds before mid → IfOk result (λ added. IsTrue added → AddsFact facts down holds mid after) → IfOk result (λ added. IsTrue added → ListsBoth facts holds side output (input + 1) after)
-both_added facts holds side output input up down before mid after result up_is down_is lists one added =
-    IfOk-weaker result (λ a. IsTrue a → AddsFact facts down holds mid after) (λ a. IsTrue a → ListsBoth facts holds side output (input + 1) after) (λ a then truth. lists_both facts holds side output input before mid after lists (subst (λ (c : Claim). AddsFact facts c holds before mid) up_is one) (subst (λ (c : Claim). AddsFact facts c holds mid after) down_is (then truth))) added
+pub both_added : (known : Known) (wanted : Wanted) (input : ℕ) (up down : Claim) (before mid after : List ℕ) (result : Result Bool Stop) → wanted.both ≡ true → up ≡ record { side = wanted.side; output = wanted.output; shape = Up input } → down ≡ record { side = wanted.side; output = wanted.output; shape = Down input } → ListsWanted known wanted input before → AddsFact (map decided_by known.facts) up wanted.holds before mid → IfOk result (λ added. IsTrue added → AddsFact (map decided_by known.facts) down wanted.holds mid after) → IfOk result (λ added. IsTrue added → ListsWanted known wanted (input + 1) after)
+both_added known wanted input up down before mid after result both up_is down_is lists one added =
+    let facts = map decided_by known.facts in
+    IfOk-weaker result (λ a. IsTrue a → AddsFact facts down wanted.holds mid after) (λ a. IsTrue a → ListsWanted known wanted (input + 1) after) (λ a then truth.
+    subst (λ b. ListsOf (shaped_by b) facts wanted.holds wanted.side wanted.output (input + 1) after) (sym both) (lists_both facts wanted.holds wanted.side wanted.output input before mid after (subst (λ b. ListsOf (shaped_by b) facts wanted.holds wanted.side wanted.output input before) both lists) (subst (λ (c : Claim). AddsFact facts c wanted.holds before mid) up_is one) (subst (λ (c : Claim). AddsFact facts c wanted.holds mid after) down_is (then truth)))) added
 
 pub adds_grow : (old new : Known) (claim : Claim) (holds : Bool) (before after : List ℕ) → Grows old new → AddsFact (map decided_by old.facts) claim holds before after → AddsFact (map decided_by new.facts) claim holds before after
 adds_grow old new claim holds before after grows adds = record {
@@ -54,14 +59,18 @@ adds_grow old new claim holds before after grows adds = record {
 }
 
 -- The calls so far were answered, and the facts of the inputs before the next one are listed.
-pub record IsListing (shaped : List ℕ → List Shape → Type 0) (old now : Known) (before after : Ledgered) (holds : Bool) (side : Side) (output input : ℕ) (numbers : List ℕ) : Type 0 where
+pub record IsListing (old now : Known) (before after : Ledgered) (wanted : Wanted) (input : ℕ) (numbers : List ℕ) : Type 0 where
   pub served : HasServed old now before after
-  pub lists : ListsOf shaped (map decided_by now.facts) holds side output input numbers
+  pub lists : ListsWanted now wanted input numbers
 
-pub listing_start : (shaped : List ℕ → List Shape → Type 0) (known : Known) (ledger : Ledgered) (holds : Bool) (side : Side) (output : ℕ) (numbers : List ℕ) → shaped [] [] → AreFacts known.graphs known.facts → Suits known ledger → numbers ≡ [] → IsListing shaped known known ledger ledger holds side output 0 numbers
-listing_start shaped known ledger holds side output numbers is lawful suits none = record {
+shaped_none : (both : Bool) → shaped_by both [] []
+shaped_none true = refl
+shaped_none false = tt
+
+pub listing_start : (known : Known) (ledger : Ledgered) (wanted : Wanted) (numbers : List ℕ) → AreFacts known.graphs known.facts → Suits known ledger → numbers ≡ [] → IsListing known known ledger ledger wanted 0 numbers
+listing_start known ledger wanted numbers lawful suits none = record {
   served = served_same known ledger lawful suits;
-  lists = lists_none shaped (map decided_by known.facts) holds side output numbers none is;
+  lists = lists_none (shaped_by wanted.both) (map decided_by known.facts) wanted.holds wanted.side wanted.output numbers none (shaped_none wanted.both);
 }
 
 -- The calls so far were answered, and the claims of the inputs before the next one are told.

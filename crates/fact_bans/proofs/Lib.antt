@@ -2,5 +2,4 @@ pub mod ServeLemmas
 pub mod FactLemmas
 pub mod HoldingLemmas
 pub mod ReferLemmas
-pub mod RefusalLemmas
 pub mod WiderLemmas

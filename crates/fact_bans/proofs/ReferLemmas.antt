@@ -1,25 +1,27 @@
 -- References to bans of ways, and the cover that has them all.
-use Rattle.std.proofs.Common.{◌≡◌, ℕ, zero, suc, ◌+◌, ◌<◌, true, false, List, [], ◌∷◌, ◌++◌, length, get_or, All, Contains, Option, Some, refl, sym, ap, subst, ◌∙◌, append_assoc, arith}
-use Rattle.std.proofs.lemmas.List.{length-map, length_push, get_or-map, get_or_push}
+use Rattle.std.proofs.Common.{◌≡◌, ℕ, ◌+◌, ◌<◌, List, [], ◌∷◌, ◌++◌, length, take, get_or, All, Contains, Option, Some, refl, sym, subst, ◌∙◌, arith}
+use Rattle.std.proofs.lemmas.List.{get_or-map}
+use Rattle.std.proofs.lemmas.List.Elements.{All-contains}
 use Rattle.std.proofs.lemmas.Option.{same_Some}
 use Rattle.circuits.specs.declared.port.Pair.{Pair}
-use Rattle.circuits.specs.declared.port.PortKind.{PortKind}
 use Rattle.circuits.specs.declared.port.PortKind.TheVariants.{Output}
 use Rattle.net_core.specs.Sides.{Graphs}
+use Rattle.query_core.specs.Ledgers.{Ledgered}
 use Rattle.account_core.specs.declared.step.Ban.{Ban}
 use Rattle.account_core.specs.declared.step.Step.TheVariants as step
-use Rattle.account_core.specs.Covers.{way, ways, IsReference}
+use Rattle.account_core.specs.Covers.{ways, IsReference}
 use Rattle.account_core.specs.Given.{Decided, given_of}
 use Rattle.account_core.specs.Ports.{AreOrdered, IsKnown}
 use Rattle.account_core.specs.Shown.{IsEmptyBan}
-use Rattle.account_core.specs.Steps.{IsValidBan}
-use Rattle.account_core.specs.Tallies.{Ascend}
-use Rattle.fact_bans.specs.Serving.{OnlyAdds}
-use Rattle.port_covers.specs.Ways.{row, AreClosed, IsClosed}
-use Rattle.fact_bans.specs.Referred.{AddsRef, AddsTwo, AreReferred, IsReferred}
+use Rattle.oracle_core.specs.Oracles.{Known}
+use Rattle.port_covers.specs.Ways.{AreClosed, IsClosed}
+use Rattle.port_covers.proofs.BlockLemmas.{each_in}
+use Rattle.fact_bans.specs.Referred.{AreReferred, IsReferred}
+use Rattle.fact_bans.specs.Serving.{MayHold, OnlyAdds}
+use Rattle.fact_bans.proofs.HoldingLemmas.{held_same, held_then, HasHeld}
 use Rattle.ban_book.specs.Covering.{Covers}
 use Rattle.ban_book.proofs.BookLemmas.{covers_later}
-use Rattle.claim_rows.proofs.ListLemmas.{flat_push, zip_append, zip_map}
+use Rattle.ban_book.proofs.ListLemmas.{zip_map, zip_taken}
 
 -- as more bans are held
 pub referred_later : (bans more : List Ban) (pair : Pair) (ref : Option ℕ) → OnlyAdds bans more → IsReferred bans pair ref → IsReferred more pair ref
@@ -32,28 +34,33 @@ referred_later bans more pair ref adds is = record {
 pub all_later : (bans more : List Ban) (ways : List Pair) (refs : List (Option ℕ)) → OnlyAdds bans more → AreReferred bans ways refs → AreReferred more ways refs
 all_later bans more ways refs adds are = zip_map (IsReferred bans) (IsReferred more) ways refs (λ pair ref is. referred_later bans more pair ref adds is) are
 
-pub adds_two : (bans more : List Ban) (kind : PortKind) (from to : ℕ) (before mid after : List (Option ℕ)) → OnlyAdds bans more → AddsRef bans (way kind from to false) before mid → AddsRef more (way kind from to true) mid after → AddsTwo more kind from to before after
-adds_two bans more kind from to before mid after adds one other = record {
-  plain = one.ref;
-  negated = other.ref;
-  plain_is = referred_later bans more (way kind from to false) one.ref adds one.is;
-  negated_is = other.is;
-  more = other.more ∙ (ap (λ l. l ++ other.ref ∷ []) one.more ∙ append_assoc before (one.ref ∷ []) (other.ref ∷ []));
+-- The calls so far were answered, and the first ways have their bans.
+pub record AreFound (graphs : Graphs) (old now : Known) (before after : Ledgered) (bans more : List Ban) (ways : List Pair) (refs : List (Option ℕ)) : Type 0 where
+  pub held : HasHeld graphs old now before after bans more
+  pub are : AreReferred more ways refs
+
+pub found_none : (graphs : Graphs) (known : Known) (ledger : Ledgered) (bans : List Ban) (refs : List (Option ℕ)) → MayHold graphs known ledger bans → refs ≡ [] → AreFound graphs known known ledger ledger bans bans [] refs
+found_none graphs known ledger bans refs may none = record {
+  held = held_same graphs known ledger bans may;
+  are = subst (AreReferred bans []) (sym none) tt;
 }
 
--- one port more of a row
-pub row_push : (bans more : List Ban) (kind : PortKind) (from : ℕ) (to : List ℕ) (next : ℕ) (before after : List (Option ℕ)) → OnlyAdds bans more → AreReferred bans (row kind from to) before → AddsTwo more kind from next before after → AreReferred more (row kind from (to ++ next ∷ [])) after
-row_push bans more kind from to next before after adds are two =
-    subst (AreReferred more (row kind from (to ++ next ∷ []))) (sym two.more)
-    (subst (λ l. AreReferred more l (before ++ two.plain ∷ two.negated ∷ [])) (sym (flat_push (λ t. way kind from t false ∷ way kind from t true ∷ []) to next))
-    (zip_append (IsReferred more) (row kind from to) before (way kind from next false ∷ way kind from next true ∷ []) (two.plain ∷ two.negated ∷ []) (all_later bans more (row kind from to) before adds are) (two.plain_is, (two.negated_is, tt))))
+pub found_more : (graphs : Graphs) (old mid new : Known) (a b c : Ledgered) (bans first second : List Ban) (ways : List Pair) (k : ℕ) (d : Pair) (number : ℕ) (before after : List (Option ℕ)) → k < length ways → AreFound graphs old mid a b bans first (take k ways) before → HasHeld graphs mid new b c first second → Covers second (get_or ways k d ∷ []) number → after ≡ before ++ Some number ∷ [] → AreFound graphs old new a c bans second (take (k + 1) ways) after
+found_more graphs old mid new a b c bans first second ways k d number before after there found held covers after_is = record {
+  held = held_then graphs old mid new a b c bans first second found.held held;
+  are = subst (AreReferred second (take (k + 1) ways)) (sym after_is) (zip_taken (IsReferred second) ways k d before (Some number) there (all_later first second (take k ways) before held.adds found.are) (record { number = number; ref_is = refl; covers = covers }));
+}
 
--- one row more
-pub rows_push : (bans more : List Ban) (kind : PortKind) (from to : List ℕ) (next : ℕ) (before row_refs after : List (Option ℕ)) → OnlyAdds bans more → AreReferred bans (ways kind from to) before → AreReferred more (row kind next to) row_refs → after ≡ before ++ row_refs → AreReferred more (ways kind (from ++ next ∷ []) to) after
-rows_push bans more kind from to next before row_refs after adds are one is =
-    subst (AreReferred more (ways kind (from ++ next ∷ []) to)) (sym is)
-    (subst (λ l. AreReferred more l (before ++ row_refs)) (sym (flat_push (λ f. row kind f to) from next))
-    (zip_append (IsReferred more) (ways kind from to) before (row kind next to) row_refs (all_later bans more (ways kind from to) before adds are) one))
+-- the ways to pair outputs with outputs
+pub ways_known : (graphs : Graphs) (from to : List ℕ) → All (λ port. port < length graphs.first.outputs) from → All (λ port. port < length graphs.second.outputs) to → All (IsKnown graphs) (ways Output from to)
+ways_known graphs from to from_below to_below =
+    each_in (IsKnown graphs) (record { kind = Output; from = from; to = to }) (λ f t flip here there. record {
+      from = All-contains (λ port. port < length graphs.first.outputs) from f from_below here;
+      to = All-contains (λ port. port < length graphs.second.outputs) to t to_below there;
+    })
+
+pub ways_of_outputs : (from to : List ℕ) → All (λ (pair : Pair). pair.kind ≡ Output) (ways Output from to)
+ways_of_outputs from to = each_in (λ (pair : Pair). pair.kind ≡ Output) (record { kind = Output; from = from; to = to }) (λ f t flip here there. refl)
 
 reference_of : (facts : List Decided) (bans : List Ban) (pair : Pair) (ref : Option ℕ) → IsReferred bans pair ref → IsReference (given_of facts bans) [] pair ref
 reference_of facts bans pair ref is =

@@ -18,10 +18,19 @@ struct Key {
 
 /// Outputs of the first circuit and of the second, more together than a circuit has, none of which fits with one of the
 /// others, as far as is seen.
-#[derive(Debug, Drop)]
 pub(crate) struct Classes {
     pub(crate) from: Vec<bool>,
     pub(crate) to: Vec<bool>,
+}
+
+// By hand, and so one call wherever a value ends: a derived drop is expanded there, field by field, and makes proofs long.
+impl Drop for Classes {
+    fn drop(self) {
+        let Classes {
+            from: _from,
+            to: _to,
+        } = self;
+    }
 }
 
 impl Classes {

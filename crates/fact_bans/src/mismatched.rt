@@ -7,14 +7,12 @@ ghost use Rattle.account_core.specs.Given.{decided_by};
 ghost use Rattle.account_core.specs.Mismatches.{IsImage};
 ghost use Rattle.account_core.specs.Ports.{AreOrdered, IsKnown};
 ghost use Rattle.ban_book.specs.Covering.{Covers};
-ghost use Rattle.ban_book.specs.Vectors.{IsVector};
 ghost use Rattle.oracle_core.specs.Oracles.{Serves, Suits};
 ghost use Rattle.claim_rows.specs.Mismatched.{IsBanBy, mismatch_of};
 ghost use Rattle.fact_bans.specs.Serving.{HoldsBans, MayHold};
 
 use crate::seen::Seen;
 use crate::told::decide;
-use account_core::Ban;
 use ban_book::BanBook;
 use circuits::Pair;
 use claim_rows::{Carried, Unlike, mismatch_ban, unlike_of};
@@ -45,39 +43,12 @@ pub(crate) fn hold_by<O: Oracle>(
     ensures holds { HoldsBans graphs.now (O.known oracle.old) (O.known oracle.new) ledger.old ledger.new book.old book.new result }
     ensures covers { IfOk result (λ found. IfSome found (Covers book.new pairs.now)) }
 {
-    let Some(ban) = ban_by(alloc, oracle, pairs, carried, seen, ledger)? else {
-        return Ok(None);
-    };
-    let number = book.hold(ban)?;
-    Ok(Some(number))
-}
-
-// The ban of the pairs where one claim fails and the other one holds.
-fn ban_by<O: Oracle>(
-    alloc: Global,
-    oracle: &mut O,
-    pairs: &[Pair],
-    carried: Carried,
-    seen: &mut Seen,
-    ledger: &mut Ledger,
-) -> Result<Option<Ban>, Stop>
-    requires lawful { AreFacts (O.known oracle.old).graphs (O.known oracle.old).facts }
-    requires known { All (IsKnown (O.known oracle.old).graphs) pairs.now }
-    requires ordered { AreOrdered pairs.now }
-    requires image { IsImage pairs.now carried.claim carried.image }
-    requires claim_placed { IsClaim (O.known oracle.old).graphs carried.claim }
-    requires image_placed { IsClaim (O.known oracle.old).graphs carried.image }
-    requires suits { Suits (O.known oracle.old) ledger.old }
-    ensures serves { Serves (O.known oracle.old) (O.known oracle.new) ledger.old ledger.new result }
-    ensures ban { IfOk result (λ found. IfSome found
-        (IsBanBy (O.known oracle.old).graphs (map decided_by (O.known oracle.new).facts) pairs.now)) }
-    ensures no_vector { IfOk result (λ found. IfSome found (λ ban. IsVector ban.step → ⊥)) }
-{
     let Some(unlike) = unlike_by(alloc, oracle, pairs, carried, seen, ledger)? else {
         return Ok(None);
     };
     let ban = mismatch_ban(alloc, pairs, unlike)?;
-    Ok(Some(ban))
+    let number = book.hold(ban)?;
+    Ok(Some(number))
 }
 
 /// Has both claims decided. Answers the facts where one fails and the other one holds, and None where both fail, or both hold.

@@ -10,14 +10,25 @@ use std::alloc::{AllocError, Global};
 
 /// Which claims a tally asks: of one output, that of a side, one claim of each of some inputs, which should hold, or fail;
 /// of the other output both claims of each of some inputs, which should do the opposite.
-#[derive(Debug, Drop)]
 pub(crate) struct Plan {
     pub(crate) side: Side,
     pub(crate) holds: bool,
     /// For each input the value of the claim that is asked, if one is.
     pub(crate) one: Vec<Option<bool>>,
-    /// For each input whether both claims are asked.
-    pub(crate) both: Vec<bool>,
+    /// Some for each input of which both claims are asked.
+    pub(crate) both: Vec<Option<bool>>,
+}
+
+// By hand, and so one call wherever a value ends: a derived drop is expanded there, field by field, and makes proofs long.
+impl Drop for Plan {
+    fn drop(self) {
+        let Plan {
+            side: _side,
+            holds: _holds,
+            one: _one,
+            both: _both,
+        } = self;
+    }
 }
 
 impl Plan {
@@ -29,11 +40,13 @@ impl Plan {
         inputs: u32,
         seen: &Seen,
     ) -> Result<Option<Plan>, AllocError> {
-        if let Some(side) = more_on(pair, Tallied::Support, seen) {
-            return Ok(Some(by_support(alloc, pair, side, inputs, seen)?));
+        let support = Tallied::Support;
+        if let Some(side) = more_on(pair, support, seen) {
+            return Ok(Some(by_kind(alloc, pair, side, support, inputs, seen)?));
         }
-        match more_on(pair, Tallied::Binate, seen) {
-            Some(side) => Ok(Some(by_binate(alloc, pair, side, inputs, seen)?)),
+        let binate = Tallied::Binate;
+        match more_on(pair, binate, seen) {
+            Some(side) => Ok(Some(by_kind(alloc, pair, side, binate, inputs, seen)?)),
             None => Ok(None),
         }
     }
@@ -52,101 +65,76 @@ fn more_on(pair: Pair, kind: Tallied, seen: &Seen) -> Option<Side> {
     }
 }
 
-// One output depends on each input that vectors show, by the claim that they break. Of the other one as many inputs are asked
-// as it then may not lack.
-fn by_support(
+// Of the output that is of a kind in more inputs, each is asked that vectors show, by the claims that they break. Of the other one
+// as many inputs are asked as it then may not lack.
+fn by_kind(
     alloc: Global,
     pair: Pair,
     side: Side,
-    inputs: u32,
-    seen: &Seen,
-) -> Result<Plan, AllocError> {
-    let having = seen.count(side, port_on(side, pair), Tallied::Support);
-    let lacking = seen.row(other_side(side), port_on(other_side(side), pair));
-    let mut one = Vec::new(alloc);
-    for flips in seen.row(side, port_on(side, pair)).iter() {
-        one.push(broken_value(*flips))?;
-    }
-    let wanted = inputs.saturating_sub(having).saturating_add(1);
-    Ok(Plan {
-        side,
-        holds: false,
-        one,
-        both: without(alloc, lacking, Tallied::Support, wanted)?,
-    })
-}
-
-// The value of a claim that a vector breaks.
-fn broken_value(flips: Flips) -> Option<bool> {
-    if flips.is_broken(false) {
-        Some(false)
-    } else if flips.is_broken(true) {
-        Some(true)
-    } else {
-        None
-    }
-}
-
-// One output is binate in each input for which vectors break both claims. Of the other one as many inputs are asked in which
-// it may not be unate.
-fn by_binate(
-    alloc: Global,
-    pair: Pair,
-    side: Side,
+    kind: Tallied,
     inputs: u32,
     seen: &Seen,
 ) -> Result<Plan, AllocError> {
     let other = other_side(side);
-    let having = seen.count(side, port_on(side, pair), Tallied::Binate);
-    let lacking = seen.row(other, port_on(other, pair));
-    let wanted = inputs.saturating_sub(having).saturating_add(1);
-    let marks = without(alloc, lacking, Tallied::Binate, wanted)?;
-    let mut one = Vec::new(alloc);
-    for (flips, mark) in lacking.iter().zip(marks.iter()) {
-        one.push(unbroken_value(*flips, *mark))?;
-    }
-    let mut both = Vec::new(alloc);
+    let mut have = Vec::new(alloc);
     for flips in seen.row(side, port_on(side, pair)).iter() {
-        both.push(flips.is_of(Tallied::Binate))?;
+        have.push(broken_value(*flips, kind))?;
     }
-    Ok(Plan {
-        side: other,
-        holds: true,
-        one,
-        both,
-    })
+    let having = seen.count(side, port_on(side, pair), kind);
+    let wanted = inputs.saturating_sub(having).saturating_add(1);
+    let lack = without(alloc, seen.row(other, port_on(other, pair)), kind, wanted)?;
+    match kind {
+        Tallied::Support => Ok(Plan {
+            side,
+            holds: false,
+            one: have,
+            both: lack,
+        }),
+        Tallied::Binate => Ok(Plan {
+            side: other,
+            holds: true,
+            one: lack,
+            both: have,
+        }),
+    }
 }
 
-// The value of a marked input's claim that no vector breaks.
-fn unbroken_value(flips: Flips, marked: bool) -> Option<bool> {
-    if !marked {
-        None
+// The value of a claim that a vector breaks, of an input of a kind.
+fn broken_value(flips: Flips, kind: Tallied) -> Option<bool> {
+    if flips.is_of(kind) {
+        Some(!flips.is_broken(false))
     } else {
-        Some(flips.is_broken(false))
+        None
     }
 }
 
-// Marks that many inputs that aren't known to be of a kind: first those that don't reach the output, whose claims hold by
-// structure; then others, whose claims are asked.
+// For that many inputs that aren't known to be of a kind the value of a claim that no vector breaks: first for those that don't
+// reach the output, whose claims hold by structure; then for others, whose claims are asked.
 fn without(
     alloc: Global,
     row: &[Flips],
     kind: Tallied,
     wanted: u32,
-) -> Result<Vec<bool>, AllocError> {
-    let mut marks = vec![in alloc; false; row.len()]?;
-    let left = mark_some(row, &mut marks, kind, false, wanted);
-    mark_some(row, &mut marks, kind, true, left);
-    Ok(marks)
+) -> Result<Vec<Option<bool>>, AllocError> {
+    let mut values = vec![in alloc; None; row.len()]?;
+    let left = mark_some(row, &mut values, kind, false, wanted);
+    mark_some(row, &mut values, kind, true, left);
+    Ok(values)
 }
 
-// Marks inputs that aren't known to be of a kind, those that reach the output, or those that don't, until none is wanted.
+// Does so for those that reach the output, or for those that don't, until none is wanted.
 // Answers how many are wanted still.
-fn mark_some(row: &[Flips], marks: &mut [bool], kind: Tallied, reaching: bool, wanted: u32) -> u32 {
+fn mark_some(
+    row: &[Flips],
+    values: &mut [Option<bool>],
+    kind: Tallied,
+    reaching: bool,
+    wanted: u32,
+) -> u32 {
     let mut left = wanted;
-    for (flips, mark) in row.iter().zip(marks.iter_mut()) {
+    for (flips, value) in row.iter().zip(values.iter_mut()) {
         if (left > 0) & (flips.reaches() == reaching) & !flips.is_of(kind) {
-            *mark = true;
+            *value = Some(flips.is_broken(false));
             left -= 1;
         }
     }

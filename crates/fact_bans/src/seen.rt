@@ -13,7 +13,7 @@ const NOT_NOTED: u32 = u32::MAX;
 
 /// What vectors showed of two circuits: which claims of one input they break, and once these are looked for, which of two.
 /// Nothing rests on it: it says which claims are worth to be decided.
-#[derive(Debug, Drop)]
+#[derive(Debug)]
 pub struct Seen {
     first: Vec<Vec<Flips>>,
     second: Vec<Vec<Flips>>,
@@ -26,11 +26,36 @@ pub struct Seen {
     outputs: usize,
 }
 
+// By hand, and so one call wherever a value ends: a derived drop is expanded there, field by field, and makes proofs long.
+impl Drop for Seen {
+    fn drop(self) {
+        let Seen {
+            first: _first,
+            second: _second,
+            swaps: _swaps,
+            seed: _seed,
+            numbers: _numbers,
+            inputs: _inputs,
+            outputs: _outputs,
+        } = self;
+    }
+}
+
 /// What vectors showed of claims of two inputs.
-#[derive(Debug, Drop)]
+#[derive(Debug)]
 struct TwoSwaps {
     first: Swaps,
     second: Swaps,
+}
+
+// By hand, and so one call wherever a value ends: a derived drop is expanded there, field by field, and makes proofs long.
+impl Drop for TwoSwaps {
+    fn drop(self) {
+        let TwoSwaps {
+            first: _first,
+            second: _second,
+        } = self;
+    }
 }
 
 impl Seen {

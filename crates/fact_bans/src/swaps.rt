@@ -89,13 +89,24 @@ fn is_any(lanes: Lanes) -> bool {
 }
 
 /// What is known of an output.
-#[derive(Debug, Drop)]
+#[derive(Debug)]
 struct Row {
     /// How many inputs reach the output, and for each input its place among these.
     reached: u32,
     places: Vec<Option<u32>>,
     /// For each place what is known of it with each place before it.
     pairs: Vec<Vec<Broken>>,
+}
+
+// By hand, and so one call wherever a value ends: a derived drop is expanded there, field by field, and makes proofs long.
+impl Drop for Row {
+    fn drop(self) {
+        let Row {
+            reached: _reached,
+            places: _places,
+            pairs: _pairs,
+        } = self;
+    }
 }
 
 impl Row {
@@ -156,9 +167,16 @@ fn add_at(before: &mut [Broken], place: u32, broken: Broken) {
 }
 
 /// For each output of a circuit, what vectors show of the claims of two inputs.
-#[derive(Debug, Drop)]
+#[derive(Debug)]
 pub(crate) struct Swaps {
     rows: Vec<Row>,
+}
+
+// By hand, and so one call wherever a value ends: a derived drop is expanded there, field by field, and makes proofs long.
+impl Drop for Swaps {
+    fn drop(self) {
+        let Swaps { rows: _rows } = self;
+    }
 }
 
 impl Swaps {

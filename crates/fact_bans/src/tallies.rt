@@ -11,7 +11,7 @@ ghost use Rattle.oracle_core.specs.Oracles.{Serves, Suits};
 ghost use Rattle.claim_rows.specs.Listed.{AreLists};
 ghost use Rattle.fact_bans.specs.Serving.{HoldsBans, MayHold};
 
-use crate::lists::{Wanted, list_both, list_one};
+use crate::lists::{Wanted, list};
 use crate::plan::Plan;
 use crate::seen::Seen;
 use ban_book::BanBook;
@@ -101,26 +101,27 @@ fn ask<O: Oracle>(
     ensures lists { IfOk result (λ found. IfSome found
         (AreLists (map decided_by (O.known oracle.new).facts) pair plan.now.side plan.now.holds)) }
 {
-    let first = wanted_on(plan.side, pair, plan.holds);
+    let first = wanted_on(plan.side, pair, plan.holds, false);
     let inputs = graphs.side(first.side).inputs();
-    let Some(one) = list_one(alloc, oracle, first, inputs, &plan.one, seen, ledger)? else {
+    let Some(one) = list(alloc, oracle, first, inputs, &plan.one, seen, ledger)? else {
         return Ok(None);
     };
-    let second = wanted_on(other_side(plan.side), pair, !plan.holds);
+    let second = wanted_on(other_side(plan.side), pair, !plan.holds, true);
     let inputs = graphs.side(second.side).inputs();
-    let Some(both) = list_both(alloc, oracle, second, inputs, &plan.both, seen, ledger)? else {
+    let Some(both) = list(alloc, oracle, second, inputs, &plan.both, seen, ledger)? else {
         return Ok(None);
     };
     Ok(Some(Lists { one, both }))
 }
 
-fn wanted_on(side: Side, pair: Pair, holds: bool) -> Wanted
-    ensures { result ≡ record { side = side; output = port_on side pair; holds = holds } }
+fn wanted_on(side: Side, pair: Pair, holds: bool, both: bool) -> Wanted
+    ensures { result ≡ record { side = side; output = port_on side pair; holds = holds; both = both } }
 {
     Wanted {
         side,
         output: port_on(side, pair),
         holds,
+        both,
     }
 }
 

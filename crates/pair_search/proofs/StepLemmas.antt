@@ -1,6 +1,6 @@
 -- What one more entry leaves.
-use Rattle.std.proofs.Common.{◌≡◌, ◌≢◌, ◌⊎◌, ℕ, zero, suc, ◌+◌, ◌<◌, ◌≤◌, false, true, cond, List, [], ◌∷◌, ◌++◌, length, get_or, take, All, Contains, refl, sym, ap, subst, ◌∙◌, inl, inr, arith}
-use Rattle.std.proofs.lemmas.List.{append-nil, append_assoc, length_push, take_more}
+use Rattle.std.proofs.Common.{◌≡◌, ◌≢◌, ◌⊎◌, ℕ, zero, suc, ◌<◌, ◌≤◌, false, true, cond, List, [], ◌∷◌, ◌++◌, length, get_or, take, All, Contains, refl, sym, ap, subst, ◌∙◌, inl, inr, arith}
+use Rattle.std.proofs.lemmas.List.{append-nil, append_assoc, length_push}
 use Rattle.std.proofs.lemmas.List.Elements.{All-push, Contains-append_left}
 use Rattle.std.proofs.lemmas.List.Quantifiers.{all_pairs_push}
 use Rattle.circuits.specs.declared.port.Pair.{Pair}
@@ -260,6 +260,3 @@ known_after bans before after p goes known = record {
 pub port_there : (n m : ℕ) (side : Side) (p : Pair) → IsPairOf n m p → port_on side p < ports_of n m p.kind
 port_there n m First p known = known.from
 port_there n m Second p known = known.to
-
-pub all_more : (P : Pair → Type 0) (xs : List Pair) (index : ℕ) (d : Pair) → index < length xs → All P (take index xs) → P (get_or xs index d) → All P (take (index + 1) xs)
-all_more P xs index d below all here = subst (All P) (sym (take_more xs index d below)) (All-push P (take index xs) (get_or xs index d) all here)

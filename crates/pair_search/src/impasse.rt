@@ -36,7 +36,11 @@ impl Impasse {
 }
 
 /// The conflict that an impasse is.
-pub(crate) fn conflict_of(
+///
+/// # Errors
+///
+/// When out of memory.
+pub fn conflict_of(
     alloc: Global,
     graphs: &PairableGraphs<'_>,
     domains: &Domains,

@@ -12,7 +12,7 @@ mod queue;
 mod units;
 
 pub use back::{start_over, turn_back};
-pub use impasse::Impasse;
+pub use impasse::{Impasse, conflict_of};
 pub use ports::{branch, way_of};
 pub use propagation::propagate;
 pub use queue::Queue;

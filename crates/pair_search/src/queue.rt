@@ -22,7 +22,7 @@ pub(crate) struct Link {
 
 /// How far propagation has come, and the bans in the lists of two of their pairs each (watched literals: Moskewicz and others,
 /// Chaff, DAC 2001). A ban is looked at only where one of these comes to be held. What it says is tried, and not trusted.
-#[derive(Debug, Drop)]
+#[derive(Debug)]
 pub struct Queue {
     /// How many entries were followed.
     pub head: usize,
@@ -38,6 +38,22 @@ pub struct Queue {
     pub(crate) made: Mismatches,
     /// Partners for all outputs.
     pub(crate) partners: Partners,
+}
+
+// By hand, and so one call wherever a value ends: a derived drop is expanded there, field by field, and makes proofs long.
+impl Drop for Queue {
+    fn drop(self) {
+        let Queue {
+            head: _head,
+            seen: _seen,
+            inputs: _inputs,
+            outputs: _outputs,
+            lasts: _lasts,
+            links: _links,
+            made: _made,
+            partners: _partners,
+        } = self;
+    }
 }
 
 impl Queue {

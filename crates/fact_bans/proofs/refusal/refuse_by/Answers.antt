@@ -1,9 +1,10 @@
-use Rattle.std.proofs.Common.{◌+◌, ◌<◌, All, length, map, refl, sym, ap, subst, arith}
+use Rattle.std.proofs.Common.{◌≡◌, ◌<◌, ◌∙◌, All, refl, sym, subst, arith}
+use Rattle.circuits.specs.declared.port.Pair.{Pair}
 use Rattle.circuits.specs.declared.port.PortKind.TheVariants.{Output}
-use Rattle.account_core.specs.Covers.{ways}
+use Rattle.account_core.specs.Ports.{IsKnown}
 use Rattle.fact_bans.specs.Referred.{AreReferred}
 use Rattle.fact_bans.proofs.HoldingLemmas.{held_more, held_one, held_same, holds_err, holds_ok, holds_stop}
-use Rattle.fact_bans.proofs.ReferLemmas.{closed_of, empty_of, nothing_known, nothing_ordered}
+use Rattle.fact_bans.proofs.ReferLemmas.{closed_of, empty_of, nothing_known, nothing_ordered, ways_known, ways_of_outputs}
 use Rattle.fact_bans.proofs.refusal.refuse_by.Goals as goal
 
 pub returns-in_err-from-clause-holds : goal.returns-in_err-from-clause-holds
@@ -16,6 +17,20 @@ returns-in_err-to-clause-holds g c =
 
 pub returns-then-len-outputs-clause-holds : goal.returns-then-len-outputs-clause-holds
 returns-then-len-outputs-clause-holds g c = holds_ok _ _ _ _ _ _ _ _ _ refl (held_same _ _ _ _ c.requires.may)
+
+pub returns-in_err-ways-clause-holds : goal.returns-in_err-ways-clause-holds
+returns-in_err-ways-clause-holds g c =
+    holds_stop _ _ _ _ _ _ _ _ c.from_residual-in_err-ways.ensures.1 (held_same _ _ _ _ c.requires.may)
+
+pub bans_of-requires-clause-outputs : goal.bans_of-requires-clause-outputs
+bans_of-requires-clause-outputs g c =
+    subst (All (λ (pair : Pair). pair.kind ≡ Output)) (sym (c.deref-3.ensures.value ∙ c.in_ok-ways.ensures)) (ways_of_outputs c.in_ok-from.from c.in_ok-to.to)
+
+pub bans_of-requires-clause-known : goal.bans_of-requires-clause-known
+bans_of-requires-clause-known g c =
+    let from = subst (λ n. All (λ port. port < n) c.in_ok-from.from) c.ports-outputs.ensures.first c.in_ok-from.ensures.below in
+    let to = subst (λ n. All (λ port. port < n) c.in_ok-to.to) c.ports-outputs.ensures.second c.in_ok-to.ensures.below in
+    subst (All (IsKnown c.args.graphs.now)) (sym (c.deref-3.ensures.value ∙ c.in_ok-ways.ensures)) (ways_known c.args.graphs.now c.in_ok-from.from c.in_ok-to.to from to)
 
 pub returns-in_err-refs-clause-holds : goal.returns-in_err-refs-clause-holds
 returns-in_err-refs-clause-holds g c =
@@ -41,8 +56,8 @@ hold_cover-requires-clause-block g c = record {
 
 pub hold_cover-requires-clause-closed : goal.hold_cover-requires-clause-closed
 hold_cover-requires-clause-closed g c =
-    let are = subst (λ l. AreReferred c.rows.new.book (ways Output c.in_ok-from.from l) c.in-Some.refs) c.deref-4.ensures.value (subst (λ l. AreReferred c.rows.new.book (ways Output l c.deref-4.result.now) c.in-Some.refs) c.deref-3.ensures.value (rw c.in-Some.is at c.in_ok-refs.ensures.referred)) in
-    closed_of c.rows.new.book (ways Output c.in_ok-from.from c.in_ok-to.to) c.in-Some.refs are
+    let ways_are = c.deref-3.ensures.value ∙ c.in_ok-ways.ensures in
+    closed_of c.bans_of.new.book _ c.in-Some.refs (subst (λ l. AreReferred c.bans_of.new.book l c.in-Some.refs) ways_are (rw c.in-Some.is at c.in_ok-refs.ensures.referred))
 
 pub returns-in_err-number-clause-holds : goal.returns-in_err-number-clause-holds
 returns-in_err-number-clause-holds g c =

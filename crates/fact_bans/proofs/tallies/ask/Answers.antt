@@ -1,11 +1,12 @@
-use Rattle.std.proofs.Common.{map, refl, subst}
+use Rattle.std.proofs.Common.{false, map, refl, subst}
 use Rattle.net_core.specs.declared.graphs.Side.{Side}
 use Rattle.std.specs.Prelude.{not}
 use Rattle.account_core.specs.Given.{decided_by}
-use Rattle.account_core.specs.Tallies.{port_on, AreOfEach}
+use Rattle.account_core.specs.Tallies.{port_on}
 use Rattle.fact_bans.specs.declared.lists.Wanted.{Wanted}
-use Rattle.claim_rows.specs.Listed.{ListsBoth, ListsOne}
-use Rattle.fact_bans.proofs.FactLemmas.{lists_grow}
+use Rattle.claim_rows.specs.Listed.{ListsBoth}
+use Rattle.fact_bans.specs.Wanted.{ListsWanted}
+use Rattle.fact_bans.proofs.FactLemmas.{wanted_grow}
 use Rattle.fact_bans.proofs.ServeLemmas.{served_one, served_then, serves_err, serves_ok}
 use Rattle.fact_bans.proofs.tallies.ask.Goals as goal
 
@@ -23,15 +24,16 @@ returns-clause-serves g c =
 
 pub returns-clause-lists : goal.returns-clause-lists
 returns-clause-lists g c =
-    let mid = g.O.Oracle.known c.list_one.new.oracle in
-    let new = g.O.Oracle.known c.list_both.new.oracle in
-    let side = c.args.plan.now.side in
-    let holds = c.args.plan.now.holds in
-    let one = subst (λ (w : Wanted). ListsOne (map decided_by mid.facts) w.holds w.side w.output c.inputs-inputs.result c.in-Some.one) c.wanted_on-first.ensures (rw c.in-Some.is at c.in_ok-one.ensures.lists) in
-    let both = subst (λ (w : Wanted). ListsBoth (map decided_by new.facts) w.holds w.side w.output c.inputs-inputs-2.result c.in-Some-2.both) c.wanted_on-second.ensures (rw c.in-Some-2.is at c.in_ok-both.ensures.lists) in
+    let mid = g.O.Oracle.known c.list.new.oracle in
+    let new = g.O.Oracle.known c.list-2.new.oracle in
+    let plan = c.args.plan.now in
+    let bound = c.inputs-inputs.result in
+    let bound_both = c.inputs-inputs-2.result in
+    let one = subst (λ (w : Wanted). ListsWanted mid w bound c.in-Some.one) c.wanted_on-first.ensures (rw c.in-Some.is at c.in_ok-one.ensures.lists) in
+    let both = subst (λ (w : Wanted). ListsWanted new w bound_both c.in-Some-2.both) c.wanted_on-second.ensures (rw c.in-Some-2.is at c.in_ok-both.ensures.lists) in
     record {
-      bound = c.inputs-inputs.result;
-      bound_both = c.inputs-inputs-2.result;
-      one = lists_grow mid new AreOfEach holds side (port_on side c.args.pair) c.inputs-inputs.result c.in-Some.one c.in_ok-both.ensures.serves.grows one;
-      both = subst (λ (s : Side). ListsBoth (map decided_by new.facts) (not holds) s (port_on s c.args.pair) c.inputs-inputs-2.result c.in-Some-2.both) c.other_side.ensures both;
+      bound = bound;
+      bound_both = bound_both;
+      one = wanted_grow mid new (record { side = plan.side; output = port_on plan.side c.args.pair; holds = plan.holds; both = false }) bound c.in-Some.one c.in_ok-both.ensures.serves.grows one;
+      both = subst (λ (s : Side). ListsBoth (map decided_by new.facts) (not plan.holds) s (port_on s c.args.pair) bound_both c.in-Some-2.both) c.other_side.ensures both;
     }

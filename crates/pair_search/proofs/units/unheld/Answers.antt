@@ -1,12 +1,12 @@
 use Rattle.std.proofs.Common.{All, Contains, subst}
 use Rattle.std.proofs.lemmas.List.{take_all}
+use Rattle.std.proofs.lemmas.List.Elements.{All-more}
 use Rattle.class_refine.specs.Trails.{held_in}
-use Rattle.pair_search.proofs.StepLemmas.{all_more}
 use Rattle.pair_search.proofs.units.unheld.Goals as goal
 
 pub loop-pair-preserved : goal.loop-pair-preserved
 loop-pair-preserved c =
-    all_more (Contains (held_in c.args.domains.now.entries)) c.args.pairs.now c.loop-pair.pair-index _ c.loop-pair-test.true c.loop-pair.invariant (c.is_held.ensures.held c.if-not-is_held.false)
+    All-more (Contains (held_in c.args.domains.now.entries)) c.args.pairs.now c.loop-pair.pair-index _ c.loop-pair-test.true c.loop-pair.invariant (c.is_held.ensures.held c.if-not-is_held.false)
 
 pub returns : goal.returns
 returns c = subst (All (Contains (held_in c.args.domains.now.entries))) (take_all c.loop-pair.pair-index c.args.pairs.now c.loop-pair-test.false) c.loop-pair.invariant

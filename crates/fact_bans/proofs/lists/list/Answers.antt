@@ -1,0 +1,40 @@
+use Rattle.std.proofs.Common.{◌<◌, length, refl, sym, subst, arith}
+use Rattle.net_core.specs.Sides.{Graphs, graph_of}
+use Rattle.fact_bans.proofs.FactLemmas.{listing_start}
+use Rattle.fact_bans.proofs.ServeLemmas.{served_one, served_then, serves_err, serves_ok}
+use Rattle.fact_bans.proofs.lists.list.Goals as goal
+
+pub loop-input-init : goal.loop-input-init
+loop-input-init g c =
+    listing_start (g.O.Oracle.known c.args.oracle.now) c.args.ledger.now c.args.wanted c.new-numbers.result c.requires.lawful c.requires.suits c.new-numbers.ensures
+
+pub add-requires-clause-lawful : goal.add-requires-clause-lawful
+add-requires-clause-lawful g c = c.loop-input.invariant.served.grows.lawful
+
+pub add-requires-clause-output : goal.add-requires-clause-output
+add-requires-clause-output g c =
+    subst (λ (gr : Graphs). c.args.wanted.output < length (graph_of gr c.args.wanted.side).outputs) (sym c.loop-input.invariant.served.grows.graphs) c.requires.output
+
+pub add-requires-clause-input : goal.add-requires-clause-input
+add-requires-clause-input g c =
+    subst (λ (gr : Graphs). c.loop-input.input < (graph_of gr c.args.wanted.side).inputs) (sym c.loop-input.invariant.served.grows.graphs) (omega (arith, c.loop-input-test.true, c.requires.inputs))
+
+pub add-requires-clause-suits : goal.add-requires-clause-suits
+add-requires-clause-suits g c = c.loop-input.invariant.served.suits
+
+pub add-requires-clause-lists : goal.add-requires-clause-lists
+add-requires-clause-lists g c = c.loop-input.invariant.lists
+
+pub loop-input-preserved : goal.loop-input-preserved
+loop-input-preserved g c = record {
+  served = served_then _ _ _ _ _ _ c.loop-input.invariant.served (served_one _ _ _ _ _ c.in_ok-add.ensures.serves);
+  lists = c.in_ok-add.ensures.lists c.if-not-branch.false;
+}
+
+pub returns-in_err-add-clause-serves : goal.returns-in_err-add-clause-serves
+returns-in_err-add-clause-serves g c =
+    serves_err _ _ _ _ _ _ _ c.in_err-add.field-0.0 c.from_residual.ensures.1 c.loop-input.invariant.served c.in_err-add.ensures.serves
+
+pub returns-then-not-branch-clause-serves : goal.returns-then-not-branch-clause-serves
+returns-then-not-branch-clause-serves g c =
+    serves_ok _ _ _ _ _ _ refl (served_then _ _ _ _ _ _ c.loop-input.invariant.served (served_one _ _ _ _ _ c.in_ok-add.ensures.serves))

@@ -1,7 +1,0 @@
-use Rattle.account_core.specs.Tallies.{AreOfEach}
-use Rattle.fact_bans.proofs.FactLemmas.{IsListing}
-use Rattle.fact_bans.proofs.lists.list_one.Given as goal
-
-abbrev pub invariant-loop-input : goal.invariant-loop-input
-invariant-loop-input g l =
-    IsListing AreOfEach (g.O.Oracle.known l.fn.oracle) (g.O.Oracle.known l.oracle) l.fn.ledger l.ledger l.wanted.holds l.wanted.side l.wanted.output l.input l.numbers

@@ -1,0 +1,18 @@
+-- Facts that are wanted of an output.
+use Rattle.std.specs.Prelude.{ℕ, Bool, true, false, List, map}
+use Rattle.query_core.specs.declared.claims.Shape.{Shape}
+use Rattle.account_core.specs.Given.{decided_by}
+use Rattle.account_core.specs.Tallies.{AreBothOfEach, AreOfEach}
+use Rattle.oracle_core.specs.Oracles.{Known}
+use Rattle.claim_rows.specs.Listed.{ListsOf}
+use Rattle.fact_bans.specs.declared.lists.Wanted.{Wanted}
+
+-- shapes of both claims of each input, or of one
+abbrev pub shaped_by : Bool → List ℕ → List Shape → Type 0
+shaped_by true inputs shapes = AreBothOfEach inputs shapes
+shaped_by false inputs shapes = AreOfEach inputs shapes
+
+-- numbers of facts as they are wanted, of inputs below a number
+abbrev pub ListsWanted : Known → Wanted → ℕ → List ℕ → Type 0
+ListsWanted known wanted below numbers =
+    ListsOf (shaped_by wanted.both) (map decided_by known.facts) wanted.holds wanted.side wanted.output below numbers
