@@ -145,22 +145,12 @@ match_there graphs bytes account told matching is so e proved =
     let same : told ≡ verdict.Match matching = cc in
     subst (λ g. IsMatchOfFunctions g.first g.second matching.inputs matching.outputs) (done_graphs graphs bytes account is) (proved matching (sym so ∙ ap (λ (v : Verdict). Some v) same))
 
--- the record that was read is the next
-pub next_read : (bytes : List ℕ) (finished : Bool) (records : List Record) (entry : Record) (given : Option Record) → given ≡ Some entry → Says {X = Option Record} (Ok given) (SaysNext bytes finished records) → IsNextRecord bytes records entry
-next_read bytes finished records entry given is says =
-    subst (λ o. SaysNext bytes finished records (Ok o)) is says
+-- what was read, a record or none, and how far
+pub says_given : (bytes : List ℕ) (finished : Bool) (records : List Record) (given known : Option Record) → given ≡ known → Says {X = Option Record} (Ok given) (SaysNext bytes finished records) → SaysNext bytes finished records (Ok known)
+says_given bytes finished records given known is says = subst (λ o. SaysNext bytes finished records (Ok o)) is says
 
-pub read_on : (new : Reading) (bytes : List ℕ) (records : List Record) (entry : Record) (given : Option Record) → given ≡ Some entry → HasRead new bytes (records ++ given_by {E = FileStop} (Ok given)) → HasRead new bytes (records ++ entry ∷ [])
-read_on new bytes records entry given is read =
-    subst (λ o. HasRead new bytes (records ++ given_by {E = FileStop} (Ok o))) is read
-
--- no record was read
-pub none_read : (bytes : List ℕ) (finished : Bool) (records : List Record) (given : Option Record) → given ≡ None → Says {X = Option Record} (Ok given) (SaysNext bytes finished records) → SaysNext bytes finished records (Ok None)
-none_read bytes finished records given is says = subst (λ o. SaysNext bytes finished records (Ok o)) is says
-
-pub read_no_more : (new : Reading) (bytes : List ℕ) (records : List Record) (given : Option Record) → given ≡ None → HasRead new bytes (records ++ given_by {E = FileStop} (Ok given)) → HasRead new bytes (records ++ [])
-read_no_more new bytes records given is read =
-    subst (λ o. HasRead new bytes (records ++ given_by {E = FileStop} (Ok o))) is read
+pub read_given : (new : Reading) (bytes : List ℕ) (records : List Record) (given known : Option Record) → given ≡ known → HasRead new bytes (records ++ given_by {E = FileStop} (Ok given)) → HasRead new bytes (records ++ given_by {E = FileStop} (Ok known))
+read_given new bytes records given known is read = subst (λ o. HasRead new bytes (records ++ given_by {E = FileStop} (Ok o))) is read
 
 -- Whatever the text and the circuits are, an account that was under check still is.
 pub record StaysUnderCheck (reading : Reading) (account : Account) (now : Reading) (account_now : Account) : Type 0 where
@@ -180,38 +170,36 @@ begun graphs reading account read finished no_fault is = record {
   lines = record { form = tt; order = refl };
 }
 
--- more bytes came
-pub fed : (graphs : Graphs) (bytes piece : List ℕ) (old new : Reading) (account : Account) → (so_far : IsChecking false graphs bytes old account) → HasRead new (bytes ++ piece) so_far.records → new.finished ≡ old.finished → new.fault ≡ old.fault → IsChecking false graphs (bytes ++ piece) new account
-fed graphs bytes piece old new account so_far read finished no_fault = record {
+-- more bytes came, or no more come
+read_on : (finished : Bool) (graphs : Graphs) (bytes text : List ℕ) (old new : Reading) (account : Account) → ((records : List Record) → HasRead old bytes records → HasRead new text records) → new.finished ≡ finished → new.fault ≡ old.fault → IsChecking false graphs bytes old account → IsChecking finished graphs text new account
+read_on finished graphs bytes text old new account reads finished_is no_fault so_far = record {
   records = so_far.records;
-  read = read;
-  finished_is = finished ∙ so_far.finished_is;
+  read = reads so_far.records so_far.read;
+  finished_is = finished_is;
   no_fault = no_fault ∙ so_far.no_fault;
   valid = so_far.valid;
   account_is = so_far.account_is;
 }
 
--- no more come
-pub whole : (graphs : Graphs) (bytes : List ℕ) (old new : Reading) (account : Account) → (so_far : IsChecking false graphs bytes old account) → HasRead new bytes so_far.records → new ≡ record old { finished = true } → IsChecking true graphs bytes new account
-whole graphs bytes old new account so_far read is = record {
-  records = so_far.records;
-  read = read;
-  finished_is = ap (λ (r : Reading). r.finished) is;
-  no_fault = ap (λ (r : Reading). r.fault) is ∙ so_far.no_fault;
-  valid = so_far.valid;
-  account_is = so_far.account_is;
-}
+pub fed : (graphs : Graphs) (bytes piece left : List ℕ) (total : ℕ) (old new : Reading) (account : Account) → ((text : List ℕ) (records : List Record) → HasRead old text records → HasRead new (text ++ piece) records) → new ≡ record old { left = left; total = total } → IsChecking false graphs bytes old account → IsChecking false graphs (bytes ++ piece) new account
+fed graphs bytes piece left total old new account reads is so_far =
+    read_on false graphs bytes (bytes ++ piece) old new account (reads bytes) (ap (λ (r : Reading). r.finished) is ∙ so_far.finished_is) (ap (λ (r : Reading). r.fault) is) so_far
+
+pub whole : (graphs : Graphs) (bytes : List ℕ) (old new : Reading) (account : Account) → ((text : List ℕ) (records : List Record) → HasRead old text records → HasRead new text records) → new ≡ record old { finished = true } → IsChecking false graphs bytes old account → IsChecking true graphs bytes new account
+whole graphs bytes old new account reads is so_far =
+    read_on true graphs bytes bytes old new account (reads bytes) (ap (λ (r : Reading). r.finished) is) (ap (λ (r : Reading). r.fault) is) so_far
+
+-- what is so of the stop that `?` hands on
+handed : {X : Type 0} (P : Result X CheckStop → Type 0) (check_stop : CheckStop) (result : Result X CheckStop) → P (Err check_stop) → IsErrAnd result (λ handed. handed ≡ check_stop) → P result
+handed {X} P check_stop result so same = let err = err_from_is_err_and result same in subst P (sym (err.1 ∙ ap Err err.2)) so
 
 -- where memory runs out, nothing is told
 pub out_of_memory : (finished : Bool) (graphs : Graphs) (bytes : List ℕ) (reading : Reading) (account : Account) (result : Result (Unit {0}) CheckStop) → IsErrAnd result (λ handed. handed ≡ Memory) → TakesAll finished graphs bytes reading account result
-out_of_memory finished graphs bytes reading account (Ok done) is = absurd is
-out_of_memory finished graphs bytes reading account (Err handed) is = subst (λ (s : CheckStop). TakesAll finished graphs bytes reading account (Err s)) (sym is) tt
+out_of_memory finished graphs bytes reading account result is = handed (TakesAll finished graphs bytes reading account) Memory result tt is
 
--- the reason that `?` hands on
+-- a bad line is told
 pub stopped : (finished : Bool) (graphs : Graphs) (bytes : List ℕ) (reading : Reading) (account : Account) (check_stop : CheckStop) (result : Result (Unit {0}) CheckStop) → Goes finished graphs bytes reading account (Err check_stop) → IsErrAnd result (λ handed. handed ≡ check_stop) → TakesAll finished graphs bytes reading account result
-stopped finished graphs bytes reading account check_stop result goes same =
-    let err = err_from_is_err_and result same in
-    subst (TakesAll finished graphs bytes reading account) (sym (err.1 ∙ ap Err err.2)) (told check_stop goes)
+stopped finished graphs bytes reading account check_stop result goes = handed (TakesAll finished graphs bytes reading account) check_stop result (told check_stop goes)
   where
     told : (s : CheckStop) → Goes finished graphs bytes reading account (Err s) → TakesAll finished graphs bytes reading account (Err s)
     told (Rejected line reason) rejected = rejected
@@ -219,9 +207,7 @@ stopped finished graphs bytes reading account check_stop result goes same =
 
 -- and its verdict
 pub stopped_whole : (graphs : Graphs) (bytes : List ℕ) (reading : Reading) (account : Account) (check_stop : CheckStop) (result : Result Verdict CheckStop) → TakesAll true graphs bytes reading account (Err check_stop) → IsErrAnd result (λ handed. handed ≡ check_stop) → IsVerdict graphs bytes result
-stopped_whole graphs bytes reading account check_stop result goes same =
-    let err = err_from_is_err_and result same in
-    subst (IsVerdict graphs bytes) (sym (err.1 ∙ ap Err err.2)) (told check_stop goes)
+stopped_whole graphs bytes reading account check_stop result goes = handed (IsVerdict graphs bytes) check_stop result (told check_stop goes)
   where
     told : (s : CheckStop) → TakesAll true graphs bytes reading account (Err s) → IsVerdict graphs bytes (Err s)
     told (Rejected line reason) rejected = rejected
@@ -229,9 +215,7 @@ stopped_whole graphs bytes reading account check_stop result goes same =
 
 -- a bad line of a whole text
 pub stopped_fed : (graphs : Graphs) (bytes : List ℕ) (reading : Reading) (account : Account) (check_stop : CheckStop) (result : Result Verdict CheckStop) → TakesAll false graphs bytes reading account (Err check_stop) → IsErrAnd result (λ handed. handed ≡ check_stop) → IsVerdict graphs bytes result
-stopped_fed graphs bytes reading account check_stop result goes same =
-    let err = err_from_is_err_and result same in
-    subst (IsVerdict graphs bytes) (sym (err.1 ∙ ap Err err.2)) (told check_stop goes)
+stopped_fed graphs bytes reading account check_stop result goes = handed (IsVerdict graphs bytes) check_stop result (told check_stop goes)
   where
     told : (s : CheckStop) → TakesAll false graphs bytes reading account (Err s) → IsVerdict graphs bytes (Err s)
     told (Rejected line reason) rejected = subst (λ b. IsVerdict graphs b (Err (Rejected line reason))) (append-nil bytes) (rejected [])

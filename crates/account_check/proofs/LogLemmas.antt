@@ -25,7 +25,7 @@ use Rattle.account_check.specs.declared.reject.Reject.{Reject}
 use Rattle.account_check.specs.declared.reject.RecordStop.{RecordStop}
 use Rattle.account_check.specs.declared.reject.RecordStop.TheVariants as stop
 use Rattle.account_check.specs.Logs.{Proof, match_reject, log_count, log_query, refutation_of}
-use Rattle.account_check.specs.Proofs.{AreRefuted, IsLogSoFar, IsOpen, LogSoFar}
+use Rattle.account_check.specs.Proofs.{AreRefuted, IsLog, IsLogSoFar, IsOpen, LogSoFar, MatchLogs, lines_in}
 
 -- a log with one line more
 pub log_more : (graphs : Graphs) (query : Query) (taken : List (List SatLit)) (line : LogLine) → IsLogSoFar graphs query taken → line_fault (formula_of graphs query) taken line ≡ None → IsLogSoFar graphs query (taken ++ line.clause ∷ [])
@@ -93,10 +93,19 @@ log_begun graphs query fits = record {
 }
 
 -- what is wrong with a line of the open log, as its number tells
-pub same_reject : (graphs : Graphs) (proof : Proof) (log : LogSoFar) (line : LogLine) → IsOpen graphs proof.matching proof.closed log → log.taken ≡ proof.taken → refutation_of (line_fault (formula_of log.graphs log.query) log.taken line) ≡ match_reject graphs proof line
+same_reject : (graphs : Graphs) (proof : Proof) (log : LogSoFar) (line : LogLine) → IsOpen graphs proof.matching proof.closed log → log.taken ≡ proof.taken → refutation_of (line_fault (formula_of log.graphs log.query) log.taken line) ≡ match_reject graphs proof line
 same_reject graphs proof log line open_log taken =
     ap (λ g. refutation_of (line_fault (formula_of g log.query) log.taken line)) open_log.graphs_are
     ∙ (ap (λ q. refutation_of (line_fault (formula_of graphs q) log.taken line)) open_log.asks ∙ ap (λ t. refutation_of (line_fault (formula_of graphs (log_query graphs proof.matching proof.closed)) t line)) taken)
+
+-- what a line of the open log is told to be is what the match's logs say of it
+pub told_of_match : (graphs : Graphs) (matching : Matching) (closed : ℕ) (kept : Option LogSoFar) (log : LogSoFar) (line : LogLine) (logs : MatchLogs) (told : Option Reject) → IsLog graphs matching closed kept → kept ≡ Some log
+    → record { graphs = graphs; proof = record { matching = matching; closed = closed; taken = lines_in kept } } ≡ logs
+    → told ≡ refutation_of (line_fault (formula_of log.graphs log.query) log.taken line) → told ≡ match_reject logs.graphs logs.proof line
+told_of_match graphs matching closed kept log line logs told is_log is same so =
+    let open_log = subst (IsLog graphs matching closed) is is_log in
+    subst (λ (v : MatchLogs). told ≡ match_reject v.graphs v.proof line) same
+    (so ∙ same_reject graphs (record { matching = matching; closed = closed; taken = lines_in kept }) log line open_log (sym (ap lines_in is)))
 
 -- the error that `?` hands on
 pub handed_on : {X : Type 0} (answer : Result X RecordStop) (error : RecordStop) (reject : Reject) → answer ≡ Err (stop.Reject reject) → IsErrAnd answer (λ handed. handed ≡ error) → error ≡ stop.Reject reject

@@ -42,6 +42,11 @@ pair_place p q pair has = ap (λ (entry : ℕ × Bool). entry.0) has.goes
 pub pair_sign : (p q : List (ℕ × Bool)) (pair : Pair) → HasPair p q pair → sign_of (entries_of pair.kind p q) pair.from ≡ pair.flip
 pair_sign p q pair has = ap (λ (entry : ℕ × Bool). entry.1) has.goes
 
+-- the same of a pair of a kind
+pub pair_goes : (p q : List (ℕ × Bool)) (pair : Pair) (kind : PortKind) → HasPair p q pair → pair.kind ≡ kind → (pair.from < length (entries_of kind p q)) × (place_of (entries_of kind p q) pair.from ≡ pair.to) × (sign_of (entries_of kind p q) pair.from ≡ pair.flip)
+pair_goes p q pair kind has is =
+    subst (λ k. (pair.from < length (entries_of k p q)) × (place_of (entries_of k p q) pair.from ≡ pair.to) × (sign_of (entries_of k p q) pair.from ≡ pair.flip)) is (has.there, pair_place p q pair has, pair_sign p q pair has)
+
 -- no match has two pairs that clash
 pub no_clash : (first second : Net) (p q : List (ℕ × Bool)) (one other : Pair) → IsMatchOfFunctions first second p q → HasPair p q one → HasPair p q other → Clash one other → ⊥
 no_clash first second p q one other match has_one has_other clash =

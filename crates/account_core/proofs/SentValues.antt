@@ -12,14 +12,14 @@ use Rattle.circuits.specs.Bijections.{IsSignedBijection, Moves, moved, place_of,
 use Rattle.circuits.proofs.Places.{moved-moves, length-moved}
 use Rattle.net_core.specs.Sides.{Graphs}
 use Rattle.net_core.specs.Graph.{IsGraph}
-use Rattle.query_core.specs.Images.{HasPair, Extends, entries_of, same_kind}
+use Rattle.query_core.specs.Images.{HasPair, Extends, same_kind}
 use Rattle.word_sim.specs.declared.tri.Tri.{Tri}
 use Rattle.word_sim.specs.declared.tri.Tri.TheVariants.{Zero, One, X}
 use Rattle.word_sim.specs.ThreeValues.{tri_outputs, IsBitOf, FillsIn}
 use Rattle.word_sim.proofs.Fillings.{FillsIn-outputs}
 use Rattle.account_core.specs.Vectors.{value_at, signed, value_sent, values_sent, ShowsDifference}
 use Rattle.account_core.specs.Exclusions.{Excludes}
-use Rattle.account_core.proofs.Matched.{kind_is, pair_of-held, pair_place, pair_sign}
+use Rattle.account_core.proofs.Matched.{kind_is, pair_goes, pair_of-held}
 
 -- each X filled in by 0
 abbrev pub is_one : Tri → Bool
@@ -84,10 +84,8 @@ sent_bit p q (pair ∷ pairs) values x y place moves fills extends =
 
     paired : pair.kind ≡ Input → pair.to ≡ place → IsBitOf (signed pair.flip (value_at values pair.from)) (bit y place)
     paired kind to =
-        let there : pair.from < length p = subst (λ k. pair.from < length (entries_of k p q)) kind has.there in
-        let goes : place_of p pair.from ≡ place = subst (λ k. place_of (entries_of k p q) pair.from ≡ pair.to) kind (pair_place p q pair has) ∙ to in
-        let sign : sign_of p pair.from ≡ pair.flip = subst (λ k. sign_of (entries_of k p q) pair.from ≡ pair.flip) kind (pair_sign p q pair has) in
-        let moved_bit : bit y place ≡ differ (bit x pair.from) pair.flip = ap (λ k. bit y k) (sym goes) ∙ (moves.bits pair.from there ∙ ap (λ s. differ (bit x pair.from) s) sign) in
+        let found = pair_goes p q pair Input has kind in
+        let moved_bit : bit y place ≡ differ (bit x pair.from) pair.flip = ap (λ k. bit y k) (sym (found.1 ∙ to)) ∙ (moves.bits pair.from found.0 ∙ ap (λ s. differ (bit x pair.from) s) found.2) in
         subst (λ b. IsBitOf (signed pair.flip (value_at values pair.from)) b) (sym moved_bit) (signed_bit pair.flip (value_at values pair.from) (bit x pair.from) (value_bit values x pair.from fills))
 
 sent_fills : (p q : List (ℕ × Bool)) (pairs : List Pair) (n : ℕ) (values : List Tri) (x y : List Bool) → Moves p x y → length y ≡ n → FillsIn values x → Extends pairs p q → FillsIn (values_sent pairs n values) y
@@ -119,14 +117,6 @@ value_is : (net : Net) (values : List Tri) (x : List Bool) (k : ℕ) → IsOrder
 value_is net values x k ordered same fills apart =
     definite (value_at (tri_outputs net values) k) (bit (function_of net x) k) apart (value_bit (tri_outputs net values) (function_of net x) k (FillsIn-outputs net values x ordered same fills))
 
--- where an output's pair leads
-output_goes : (p q : List (ℕ × Bool)) (pair : Pair) (output : ℕ) → HasPair p q pair → pair.kind ≡ Output → pair.from ≡ output → (output < length q) × (place_of q output ≡ pair.to) × (sign_of q output ≡ pair.flip)
-output_goes p q pair output has kind port = (
-  subst (λ k. k < length q) port (subst (λ kind. pair.from < length (entries_of kind p q)) kind has.there),
-  ap (λ k. place_of q k) (sym port) ∙ subst (λ kind. place_of (entries_of kind p q) pair.from ≡ pair.to) kind (pair_place p q pair has),
-  ap (λ k. sign_of q k) (sym port) ∙ subst (λ kind. sign_of (entries_of kind p q) pair.from ≡ pair.flip) kind (pair_sign p q pair has),
-)
-
 -- A match gives both outputs, on the vector with each X filled in, the bits that the values stand for.
 pub vector_contradicts : (graphs : Graphs) (pairs : List Pair) (output : ℕ) (values : List Tri) → IsGraph graphs.first → IsGraph graphs.second → ShowsDifference graphs pairs output values → Excludes graphs pairs
 vector_contradicts graphs pairs output values first second shows p q match extends =
@@ -140,7 +130,8 @@ vector_contradicts graphs pairs output values first second shows p q match exten
     let fills = filled-fills values in
     let sent = sent_fills p q pairs n values x y (moved-moves p x shape) y_long fills extends in
     let held = pair_of-held pairs Output output pair shows.paired in
-    let goes = output_goes p q pair output (All-contains (HasPair p q) pairs pair extends held.0) held.1 held.2 in
+    let found = pair_goes p q pair Output (All-contains (HasPair p q) pairs pair extends held.0) held.1 in
+    let goes = subst (λ k. (k < length q) × (place_of q k ≡ pair.to) × (sign_of q k ≡ pair.flip)) held.2 found in
     let c = bit (function_of graphs.second y) pair.to in
     let one = value_is graphs.first values x output first.ordered shows.places fills shows.first_definite in
     let other = value_is graphs.second (values_sent pairs n values) y pair.to second.ordered (length-map-range_with_len (value_sent pairs values) 0 n) sent shows.second_definite in

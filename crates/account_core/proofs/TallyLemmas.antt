@@ -16,7 +16,7 @@ use Rattle.query_core.specs.declared.claims.Claim.{Claim}
 use Rattle.query_core.specs.declared.claims.Shape.{Shape}
 use Rattle.query_core.specs.declared.claims.Shape.TheVariants.{Up, Down}
 use Rattle.query_core.specs.Claims.{IsPlaced, ShapeHolds, ShapeFails}
-use Rattle.query_core.specs.Images.{HasPair, entries_of}
+use Rattle.query_core.specs.Images.{HasPair}
 use Rattle.query_core.proofs.ClaimLaws.{no_break}
 use Rattle.account_core.specs.declared.step.Tallied.{Tallied}
 use Rattle.account_core.specs.declared.step.Tallied.TheVariants.{Support, Binate}
@@ -24,7 +24,7 @@ use Rattle.account_core.specs.Given.{Decided, Given, decided, no_fact, fact_at, 
 use Rattle.account_core.specs.Tallies.{shapes_of, SayOf, AreOfEach, AreBothOfEach, HaveShapes, LackShapes, IsTally, port_on, other_side}
 use Rattle.account_core.specs.Exclusions.{Excludes}
 use Rattle.account_core.proofs.Listed.{zipped, given_by}
-use Rattle.account_core.proofs.Matched.{one_to_one, place_below, pair_place}
+use Rattle.account_core.proofs.Matched.{one_to_one, place_below, pair_goes}
 use Rattle.account_core.proofs.Pigeonhole.{pigeonhole}
 
 -- what is said of a shape: it holds, or it fails
@@ -89,25 +89,26 @@ abbrev pub Lacks : Tallied → Net → ℕ → ℕ → Type 0
 Lacks Support net k i = ShapeHolds net k (Up i) × ShapeHolds net k (Down i)
 Lacks Binate net k i = ShapeHolds net k (Up i) ⊎ ShapeHolds net k (Down i)
 
-has : (kind : Tallied) (net : Net) (k : ℕ) (inputs : List ℕ) (shapes : List Shape) (x : ℕ) → HaveShapes kind inputs shapes → ((shape : Shape) → Contains shapes shape → IsTold net k false shape) → Contains inputs x → (x < net.inputs) × Has kind net k x
-has Support net k inputs shapes x are told held =
+-- what is told of each input's shape, and of both its shapes
+each_told : (net : Net) (k : ℕ) (holds : Bool) (inputs : List ℕ) (shapes : List Shape) (x : ℕ) → AreOfEach inputs shapes → ((shape : Shape) → Contains shapes shape → IsTold net k holds shape) → Contains inputs x → (x < net.inputs) × (ShapeSays net k (Up x) holds ⊎ ShapeSays net k (Down x) holds)
+each_told net k holds inputs shapes x are told held =
     elim (each_listed inputs shapes x are held) [
       | inl up ↦ ((told (Up x) up).0, inl (told (Up x) up).1)
       | inr down ↦ ((told (Down x) down).0, inr (told (Down x) down).1)
     ]
-has Binate net k inputs shapes x are told held =
+
+both_told : (net : Net) (k : ℕ) (holds : Bool) (inputs : List ℕ) (shapes : List Shape) (x : ℕ) → AreBothOfEach inputs shapes → ((shape : Shape) → Contains shapes shape → IsTold net k holds shape) → Contains inputs x → (x < net.inputs) × (ShapeSays net k (Up x) holds × ShapeSays net k (Down x) holds)
+both_told net k holds inputs shapes x are told held =
     let listed = both_listed inputs shapes x are held in
     ((told (Up x) listed.0).0, ((told (Up x) listed.0).1, (told (Down x) listed.1).1))
 
+has : (kind : Tallied) (net : Net) (k : ℕ) (inputs : List ℕ) (shapes : List Shape) (x : ℕ) → HaveShapes kind inputs shapes → ((shape : Shape) → Contains shapes shape → IsTold net k false shape) → Contains inputs x → (x < net.inputs) × Has kind net k x
+has Support net k inputs shapes x are told held = each_told net k false inputs shapes x are told held
+has Binate net k inputs shapes x are told held = both_told net k false inputs shapes x are told held
+
 lacks : (kind : Tallied) (net : Net) (k : ℕ) (inputs : List ℕ) (shapes : List Shape) (x : ℕ) → LackShapes kind inputs shapes → ((shape : Shape) → Contains shapes shape → IsTold net k true shape) → Contains inputs x → (x < net.inputs) × Lacks kind net k x
-lacks Support net k inputs shapes x are told held =
-    let listed = both_listed inputs shapes x are held in
-    ((told (Up x) listed.0).0, ((told (Up x) listed.0).1, (told (Down x) listed.1).1))
-lacks Binate net k inputs shapes x are told held =
-    elim (each_listed inputs shapes x are held) [
-      | inl up ↦ ((told (Up x) up).0, inl (told (Up x) up).1)
-      | inr down ↦ ((told (Down x) down).0, inr (told (Down x) down).1)
-    ]
+lacks Support net k inputs shapes x are told held = both_told net k true inputs shapes x are told held
+lacks Binate net k inputs shapes x are told held = each_told net k true inputs shapes x are told held
 
 -- The claims of an output's input are those of another output's input, in this order or the other one.
 abbrev pub Correspond : Net → ℕ → ℕ → Net → ℕ → ℕ → Type 0
@@ -162,20 +163,13 @@ by_side graphs kind First pair having lacking p q match corresponds there goes r
 by_side graphs kind Second pair having lacking p q match corresponds there goes rise_having rise_lacking many has lacks =
     of_second graphs kind pair.from having lacking p q match corresponds there rise_having rise_lacking many (subst (λ l. (x : ℕ) → Contains having x → (x < graphs.second.inputs) × Has kind graphs.second l x) (sym goes) has) lacks
 
--- where a pair of outputs leads
-output_place : (p q : List (ℕ × Bool)) (pair : Pair) → HasPair p q pair → pair.kind ≡ Output → (pair.from < length q) × (place_of q pair.from ≡ pair.to)
-output_place p q pair has kind = (
-  subst (λ kind. pair.from < length (entries_of kind p q)) kind has.there,
-  subst (λ kind. place_of (entries_of kind p q) pair.from ≡ pair.to) kind (pair_place p q pair has),
-)
-
 -- the output that has more inputs than its partner may have
 pub tally_contradicts : (graphs : Graphs) (given : Given) (pairs : List Pair) (kind : Tallied) (have lack : List ℕ) → ((p q : List (ℕ × Bool)) → IsMatchOfFunctions graphs.first graphs.second p q → CorrespondsAt graphs p q) → All (IsTrueFact graphs) given.facts → All (IsFactGiven given) have → All (IsFactGiven given) lack → IsTally graphs given pairs kind have lack → Excludes graphs pairs
 tally_contradicts graphs given pairs kind have lack correspond facts known_have known_lack tally p q match extends =
     let pair = tally.pair in
     let side = tally.side in
     let other = other_side side in
-    let taken = output_place p q pair (All-contains (HasPair p q) pairs pair extends tally.paired) tally.of_outputs in
+    let taken = pair_goes p q pair Output (All-contains (HasPair p q) pairs pair extends tally.paired) tally.of_outputs in
     by_side graphs kind side pair tally.having tally.lacking p q match (correspond p q match) (omega (arith, taken.0, match.outputs.entries)) taken.1 tally.having_ascends tally.lacking_ascends tally.too_many
     (λ x held. has kind (graph_of graphs side) (port_on side pair) tally.having (shapes_of given have) x tally.have_shapes (λ shape listed. shape_told graphs given have false side (port_on side pair) shape facts known_have tally.fail listed) held)
     (λ x held. lacks kind (graph_of graphs other) (port_on other pair) tally.lacking (shapes_of given lack) x tally.lack_shapes (λ shape listed. shape_told graphs given lack true other (port_on other pair) shape facts known_lack tally.hold listed) held)

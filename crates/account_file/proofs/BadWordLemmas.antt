@@ -11,18 +11,18 @@ use Rattle.account_file.specs.Accounts.{BeginsLine, HasBadNumber, HasBadWord}
 use Rattle.account_file.proofs.GrammarLemmas.{line_is_read}
 use Rattle.account_file.proofs.NumberLemmas.{zero_decimal}
 use Rattle.account_file.proofs.ReadLemmas.{CanRead, IsWordOrNumber}
-use Rattle.account_file.proofs.RecordLemmas.{text_words, words_written, written_is_read, read_is_written}
+use Rattle.account_file.proofs.RecordLemmas.{text_words, written_is_read, read_is_written}
 
 -- words that are read begin a line
 begins : (front : List (List ℕ)) (word : List ℕ) → CanRead (λ after. record_in (front ++ word ∷ after)) → BeginsLine (front ++ word ∷ [])
 begins front word c =
-    let found = words_written (front ++ word ∷ c.words) c.entry c.read in
+    let found = line_is_read.written (front ++ word ∷ c.words) c.entry c.read in
     record {
       line = line_text c.entry;
       entry = c.entry;
-      form = (found.1, refl);
+      form = (found.writable, refl);
       after = c.words;
-      words_are = text_words c.entry found.1 ∙ sym found.0 ∙ sym (append_assoc front (word ∷ []) c.words);
+      words_are = text_words c.entry found.writable ∙ sym found.same ∙ sym (append_assoc front (word ∷ []) c.words);
     }
 
 -- words that begin a line are read with what follows them there

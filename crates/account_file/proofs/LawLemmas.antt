@@ -4,14 +4,15 @@ use Rattle.std.specs.List.{AllZip}
 use Rattle.std.specs.Str.{bytes_eq}
 use Rattle.std.proofs.Math.Seq.{get_or-append_seam, take-append_seam}
 use Rattle.std.proofs.lemmas.Bool.{cases_lt, false≢true}
-use Rattle.std.proofs.lemmas.Slice.Zip.{all_zipped_more}
+use Rattle.std.proofs.lemmas.List.{append_cancel_right}
+use Rattle.std.proofs.lemmas.Slice.Zip.{all_zipped_more, AllZip-long}
 use Rattle.std.proofs.lemmas.Slice.Eq.{bytes_eq-Decides}
 use Rattle.account_file.specs.declared.record.Record.{Record}
 use Rattle.account_file.specs.declared.record.Record.TheVariants as record_of
 use Rattle.account_file.specs.declared.fault.RecordFault.{RecordFault}
 use Rattle.account_file.specs.declared.fault.RecordFault.TheVariants as fault
 use Rattle.account_file.specs.declared.place.Place.{Place}
-use Rattle.account_file.specs.declared.place.Place.TheVariants.{Start, Headed, FactLog, Logs, Ended}
+use Rattle.account_file.specs.declared.place.Place.TheVariants.{Start, Headed, Ended}
 use Rattle.account_file.specs.declared.next_record.NextRecord.{NextRecord}
 use Rattle.account_file.specs.declared.next_record.NextRecord.TheVariants.{Wait, Read, Refuse}
 use Rattle.account_file.specs.Forms.{record_in}
@@ -22,7 +23,7 @@ use Rattle.account_file.specs.Accounts.{HasForm, AreRecords, LineFault, EndFault
 use Rattle.account_file.specs.NextRecords.{in_place, placed, next_from, next_at_line}
 use Rattle.account_file.proofs.AccountLemmas.{FaultThere, NextSays, fault_there, line_fault, next_at_line_says}
 use Rattle.account_file.proofs.OrderLemmas.{place_after_last, place_there, take_in_order}
-use Rattle.account_file.proofs.RecordLemmas.{cancel_last, written_is_read}
+use Rattle.account_file.proofs.RecordLemmas.{written_is_read}
 
 form_is_read : (line : List ℕ) (entry : Record) → HasForm line entry → record_in (words_of line) ≡ Ok entry
 form_is_read line entry form = written_is_read entry line form.0 form.1
@@ -40,10 +41,7 @@ same_records (line ∷ lines) (a ∷ as') (b ∷ bs) f s = ap (λ e. e ∷ as') 
 
 -- records and their lines, side by side
 pub as_many : (lines : List (List ℕ)) (records : List Record) → AllZip HasForm lines records → length lines ≡ length records
-as_many [] [] z = refl
-as_many [] (e ∷ es) z = absurd z
-as_many (line ∷ lines) [] z = absurd z
-as_many (line ∷ lines) (e ∷ es) z = ap suc (as_many lines es z.1)
+as_many lines records forms = sym (AllZip-long HasForm lines records forms)
 
 form_at : (lines : List (List ℕ)) (records : List Record) (k : ℕ) → AllZip HasForm lines records → k < length lines → HasForm (get_or lines k []) (get_or records k record_of.End)
 form_at [] [] k z below = absurd (omega (arith, below))
@@ -74,7 +72,7 @@ other_line line other = by (bytes_eq line (codes "npnp 1")) refl
 said_record : (place : Place) (line : List ℕ) (entry : Record) (after : Place) → HasForm line entry → next_place place entry ≡ Some after
     → next_at_line place line ≡ Read entry after (length line + 1)
 said_record Start line record_of.Header after form e =
-    let same = cancel_last line (codes "npnp 1") 10 (sym form.1) in
+    let same = append_cancel_right line (codes "npnp 1") (10 ∷ []) (sym form.1) in
     let headed : Headed ≡ after = cc in
     ap (λ b. next_from (length line + 1) (cond b (Ok (record_of.Header, Headed)) (Err fault.Header))) (header_line line same)
     ∙ ap (λ p. Read record_of.Header p (length line + 1)) headed
@@ -267,7 +265,7 @@ module _ (bytes : List ℕ) (done left : List (List ℕ)) (before : List Record)
       let front : take (length before) (whole_lines bytes) ≡ done = ap (take (length before)) lines ∙ ap (λ n. take n (done ++ left)) (sym count) ∙ take-append_seam done left in
       record { form = subst (λ l. AllZip HasForm l before) (sym front) form; order = subst IsSome (sym at') refl }
 
-  refused_at : (line : List ℕ) (more : List (List ℕ)) → left ≡ line ∷ more → (wrong : RecordFault) → FaultThere place line wrong → HasFormFault bytes before wrong
+  pub refused_at : (line : List ℕ) (more : List (List ℕ)) → left ≡ line ∷ more → (wrong : RecordFault) → FaultThere place line wrong → HasFormFault bytes before wrong
   refused_at line more first wrong said =
       let count = as_many done before form in
       let all : whole_lines bytes ≡ done ++ line ∷ more = lines ∙ ap (λ l. done ++ l) first in
@@ -279,7 +277,7 @@ module _ (bytes : List ℕ) (done left : List (List ℕ)) (before : List Record)
         at_end = λ past. absurd (omega (arith, past, count, ap length all, length-append done (line ∷ more)));
       }
 
-  refused_end : left ≡ [] → (wrong : RecordFault) → EndFault before (after_lines bytes) wrong → HasFormFault bytes before wrong
+  pub refused_end : left ≡ [] → (wrong : RecordFault) → EndFault before (after_lines bytes) wrong → HasFormFault bytes before wrong
   refused_end none wrong h =
       let count = as_many done before form in
       record {
@@ -288,8 +286,8 @@ module _ (bytes : List ℕ) (done left : List (List ℕ)) (before : List Record)
         at_end = λ _. h;
       }
 
-  cut_off : left ≡ [] → place ≢ Ended → SaysSomething bytes
-  cut_off none open' = inr (before, (fault.Truncated, refused_end none fault.Truncated (λ ended. open' (let same : Some place ≡ Some Ended = sym at' ∙ ended in cc))))
+  pub cut_off : left ≡ [] → place ≢ Ended → HasFormFault bytes before fault.Truncated
+  cut_off none open' = refused_end none fault.Truncated (λ ended. open' (let same : Some place ≡ Some Ended = sym at' ∙ ended in cc))
 
   accepted : left ≡ [] → place ≡ Ended → after_lines bytes ≡ [] → SaysSomething bytes
   accepted none ended nothing =
@@ -307,15 +305,12 @@ module _ (bytes : List ℕ) (done left : List (List ℕ)) (before : List Record)
   trailing none ended some = inr (before, (fault.Trailing, refused_end none fault.Trailing (at' ∙ ap Some ended, some)))
 
 end_says : (bytes : List ℕ) (done : List (List ℕ)) (before : List Record) (place : Place) → whole_lines bytes ≡ done ++ [] → AllZip HasForm done before → place_after before ≡ Some place → SaysSomething bytes
-end_says bytes done before Start lines form at' = cut_off bytes done [] before Start lines form at' refl (λ e. cc)
-end_says bytes done before Headed lines form at' = cut_off bytes done [] before Headed lines form at' refl (λ e. cc)
-end_says bytes done before FactLog lines form at' = cut_off bytes done [] before FactLog lines form at' refl (λ e. cc)
-end_says bytes done before (Logs logs) lines form at' = cut_off bytes done [] before (Logs logs) lines form at' refl (λ e. cc)
 end_says bytes done before Ended lines form at' = by (after_lines bytes) refl
   where
     by : (rest : List ℕ) → after_lines bytes ≡ rest → SaysSomething bytes
     by [] e = accepted bytes done [] before Ended lines form at' refl refl e
     by (byte ∷ rest) e = trailing bytes done [] before Ended lines form at' refl refl (λ none. let no : [] ≡ byte ∷ rest = sym none ∙ e in cc)
+end_says bytes done before place lines form at' = inr (before, (fault.Truncated, cut_off bytes done [] before place lines form at' refl (λ e. cc)))
 
 text_says : (bytes : List ℕ) (done left : List (List ℕ)) (before : List Record) (place : Place) → whole_lines bytes ≡ done ++ left → AllZip HasForm done before → place_after before ≡ Some place → SaysSomething bytes
 text_says bytes done [] before place lines form at' = end_says bytes done before place lines form at'

@@ -2,7 +2,7 @@
 use Rattle.std.proofs.Common.{◌≡◌, ℕ, ◌<◌, eqb, ltb, Bool, true, false, cond, codes, List, [], ◌∷◌, map, Result, Ok, Err, refl, sym, ap, subst, ◌∙◌, arith}
 use Rattle.std.specs.List.{list_all}
 use Rattle.std.specs.Str.{bytes_eq}
-use Rattle.std.proofs.lemmas.Bool.{eqb-true}
+use Rattle.std.proofs.lemmas.Bool.{and_from, and_parts, eqb-true, ltb-true}
 use Rattle.std.proofs.lemmas.List.Elements.{All-nil, All-cons}
 use Rattle.std.proofs.lemmas.Slice.Eq.{bytes_eq-Decides}
 use Rattle.circuits.specs.declared.port.PortKind.{PortKind}
@@ -15,214 +15,116 @@ use Rattle.account_core.specs.declared.step.Tallied.{Tallied}
 use Rattle.account_core.specs.declared.step.Tallied.TheVariants.{Support, Binate}
 use Rattle.account_file.specs.declared.fault.RecordFault.{RecordFault}
 use Rattle.account_file.specs.declared.fault.RecordFault.TheVariants.{Word}
-use Rattle.account_file.specs.declared.names.RecordName.{RecordName}
 use Rattle.account_file.specs.declared.names.RecordName.TheVariants as record_name
-use Rattle.account_file.specs.declared.names.ShapeName.{ShapeName}
 use Rattle.account_file.specs.declared.names.ShapeName.TheVariants as shape_name
-use Rattle.account_file.specs.declared.names.StepName.{StepName}
 use Rattle.account_file.specs.declared.names.StepName.TheVariants as step_name
-use Rattle.account_file.specs.declared.names.NoneName.{NoneName}
 use Rattle.account_file.specs.declared.names.NoneName.TheVariants as none_name
-use Rattle.account_file.specs.Forms.{bit_of, tri_of, with_digit, digits_by, digits_after, values_in, bits_of, tris_of, both_bits, two_bits_of, side_of, kind_of, tallied_of, shape_name_of, step_name_of, none_name_of, record_name_of, named}
+use Rattle.account_file.specs.Forms.{bit_of, tri_of, with_digit, digits_by, digits_after, values_in, bits_of, tris_of, both_bits, two_bits_of, side_of, kind_of, tallied_of, shape_name_of, shape_word, step_name_of, step_word, none_name_of, none_word, one_of, record_name_of, record_names, record_word, named}
 use Rattle.account_file.specs.Spelling.{side_word, bit_digit, tri_digit, bits_word, tris_word, tallied_word, kind_word}
 use Rattle.account_file.proofs.ReadLemmas.{IsWord}
 use Rattle.account_file.proofs.SpellingLemmas.{IsVisible, shown}
-use Rattle.account_file.proofs.ValueLemmas.{IsSpelled, plain_word}
+use Rattle.account_file.proofs.ValueLemmas.{plain_word}
 
 abbrev pub Any : {X : Type 0} → X → Type 0
 Any {X} x = Unit {0}
 
--- tables of names
+-- what is read of names, and of digits
 
-abbrev look_up : {X : Type 0} → List (List ℕ × X) → List ℕ → Result X RecordFault
-look_up {X} [] word = Err Word
-look_up {X} (row ∷ rows) word = cond (bytes_eq word row.0) (Ok row.1) (look_up rows word)
+module _ {K X : Type 0} (same : K → K → Bool) (tells : (a b : K) → same a b ≡ true → a ≡ b) (spell : X → K) (shows : K → Bool) where
+  one_faults : (xs : List X) (key : K) (fault : RecordFault) → one_of same spell xs key ≡ Err fault → fault ≡ Word
+  one_faults [] key fault e = let is : Word ≡ fault = cc in sym is
+  one_faults (x ∷ xs) key fault e = by (same key (spell x)) e (λ rest. one_faults xs key fault rest)
+    where
+      by : (b : Bool) → cond b (Ok x) (one_of same spell xs key) ≡ Err fault → (one_of same spell xs key ≡ Err fault → fault ≡ Word) → fault ≡ Word
+      by true e more = absurd (let clash : ⊥ = cc in clash)
+      by false e more = more e
 
-table_faults : {X : Type 0} (rows : List (List ℕ × X)) (word : List ℕ) (fault : RecordFault) → look_up rows word ≡ Err fault → fault ≡ Word
-table_faults {X} [] word fault e = let same : Word ≡ fault = cc in sym same
-table_faults {X} (row ∷ rows) word fault e = by (bytes_eq word row.0) e (λ rest. table_faults rows word fault rest)
-  where
-    by : (b : Bool) → cond b (Ok row.1) (look_up rows word) ≡ Err fault → (look_up rows word ≡ Err fault → fault ≡ Word) → fault ≡ Word
-    by true e more = absurd (let clash : ⊥ = cc in clash)
-    by false e more = more e
+  -- all of the values' names show
+  one_written : (xs : List X) → list_all (λ x. shows (spell x)) xs ≡ true → (key : K) (x : X) → one_of same spell xs key ≡ Ok x → (key ≡ spell x) × (shows (spell x) ≡ true)
+  one_written [] all key x e = absurd (let clash : ⊥ = cc in clash)
+  one_written (y ∷ xs) all key x e = by (same key (spell y)) refl e (λ rest. one_written xs parts.1 key x rest)
+    where
+      parts : (shows (spell y) ≡ true) × (list_all (λ x. shows (spell x)) xs ≡ true)
+      parts = and_parts (shows (spell y)) (list_all (λ x. shows (spell x)) xs) all
 
-table_word : {X : Type 0} (rows : List (List ℕ × X)) (word : List ℕ) (x : X) → look_up rows word ≡ Ok x → look_up rows (codes "0") ≡ Err Word → IsWord (look_up rows)
-table_word {X} rows word x some zero = plain_word (look_up rows) word x some (table_faults rows) zero
+      by : (b : Bool) → same key (spell y) ≡ b → cond b (Ok y) (one_of same spell xs key) ≡ Ok x → (one_of same spell xs key ≡ Ok x → (key ≡ spell x) × (shows (spell x) ≡ true)) → (key ≡ spell x) × (shows (spell x) ≡ true)
+      by true is e more =
+          let value : y ≡ x = cc in
+          subst (λ v. (key ≡ spell v) × (shows (spell v) ≡ true)) value (tells key (spell y) is, parts.0)
+      by false is e more = more e
 
--- each row has the name of its value, which has no blank and no control
-abbrev AreNames : {X : Type 0} → (X → List ℕ) → List (List ℕ × X) → Type 0
-AreNames {X} spell [] = Unit {0}
-AreNames {X} spell (row ∷ rows) = (row.0 ≡ spell row.1) × (list_all (λ byte. ltb 32 byte) row.0 ≡ true) × AreNames spell rows
+-- names
 
-table_written : {X : Type 0} (rows : List (List ℕ × X)) (spell : X → List ℕ) → AreNames spell rows → (word : List ℕ) (x : X) → look_up rows word ≡ Ok x → (word ≡ spell x) × IsVisible word
-table_written {X} [] spell all word x e = absurd (let clash : ⊥ = cc in clash)
-table_written {X} (row ∷ rows) spell all word x e = by (bytes_eq word row.0) refl e (λ rest. table_written rows spell all.2 word x rest)
-  where
-    by : (b : Bool) → bytes_eq word row.0 ≡ b → cond b (Ok row.1) (look_up rows word) ≡ Ok x → (look_up rows word ≡ Ok x → (word ≡ spell x) × IsVisible word) → (word ≡ spell x) × IsVisible word
-    by true is e more =
-        let here = (bytes_eq-Decides word row.0).0 is in
-        let same : row.1 ≡ x = cc in
-        (here ∙ all.0 ∙ ap spell same, subst IsVisible (sym here) (shown row.0 all.1))
-    by false is e more = more e
+-- the value's word is read as it
+abbrev pub IsBack : {X : Type 0} → (List ℕ → Result X RecordFault) → (X → List ℕ) → X → Type 0
+IsBack {X} read spell x = read (spell x) ≡ Ok x
 
-table_spelled : {X : Type 0} (rows : List (List ℕ × X)) (spell : X → List ℕ) → AreNames spell rows → ((x : X) → look_up rows (spell x) ≡ Ok x) → IsSpelled (look_up rows) spell Any
-table_spelled {X} rows spell all back = record {
-  written = λ word x e. ((table_written rows spell all word x e).0, tt);
-  back = λ x fit. back x;
-  visible = λ x fit. (table_written rows spell all (spell x) x (back x)).1;
-}
+abbrev pub bytes_show : List ℕ → Bool
+bytes_show word = list_all (λ byte. ltb 32 byte) word
+
+same_bytes : (a b : List ℕ) → bytes_eq a b ≡ true → a ≡ b
+same_bytes a b is = (bytes_eq-Decides a b).0 is
+
+name_word : {X : Type 0} (xs : List X) (spell : X → List ℕ) (x : X) → IsBack (one_of bytes_eq spell xs) spell x → list_all (λ x. bytes_show (spell x)) xs ≡ true → one_of bytes_eq spell xs (codes "0") ≡ Err Word
+    → IsWord (one_of bytes_eq spell xs) spell (IsBack (one_of bytes_eq spell xs) spell)
+name_word {X} xs spell x back all zero =
+    plain_word (one_of bytes_eq spell xs) spell (IsBack (one_of bytes_eq spell xs) spell) x back
+    (record {
+      faults = one_faults bytes_eq same_bytes spell bytes_show xs;
+      zero = zero;
+      written = λ word y e. let is = (one_written bytes_eq same_bytes spell bytes_show xs all word y e).0 in (is, ap (one_of bytes_eq spell xs) (sym is) ∙ e);
+      back = λ y is. is;
+      visible = λ y is. shown (spell y) (one_written bytes_eq same_bytes spell bytes_show xs all (spell y) y is).1;
+    })
 
 -- which circuit
 
-abbrev sides : List (List ℕ × Side)
-sides = (codes "a", First) ∷ (codes "b", Second) ∷ []
+pub side_is_word : IsWord side_of side_word (IsBack side_of side_word)
+side_is_word = name_word (First ∷ Second ∷ []) side_word First refl refl refl
 
-pub side_is_word : IsWord side_of
-side_is_word = table_word sides (codes "a") First refl refl
-
-pub side_spelled : IsSpelled side_of side_word Any
-side_spelled = table_spelled sides side_word (refl, refl, (refl, refl, tt)) back
-  where
-    back : (x : Side) → side_of (side_word x) ≡ Ok x
-    back First = refl
-    back Second = refl
+pub side_back : (x : Side) → IsBack side_of side_word x
+side_back First = refl
+side_back Second = refl
 
 -- which ports
 
-abbrev kinds : List (List ℕ × PortKind)
-kinds = (codes "in", Input) ∷ (codes "out", Output) ∷ []
+pub kind_is_word : IsWord kind_of kind_word (IsBack kind_of kind_word)
+kind_is_word = name_word (Input ∷ Output ∷ []) kind_word Input refl refl refl
 
-pub kind_is_word : IsWord kind_of
-kind_is_word = table_word kinds (codes "in") Input refl refl
-
-pub kind_spelled : IsSpelled kind_of kind_word Any
-kind_spelled = table_spelled kinds kind_word (refl, refl, (refl, refl, tt)) back
-  where
-    back : (x : PortKind) → kind_of (kind_word x) ≡ Ok x
-    back Input = refl
-    back Output = refl
+pub kind_back : (x : PortKind) → IsBack kind_of kind_word x
+kind_back Input = refl
+kind_back Output = refl
 
 -- what is counted
 
-abbrev tallies : List (List ℕ × Tallied)
-tallies = (codes "support", Support) ∷ (codes "binate", Binate) ∷ []
+pub tallied_is_word : IsWord tallied_of tallied_word (IsBack tallied_of tallied_word)
+tallied_is_word = name_word (Support ∷ Binate ∷ []) tallied_word Support refl refl refl
 
-pub tallied_is_word : IsWord tallied_of
-tallied_is_word = table_word tallies (codes "support") Support refl refl
+pub tallied_back : (x : Tallied) → IsBack tallied_of tallied_word x
+tallied_back Support = refl
+tallied_back Binate = refl
 
-pub tallied_spelled : IsSpelled tallied_of tallied_word Any
-tallied_spelled = table_spelled tallies tallied_word (refl, refl, (refl, refl, tt)) back
-  where
-    back : (x : Tallied) → tallied_of (tallied_word x) ≡ Ok x
-    back Support = refl
-    back Binate = refl
+-- names of shapes of claims, of steps, of why there is no match, and of records
 
--- shapes of claims
+pub shape_name_is_word : IsWord shape_name_of shape_word (IsBack shape_name_of shape_word)
+shape_name_is_word = name_word (shape_name.Up ∷ shape_name.Down ∷ shape_name.Swap ∷ []) shape_word shape_name.Up refl refl refl
 
-abbrev pub shape_word : ShapeName → List ℕ
-shape_word shape_name.Up = codes "up"
-shape_word shape_name.Down = codes "down"
-shape_word shape_name.Swap = codes "swap"
+pub step_name_is_word : IsWord step_name_of step_word (IsBack step_name_of step_word)
+step_name_is_word = name_word (step_name.Vector ∷ step_name.Mismatch ∷ step_name.Tally ∷ step_name.Cover ∷ []) step_word step_name.Vector refl refl refl
 
-abbrev shapes : List (List ℕ × ShapeName)
-shapes = (codes "up", shape_name.Up) ∷ (codes "down", shape_name.Down) ∷ (codes "swap", shape_name.Swap) ∷ []
+pub none_name_is_word : IsWord none_name_of none_word (IsBack none_name_of none_word)
+none_name_is_word = name_word (none_name.Ports ∷ none_name.Ban ∷ []) none_word none_name.Ports refl refl refl
 
-pub shape_name_is_word : IsWord shape_name_of
-shape_name_is_word = table_word shapes (codes "up") shape_name.Up refl refl
-
-pub shape_name_spelled : IsSpelled shape_name_of shape_word Any
-shape_name_spelled = table_spelled shapes shape_word (refl, refl, (refl, refl, (refl, refl, tt))) back
-  where
-    back : (x : ShapeName) → shape_name_of (shape_word x) ≡ Ok x
-    back shape_name.Up = refl
-    back shape_name.Down = refl
-    back shape_name.Swap = refl
-
--- steps
-
-abbrev pub step_word : StepName → List ℕ
-step_word step_name.Vector = codes "vector"
-step_word step_name.Mismatch = codes "mismatch"
-step_word step_name.Tally = codes "tally"
-step_word step_name.Cover = codes "cover"
-
-abbrev steps : List (List ℕ × StepName)
-steps = (codes "vector", step_name.Vector) ∷ (codes "mismatch", step_name.Mismatch) ∷ (codes "tally", step_name.Tally) ∷ (codes "cover", step_name.Cover) ∷ []
-
-pub step_name_is_word : IsWord step_name_of
-step_name_is_word = table_word steps (codes "vector") step_name.Vector refl refl
-
-pub step_name_spelled : IsSpelled step_name_of step_word Any
-step_name_spelled = table_spelled steps step_word (refl, refl, (refl, refl, (refl, refl, (refl, refl, tt)))) back
-  where
-    back : (x : StepName) → step_name_of (step_word x) ≡ Ok x
-    back step_name.Vector = refl
-    back step_name.Mismatch = refl
-    back step_name.Tally = refl
-    back step_name.Cover = refl
-
--- why there is no match
-
-abbrev pub none_word : NoneName → List ℕ
-none_word none_name.Ports = codes "ports"
-none_word none_name.Ban = codes "ban"
-
-abbrev nones : List (List ℕ × NoneName)
-nones = (codes "ports", none_name.Ports) ∷ (codes "ban", none_name.Ban) ∷ []
-
-pub none_name_is_word : IsWord none_name_of
-none_name_is_word = table_word nones (codes "ports") none_name.Ports refl refl
-
-pub none_name_spelled : IsSpelled none_name_of none_word Any
-none_name_spelled = table_spelled nones none_word (refl, refl, (refl, refl, tt)) back
-  where
-    back : (x : NoneName) → none_name_of (none_word x) ≡ Ok x
-    back none_name.Ports = refl
-    back none_name.Ban = refl
-
--- records
-
-abbrev pub record_word : RecordName → List ℕ
-record_word record_name.Line = codes "l"
-record_word record_name.Fails = codes "fails"
-record_word record_name.Holds = codes "holds"
-record_word record_name.Ban = codes "ban"
-record_word record_name.Match = codes "match"
-record_word record_name.None = codes "none"
-record_word record_name.End = codes "end"
-record_word record_name.Header = codes "npnp"
-
-abbrev records : List (List ℕ × RecordName)
-records = (codes "l", record_name.Line) ∷ (codes "fails", record_name.Fails) ∷ (codes "holds", record_name.Holds) ∷ (codes "ban", record_name.Ban) ∷ (codes "match", record_name.Match) ∷ (codes "none", record_name.None) ∷ (codes "end", record_name.End) ∷ (codes "npnp", record_name.Header) ∷ []
-
-pub record_name_is_word : IsWord record_name_of
-record_name_is_word = table_word records (codes "l") record_name.Line refl refl
-
-pub record_name_spelled : IsSpelled record_name_of record_word Any
-record_name_spelled = table_spelled records record_word (refl, refl, (refl, refl, (refl, refl, (refl, refl, (refl, refl, (refl, refl, (refl, refl, (refl, refl, tt)))))))) back
-  where
-    back : (x : RecordName) → record_name_of (record_word x) ≡ Ok x
-    back record_name.Line = refl
-    back record_name.Fails = refl
-    back record_name.Holds = refl
-    back record_name.Ban = refl
-    back record_name.Match = refl
-    back record_name.None = refl
-    back record_name.End = refl
-    back record_name.Header = refl
+pub record_name_is_word : IsWord record_name_of record_word (IsBack record_name_of record_word)
+record_name_is_word = name_word record_names record_word record_name.Line refl refl refl
 
 -- this very word
 
-pub named_is_word : (name : List ℕ) → named name (codes "0") ≡ Err Word → IsWord (named name)
-named_is_word name zero =
-    table_word ((name, true) ∷ []) name true (ap (λ b. cond b (Ok true) (Err Word)) ((bytes_eq-Decides name name).1 refl)) zero
+pub named_self : (name : List ℕ) → named name name ≡ Ok true
+named_self name = ap (λ b. cond b (Ok true) (Err Word)) ((bytes_eq-Decides name name).1 refl)
 
-pub named_written : (name word : List ℕ) (x : Bool) → named name word ≡ Ok x → word ≡ name
-named_written name word x e = by (bytes_eq word name) refl e
-  where
-    by : (b : Bool) → bytes_eq word name ≡ b → cond b (Ok true) (Err Word) ≡ Ok x → word ≡ name
-    by true is e = (bytes_eq-Decides word name).0 is
-    by false is e = absurd (let clash : ⊥ = cc in clash)
+pub named_is_word : (name : List ℕ) → named name (codes "0") ≡ Err Word → bytes_show name ≡ true → IsWord (named name) (λ b. name) (IsBack (named name) (λ b. name))
+named_is_word name zero shows = name_word (true ∷ []) (λ b. name) true (named_self name) (and_from (bytes_show name) true shows refl) zero
 
 -- digits that are values
 
@@ -232,63 +134,28 @@ pub record IsDigit {X : Type 0} (read : ℕ → Result X RecordFault) (digit : X
   pub shows : (x : X) → 32 < digit x
   pub faults : (d : ℕ) (fault : RecordFault) → read d ≡ Err fault → fault ≡ Word
 
-bit_is_digit : IsDigit bit_of bit_digit
-bit_is_digit = record { written = written; back = back; shows = shows; faults = faults }
-  where
-    written : (d : ℕ) (x : Bool) → bit_of d ≡ Ok x → d ≡ bit_digit x
-    written d x e = by (eqb d 48) (eqb d 49) refl refl e
-      where
-        by : (a b : Bool) → eqb d 48 ≡ a → eqb d 49 ≡ b → cond a (Ok false) (cond b (Ok true) (Err Word)) ≡ Ok x → d ≡ bit_digit x
-        by true b ea eb e = let same : false ≡ x = cc in eqb-true d 48 ea ∙ ap bit_digit same
-        by false true ea eb e = let same : true ≡ x = cc in eqb-true d 49 eb ∙ ap bit_digit same
-        by false false ea eb e = absurd (let clash : ⊥ = cc in clash)
+one_digit : {X : Type 0} (xs : List X) (digit : X → ℕ) → list_all (λ x. ltb 32 (digit x)) xs ≡ true → ((x : X) → one_of eqb digit xs (digit x) ≡ Ok x) → IsDigit (one_of eqb digit xs) digit
+one_digit {X} xs digit all back = record {
+  written = λ d x e. (one_written eqb eqb-true digit (ltb 32) xs all d x e).0;
+  back = back;
+  shows = λ x. ltb-true 32 (digit x) (one_written eqb eqb-true digit (ltb 32) xs all (digit x) x (back x)).1;
+  faults = one_faults eqb eqb-true digit (ltb 32) xs;
+}
 
+bit_is_digit : IsDigit bit_of bit_digit
+bit_is_digit = one_digit (false ∷ true ∷ []) bit_digit refl back
+  where
     back : (x : Bool) → bit_of (bit_digit x) ≡ Ok x
     back true = refl
     back false = refl
 
-    shows : (x : Bool) → 32 < bit_digit x
-    shows true = omega arith
-    shows false = omega arith
-
-    faults : (d : ℕ) (fault : RecordFault) → bit_of d ≡ Err fault → fault ≡ Word
-    faults d fault e = by (eqb d 48) (eqb d 49) e
-      where
-        by : (a b : Bool) → cond a (Ok false) (cond b (Ok true) (Err Word)) ≡ Err fault → fault ≡ Word
-        by true b e = absurd (let clash : ⊥ = cc in clash)
-        by false true e = absurd (let clash : ⊥ = cc in clash)
-        by false false e = let same : Word ≡ fault = cc in sym same
-
 tri_is_digit : IsDigit tri_of tri_digit
-tri_is_digit = record { written = written; back = back; shows = shows; faults = faults }
+tri_is_digit = one_digit (tri.Zero ∷ tri.One ∷ tri.X ∷ []) tri_digit refl back
   where
-    written : (d : ℕ) (x : Tri) → tri_of d ≡ Ok x → d ≡ tri_digit x
-    written d x e = by (eqb d 48) (eqb d 49) (eqb d 120) refl refl refl e
-      where
-        by : (a b c : Bool) → eqb d 48 ≡ a → eqb d 49 ≡ b → eqb d 120 ≡ c → cond a (Ok tri.Zero) (cond b (Ok tri.One) (cond c (Ok tri.X) (Err Word))) ≡ Ok x → d ≡ tri_digit x
-        by true b c ea eb ec e = let same : tri.Zero ≡ x = cc in eqb-true d 48 ea ∙ ap tri_digit same
-        by false true c ea eb ec e = let same : tri.One ≡ x = cc in eqb-true d 49 eb ∙ ap tri_digit same
-        by false false true ea eb ec e = let same : tri.X ≡ x = cc in eqb-true d 120 ec ∙ ap tri_digit same
-        by false false false ea eb ec e = absurd (let clash : ⊥ = cc in clash)
-
     back : (x : Tri) → tri_of (tri_digit x) ≡ Ok x
     back tri.Zero = refl
     back tri.One = refl
     back tri.X = refl
-
-    shows : (x : Tri) → 32 < tri_digit x
-    shows tri.Zero = omega arith
-    shows tri.One = omega arith
-    shows tri.X = omega arith
-
-    faults : (d : ℕ) (fault : RecordFault) → tri_of d ≡ Err fault → fault ≡ Word
-    faults d fault e = by (eqb d 48) (eqb d 49) (eqb d 120) e
-      where
-        by : (a b c : Bool) → cond a (Ok tri.Zero) (cond b (Ok tri.One) (cond c (Ok tri.X) (Err Word))) ≡ Err fault → fault ≡ Word
-        by true b c e = absurd (let clash : ⊥ = cc in clash)
-        by false true c e = absurd (let clash : ⊥ = cc in clash)
-        by false false true e = absurd (let clash : ⊥ = cc in clash)
-        by false false false e = let same : Word ≡ fault = cc in sym same
 
 module _ {X : Type 0} (read : ℕ → Result X RecordFault) (digit : X → ℕ) (d : IsDigit read digit) where
   digits_written : (word : List ℕ) (xs : List X) → digits_by read word ≡ Ok xs → word ≡ map digit xs
@@ -343,27 +210,22 @@ module _ {X : Type 0} (read : ℕ → Result X RecordFault) (digit : X → ℕ) 
       by true e = digits_faults word fault e
       by false e = let same : Word ≡ fault = cc in sym same
 
-  pub values_word : IsWord values
-  values_word = plain_word values (codes "=") [] refl values_faults refl
+  pub values_word : IsWord values spelled Any
+  values_word =
+      plain_word values spelled Any [] tt
+      (record {
+        faults = values_faults;
+        zero = refl;
+        written = λ word xs e. (values_written word xs e, tt);
+        back = λ xs fit. digits_back xs;
+        visible = λ xs fit. All-cons (λ byte. 32 < byte) 61 (map digit xs) (omega arith) (digits_show xs);
+      })
 
-  pub values_spelled : IsSpelled values spelled Any
-  values_spelled = record {
-    written = λ word xs e. (values_written word xs e, tt);
-    back = λ xs fit. digits_back xs;
-    visible = λ xs fit. All-cons (λ byte. 32 < byte) 61 (map digit xs) (omega arith) (digits_show xs);
-  }
-
-pub bits_is_word : IsWord bits_of
+pub bits_is_word : IsWord bits_of bits_word Any
 bits_is_word = values_word bit_of bit_digit bit_is_digit
 
-pub bits_spelled : IsSpelled bits_of bits_word Any
-bits_spelled = values_spelled bit_of bit_digit bit_is_digit
-
-pub tris_is_word : IsWord tris_of
+pub tris_is_word : IsWord tris_of tris_word Any
 tris_is_word = values_word tri_of tri_digit tri_is_digit
-
-pub tris_spelled : IsSpelled tris_of tris_word Any
-tris_spelled = values_spelled tri_of tri_digit tri_is_digit
 
 -- the two bits of a swap
 
@@ -390,14 +252,15 @@ two_bits_faults (x ∷ y ∷ []) fault e = by (bit_of x) (bit_of y) refl refl e
     by (Ok a) (Ok b) ea eb e = absurd (let clash : ⊥ = cc in clash)
 two_bits_faults word fault e = let same : Word ≡ fault = cc in sym same
 
-pub two_bits_is_word : IsWord two_bits_of
-two_bits_is_word = plain_word two_bits_of (codes "00") (false, false) refl two_bits_faults refl
-
-pub two_bits_spelled : IsSpelled two_bits_of two_bits_word Any
-two_bits_spelled = record {
-  written = λ word bits e. (two_bits_written word bits e, tt);
-  back = λ bits fit. ap (λ a. both_bits a (bit_of (bit_digit bits.1))) (bit_is_digit.back bits.0) ∙ ap (λ b. both_bits (Ok bits.0) b) (bit_is_digit.back bits.1);
-  visible = λ bits fit.
-      All-cons (λ byte. 32 < byte) (bit_digit bits.0) (bit_digit bits.1 ∷ []) (bit_is_digit.shows bits.0)
-      (All-cons (λ byte. 32 < byte) (bit_digit bits.1) [] (bit_is_digit.shows bits.1) (All-nil (λ byte. 32 < byte)));
-}
+pub two_bits_is_word : IsWord two_bits_of two_bits_word Any
+two_bits_is_word =
+    plain_word two_bits_of two_bits_word Any (false, false) tt
+    (record {
+      faults = two_bits_faults;
+      zero = refl;
+      written = λ word bits e. (two_bits_written word bits e, tt);
+      back = λ bits fit. ap (λ a. both_bits a (bit_of (bit_digit bits.1))) (bit_is_digit.back bits.0) ∙ ap (λ b. both_bits (Ok bits.0) b) (bit_is_digit.back bits.1);
+      visible = λ bits fit.
+          All-cons (λ byte. 32 < byte) (bit_digit bits.0) (bit_digit bits.1 ∷ []) (bit_is_digit.shows bits.0)
+          (All-cons (λ byte. 32 < byte) (bit_digit bits.1) [] (bit_is_digit.shows bits.1) (All-nil (λ byte. 32 < byte)));
+    })

@@ -1,5 +1,5 @@
 -- A record that is read uses a whole line, which isn't empty.
-use Rattle.std.proofs.Common.{◌≡◌, ℕ, zero, suc, ◌+◌, ◌-◌, ◌≤◌, eqb, not, Option, None, Some, Bool, true, false, cond, List, [], ◌∷◌, ◌++◌, length, drop, Result, Ok, Err, refl, sym, ap, subst, ◌∙◌, inl, inr, arith, length-append, length-take, zero-add}
+use Rattle.std.proofs.Common.{◌≡◌, ℕ, zero, suc, ◌+◌, ◌-◌, ◌≤◌, eqb, not, Option, None, Some, Bool, true, false, cond, List, [], ◌∷◌, ◌++◌, length, take, drop, Result, Ok, Err, refl, sym, ap, subst, ◌∙◌, inl, inr, arith, length-append, length-drop, length-take, zero-add}
 use Rattle.std.specs.List.{before_first, position_or_len, prefix_len}
 use Rattle.std.proofs.lemmas.Bool.{cases_Bool, ltb-true}
 use Rattle.std.proofs.lemmas.List.{drop-append-le}
@@ -30,7 +30,7 @@ at_end : (place : Place) (left : List ℕ) (entry : Record) (after : Place) (n :
 at_end Ended (b ∷ left) entry after n e = cc
 at_end place left entry after n e = cc
 
-pub used_within : (left : List ℕ) (finished : Bool) (place : Place) (entry : Record) (after : Place) (n : ℕ) → next_of left finished place ≡ Read entry after n → (2 ≤ n) × (n ≤ length left)
+used_within : (left : List ℕ) (finished : Bool) (place : Place) (entry : Record) (after : Place) (n : ℕ) → next_of left finished place ≡ Read entry after n → (2 ≤ n) × (n ≤ length left)
 used_within left finished place entry after n e =
     elim (cases_Bool (has_line left)) [
       | inl there ↦
@@ -45,6 +45,12 @@ used_within left finished place entry after n e =
     no_read : (f : Bool) → cond f (next_at_end place left) Wait ≡ Read entry after n → ⊥
     no_read true read = at_end place left entry after n read
     no_read false read = cc
+
+-- the same of bytes of which the first were read
+pub used_of : (bytes all : List ℕ) (start : ℕ) (finished : Bool) (place : Place) (entry : Record) (after : Place) (n : ℕ) → all ≡ bytes → next_of (take (length all - start) (drop start all)) finished place ≡ Read entry after n → (2 ≤ n) × (n ≤ length bytes - start)
+used_of bytes all start finished place entry after n same e =
+    let used = used_within (take (length all - start) (drop start all)) finished place entry after n e in
+    (used.0, omega (arith, used.1, length-take (length all - start) (drop start all), length-drop start all, ap length same))
 
 -- one line more was given
 pub counted_more : (given : Option RecordFault) (line left total used : ℕ) → ((x : RecordFault) → given ≡ Some x → ⊥) → IsCounted given line left total → 2 ≤ used → used ≤ left → IsCounted given (line + 1) (left - used) total

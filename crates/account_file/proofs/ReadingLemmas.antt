@@ -1,7 +1,7 @@
 -- What the next record, or the first fault, says of the whole text, and how far the text was read after it.
 use Rattle.std.proofs.Common.{◌≡◌, ◌≢◌, ℕ, ◌+◌, ◌<◌, ◌≤◌, Bool, true, false, cond, List, [], ◌∷◌, ◌++◌, length, get_or, take, drop, All, Option, Some, None, IsSome, IfSome, is_some, Result, Ok, Err, refl, sym, ap, subst, ◌∙◌, arith, append_assoc, append-nil, length-append, length-take-le}
 use Rattle.std.specs.List.{AllZip, flat_map, before_first, after_first, position_or_len}
-use Rattle.std.proofs.Math.Seq.{take-append-add, take-append_seam, get_or-append_seam}
+use Rattle.std.proofs.Math.Seq.{take-append-add}
 use Rattle.std.proofs.lemmas.Bool.{ltb-true, ltb-false}
 use Rattle.std.proofs.lemmas.List.{take-append-le, get_or_append_left}
 use Rattle.std.proofs.lemmas.List.Elements.{All-push}
@@ -15,7 +15,7 @@ use Rattle.account_file.specs.declared.fault.RecordFault.TheVariants as fault
 use Rattle.account_file.specs.declared.fault.FileStop.{FileStop}
 use Rattle.account_file.specs.declared.fault.FileStop.TheVariants.{Fault, Memory}
 use Rattle.account_file.specs.declared.place.Place.{Place}
-use Rattle.account_file.specs.declared.place.Place.TheVariants.{Start, Headed, FactLog, Logs, Ended}
+use Rattle.account_file.specs.declared.place.Place.TheVariants.{Ended}
 use Rattle.account_file.specs.declared.next_record.NextRecord.{NextRecord}
 use Rattle.account_file.specs.declared.next_record.NextRecord.TheVariants.{Wait, Read, Refuse}
 use Rattle.account_file.specs.Lines.{whole_lines, after_lines}
@@ -25,8 +25,9 @@ use Rattle.account_file.specs.Reading.{Reading, HasRead, given_by}
 use Rattle.account_file.specs.Spelling.{IsWritable, record_line}
 use Rattle.account_file.specs.NextRecords.{has_line, next_at_line, next_at_end, next_of, answer_by, reading_after, next_answer, next_reading}
 use Rattle.account_file.specs.Texts.{Answers, Says}
-use Rattle.account_file.proofs.AccountLemmas.{texts_of, length_texts, lines_of_records, after_records, have_forms, FaultThere, NextSays, next_at_line_says, line_fault}
+use Rattle.account_file.proofs.AccountLemmas.{texts_of, length_texts, lines_of_records, after_records, have_forms, FaultThere, NextSays, next_at_line_says}
 use Rattle.account_file.proofs.LineLemmas.{lines_first, lines_none, after_none, cut_first, before_first_is_line, no_line_feed_is_line, lines_stay}
+use Rattle.account_file.proofs.LawLemmas.{cut_off, refused_at, refused_end}
 use Rattle.account_file.proofs.OrderLemmas.{place_after_last}
 
 -- a text that begins with the lines of records, after which an account stands so
@@ -40,25 +41,16 @@ module _ (bytes left : List ℕ) (records : List Record) (place : Place) (text :
   in_order : AreInOrder records
   in_order = subst IsSome (sym at') refl
 
-  before_are : AreRecords (take (length records) (whole_lines bytes)) records
-  before_are =
-      let front : take (length records) (whole_lines bytes) ≡ texts_of records =
-      ap (take (length records)) lines_are ∙ ap (λ n. take n (texts_of records ++ whole_lines left)) (sym (length_texts records))
-      ∙ take-append_seam (texts_of records) (whole_lines left) in
-      record { form = subst (λ l. AllZip HasForm l records) (sym front) (have_forms records w); order = in_order }
-
   -- a whole line is left
   module _ (line more : List ℕ) (cut : left ≡ line ++ 10 ∷ more) (one : IsLine line) where
+    first : whole_lines left ≡ line ∷ whole_lines more
+    first = ap whole_lines cut ∙ lines_first line more one
+
     with_line : whole_lines bytes ≡ texts_of records ++ line ∷ whole_lines more
-    with_line = lines_are ∙ ap (λ l. texts_of records ++ l) (ap whole_lines cut ∙ lines_first line more one)
+    with_line = lines_are ∙ ap (λ l. texts_of records ++ l) first
 
     below : length records < length (whole_lines bytes)
     below = omega (arith, ap length with_line, length-append (texts_of records) (line ∷ whole_lines more), length_texts records)
-
-    line_is : get_or (whole_lines bytes) (length records) [] ≡ line
-    line_is =
-        ap (λ l. get_or l (length records) []) with_line ∙ ap (λ n. get_or (texts_of records ++ line ∷ whole_lines more) n []) (sym (length_texts records))
-        ∙ get_or-append_seam (texts_of records) line (whole_lines more) []
 
     front_is : take (length records + 1) (whole_lines bytes) ≡ texts_of records ++ line ∷ []
     front_is =
@@ -66,11 +58,7 @@ module _ (bytes left : List ℕ) (records : List Record) (place : Place) (text :
         ∙ take-append-add (texts_of records) (line ∷ whole_lines more) 1
 
     refused : (wrong : RecordFault) → FaultThere place line wrong → HasFormFault bytes records wrong
-    refused wrong said = record {
-      records = before_are;
-      at_line = λ _. subst (λ l. LineFault records l wrong) (sym line_is) (line_fault records place line wrong at' said);
-      at_end = λ past. absurd (omega (arith, past, below));
-    }
+    refused = refused_at bytes (texts_of records) (whole_lines left) records place lines_are (have_forms records w) at' line (whole_lines more) first
 
     line_says : (finished : Bool) (next : NextRecord) → NextSays place line next → SaysNext bytes finished records (answer_by next)
     line_says finished Wait said = absurd said
@@ -93,21 +81,12 @@ module _ (bytes left : List ℕ) (records : List Record) (place : Place) (text :
     left_is = rest_is ∙ after_none left none
 
     end_fault : (wrong : RecordFault) → EndFault records left wrong → HasFormFault bytes records wrong
-    end_fault wrong h = record {
-      records = before_are;
-      at_line = λ less. absurd (omega (arith, less, ap length no_line, length_texts records));
-      at_end = λ _. subst (λ l. EndFault records l wrong) (sym left_is) h;
-    }
-
-    cut_off : (place ≢ Ended) → HasFormFault bytes records fault.Truncated
-    cut_off open' = end_fault fault.Truncated (λ ended. open' (let same : Some place ≡ Some Ended = sym at' ∙ ended in cc))
+    end_fault wrong h =
+        refused_end bytes (texts_of records) (whole_lines left) records place lines_are (have_forms records w) at' (lines_none left none) wrong
+        (subst (λ l. EndFault records l wrong) (sym left_is) h)
 
 end_says : (bytes left : List ℕ) (records : List Record) (place : Place) → bytes ≡ flat_map record_line records ++ left → All IsWritable records → place_after records ≡ Some place
     → IsLine left → SaysNext bytes true records (answer_by (next_at_end place left))
-end_says bytes left records Start text w at' none = cut_off bytes left records Start text w at' none (λ e. cc)
-end_says bytes left records Headed text w at' none = cut_off bytes left records Headed text w at' none (λ e. cc)
-end_says bytes left records FactLog text w at' none = cut_off bytes left records FactLog text w at' none (λ e. cc)
-end_says bytes left records (Logs logs) text w at' none = cut_off bytes left records (Logs logs) text w at' none (λ e. cc)
 end_says bytes [] records Ended text w at' none = record {
   records_are = all_are bytes [] records Ended text w at' none;
   ended = at';
@@ -115,6 +94,8 @@ end_says bytes [] records Ended text w at' none = record {
 }
 end_says bytes (byte ∷ left) records Ended text w at' none =
     end_fault bytes (byte ∷ left) records Ended text w at' none fault.Trailing (at', λ e. cc)
+end_says bytes left records place text w at' none =
+    cut_off bytes (texts_of records) (whole_lines left) records place (lines_are bytes left records place text w at') (have_forms records w) at' (lines_none left none) (λ e. cc)
 
 -- by the first line feed that is left
 line_below : (left : List ℕ) → has_line left ≡ true → position_or_len is_line_feed left < length left

@@ -1,4 +1,4 @@
--- Words as they are written are those that are read, each kind of word in its turn.
+-- Words that are numbers, references or pairs: as they are written they are read.
 use Rattle.std.proofs.Common.{◌≡◌, ◌⊎◌, ℕ, ◌<◌, ◌≤◌, ◌^◌, eqb, Bool, true, false, cond, codes, List, [], ◌∷◌, ◌++◌, length, take, drop, Option, Some, None, Result, Ok, Err, refl, sym, ap, subst, ◌∙◌, arith, inl, inr, take-append-drop, take_at, drop_at}
 use Rattle.std.specs.Char.{is_ascii_digit}
 use Rattle.std.specs.Fmt.{decimal}
@@ -20,27 +20,29 @@ use Rattle.account_file.proofs.NumberLemmas.{decimal_digits, decimal_numeral, nu
 use Rattle.account_file.proofs.ReadLemmas.{IsWord, IsWordOrNumber, Wrote, digits_no_separator}
 use Rattle.account_file.proofs.SpellingLemmas.{IsVisible, shown, digits_visible, digits_front}
 
--- Each value has one word, which is read as it, and has no blank and no control.
-pub record IsSpelled {X : Type 0} (read : List ℕ → Result X RecordFault) (spell : X → List ℕ) (IsFit : X → Type 0) : Type 0 where
-  pub written : (word : List ℕ) (x : X) → read word ≡ Ok x → (word ≡ spell x) × IsFit x
-  pub back : (x : X) → IsFit x → read (spell x) ≡ Ok x
-  pub visible : (x : X) → IsFit x → IsVisible (spell x)
-
 -- no word of a list is a separator
 abbrev pub AreItems : {X : Type 0} → (X → List ℕ) → (X → Type 0) → Type 0
 AreItems {X} spell IsFit = (x : X) → IsFit x → is_separator (spell x) ≡ false
 
--- words that are no numbers
+-- One kind of word, none of which is a number.
+pub record IsPlain {X : Type 0} (read : List ℕ → Result X RecordFault) (spell : X → List ℕ) (IsFit : X → Type 0) : Type 0 where
+  pub faults : (word : List ℕ) (fault : RecordFault) → read word ≡ Err fault → fault ≡ Word
+  pub zero : read (codes "0") ≡ Err Word
+  pub written : (word : List ℕ) (x : X) → read word ≡ Ok x → (word ≡ spell x) × IsFit x
+  pub back : (x : X) → IsFit x → read (spell x) ≡ Ok x
+  pub visible : (x : X) → IsFit x → IsVisible (spell x)
 
-pub plain_word : {X : Type 0} (read : List ℕ → Result X RecordFault) (word : List ℕ) (x : X) → read word ≡ Ok x → ((other : List ℕ) (fault : RecordFault) → read other ≡ Err fault → fault ≡ Word)
-    → read (codes "0") ≡ Err Word → IsWord read
-plain_word {X} read word x some faults zero = record {
-  word = word;
-  some = record { value = x; is = some };
-  faults = λ other fault e. inl (faults other fault e);
-  digits = λ other e. absurd (let no = faults other Number e in let clash : ⊥ = cc in clash);
-  fits = λ other e n small. absurd (let no = faults other Number e in let clash : ⊥ = cc in clash);
-  zero = λ y other e digits. absurd (let both : Err Word ≡ Ok y = sym zero ∙ e in let clash : ⊥ = cc in clash);
+pub plain_word : {X : Type 0} (read : List ℕ → Result X RecordFault) (spell : X → List ℕ) (IsFit : X → Type 0) (x : X) → IsFit x → IsPlain read spell IsFit → IsWord read spell IsFit
+plain_word {X} read spell IsFit x fit plain = record {
+  word = spell x;
+  some = record { value = x; is = plain.back x fit };
+  faults = λ word fault e. inl (plain.faults word fault e);
+  digits = λ word e. absurd (let no = plain.faults word Number e in let clash : ⊥ = cc in clash);
+  fits = λ word e n small. absurd (let no = plain.faults word Number e in let clash : ⊥ = cc in clash);
+  zero = λ y word e digits. absurd (let both : Err Word ≡ Ok y = sym plain.zero ∙ e in let clash : ⊥ = cc in clash);
+  written = plain.written;
+  back = plain.back;
+  visible = plain.visible;
 }
 
 -- numbers
@@ -74,7 +76,7 @@ module _ (bound : ℕ) (least : 2 ^ 32 ≤ bound) (most : bound ≤ 2 ^ 64) wher
       by (Some m) e = absurd (let clash : ⊥ = cc in clash)
       by None e = cc
 
-  pub number_word : IsWord reads
+  pub number_word : IsWord reads decimal (λ n. n < bound)
   number_word = record {
     word = decimal 0;
     some = record { value = 0; is = back 0 (omega (arith, least)) };
@@ -82,36 +84,26 @@ module _ (bound : ℕ) (least : 2 ^ 32 ≤ bound) (most : bound ≤ 2 ^ 64) wher
     digits = λ word e. bad_digits (is_numeral word) (bad word Number e);
     fits = λ word e n small. record { value = n; is = back n (omega (arith, small, least)) };
     zero = λ x word e digits. by word digits (number_below bound word) refl;
+    written = λ word n e. number_written bound word n most (found word n e);
+    back = back;
+    visible = λ n below. digits_visible (decimal n) (decimal_digits n (omega (arith, below, most)));
   }
     where
       by : (word : List ℕ) → is_numeral word ≡ true → (o : Option ℕ) → number_below bound word ≡ o → (reads word ≡ Err Number) ⊎ Wrote reads word
       by word digits (Some n) is = inr (record { value = n; is = ap (λ o. or_fault o (bad_number word)) is })
       by word digits None is = inl (ap (λ o. or_fault o (bad_number word)) is ∙ ap (λ b. Err (cond b Number Word)) digits)
 
-  pub number_spelled : IsSpelled reads decimal (λ n. n < bound)
-  number_spelled = record {
-    written = λ word n e. number_written bound word n most (found word n e);
-    back = back;
-    visible = λ n below. digits_visible (decimal n) (decimal_digits n (omega (arith, below, most)));
-  }
-
   pub number_items : AreItems decimal (λ n. n < bound)
   number_items n below = digits_no_separator (decimal n) (decimal_numeral n (omega (arith, below, most)))
 
-pub port_is_word : IsWord port_of
+pub port_is_word : IsWord port_of decimal IsPort
 port_is_word = number_word (2 ^ 32) (omega arith) (omega arith)
-
-pub port_spelled : IsSpelled port_of decimal IsPort
-port_spelled = number_spelled (2 ^ 32) (omega arith) (omega arith)
 
 pub port_items : AreItems decimal IsPort
 port_items = number_items (2 ^ 32) (omega arith) (omega arith)
 
-pub number_is_word : IsWord number_of
+pub number_is_word : IsWord number_of decimal IsNumber
 number_is_word = number_word (2 ^ 64) (omega arith) (omega arith)
-
-pub number_is_spelled : IsSpelled number_of decimal IsNumber
-number_is_spelled = number_spelled (2 ^ 64) (omega arith) (omega arith)
 
 pub number_is_item : AreItems decimal IsNumber
 number_is_item = number_items (2 ^ 64) (omega arith) (omega arith)
@@ -132,7 +124,10 @@ module _ {X Y : Type 0} (f : X → Y) where
   mapped_err (Ok x) fault e = absurd (let clash : ⊥ = cc in clash)
   mapped_err (Err other) fault e = let same : other ≡ fault = cc in ap Err same
 
-pub literal_is_word : IsWord literal_of
+abbrev pub literal_word : SatLit → List ℕ
+literal_word literal = decimal literal.0
+
+pub literal_is_word : IsWord literal_of literal_word (λ literal. IsNumber literal.0)
 literal_is_word = record {
   word = number_is_word.word;
   some = wrote number_is_word.word number_is_word.some;
@@ -143,23 +138,16 @@ literal_is_word = record {
     | inl bad ↦ inl (ap (mapped literal_with) bad)
     | inr w ↦ inr (wrote word w)
   ];
+  written = λ word literal e.
+      let form = mapped_ok literal_with (number_of word) literal e in
+      let w = number_is_word.written word form.x form.a_is in
+      subst (λ l. (word ≡ literal_word l) × IsNumber l.0) (sym form.y_is) w;
+  back = λ literal small. ap (mapped literal_with) (number_is_word.back literal.0 small);
+  visible = λ literal small. number_is_word.visible literal.0 small;
 }
   where
     wrote : (word : List ℕ) → Wrote number_of word → Wrote literal_of word
     wrote word w = record { value = literal_with w.value; is = ap (mapped literal_with) w.is }
-
-abbrev pub literal_word : SatLit → List ℕ
-literal_word literal = decimal literal.0
-
-pub literal_spelled : IsSpelled literal_of literal_word (λ literal. IsNumber literal.0)
-literal_spelled = record {
-  written = λ word literal e.
-      let form = mapped_ok literal_with (number_of word) literal e in
-      let w = number_is_spelled.written word form.x form.a_is in
-      subst (λ l. (word ≡ literal_word l) × IsNumber l.0) (sym form.y_is) w;
-  back = λ literal small. ap (mapped literal_with) (number_is_spelled.back literal.0 small);
-  visible = λ literal small. number_is_spelled.visible literal.0 small;
-}
 
 pub literal_items : AreItems literal_word (λ literal. IsNumber literal.0)
 literal_items literal small = number_is_item literal.0 small
@@ -179,7 +167,7 @@ no_dash word digits = by (bytes_eq word (codes "-")) refl
 referred : (word : List ℕ) → is_numeral word ≡ true → reference_of word ≡ mapped numbered (number_of word)
 referred word digits = ap (λ b. by_dash b word) (no_dash word digits)
 
-pub reference_is_word : IsWord reference_of
+pub reference_is_word : IsWord reference_of reference_word IsReference
 reference_is_word = record {
   word = codes "-";
   some = record { value = None; is = refl };
@@ -192,6 +180,9 @@ reference_is_word = record {
     | inl bad ↦ inl (referred word digits ∙ ap (mapped numbered) bad)
     | inr w ↦ inr (record { value = Some w.value; is = referred word digits ∙ ap (mapped numbered) w.is })
   ];
+  written = written;
+  back = back';
+  visible = visible;
 }
   where
     failed : (word : List ℕ) (fault : RecordFault) → reference_of word ≡ Err fault → number_of word ≡ Err fault
@@ -201,9 +192,6 @@ reference_is_word = record {
         by true e = absurd (let clash : ⊥ = cc in clash)
         by false e = mapped_err numbered (number_of word) fault e
 
-pub reference_spelled : IsSpelled reference_of reference_word IsReference
-reference_spelled = record { written = written; back = back'; visible = visible }
-  where
     written : (word : List ℕ) (reference : Option ℕ) → reference_of word ≡ Ok reference → (word ≡ reference_word reference) × IsReference reference
     written word reference e = by (bytes_eq word (codes "-")) refl e
       where
@@ -213,15 +201,15 @@ reference_spelled = record { written = written; back = back'; visible = visible 
             subst (λ r. (word ≡ reference_word r) × IsReference r) none ((bytes_eq-Decides word (codes "-")).0 is, tt)
         by false is e =
             let form = mapped_ok numbered (number_of word) reference e in
-            subst (λ r. (word ≡ reference_word r) × IsReference r) (sym form.y_is) (number_is_spelled.written word form.x form.a_is)
+            subst (λ r. (word ≡ reference_word r) × IsReference r) (sym form.y_is) (number_is_word.written word form.x form.a_is)
 
     back' : (reference : Option ℕ) → IsReference reference → reference_of (reference_word reference) ≡ Ok reference
     back' None fit = refl
-    back' (Some n) small = referred (decimal n) (decimal_numeral n small) ∙ ap (mapped numbered) (number_is_spelled.back n small)
+    back' (Some n) small = referred (decimal n) (decimal_numeral n small) ∙ ap (mapped numbered) (number_is_word.back n small)
 
     visible : (reference : Option ℕ) → IsReference reference → IsVisible (reference_word reference)
     visible None fit = shown (codes "-") refl
-    visible (Some n) small = number_is_spelled.visible n small
+    visible (Some n) small = number_is_word.visible n small
 
 pub reference_items : AreItems reference_word IsReference
 reference_items None fit = refl
@@ -320,17 +308,16 @@ or_word_fault {X} None fault e = let same : Word ≡ fault = cc in sym same
 abbrev first_pair : Pair
 first_pair = record { kind = Input; from = 0; to = 0; flip = false }
 
-pub pair_is_word : IsWord pair_of
+pub pair_is_word : IsWord pair_of pair_word HasPorts
 pair_is_word =
-    plain_word pair_of (pair_word first_pair) first_pair (ap (λ o. or_fault o Word) (pair_read first_pair (record { from = omega arith; to = omega arith })))
-    (λ word fault e. or_word_fault (pair_in word) fault e) refl
-
-pub pair_spelled : IsSpelled pair_of pair_word HasPorts
-pair_spelled = record {
-  written = λ word pair e. pair_written word pair (or_word (pair_in word) pair e);
-  back = λ pair ports. ap (λ o. or_fault o Word) (pair_read pair ports);
-  visible = visible;
-}
+    plain_word pair_of pair_word HasPorts first_pair (record { from = omega arith; to = omega arith })
+    (record {
+      faults = λ word fault e. or_word_fault (pair_in word) fault e;
+      zero = refl;
+      written = λ word pair e. pair_written word pair (or_word (pair_in word) pair e);
+      back = λ pair ports. ap (λ o. or_fault o Word) (pair_read pair ports);
+      visible = visible;
+    })
   where
     visible : (pair : Pair) → HasPorts pair → IsVisible (pair_word pair)
     visible pair ports =

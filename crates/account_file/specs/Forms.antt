@@ -1,6 +1,6 @@
 -- The steps of the reader's code at the words of a line, which contracts of private functions cite; what they come to is
 -- said in `Accounts`.
-use Rattle.std.specs.Prelude.{ℕ, ◌^◌, ◌==◌, ◌&&◌, ◌||◌, not, Bool, true, false, List, [], ◌∷◌, codes, length, drop, take, Option, None, Some, Result, Ok, Err, nat_lt, slice_index_or, if◌then◌else◌}
+use Rattle.std.specs.Prelude.{ℕ, ◌^◌, ◌==◌, ◌&&◌, ◌||◌, not, Bool, true, false, List, [], ◌∷◌, codes, length, drop, take, Option, None, Some, Result, Ok, Err, nat_eq, nat_lt, slice_index_or, if◌then◌else◌}
 use Rattle.std.specs.Char.{is_ascii_digit}
 use Rattle.std.specs.List.{prefix_len}
 use Rattle.std.specs.Str.{bytes_eq}
@@ -23,6 +23,7 @@ use Rattle.account_core.specs.declared.step.Step.{Step}
 use Rattle.account_core.specs.declared.step.Step.TheVariants.{Vector, Mismatch, Tally, Cover}
 use Rattle.account_core.specs.declared.step.Tallied.{Tallied}
 use Rattle.account_core.specs.declared.step.Tallied.TheVariants.{Support, Binate}
+use Rattle.account_file.specs.Spelling.{bit_digit, kind_word, side_word, tallied_word, tri_digit}
 use Rattle.account_file.specs.declared.record.Record.{Record}
 use Rattle.account_file.specs.declared.record.Record.TheVariants as record_of
 use Rattle.account_file.specs.declared.fault.RecordFault.{RecordFault}
@@ -104,15 +105,17 @@ pair_in (letter ∷ rest) =
 abbrev pub pair_of : List ℕ → Result Pair RecordFault
 pair_of word = or_fault (pair_in word) fault.Word
 
+-- the value that is written so, of some
+abbrev pub one_of : {K X : Type 0} → (K → K → Bool) → (X → K) → List X → K → Result X RecordFault
+one_of {K} {X} same spell [] key = Err fault.Word
+one_of {K} {X} same spell (x ∷ xs) key = if same key (spell x) then Ok x else one_of same spell xs key
+
 -- bits, and bits that may be either
 abbrev pub bit_of : ℕ → Result Bool RecordFault
-bit_of digit = if digit == 48 then Ok false else if digit == 49 then Ok true else Err fault.Word
+bit_of digit = one_of nat_eq bit_digit (false ∷ true ∷ []) digit
 
 abbrev pub tri_of : ℕ → Result Tri RecordFault
-tri_of digit =
-    if digit == 48 then Ok tri.Zero
-    else if digit == 49 then Ok tri.One
-    else if digit == 120 then Ok tri.X else Err fault.Word
+tri_of digit = one_of nat_eq tri_digit (tri.Zero ∷ tri.One ∷ tri.X ∷ []) digit
 
 abbrev pub with_digit : {X : Type 0} → Result X RecordFault → Result (List X) RecordFault → Result (List X) RecordFault
 with_digit {X} (Err fault) rest = Err fault
@@ -155,48 +158,55 @@ two_bits_of (a ∷ after) = second_bit (bit_of a) after
 
 -- words that are names
 abbrev pub side_of : List ℕ → Result Side RecordFault
-side_of word =
-    if bytes_eq word (codes "a") then Ok First
-    else if bytes_eq word (codes "b") then Ok Second else Err fault.Word
+side_of word = one_of bytes_eq side_word (First ∷ Second ∷ []) word
 
 abbrev pub kind_of : List ℕ → Result PortKind RecordFault
-kind_of word =
-    if bytes_eq word (codes "in") then Ok Input
-    else if bytes_eq word (codes "out") then Ok Output else Err fault.Word
+kind_of word = one_of bytes_eq kind_word (Input ∷ Output ∷ []) word
 
 abbrev pub tallied_of : List ℕ → Result Tallied RecordFault
-tallied_of word =
-    if bytes_eq word (codes "support") then Ok Support
-    else if bytes_eq word (codes "binate") then Ok Binate else Err fault.Word
+tallied_of word = one_of bytes_eq tallied_word (Support ∷ Binate ∷ []) word
+
+abbrev pub shape_word : ShapeName → List ℕ
+shape_word shape_name.Up = codes "up"
+shape_word shape_name.Down = codes "down"
+shape_word shape_name.Swap = codes "swap"
 
 abbrev pub shape_name_of : List ℕ → Result ShapeName RecordFault
-shape_name_of word =
-    if bytes_eq word (codes "up") then Ok shape_name.Up
-    else if bytes_eq word (codes "down") then Ok shape_name.Down
-    else if bytes_eq word (codes "swap") then Ok shape_name.Swap else Err fault.Word
+shape_name_of word = one_of bytes_eq shape_word (shape_name.Up ∷ shape_name.Down ∷ shape_name.Swap ∷ []) word
+
+abbrev pub step_word : StepName → List ℕ
+step_word step_name.Vector = codes "vector"
+step_word step_name.Mismatch = codes "mismatch"
+step_word step_name.Tally = codes "tally"
+step_word step_name.Cover = codes "cover"
 
 abbrev pub step_name_of : List ℕ → Result StepName RecordFault
-step_name_of word =
-    if bytes_eq word (codes "vector") then Ok step_name.Vector
-    else if bytes_eq word (codes "mismatch") then Ok step_name.Mismatch
-    else if bytes_eq word (codes "tally") then Ok step_name.Tally
-    else if bytes_eq word (codes "cover") then Ok step_name.Cover else Err fault.Word
+step_name_of word = one_of bytes_eq step_word (step_name.Vector ∷ step_name.Mismatch ∷ step_name.Tally ∷ step_name.Cover ∷ []) word
+
+abbrev pub none_word : NoneName → List ℕ
+none_word none_name.Ports = codes "ports"
+none_word none_name.Ban = codes "ban"
 
 abbrev pub none_name_of : List ℕ → Result NoneName RecordFault
-none_name_of word =
-    if bytes_eq word (codes "ports") then Ok none_name.Ports
-    else if bytes_eq word (codes "ban") then Ok none_name.Ban else Err fault.Word
+none_name_of word = one_of bytes_eq none_word (none_name.Ports ∷ none_name.Ban ∷ []) word
+
+abbrev pub record_word : RecordName → List ℕ
+record_word record_name.Line = codes "l"
+record_word record_name.Fails = codes "fails"
+record_word record_name.Holds = codes "holds"
+record_word record_name.Ban = codes "ban"
+record_word record_name.Match = codes "match"
+record_word record_name.None = codes "none"
+record_word record_name.End = codes "end"
+record_word record_name.Header = codes "npnp"
+
+abbrev pub record_names : List RecordName
+record_names =
+    record_name.Line ∷ record_name.Fails ∷ record_name.Holds ∷ record_name.Ban
+    ∷ record_name.Match ∷ record_name.None ∷ record_name.End ∷ record_name.Header ∷ []
 
 abbrev pub record_name_of : List ℕ → Result RecordName RecordFault
-record_name_of word =
-    if bytes_eq word (codes "l") then Ok record_name.Line
-    else if bytes_eq word (codes "fails") then Ok record_name.Fails
-    else if bytes_eq word (codes "holds") then Ok record_name.Holds
-    else if bytes_eq word (codes "ban") then Ok record_name.Ban
-    else if bytes_eq word (codes "match") then Ok record_name.Match
-    else if bytes_eq word (codes "none") then Ok record_name.None
-    else if bytes_eq word (codes "end") then Ok record_name.End
-    else if bytes_eq word (codes "npnp") then Ok record_name.Header else Err fault.Word
+record_name_of word = one_of bytes_eq record_word record_names word
 
 -- this very word
 abbrev pub named : List ℕ → List ℕ → Result Bool RecordFault

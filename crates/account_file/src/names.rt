@@ -50,12 +50,12 @@ impl Word for Side {
 
     fn read(word: &[u8]) -> Result<Side, RecordFault> {
         if word == b"a".as_slice() {
-            return Ok(Side::First);
+            Ok(Side::First)
+        } else if word == b"b".as_slice() {
+            Ok(Side::Second)
+        } else {
+            Err(RecordFault::Word)
         }
-        if word == b"b".as_slice() {
-            return Ok(Side::Second);
-        }
-        Err(RecordFault::Word)
     }
 }
 
@@ -64,12 +64,12 @@ impl Word for PortKind {
 
     fn read(word: &[u8]) -> Result<PortKind, RecordFault> {
         if word == b"in".as_slice() {
-            return Ok(PortKind::Input);
+            Ok(PortKind::Input)
+        } else if word == b"out".as_slice() {
+            Ok(PortKind::Output)
+        } else {
+            Err(RecordFault::Word)
         }
-        if word == b"out".as_slice() {
-            return Ok(PortKind::Output);
-        }
-        Err(RecordFault::Word)
     }
 }
 
@@ -78,12 +78,12 @@ impl Word for Tallied {
 
     fn read(word: &[u8]) -> Result<Tallied, RecordFault> {
         if word == b"support".as_slice() {
-            return Ok(Tallied::Support);
+            Ok(Tallied::Support)
+        } else if word == b"binate".as_slice() {
+            Ok(Tallied::Binate)
+        } else {
+            Err(RecordFault::Word)
         }
-        if word == b"binate".as_slice() {
-            return Ok(Tallied::Binate);
-        }
-        Err(RecordFault::Word)
     }
 }
 
@@ -92,15 +92,14 @@ impl Word for ShapeName {
 
     fn read(word: &[u8]) -> Result<ShapeName, RecordFault> {
         if word == b"up".as_slice() {
-            return Ok(ShapeName::Up);
+            Ok(ShapeName::Up)
+        } else if word == b"down".as_slice() {
+            Ok(ShapeName::Down)
+        } else if word == b"swap".as_slice() {
+            Ok(ShapeName::Swap)
+        } else {
+            Err(RecordFault::Word)
         }
-        if word == b"down".as_slice() {
-            return Ok(ShapeName::Down);
-        }
-        if word == b"swap".as_slice() {
-            return Ok(ShapeName::Swap);
-        }
-        Err(RecordFault::Word)
     }
 }
 
@@ -109,18 +108,16 @@ impl Word for StepName {
 
     fn read(word: &[u8]) -> Result<StepName, RecordFault> {
         if word == b"vector".as_slice() {
-            return Ok(StepName::Vector);
+            Ok(StepName::Vector)
+        } else if word == b"mismatch".as_slice() {
+            Ok(StepName::Mismatch)
+        } else if word == b"tally".as_slice() {
+            Ok(StepName::Tally)
+        } else if word == b"cover".as_slice() {
+            Ok(StepName::Cover)
+        } else {
+            Err(RecordFault::Word)
         }
-        if word == b"mismatch".as_slice() {
-            return Ok(StepName::Mismatch);
-        }
-        if word == b"tally".as_slice() {
-            return Ok(StepName::Tally);
-        }
-        if word == b"cover".as_slice() {
-            return Ok(StepName::Cover);
-        }
-        Err(RecordFault::Word)
     }
 }
 
@@ -129,12 +126,12 @@ impl Word for NoneName {
 
     fn read(word: &[u8]) -> Result<NoneName, RecordFault> {
         if word == b"ports".as_slice() {
-            return Ok(NoneName::Ports);
+            Ok(NoneName::Ports)
+        } else if word == b"ban".as_slice() {
+            Ok(NoneName::Ban)
+        } else {
+            Err(RecordFault::Word)
         }
-        if word == b"ban".as_slice() {
-            return Ok(NoneName::Ban);
-        }
-        Err(RecordFault::Word)
     }
 }
 
@@ -144,29 +141,23 @@ impl Word for RecordName {
     // Most lines are those of logs.
     fn read(word: &[u8]) -> Result<RecordName, RecordFault> {
         if word == b"l".as_slice() {
-            return Ok(RecordName::Line);
+            Ok(RecordName::Line)
+        } else if word == b"fails".as_slice() {
+            Ok(RecordName::Fails)
+        } else if word == b"holds".as_slice() {
+            Ok(RecordName::Holds)
+        } else if word == b"ban".as_slice() {
+            Ok(RecordName::Ban)
+        } else if word == b"match".as_slice() {
+            Ok(RecordName::Match)
+        } else if word == b"none".as_slice() {
+            Ok(RecordName::None)
+        } else if word == b"end".as_slice() {
+            Ok(RecordName::End)
+        } else if word == b"npnp".as_slice() {
+            Ok(RecordName::Header)
+        } else {
+            Err(RecordFault::Word)
         }
-        if word == b"fails".as_slice() {
-            return Ok(RecordName::Fails);
-        }
-        if word == b"holds".as_slice() {
-            return Ok(RecordName::Holds);
-        }
-        if word == b"ban".as_slice() {
-            return Ok(RecordName::Ban);
-        }
-        if word == b"match".as_slice() {
-            return Ok(RecordName::Match);
-        }
-        if word == b"none".as_slice() {
-            return Ok(RecordName::None);
-        }
-        if word == b"end".as_slice() {
-            return Ok(RecordName::End);
-        }
-        if word == b"npnp".as_slice() {
-            return Ok(RecordName::Header);
-        }
-        Err(RecordFault::Word)
     }
 }

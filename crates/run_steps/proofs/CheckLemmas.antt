@@ -23,13 +23,14 @@ use Rattle.run_steps.specs.Outcomes.{EndsAt, EndsEarly, FollowsWords, IsAskedOf,
 use Rattle.net_file.specs.declared.named.Named.{Named}
 use Rattle.shelf_core.specs.State.{ShelfState, Closed}
 use Rattle.run_steps.specs.Report.{IsReport}
-use Rattle.run_steps.specs.Steps.{ReadAs, IsVerdict, IsEarly, IsOfReading, IsStopOf, ReadsNetlist, Decides}
+use Rattle.run_steps.specs.Steps.{ReadAs, IsVerdict, IsEarly, IsOfReading, IsStopOf, IsUnwritten, ReadsNetlist, Decides}
 use Rattle.command_words.specs.declared.words.Command.{Command}
 use Rattle.run_steps.specs.Stops.{outcome_of}
 use Rattle.run_steps.specs.declared.outcome.Ending.{Ending}
 use Rattle.shelf_files.specs.declared.files.Stop.{Stop}
 use Rattle.shelf_files.specs.declared.files.Stop.TheVariants as stop
 use Rattle.run_steps.proofs.CircuitLemmas.{one_circuit, circuit_or_fault, one_circuit_fault, few_ports, circuit_acyclic}
+use Rattle.run_steps.proofs.OutcomeLemmas.{EndsRun, of_reading, of_unwritten}
 use Rattle.run_steps.specs.declared.outcome.Which.{Which}
 use Rattle.run_steps.specs.declared.outcome.Which.TheVariants.{First, Second, Account}
 use Rattle.run_steps.specs.declared.outcome.Outcome.{Outcome}
@@ -214,15 +215,22 @@ follows_files words o reads no_pair no_trial = record {
   read = λ e. reads;
 }
 
--- and where memory ran out
-pub follows_memory : (words : List (List ℕ)) → FollowsWords words Memory
-follows_memory words = record {
-  made = λ e. cc;
-  pair = λ asks told. absurd (told.room refl);
-  tried = λ number account e. cc;
-  trial = λ number asks told. absurd (told.room refl);
-  read = λ e. cc;
+-- and of one that isn't told
+follows_untold : (words : List (List ℕ)) (o : Outcome) → EndsRun o → o ≢ ReadFault → (IsTold o → ⊥) → FollowsWords words o
+follows_untold words o is read untold = record {
+  made = λ e. absurd (subst EndsRun e is);
+  pair = λ asks told. absurd (untold told);
+  tried = λ number account e. absurd (subst EndsRun e is);
+  trial = λ number asks told. absurd (untold told);
+  read = λ e. absurd (read e);
 }
+
+pub follows_memory : (words : List (List ℕ)) → FollowsWords words Memory
+follows_memory words = follows_untold words Memory tt (λ e. cc) (λ told. told.room refl)
+
+pub follows_unwritten : (words : List (List ℕ)) (o : Outcome) → IsUnwritten o → FollowsWords words o
+follows_unwritten words o is =
+    of_unwritten (FollowsWords words) o is (follows_untold words WriteFault tt (λ e. cc) (λ told. told.written refl)) (follows_memory words)
 
 -- and where the words ask for nothing
 pub follows_nothing : (words : List (List ℕ)) → AskNothing words → FollowsWords words Usage
@@ -518,8 +526,8 @@ stop_right held words stop.ReadFault = tt
 stop_right held words stop.Memory = tt
 
 pub stop_reading : (s : Stop) → IsOfReading (outcome_of s)
-stop_reading stop.ReadFault = record { early = record { line = record { no_table = λ table e. elim e [ inl e ↦ cc | inr e ↦ cc ]; no_rows = λ e. cc }; no_refusal = λ e. cc; no_match = λ e. cc; no_pair = λ e. cc; no_trial = λ number account e. cc; asked = λ e. cc }; unwritten = λ e. cc }
-stop_reading stop.Memory = record { early = record { line = record { no_table = λ table e. elim e [ inl e ↦ cc | inr e ↦ cc ]; no_rows = λ e. cc }; no_refusal = λ e. cc; no_match = λ e. cc; no_pair = λ e. cc; no_trial = λ number account e. cc; asked = λ e. cc }; unwritten = λ e. cc }
+stop_reading stop.ReadFault = of_reading ReadFault tt
+stop_reading stop.Memory = of_reading Memory tt
 
 pub stop_is : (s : Stop) → outcome_of s ≡ ReadFault → s ≡ stop.ReadFault
 stop_is stop.ReadFault e = refl
@@ -573,8 +581,8 @@ stop_ends file content bytes there short Memory fact = tt
 stop_ends file content bytes there short other fact = absurd fact
 
 stop_is_of_reading : (file : Which) (bytes : List ℕ) (o : Outcome) → IsStopOf file bytes o → IsOfReading o
-stop_is_of_reading file bytes (Malformed which kind at) fact = record { early = record { line = record { no_table = λ table e. elim e [ inl e ↦ cc | inr e ↦ cc ]; no_rows = λ e. cc }; no_refusal = λ e. cc; no_match = λ e. cc; no_pair = λ e. cc; no_trial = λ number account e. cc; asked = λ e. cc }; unwritten = λ e. cc }
-stop_is_of_reading file bytes Memory fact = record { early = record { line = record { no_table = λ table e. elim e [ inl e ↦ cc | inr e ↦ cc ]; no_rows = λ e. cc }; no_refusal = λ e. cc; no_match = λ e. cc; no_pair = λ e. cc; no_trial = λ number account e. cc; asked = λ e. cc }; unwritten = λ e. cc }
+stop_is_of_reading file bytes (Malformed which kind at) fact = of_reading (Malformed which kind at) tt
+stop_is_of_reading file bytes Memory fact = of_reading Memory tt
 stop_is_of_reading file bytes other fact = absurd fact
 
 -- a file of few bytes was read

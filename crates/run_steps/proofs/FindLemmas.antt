@@ -17,6 +17,7 @@ use Rattle.run_steps.specs.declared.outcome.Ending.{Ending}
 use Rattle.run_steps.specs.declared.outcome.Outcome.{Outcome}
 use Rattle.run_steps.specs.declared.outcome.Outcome.TheVariants as outcome
 use Rattle.shelf_core.proofs.FaultLemmas.{rose_later}
+use Rattle.run_steps.proofs.OutcomeLemmas.{no_fault, of_answer}
 
 pub err_same : {X : Type 0} (o p : Outcome) (r : Result X Outcome) → r ≡ Err o → r ≡ Err p → o ≡ p
 err_same o p r one other = cc
@@ -29,11 +30,8 @@ pub is_unwritten : (stop : ShelfStop) → IsUnwritten (unwritten stop)
 is_unwritten Failed = inl refl
 is_unwritten Memory = inr refl
 
-same_table : (o : Outcome) (found table : Matching) → o ≡ outcome.Matched found → HasTable o table → found ≡ table
-same_table o found table is has = elim has [ inl e ↦ cc | inr e ↦ cc ]
-
-no_table : (o : Outcome) (table : Matching) → o ≡ outcome.NoMatching → HasTable o table → ⊥
-no_table o table is has = elim has [ inl e ↦ cc | inr e ↦ cc ]
+same_table : (found table : Matching) → HasTable (outcome.Matched found) table → found ≡ table
+same_table found table has = elim has [ inl e ↦ cc | inr e ↦ cc ]
 
 -- the account wasn't written
 pub not_concluded : (tells : Bool) (name text : List ℕ) (ending : Ending) (old new : ShelfState) (stop : ShelfStop) (o : Outcome) → o ≡ unwritten stop → WritesFile tells name text old new (Err stop) → Concludes tells name text ending old new (Err o)
@@ -59,9 +57,6 @@ concluded tells name text ending old new writes = record {
   failed = λ e. cc;
 }
 
-stop_unwritten : (graphs : Graphs) (budget : ℕ) (o : Outcome) → IsStopWithin graphs budget o → o ≡ outcome.WriteFault → ⊥
-stop_unwritten graphs budget o stop e = elim stop [ inl (ledger, is, spent) ↦ cc | inr is ↦ cc ]
-
 -- the search came to no answer, and nothing was written
 pub not_solved : (tells : Bool) (first second : Named) (name : List ℕ) (budget : ℕ) (state : ShelfState) (o : Outcome) (result : Result Ending Outcome) → result ≡ Err o → IsStopWithin (graphs_of first second) budget o → Finds tells first second name budget state state result
 not_solved tells first second name budget state o result is stop =
@@ -71,7 +66,7 @@ not_solved tells first second name budget state o result is stop =
       report = tt;
       stopped = inl (stop, λ t. refl);
       faults = omega arith;
-      failed = λ e. absurd (stop_unwritten (graphs_of first second) budget o stop (err_same o outcome.WriteFault (Err o) refl e));
+      failed = λ e. absurd ((no_fault (graphs_of first second) budget o stop).1 (err_same o outcome.WriteFault (Err o) refl e));
     })
 
 -- a first part of an account of an answer
@@ -79,19 +74,17 @@ cut_of : (graphs : Graphs) (account : List ℕ) (o : Outcome) (before after : Op
 cut_of graphs account o before after answer part =
     elim part [
       | inl same ↦ inl same
-      | inr first ↦ elim answer [
-        | inl (table, is, proves, matches) ↦ inr (account, verdict.Match table, proves, first)
-        | inr (is, proves, unequal) ↦ inr (account, verdict.None, proves, first)
-      ]
+      | inr first ↦ of_answer (λ end. IsCutOf graphs before after) graphs account o answer
+          (λ table proves matches. inr (account, verdict.Match table, proves, first))
+          (λ proves unequal. inr (account, verdict.None, proves, first))
     ]
 
 -- the table of an answer is a match
 pub table_of_answer : (graphs : Graphs) (account : List ℕ) (o : Outcome) → IsAnswered graphs account o → IsMatchIfTable graphs.first graphs.second o
-table_of_answer graphs account o answer table has =
-    elim answer [
-      | inl (found, is, proves, matches) ↦ subst (λ (t : Matching). IsMatchOfFunctions graphs.first graphs.second t.inputs t.outputs) (same_table o found table is has) matches
-      | inr (is, proves, unequal) ↦ absurd (no_table o table is has)
-    ]
+table_of_answer graphs account o answer =
+    of_answer (IsMatchIfTable graphs.first graphs.second) graphs account o answer
+    (λ found proves matches table has. subst (λ (t : Matching). IsMatchOfFunctions graphs.first graphs.second t.inputs t.outputs) (same_table found table has) matches)
+    (λ proves unequal table has. elim has [ inl e ↦ cc | inr e ↦ cc ])
 
 -- the search came to an answer, and its account was written or cut off
 pub solved : (tells : Bool) (first second : Named) (name account : List ℕ) (budget : ℕ) (ending : Ending) (old new : ShelfState) (result : Result Ending Outcome)

@@ -1,5 +1,6 @@
 -- How far the check of an account has come, piece by piece.
 use Rattle.std.proofs.Common.{◌≡◌, ◌≢◌, ℕ, ◌+◌, ◌-◌, ◌<◌, ◌≤◌, Bool, IsTrue, List, [], ◌∷◌, ◌++◌, length, take, Option, Some, Result, Ok, Err, IfOk, refl, sym, ap, subst, ◌∙◌, inl, inr, arith, append_assoc, append-nil, length-append, length-take-le}
+use Rattle.std.proofs.lemmas.List.{nil_from_length}
 use Rattle.net_core.specs.Graph.{IsGraph}
 use Rattle.net_core.specs.Sides.{Graphs}
 use Rattle.shelf_core.specs.Calls.{Reads}
@@ -145,10 +146,6 @@ feeding_on tells start old new before now after size left count so_far next grap
           λ told. append_assoc held.0 piece new.unread ∙ (ap (λ l. held.0 ++ l) (more.taken.3 told) ∙ held.3 told),
         )
 
-nothing_left : (bytes : List ℕ) → length bytes ≤ 0 → bytes ≡ []
-nothing_left [] none = refl
-nothing_left (byte ∷ bytes) none = absurd (omega (arith, none))
-
 -- all was fed
 pub fed_all : (tells : Bool) (start now : ShelfState) (before after : Progress) (size left : ℕ) → IsFeeding tells start now before after size left → left ≤ 0 → (graphs : Graphs) → HasTaken graphs [] before → FeedsRest tells graphs start now after (Ok tt)
 fed_all tells start now before after size left so_far none graphs begun =
@@ -159,7 +156,7 @@ fed_all tells start now before after size left so_far none graphs begun =
       taken = (
         held.0,
         held.1,
-        λ told. sym (append-nil held.0) ∙ (ap (λ l. held.0 ++ l) (sym (nothing_left now.unread (omega (arith, so_far.unread told, none)))) ∙ held.3 told),
+        λ told. sym (append-nil held.0) ∙ (ap (λ l. held.0 ++ l) (sym (nil_from_length now.unread (omega (arith, so_far.unread told, none)))) ∙ held.3 told),
       );
       bad = λ line reason e. cc;
       faults = so_far.faults;

@@ -6,6 +6,7 @@ pub mod InfoLemmas
 pub mod JudgingLemmas
 pub mod MakingLemmas
 pub mod MatchLemmas
+pub mod OutcomeLemmas
 pub mod PairLemmas
 pub mod Soundness
 pub mod TryingLemmas

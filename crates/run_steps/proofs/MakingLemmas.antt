@@ -1,24 +1,25 @@
 -- Two texts written one after the other, and what a pair says of the words and the files.
-use Rattle.std.proofs.Common.{◌≡◌, ℕ, inl, inr, Bool, IsTrue, List, Option, Some, Result, Ok, Err, refl, sym, ◌∙◌, ap, subst, arith}
+use Rattle.std.proofs.Common.{◌≡◌, ◌≢◌, ℕ, inl, inr, Bool, IsTrue, List, Option, Some, Result, Ok, Err, refl, sym, ◌∙◌, ap, subst, arith}
 use Rattle.circuits.proofs.MatchLaws.{match_from_functions}
-use Rattle.net_core.specs.declared.matching.Matching.{Matching}
 use Rattle.shelf_core.specs.State.{ShelfState, Closed}
 use Rattle.shelf_core.specs.declared.outside.ShelfStop.{ShelfStop}
 use Rattle.shelf_files.specs.Files.{WritesFile}
 use Rattle.run_steps.specs.Make.{HoldsPair, HoldsPartOfPair}
-use Rattle.run_steps.specs.Outcomes.{FollowsWords, IsRight, IsTold, Leaves}
-use Rattle.run_steps.specs.Report.{line_of}
-use Rattle.run_steps.specs.Steps.{Decides, IsEarly, IsEnding, IsUnwritten, PrintsPair, WritesPair, WritesText}
+use Rattle.run_steps.specs.Outcomes.{FollowsWords, IsRight, IsSound, Leaves, MayBeCut}
+use Rattle.run_steps.specs.Report.{IsOneLine, line_of}
+use Rattle.run_steps.specs.Steps.{Decides, IsEnding, IsUnwritten, PrintsPair, WritesPair, WritesText}
 use Rattle.command_words.specs.Commands.{asked_make, wanted_by}
 use Rattle.run_steps.specs.Stops.{unwritten}
 use Rattle.command_words.specs.Words.{AsksMake}
 use Rattle.command_words.specs.declared.words.Make.{Make as MakeWords}
 use Rattle.run_steps.specs.declared.outcome.Ending.{Ending}
 use Rattle.run_steps.specs.declared.outcome.Outcome.{Outcome}
-use Rattle.run_steps.specs.declared.outcome.Outcome.TheVariants.{AcceptedMatch, AcceptedRefusal, Matched, Informed, Made, Tried, ReadFault, WriteFault, Memory}
+use Rattle.run_steps.specs.declared.outcome.Outcome.TheVariants.{Made, ReadFault, WriteFault, Memory}
 use Rattle.command_words.proofs.FormLemmas.{make_or_trial}
 use Rattle.shelf_core.proofs.FaultLemmas.{rose_later}
+use Rattle.run_steps.proofs.CheckLemmas.{follows_memory, follows_unwritten}
 use Rattle.run_steps.proofs.FindLemmas.{err_same, failed_is, is_unwritten}
+use Rattle.run_steps.proofs.OutcomeLemmas.{early, early_unwritten, of_unwritten}
 use Rattle.run_steps.proofs.PairLemmas.{first_read, second_read}
 
 -- a text was written
@@ -91,59 +92,6 @@ follows_made words asked asks = record {
   read = λ e. cc;
 }
 
-untold : (o : Outcome) → IsUnwritten o → IsTold o → ⊥
-untold o is told = elim is [ inl e ↦ told.written e | inr e ↦ told.room e ]
-
-not_made : (o : Outcome) → IsUnwritten o → o ≡ Made → ⊥
-not_made o is e = elim is [ inl e' ↦ cc | inr e' ↦ cc ]
-
-not_tried : (o : Outcome) → IsUnwritten o → (number : ℕ) (account : List ℕ) → o ≡ Tried number account → ⊥
-not_tried o is number account e = elim is [ inl e' ↦ cc | inr e' ↦ cc ]
-
-not_read : (o : Outcome) → IsUnwritten o → o ≡ ReadFault → ⊥
-not_read o is e = elim is [ inl e' ↦ cc | inr e' ↦ cc ]
-
-pub follows_unwritten : (words : List (List ℕ)) (o : Outcome) → IsUnwritten o → FollowsWords words o
-follows_unwritten words o is = record {
-  made = λ e. absurd (not_made o is e);
-  pair = λ all told. absurd (untold o is told);
-  tried = λ number account e. absurd (not_tried o is number account e);
-  trial = λ number trial told. absurd (untold o is told);
-  read = λ e. absurd (not_read o is e);
-}
-
--- a refused write, and want of memory, say nothing of the files
-right_unwritten : (held : List ℕ → Option (List ℕ)) (words : List (List ℕ)) (o : Outcome) → IsUnwritten o → IsRight held words o
-right_unwritten held words o is = elim is [ inl e ↦ subst (IsRight held words) (sym e) tt | inr e ↦ subst (IsRight held words) (sym e) tt ]
-
-early_of : (o : Outcome) → IsUnwritten o → IsEarly o
-early_of o is = record {
-  line = record {
-    no_table = λ table has. elim is [ inl e ↦ elim has [ inl e' ↦ cc | inr e' ↦ cc ] | inr e ↦ elim has [ inl e' ↦ cc | inr e' ↦ cc ] ];
-    no_rows = λ e'. elim is [ inl e ↦ cc | inr e ↦ cc ];
-  };
-  no_refusal = λ e'. elim is [ inl e ↦ cc | inr e ↦ cc ];
-  no_match = λ e'. elim is [ inl e ↦ cc | inr e ↦ cc ];
-  no_pair = not_made o is;
-  no_trial = not_tried o is;
-  asked = λ e'. elim is [ inl e ↦ cc | inr e ↦ cc ];
-}
-
-no_table : (o : Outcome) {table : Matching} → o ≡ Made → o ≡ AcceptedMatch table → ⊥
-no_table o is e = cc
-
-no_found : (o : Outcome) {table : Matching} → o ≡ Made → o ≡ Matched table → ⊥
-no_found o is e = cc
-
-no_refusal : (o : Outcome) → o ≡ Made → o ≡ AcceptedRefusal → ⊥
-no_refusal o is e = cc
-
-no_rows : (o : Outcome) → o ≡ Made → o ≡ Informed → ⊥
-no_rows o is e = cc
-
-made_ends : (o : Outcome) → o ≡ Made → IsEnding o
-made_ends o is = record { asked = λ e. cc; read = λ e. cc; unwritten = λ e. cc }
-
 -- a pair was printed for the words, and both files written or not
 module _ (tells : Bool) (asked : MakeWords) (first_text second_text : List ℕ) (prints : PrintsPair asked.number first_text second_text) (old new : ShelfState) where
   holds : (words : List (List ℕ)) → AsksMake words (wanted_by asked) → new.held asked.first.now ≡ Some first_text → new.held asked.second.now ≡ Some second_text → HoldsPair new.held words
@@ -184,10 +132,8 @@ module _ (tells : Bool) (asked : MakeWords) (first_text second_text : List ℕ) 
 
   left_unwritten : (words : List (List ℕ)) → AsksMake words (wanted_by asked) → (o : Outcome) → WritesPair tells asked.first.now asked.second.now first_text second_text old new (Err o) → IsTrue tells → Leaves old.held new.held words o
   left_unwritten words asks o writes t =
-      elim writes.stopped [
-        | inl e ↦ subst (Leaves old.held new.held words) (sym e) (inr (inr (cut words asks o writes t)))
-        | inr e ↦ subst (Leaves old.held new.held words) (sym e) (inr (inr (cut words asks o writes t)))
-      ]
+      let part : MayBeCut old.held new.held words = inr (inr (cut words asks o writes t)) in
+      of_unwritten (Leaves old.held new.held words) o writes.stopped part part
 
   pub pair_made : (ending : Ending) → ending.outcome ≡ Made → ending.report.items ≡ line_of Made → WritesPair tells asked.first.now asked.second.now first_text second_text old new (Ok tt) → Decides tells (asked_make asked) old new (Ok ending)
   pair_made ending is report writes = record {
@@ -195,12 +141,12 @@ module _ (tells : Bool) (asked : MakeWords) (first_text second_text : List ℕ) 
     left = λ t words asks. subst (Leaves old.held new.held words) (sym is) (holds words asks (writes.whole t asks.names.apart).0 (writes.whole t asks.names.apart).1);
     right = λ t words asks. subst (IsRight old.held words) (sym is) (wanted_by asked, asks);
     by_words = λ words asks. subst (FollowsWords words) (sym is) (follows_made words asked asks);
-    sound = λ t words asks. record { matches = λ table e. absurd (no_table ending.outcome is e); refuses = λ e. absurd (no_refusal ending.outcome is e) };
+    sound = λ t words asks. subst (IsSound old.held words) (sym is) (record { matches = λ table e. cc; refuses = λ e. cc });
     report = λ words asks. inl (
-      record { no_table = λ table has. absurd (elim has [ inl e ↦ no_table ending.outcome is e | inr e ↦ no_found ending.outcome is e ]); no_rows = λ e. absurd (no_rows ending.outcome is e) },
+      subst IsOneLine (sym is) (record { no_table = λ table has. elim has [ inl e ↦ cc | inr e ↦ cc ]; no_rows = λ e. cc }),
       report ∙ ap line_of (sym is),
     );
-    ending = made_ends ending.outcome is;
+    ending = subst IsEnding (sym is) (record { asked = λ e. cc; read = λ e. cc; unwritten = λ e. cc });
     early = tt;
     failed = λ e. cc;
     unwritten = λ e. cc;
@@ -211,13 +157,13 @@ module _ (tells : Bool) (asked : MakeWords) (first_text second_text : List ℕ) 
       subst (λ r. Decides tells (asked_make asked) old new r) (sym is) (record {
         files = λ t n other. writes.others t n other.0 other.1;
         left = λ t words asks. left_unwritten words asks o writes t;
-        right = λ t words asks. right_unwritten old.held words o writes.stopped;
+        right = λ t words asks. of_unwritten (IsRight old.held words) o writes.stopped tt tt;
         by_words = λ words asks. follows_unwritten words o writes.stopped;
         sound = λ t words asks. tt;
         report = λ words asks. tt;
         ending = tt;
-        early = early_of o writes.stopped;
-        failed = λ e. absurd (not_read o writes.stopped (cc e));
+        early = early_unwritten o writes.stopped;
+        failed = λ e. absurd (of_unwritten (λ end. end ≢ ReadFault) o writes.stopped (λ e. cc) (λ e. cc) (cc e));
         unwritten = λ e. (tt, writes.failed (ap Err (cc e)));
       })
 
@@ -228,11 +174,11 @@ no_pair tells asked state result is =
       files = λ t n other. refl;
       left = λ t words asks. inl (λ n. refl);
       right = λ t words asks. tt;
-      by_words = λ words asks. follows_unwritten words Memory (inr refl);
+      by_words = λ words asks. follows_memory words;
       sound = λ t words asks. tt;
       report = λ words asks. tt;
       ending = tt;
-      early = early_of Memory (inr refl);
+      early = early Memory tt;
       failed = λ e. cc;
       unwritten = λ e. cc;
     })

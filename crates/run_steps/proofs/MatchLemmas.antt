@@ -23,8 +23,8 @@ use Rattle.command_words.specs.declared.words.Command.TheVariants.{Match, Make}
 use Rattle.run_steps.specs.declared.outcome.Ending.{Ending}
 use Rattle.run_steps.specs.declared.outcome.Outcome.{Outcome}
 use Rattle.run_steps.specs.declared.outcome.Outcome.TheVariants.{Matched, NoMatching, Informed, Made, ReadFault, WriteFault, Memory}
-use Rattle.run_steps.proofs.CheckLemmas.{follows_files, leaves_early}
-use Rattle.run_steps.proofs.InfoLemmas.{not_read, stop_line}
+use Rattle.run_steps.proofs.CheckLemmas.{follows_files, follows_unwritten, leaves_early}
+use Rattle.run_steps.proofs.OutcomeLemmas.{early_unwritten, no_fault, of_answer, of_stop, of_unwritten, stop_line}
 use Rattle.command_words.proofs.FormLemmas.{names_one, reads_of, check_of}
 
 -- a whole account is its first part
@@ -96,11 +96,11 @@ everywhere : (before after : List ℕ → Option (List ℕ)) (name : List ℕ) �
 everywhere before after name others here n true is = let e = (bytes_eq-Decides n name).0 is in ap after e ∙ (here ∙ ap before (sym e))
 everywhere before after name others here n false is = others n (λ e. false≢true (sym is ∙ (bytes_eq-Decides n name).1 e))
 
-early_unwritten : IsEarly WriteFault
-early_unwritten = record { line = record { no_table = λ table e. elim e [ inl e ↦ cc | inr e ↦ cc ]; no_rows = λ e. cc }; no_refusal = λ e. cc; no_match = λ e. cc; no_pair = λ e. cc; no_trial = λ number account e. cc; asked = λ e. cc }
-
-early_memory : IsEarly Memory
-early_memory = record { line = record { no_table = λ table e. elim e [ inl e ↦ cc | inr e ↦ cc ]; no_rows = λ e. cc }; no_refusal = λ e. cc; no_match = λ e. cc; no_pair = λ e. cc; no_trial = λ number account e. cc; asked = λ e. cc }
+-- What an outcome of a match says: of the words, of the files that are held before and afterwards, and of itself.
+record Settles (tells : Bool) (asked : MatchWords) (before after : List ℕ → Option (List ℕ)) (o : Outcome) : Type 0 where
+  left : IsTrue tells → (words : List (List ℕ)) → AsksMatch words (sought_by asked) → Leaves before after words o
+  right : IsTrue tells → (words : List (List ℕ)) → AsksMatch words (sought_by asked) → IsRight before words o
+  by_words : (words : List (List ℕ)) → AsksMatch words (sought_by asked) → FollowsWords words o
 
 -- What was found for two netlists that were read, where the account was written under its name.
 module _ (tells : Bool) (asked : MatchWords) (old new : ShelfState) (first second : Named)
@@ -146,51 +146,29 @@ module _ (tells : Bool) (asked : MatchWords) (old new : ShelfState) (first secon
   reads words asks = reads_of words (asked_match asked) tt asks
 
   -- an answer is right, and its account is left
-
-  answer_right : (account : List ℕ) (o : Outcome) → IsAnswered (graphs_of first second) account o → IsTrue tells → (words : List (List ℕ)) → AsksMatch words (sought_by asked) → IsRight old.held words o
-  answer_right account o answer t words asks =
-      elim answer [
-        | inl (table, is, proves, matches) ↦ subst (IsRight old.held words) (sym is) (record {
+  answered : (account : List ℕ) (o : Outcome) → IsAnswered (graphs_of first second) account o → (IsTrue tells → new.held asked.account.now ≡ Some account) → Settles tells asked old.held new.held o
+  answered account o answer there =
+      of_answer (Settles tells asked old.held new.held) (graphs_of first second) account o answer
+      (λ table proves matches. record {
+        left = λ t words asks. proved_by t words asks account (verdict.Match table) proves (there t);
+        right = λ t words asks. record {
           first = netlist_of first_read.circuit first;
           second = netlist_of second_read.circuit second;
           files = files t words asks;
           matches = match_from_functions first_read.circuit second_read.circuit first.graph second.graph table.inputs table.outputs first_read.computes second_read.computes matches;
-        })
-        | inr (is, proves, unequal) ↦ subst (IsRight old.held words) (sym is) (record {
+        };
+        by_words = λ words asks. follows_files words (Matched table) (reads words asks) (λ e. cc) (λ number text e. cc);
+      })
+      (λ proves unequal. record {
+        left = λ t words asks. proved_by t words asks account verdict.None proves (there t);
+        right = λ t words asks. record {
           first = netlist_of first_read.circuit first;
           second = netlist_of second_read.circuit second;
           files = files t words asks;
           unequal = λ equal. unequal (functions_from_equal first_read.circuit second_read.circuit first.graph second.graph first_read.acyclic second_read.acyclic first_read.computes second_read.computes equal);
-        })
-      ]
-
-  answer_leaves : (account : List ℕ) (o : Outcome) → IsAnswered (graphs_of first second) account o → IsTrue tells → new.held asked.account.now ≡ Some account → (words : List (List ℕ)) → AsksMatch words (sought_by asked) → Leaves old.held new.held words o
-  answer_leaves account o answer t there words asks =
-      elim answer [
-        | inl (table, is, proves, matches) ↦ subst (Leaves old.held new.held words) (sym is) (proved_by t words asks account (verdict.Match table) proves there)
-        | inr (is, proves, unequal) ↦ subst (Leaves old.held new.held words) (sym is) (proved_by t words asks account verdict.None proves there)
-      ]
-
-  answer_sound : (account : List ℕ) (o : Outcome) → IsAnswered (graphs_of first second) account o → (words : List (List ℕ)) → IsSound old.held words o
-  answer_sound account o answer words = elim answer [
-    | inl (table, is, proves, matches) ↦ record { matches = λ other e. cc; refuses = λ e. cc }
-    | inr (is, proves, unequal) ↦ record { matches = λ other e. cc; refuses = λ e. cc }
-  ]
-
-  answer_ends : (account : List ℕ) (o : Outcome) → IsAnswered (graphs_of first second) account o → IsEnding o
-  answer_ends account o answer = elim answer [
-    | inl (table, is, proves, matches) ↦ record { asked = λ e. cc; read = λ e. cc; unwritten = λ e. cc }
-    | inr (is, proves, unequal) ↦ record { asked = λ e. cc; read = λ e. cc; unwritten = λ e. cc }
-  ]
-
-  answer_no_rows : (account : List ℕ) (o : Outcome) → IsAnswered (graphs_of first second) account o → o ≢ Informed
-  answer_no_rows account o answer e = elim answer [ inl (table, is, proves, matches) ↦ cc | inr (is, proves, unequal) ↦ cc ]
-
-  answer_follows : (account : List ℕ) (o : Outcome) → IsAnswered (graphs_of first second) account o → (words : List (List ℕ)) → AsksMatch words (sought_by asked) → FollowsWords words o
-  answer_follows account o answer words asks =
-      follows_files words o (reads words asks)
-      (λ e. elim answer [ inl (table, is, proves, matches) ↦ cc | inr (is, proves, unequal) ↦ cc ])
-      (λ number text e. elim answer [ inl (table, is, proves, matches) ↦ cc | inr (is, proves, unequal) ↦ cc ])
+        };
+        by_words = λ words asks. follows_files words NoMatching (reads words asks) (λ e. cc) (λ number text e. cc);
+      })
 
   -- where nothing changed at the account's name, no file changed
   unchanged : IsTrue tells → new.held asked.account.now ≡ old.held asked.account.now → (n : List ℕ) → new.held n ≡ old.held n
@@ -200,17 +178,16 @@ module _ (tells : Bool) (asked : MatchWords) (old new : ShelfState) (first secon
 
   stop_right : (o : Outcome) → IsStopWithin (graphs_of first second) asked.budget o → IsTrue tells → (words : List (List ℕ)) → AsksMatch words (sought_by asked) → IsRight old.held words o
   stop_right o stop t words asks =
-      elim stop [
-        | inl (ledger, is, spent) ↦ subst (IsRight old.held words) (sym is) (inr (inl (record {
-          sought = (sought_by asked);
-          asks = asks;
-          graphs = (graphs_of first second);
-          first_held = first_graph t;
-          second_held = second_graph t;
-          spent = spent;
-        })))
-        | inr is ↦ subst (IsRight old.held words) (sym is) tt
-      ]
+      of_stop (IsRight old.held words) (graphs_of first second) asked.budget o stop
+      (λ ledger spent. inr (inl (record {
+        sought = (sought_by asked);
+        asks = asks;
+        graphs = (graphs_of first second);
+        first_held = first_graph t;
+        second_held = second_graph t;
+        spent = spent;
+      })))
+      tt
 
   -- and a write that was refused leaves a first part
 
@@ -232,69 +209,65 @@ module _ (tells : Bool) (asked : MatchWords) (old new : ShelfState) (first secon
         }))
       ]
 
-  end_right : (o : Outcome) → IsStopOfMatch tells (graphs_of first second) asked.budget (old.held asked.account.now) (new.held asked.account.now) o → IsTrue tells → (words : List (List ℕ)) → AsksMatch words (sought_by asked) → IsRight old.held words o
-  end_right o end t words asks =
+  stopped : (o : Outcome) → IsStopOfMatch tells (graphs_of first second) asked.budget (old.held asked.account.now) (new.held asked.account.now) o → IsEarly o × (o ≢ ReadFault) × Settles tells asked old.held new.held o
+  stopped o end =
       elim end [
-        | inl (stop, same) ↦ stop_right o stop t words asks
-        | inr (inl is, part) ↦ subst (IsRight old.held words) (sym is) tt
-        | inr (inr is, part) ↦ subst (IsRight old.held words) (sym is) tt
-      ]
-
-  end_leaves : (o : Outcome) → IsStopOfMatch tells (graphs_of first second) asked.budget (old.held asked.account.now) (new.held asked.account.now) o → IsTrue tells → (words : List (List ℕ)) → AsksMatch words (sought_by asked) → Leaves old.held new.held words o
-  end_leaves o end t words asks =
-      elim end [
-        | inl (stop, same) ↦ leaves_early old.held new.held words o (stop_line (graphs_of first second) asked.budget o stop).early (unchanged t (same t))
-        | inr (inl is, part) ↦ subst (Leaves old.held new.held words) (sym is) (cut t words asks (part t))
-        | inr (inr is, part) ↦ subst (Leaves old.held new.held words) (sym is) (cut t words asks (part t))
-      ]
-
-  end_early : (o : Outcome) → IsStopOfMatch tells (graphs_of first second) asked.budget (old.held asked.account.now) (new.held asked.account.now) o → IsEarly o
-  end_early o end =
-      elim end [
-        | inl (stop, same) ↦ (stop_line (graphs_of first second) asked.budget o stop).early
-        | inr (inl is, part) ↦ subst IsEarly (sym is) early_unwritten
-        | inr (inr is, part) ↦ subst IsEarly (sym is) early_memory
-      ]
-
-  end_unread : (o : Outcome) → o ≡ ReadFault → IsStopOfMatch tells (graphs_of first second) asked.budget (old.held asked.account.now) (new.held asked.account.now) o → ⊥
-  end_unread o e end =
-      elim end [
-        | inl (stop, same) ↦ not_read (graphs_of first second) asked.budget o e stop
-        | inr (inl is, part) ↦ cc
-        | inr (inr is, part) ↦ cc
+        | inl (stop, same) ↦
+            let early = (stop_line (graphs_of first second) asked.budget o stop).early in (
+              early,
+              (no_fault (graphs_of first second) asked.budget o stop).0,
+              record {
+                left = λ t words asks. leaves_early old.held new.held words o early (unchanged t (same t));
+                right = stop_right o stop;
+                by_words = λ words asks. follows_files words o (reads words asks) early.no_pair early.no_trial;
+              },
+            )
+        | inr (is, part) ↦ (
+          early_unwritten o is,
+          of_unwritten (λ end. end ≢ ReadFault) o is (λ e. cc) (λ e. cc),
+          record {
+            left = λ t words asks. let first_part = cut t words asks (part t) in of_unwritten (Leaves old.held new.held words) o is first_part first_part;
+            right = λ t words asks. of_unwritten (IsRight old.held words) o is tt tt;
+            by_words = λ words asks. follows_unwritten words o is;
+          },
+        )
       ]
 
   pub finds : (result : Result Ending Outcome) → Finds tells first second asked.account.now asked.budget old new result → Decides tells (asked_match asked) old new result
   finds (Ok ending) found =
       let account = found.answer.0 in
       let answer = found.answer.1 in
+      let graphs = graphs_of first second in
+      let settles = answered account ending.outcome answer found.answer.2 in
       record {
         files = others;
-        left = λ t words asks. answer_leaves account ending.outcome answer t (found.answer.2 t) words asks;
-        right = answer_right account ending.outcome answer;
-        by_words = answer_follows account ending.outcome answer;
-        sound = λ t words asks. answer_sound account ending.outcome answer words;
+        left = settles.left;
+        right = settles.right;
+        by_words = settles.by_words;
+        sound = λ t words asks. of_answer (IsSound old.held words) graphs account ending.outcome answer (λ table proves matches. record { matches = λ other e. cc; refuses = λ e. cc }) (λ proves unequal. record { matches = λ other e. cc; refuses = λ e. cc });
         report = λ words asks. inr (inl (record {
           first = netlist_of first_read.circuit first;
           second = netlist_of second_read.circuit second;
-          no_rows = answer_no_rows account ending.outcome answer;
+          no_rows = of_answer (λ end. end ≢ Informed) graphs account ending.outcome answer (λ table proves matches e. cc) (λ proves unequal e. cc);
           of_files = λ t. inr (files t words asks);
           same = found.report;
         }));
-        ending = answer_ends account ending.outcome answer;
+        ending = of_answer IsEnding graphs account ending.outcome answer (λ table proves matches. record { asked = λ e. cc; read = λ e. cc; unwritten = λ e. cc }) (λ proves unequal. record { asked = λ e. cc; read = λ e. cc; unwritten = λ e. cc });
         early = tt;
         failed = λ e. cc;
         unwritten = λ e. cc;
       }
-  finds (Err o) found = record {
-    files = others;
-    left = end_leaves o found.stopped;
-    right = end_right o found.stopped;
-    by_words = λ words asks. let early = end_early o found.stopped in follows_files words o (reads words asks) early.no_pair early.no_trial;
-    sound = λ t words asks. tt;
-    report = λ words asks. tt;
-    ending = tt;
-    early = end_early o found.stopped;
-    failed = λ e. absurd (end_unread o (cc e) found.stopped);
-    unwritten = λ e. (tt, found.failed (cc e));
-  }
+  finds (Err o) found =
+      let stop = stopped o found.stopped in
+      record {
+        files = others;
+        left = stop.2.left;
+        right = stop.2.right;
+        by_words = stop.2.by_words;
+        sound = λ t words asks. tt;
+        report = λ words asks. tt;
+        ending = tt;
+        early = stop.0;
+        failed = λ e. absurd (stop.1 (cc e));
+        unwritten = λ e. (tt, found.failed (cc e));
+      }

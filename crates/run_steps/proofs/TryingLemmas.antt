@@ -16,7 +16,8 @@ use Rattle.net_core.specs.Sides.{Graphs}
 use Rattle.net_core.specs.declared.matching.Matching.{Matching}
 use Rattle.run_steps.specs.Make.{IsPairOf}
 use Rattle.run_steps.specs.Report.{line_of}
-use Rattle.run_steps.specs.Steps.{IsAnswered, IsProvedMatch, IsStopWithin, Tries}
+use Rattle.run_steps.specs.Steps.{IsAnswered, IsProvedMatch, IsStopOfTrial, IsStopWithin, Tries}
+use Rattle.run_steps.proofs.OutcomeLemmas.{of_answer, of_stop}
 use Rattle.run_steps.specs.declared.outcome.Ending.{Ending}
 use Rattle.run_steps.specs.declared.outcome.Outcome.{Outcome}
 use Rattle.run_steps.specs.declared.outcome.Outcome.TheVariants.{Tried, Memory}
@@ -37,10 +38,9 @@ none_some (Some x) is none = none x refl
 -- where two graphs have a match, the account of an answer proves one
 pub proved_match : (graphs : Graphs) (account : List ℕ) (o : Outcome) → HaveNpnpEqualFunctions graphs.first graphs.second → IsAnswered graphs account o → IsProvedMatch graphs account
 proved_match graphs account o equal answer =
-    elim answer [
-      | inl (table, is, proves, matches) ↦ record { table = table; accepted = proves; matches = matches }
-      | inr (is, proves, unequal) ↦ absurd (unequal equal)
-    ]
+    of_answer (λ end. IsProvedMatch graphs account) graphs account o answer
+    (λ table proves matches. record { table = table; accepted = proves; matches = matches })
+    (λ proves unequal. absurd (unequal equal))
 
 -- the error is what ended the search
 pub ends_as : {X : Type 0} (graphs : Graphs) (budget : ℕ) (o : Outcome) (result : Result X Outcome) → result ≡ Err o → IsStopWithin graphs budget o → IfErr result (IsStopWithin graphs budget)
@@ -48,28 +48,19 @@ ends_as graphs budget o result is stop = subst (λ r. IfErr r (IsStopWithin grap
 
 -- and a check can't say otherwise
 
-pub no_refusal : (graphs : Graphs) (account : List ℕ) → IsProvedMatch graphs account → Proves graphs account verdict.None → ⊥
-no_refusal graphs account proved other =
-    let e = one_proved graphs account (verdict.Match proved.table) verdict.None proved.accepted other in cc
-
-pub no_rejection : (graphs : Graphs) (account : List ℕ) (line : ℕ) (why : Why) → IsProvedMatch graphs account → IsBadAt graphs account line why → ⊥
-no_rejection graphs account line why proved bad = never_both graphs account (verdict.Match proved.table) line why proved.accepted bad
-
 pub no_refusal_told : (graphs : Graphs) (account : List ℕ) (result : Result Verdict CheckStop) → IsProvedMatch graphs account → ((told : Verdict) → result ≢ Err check.Memory → (result ≡ Ok told) ↔ Proves graphs account told) → result ≡ Ok verdict.None → ⊥
-no_refusal_told graphs account result proved accepted is = no_refusal graphs account proved ((accepted verdict.None (λ e. cc)).0 is)
+no_refusal_told graphs account result proved accepted is =
+    let same = one_proved graphs account (verdict.Match proved.table) verdict.None proved.accepted ((accepted verdict.None (λ e. cc)).0 is) in cc
 
 pub no_rejection_told : (graphs : Graphs) (account : List ℕ) (line : ℕ) (why : Why) (result : Result Verdict CheckStop) → IsProvedMatch graphs account → ((l : ℕ) (w : Why) → result ≢ Err check.Memory → (result ≡ Err (check.Rejected l w)) ↔ IsBadAt graphs account l w) → result ≡ Err (check.Rejected line why) → ⊥
-no_rejection_told graphs account line why result proved rejected is = no_rejection graphs account line why proved ((rejected line why (λ e. cc)).0 is)
+no_rejection_told graphs account line why result proved rejected is = never_both graphs account (verdict.Match proved.table) line why proved.accepted ((rejected line why (λ e. cc)).0 is)
 
 -- what ends a trial of a pair early
 pub stopped : (number : ℕ) (graphs : Graphs) (hidden : Matching) (o : Outcome) (result : Result Ending Outcome) → result ≡ Err o → IsPairOf number graphs.first graphs.second hidden → IsStopWithin graphs 1000000000 o → Tries number result
 stopped number graphs hidden o result is pair stop =
     subst (Tries number) (sym is) (record {
       answer = tt;
-      stopped = elim stop [
-        | inl (ledger, e, spent) ↦ inl (ledger, e, record { graphs = graphs; hidden = hidden; pair = pair; spent = spent })
-        | inr e ↦ inr e
-      ];
+      stopped = of_stop (IsStopOfTrial number) graphs 1000000000 o stop (λ ledger spent. inl (ledger, refl, record { graphs = graphs; hidden = hidden; pair = pair; spent = spent })) (inr refl);
     })
 
 pub no_room : (number : ℕ) (result : Result Ending Outcome) → result ≡ Err Memory → Tries number result

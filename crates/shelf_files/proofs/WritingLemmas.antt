@@ -1,7 +1,9 @@
 -- First parts of a text that is written in pieces.
 use Rattle.std.proofs.Common.{◌≡◌, ◌⊎◌, ℕ, ◌+◌, ◌≤◌, min, inl, inr, Bool, IsTrue, List, [], ◌++◌, length, take, drop, Option, Some, Result, Ok, Err, OnOk, OnErr, refl, sym, ◌∙◌, ap, subst, arith, append_assoc}
 use Rattle.std.specs.List.{between}
+use Rattle.std.specs.Result.{IsErrAnd}
 use Rattle.std.proofs.lemmas.List.{append-nil, length-take-le, take-append-drop, take-take, take_all, take_at, take-append-le, take_min, drop-append-le, drop-take, drop_at}
+use Rattle.std.proofs.lemmas.Result.{err_from_is_err_and}
 use Rattle.std.proofs.lemmas.Slice.{between_is}
 use Rattle.shelf_files.specs.Files.{HoldsFirst, WritesFile, WritesOn}
 use Rattle.shelf_core.proofs.FaultLemmas.{rose_later}
@@ -9,6 +11,10 @@ use Rattle.shelf_core.specs.Calls.{Appends, Closes, Creates}
 use Rattle.shelf_core.specs.State.{ShelfState, grown}
 use Rattle.shelf_core.specs.declared.outside.ShelfStop.{ShelfStop}
 use Rattle.shelf_core.specs.declared.outside.ShelfStop.TheVariants.{Memory}
+
+-- what is so of the refusal that `?` hands on
+handed : {X : Type 0} (P : Result X ShelfStop → Type 0) (stop : ShelfStop) (result : Result X ShelfStop) → IsErrAnd result (λ e. e ≡ stop) → P (Err stop) → P result
+handed {X} P stop result is so = let err = err_from_is_err_and result is in subst P (sym (err.1 ∙ ap Err err.2)) so
 
 take_plus : (m k : ℕ) (xs : List ℕ) → take (m + k) xs ≡ take m xs ++ take k (drop m xs)
 take_plus m k xs =
@@ -133,11 +139,11 @@ written_before tells pending left more old new (Err stop) writes = record {
 
 -- memory ran out after some of it was written
 pub written_out_of_memory : (tells : Bool) (pending left other : List ℕ) (old new : ShelfState) (result : Result (Unit {0}) ShelfStop)
-    → result ≡ Err Memory
+    → IsErrAnd result (λ e. e ≡ Memory)
     → WritesOn tells pending left old new (Ok tt)
     → WritesOn tells pending other old new result
 written_out_of_memory tells pending left other old new result is writes =
-    subst (λ r. WritesOn tells pending other old new r) (sym is) (record {
+    handed (λ r. WritesOn tells pending other old new r) Memory result is (record {
       others = writes.others;
       writing = writes.writing;
       named = writes.named;
@@ -151,11 +157,11 @@ written_out_of_memory tells pending left other old new result is writes =
 
 -- a refusal is the same one for each answer
 pub not_written_on : (tells : Bool) (pending left other : List ℕ) (old new : ShelfState) (stop : ShelfStop) (result : Result (Unit {0}) ShelfStop)
-    → result ≡ Err stop
+    → IsErrAnd result (λ e. e ≡ stop)
     → WritesOn tells pending left old new (Err stop)
     → WritesOn tells pending other old new result
 not_written_on tells pending left other old new stop result is writes =
-    subst (λ r. WritesOn tells pending other old new r) (sym is) (record {
+    handed (λ r. WritesOn tells pending other old new r) stop result is (record {
       others = writes.others;
       writing = writes.writing;
       named = writes.named;
@@ -186,11 +192,11 @@ written_piece tells text done end old now new result le within first appends =
 
 -- the file wasn't made
 pub not_created : (tells : Bool) (name text : List ℕ) (old new : ShelfState) (stop : ShelfStop) (result : Result (Unit {0}) ShelfStop)
-    → result ≡ Err stop
+    → IsErrAnd result (λ e. e ≡ stop)
     → Creates tells name old new (Err stop)
     → WritesFile tells name text old new result
 not_created tells name text old new stop result is creates =
-    subst (λ r. WritesFile tells name text old new r) (sym is) (record {
+    handed (λ r. WritesFile tells name text old new r) stop result is (record {
       others = λ t n other. creates.others n other;
       whole = λ t. tt;
       part = λ t. elim (creates.kept t) [ inl same ↦ inl same | inr empty ↦ inr (0, empty) ];
@@ -203,12 +209,12 @@ made_empty tells name old made creates t = ap made.held (creates.named t) ∙ cr
 
 -- it was made, and not filled
 pub not_written : (tells : Bool) (name text : List ℕ) (old made new : ShelfState) (stop : ShelfStop) (result : Result (Unit {0}) ShelfStop)
-    → result ≡ Err stop
+    → IsErrAnd result (λ e. e ≡ stop)
     → Creates tells name old made (Ok tt)
     → WritesOn tells text [] made new (Err stop)
     → WritesFile tells name text old new result
 not_written tells name text old made new stop result is creates writes =
-    subst (λ r. WritesFile tells name text old new r) (sym is) (record {
+    handed (λ r. WritesFile tells name text old new r) stop result is (record {
       others = λ t n other. writes.others t n (λ e. other (e ∙ creates.named t)) ∙ creates.others n other;
       whole = λ t. tt;
       part = λ t.

@@ -4,31 +4,23 @@ use Rattle.account_check.proofs.CheckingLemmas.{ended_place, match_there, stoppe
 use Rattle.account_check.proofs.pieces.finish.Goals as goal
 
 pub take_all-requires : goal.take_all-requires
-take_all-requires c =
-    let graphs = c.requires.0 in
-    let bytes = c.requires.1 in
-    let so_far = c.requires.2 in
-    (true, graphs, bytes, whole graphs bytes c.args.reader.now c.finish.new.self c.args.checker.now so_far (c.finish.ensures.reads bytes so_far.records so_far.read) c.finish.ensures.finished)
+take_all-requires c = (true, c.requires.0, c.requires.1, whole _ _ _ _ _ c.finish.ensures.reads c.finish.ensures.finished c.requires.2)
 
 pub returns-in_err-take_all-clause-verdict : goal.returns-in_err-take_all-clause-verdict
 returns-in_err-take_all-clause-verdict c graphs bytes so_far =
-    let all = whole graphs bytes c.args.reader.now c.finish.new.self c.args.checker.now so_far (c.finish.ensures.reads bytes so_far.records so_far.read) c.finish.ensures.finished in
-    stopped_whole graphs bytes c.take_all.new.reader c.take_all.new.checker c.in_err-take_all.field-0.0 c.from_residual.result (c.in_err-take_all.ensures true graphs bytes all) c.from_residual.ensures.1
+    stopped_whole graphs bytes c.take_all.new.reader c.take_all.new.checker c.in_err-take_all.field-0.0 c.from_residual.result
+    (c.in_err-take_all.ensures true graphs bytes (whole _ _ _ _ _ c.finish.ensures.reads c.finish.ensures.finished so_far)) c.from_residual.ensures.1
 
 pub ended-requires : goal.ended-requires
 ended-requires c =
-    let graphs = c.requires.0 in
-    let bytes = c.requires.1 in
-    let so_far = c.requires.2 in
-    let all = whole graphs bytes c.args.reader.now c.finish.new.self c.args.checker.now so_far (c.finish.ensures.reads bytes so_far.records so_far.read) c.finish.ensures.finished in
-    ended_place graphs bytes c.take_all.new.checker (c.in_ok-take_all.ensures true graphs bytes all)
+    ended_place c.requires.0 c.requires.1 c.take_all.new.checker (c.in_ok-take_all.ensures true c.requires.0 c.requires.1 (whole _ _ _ _ _ c.finish.ensures.reads c.finish.ensures.finished c.requires.2))
 
 pub returns-clause-verdict : goal.returns-clause-verdict
 returns-clause-verdict c graphs bytes so_far =
-    let all = whole graphs bytes c.args.reader.now c.finish.new.self c.args.checker.now so_far (c.finish.ensures.reads bytes so_far.records so_far.read) c.finish.ensures.finished in
-    verdict_there graphs bytes c.take_all.new.checker c.in_ok-ended.field-0 (c.in_ok-take_all.ensures true graphs bytes all) c.in_ok-ended.ensures.verdict
+    verdict_there graphs bytes c.take_all.new.checker c.in_ok-ended.field-0
+    (c.in_ok-take_all.ensures true graphs bytes (whole _ _ _ _ _ c.finish.ensures.reads c.finish.ensures.finished so_far)) c.in_ok-ended.ensures.verdict
 
 pub returns-clause-proved : goal.returns-clause-proved
 returns-clause-proved c graphs bytes matching so_far is =
-    let all = whole graphs bytes c.args.reader.now c.finish.new.self c.args.checker.now so_far (c.finish.ensures.reads bytes so_far.records so_far.read) c.finish.ensures.finished in
-    match_there graphs bytes c.take_all.new.checker c.in_ok-ended.field-0 matching (c.in_ok-take_all.ensures true graphs bytes all) c.in_ok-ended.ensures.verdict is c.in_ok-ended.ensures.proved
+    match_there graphs bytes c.take_all.new.checker c.in_ok-ended.field-0 matching
+    (c.in_ok-take_all.ensures true graphs bytes (whole _ _ _ _ _ c.finish.ensures.reads c.finish.ensures.finished so_far)) c.in_ok-ended.ensures.verdict is c.in_ok-ended.ensures.proved

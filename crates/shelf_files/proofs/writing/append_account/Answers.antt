@@ -1,7 +1,6 @@
 -- The lines were written, and the last one after them.
 use Rattle.std.proofs.Common.{Ok, [], ap, subst}
 use Rattle.std.proofs.lemmas.List.{append-nil}
-use Rattle.std.proofs.lemmas.Result.{err_from_is_err_and}
 use Rattle.account_write.specs.Records.{lines_of}
 use Rattle.shelf_core.specs.Calls.{Appends}
 use Rattle.shelf_files.proofs.WritingLemmas.{not_written_on, written_as, written_before, written_one, written_then}
@@ -9,8 +8,7 @@ use Rattle.shelf_files.proofs.writing.append_account.Goals as goal
 
 pub returns-in_err-append_text : goal.returns-in_err-append_text
 returns-in_err-append_text g c =
-    let p = err_from_is_err_and c.from_residual.result c.from_residual.ensures.1 in
-    not_written_on _ _ _ _ _ _ c.in_err-append_text.field-0.0 _ (cc (p.1, p.2))
+    not_written_on _ _ _ _ _ _ c.in_err-append_text.field-0.0 _ c.from_residual.ensures.1
     (written_before _ _ _ _ _ _ _ (written_as _ _ _ _ _ _ _ (ap lines_of c.lines-lines.ensures) c.in_err-append_text.ensures))
 
 pub returns : goal.returns

@@ -1,7 +1,6 @@
 -- One piece more, or a first part of it.
 use Rattle.std.proofs.Common.{◌+◌, Ok, Err, arith, subst, sym}
 use Rattle.std.specs.List.{between}
-use Rattle.std.proofs.lemmas.Result.{err_from_is_err_and}
 use Rattle.shelf_core.specs.Calls.{Appends}
 use Rattle.shelf_files.specs.Files.{WritesOn}
 use Rattle.shelf_files.proofs.WritingLemmas.{not_written_on, written_piece}
@@ -19,12 +18,11 @@ loop-done-preserved g c =
 
 pub returns-in_err-append : goal.returns-in_err-append
 returns-in_err-append g c =
-    let p = err_from_is_err_and c.from_residual.result c.from_residual.ensures.1 in
     let done = c.loop-done.done in
     let now = g.S.Shelf.state c.loop-done.shelf in
     let new = g.S.Shelf.state c.append.new.self in
     let stop = c.in_err-append.field-0.0 in
-    not_written_on _ _ _ _ _ _ stop _ (cc (p.1, p.2))
+    not_written_on _ _ _ _ _ _ stop _ c.from_residual.ensures.1
     (written_piece _ c.args.buffer.now.items done (done + 65536) _ now new (Err stop) (omega arith) (omega (arith, c.loop-done.invariant.0, c.loop-done-test.true)) c.loop-done.invariant.1
     (subst (λ bytes. Appends g.S.Shelf.tells (between done (done + 65536) bytes) now new (Err stop)) c.deref.ensures.value c.in_err-append.ensures))
 

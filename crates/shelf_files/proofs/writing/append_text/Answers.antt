@@ -1,7 +1,6 @@
 -- A part more is printed, and the pieces that stand there are appended.
 use Rattle.std.proofs.Common.{◌++◌, Ok, [], ap, subst, ◌∙◌}
 use Rattle.std.proofs.lemmas.List.{append-nil}
-use Rattle.std.proofs.lemmas.Result.{err_from_is_err_and}
 use Rattle.shelf_files.specs.Files.{WritesOn}
 use Rattle.shelf_files.proofs.WritingLemmas.{not_written_on, written_as, written_before, written_out_of_memory, written_then}
 use Rattle.shelf_files.proofs.writing.append_text.Goals as goal
@@ -14,13 +13,11 @@ loop-text-preserved g c =
 
 pub returns-in_err-put_next : goal.returns-in_err-put_next
 returns-in_err-put_next g c =
-    let p = err_from_is_err_and c.from_residual.result c.from_residual.ensures.1 in
-    written_out_of_memory _ _ _ _ _ _ _ (cc (p.1, p.2)) c.loop-text.invariant
+    written_out_of_memory _ _ _ _ _ _ _ c.from_residual.ensures.1 c.loop-text.invariant
 
 pub returns-in_err-append_pieces : goal.returns-in_err-append_pieces
 returns-in_err-append_pieces g c =
-    let p = err_from_is_err_and c.from_residual-in_err-append_pieces.result c.from_residual-in_err-append_pieces.ensures.1 in
-    not_written_on _ _ _ _ _ _ c.in_err-append_pieces.field-0.0 _ (cc (p.1, p.2))
+    not_written_on _ _ _ _ _ _ c.in_err-append_pieces.field-0.0 _ c.from_residual-in_err-append_pieces.ensures.1
     (written_then _ _ _ _ _ _ _ _ c.loop-text.invariant
     (written_as _ _ _ _ _ _ _ c.in_ok-put_next.ensures.same
     (written_before _ _ _ (g.P.Parts.left c.put_next.new.self) _ _ _ c.in_err-append_pieces.ensures)))

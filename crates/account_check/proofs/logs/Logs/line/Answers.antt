@@ -1,32 +1,24 @@
 -- A line of the open log: what its answer tells, and what is kept.
-use Rattle.std.proofs.Common.{◌≡◌, ◌+◌, Ok, Some, None, sym, ap, subst, rules, ◌∙◌}
+use Rattle.std.proofs.Common.{◌≡◌, ◌+◌, Ok, Some, None, sym, ap, subst, rules}
 use Rattle.net_core.specs.Sides.{Graphs}
 use Rattle.query_core.specs.Formulas.{IsRefuted}
 use Rattle.account_check.specs.declared.reject.RecordStop.TheVariants as stop
-use Rattle.account_check.specs.Logs.{Proof, match_reject, refutation_of}
-use Rattle.account_check.specs.Proofs.{MatchLogs, IsLog, lines_in}
-use Rattle.account_check.proofs.LogLemmas.{failed, handed_on, refuted_more, same_reject}
+use Rattle.account_check.specs.Logs.{refutation_of}
+use Rattle.account_check.specs.Proofs.{IsLog}
+use Rattle.account_check.proofs.LogLemmas.{failed, handed_on, refuted_more, told_of_match}
 use Rattle.account_check.proofs.logs.Logs.line.Goals as goal
 
 pub returns-in_err-line-clause-refused : goal.returns-in_err-line-clause-refused
 returns-in_err-line-clause-refused c reject is =
     let inside = c.self.inside in
-    let kept = c.self.invariant in
-    let line = c.args.line.now in
-    let open_log = subst (IsLog inside.graphs.now inside.matching inside.closed) c.in-Some.is kept.log_is in
-    let proof : Proof = record { matching = inside.matching; closed = inside.closed; taken = lines_in inside.log } in
     let error = handed_on c.from_residual.result c.in_err-line.field-0.0 reject is c.from_residual.ensures.1 in
     let refused = c.in_err-line.ensures.refused reject (failed c.in_err-line.field-0.0 (stop.Reject reject) error) in
-    subst (λ (v : MatchLogs). Some reject ≡ match_reject v.graphs v.proof line) c.self.view_is (refused ∙ same_reject inside.graphs.now proof c.in-Some.log line open_log (sym (ap lines_in c.in-Some.is)))
+    told_of_match inside.graphs.now inside.matching inside.closed inside.log c.in-Some.log c.args.line.now _ (Some reject) c.self.invariant.log_is c.in-Some.is c.self.view_is refused
 
 pub returns-then-not-branch-clause-taken : goal.returns-then-not-branch-clause-taken
 returns-then-not-branch-clause-taken c =
     let inside = c.self.inside in
-    let kept = c.self.invariant in
-    let line = c.args.line.now in
-    let open_log = subst (IsLog inside.graphs.now inside.matching inside.closed) c.in-Some.is kept.log_is in
-    let proof : Proof = record { matching = inside.matching; closed = inside.closed; taken = lines_in inside.log } in
-    subst (λ (v : MatchLogs). None ≡ match_reject v.graphs v.proof line) c.self.view_is (ap refutation_of (sym c.in_ok-line.ensures.derived) ∙ same_reject inside.graphs.now proof c.in-Some.log line open_log (sym (ap lines_in c.in-Some.is)))
+    told_of_match inside.graphs.now inside.matching inside.closed inside.log c.in-Some.log c.args.line.now _ None c.self.invariant.log_is c.in-Some.is c.self.view_is (ap refutation_of (sym c.in_ok-line.ensures.derived))
 
 pub invariant_of-self-2 : goal.invariant_of-self-2
 invariant_of-self-2 c =
@@ -48,8 +40,4 @@ invariant_of-self-2 c =
 pub returns-clause-taken : goal.returns-clause-taken
 returns-clause-taken c =
     let inside = c.self.inside in
-    let kept = c.self.invariant in
-    let line = c.args.line.now in
-    let open_log = subst (IsLog inside.graphs.now inside.matching inside.closed) c.in-Some.is kept.log_is in
-    let proof : Proof = record { matching = inside.matching; closed = inside.closed; taken = lines_in inside.log } in
-    subst (λ (v : MatchLogs). None ≡ match_reject v.graphs v.proof line) c.self.view_is (ap refutation_of (sym c.in_ok-line.ensures.derived) ∙ same_reject inside.graphs.now proof c.in-Some.log line open_log (sym (ap lines_in c.in-Some.is)))
+    told_of_match inside.graphs.now inside.matching inside.closed inside.log c.in-Some.log c.args.line.now _ None c.self.invariant.log_is c.in-Some.is c.self.view_is (ap refutation_of (sym c.in_ok-line.ensures.derived))

@@ -1,0 +1,76 @@
+-- Outcomes by their kinds: what is so of each variant of a kind, and what an outcome of a kind isn't.
+use Rattle.std.proofs.Common.{◌≡◌, ◌≢◌, inl, inr, List, ℕ, sym, subst}
+use Rattle.circuits.specs.Matches.{HaveNpnpEqualFunctions, IsMatchOfFunctions}
+use Rattle.net_core.specs.Sides.{Graphs}
+use Rattle.net_core.specs.declared.matching.Matching.{Matching}
+use Rattle.query_core.specs.Ledgers.{Ledgered}
+use Rattle.account_check.specs.Verdicts.{IsAccepted as Proves}
+use Rattle.account_check.specs.declared.verdict.Verdict.TheVariants as verdict
+use Rattle.run_steps.specs.Info.{IsSpentOf}
+use Rattle.run_steps.specs.Steps.{IsAnswered, IsEarly, IsOfReading, IsStopWithin, IsUnwritten}
+use Rattle.run_steps.specs.declared.outcome.Outcome.{Outcome}
+use Rattle.run_steps.specs.declared.outcome.Outcome.TheVariants.{Matched, NoMatching, Spent, Absent, TooLarge, Malformed, ReadFault, WriteFault, Memory}
+
+-- the variants of a write that was refused, of a search without an answer, and of an answer
+
+pub of_unwritten : (P : Outcome → Type 0) (o : Outcome) → IsUnwritten o → P WriteFault → P Memory → P o
+of_unwritten P o is fault memory = elim is [ inl e ↦ subst P (sym e) fault | inr e ↦ subst P (sym e) memory ]
+
+pub of_stop : (P : Outcome → Type 0) (graphs : Graphs) (budget : ℕ) (o : Outcome) → IsStopWithin graphs budget o → ((ledger : Ledgered) → IsSpentOf graphs budget ledger → P (Spent ledger)) → P Memory → P o
+of_stop P graphs budget o stop spent memory =
+    elim stop [ inl (ledger, is, all) ↦ subst P (sym is) (spent ledger all) | inr is ↦ subst P (sym is) memory ]
+
+pub of_answer : (P : Outcome → Type 0) (graphs : Graphs) (account : List ℕ) (o : Outcome) → IsAnswered graphs account o
+    → ((table : Matching) → Proves graphs account (verdict.Match table) → IsMatchOfFunctions graphs.first graphs.second table.inputs table.outputs → P (Matched table))
+    → (Proves graphs account verdict.None → (HaveNpnpEqualFunctions graphs.first graphs.second → ⊥) → P NoMatching)
+    → P o
+of_answer P graphs account o answer matched none =
+    elim answer [
+      | inl (table, is, proves, matches) ↦ subst P (sym is) (matched table proves matches)
+      | inr (is, proves, unequal) ↦ subst P (sym is) (none proves unequal)
+    ]
+
+-- what ends a run early, and what does so before a write
+
+abbrev pub EndsReading : Outcome → Type 0
+EndsReading (Spent ledger) = Unit {0}
+EndsReading (Absent which) = Unit {0}
+EndsReading (TooLarge which) = Unit {0}
+EndsReading (Malformed which kind at) = Unit {0}
+EndsReading ReadFault = Unit {0}
+EndsReading Memory = Unit {0}
+EndsReading other = ⊥
+
+abbrev pub EndsRun : Outcome → Type 0
+EndsRun WriteFault = Unit {0}
+EndsRun other = EndsReading other
+
+ends_run : (o : Outcome) → EndsReading o → EndsRun o
+ends_run WriteFault is = absurd is
+ends_run other is = is
+
+pub early : (o : Outcome) → EndsRun o → IsEarly o
+early o is = record {
+  line = record {
+    no_table = λ table has. elim has [ inl e ↦ subst EndsRun e is | inr e ↦ subst EndsRun e is ];
+    no_rows = λ e. subst EndsRun e is;
+  };
+  no_refusal = λ e. subst EndsRun e is;
+  no_match = λ e. subst EndsRun e is;
+  no_pair = λ e. subst EndsRun e is;
+  no_trial = λ number account e. subst EndsRun e is;
+  asked = λ e. subst EndsRun e is;
+}
+
+pub of_reading : (o : Outcome) → EndsReading o → IsOfReading o
+of_reading o is = record { early = early o (ends_run o is); unwritten = λ e. subst EndsReading e is }
+
+pub early_unwritten : (o : Outcome) → IsUnwritten o → IsEarly o
+early_unwritten o is = of_unwritten IsEarly o is (early WriteFault tt) (early Memory tt)
+
+pub stop_line : (graphs : Graphs) (budget : ℕ) (o : Outcome) → IsStopWithin graphs budget o → IsOfReading o
+stop_line graphs budget o stop = of_reading o (of_stop EndsReading graphs budget o stop (λ ledger spent. tt) tt)
+
+-- a search ends by no fault of the outside
+pub no_fault : (graphs : Graphs) (budget : ℕ) (o : Outcome) → IsStopWithin graphs budget o → (o ≢ ReadFault) × (o ≢ WriteFault)
+no_fault graphs budget o stop = of_stop (λ end. (end ≢ ReadFault) × (end ≢ WriteFault)) graphs budget o stop (λ ledger spent. (λ e. cc, λ e. cc)) (λ e. cc, λ e. cc)
