@@ -20,7 +20,7 @@ use Rattle.query_core.specs.ConeClauses.{left_gates}
 use Rattle.query_core.proofs.AssignmentLemmas.{one_side, shared_at}
 use Rattle.query_core.proofs.EqualLemmas.{bool_decides}
 use Rattle.query_core.proofs.ReachingLemmas.{reaching_at, reaching_keeps}
-use Rattle.query_core.proofs.VariableLemmas.{stand_in_gate}
+use Rattle.query_core.proofs.FormulaLemmas.{stand_in_gate}
 use Rattle.query_core.proofs.FormulaLemmas.{length-feeds_differ, reached_count, right_variable_count}
 
 -- the literal of a gate is its variable
