@@ -20,8 +20,7 @@ use Rattle.dense_solver.specs.declared.verdict.DenseVerdict.TheVariants.{Model a
 use Rattle.learn_solver.specs.declared.verdict.Finding.{Finding}
 use Rattle.learn_solver.specs.declared.verdict.Finding.TheVariants.{Model, Refuted}
 use Rattle.learn_solver.proofs.AdvanceLemmas.{derived_after}
-use Rattle.learn_solver.proofs.SolverLemmas.{lines_known}
-use Rattle.learn_solver.proofs.SolverLemmas.{line_known, line_says, steps_there}
+use Rattle.learn_solver.proofs.SolverLemmas.{line_known, line_says, lines_known, steps_there}
 use Rattle.dense_solver.specs.Renamings.{AreShort, IsRenaming, IsSpread, renamed, translated}
 use Rattle.dense_solver.specs.Solved.{AreCharged, AreLearned, AreRefused, IsDenseVerdict, IsFound, IsSettled, IsTold, IsUnsettled, start_of, with_lines_of}
 use Rattle.dense_solver.proofs.RenameLemmas.{has_all_renamed, met_renamed}

@@ -20,8 +20,7 @@ use Rattle.query_core.specs.ConeClauses.{left_gates}
 use Rattle.query_core.proofs.AssignmentLemmas.{one_side, shared_at}
 use Rattle.query_core.proofs.EqualLemmas.{bool_decides}
 use Rattle.query_core.proofs.ReachingLemmas.{reaching_at, reaching_keeps}
-use Rattle.query_core.proofs.FormulaLemmas.{stand_in_gate}
-use Rattle.query_core.proofs.FormulaLemmas.{length-feeds_differ, reached_count, right_variable_count}
+use Rattle.query_core.proofs.FormulaLemmas.{length-feeds_differ, reached_count, right_variable_count, stand_in_gate}
 
 -- the literal of a gate is its variable
 pub gate_literal : (n : ℕ) (feed : List Feed) (variables : List ℕ) (t : ℕ) → length feed ≡ n → t < length variables → stand_in (signal_literals feed variables) (n + 1 + t) ≡ plain (slice_index_or variables t 0)
