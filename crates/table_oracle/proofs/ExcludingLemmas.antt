@@ -1,17 +1,17 @@
 -- The clause that excludes the vectors that begin with given bits, and the literals that are true where it is to be derived.
-use Rattle.std.proofs.Common.{◌≡◌, ◌≢◌, ℕ, zero, suc, ◌+◌, ◌*◌, ◌/◌, ◌-◌, ◌%◌, ◌<◌, ◌==◌, ◌||◌, not, eqb, Bool, true, false, List, [], ◌∷◌, ◌++◌, length, map, nat_lt, slice_index_or, refl, sym, ap, ◌∙◌, inl, inr, arith}
+use Rattle.std.proofs.Common.{◌≡◌, ◌≢◌, ℕ, zero, suc, ◌+◌, ◌*◌, ◌/◌, ◌-◌, ◌%◌, ◌<◌, ◌==◌, not, eqb, Bool, true, false, List, [], ◌∷◌, ◌++◌, length, map, nat_lt, slice_index_or, refl, sym, ap, ◌∙◌, inl, inr, arith}
 use Rattle.std.specs.List.{list_any, list_all, range_with_len}
-use Rattle.std.proofs.lemmas.Bool.{cases_Bool, lt-ltb, or_left, or_right}
+use Rattle.std.proofs.lemmas.Bool.{both_ways, cases_Bool, lt-ltb, or_from, or_left, or_right}
 use Rattle.std.proofs.lemmas.Bool.Decides.{eqb_tells}
 use Rattle.std.proofs.lemmas.List.{get_or-map, get_or_append_left, get_or_at, length-append, length-map}
 use Rattle.std.proofs.lemmas.List.Folds.{Any-from_list_any, list_any_at}
 use Rattle.std.proofs.lemmas.List.Recursion.{and_from_places}
-use Rattle.std.proofs.lemmas.List.FromFn.{get_or-map-range_with_len, length-map-range_with_len, map-range_with_len_more}
+use Rattle.std.proofs.lemmas.List.FromFn.{fill_by_all, get_or-map-range_with_len, length-map-range_with_len, map-range_with_len_more}
 use Rattle.circuits.specs.Literals.{bit}
 use Rattle.cnf_core.specs.declared.literal.SatLit.{SatLit}
 use Rattle.cnf_core.specs.Clauses.{literal_of, opposite, variable_of}
 use Rattle.cnf_core.specs.Derivations.{is_false, is_same, is_true, repeats_variable}
-use Rattle.cnf_core.proofs.LiteralLemmas.{same_itself, same_literal}
+use Rattle.cnf_core.proofs.LiteralLemmas.{not_opposite, same_from, same_itself, same_literal, variable_of-literal}
 use Rattle.table_oracle.specs.Splits.{excluding}
 use Rattle.table_oracle.proofs.KnownLemmas.{AreApart, IsKnown}
 
@@ -28,19 +28,10 @@ opposite_of v false = ap (λ n. record { 0 = n }) (number v)
     number : (v : ℕ) → 2 * ((2 * v + 1) / 2) + (1 - (2 * v + 1) % 2) ≡ 2 * v
     number v = omega arith
 
-pub variable_is : (v : ℕ) (b : Bool) → variable_of (literal_of v b) ≡ v
-variable_is v true = omega arith
-variable_is v false = omega arith
-
-pub signs_differ : (v : ℕ) (b : Bool) → literal_of v b ≡ literal_of v (not b) → ⊥
-signs_differ v true same = number v (ap (λ (l : SatLit). l.0) same)
-  where
-    number : (v : ℕ) → 2 * v ≡ 2 * v + 1 → ⊥
-    number v e = omega (arith, e)
-signs_differ v false same = number v (ap (λ (l : SatLit). l.0) same)
-  where
-    number : (v : ℕ) → 2 * v + 1 ≡ 2 * v → ⊥
-    number v e = omega (arith, e)
+signs_differ : (v : ℕ) (b : Bool) → literal_of v b ≡ literal_of v (not b) → ⊥
+signs_differ v b same =
+    let l = literal_of v b in
+    both_ways (is_same (opposite l) l) (not_opposite l) (same_from (opposite l) l (opposite_of v b ∙ sym same))
 
 pub turned_twice : (b : Bool) → not (not b) ≡ b
 turned_twice true = refl
@@ -95,7 +86,7 @@ start_later bits b =
     start_false bits (literal_of (1 + length bits) b) (λ given. apart given.input given.within (ap variable_of given.is))
   where
     apart : (i : ℕ) → i < length bits → variable_of (literal_of (1 + length bits) b) ≡ variable_of (literal_of (1 + i) (bit bits i)) → ⊥
-    apart i within same = omega (arith, within, same, variable_is (1 + length bits) b, variable_is (1 + i) (bit bits i))
+    apart i within same = omega (arith, within, same, variable_of-literal (1 + length bits) b, variable_of-literal (1 + i) (bit bits i))
 
 pub start_apart : (bits : List Bool) → AreApart (start bits)
 start_apart bits l truth =
@@ -106,7 +97,7 @@ start_apart bits l truth =
     clash : (i j : ℕ) → l ≡ literal_of (1 + i) (bit bits i) → opposite l ≡ literal_of (1 + j) (bit bits j) → ⊥
     clash i j one other =
         let turned : literal_of (1 + i) (not (bit bits i)) ≡ literal_of (1 + j) (bit bits j) = sym (opposite_of (1 + i) (bit bits i)) ∙ (sym (ap opposite one) ∙ other) in
-        let same : j ≡ i = omega (arith, ap variable_of turned, variable_is (1 + i) (not (bit bits i)), variable_is (1 + j) (bit bits j)) in
+        let same : j ≡ i = omega (arith, ap variable_of turned, variable_of-literal (1 + i) (not (bit bits i)), variable_of-literal (1 + j) (bit bits j)) in
         signs_differ (1 + i) (bit bits i) (sym (turned ∙ ap (λ k. literal_of (1 + k) (bit bits k)) same))
 
 -- a literal of an input whose literals of the other sign is true
@@ -128,10 +119,10 @@ start_known bits made kept i b within =
 bit_of_longer : (bits : List Bool) (b : Bool) (i : ℕ) → i < length bits → bit (bits ++ b ∷ []) i ≡ bit bits i
 bit_of_longer bits b i within = get_or_append_left bits (b ∷ []) false i within
 
-same_on : (f g : ℕ → SatLit) (first n : ℕ) → ((i : ℕ) → i < first + n → f i ≡ g i) → map f (range_with_len first n) ≡ map g (range_with_len first n)
-same_on f g first zero same = refl
-same_on f g first (suc n) same =
-    ap (λ l. l ∷ map f (range_with_len (first + 1) n)) (same first (omega arith)) ∙ ap (λ ls. g first ∷ ls) (same_on f g (first + 1) n (λ i below. same i (omega (arith, below))))
+same_on : (f g : ℕ → SatLit) (n : ℕ) → ((i : ℕ) → i < n → f i ≡ g i) → map f (range_with_len 0 n) ≡ map g (range_with_len 0 n)
+same_on f g n same =
+    let d : SatLit = record { 0 = 0 } in
+    fill_by_all g (map f (range_with_len 0 n)) n d (length-map-range_with_len f 0 n) (λ k below. get_or-map-range_with_len f 0 n k k d below (omega arith) ∙ same k below)
 
 pub excluding_more : (bits : List Bool) (b : Bool) → excluding (bits ++ b ∷ []) ≡ excluding bits ++ literal_of (1 + length bits) (not b) ∷ []
 excluding_more bits b =
@@ -140,7 +131,7 @@ excluding_more bits b =
     let g : ℕ → SatLit = λ i. literal_of (1 + i) (not (bit bits i)) in
     ap (λ k. map f (range_with_len 0 k)) (length-append bits (b ∷ []))
     ∙ (map-range_with_len_more f 0 n n (omega arith)
-    ∙ (ap (λ ls. ls ++ f n ∷ []) (same_on f g 0 n (λ i below. ap (λ c. literal_of (1 + i) (not c)) (bit_of_longer bits b i (omega (arith, below))))) ∙ ap (λ c. excluding bits ++ literal_of (1 + n) (not c) ∷ []) (get_or_at bits b [] false n refl)))
+    ∙ (ap (λ ls. ls ++ f n ∷ []) (same_on f g n (λ i below. ap (λ c. literal_of (1 + i) (not c)) (bit_of_longer bits b i (omega (arith, below))))) ∙ ap (λ c. excluding bits ++ literal_of (1 + n) (not c) ∷ []) (get_or_at bits b [] false n refl)))
 
 -- the variables of the clause are known, and none stands twice
 pub excluding_known : (variables : ℕ) (bits : List Bool) → length bits < variables → list_all (λ l. nat_lt (variable_of l) variables) (excluding bits) ≡ true
@@ -148,19 +139,16 @@ excluding_known variables bits few =
     let d : SatLit = record { 0 = 0 } in
     and_from_places (list_all (λ l. nat_lt (variable_of l) variables)) (λ l. nat_lt (variable_of l) variables) refl (λ _ _. refl) (excluding bits) d (λ k within.
     let here : k < length bits = omega (arith, within, count_of_excluding bits) in
-    lt-ltb (variable_of (slice_index_or (excluding bits) k d)) variables (omega (arith, ap variable_of (excluding_at bits k d here), variable_is (1 + k) (not (bit bits k)), here, few)))
+    lt-ltb (variable_of (slice_index_or (excluding bits) k d)) variables (omega (arith, ap variable_of (excluding_at bits k d here), variable_of-literal (1 + k) (not (bit bits k)), here, few)))
 
 once_from : (g : ℕ → Bool) (first n : ℕ) → repeats_variable (map (λ i. literal_of (1 + i) (g i)) (range_with_len first n)) ≡ false
 once_from g first zero = refl
-once_from g first (suc n) = neither (later (first + 1) n (omega arith)) (once_from g (first + 1) n)
+once_from g first (suc n) = or_from _ _ (later (first + 1) n (omega arith)) (once_from g (first + 1) n)
   where
-    neither : {x y : Bool} → x ≡ false → y ≡ false → (x || y) ≡ false
-    neither {x} {y} p q = ap (λ t. t || y) p ∙ q
-
     later : (from count : ℕ) → first < from → list_any (λ other. variable_of other == variable_of (literal_of (1 + first) (g first))) (map (λ i. literal_of (1 + i) (g i)) (range_with_len from count)) ≡ false
     later from zero above = refl
     later from (suc count) above =
-        neither (unlike (variable_of (literal_of (1 + from) (g from))) (variable_of (literal_of (1 + first) (g first))) (omega (arith, variable_is (1 + from) (g from), variable_is (1 + first) (g first), above))) (later (from + 1) count (omega (arith, above)))
+        or_from _ _ (unlike (variable_of (literal_of (1 + from) (g from))) (variable_of (literal_of (1 + first) (g first))) (omega (arith, variable_of-literal (1 + from) (g from), variable_of-literal (1 + first) (g first), above))) (later (from + 1) count (omega (arith, above)))
       where
         unlike : (x y : ℕ) → x ≢ y → eqb x y ≡ false
         unlike x y apart = elim (eqb_tells x y) [ inl (same, is) ↦ absurd (apart is) | inr (differ, _) ↦ differ ]

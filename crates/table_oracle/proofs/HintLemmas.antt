@@ -1,10 +1,10 @@
 -- Hints that derive the clause that excludes given bits: by the clauses that exclude both ways to go on, or gate by gate where
 -- all inputs have a bit.
-use Rattle.std.proofs.Common.{◌≡◌, ℕ, ◌+◌, ◌*◌, ◌/◌, ◌-◌, ◌%◌, ◌<◌, ◌||◌, cond, Bool, true, false, List, [], ◌∷◌, ◌++◌, length, None, Some, inl, inr, refl, sym, ap, subst, ◌∙◌, arith, append_assoc}
+use Rattle.std.proofs.Common.{◌≡◌, ℕ, ◌+◌, ◌-◌, ◌<◌, ◌||◌, cond, Bool, true, false, List, [], ◌∷◌, ◌++◌, length, None, Some, inl, inr, refl, sym, ap, subst, ◌∙◌, arith, append_assoc}
 use Rattle.std.specs.List.{list_any, list_all}
 use Rattle.std.proofs.lemmas.Bool.{and_from, and_parts, both_ways, cases_Bool, cases_eq, false≢true, lt-ltb, or_cases, or_left, or_parts, or_right}
 use Rattle.std.proofs.lemmas.List.{get_or_append_left, length-append}
-use Rattle.std.proofs.lemmas.List.Folds.{list_any-append}
+use Rattle.std.proofs.lemmas.List.Folds.{Any-from_list_any, list_any-from_Any}
 use Rattle.cnf_core.specs.declared.literal.SatLit.{SatLit}
 use Rattle.cnf_core.specs.declared.effect.Effect.TheVariants.{Conflict, Makes, Neither}
 use Rattle.cnf_core.specs.declared.fault.LineFault.TheVariants as fault
@@ -16,25 +16,15 @@ use Rattle.net_core.specs.Graph.{IsGraph}
 use Rattle.query_core.specs.declared.query.Query.{Query}
 use Rattle.query_core.specs.Queries.{IsQuery, bits_in}
 use Rattle.query_core.specs.Formulas.{query_clauses}
-use Rattle.cnf_core.proofs.LiteralLemmas.{same_itself, same_literal}
+use Rattle.cnf_core.proofs.LiteralLemmas.{not_opposite, opposite_twice, same_from, same_itself, same_literal}
 use Rattle.cnf_core.proofs.EffectLemmas.{conflict_from, makes_from, makes_says}
-use Rattle.cnf_core.proofs.LiteralLemmas.{opposite_twice}
 use Rattle.learn_solver.proofs.KeptLemmas.{opposite_there}
 use Rattle.learn_solver.proofs.DeriveLemmas.{step_conflict, step_makes}
+use Rattle.joint_hash.proofs.LeadLemmas.{last_true, stays_true, true_with}
 use Rattle.table_oracle.specs.Splits.{excluding}
 use Rattle.table_oracle.proofs.KnownLemmas.{AreApart, IsHeld}
 use Rattle.table_oracle.proofs.ExcludingLemmas.{excluding_more, opposite_of, start, start_apart, start_known, start_later}
 use Rattle.table_oracle.proofs.WholeLemmas.{IsBegun, clause_held}
-
--- what is true with one literal more
-true_with : (made : List SatLit) (l m : SatLit) → is_true (made ++ l ∷ []) m ≡ (is_true made m || (is_same m l || false))
-true_with made l m = list_any-append (is_same m) made (l ∷ [])
-
-stays_true : (made : List SatLit) (l m : SatLit) → is_true made m ≡ true → is_true (made ++ l ∷ []) m ≡ true
-stays_true made l m truth = true_with made l m ∙ or_left (is_true made m) (is_same m l || false) truth
-
-last_true : (made : List SatLit) (l : SatLit) → is_true (made ++ l ∷ []) l ≡ true
-last_true made l = true_with made l l ∙ or_right (is_true made l) (is_same l l || false) (or_left (is_same l l) false (same_itself l))
 
 -- a first hint that makes a literal true
 hint_makes : (clauses : List (List SatLit)) (made : List SatLit) (id : ℕ) (rest : List ℕ) (l : SatLit) → id < length clauses → effect_of made (clause_at clauses id) ≡ Makes l → hint_fault clauses made (id ∷ rest) ≡ hint_fault clauses (made ++ l ∷ []) rest
@@ -148,26 +138,17 @@ apart_with made l apart free m truth =
     ]
   where
     itself : (m : SatLit) → opposite m ≡ m → ⊥
-    itself m e = number m.0 (ap (λ (l : SatLit). l.0) e)
-      where
-        number : (k : ℕ) → 2 * (k / 2) + (1 - k % 2) ≡ k → ⊥
-        number k e = omega (arith, e)
+    itself m e = both_ways (is_same (opposite m) m) (not_opposite m) (same_from (opposite m) m e)
 
 held_with : (made : List SatLit) (l : SatLit) (clause : List SatLit) → IsHeld made clause → IsHeld (made ++ l ∷ []) clause
-held_with made l [] held = absurd (false≢true held)
-held_with made l (y ∷ clause) held =
-    elim (or_cases (is_true made y) (list_any (is_true made) clause) held) [
-      | inl truth ↦ or_left (is_true (made ++ l ∷ []) y) (list_any (is_true (made ++ l ∷ [])) clause) (stays_true made l y truth)
-      | inr after ↦ or_right (is_true (made ++ l ∷ []) y) (list_any (is_true (made ++ l ∷ [])) clause) (held_with made l clause after)
-    ]
+held_with made l clause held =
+    let found = Any-from_list_any (is_true made) clause held in
+    list_any-from_Any (is_true (made ++ l ∷ [])) clause (found.0, found.1, found.2, found.3, stays_true made l found.1 found.4)
 
 made_held : (made : List SatLit) (l : SatLit) (clause : List SatLit) → list_any (is_same l) clause ≡ true → IsHeld (made ++ l ∷ []) clause
-made_held made l [] there = absurd (false≢true there)
-made_held made l (y ∷ clause) there =
-    elim (or_cases (is_same l y) (list_any (is_same l) clause) there) [
-      | inl here ↦ or_left (is_true (made ++ l ∷ []) y) (list_any (is_true (made ++ l ∷ [])) clause) (ap (is_true (made ++ l ∷ [])) (sym (same_literal l y here)) ∙ last_true made l)
-      | inr after ↦ or_right (is_true (made ++ l ∷ []) y) (list_any (is_true (made ++ l ∷ [])) clause) (made_held made l clause after)
-    ]
+made_held made l clause there =
+    let found = Any-from_list_any (is_same l) clause there in
+    list_any-from_Any (is_true (made ++ l ∷ [])) clause (found.0, found.1, found.2, found.3, ap (is_true (made ++ l ∷ [])) (sym (same_literal l found.1 found.4)) ∙ last_true made l)
 
 pub gates_make : (front : List (List SatLit)) (bits : List Bool) (made : List SatLit) (hints : List ℕ) (id : ℕ) → IsUnderWay front bits made hints id → id < length front → (l : SatLit) → effect_of made (clause_at front id) ≡ Makes l → IsUnderWay front bits (made ++ l ∷ []) (hints ++ id ∷ []) (id + 1)
 gates_make front bits made hints id way there l makes =

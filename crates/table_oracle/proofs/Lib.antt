@@ -4,4 +4,3 @@ pub mod WholeLemmas
 pub mod ExcludingLemmas
 pub mod HintLemmas
 pub mod SplitLemmas
-pub mod TableLemmas

@@ -1,15 +1,14 @@
 -- What excluding the beginnings of vectors makes of a log and a ledger, and how it ends.
-use Rattle.std.proofs.Common.{◌≡◌, ℕ, suc, ◌+◌, ◌/◌, ◌%◌, ◌^◌, ◌==◌, ◌<◌, ◌≤◌, ◌||◌, Bool, true, false, List, [], ◌∷◌, ◌++◌, length, drop, map, All, Contains, Result, Ok, Err, OnOk, IfErr, nat_lt, slice_index_or, Option, None, Some, IfSome, IfNone, is_some, inl, inr, refl, sym, ap, subst, ◌∙◌, arith, append_assoc}
+use Rattle.std.proofs.Common.{◌≡◌, ℕ, suc, ◌+◌, ◌^◌, ◌<◌, ◌≤◌, ◌||◌, Bool, true, false, List, [], ◌∷◌, ◌++◌, length, drop, map, All, Contains, Result, Ok, Err, OnOk, IfErr, nat_lt, slice_index_or, Option, None, Some, IfSome, IfNone, is_some, inl, inr, refl, sym, ap, subst, ◌∙◌, arith, append_assoc}
 use Rattle.std.specs.List.{list_any, list_all, range_with_len}
 use Rattle.std.proofs.lemmas.Bool.{both_ways, cases_eq, false≢true, or_cases, or_left, or_right}
-use Rattle.std.proofs.lemmas.List.{get_or_at, get_or-append-add, get_or-map, length-append, map-append, take-append-drop}
+use Rattle.std.proofs.lemmas.List.{get_or-append-add, get_or-map, length-append, map-append, take-append-drop}
 use Rattle.std.proofs.lemmas.List.Elements.{All-append}
-use Rattle.std.proofs.lemmas.List.FromFn.{get_or-range_with_len, length-map-range_with_len, length-range_with_len}
-use Rattle.std.proofs.lemmas.List.Folds.{list_any-append, list_any_at}
+use Rattle.std.proofs.lemmas.List.FromFn.{fill_by_all, get_or-range_with_len, length-range_with_len}
+use Rattle.std.proofs.lemmas.List.Folds.{list_any-append, list_any_at, list_any_none}
 use Rattle.std.proofs.lemmas.List.Recursion.{and_from_places}
 use Rattle.circuits.specs.Literals.{vector_of}
-use Rattle.circuits.proofs.Codes.{code_of, code_of-below, vector_of-code_of}
-use Rattle.circuits.specs.declared.netlist.Gate.{Gate}
+use Rattle.circuits.proofs.Codes.{code_of, code_of-below, length-vector_of, vector_of-code_of}
 use Rattle.cnf_core.specs.declared.literal.SatLit.{SatLit}
 use Rattle.cnf_core.specs.declared.log.LogLine.{LogLine}
 use Rattle.cnf_core.specs.Clauses.{clause_at, opposite, variable_of}
@@ -18,8 +17,8 @@ use Rattle.cnf_core.specs.declared.stop.Stop.{Stop}
 use Rattle.net_core.specs.Sides.{Graphs}
 use Rattle.net_core.specs.Graph.{IsGraph}
 use Rattle.query_core.specs.declared.query.Query.{Query}
-use Rattle.query_core.specs.Queries.{IsQuery, circuit_of}
-use Rattle.query_core.specs.Formulas.{Asking, formula_of, gate_clauses, half_clauses, left_literals, query_clauses, right_literals}
+use Rattle.query_core.specs.Queries.{IsQuery}
+use Rattle.query_core.specs.Formulas.{Asking, formula_of, query_clauses}
 use Rattle.cnf_core.specs.Charges.{Charging, IsCharged, IsRefused}
 use Rattle.learn_solver.specs.Analyses.{has_all}
 use Rattle.learn_solver.specs.Searches.{last_line}
@@ -32,7 +31,7 @@ use Rattle.learn_solver.proofs.SolverLemmas.{line_from}
 use Rattle.learn_solver.proofs.StepLemmas.{asking_charged, extended_charged, last_added, stopped_one}
 use Rattle.ask_core.proofs.AskLemmas.{IsOfCones}
 use Rattle.joint_hash.proofs.LineLemmas.{no_lemmas}
-use Rattle.fact_tests.proofs.ConeLemmas.{cone_id_below}
+use Rattle.fact_tests.proofs.ConeLemmas.{cone_id_below, none_empty}
 use Rattle.table_oracle.specs.declared.splitting.Splitting.{Splitting}
 use Rattle.table_oracle.specs.Splits.{AllExcluded, IsBeginning, IsCovering, IsExcluded, IsNew, IsSplitting, clauses_in, excluding, solving_of}
 use Rattle.table_oracle.proofs.ExcludingLemmas.{excluding_known, excluding_once}
@@ -76,13 +75,10 @@ all_by_codes clauses count each bits size =
     let is : vector_of count (code_of bits) ≡ bits = ap (λ n. vector_of n (code_of bits)) (sym size) ∙ sym (vector_of-code_of bits) in
     subst (IsExcluded clauses) is (each (code_of bits) below)
 
-pub vector_count : (n code : ℕ) → length (vector_of n code) ≡ n
-vector_count n code = length-map-range_with_len (λ i. code / 2 ^ i % 2 == 1) 0 n
-
 -- what is begun by n bits, where all longer beginnings are excluded
 pub begun : (splitting : Splitting) (lines : List LogLine) (bits code : ℕ) (x : List Bool) → x ≡ vector_of bits code → bits ≤ splitting.inputs → (bits < splitting.inputs → AllExcluded (clauses_in splitting.base lines) (bits + 1)) → IsBeginning splitting lines x
 begun splitting lines bits code x is within closed =
-    let size : length x ≡ bits = ap length is ∙ vector_count bits code in
+    let size : length x ≡ bits = ap length is ∙ length-vector_of bits code in
     record {
       within = omega (arith, size, within);
       closed = λ less b. closed (omega (arith, size, less)) (x ++ b ∷ []) (length-append x (b ∷ []) ∙ ap (λ n. n + 1) size);
@@ -93,16 +89,9 @@ pub covered : (clauses : List (List SatLit)) (bits : List Bool) (id : ℕ) → I
 covered clauses bits id covering =
     list_any_at (has_all (excluding bits)) clauses id [] covering.within covering.has
 
-not_new : (clauses : List (List SatLit)) (clause : List SatLit) → IsNew clauses clause → list_any (has_all clause) clauses ≡ true → ⊥
-not_new [] clause new found = false≢true found
-not_new (c ∷ clauses) clause new found =
-    elim (or_cases (has_all clause c) (list_any (has_all clause) clauses) found) [
-      | inl here ↦ both_ways (has_all clause c) (new 0 c (omega arith)) here
-      | inr following ↦ not_new clauses clause (λ k d within. new (suc k) d (omega (arith, within))) following
-    ]
-
 pub not_excluded : (clauses : List (List SatLit)) (bits : List Bool) → IsNew clauses (excluding bits) → IsExcluded clauses bits → ⊥
-not_excluded clauses bits new excluded = not_new clauses (excluding bits) new excluded
+not_excluded clauses bits new excluded =
+    both_ways (list_any (has_all (excluding bits)) clauses) (list_any_none (has_all (excluding bits)) clauses new) excluded
 
 -- ---- one line
 
@@ -122,17 +111,10 @@ excluded_by asking lines line bits is =
     ∙ or_right (list_any p (clauses_in asking lines)) (p line.clause || false) (or_left (p line.clause) false (ap p is ∙ own_literals (excluding bits))))
 
 -- all clauses are looked at
-looked_from : (before after : List (List SatLit)) → map (clause_at (before ++ after)) (range_with_len (length before) (length after)) ≡ after
-looked_from before [] = refl
-looked_from before (c ∷ after) =
-    let n = length before in
-    let whole : (before ++ c ∷ []) ++ after ≡ before ++ c ∷ after = append_assoc before (c ∷ []) after in
-    let size : length (before ++ c ∷ []) ≡ n + 1 = length-append before (c ∷ []) in
-    let rest : map (clause_at (before ++ c ∷ after)) (range_with_len (n + 1) (length after)) ≡ after = ap (λ cs. map (clause_at cs) (range_with_len (n + 1) (length after))) (sym whole) ∙ (ap (λ k. map (clause_at ((before ++ c ∷ []) ++ after)) (range_with_len k (length after))) (sym size) ∙ looked_from (before ++ c ∷ []) after) in
-    ap (λ x. x ∷ map (clause_at (before ++ c ∷ after)) (range_with_len (n + 1) (length after))) (get_or_at before c after [] n refl) ∙ ap (λ cs. c ∷ cs) rest
-
 pub all_looked : (asking : Asking) (lines : List LogLine) → active (solving_of asking lines).formula (solving_of asking lines).ids lines ≡ clauses_in asking lines
-all_looked asking lines = ap (λ cs. cs ++ clauses_of lines) (looked_from [] (query_clauses asking.graphs asking.query))
+all_looked asking lines =
+    let front = query_clauses asking.graphs asking.query in
+    ap (λ cs. cs ++ clauses_of lines) (sym (fill_by_all (clause_at front) front (length front) [] refl (λ k within. refl)))
 
 -- a line that says something new stands after none that is empty
 none_closed : (clauses : List (List SatLit)) (clause : List SatLit) → IsNew clauses clause → list_any is_empty clauses ≡ false
@@ -202,23 +184,6 @@ of_cones graphs query asking lines is none first second fits = record {
     own : (n : ℕ) → 0 + n ≡ n
     own n = omega arith
 
--- no clause of a query is empty
-none_in_gates : (literals : List SatLit) (first : ℕ) (gates : List Gate) → list_any (has_all []) (gate_clauses literals first gates) ≡ false
-none_in_gates literals first [] = refl
-none_in_gates literals first (gate ∷ gates) = none_in_gates literals (first + 1) gates
-
-neither : {x y : Bool} → x ≡ false → y ≡ false → (x || y) ≡ false
-neither {x} {y} p q = ap (λ t. t || y) p ∙ q
-
-none_in_query : (graphs : Graphs) (query : Query) → list_any (has_all []) (query_clauses graphs query) ≡ false
-none_in_query graphs query =
-    let left = circuit_of graphs query.left in
-    let right = circuit_of graphs query.right in
-    let lefts = half_clauses left (left_literals graphs query) in
-    let rights = half_clauses right (right_literals graphs query) in
-    list_any-append (has_all []) lefts _
-    ∙ neither (none_in_gates (left_literals graphs query) (left.inputs + 1) left.gates) (list_any-append (has_all []) rights _ ∙ neither (none_in_gates (right_literals graphs query) (right.inputs + 1) right.gates) refl)
-
 empty_found : (clauses : List (List SatLit)) → list_any (has_all []) clauses ≡ true → list_any is_empty clauses ≡ true
 empty_found [] found = found
 empty_found ([] ∷ clauses) found = refl
@@ -230,7 +195,7 @@ closes asking lines excluded =
     let front = query_clauses asking.graphs asking.query in
     let found : (list_any (has_all []) front || list_any (has_all []) (clauses_of lines)) ≡ true = sym (list_any-append (has_all []) front (clauses_of lines)) ∙ excluded [] refl in
     elim (or_cases (list_any (has_all []) front) (list_any (has_all []) (clauses_of lines)) found) [
-      | inl here ↦ absurd (both_ways (list_any (has_all []) front) (none_in_query asking.graphs asking.query) here)
+      | inl here ↦ absurd (both_ways (list_any (has_all []) front) (list_any_none (has_all []) front (none_empty asking.graphs asking.query)) here)
       | inr following ↦ empty_found (clauses_of lines) following
     ]
 

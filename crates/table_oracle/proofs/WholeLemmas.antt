@@ -1,26 +1,28 @@
 -- A query whose input bits are known: where no clause is a conflict and each is held, its vector is asked for.
-use Rattle.std.proofs.Common.{◌≡◌, ◌≢◌, ℕ, suc, ◌+◌, ◌*◌, ◌/◌, ◌%◌, ◌-◌, ◌<◌, ◌≤◌, Bool, true, false, List, [], ◌∷◌, length, map, slice_index_or, inl, inr, sym, ap, subst, ◌∙◌, arith}
+use Rattle.std.proofs.Common.{◌≡◌, ◌≢◌, ℕ, ◌+◌, ◌*◌, ◌/◌, ◌%◌, ◌-◌, ◌<◌, ◌≤◌, Bool, true, false, not, List, [], ◌∷◌, length, map, slice_index_or, inl, inr, sym, ap, subst, ◌∙◌, arith}
 use Rattle.std.specs.Bool.{beq}
-use Rattle.std.specs.List.{list_any, range_with_len}
-use Rattle.std.proofs.lemmas.Bool.{cases_eq, cases_lt, false≢true, or_cases, or_left, or_right}
-use Rattle.std.proofs.lemmas.Bool.Decides.{eqb_tells}
+use Rattle.std.specs.List.{range_with_len}
+use Rattle.std.proofs.lemmas.Bool.{cases_eq, cases_lt, false≢true, or_cases}
 use Rattle.std.proofs.lemmas.List.{get_or_default}
+use Rattle.std.proofs.lemmas.List.Folds.{Any-from_list_any, list_any-from_Any}
 use Rattle.std.proofs.lemmas.List.FromFn.{get_or-map-range_with_len, length-map-range_with_len}
 use Rattle.circuits.specs.Literals.{bit}
 use Rattle.circuits.specs.Netlists.{Net}
 use Rattle.cnf_core.specs.declared.literal.SatLit.{SatLit}
 use Rattle.cnf_core.specs.declared.effect.Effect.TheVariants.{Neither}
-use Rattle.cnf_core.specs.Clauses.{clause_at, is_met, literal_bit, literal_of, opposite, variable_of}
+use Rattle.cnf_core.specs.Clauses.{clause_at, is_met, is_negated, literal_bit, literal_of, opposite, variable_of}
 use Rattle.cnf_core.specs.Derivations.{effect_of, is_true}
+use Rattle.cnf_core.proofs.LiteralLemmas.{itself, its_opposite}
 use Rattle.net_core.specs.Sides.{Graphs}
 use Rattle.net_core.specs.Graph.{IsGraph}
 use Rattle.query_core.specs.declared.query.Query.{Query}
 use Rattle.query_core.specs.Queries.{IsQuery, IsUnmet, bits_in, circuit_of, vector_in}
 use Rattle.query_core.specs.Formulas.{formula_of, half_clauses, left_literals, left_variables, output_literal, query_clauses, right_literals, right_variables, true_literal}
 use Rattle.query_core.specs.ConeClauses.{left_gates, right_gates}
-use Rattle.query_core.proofs.FormulaLemmas.{clause_below, clause_of_left, clause_of_right, count_of, first_output, gate_clause_count, second_output}
+use Rattle.query_core.proofs.FormulaLemmas.{clause_below, count_of, first_output, gate_clause_count, second_output}
 use Rattle.query_core.proofs.ConeLaws.{vector_there}
 use Rattle.query_core.proofs.LawLemmas.{literal_of_bit, ordered_side}
+use Rattle.joint_hash.proofs.GateLemmas.{left_clause, right_clause}
 use Rattle.table_oracle.proofs.KnownLemmas.{AreApart, IsHeld, IsKnown, unit_held}
 use Rattle.table_oracle.proofs.HalfLemmas.{IsHalfHeld, next_held}
 
@@ -76,12 +78,7 @@ module _ (graphs : Graphs) (query : Query) (made : List SatLit) (begun : IsBegun
     feeds = begun.fits.left.feed;
     wired = begun.fits.left.wires;
     bits = begun.bits;
-    held = λ t r early within small.
-        let id = 1 + (3 * t + r) in
-        let at : id - 1 ≡ 3 * t + r = omega arith in
-        let above : id ≢ 0 = omega arith in
-        let below : id - 1 < length lefts = omega (arith, left_count, within, small) in
-        subst (IsHeld made) (sym (ap (clause_at lefts) (sym at) ∙ clause_of_left lefts rights one other id above below)) (held id (omega (arith, early, small, much)));
+    held = λ t r early within small. subst (IsHeld made) (left_clause graphs query t r within small) (held (1 + (3 * t + r)) (omega (arith, early, small, much)));
   }
 
   right_half : (count upto : ℕ) → 0 < count → 1 + 3 * left_gates graphs query + 3 * upto ≤ count → AreHeld count → IsHalfHeld made n right query.right.feed (right_variables graphs query) upto
@@ -93,13 +90,7 @@ module _ (graphs : Graphs) (query : Query) (made : List SatLit) (begun : IsBegun
     feeds = begun.fits.right.feed;
     wired = begun.fits.right.wires;
     bits = begun.bits;
-    held = λ t r early within small.
-        let id = 1 + 3 * left_gates graphs query + (3 * t + r) in
-        let at : id - 1 - length lefts ≡ 3 * t + r = omega (arith, left_count) in
-        let above : id ≢ 0 = omega arith in
-        let after : length lefts ≤ id - 1 = omega (arith, left_count) in
-        let below : id - 1 - length lefts < length rights = omega (arith, left_count, right_count, within, small) in
-        subst (IsHeld made) (sym (ap (clause_at rights) (sym at) ∙ clause_of_right lefts rights one other id above after below)) (held id (omega (arith, early, small, much)));
+    held = λ t r early within small. subst (IsHeld made) (right_clause graphs query t r within small) (held (1 + 3 * left_gates graphs query + (3 * t + r)) (omega (arith, early, small, much)));
   }
 
   -- a clause is held that leaves nothing open, once those before it are
@@ -129,20 +120,21 @@ module _ (graphs : Graphs) (query : Query) (made : List SatLit) (begun : IsBegun
       of_left above early =
           let t = (id - 1) / 3 in
           let r = (id - 1) % 3 in
-          let k : 3 * t + r ≡ id - 1 = omega arith in
-          let at = ap (clause_at lefts) k ∙ clause_of_left lefts rights one other id above early in
+          let within : t < length left.gates = omega (arith, early, left_count) in
+          let k : id ≡ 1 + (3 * t + r) = omega (arith, above) in
+          let at = ap (clause_at (query_clauses graphs query)) k ∙ left_clause graphs query t r within (omega arith) in
           let half = left_half id t (omega (arith, above)) (omega (arith, above)) held in
-          subst (IsHeld made) at (next_held made n left query.left.feed (left_variables graphs query) t half r (omega (arith, early, left_count)) (omega arith) (ap (effect_of made) at ∙ neither))
+          subst (IsHeld made) (sym at) (next_held made n left query.left.feed (left_variables graphs query) t half r within (omega arith) (sym (ap (effect_of made) at) ∙ neither))
 
       of_right : id ≢ 0 → length lefts ≤ id - 1 → id - 1 - length lefts < length rights → IsHeld made (clause_at (query_clauses graphs query) id)
       of_right above after below =
-          let j = id - 1 - length lefts in
-          let t = j / 3 in
-          let r = j % 3 in
-          let k : 3 * t + r ≡ j = omega arith in
-          let at = ap (clause_at rights) k ∙ clause_of_right lefts rights one other id above after below in
+          let t = (id - 1 - length lefts) / 3 in
+          let r = (id - 1 - length lefts) % 3 in
+          let within : t < length right.gates = omega (arith, below, right_count) in
+          let k : id ≡ 1 + 3 * left_gates graphs query + (3 * t + r) = omega (arith, above, after, left_count) in
+          let at = ap (clause_at (query_clauses graphs query)) k ∙ right_clause graphs query t r within (omega arith) in
           let half = right_half id t (omega (arith, above)) (omega (arith, above, after, left_count)) held in
-          subst (IsHeld made) at (next_held made n right query.right.feed (right_variables graphs query) t half r (omega (arith, below, right_count)) (omega arith) (ap (effect_of made) at ∙ neither))
+          subst (IsHeld made) (sym at) (next_held made n right query.right.feed (right_variables graphs query) t half r within (omega arith) (sym (ap (effect_of made) at) ∙ neither))
 
   -- the bits that make these literals true
   abbrev assignment : List Bool
@@ -152,36 +144,20 @@ module _ (graphs : Graphs) (query : Query) (made : List SatLit) (begun : IsBegun
   assigned v within = get_or-map-range_with_len (λ v. is_true made (literal_of v true)) 0 (formula_of graphs query).variables v v false within (omega arith)
 
   literal_met : (l : SatLit) → is_true made l ≡ true → variable_of l < (formula_of graphs query).variables → literal_bit assignment l ≡ true
-  literal_met l truth within =
-      elim (eqb_tells (l.0 % 2) 1) [
-        | inl (odd, is_odd) ↦
-            let v = variable_of l in
-            let own : l ≡ literal_of v false = ap (λ k. record { 0 = k }) (odd_is l.0 is_odd) in
-            let turned : opposite l ≡ literal_of v true = ap (λ k. record { 0 = k }) (odd_turned l.0 is_odd) in
-            let free : is_true made (literal_of v true) ≡ false = ap (is_true made) (sym turned) ∙ begun.apart l truth in
-            ap (literal_bit assignment) own ∙ (literal_of_bit assignment v false ∙ ap (λ b. beq b false) (assigned v within ∙ free))
-        | inr (even, isnt_odd) ↦
-            let v = variable_of l in
-            let own : l ≡ literal_of v true = ap (λ k. record { 0 = k }) (even_is l.0 isnt_odd) in
-            ap (literal_bit assignment) own ∙ (literal_of_bit assignment v true ∙ ap (λ b. beq b true) (assigned v within ∙ (ap (is_true made) (sym own) ∙ truth)))
-      ]
+  literal_met l truth within = by_sign (is_negated l) (sym (itself l)) (sym (its_opposite l))
     where
-      odd_is : (k : ℕ) → k % 2 ≡ 1 → k ≡ 2 * (k / 2) + 1
-      odd_is k odd = omega (arith, odd)
-
-      odd_turned : (k : ℕ) → k % 2 ≡ 1 → 2 * (k / 2) + (1 - k % 2) ≡ 2 * (k / 2)
-      odd_turned k odd = omega (arith, odd)
-
-      even_is : (k : ℕ) → k % 2 ≢ 1 → k ≡ 2 * (k / 2)
-      even_is k even = omega (arith, even)
+      by_sign : (negated : Bool) → l ≡ literal_of (variable_of l) (not negated) → opposite l ≡ literal_of (variable_of l) negated → literal_bit assignment l ≡ true
+      by_sign true own turned =
+          let free : is_true made (literal_of (variable_of l) true) ≡ false = ap (is_true made) (sym turned) ∙ begun.apart l truth in
+          ap (literal_bit assignment) own ∙ (literal_of_bit assignment (variable_of l) false ∙ ap (λ b. beq b false) (assigned (variable_of l) within ∙ free))
+      by_sign false own turned =
+          ap (literal_bit assignment) own ∙ (literal_of_bit assignment (variable_of l) true ∙ ap (λ b. beq b true) (assigned (variable_of l) within ∙ (ap (is_true made) (sym own) ∙ truth)))
 
   clause_met : (clause : List SatLit) → ((k : ℕ) (d : SatLit) → k < length clause → variable_of (slice_index_or clause k d) < (formula_of graphs query).variables) → IsHeld made clause → is_met assignment clause ≡ true
-  clause_met [] known held = absurd (false≢true held)
-  clause_met (l ∷ clause) known held =
-      elim (or_cases (is_true made l) (list_any (is_true made) clause) held) [
-        | inl truth ↦ or_left (literal_bit assignment l) (list_any (literal_bit assignment) clause) (literal_met l truth (known 0 l (omega arith)))
-        | inr after ↦ or_right (literal_bit assignment l) (list_any (literal_bit assignment) clause) (clause_met clause (λ k d within. known (suc k) d (omega (arith, within))) after)
-      ]
+  clause_met clause known held =
+      let found = Any-from_list_any (is_true made) clause held in
+      let below = subst (λ m. variable_of m < (formula_of graphs query).variables) found.3 (known found.0 found.1 found.2) in
+      list_any-from_Any (literal_bit assignment) clause (found.0, found.1, found.2, found.3, literal_met found.1 found.4 below)
 
   -- all clauses are held: some vector is asked for
   pub not_unmet : AreHeld (length (query_clauses graphs query)) → IsUnmet graphs query → ⊥

@@ -7,8 +7,7 @@ use Rattle.query_core.specs.declared.ledger.Asked.{Asked}
 use Rattle.query_core.proofs.ChargingLemmas.{is_opened}
 use Rattle.joint_hash.proofs.LineLemmas.{no_lemmas}
 use Rattle.learn_solver.proofs.StepLemmas.{passed_on}
-use Rattle.ask_core.specs.Answers.{IsStopped}
-use Rattle.ask_core.proofs.AskLemmas.{asked_with, short_asked, short_stopped, stopped_with}
+use Rattle.ask_core.proofs.AskLemmas.{asked_with, stopped_weaker, stopped_with}
 use Rattle.table_oracle.specs.Splits.{solving_of}
 use Rattle.table_oracle.proofs.SplitLemmas.{of_cones, refuted}
 use Rattle.table_oracle.proofs.splitting.refute.Goals as goal
@@ -18,10 +17,9 @@ returns-in_err-exclude_all-clause-stop c =
     let graphs = c.args.graphs.now in
     let query = c.args.query.now in
     let base = c.in_ok-new.field-0 in
-    let old = c.new-lines.result.items in
-    let of = of_cones graphs query base old c.in_ok-new.ensures c.new-lines.ensures.items c.first-first.ensures.sound c.second-second.ensures.sound c.requires.fits in
-    let stop = c.in_err-exclude_all.field-0.0 in
-    passed_on c.from_residual-in_err-exclude_all.result stop (IsStopped graphs query c.args.ledger.now c.exclude_all.new.ledger) c.from_residual-in_err-exclude_all.ensures.1 (short_stopped graphs query [] c.args.ledger.now c.exclude_all.new.ledger stop (no_lemmas (formula_of graphs query) [] refl) (stopped_with graphs query [] (solving_of base old) (solving_of base c.exclude_all.new.lines.items) c.args.ledger.now c.open.new.self c.exclude_all.new.ledger stop of c.in_ok-open.ensures.some c.in_ok-open.ensures.opened c.in_err-exclude_all.ensures.stop))
+    let of = of_cones graphs query base c.new-lines.result.items c.in_ok-new.ensures c.new-lines.ensures.items c.first-first.ensures.sound c.second-second.ensures.sound c.requires.fits in
+    let stopped = stopped_with graphs query [] _ (solving_of base c.exclude_all.new.lines.items) c.args.ledger.now c.open.new.self c.exclude_all.new.ledger c.in_err-exclude_all.field-0.0 of c.in_ok-open.ensures.some c.in_ok-open.ensures.opened c.in_err-exclude_all.ensures.stop in
+    passed_on _ _ _ c.from_residual-in_err-exclude_all.ensures.1 (stopped_weaker c.args.ledger.now c.exclude_all.new.ledger c.in_err-exclude_all.field-0.0 (λ is. record { lemmas = []; are = no_lemmas (formula_of graphs query) [] refl; with_them = is }) stopped)
 
 pub returns-clause-log : goal.returns-clause-log
 returns-clause-log c =
@@ -36,9 +34,12 @@ returns-clause-asked c =
     let graphs = c.args.graphs.now in
     let query = c.args.query.now in
     let base = c.in_ok-new.field-0 in
-    let old = c.new-lines.result.items in
-    let of = of_cones graphs query base old c.in_ok-new.ensures c.new-lines.ensures.items c.first-first.ensures.sound c.second-second.ensures.sound c.requires.fits in
-    short_asked graphs query [] c.args.ledger.now c.exclude_all.new.ledger (no_lemmas (formula_of graphs query) [] refl) (asked_with graphs query [] (solving_of base old) (solving_of base c.exclude_all.new.lines.items) c.args.ledger.now c.open.new.self c.exclude_all.new.ledger of c.in_ok-open.ensures.some c.in_ok-open.ensures.opened c.in_ok-exclude_all.ensures.extended)
+    let of = of_cones graphs query base c.new-lines.result.items c.in_ok-new.ensures c.new-lines.ensures.items c.first-first.ensures.sound c.second-second.ensures.sound c.requires.fits in
+    record {
+      lemmas = [];
+      are = no_lemmas (formula_of graphs query) [] refl;
+      with_them = asked_with graphs query [] _ (solving_of base c.exclude_all.new.lines.items) c.args.ledger.now c.open.new.self c.exclude_all.new.ledger of c.in_ok-open.ensures.some c.in_ok-open.ensures.opened c.in_ok-exclude_all.ensures.extended;
+    }
 
 pub exclude_all-requires-clause-asking : goal.exclude_all-requires-clause-asking
 exclude_all-requires-clause-asking c = record {

@@ -1,16 +1,15 @@
 use Rattle.std.proofs.Common.{◌≡◌, ◌<◌, ◌^◌, length, below_more, sym, ap, subst, ◌∙◌, arith}
 use Rattle.std.proofs.lemmas.Bool.{false≢true}
 use Rattle.circuits.specs.Literals.{vector_of}
-use Rattle.circuits.proofs.Codes.{code_of, code_of-below, vector_of-code_of}
+use Rattle.circuits.proofs.Codes.{code_of, code_of-below, length-vector_of, vector_of-code_of}
 use Rattle.circuits.proofs.MatchLaws.{count-few}
 use Rattle.query_core.specs.Queries.{MeetsQuery, bits_in}
-use Rattle.table_oracle.proofs.SplitLemmas.{vector_count}
 use Rattle.table_oracle.proofs.vectors.meeting_vector.Goals as goal
 
 pub meets-requires-clause-bits : goal.meets-requires-clause-bits
 meets-requires-clause-bits c =
     let bits = c.len-bits.ensures ∙ c.requires.fits.left.feed in
-    ap length (c.deref.ensures.value ∙ c.in_ok-vector.ensures) ∙ (vector_count c.len-bits.result c.loop-code.code ∙ bits)
+    ap length (c.deref.ensures.value ∙ c.in_ok-vector.ensures) ∙ (length-vector_of c.len-bits.result c.loop-code.code ∙ bits)
 
 pub returns-then-branch-clause-found : goal.returns-then-branch-clause-found
 returns-then-branch-clause-found c =
@@ -18,7 +17,7 @@ returns-then-branch-clause-found c =
     let query = c.args.query.now in
     let bits = c.len-bits.ensures ∙ c.requires.fits.left.feed in
     record {
-      bits = ap length (c.from_vec.ensures ∙ c.in_ok-vector.ensures) ∙ (vector_count c.len-bits.result c.loop-code.code ∙ bits);
+      bits = ap length (c.from_vec.ensures ∙ c.in_ok-vector.ensures) ∙ (length-vector_of c.len-bits.result c.loop-code.code ∙ bits);
       meets = subst (MeetsQuery graphs query) (c.deref.ensures.value ∙ sym c.from_vec.ensures) (c.in_ok-meets.ensures.0 c.if-branch.true);
     }
 

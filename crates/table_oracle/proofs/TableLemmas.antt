@@ -1,1 +1,0 @@
--- The queries of an oracle that tries all vectors have at most 12 bits.
