@@ -1,7 +1,7 @@
 -- One entry more at the end of a list, and one less.
 use Rattle.std.proofs.Common.{◌≡◌, ◌≢◌, ℕ, ◌+◌, ◌<◌, ◌&&◌, Bool, true, false, not, cond, eqb, List, [], ◌∷◌, ◌++◌, length, map, filter, get_or, All, AllPairs, Contains, refl, sym, ap, subst, ◌∙◌, inl, inr, arith}
 use Rattle.std.proofs.lemmas.Bool.{and_parts, cases_eq, cases_lt, eq-eqb, eqb-true, false≢true}
-use Rattle.std.proofs.lemmas.List.{append-nil, get_or_append_left, get_or_default, get_or_at, length_push}
+use Rattle.std.proofs.lemmas.List.{append-nil, get_or_append_left, get_or_default, get_or_at, length_push, map-append}
 use Rattle.std.proofs.lemmas.List.Elements.{filter-append}
 use Rattle.std.proofs.lemmas.List.Sums.{sum_by_push}
 use Rattle.circuits.specs.declared.port.Pair.{Pair}
@@ -64,11 +64,7 @@ of_at side kind port pair e =
 one_kept : (es : List Entry) (e : Entry) → held_in (es ++ e ∷ []) ≡ held_in es ++ map (λ (x : Entry). x.pair) (cond (is_held e.fate) (e ∷ []) [])
 one_kept es e =
     ap (map (λ (x : Entry). x.pair)) (filter-append (λ (x : Entry). is_held x.fate) es (e ∷ []))
-    ∙ map_append (filter (λ (x : Entry). is_held x.fate) es) (cond (is_held e.fate) (e ∷ []) [])
-  where
-    map_append : (xs ys : List Entry) → map (λ (x : Entry). x.pair) (xs ++ ys) ≡ map (λ (x : Entry). x.pair) xs ++ map (λ (x : Entry). x.pair) ys
-    map_append [] ys = refl
-    map_append (x ∷ xs) ys = ap (λ l. x.pair ∷ l) (map_append xs ys)
+    ∙ map-append (λ (x : Entry). x.pair) (filter (λ (x : Entry). is_held x.fate) es) (cond (is_held e.fate) (e ∷ []) [])
 
 pub held_more : (es : List Entry) (e : Entry) → is_held e.fate ≡ true → held_in (es ++ e ∷ []) ≡ held_in es ++ e.pair ∷ []
 held_more es e is = one_kept es e ∙ ap (λ b. held_in es ++ map (λ (x : Entry). x.pair) (cond b (e ∷ []) [])) is

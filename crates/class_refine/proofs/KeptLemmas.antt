@@ -238,13 +238,6 @@ counts_fewer n m es e gs known is are = record {
   ];
 }
 
--- no pair is of a count that is told, but as many as are counted
-pub some_gone : (n m : ℕ) (es : List Entry) (e : Entry) (gs : List ℕ) (side : Side) → IsPairOf n m e.pair → is_held e.fate ≡ false → port_on side e.pair < ports_of n m e.pair.kind → AreCounts n m (es ++ e ∷ []) gs → 0 < get_or gs (port_number n m side e.pair.kind (port_on side e.pair)) 0
-some_gone n m es e gs side known is below are =
-    let on = at_of side e.pair.kind (port_on side e.pair) e.pair refl refl in
-    let one = one_of_true (is_at side e.pair.kind (port_on side e.pair) e.pair) on in
-    omega (arith, are.tells side e.pair.kind (port_on side e.pair) below, gone_deleted es e side e.pair.kind (port_on side e.pair) is, one)
-
 -- all of it
 pub kept_none : (n m : ℕ) (ws : List Pair) (ps : List (Option ℕ)) (hs : List (Option Pair)) (gs : List ℕ) → ws ≡ [] → ps ≡ replicate (pairs_of_ports n m) None → hs ≡ replicate (2 * n + 2 * m) None → gs ≡ replicate (2 * n + 2 * m) 0 → IsKept n m [] ws ps hs gs
 kept_none n m ws ps hs gs pairs places held gone = record {

@@ -57,8 +57,6 @@ fn count_one(gone: &mut [usize], port: usize)
 pub(crate) fn uncount_at_ports(gone: &mut [usize], inputs: u32, outputs: u32, pair: Pair)
     requires known { IsPairOf inputs outputs pair }
     requires size { length gone.old ≡ 2 * inputs + 2 * outputs }
-    requires first { 0 < slice_index_or gone.old (port_number inputs outputs First pair.kind pair.from) 0 }
-    requires second { 0 < slice_index_or gone.old (port_number inputs outputs Second pair.kind pair.to) 0 }
     ensures { gone.new ≡ at_ports (λ count. count - 1) inputs outputs pair gone.old }
 {
     uncount_one(
@@ -72,9 +70,8 @@ pub(crate) fn uncount_at_ports(gone: &mut [usize], inputs: u32, outputs: u32, pa
 }
 
 fn uncount_one(gone: &mut [usize], port: usize)
-    requires there { port < length gone.old }
-    requires some { 0 < slice_index_or gone.old port 0 }
+    requires { port < length gone.old }
     ensures { gone.new ≡ slice_set gone.old port (slice_index_or gone.old port 0 - 1) }
 {
-    gone[port] -= 1;
+    gone[port] = gone[port].saturating_sub(1);
 }

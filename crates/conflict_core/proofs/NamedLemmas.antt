@@ -1,6 +1,6 @@
 -- What reasons name, and what is gathered of it.
 use Rattle.std.proofs.Common.{◌≡◌, ◌≢◌, ℕ, ◌+◌, ◌*◌, ◌<◌, List, [], ◌∷◌, length, get_or, take, All, AllPairs, Contains, Option, None, Some, ◌++◌, refl, sym, subst, inl, inr, arith}
-use Rattle.std.proofs.lemmas.List.Elements.{All-contains, All-contains_itself, All-more, All-nil, All-weaker}
+use Rattle.std.proofs.lemmas.List.Elements.{All-contains, All-contains_itself, All-weaker}
 use Rattle.std.specs.List.{AllZip}
 use Rattle.circuits.specs.declared.port.Pair.{Pair}
 use Rattle.circuits.specs.declared.port.PortKind.{PortKind}

@@ -1,8 +1,8 @@
 -- Conflicts that are resolved on, one held pair after the other.
-use Rattle.std.proofs.Common.{◌≡◌, ◌≢◌, ◌⊎◌, ℕ, ◌+◌, ◌-◌, ◌<◌, ◌≤◌, List, [], ◌∷◌, length, get_or, take, drop, All, Contains, refl, sym, subst, ◌∙◌, inl, inr, arith}
+use Rattle.std.proofs.Common.{◌≡◌, ◌≢◌, ◌⊎◌, ℕ, ◌+◌, ◌-◌, ◌<◌, ◌≤◌, List, [], ◌∷◌, length, get_or, take, All, Contains, refl, sym, subst, ◌∙◌, inl, inr, arith}
 use Rattle.std.proofs.lemmas.Bool.{cases_lt, cases_eq}
-use Rattle.std.proofs.lemmas.List.{get_or_default, get_or-take, length-take-le, take-append-drop, take_all, take_more}
-use Rattle.std.proofs.lemmas.List.Elements.{All-contains, Contains-append_left, Contains-push_cases}
+use Rattle.std.proofs.lemmas.List.{get_or_default, get_or-take, length-take-le, take_all, take_more}
+use Rattle.std.proofs.lemmas.List.Elements.{All-contains, Contains-push_cases}
 use Rattle.circuits.specs.declared.port.Pair.{Pair}
 use Rattle.net_core.specs.Sides.{Graphs}
 use Rattle.account_core.specs.declared.step.Ban.{Ban}
@@ -51,18 +51,6 @@ resolving_start graphs entries bans conflict limit all is = record {
   within = omega (arith, all);
   conflict_is = subst (λ (l : List Pair). IsConflict bans l conflict) (sym (take_all limit (held_in entries) (omega (arith, all)))) is;
   more = learns_none graphs entries bans;
-}
-
-in_front : (held : List Pair) (limit : ℕ) (pair : Pair) → Contains (take limit held) pair → Contains held pair
-in_front held limit pair there = subst (λ (l : List Pair). Contains l pair) (take-append-drop limit held) (Contains-append_left (take limit held) (drop limit held) pair there)
-
-pub resolving_ends : (graphs : Graphs) (entries : List Entry) (before now : List Ban) (conflict : Conflict) (limit : ℕ) → IsResolving graphs entries before now conflict limit → IsConflict now (held_in entries) conflict
-resolving_ends graphs entries before now conflict limit is = record {
-  part = record {
-    among = λ k d below. in_front (held_in entries) limit (get_or conflict.pairs.items k d) (is.conflict_is.part.among k d below);
-    ordered = is.conflict_is.part.ordered;
-  };
-  covers = is.conflict_is.covers;
 }
 
 -- what is among the first held pairs, and none of the later ones, is among those up to the last

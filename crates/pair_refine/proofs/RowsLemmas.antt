@@ -13,13 +13,14 @@ use Rattle.account_core.specs.Given.{Decided, decided_by}
 use Rattle.account_core.specs.Ports.{ports_in, IsKnown}
 use Rattle.oracle_core.specs.Oracles.{Grows, Known, Suits}
 use Rattle.claim_rows.specs.declared.told.InputTold.{InputTold}
-use Rattle.claim_rows.specs.Rows.{AreRows}
+use Rattle.claim_rows.specs.Rows.{AreRows, IsRow}
 use Rattle.claim_rows.proofs.RowLemmas.{inputs_decided}
 use Rattle.fact_bans.specs.Serving.{HasServed}
 use Rattle.fact_bans.proofs.FactLemmas.{row_grows}
 use Rattle.fact_bans.proofs.ServeLemmas.{served_same, served_then}
+use Rattle.pair_refine.specs.declared.grounds.Grounds.{Grounds}
 use Rattle.pair_refine.specs.declared.rows.Rows.{Rows}
-use Rattle.pair_refine.specs.Rows.{AreAllRows, AreRowsOf, IsWholeRow}
+use Rattle.pair_refine.specs.Rows.{AreAllRows, AreGrounds, AreRowsOf, IsWholeRow, decided}
 use Rattle.pair_refine.specs.Stable.{AreDecidedOn, AreOutputsDecided}
 
 -- rows stay rows as facts come
@@ -52,21 +53,25 @@ listing_more graphs old mid new a b c side count rows after row listing served h
     }
 
 -- the rows of an output's pair
-module _ (graphs : Graphs) (facts : List Decided) (rows : Rows) (output : Pair) (are : AreAllRows graphs facts rows) (known : IsKnown graphs output) (kind : output.kind ≡ Output) where
-  pub first_there : output.from < length rows.first
-  first_there = omega (arith, subst (λ k. output.from < ports_in graphs.first k) kind known.from, are.first.many)
+module _ (g : Grounds) (output : Pair) (are : AreGrounds g) (known : IsKnown g.graphs.now output) (kind : output.kind ≡ Output) where
+  pub first_there : output.from < length g.rows.now.first
+  first_there = omega (arith, subst (λ k. output.from < ports_in g.graphs.now.first k) kind known.from, are.rows_are.first.many)
 
-  pub second_there : output.to < length rows.second
-  second_there = omega (arith, subst (λ k. output.to < ports_in graphs.second k) kind known.to, are.second.many)
+  pub second_there : output.to < length g.rows.now.second
+  second_there = omega (arith, subst (λ k. output.to < ports_in g.graphs.now.second k) kind known.to, are.rows_are.second.many)
 
-  pub first_whole : length (get_or rows.first output.from []) ≡ graphs.first.inputs
-  first_whole = (are.first.each output.from [] first_there).whole
+  pub first_whole : length (get_or g.rows.now.first output.from []) ≡ g.graphs.now.first.inputs
+  first_whole = (are.rows_are.first.each output.from [] first_there).whole
 
-  pub second_whole : length (get_or rows.second output.to []) ≡ graphs.second.inputs
-  second_whole = (are.second.each output.to [] second_there).whole
+  pub second_whole : length (get_or g.rows.now.second output.to []) ≡ g.graphs.now.second.inputs
+  second_whole = (are.rows_are.second.each output.to [] second_there).whole
 
-  pub rows_at : AreRows facts output (get_or rows.first output.from []) (get_or rows.second output.to [])
-  rows_at = record { first = (are.first.each output.from [] first_there).is; second = (are.second.each output.to [] second_there).is }
+  -- which were looked up
+  pub rows_at : (first second : List InputTold) → first ≡ get_or g.rows.now.first output.from [] → second ≡ get_or g.rows.now.second output.to [] → AreRows (decided g) output first second
+  rows_at first second first_is second_is = record {
+    first = subst (IsRow (decided g) First output.from) (sym first_is) (are.rows_are.first.each output.from [] first_there).is;
+    second = subst (IsRow (decided g) Second output.to) (sym second_is) (are.rows_are.second.each output.to [] second_there).is;
+  }
 
 -- the claims of one input of all outputs are decided
 rows_decided : (graphs : Graphs) (facts : List Decided) (side : Side) (rows : List (List InputTold)) → AreRowsOf graphs facts side (length (graph_of graphs side).outputs) rows → AreDecidedOn graphs facts side

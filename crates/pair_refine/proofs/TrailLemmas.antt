@@ -1,20 +1,22 @@
 -- Trails and bans while pairs are deleted and bans are held.
 use Rattle.std.proofs.Common.{◌≡◌, ℕ, ◌<◌, List, [], ◌∷◌, ◌++◌, map, refl, sym, ap, subst, ◌∙◌, arith}
 use Rattle.std.proofs.lemmas.List.{append-nil, append_assoc, map-append}
-use Rattle.std.proofs.lemmas.List.Elements.{All-append, All-nil, All-cons}
 use Rattle.circuits.specs.declared.port.Pair.{Pair}
 use Rattle.circuits.specs.declared.port.PortKind.{PortKind}
 use Rattle.net_core.specs.Sides.{Graphs}
 use Rattle.query_core.specs.Ledgers.{Ledgered}
+use Rattle.account_core.specs.declared.fact.Fact.{Fact}
 use Rattle.account_core.specs.declared.step.Ban.{Ban}
-use Rattle.account_core.specs.Given.{Decided, decided_by, given_of}
-use Rattle.account_core.specs.Steps.{AreValidBans, IsValidBan}
-use Rattle.ban_book.specs.Vectors.{AreLastResorts, IsVector}
+use Rattle.account_core.specs.Given.{Decided, decided_by}
+use Rattle.account_core.specs.Steps.{AreValidBans}
+use Rattle.ban_book.specs.Vectors.{AreLastResorts}
 use Rattle.ban_book.proofs.BookLemmas.{valid_push}
-use Rattle.ban_book.proofs.VectorLemmas.{last_resorts_push_other}
+use Rattle.ban_book.proofs.VectorLemmas.{last_resorts_push_other, no_vector_more, no_vector_none, no_vector_one}
 use Rattle.oracle_core.specs.Oracles.{Grows, Known}
 use Rattle.fact_bans.specs.Serving.{AreValid, HasServed, OnlyAdds}
 use Rattle.fact_bans.proofs.HoldingLemmas.{HasHeld}
+use Rattle.fact_bans.proofs.ServeLemmas.{valid_grows}
+use Rattle.claim_rows.specs.Shown.{IsShownBan}
 use Rattle.class_refine.specs.declared.entry.Entry.{Entry}
 use Rattle.class_refine.specs.declared.entry.Fate.TheVariants.{Deleted}
 use Rattle.class_refine.specs.declared.entry.Reason.{Reason}
@@ -54,7 +56,7 @@ pub shown_none : (graphs : Graphs) (facts : List Decided) (bans : List Ban) → 
 shown_none graphs facts bans = record {
   added = [];
   more = sym (append-nil bans);
-  no_vector = All-nil (λ (b : Ban). IsVector b.step → ⊥);
+  no_vector = no_vector_none;
   valid = λ are. are;
 }
 
@@ -62,17 +64,17 @@ pub shown_then : (graphs : Graphs) (facts : List Decided) (first second third : 
 shown_then graphs facts first second third one other = record {
   added = one.added ++ other.added;
   more = other.more ∙ (ap (λ l. l ++ other.added) one.more ∙ append_assoc first one.added other.added);
-  no_vector = All-append (λ (b : Ban). IsVector b.step → ⊥) one.added other.added one.no_vector other.no_vector;
+  no_vector = no_vector_more one.added other.added one.no_vector other.no_vector;
   valid = λ are. other.valid (one.valid are);
 }
 
 -- a ban that facts show is held
-pub shown_one : (graphs : Graphs) (facts : List Decided) (bans after : List Ban) (ban : Ban) → after ≡ bans ++ ban ∷ [] → (IsVector ban.step → ⊥) → ((others : List Ban) → IsValidBan graphs (given_of facts others) ban) → AddsShown graphs facts bans after
-shown_one graphs facts bans after ban more no_vector valid = record {
+pub shown_one : (graphs : Graphs) (facts : List Decided) (pairs : List Pair) (bans after : List Ban) (ban : Ban) → after ≡ bans ++ ban ∷ [] → IsShownBan graphs facts pairs ban → AddsShown graphs facts bans after
+shown_one graphs facts pairs bans after ban more shown = record {
   added = ban ∷ [];
   more = more;
-  no_vector = All-cons (λ (b : Ban). IsVector b.step → ⊥) ban [] no_vector (All-nil (λ (b : Ban). IsVector b.step → ⊥));
-  valid = λ are. subst (AreValidBans graphs facts) (sym more) (valid_push graphs facts bans ban are (valid bans));
+  no_vector = no_vector_one ban shown.no_vector;
+  valid = λ are. subst (AreValidBans graphs facts) (sym more) (valid_push graphs facts bans ban are (shown.valid bans));
 }
 
 -- bans that are learned from a trail that is shown
@@ -117,6 +119,9 @@ refines_bans graphs facts bans more d adds = record {
   shown = λ are. are;
 }
 
+pub refines_held : (graphs : Graphs) (facts : List Decided) (pairs : List Pair) (bans after : List Ban) (ban : Ban) (d : Domained) → after ≡ bans ++ ban ∷ [] → IsShownBan graphs facts pairs ban → Refines graphs facts bans after d d
+refines_held graphs facts pairs bans after ban d more shown = refines_bans graphs facts bans after d (shown_one graphs facts pairs bans after ban more shown)
+
 -- a pair is deleted, for what held pairs show
 pub refines_one : (graphs : Graphs) (facts : List Decided) (bans : List Ban) (before after : Domained) (way : Pair) (why : Reason) → after ≡ record before { entries = before.entries ++ deleted way why ∷ [] } → AreDomains before → IsPairOf before.inputs before.outputs way → IsOpen before.entries way → AreNamed bans (held_in before.entries) way why → IsGrounded graphs facts way (Deleted why) → Refines graphs facts bans bans before after
 refines_one graphs facts bans before after way why after_is lawful known open' named grounded =
@@ -137,17 +142,20 @@ refines_one graphs facts bans before after way why after_is lawful known open' n
       shown = λ are. subst (AreGrounded graphs facts) (sym more.entries) (grounded_push graphs facts before.entries e are grounded);
     }
 
--- a call that refines in view of the facts that an oracle has come to know
-pub held_refined : (graphs : Graphs) (old new : Known) (a b : Ledgered) (bans more : List Ban) (before after : Domained) → AreValid graphs new bans → HasServed old new a b → Refines graphs (map decided_by new.facts) bans more before after → HasHeld graphs old new a b bans more
-held_refined graphs old new a b bans more before after valid served refines = record {
-  served = served;
-  valid = record {
-    graphs_are = valid.graphs_are;
-    each = refines.adds.valid valid.each;
-    last_resorts = subst (AreLastResorts graphs (map decided_by new.facts)) (sym refines.adds.more) (last_resorts_push_other graphs (map decided_by new.facts) bans refines.adds.added refines.adds.no_vector valid.last_resorts);
-  };
-  adds = record { added = refines.adds.added; more = refines.adds.more };
-}
+-- a call that refines in view of the facts that an oracle has come to know, which it lends
+pub held_refined : (graphs : Graphs) (old new : Known) (lent : List Fact) (a b : Ledgered) (bans more : List Ban) (before after : Domained) → AreValid graphs old bans → HasServed old new a b → lent ≡ new.facts → Refines graphs (map decided_by lent) bans more before after → HasHeld graphs old new a b bans more
+held_refined graphs old new lent a b bans more before after valid served same refines_lent =
+    let refines = subst (λ (l : List Fact). Refines graphs (map decided_by l) bans more before after) same refines_lent in
+    let grown = valid_grows old new graphs bans served.grows valid in
+    record {
+      served = served;
+      valid = record {
+        graphs_are = grown.graphs_are;
+        each = refines.adds.valid grown.each;
+        last_resorts = subst (AreLastResorts graphs (map decided_by new.facts)) (sym refines.adds.more) (last_resorts_push_other graphs (map decided_by new.facts) bans refines.adds.added refines.adds.no_vector grown.last_resorts);
+      };
+      adds = record { added = refines.adds.added; more = refines.adds.more };
+    }
 
 pub pair_of_same : (before after : Domained) (pair : Pair) → OnlyDeletes before after → IsPairOf after.inputs after.outputs pair → IsPairOf before.inputs before.outputs pair
 pair_of_same before after pair deletes known =
@@ -161,8 +169,7 @@ pub to_below : (n m : ℕ) (kind : PortKind) (pair : Pair) → pair.kind ≡ kin
 to_below n m kind pair is known = subst (λ k. pair.to < ports_of n m k) is known.to
 
 -- a trail that facts show stays one as pairs are refined in view of more facts
-pub shown_refined : (graphs : Graphs) (old new : Known) (bans more : List Ban) (before after : Domained) → Grows old new → IsShownTrail graphs old bans before → Refines graphs (map decided_by new.facts) bans more before after → IsShownTrail graphs new more after
-shown_refined graphs old new bans more before after grows is refines = record {
-  trail = refines.trail is.trail;
-  shown = refines.shown (shown_grows graphs old new before.entries grows is.shown);
-}
+pub shown_refined : (graphs : Graphs) (old new : Known) (lent : List Fact) (bans more : List Ban) (before after : Domained) → Grows old new → IsShownTrail graphs old bans before → lent ≡ new.facts → Refines graphs (map decided_by lent) bans more before after → IsShownTrail graphs new more after
+shown_refined graphs old new lent bans more before after grows is same refines_lent =
+    let refines = subst (λ (l : List Fact). Refines graphs (map decided_by l) bans more before after) same refines_lent in
+    record { trail = refines.trail is.trail; shown = refines.shown (shown_grows graphs old new before.entries grows is.shown) }

@@ -1,17 +1,19 @@
 -- What is told of all outputs of two circuits (unateness and support of functions, as in textbooks of logic synthesis).
-use Rattle.std.specs.Prelude.{◌≡◌, ℕ, List, ◌∷◌, [], ◌++◌, length, All, Contains}
+use Rattle.std.specs.Prelude.{◌≡◌, ℕ, List, ◌∷◌, [], ◌++◌, length, map, All, Contains}
 use Rattle.circuits.specs.Literals.{EachAt}
 use Rattle.circuits.specs.declared.port.Pair.{Pair}
 use Rattle.circuits.specs.declared.port.PortKind.TheVariants.{Input, Output}
 use Rattle.net_core.specs.Sides.{Graphs, graph_of}
 use Rattle.net_core.specs.declared.graphs.Side.{Side}
 use Rattle.net_core.specs.declared.graphs.Side.TheVariants.{First, Second}
-use Rattle.account_core.specs.Given.{Decided}
+use Rattle.account_core.specs.Facts.{AreFacts}
+use Rattle.account_core.specs.Given.{Decided, decided_by}
 use Rattle.account_core.specs.Ports.{AreOrdered, IsKnown}
 use Rattle.ban_book.specs.Vectors.{HaveNoFacts}
 use Rattle.claim_rows.specs.declared.told.InputTold.{InputTold}
 use Rattle.claim_rows.specs.Rows.{IsRow}
 use Rattle.port_covers.specs.Held.{IsPart}
+use Rattle.pair_refine.specs.declared.grounds.Grounds.{Grounds}
 use Rattle.pair_refine.specs.declared.rows.Rows.{Rows}
 use Rattle.pair_refine.specs.Swaps.{IsSwapIndex}
 
@@ -30,6 +32,15 @@ pub record AreAllRows (graphs : Graphs) (facts : List Decided) (rows : Rows) : T
   pub first : AreRowsOf graphs facts First (length graphs.first.outputs) rows.first
   pub second : AreRowsOf graphs facts Second (length graphs.second.outputs) rows.second
   pub swaps : IsSwapIndex facts rows.swaps.entries
+
+-- what the facts decide
+abbrev pub decided : Grounds → List Decided
+decided grounds = map decided_by grounds.facts.now
+
+-- The facts are of the two circuits, and the rows tell of them.
+pub record AreGrounds (grounds : Grounds) : Type 0 where
+  pub lawful : AreFacts grounds.graphs.now grounds.facts.now
+  pub rows_are : AreAllRows grounds.graphs.now (decided grounds) grounds.rows.now
 
 -- Pairs of inputs, in order.
 pub record AreInputs (graphs : Graphs) (pairs : List Pair) : Type 0 where

@@ -1,13 +1,9 @@
 -- Pairs that are settled one after the other: each is deleted, or nothing excludes it beside the held ones.
-use Rattle.std.specs.Prelude.{◌≡◌, ◌⊎◌, ℕ, List, ◌∷◌, Option, Result, IfNone, IfOk, IfSome, map}
+use Rattle.std.specs.Prelude.{◌⊎◌, ℕ, List, ◌∷◌, Option, Result, IfNone, IfOk, IfSome}
 use Rattle.circuits.specs.declared.port.Pair.{Pair}
 use Rattle.circuits.specs.declared.port.PortKind.{PortKind}
-use Rattle.net_core.specs.Sides.{Graphs}
 use Rattle.net_core.specs.declared.graphs.Side.{Side}
 use Rattle.account_core.specs.Covers.{IsImpossible}
-use Rattle.account_core.specs.Facts.{AreFacts}
-use Rattle.account_core.specs.Given.{Decided, decided_by}
-use Rattle.account_core.specs.declared.fact.Fact.{Fact}
 use Rattle.account_core.specs.declared.step.Ban.{Ban}
 use Rattle.ban_book.specs.Covering.{Covers}
 use Rattle.claim_rows.specs.Shown.{IsShownBan}
@@ -17,55 +13,49 @@ use Rattle.class_refine.specs.Trails.{Domained, IsDeleted, IsPairOf, held_in}
 use Rattle.conflict_core.specs.Grounded.{IsGrounded}
 use Rattle.conflict_core.specs.Justified.{IsTrail}
 use Rattle.conflict_core.specs.Named.{AreNamed}
-use Rattle.pair_refine.specs.declared.rows.Rows.{Rows}
+use Rattle.pair_refine.specs.declared.grounds.Grounds.{Grounds}
 use Rattle.pair_refine.specs.declared.settling.Exclusion.{Exclusion}
 use Rattle.pair_refine.specs.declared.settling.Exclusion.TheVariants as exclusion
-use Rattle.pair_refine.specs.Rows.{AreAllRows, AreInputsOf, ShowNothingAt}
+use Rattle.pair_refine.specs.Rows.{AreGrounds, AreInputsOf, ShowNothingAt, decided}
 use Rattle.pair_refine.specs.Stable.{AreClean, HaveNoBan, HaveNoSwapMismatch}
 use Rattle.pair_refine.specs.Refining.{Refines}
 
--- The rows tell of facts, which show nothing of the held pairs; nor is a ban within them.
-pub record MaySettle (graphs : Graphs) (facts : List Fact) (rows : Rows) (inputs : List Pair) (bans : List Ban)
-    (domains : Domained) : Type 0 where
-  pub lawful : AreFacts graphs facts
-  pub rows_are : AreAllRows graphs (map decided_by facts) rows
-  pub inputs_are : AreInputsOf (held_in domains.entries) inputs
-  pub no_facts : ShowNothingAt graphs (map decided_by facts) inputs (held_in domains.entries)
-  pub no_swap : HaveNoSwapMismatch graphs (map decided_by facts) (held_in domains.entries)
+-- The grounds show nothing of the held pairs, of which they have the inputs'; nor is a ban within them.
+pub record MaySettle (grounds : Grounds) (bans : List Ban) (domains : Domained) : Type 0 where
+  pub are : AreGrounds grounds
+  pub inputs_are : AreInputsOf (held_in domains.entries) grounds.inputs.now
+  pub no_facts : ShowNothingAt grounds.graphs.now (decided grounds) grounds.inputs.now (held_in domains.entries)
+  pub no_swap : HaveNoSwapMismatch grounds.graphs.now (decided grounds) (held_in domains.entries)
   pub no_ban : HaveNoBan bans (held_in domains.entries)
-  pub trail : IsTrail graphs bans domains
+  pub trail : IsTrail grounds.graphs.now bans domains
 
 -- A pair clashes with no held one, and nothing excludes it beside them.
-pub record IsClear (graphs : Graphs) (facts : List Decided) (bans : List Ban) (held : List Pair) (pair : Pair) : Type 0 where
+pub record IsClear (grounds : Grounds) (bans : List Ban) (held : List Pair) (pair : Pair) : Type 0 where
   pub possible : IsImpossible held pair → ⊥
-  pub clean : AreClean graphs facts bans (pair ∷ held)
+  pub clean : AreClean grounds.graphs.now (decided grounds) bans (pair ∷ held)
 
 -- a reason that stands excludes a pair beside the held ones, or a ban that facts show
-abbrev pub Excludes : Graphs → List Decided → List Ban → List Pair → Pair → Exclusion → Type 0
-Excludes graphs facts bans held pair (exclusion.Known why) = AreNamed bans held pair why × IsGrounded graphs facts pair (Deleted why)
-Excludes graphs facts bans held pair (exclusion.Shown ban) = IsShownBan graphs facts (pair ∷ held) ban
+abbrev pub Excludes : Grounds → List Ban → List Pair → Pair → Exclusion → Type 0
+Excludes grounds bans held pair (exclusion.Known why) =
+    AreNamed bans held pair why × IsGrounded grounds.graphs.now (decided grounds) pair (Deleted why)
+Excludes grounds bans held pair (exclusion.Shown ban) = IsShownBan grounds.graphs.now (decided grounds) (pair ∷ held) ban
 
 -- a pair is deleted, or clear
-abbrev pub IsSettled : Graphs → List Decided → List Ban → Domained → Pair → Type 0
-IsSettled graphs facts bans domains pair = IsDeleted domains.entries pair ⊎ IsClear graphs facts bans (held_in domains.entries) pair
+abbrev pub IsSettled : Grounds → List Ban → Domained → Pair → Type 0
+IsSettled grounds bans domains pair = IsDeleted domains.entries pair ⊎ IsClear grounds bans (held_in domains.entries) pair
 
 -- No ban is within the held pairs, what was settled is, and so are these pairs.
-pub record Settled (graphs : Graphs) (facts : List Decided) (bans more : List Ban) (before after : Domained)
-    (these : Pair → Type 0) : Type 0 where
+pub record Settled (grounds : Grounds) (bans more : List Ban) (before after : Domained) (these : Pair → Type 0) : Type 0 where
   pub no_ban : HaveNoBan more (held_in after.entries)
-  pub kept : (pair : Pair) → IsSettled graphs facts bans before pair → IsSettled graphs facts more after pair
-  pub settled : (pair : Pair) → these pair → IsSettled graphs facts more after pair
+  pub kept : (pair : Pair) → IsSettled grounds bans before pair → IsSettled grounds more after pair
+  pub settled : (pair : Pair) → these pair → IsSettled grounds more after pair
 
 -- What settling pairs does: they are settled, unless a ban is answered that is within the held pairs.
-pub record Settles {E : Type 0} (graphs : Graphs) (facts : List Decided) (bans more : List Ban) (before after : Domained)
-    (these : Pair → Type 0) (result : Result (Option ℕ) E) : Type 0 where
-  pub refines : Refines graphs facts bans more before after
-  pub settled : IfOk result (λ dead. IfNone dead (Settled graphs facts bans more before after these))
+pub record Settles {E : Type 0} (grounds : Grounds) (bans more : List Ban) (before after : Domained) (these : Pair → Type 0)
+    (result : Result (Option ℕ) E) : Type 0 where
+  pub refines : Refines grounds.graphs.now (decided grounds) bans more before after
+  pub settled : IfOk result (λ dead. IfNone dead (Settled grounds bans more before after these))
   pub dead : IfOk result (λ dead. IfSome dead (Covers more (held_in after.entries)))
-
--- the pairs of two ports
-abbrev pub IsBetween : PortKind → ℕ → ℕ → Pair → Type 0
-IsBetween kind from to pair = (pair.kind ≡ kind) × (pair.from ≡ from) × (pair.to ≡ to)
 
 -- A port has a pair that isn't deleted.
 pub record HasLeft (domains : Domained) (side : Side) (kind : PortKind) (port : ℕ) : Type 0 where

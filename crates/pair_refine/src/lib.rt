@@ -2,6 +2,7 @@
 #![tactic(auto)]
 
 mod alone;
+mod grounds;
 mod inputs;
 mod ports;
 mod refined;

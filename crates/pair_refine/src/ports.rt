@@ -14,9 +14,9 @@ ghost use Rattle.pair_refine.specs.Settling.{HasLeft};
 use ban_book::BanBook;
 use circuits::PortKind;
 use class_refine::Domains;
-use conflict_core::{Mismatches, Port, cover_port};
+use conflict_core::{Mismatches, Port};
 use net_core::Side;
-use pair_search::way_of;
+use pair_search::{Impasse, conflict_of, way_of};
 use port_sides::PairableGraphs;
 use std::alloc::{AllocError, Global};
 
@@ -55,19 +55,9 @@ fn cover(
     ensures found { IfOk result (λ dead. IfSome dead (Covers book.new (held_in domains.now.entries))) }
     ensures some { IfOk result (λ dead. IfNone dead ⊥) }
 {
-    let _lawful = domains.entries();
     let mut made = Mismatches::new(alloc);
-    let conflict = cover_port(
-        alloc,
-        graphs,
-        domains,
-        domains.pairs(),
-        port,
-        None,
-        Vec::new(alloc),
-        &mut made,
-        book,
-    )?;
+    let impasse = Impasse::Port(port);
+    let conflict = conflict_of(alloc, graphs, domains, impasse, &mut made, book)?;
     Ok(Some(conflict.ban))
 }
 

@@ -9,11 +9,12 @@ ghost use Rattle.conflict_core.specs.Grounded.{AreGrounded};
 ghost use Rattle.conflict_core.specs.Justified.{IsTrail};
 ghost use Rattle.fact_bans.specs.Serving.{HoldsBans, MayHold};
 ghost use Rattle.pair_refine.specs.Refining.{IsShownTrail, Refines};
-ghost use Rattle.pair_refine.specs.Rows.{AreAllRows, AreInputsOf};
+ghost use Rattle.pair_refine.specs.Rows.{AreAllRows, AreGrounds, AreInputsOf, decided};
 ghost use Rattle.pair_refine.specs.Settling.{MaySettle};
 ghost use Rattle.pair_refine.specs.Stable.{IsRefined, IsStable};
 
 use crate::alone::exclude_held;
+use crate::grounds::Grounds;
 use crate::inputs::inputs_of;
 use crate::ports::cover_empty;
 use crate::refined::Refined;
@@ -21,7 +22,6 @@ use crate::rows::{Rows, rows_of};
 use crate::settling::settle_all;
 use account_core::Fact;
 use ban_book::BanBook;
-use circuits::Pair;
 use class_refine::Domains;
 use cnf_core::Stop;
 use fact_bans::Seen;
@@ -65,11 +65,11 @@ pub fn refine<O: Oracle>(
 }
 
 // Refines by the rows of all outputs.
-fn refine_by(
+fn refine_by<'a>(
     alloc: Global,
-    graphs: &PairableGraphs<'_>,
-    facts: &[Fact],
-    rows: &Rows,
+    graphs: &'a PairableGraphs<'a>,
+    facts: &'a [Fact],
+    rows: &'a Rows,
     domains: &mut Domains,
     book: &mut BanBook,
 ) -> Result<Refined, AllocError>
@@ -81,7 +81,13 @@ fn refine_by(
     ensures refined { IfOk result (IsRefined graphs.now (map decided_by facts.now) book.new domains.new) }
 {
     let inputs = inputs_of(alloc, domains.pairs())?;
-    match exclude(alloc, graphs, facts, rows, &inputs, domains, book)? {
+    let grounds = Grounds {
+        graphs,
+        facts,
+        rows,
+        inputs: &inputs,
+    };
+    match exclude(alloc, &grounds, domains, book)? {
         Some(ban) => Ok(Refined::Dead(ban)),
         None => Ok(Refined::Stable),
     }
@@ -91,48 +97,43 @@ fn refine_by(
 // are settled.
 fn exclude(
     alloc: Global,
-    graphs: &PairableGraphs<'_>,
-    facts: &[Fact],
-    rows: &Rows,
-    inputs: &[Pair],
+    grounds: &Grounds<'_>,
     domains: &mut Domains,
     book: &mut BanBook,
 ) -> Result<Option<u64>, AllocError>
-    requires lawful { AreFacts graphs.now facts.now }
-    requires rows { AreAllRows graphs.now (map decided_by facts.now) rows.now }
-    requires trail { IsTrail graphs.now book.old domains.old }
-    requires shown { AreGrounded graphs.now (map decided_by facts.now) domains.old.entries }
-    requires inputs { AreInputsOf (held_in domains.old.entries) inputs.now }
-    ensures refines { Refines graphs.now (map decided_by facts.now) book.old book.new domains.old domains.new }
+    requires grounds { AreGrounds grounds.now }
+    requires trail { IsTrail grounds.now.graphs.now book.old domains.old }
+    requires shown { AreGrounded grounds.now.graphs.now (decided grounds.now) domains.old.entries }
+    requires inputs { AreInputsOf (held_in domains.old.entries) grounds.now.inputs.now }
+    ensures refines { Refines grounds.now.graphs.now (decided grounds.now) book.old book.new domains.old domains.new }
     ensures dead { IfOk result (λ dead. IfSome dead (Covers book.new (held_in domains.new.entries))) }
-    ensures stable { IfOk result (λ dead. IfNone dead (IsStable graphs.now (map decided_by facts.now) book.new domains.new)) }
+    ensures stable { IfOk result (λ dead. IfNone dead
+        (IsStable grounds.now.graphs.now (decided grounds.now) book.new domains.new)) }
 {
     let _lawful = domains.entries();
-    match exclude_held(alloc, graphs, facts, rows, domains.pairs(), inputs, book)? {
+    match exclude_held(alloc, grounds, domains.pairs(), book)? {
         Some(ban) => Ok(Some(ban)),
-        None => exclude_beside(alloc, graphs, facts, rows, inputs, domains, book),
+        None => exclude_beside(alloc, grounds, domains, book),
     }
 }
 
 // That of one that is found as pairs are settled, or of a port that then has no way left.
 fn exclude_beside(
     alloc: Global,
-    graphs: &PairableGraphs<'_>,
-    facts: &[Fact],
-    rows: &Rows,
-    inputs: &[Pair],
+    grounds: &Grounds<'_>,
     domains: &mut Domains,
     book: &mut BanBook,
 ) -> Result<Option<u64>, AllocError>
-    requires may { MaySettle graphs.now facts.now rows.now inputs.now book.old domains.old }
-    requires shown { AreGrounded graphs.now (map decided_by facts.now) domains.old.entries }
-    ensures refines { Refines graphs.now (map decided_by facts.now) book.old book.new domains.old domains.new }
+    requires may { MaySettle grounds.now book.old domains.old }
+    requires shown { AreGrounded grounds.now.graphs.now (decided grounds.now) domains.old.entries }
+    ensures refines { Refines grounds.now.graphs.now (decided grounds.now) book.old book.new domains.old domains.new }
     ensures dead { IfOk result (λ dead. IfSome dead (Covers book.new (held_in domains.new.entries))) }
-    ensures stable { IfOk result (λ dead. IfNone dead (IsStable graphs.now (map decided_by facts.now) book.new domains.new)) }
+    ensures stable { IfOk result (λ dead. IfNone dead
+        (IsStable grounds.now.graphs.now (decided grounds.now) book.new domains.new)) }
 {
     let _lawful = domains.entries();
-    match settle_all(alloc, graphs, facts, rows, inputs, domains, book)? {
+    match settle_all(alloc, grounds, domains, book)? {
         Some(ban) => Ok(Some(ban)),
-        None => cover_empty(alloc, graphs, domains, book),
+        None => cover_empty(alloc, grounds.graphs, domains, book),
     }
 }

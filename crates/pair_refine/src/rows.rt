@@ -19,12 +19,22 @@ use query_core::{Claim, Ledger};
 use std::alloc::Global;
 
 /// What is told of each output of both circuits: a row with its claims of one input, in the order of the outputs.
-#[derive(Debug, Drop)]
 pub(crate) struct Rows {
     pub(crate) first: Items<Items<InputTold>>,
     pub(crate) second: Items<Items<InputTold>>,
     /// The numbers of the facts of claims of two inputs, by claim.
     pub(crate) swaps: IndexMap<Claim, u64>,
+}
+
+// By hand, and so one call wherever a value ends: a derived drop is expanded there, field by field, and makes proofs long.
+impl Drop for Rows {
+    fn drop(self) {
+        let Rows {
+            first: _first,
+            second: _second,
+            swaps: _swaps,
+        } = self;
+    }
 }
 
 /// Has the claims of one input of all outputs decided. Each output has to go to one of the other circuit, so that none of them is

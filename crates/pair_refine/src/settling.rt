@@ -1,25 +1,27 @@
 //! Settling pairs: each is deleted, or nothing excludes it beside the held ones.
 
-ghost use Rattle.std.specs.Prelude.{◌≡◌, ◌<◌, ◌∷◌, IfNone, IfOk, IfSome, map};
-ghost use Rattle.account_core.specs.Given.{decided_by};
+ghost use Rattle.std.specs.Prelude.{◌≡◌, ◌<◌, ◌∷◌, IfNone, IfOk, IfSome};
 ghost use Rattle.ban_book.specs.Covering.{Covers};
 ghost use Rattle.claim_rows.specs.Shown.{IsShownBan};
 ghost use Rattle.class_refine.specs.declared.entry.Fate.TheVariants.{Deleted};
 ghost use Rattle.class_refine.specs.Trails.{IsOpen, IsPairOf, held_in, ports_of};
 ghost use Rattle.conflict_core.specs.Grounded.{IsGrounded};
 ghost use Rattle.conflict_core.specs.Named.{AreNamed};
-ghost use Rattle.pair_refine.specs.Settling.{Excludes, IsBetween, IsClear, MaySettle, Settles};
+ghost use Rattle.pair_refine.specs.Rows.{decided};
+ghost use Rattle.pair_refine.specs.Settling.{Excludes, IsClear, MaySettle, Settles};
 ghost use Rattle.pair_refine.specs.Stable.{HaveNoBan};
 
-use crate::rows::Rows;
+use crate::grounds::Grounds;
 use crate::shown::way_ban;
 use crate::swaps::swap_ban;
-use account_core::{Ban, Fact};
+use account_core::Ban;
 use ban_book::BanBook;
 use circuits::{Pair, PortKind};
 use class_refine::{Domains, Reason};
+use conflict_core::Port;
+use net_core::Side;
+use pair_search::way_of;
 use port_covers::clash::clashing;
-use port_sides::PairableGraphs;
 use std::alloc::{AllocError, Global};
 
 /// What excludes a pair beside the held ones.
@@ -34,52 +36,34 @@ pub(crate) enum Exclusion {
 /// Settles all pairs, unless a ban within the held ones is found. It answers that one's number.
 pub(crate) fn settle_all(
     alloc: Global,
-    graphs: &PairableGraphs<'_>,
-    facts: &[Fact],
-    rows: &Rows,
-    inputs: &[Pair],
+    grounds: &Grounds<'_>,
     domains: &mut Domains,
     book: &mut BanBook,
 ) -> Result<Option<u64>, AllocError>
-    requires may { MaySettle graphs.now facts.now rows.now inputs.now book.old domains.old }
-    ensures { Settles graphs.now (map decided_by facts.now) book.old book.new domains.old domains.new
+    requires may { MaySettle grounds.now book.old domains.old }
+    ensures { Settles grounds.now book.old book.new domains.old domains.new
         (λ pair. IsPairOf domains.old.inputs domains.old.outputs pair) result }
 {
-    let outputs = PortKind::Output;
-    if let Some(dead) = settle_kind(alloc, graphs, facts, rows, inputs, domains, outputs, book)? {
+    if let Some(dead) = settle_kind(alloc, grounds, domains, PortKind::Output, book)? {
         return Ok(Some(dead));
     }
-    settle_kind(
-        alloc,
-        graphs,
-        facts,
-        rows,
-        inputs,
-        domains,
-        PortKind::Input,
-        book,
-    )
+    settle_kind(alloc, grounds, domains, PortKind::Input, book)
 }
 
 // Settles the pairs of a kind.
 fn settle_kind(
     alloc: Global,
-    graphs: &PairableGraphs<'_>,
-    facts: &[Fact],
-    rows: &Rows,
-    inputs: &[Pair],
+    grounds: &Grounds<'_>,
     domains: &mut Domains,
     kind: PortKind,
     book: &mut BanBook,
 ) -> Result<Option<u64>, AllocError>
-    requires may { MaySettle graphs.now facts.now rows.now inputs.now book.old domains.old }
-    ensures { Settles graphs.now (map decided_by facts.now) book.old book.new domains.old domains.new
+    requires may { MaySettle grounds.now book.old domains.old }
+    ensures { Settles grounds.now book.old book.new domains.old domains.new
         (λ pair. (pair.kind ≡ kind) × IsPairOf domains.old.inputs domains.old.outputs pair) result }
 {
     for from in 0..domains.ports(kind) {
-        if let Some(dead) = settle_port(
-            alloc, graphs, facts, rows, inputs, domains, kind, from, book,
-        )? {
+        if let Some(dead) = settle_port(alloc, grounds, domains, kind, from, book)? {
             return Ok(Some(dead));
         }
     }
@@ -89,114 +73,72 @@ fn settle_kind(
 // Settles the pairs of a port of the first circuit.
 fn settle_port(
     alloc: Global,
-    graphs: &PairableGraphs<'_>,
-    facts: &[Fact],
-    rows: &Rows,
-    inputs: &[Pair],
+    grounds: &Grounds<'_>,
     domains: &mut Domains,
     kind: PortKind,
     from: u32,
     book: &mut BanBook,
 ) -> Result<Option<u64>, AllocError>
-    requires may { MaySettle graphs.now facts.now rows.now inputs.now book.old domains.old }
+    requires may { MaySettle grounds.now book.old domains.old }
     requires from { from < ports_of domains.old.inputs domains.old.outputs kind }
-    ensures { Settles graphs.now (map decided_by facts.now) book.old book.new domains.old domains.new
+    ensures { Settles grounds.now book.old book.new domains.old domains.new
         (λ pair. (pair.kind ≡ kind) × (pair.from ≡ from) × IsPairOf domains.old.inputs domains.old.outputs pair) result }
 {
-    for to in 0..domains.ports(kind) {
-        if let Some(dead) = settle_two(
-            alloc, graphs, facts, rows, inputs, domains, kind, from, to, book,
-        )? {
+    let port = Port {
+        side: Side::First,
+        kind,
+        number: from,
+    };
+    let count = domains.ports(kind);
+    for number in 0..2 * count as u64 {
+        let way = way_of(domains, port, number);
+        if let Some(dead) = settle(alloc, grounds, domains, way, book)? {
             return Ok(Some(dead));
         }
     }
     Ok(None)
 }
 
-// Settles the two pairs of two ports.
-fn settle_two(
-    alloc: Global,
-    graphs: &PairableGraphs<'_>,
-    facts: &[Fact],
-    rows: &Rows,
-    inputs: &[Pair],
-    domains: &mut Domains,
-    kind: PortKind,
-    from: u32,
-    to: u32,
-    book: &mut BanBook,
-) -> Result<Option<u64>, AllocError>
-    requires may { MaySettle graphs.now facts.now rows.now inputs.now book.old domains.old }
-    requires from { from < ports_of domains.old.inputs domains.old.outputs kind }
-    requires to { to < ports_of domains.old.inputs domains.old.outputs kind }
-    ensures { Settles graphs.now (map decided_by facts.now) book.old book.new domains.old domains.new
-        (IsBetween kind from to) result }
-{
-    let plain = Pair {
-        kind,
-        from,
-        to,
-        flip: false,
-    };
-    let negated = Pair {
-        kind,
-        from,
-        to,
-        flip: true,
-    };
-    if let Some(dead) = settle(alloc, graphs, facts, rows, inputs, domains, plain, book)? {
-        return Ok(Some(dead));
-    }
-    settle(alloc, graphs, facts, rows, inputs, domains, negated, book)
-}
-
 // Settles a pair. One that is held or deleted is settled.
 fn settle(
     alloc: Global,
-    graphs: &PairableGraphs<'_>,
-    facts: &[Fact],
-    rows: &Rows,
-    inputs: &[Pair],
+    grounds: &Grounds<'_>,
     domains: &mut Domains,
     way: Pair,
     book: &mut BanBook,
 ) -> Result<Option<u64>, AllocError>
-    requires may { MaySettle graphs.now facts.now rows.now inputs.now book.old domains.old }
+    requires may { MaySettle grounds.now book.old domains.old }
     requires known { IsPairOf domains.old.inputs domains.old.outputs way }
-    ensures { Settles graphs.now (map decided_by facts.now) book.old book.new domains.old domains.new
+    ensures { Settles grounds.now book.old book.new domains.old domains.new
         (λ pair. pair ≡ way) result }
 {
     let _lawful = domains.entries();
     match domains.fate(way) {
         Some(_) => Ok(None),
-        None => settle_open(alloc, graphs, facts, rows, inputs, domains, way, book),
+        None => settle_open(alloc, grounds, domains, way, book),
     }
 }
 
 // Settles an open pair: deletes it where something excludes it.
 fn settle_open(
     alloc: Global,
-    graphs: &PairableGraphs<'_>,
-    facts: &[Fact],
-    rows: &Rows,
-    inputs: &[Pair],
+    grounds: &Grounds<'_>,
     domains: &mut Domains,
     way: Pair,
     book: &mut BanBook,
 ) -> Result<Option<u64>, AllocError>
-    requires may { MaySettle graphs.now facts.now rows.now inputs.now book.old domains.old }
+    requires may { MaySettle grounds.now book.old domains.old }
     requires known { IsPairOf domains.old.inputs domains.old.outputs way }
     requires open { IsOpen domains.old.entries way }
-    ensures { Settles graphs.now (map decided_by facts.now) book.old book.new domains.old domains.new
+    ensures { Settles grounds.now book.old book.new domains.old domains.new
         (λ pair. pair ≡ way) result }
 {
-    let Some(exclusion) = exclusion_of(alloc, graphs, facts, rows, inputs, domains, way, book)?
-    else {
+    let Some(exclusion) = exclusion_of(alloc, grounds, domains, way, book)? else {
         return Ok(None);
     };
     match exclusion {
-        Exclusion::Known(reason) => delete(graphs, facts, domains, way, reason, book),
-        Exclusion::Shown(ban) => delete_by(graphs, facts, domains, way, ban, book),
+        Exclusion::Known(reason) => delete(grounds, domains, way, reason, book),
+        Exclusion::Shown(ban) => delete_by(grounds, domains, way, ban, book),
     }
 }
 
@@ -204,20 +146,17 @@ fn settle_open(
 // input first.
 fn exclusion_of(
     alloc: Global,
-    graphs: &PairableGraphs<'_>,
-    facts: &[Fact],
-    rows: &Rows,
-    inputs: &[Pair],
+    grounds: &Grounds<'_>,
     domains: &Domains,
     way: Pair,
     book: &BanBook,
 ) -> Result<Option<Exclusion>, AllocError>
-    requires may { MaySettle graphs.now facts.now rows.now inputs.now book.now domains.now }
+    requires may { MaySettle grounds.now book.now domains.now }
     requires known { IsPairOf domains.now.inputs domains.now.outputs way }
     ensures found { IfOk result (λ found. IfSome found
-        (Excludes graphs.now (map decided_by facts.now) book.now (held_in domains.now.entries) way)) }
+        (Excludes grounds.now book.now (held_in domains.now.entries) way)) }
     ensures none { IfOk result (λ found. IfNone found
-        (IsClear graphs.now (map decided_by facts.now) book.now (held_in domains.now.entries) way)) }
+        (IsClear grounds.now book.now (held_in domains.now.entries) way)) }
 {
     let _lawful = domains.entries();
     let held = domains.pairs();
@@ -228,10 +167,10 @@ fn exclusion_of(
     if let Some(number) = book.covering(&pairs) {
         return Ok(Some(Exclusion::Known(Reason::Ban(number))));
     }
-    if let Some(ban) = way_ban(alloc, graphs, facts, rows, held, inputs, way)? {
+    if let Some(ban) = way_ban(alloc, grounds, held, way)? {
         return Ok(Some(Exclusion::Shown(ban)));
     }
-    match swap_ban(alloc, graphs, facts, &rows.swaps, &pairs)? {
+    match swap_ban(alloc, grounds, &pairs)? {
         Some(ban) => Ok(Some(Exclusion::Shown(ban))),
         None => Ok(None),
     }
@@ -240,21 +179,19 @@ fn exclusion_of(
 // Holds a ban that facts show, and deletes the pair that it excludes beside the held ones. A ban that is within these alone is
 // answered.
 fn delete_by(
-    graphs: &PairableGraphs<'_>,
-    facts: &[Fact],
+    grounds: &Grounds<'_>,
     domains: &mut Domains,
     way: Pair,
     ban: Ban,
     book: &mut BanBook,
 ) -> Result<Option<u64>, AllocError>
-    requires shown { IsShownBan graphs.now (map decided_by facts.now) (way ∷ held_in domains.old.entries) ban }
+    requires shown { IsShownBan grounds.now.graphs.now (decided grounds.now) (way ∷ held_in domains.old.entries) ban }
     requires known { IsPairOf domains.old.inputs domains.old.outputs way }
     requires open { IsOpen domains.old.entries way }
-    ensures { Settles graphs.now (map decided_by facts.now) book.old book.new domains.old domains.new
+    ensures { Settles grounds.now book.old book.new domains.old domains.new
         (λ pair. pair ≡ way) result }
 {
-    let _ = graphs;
-    let _ = facts;
+    let _ = grounds;
     let _lawful = domains.entries();
     let number = book.hold(ban)?;
     if let Some(dead) = book.covering(domains.pairs()) {
@@ -266,8 +203,7 @@ fn delete_by(
 
 // Deletes a pair that clashes with a held one, or that a held ban excludes beside them.
 fn delete(
-    graphs: &PairableGraphs<'_>,
-    facts: &[Fact],
+    grounds: &Grounds<'_>,
     domains: &mut Domains,
     way: Pair,
     reason: Reason,
@@ -275,14 +211,13 @@ fn delete(
 ) -> Result<Option<u64>, AllocError>
     requires no_ban { HaveNoBan book.now (held_in domains.old.entries) }
     requires named { AreNamed book.now (held_in domains.old.entries) way reason }
-    requires shown { IsGrounded graphs.now (map decided_by facts.now) way (Deleted reason) }
+    requires shown { IsGrounded grounds.now.graphs.now (decided grounds.now) way (Deleted reason) }
     requires known { IsPairOf domains.old.inputs domains.old.outputs way }
     requires open { IsOpen domains.old.entries way }
-    ensures { Settles graphs.now (map decided_by facts.now) book.now book.now domains.old domains.new
+    ensures { Settles grounds.now book.now book.now domains.old domains.new
         (λ pair. pair ≡ way) result }
 {
-    let _ = graphs;
-    let _ = facts;
+    let _ = grounds;
     let _ = book;
     let _lawful = domains.entries();
     domains.delete(way, reason)?;

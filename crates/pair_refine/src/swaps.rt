@@ -2,22 +2,22 @@
 
 ghost use Rattle.std.specs.Prelude.{◌≡◌, ◌≢◌, ◌<◌, ℕ, [], All, AllPairs, IfNone, IfOk, IfSome, length, map};
 ghost use Rattle.query_core.specs.declared.claims.Claim.{Claim as AnyClaim};
-ghost use Rattle.account_core.specs.Facts.{AreFacts};
 ghost use Rattle.account_core.specs.Given.{decided_by, fact_at, given_of};
 ghost use Rattle.account_core.specs.Mismatches.{IsImage};
 ghost use Rattle.account_core.specs.Ports.{IsKnown};
 ghost use Rattle.claim_rows.specs.Shown.{IsShownBan};
 ghost use Rattle.claim_rows.specs.Told.{IsToldAs};
+ghost use Rattle.pair_refine.specs.Rows.{AreGrounds, decided};
 ghost use Rattle.pair_refine.specs.Stable.{HasTwoInputs, HaveNoSwapMismatch};
 ghost use Rattle.pair_refine.specs.Swaps.{AgreesAt, IsExchange, IsSwapIndex, SaysOf, carried_to};
 
+use crate::grounds::Grounds;
 use crate::swap_index::number_of;
 use account_core::{Ban, Evidence, Fact};
 use circuits::{Pair, PortKind};
 use claim_rows::{Told, mismatch_ban, moved_value, two_inputs, unlike_of};
 use indexmap::IndexMap;
 use net_core::Side;
-use port_sides::PairableGraphs;
 use query_core::{Claim, Shape, pair_of};
 use std::alloc::{AllocError, Global};
 
@@ -35,19 +35,16 @@ pub(crate) struct Exchange {
 /// carry it to.
 pub(crate) fn swap_ban(
     alloc: Global,
-    graphs: &PairableGraphs<'_>,
-    facts: &[Fact],
-    swaps: &IndexMap<Claim, u64>,
+    grounds: &Grounds<'_>,
     pairs: &[Pair],
 ) -> Result<Option<Ban>, AllocError>
-    requires lawful { AreFacts graphs.now facts.now }
-    requires index { IsSwapIndex (map decided_by facts.now) swaps.now.entries }
-    requires known { All (IsKnown graphs.now) pairs.now }
-    ensures shown { IfOk result (λ found. IfSome found (IsShownBan graphs.now (map decided_by facts.now) pairs.now)) }
-    ensures none { IfOk result (λ found. IfNone found (HaveNoSwapMismatch graphs.now (map decided_by facts.now) pairs.now)) }
+    requires grounds { AreGrounds grounds.now }
+    requires known { All (IsKnown grounds.now.graphs.now) pairs.now }
+    ensures shown { IfOk result (λ found. IfSome found (IsShownBan grounds.now.graphs.now (decided grounds.now) pairs.now)) }
+    ensures none { IfOk result (λ found. IfNone found (HaveNoSwapMismatch grounds.now.graphs.now (decided grounds.now) pairs.now)) }
 {
-    for number in 0..facts.len() {
-        if let Some(ban) = ban_at(alloc, graphs, facts, swaps, pairs, number)? {
+    for number in 0..grounds.facts.len() {
+        if let Some(ban) = ban_at(alloc, grounds, pairs, number)? {
             return Ok(Some(ban));
         }
     }
@@ -57,25 +54,22 @@ pub(crate) fn swap_ban(
 // That by the claim of a fact.
 fn ban_at(
     alloc: Global,
-    graphs: &PairableGraphs<'_>,
-    facts: &[Fact],
-    swaps: &IndexMap<Claim, u64>,
+    grounds: &Grounds<'_>,
     pairs: &[Pair],
     number: usize,
 ) -> Result<Option<Ban>, AllocError>
-    requires lawful { AreFacts graphs.now facts.now }
-    requires index { IsSwapIndex (map decided_by facts.now) swaps.now.entries }
-    requires known { All (IsKnown graphs.now) pairs.now }
-    requires below { number < length facts.now }
-    ensures shown { IfOk result (λ found. IfSome found (IsShownBan graphs.now (map decided_by facts.now) pairs.now)) }
-    ensures none { IfOk result (λ found. IfNone found (AgreesAt (map decided_by facts.now) pairs.now number)) }
+    requires grounds { AreGrounds grounds.now }
+    requires known { All (IsKnown grounds.now.graphs.now) pairs.now }
+    requires below { number < length grounds.now.facts.now }
+    ensures shown { IfOk result (λ found. IfSome found (IsShownBan grounds.now.graphs.now (decided grounds.now) pairs.now)) }
+    ensures none { IfOk result (λ found. IfNone found (AgreesAt (decided grounds.now) pairs.now number)) }
 {
-    let _ = graphs;
+    let facts = grounds.facts;
     let fact = told_at(facts, number);
     let Some(exchange) = exchange_of(pairs, claim_at(facts, number)) else {
         return Ok(None);
     };
-    let Some(image) = otherwise(facts, swaps, carry(exchange), fact.holds) else {
+    let Some(image) = otherwise(facts, &grounds.rows.swaps, carry(exchange), fact.holds) else {
         return Ok(None);
     };
     let Exchange {

@@ -1,7 +1,7 @@
 -- What a book of bans holds.
-use Rattle.std.proofs.Common.{◌≡◌, ℕ, ◌+◌, ◌<◌, List, [], ◌∷◌, ◌++◌, length, get_or, All, Option, None, Some, sym, ap, subst, ◌∙◌, arith}
+use Rattle.std.proofs.Common.{◌≡◌, ℕ, ◌+◌, ◌<◌, List, [], ◌∷◌, ◌++◌, length, get_or, All, Option, None, Some, sym, subst, arith}
 use Rattle.std.specs.List.{range_with_len}
-use Rattle.std.proofs.lemmas.List.{append-nil, append_assoc, length-map}
+use Rattle.std.proofs.lemmas.List.{append-nil, length-map}
 use Rattle.std.proofs.lemmas.List.Elements.{All-contains, All-cons, All-nil}
 use Rattle.std.proofs.lemmas.List.FromFn.{length-range_with_len, get_or-range_with_len}
 use Rattle.circuits.specs.declared.port.Pair.{Pair}
@@ -15,11 +15,10 @@ use Rattle.account_core.specs.Ports.{ports_in, AreOrdered, IsKnown}
 use Rattle.account_core.specs.Given.{Decided, given_of}
 use Rattle.account_core.specs.Covers.{IsReference}
 use Rattle.account_core.specs.Steps.{AreValidBans, IsValidBan}
-use Rattle.ban_book.specs.Covering.{Covers}
 use Rattle.ban_book.specs.Vectors.{IsVector}
 pub use Rattle.ban_book.proofs.BookLemmas.{covers_last}
-use Rattle.ban_book.proofs.BookLemmas.{covers_later, valid_push}
-use Rattle.ban_book.proofs.VectorLemmas.{no_vector_more, no_vector_none, no_vector_one}
+use Rattle.ban_book.proofs.BookLemmas.{valid_push}
+use Rattle.ban_book.proofs.VectorLemmas.{no_vector_none, no_vector_one}
 use Rattle.ban_book.proofs.ListLemmas.{zip_map}
 use Rattle.port_covers.specs.declared.block.Block.{Block}
 use Rattle.account_core.specs.Tallies.{Ascend, other_side}
@@ -38,17 +37,6 @@ holds_one graphs bans after ban is none valid = record {
   no_vector = no_vector_one ban none;
   valid = λ facts before. subst (AreValidBans graphs facts) (sym is) (valid_push graphs facts bans ban before (valid facts));
 }
-
-pub holds_twice : (graphs : Graphs) (first second third : List Ban) → HoldsMore graphs first second → HoldsMore graphs second third → HoldsMore graphs first third
-holds_twice graphs first second third one other = record {
-  added = one.added ++ other.added;
-  more = other.more ∙ (ap (λ l. l ++ other.added) one.more ∙ append_assoc first one.added other.added);
-  no_vector = no_vector_more one.added other.added one.no_vector other.no_vector;
-  valid = λ facts valid. other.valid facts (one.valid facts valid);
-}
-
-pub covers_more : (graphs : Graphs) (before after : List Ban) (pairs : List Pair) (number : ℕ) → HoldsMore graphs before after → Covers before pairs number → Covers after pairs number
-covers_more graphs before after pairs number more is = covers_later before more.added after pairs number more.more is
 
 reference_facts : (facts : List Decided) (bans : List Ban) (pairs : List Pair) (pair : Pair) (ref : Option ℕ) → IsReference (given_of [] bans) pairs pair ref → IsReference (given_of facts bans) pairs pair ref
 reference_facts facts bans pairs pair None is = is

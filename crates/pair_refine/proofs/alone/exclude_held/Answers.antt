@@ -1,7 +1,7 @@
-use Rattle.std.proofs.Common.{◌≡◌, ◌++◌, List, map, subst, sym}
-use Rattle.account_core.specs.Given.{decided_by}
+use Rattle.std.proofs.Common.{◌≡◌, ◌++◌, List, subst, sym}
 use Rattle.account_core.specs.declared.step.Ban.{Ban}
 use Rattle.ban_book.proofs.BookLemmas.{covers_last}
+use Rattle.pair_refine.specs.Rows.{decided}
 use Rattle.pair_refine.specs.Refining.{AddsShown}
 use Rattle.pair_refine.proofs.InputLemmas.{both_among, inputs_known}
 use Rattle.pair_refine.proofs.NothingLemmas.{shown_more}
@@ -11,24 +11,24 @@ use Rattle.pair_refine.proofs.TrailLemmas.{shown_none, shown_one}
 use Rattle.pair_refine.proofs.alone.exclude_held.Goals as goal
 
 pub held_ban-requires-clause-inputs : goal.held_ban-requires-clause-inputs
-held_ban-requires-clause-inputs c = inputs_known c.args.graphs.now c.args.held.now c.args.inputs.now c.requires.held c.requires.inputs
+held_ban-requires-clause-inputs c = inputs_known _ _ _ c.requires.held c.requires.inputs
 
 pub returns-in_err-hold-in-Some-2-clause-adds : goal.returns-in_err-hold-in-Some-2-clause-adds
 returns-in_err-hold-in-Some-2-clause-adds c =
-    let facts = map decided_by c.args.facts.now in
-    subst (λ (l : List Ban). AddsShown c.args.graphs.now facts c.args.book.now l) (sym c.in_err-hold-in-Some-2.ensures.refused) (shown_none c.args.graphs.now facts c.args.book.now)
+    let g = c.args.grounds.now in
+    subst (λ (l : List Ban). AddsShown g.graphs.now (decided g) c.args.book.now l) (sym c.in_err-hold-in-Some-2.ensures.refused) (shown_none g.graphs.now (decided g) c.args.book.now)
 
 pub returns-in_ok-hold-in-Some-2-clause-adds : goal.returns-in_ok-hold-in-Some-2-clause-adds
 returns-in_ok-hold-in-Some-2-clause-adds c =
-    let shown = rw c.in-Some-2.is at c.in_ok-ban.ensures.shown in
-    shown_one c.args.graphs.now (map decided_by c.args.facts.now) c.args.book.now c.hold.new.self c.in-Some-2.ban c.in_ok-hold-in-Some-2.ensures.held shown.no_vector shown.valid
+    let g = c.args.grounds.now in
+    shown_one g.graphs.now (decided g) _ c.args.book.now c.hold.new.self c.in-Some-2.ban c.in_ok-hold-in-Some-2.ensures.held (rw c.in-Some-2.is at c.in_ok-ban.ensures.shown)
 
 pub returns-in_ok-hold-in-Some-2-clause-found : goal.returns-in_ok-hold-in-Some-2-clause-found
 returns-in_ok-hold-in-Some-2-clause-found c =
-    let facts = map decided_by c.args.facts.now in
-    let shown = rw c.in-Some-2.is at c.in_ok-ban.ensures.shown in
-    let fewer = shown_more c.args.graphs.now facts (c.args.inputs.now ++ c.args.held.now) c.args.held.now c.in-Some-2.ban (both_among c.args.held.now c.args.inputs.now c.requires.inputs) shown in
-    covers_last c.args.book.now c.hold.new.self c.in-Some-2.ban c.args.held.now _ c.in_ok-hold-in-Some-2.ensures.held c.in_ok-hold-in-Some-2.ensures.number fewer.within
+    let g = c.args.grounds.now in
+    let held = c.args.held.now in
+    let fewer = shown_more g.graphs.now (decided g) (g.inputs.now ++ held) held c.in-Some-2.ban (both_among held g.inputs.now c.requires.inputs) (rw c.in-Some-2.is at c.in_ok-ban.ensures.shown) in
+    covers_last c.args.book.now c.hold.new.self c.in-Some-2.ban held _ c.in_ok-hold-in-Some-2.ensures.held c.in_ok-hold-in-Some-2.ensures.number fewer.within
 
 pub returns-in-None-clause-no_ban : goal.returns-in-None-clause-no_ban
 returns-in-None-clause-no_ban c =

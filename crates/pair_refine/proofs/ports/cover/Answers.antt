@@ -1,25 +1,5 @@
-use Rattle.std.proofs.Common.{List, inr, sym, subst}
-use Rattle.circuits.specs.declared.port.Pair.{Pair}
-use Rattle.port_covers.specs.Held.{AreHeld}
-use Rattle.port_covers.specs.Ways.{nth_way}
-use Rattle.conflict_core.specs.Named.{AreNamed}
-use Rattle.conflict_core.proofs.JustifiedLemmas.{names_held}
-use Rattle.conflict_core.proofs.PivotLemmas.{held_known}
 use Rattle.pair_refine.proofs.StableLemmas.{covers_conflict}
 use Rattle.pair_refine.proofs.ports.cover.Goals as goal
 
-pub cover_port-requires-clause-held : goal.cover_port-requires-clause-held
-cover_port-requires-clause-held c =
-    let d = c.args.domains.now in
-    subst (AreHeld c.args.graphs.now) (sym c.pairs.ensures.value) (held_known c.args.graphs.now d.inputs d.outputs d.entries c.requires.trail.fit c.entries-lawful.ensures.lawful)
-
-pub cover_port-requires-clause-named : goal.cover_port-requires-clause-named
-cover_port-requires-clause-named c = λ number below.
-    let d = c.args.domains.now in
-    let port = c.args.port in
-    let way = nth_way port.side port.kind port.number number in
-    let gone = c.requires.none.each number below in
-    inr (gone.0, gone.1, subst (λ (l : List Pair). AreNamed c.args.book.now l way gone.0) (sym c.pairs.ensures.value) (names_held d.inputs d.outputs c.args.book.now d.entries way gone.0 c.requires.trail.justified gone.1))
-
 pub returns-clause-found : goal.returns-clause-found
-returns-clause-found c = covers_conflict c.cover_port.new.book _ _ c.in_ok-conflict.conflict c.pairs.ensures.value c.in_ok-conflict.ensures.conflict
+returns-clause-found c = covers_conflict c.conflict_of.new.book _ c.in_ok-conflict.conflict c.in_ok-conflict.ensures.conflict

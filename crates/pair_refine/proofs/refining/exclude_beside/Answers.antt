@@ -1,9 +1,9 @@
-use Rattle.std.proofs.Common.{◌≡◌, ◌<◌, ℕ, List, map, subst, sym}
+use Rattle.std.proofs.Common.{◌≡◌, ◌<◌, ℕ, List, subst, sym}
 use Rattle.circuits.specs.declared.port.PortKind.{PortKind}
 use Rattle.net_core.specs.declared.graphs.Side.{Side}
-use Rattle.account_core.specs.Given.{decided_by}
 use Rattle.account_core.specs.declared.step.Ban.{Ban}
 use Rattle.class_refine.specs.Trails.{ports_of}
+use Rattle.pair_refine.specs.Rows.{decided}
 use Rattle.pair_refine.specs.Settling.{HasLeft}
 use Rattle.pair_refine.specs.Stable.{IsStable}
 use Rattle.pair_refine.proofs.ResultLemmas.{both_none}
@@ -13,14 +13,14 @@ use Rattle.pair_refine.proofs.refining.exclude_beside.Goals as goal
 
 pub returns-in-None-clause-refines : goal.returns-in-None-clause-refines
 returns-in-None-clause-refines c =
-    let facts = map decided_by c.args.facts.now in
+    let g = c.args.grounds.now in
     let mid = c.settle_all.new.domains in
     let first = c.in_ok-ban.ensures.refines in
-    refines_then c.args.graphs.now facts c.args.book.now c.settle_all.new.book c.cover_empty.new.book c.args.domains.now mid mid first (refines_bans c.args.graphs.now facts c.settle_all.new.book c.cover_empty.new.book mid (shown_learned c.args.graphs.now facts mid.entries c.settle_all.new.book c.cover_empty.new.book (first.shown c.requires.shown) c.cover_empty.ensures.more))
+    refines_then g.graphs.now (decided g) c.args.book.now c.settle_all.new.book c.cover_empty.new.book c.args.domains.now mid mid first (refines_bans g.graphs.now (decided g) c.settle_all.new.book c.cover_empty.new.book mid (shown_learned g.graphs.now (decided g) mid.entries c.settle_all.new.book c.cover_empty.new.book (first.shown c.requires.shown) c.cover_empty.ensures.more))
 
 pub returns-in-None-clause-stable : goal.returns-in-None-clause-stable
 returns-in-None-clause-stable c =
-    let facts = map decided_by c.args.facts.now in
+    let g = c.args.grounds.now in
     let mid = c.settle_all.new.domains in
     let settled = rw c.in-None.is at c.in_ok-ban.ensures.settled in
-    both_none c.cover_empty.result (c.cover_empty.new.book ≡ c.settle_all.new.book) ((side : Side) (kind : PortKind) (port : ℕ) → port < ports_of mid.inputs mid.outputs kind → HasLeft mid side kind port) (IsStable c.args.graphs.now facts c.cover_empty.new.book mid) (λ same left. subst (λ (l : List Ban). IsStable c.args.graphs.now facts l mid) (sym same) (stable_of c.args.graphs.now c.args.facts.now c.args.rows.now c.args.inputs.now c.args.book.now c.settle_all.new.book c.args.domains.now mid c.requires.may c.entries-lawful.ensures.lawful c.in_ok-ban.ensures.refines settled left)) c.cover_empty.ensures.same c.cover_empty.ensures.left
+    both_none c.cover_empty.result (c.cover_empty.new.book ≡ c.settle_all.new.book) ((side : Side) (kind : PortKind) (port : ℕ) → port < ports_of mid.inputs mid.outputs kind → HasLeft mid side kind port) (IsStable g.graphs.now (decided g) c.cover_empty.new.book mid) (λ same left. subst (λ (l : List Ban). IsStable g.graphs.now (decided g) l mid) (sym same) (stable_of g c.args.book.now c.settle_all.new.book c.args.domains.now mid c.requires.may c.entries-lawful.ensures.lawful c.in_ok-ban.ensures.refines settled left)) c.cover_empty.ensures.same c.cover_empty.ensures.left

@@ -3,8 +3,7 @@ use Rattle.account_core.specs.Given.{decided_by}
 use Rattle.account_core.specs.declared.fact.Fact.{Fact}
 use Rattle.conflict_core.specs.Grounded.{AreGrounded}
 use Rattle.fact_bans.proofs.HoldingLemmas.{adds_none, holds_fail, holds_ok, holds_stop}
-use Rattle.fact_bans.proofs.ServeLemmas.{served_one, valid_grows}
-use Rattle.pair_refine.specs.Refining.{Refines}
+use Rattle.fact_bans.proofs.ServeLemmas.{served_one}
 use Rattle.pair_refine.proofs.TrailLemmas.{held_refined, shown_adds, shown_grows, shown_refined}
 use Rattle.pair_refine.proofs.refining.refine.Goals as goal
 
@@ -22,20 +21,16 @@ refine_by-requires-clause-shown g c =
 
 pub returns-in_err-refine_by-clause-holds : goal.returns-in_err-refine_by-clause-holds
 returns-in_err-refine_by-clause-holds g c =
-    let refines = subst (λ (l : List Fact). Refines c.args.graphs.now (map decided_by l) c.args.book.now c.refine_by.new.book c.args.domains.now c.refine_by.new.domains) c.facts.ensures.value c.in_err-refine_by.ensures.refines in
-    holds_stop _ _ _ _ _ _ _ _ c.from_residual-in_err-refine_by.ensures.1 (held_refined c.args.graphs.now _ _ _ _ c.args.book.now c.refine_by.new.book c.args.domains.now c.refine_by.new.domains (valid_grows _ _ c.args.graphs.now c.args.book.now c.in_ok-rows.ensures.serves.grows c.requires.may.valid) (served_one _ _ _ _ _ c.in_ok-rows.ensures.serves) refines)
+    holds_stop _ _ _ _ _ _ _ _ c.from_residual-in_err-refine_by.ensures.1 (held_refined c.args.graphs.now _ _ _ _ _ _ _ _ _ c.requires.may.valid (served_one _ _ _ _ _ c.in_ok-rows.ensures.serves) c.facts.ensures.value c.in_err-refine_by.ensures.refines)
 
 pub returns-in_err-refine_by-clause-trail : goal.returns-in_err-refine_by-clause-trail
 returns-in_err-refine_by-clause-trail g c =
-    let refines = subst (λ (l : List Fact). Refines c.args.graphs.now (map decided_by l) c.args.book.now c.refine_by.new.book c.args.domains.now c.refine_by.new.domains) c.facts.ensures.value c.in_err-refine_by.ensures.refines in
-    shown_refined c.args.graphs.now _ _ c.args.book.now c.refine_by.new.book c.args.domains.now c.refine_by.new.domains c.in_ok-rows.ensures.serves.grows c.requires.trail refines
+    shown_refined c.args.graphs.now _ _ _ _ _ _ _ c.in_ok-rows.ensures.serves.grows c.requires.trail c.facts.ensures.value c.in_err-refine_by.ensures.refines
 
 pub returns-clause-holds : goal.returns-clause-holds
 returns-clause-holds g c =
-    let refines = subst (λ (l : List Fact). Refines c.args.graphs.now (map decided_by l) c.args.book.now c.refine_by.new.book c.args.domains.now c.refine_by.new.domains) c.facts.ensures.value c.in_ok-refine_by.ensures.refines in
-    holds_ok _ _ _ _ _ _ _ _ _ refl (held_refined c.args.graphs.now _ _ _ _ c.args.book.now c.refine_by.new.book c.args.domains.now c.refine_by.new.domains (valid_grows _ _ c.args.graphs.now c.args.book.now c.in_ok-rows.ensures.serves.grows c.requires.may.valid) (served_one _ _ _ _ _ c.in_ok-rows.ensures.serves) refines)
+    holds_ok _ _ _ _ _ _ _ _ _ refl (held_refined c.args.graphs.now _ _ _ _ _ _ _ _ _ c.requires.may.valid (served_one _ _ _ _ _ c.in_ok-rows.ensures.serves) c.facts.ensures.value c.in_ok-refine_by.ensures.refines)
 
 pub returns-clause-trail : goal.returns-clause-trail
 returns-clause-trail g c =
-    let refines = subst (λ (l : List Fact). Refines c.args.graphs.now (map decided_by l) c.args.book.now c.refine_by.new.book c.args.domains.now c.refine_by.new.domains) c.facts.ensures.value c.in_ok-refine_by.ensures.refines in
-    shown_refined c.args.graphs.now _ _ c.args.book.now c.refine_by.new.book c.args.domains.now c.refine_by.new.domains c.in_ok-rows.ensures.serves.grows c.requires.trail refines
+    shown_refined c.args.graphs.now _ _ _ _ _ _ _ c.in_ok-rows.ensures.serves.grows c.requires.trail c.facts.ensures.value c.in_ok-refine_by.ensures.refines

@@ -1,13 +1,13 @@
-use Rattle.std.proofs.Common.{◌∷◌, All, List, ap, map, subst, sym, ◌∙◌}
+use Rattle.std.proofs.Common.{◌∷◌, All, List, ap, subst, sym, ◌∙◌}
 use Rattle.std.proofs.lemmas.List.Elements.{All-cons}
 use Rattle.circuits.specs.declared.port.Pair.{Pair}
 use Rattle.account_core.specs.Covers.{IsImpossible}
-use Rattle.account_core.specs.Given.{decided_by}
 use Rattle.account_core.specs.Ports.{IsKnown}
 use Rattle.ban_book.specs.Vectors.{HaveNoFacts}
 use Rattle.class_refine.specs.Trails.{held_in}
 use Rattle.port_covers.specs.Held.{AreHeld}
 use Rattle.conflict_core.proofs.PivotLemmas.{held_known}
+use Rattle.pair_refine.specs.Rows.{decided}
 use Rattle.pair_refine.specs.Stable.{HaveNoBan, HaveNoSwapMismatch}
 use Rattle.pair_refine.proofs.TrailLemmas.{known_of}
 use Rattle.pair_refine.proofs.settling.exclusion_of.Goals as goal
@@ -15,11 +15,11 @@ use Rattle.pair_refine.proofs.settling.exclusion_of.Goals as goal
 pub way_ban-requires-clause-held : goal.way_ban-requires-clause-held
 way_ban-requires-clause-held c =
     let d = c.args.domains.now in
-    subst (AreHeld c.args.graphs.now) (sym c.pairs-held.ensures.value) (held_known c.args.graphs.now d.inputs d.outputs d.entries c.requires.may.trail.fit c.entries-lawful.ensures.lawful)
+    subst (AreHeld c.args.grounds.now.graphs.now) (sym c.pairs-held.ensures.value) (held_known c.args.grounds.now.graphs.now d.inputs d.outputs d.entries c.requires.may.trail.fit c.entries-lawful.ensures.lawful)
 
 pub swap_ban-requires-clause-known : goal.swap_ban-requires-clause-known
 swap_ban-requires-clause-known c =
-    let graphs = c.args.graphs.now in
+    let graphs = c.args.grounds.now.graphs.now in
     let d = c.args.domains.now in
     let held = held_known graphs d.inputs d.outputs d.entries c.requires.may.trail.fit c.entries-lawful.ensures.lawful in
     let there = known_of graphs d.inputs d.outputs c.args.way c.requires.may.trail.fit c.requires.known in
@@ -27,8 +27,8 @@ swap_ban-requires-clause-known c =
 
 pub returns-clause-none : goal.returns-clause-none
 returns-clause-none c =
-    let graphs = c.args.graphs.now in
-    let facts = map decided_by c.args.facts.now in
+    let graphs = c.args.grounds.now.graphs.now in
+    let facts = decided c.args.grounds.now in
     let beside = c.in_ok-pairs.ensures ∙ ap (λ l. c.args.way ∷ l) c.pairs-held.ensures.value in
     record {
       possible = subst (λ (l : List Pair). IsImpossible l c.args.way → ⊥) c.pairs-held.ensures.value c.in_default.ensures.none;

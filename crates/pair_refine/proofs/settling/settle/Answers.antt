@@ -1,15 +1,14 @@
-use Rattle.std.proofs.Common.{map}
-use Rattle.account_core.specs.Given.{decided_by}
 use Rattle.class_refine.specs.Trails.{held_in}
 use Rattle.conflict_core.proofs.PivotLemmas.{held_known}
+use Rattle.pair_refine.specs.Rows.{decided}
 use Rattle.pair_refine.proofs.NothingLemmas.{nothing_beside}
 use Rattle.pair_refine.proofs.SettleLemmas.{entry_settled, settles_now}
 use Rattle.pair_refine.proofs.settling.settle.Goals as goal
 
 pub returns-in-Some : goal.returns-in-Some
 returns-in-Some c =
-    let facts = map decided_by c.args.facts.now in
+    let g = c.args.grounds.now in
     let d = c.args.domains.now in
     let may = c.requires.may in
-    let held = held_known c.args.graphs.now d.inputs d.outputs d.entries may.trail.fit c.entries-lawful.ensures.lawful in
-    settles_now c.args.graphs.now facts c.args.book.now d c.args.way may.no_ban (entry_settled c.args.graphs.now facts c.args.book.now d c.args.way _ held.apart may.no_ban may.no_swap (λ there. nothing_beside c.args.graphs.now facts (held_in d.entries) c.args.inputs.now held may.inputs_are may.no_facts c.args.way there) c.in-Some.ensures.found)
+    let held = held_known g.graphs.now d.inputs d.outputs d.entries may.trail.fit c.entries-lawful.ensures.lawful in
+    settles_now g c.args.book.now d c.args.way may.no_ban (entry_settled g c.args.book.now d c.args.way _ held.apart may.no_ban may.no_swap (λ there. nothing_beside g.graphs.now (decided g) (held_in d.entries) g.inputs.now held may.inputs_are may.no_facts c.args.way there) c.in-Some.ensures.found)

@@ -1,8 +1,6 @@
-use Rattle.std.proofs.Common.{map}
-use Rattle.account_core.specs.Given.{decided_by}
 use Rattle.pair_refine.proofs.SettleLemmas.{IsFromBefore, IsUnderWay}
 use Rattle.pair_refine.proofs.settling.settle_kind.Given as goal
 
 abbrev pub invariant-loop-from : goal.invariant-loop-from
 invariant-loop-from l =
-    IsUnderWay l.graphs (map decided_by l.facts) l.fn.book l.book l.fn.domains l.domains (IsFromBefore l.fn.domains.inputs l.fn.domains.outputs l.kind l.from)
+    IsUnderWay l.grounds l.fn.book l.book l.fn.domains l.domains (IsFromBefore l.fn.domains.inputs l.fn.domains.outputs l.kind l.from)

@@ -1,11 +1,10 @@
-use Rattle.std.proofs.Common.{inr, map}
-use Rattle.account_core.specs.Given.{decided_by}
+use Rattle.std.proofs.Common.{inr}
 use Rattle.pair_refine.proofs.SettleLemmas.{settles_now}
 use Rattle.pair_refine.proofs.settling.settle_open.Goals as goal
 
 pub returns-in_default : goal.returns-in_default
 returns-in_default c =
-    settles_now c.args.graphs.now (map decided_by c.args.facts.now) c.args.book.now c.args.domains.now c.args.way c.requires.may.no_ban (inr (rw c.in_default.is at c.in_ok-exclusion.ensures.none))
+    settles_now c.args.grounds.now c.args.book.now c.args.domains.now c.args.way c.requires.may.no_ban (inr (rw c.in_default.is at c.in_ok-exclusion.ensures.none))
 
 pub delete-requires-clause-named : goal.delete-requires-clause-named
 delete-requires-clause-named c = (rw c.in-Known.is at (rw c.in-Some.is at c.in_ok-exclusion.ensures.found)).0

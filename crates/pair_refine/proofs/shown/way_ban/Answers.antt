@@ -1,27 +1,26 @@
-use Rattle.std.proofs.Common.{◌∷◌, ◌++◌, [], map}
-use Rattle.account_core.specs.Given.{decided_by}
+use Rattle.std.proofs.Common.{◌∷◌, ◌++◌, []}
 use Rattle.ban_book.specs.Vectors.{HaveNoFacts}
 use Rattle.claim_rows.specs.Shown.{IsShownBan}
-use Rattle.pair_refine.specs.Rows.{ShowNothingAt}
+use Rattle.pair_refine.specs.Rows.{ShowNothingAt, decided}
 use Rattle.pair_refine.proofs.InputLemmas.{inputs_known, way_among}
 use Rattle.pair_refine.proofs.NothingLemmas.{nothing_of_input, nothing_of_output, shown_more}
 use Rattle.pair_refine.proofs.ResultLemmas.{none_so, some_so}
 use Rattle.pair_refine.proofs.shown.way_ban.Goals as goal
 
 pub output_ban-requires-clause-inputs : goal.output_ban-requires-clause-inputs
-output_ban-requires-clause-inputs c = inputs_known c.args.graphs.now c.args.held.now c.args.inputs.now c.requires.held c.requires.inputs
+output_ban-requires-clause-inputs c = inputs_known _ _ _ c.requires.held c.requires.inputs
 
 pub returns-in-Input-clause-none : goal.returns-in-Input-clause-none
 returns-in-Input-clause-none c =
-    let facts = map decided_by c.args.facts.now in
-    none_so c.held_ban.result (ShowNothingAt c.args.graphs.now facts (c.args.way ∷ []) c.args.held.now) (HaveNoFacts c.args.graphs.now facts (c.args.way ∷ c.args.held.now)) (nothing_of_input c.args.graphs.now facts c.args.held.now c.args.inputs.now c.requires.held c.requires.inputs c.requires.alone c.args.way c.requires.known c.in-Input.is) c.held_ban.ensures.none
+    let g = c.args.grounds.now in
+    none_so c.held_ban.result (ShowNothingAt g.graphs.now (decided g) (c.args.way ∷ []) c.args.held.now) (HaveNoFacts g.graphs.now (decided g) (c.args.way ∷ c.args.held.now)) (nothing_of_input g.graphs.now (decided g) c.args.held.now g.inputs.now c.requires.held c.requires.inputs c.requires.alone c.args.way c.requires.known c.in-Input.is) c.held_ban.ensures.none
 
 pub returns-in-Output-clause-shown : goal.returns-in-Output-clause-shown
 returns-in-Output-clause-shown c =
-    let facts = map decided_by c.args.facts.now in
-    some_so c.output_ban.result (IsShownBan c.args.graphs.now facts (c.args.inputs.now ++ c.args.way ∷ [])) (IsShownBan c.args.graphs.now facts (c.args.way ∷ c.args.held.now)) (λ ban is. shown_more c.args.graphs.now facts (c.args.inputs.now ++ c.args.way ∷ []) (c.args.way ∷ c.args.held.now) ban (way_among c.args.held.now c.args.inputs.now c.args.way c.requires.inputs) is) c.output_ban.ensures.shown
+    let g = c.args.grounds.now in
+    some_so c.output_ban.result (IsShownBan g.graphs.now (decided g) (g.inputs.now ++ c.args.way ∷ [])) (IsShownBan g.graphs.now (decided g) (c.args.way ∷ c.args.held.now)) (λ ban is. shown_more g.graphs.now (decided g) (g.inputs.now ++ c.args.way ∷ []) (c.args.way ∷ c.args.held.now) ban (way_among c.args.held.now g.inputs.now c.args.way c.requires.inputs) is) c.output_ban.ensures.shown
 
 pub returns-in-Output-clause-none : goal.returns-in-Output-clause-none
 returns-in-Output-clause-none c =
-    let facts = map decided_by c.args.facts.now in
-    none_so c.output_ban.result (HaveNoFacts c.args.graphs.now facts (c.args.inputs.now ++ c.args.way ∷ [])) (HaveNoFacts c.args.graphs.now facts (c.args.way ∷ c.args.held.now)) (nothing_of_output c.args.graphs.now facts c.args.held.now c.args.inputs.now c.requires.held c.requires.inputs c.requires.alone c.args.way c.in-Output.is) c.output_ban.ensures.none
+    let g = c.args.grounds.now in
+    none_so c.output_ban.result (HaveNoFacts g.graphs.now (decided g) (g.inputs.now ++ c.args.way ∷ [])) (HaveNoFacts g.graphs.now (decided g) (c.args.way ∷ c.args.held.now)) (nothing_of_output g.graphs.now (decided g) c.args.held.now g.inputs.now c.requires.held c.requires.inputs c.requires.alone c.args.way c.in-Output.is) c.output_ban.ensures.none

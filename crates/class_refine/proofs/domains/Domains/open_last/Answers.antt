@@ -1,13 +1,12 @@
 -- What is kept without the last entry.
-use Rattle.std.proofs.Common.{◌≡◌, ℕ, ◌-◌, ◌<◌, List, length, Option, None, slice_index_or, take, slice_set, sym, ap, subst, ◌∙◌, arith}
-use Rattle.net_core.specs.declared.graphs.Side.TheVariants.{First, Second}
+use Rattle.std.proofs.Common.{◌≡◌, ℕ, ◌-◌, List, length, Option, None, take, slice_set, sym, ap, subst, ◌∙◌, arith}
 use Rattle.circuits.specs.declared.port.Pair.{Pair}
 use Rattle.class_refine.specs.declared.entry.Entry.{Entry}
 use Rattle.class_refine.specs.Kept.{IsKept}
-use Rattle.class_refine.specs.Numbers.{at_ports, port_number}
+use Rattle.class_refine.specs.Numbers.{at_ports}
 use Rattle.class_refine.specs.Trails.{AreEntries, is_held}
 use Rattle.class_refine.proofs.TableLemmas.{both, both_size, counted_size}
-use Rattle.class_refine.proofs.KeptLemmas.{given_back, kept_undeleted, kept_unheld, last_known, some_gone}
+use Rattle.class_refine.proofs.KeptLemmas.{given_back, kept_undeleted, kept_unheld, last_known}
 use Rattle.class_refine.proofs.domains.Domains.open_last.Goals as goal
 
 pub invariant_of-self : goal.invariant_of-self
@@ -33,28 +32,6 @@ uncount_at_ports-requires-clause-known c =
     let old = c.self.inside in
     let was = subst (λ (l : List Entry). AreEntries old.inputs old.outputs l) c.in-Some.ensures.items c.self.invariant.entries_are in
     last_known old.inputs old.outputs c.pop.new.self.items c.in-Some.entry was
-
-pub uncount_at_ports-requires-clause-first : goal.uncount_at_ports-requires-clause-first
-uncount_at_ports-requires-clause-first c =
-    let old = c.self.inside in
-    let n = old.inputs in
-    let m = old.outputs in
-    let e = c.in-Some.entry in
-    let was = subst (λ (l : List Entry). IsKept n m l old.pairs.items old.places.items old.holders.items old.gone.items) c.in-Some.ensures.items c.self.invariant in
-    let known = last_known n m c.pop.new.self.items e was.entries_are in
-    let some = some_gone n m c.pop.new.self.items e old.gone.items First known (ap is_held c.in-Deleted.is) known.from was.gone_are in
-    subst (λ (gs : List ℕ). 0 < slice_index_or gs (port_number n m First e.pair.kind e.pair.from) 0) (sym c.deref_mut-in-Deleted.ensures.value) some
-
-pub uncount_at_ports-requires-clause-second : goal.uncount_at_ports-requires-clause-second
-uncount_at_ports-requires-clause-second c =
-    let old = c.self.inside in
-    let n = old.inputs in
-    let m = old.outputs in
-    let e = c.in-Some.entry in
-    let was = subst (λ (l : List Entry). IsKept n m l old.pairs.items old.places.items old.holders.items old.gone.items) c.in-Some.ensures.items c.self.invariant in
-    let known = last_known n m c.pop.new.self.items e was.entries_are in
-    let some = some_gone n m c.pop.new.self.items e old.gone.items Second known (ap is_held c.in-Deleted.is) known.to was.gone_are in
-    subst (λ (gs : List ℕ). 0 < slice_index_or gs (port_number n m Second e.pair.kind e.pair.to) 0) (sym c.deref_mut-in-Deleted.ensures.value) some
 
 pub invariant_of-self-in-Deleted : goal.invariant_of-self-in-Deleted
 invariant_of-self-in-Deleted c =
