@@ -77,21 +77,12 @@ fn put_text(entry: &Record, out: &mut Vec<u8>) -> Result<(), AllocError>
 {
     match entry {
         Record::Header => out.extend_from_slice(b"npnp 1"),
-        Record::Fact(fact) => put_fact_text(fact, out),
+        Record::Fact(FactHead::Fails { claim, bits }) => put_fails_text(*claim, bits, out),
+        Record::Fact(FactHead::Holds { claim }) => put_holds_text(*claim, out),
         Record::Line(line) => put_log_text(line, out),
         Record::Ban(ban) => put_ban_text(ban, out),
         Record::Conclusion(conclusion) => put_conclusion(conclusion, out),
         Record::End => out.extend_from_slice(b"end"),
-    }
-}
-
-fn put_fact_text(fact: &FactHead, out: &mut Vec<u8>) -> Result<(), AllocError>
-    ensures text { OnOk result (out.new.items ≡ out.old.items ++ line_text (Record.Fact fact.now)) }
-    ensures writable { OnOk result (IsWritable (Record.Fact fact.now)) }
-{
-    match fact {
-        FactHead::Fails { claim, bits } => put_fails_text(*claim, bits, out),
-        FactHead::Holds { claim } => put_holds_text(*claim, out),
     }
 }
 
@@ -237,7 +228,10 @@ impl Spell for Option<u64> {
     ghost fits = { IsReference };
 
     fn put(&self, out: &mut Vec<u8>) -> Result<(), AllocError> {
-        put_reference(*self, out)
+        match self {
+            Some(ban) => put_number(*ban, out),
+            None => out.extend_from_slice(b" -"),
+        }
     }
 }
 
@@ -247,7 +241,11 @@ impl Spell for Pair {
     ghost fits = { HasPorts };
 
     fn put(&self, out: &mut Vec<u8>) -> Result<(), AllocError> {
-        put_pair(*self, out)
+        out.extend_from_slice(b" ")?;
+        put_kind(self.kind, out)?;
+        put_decimal(u64::from(self.from), out)?;
+        put_sign(self.flip, out)?;
+        put_decimal(u64::from(self.to), out)
     }
 }
 
@@ -364,16 +362,6 @@ fn put_port_kind(kind: PortKind, out: &mut Vec<u8>) -> Result<(), AllocError>
     }
 }
 
-fn put_reference(reference: Option<u64>, out: &mut Vec<u8>) -> Result<(), AllocError>
-    ensures number { IsReference reference }
-    ensures text { OnOk result (out.new.items ≡ out.old.items ++ 32 ∷ reference_word reference) }
-{
-    match reference {
-        Some(ban) => put_number(ban, out),
-        None => out.extend_from_slice(b" -"),
-    }
-}
-
 fn put_conclusion(conclusion: &Conclusion, out: &mut Vec<u8>) -> Result<(), AllocError>
     ensures writable { OnOk result (IsWritable (Record.Conclusion conclusion.now)) }
     ensures text { OnOk result (out.new.items ≡ out.old.items ++ line_text (Record.Conclusion conclusion.now)) }
@@ -389,17 +377,6 @@ fn put_conclusion(conclusion: &Conclusion, out: &mut Vec<u8>) -> Result<(), Allo
             put_list(pairs, out)
         }
     }
-}
-
-fn put_pair(pair: Pair, out: &mut Vec<u8>) -> Result<(), AllocError>
-    ensures ports { HasPorts pair }
-    ensures text { OnOk result (out.new.items ≡ out.old.items ++ 32 ∷ pair_word pair) }
-{
-    out.extend_from_slice(b" ")?;
-    put_kind(pair.kind, out)?;
-    put_decimal(u64::from(pair.from), out)?;
-    put_sign(pair.flip, out)?;
-    put_decimal(u64::from(pair.to), out)
 }
 
 fn put_kind(kind: PortKind, out: &mut Vec<u8>) -> Result<(), AllocError>

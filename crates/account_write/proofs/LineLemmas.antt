@@ -2,6 +2,7 @@
 use Rattle.std.proofs.Common.{◌≡◌, ℕ, ◌+◌, ◌<◌, ◌≤◌, ◌==◌, ◌&&◌, Bool, IsFalse, List, [], ◌∷◌, ◌++◌, length, map, All, Result, Ok, Err, OnOk, refl, sym, ap, subst, ◌∙◌, arith, append_assoc}
 use Rattle.std.specs.List.{flat_map}
 use Rattle.std.proofs.lemmas.Bool.{false≢true, and_from}
+use Rattle.std.proofs.lemmas.List.{nil_from_length}
 use Rattle.std.proofs.lemmas.List.Elements.{All-cons}
 use Rattle.cnf_core.specs.declared.log.Log.{Log}
 use Rattle.cnf_core.specs.declared.log.LogLine.{LogLine}
@@ -44,36 +45,25 @@ ban_first bans rest back one is = ap (λ bs. in_order [] [] [] [] bs back) is
 -- the same, where what comes before it is empty by its length
 
 pub line_next : (front : List Record) (log rest : List LogLine) (facts : List Fact) (logs : List Log) (bans : List Ban) (back : List Record) (one : LogLine) → length front ≡ 0 → log ≡ one ∷ rest → in_order front log facts logs bans back ≡ entry.Line one ∷ in_order front rest facts logs bans back
-line_next [] log rest facts logs bans back one none is = line_first log rest facts logs bans back one is
-line_next (x ∷ front) log rest facts logs bans back one none is = absurd (omega (arith, none))
+line_next front log rest facts logs bans back one none is = rw (nil_from_length front none) (line_first log rest facts logs bans back one is)
 
 pub fact_next : (front : List Record) (log lines : List LogLine) (facts rest : List Fact) (logs : List Log) (bans : List Ban) (back : List Record) (one : Fact) → length front ≡ 0 → length log ≡ 0 → facts ≡ one ∷ rest → lines ≡ log_lines one.evidence → in_order front log facts logs bans back ≡ head_of one.claim one.evidence ∷ in_order front lines rest logs bans back
-fact_next [] [] lines facts rest logs bans back one none no_line is of_log =
-    fact_first facts rest logs bans back one is ∙ ap (λ ls. head_of one.claim one.evidence ∷ in_order [] ls rest logs bans back) (sym of_log)
-fact_next [] (x ∷ log) lines facts rest logs bans back one none no_line is of_log = absurd (omega (arith, no_line))
-fact_next (x ∷ front) log lines facts rest logs bans back one none no_line is of_log = absurd (omega (arith, none))
+fact_next front log lines facts rest logs bans back one none no_line is of_log =
+    rw (nil_from_length front none, nil_from_length log no_line)
+    (fact_first facts rest logs bans back one is ∙ ap (λ ls. head_of one.claim one.evidence ∷ in_order [] ls rest logs bans back) (sym of_log))
 
 pub log_next : (front : List Record) (log lines : List LogLine) (facts : List Fact) (logs rest : List Log) (bans : List Ban) (back : List Record) (one : Log) → length front ≡ 0 → length log ≡ 0 → length facts ≡ 0 → logs ≡ one ∷ rest → lines ≡ one.lines → in_order front log facts logs bans back ≡ in_order front lines facts rest bans back
-log_next [] [] lines [] logs rest bans back one none no_line no_fact is of_log =
-    log_first logs rest bans back one is ∙ ap (λ ls. in_order [] ls [] rest bans back) (sym of_log)
-log_next [] [] lines (x ∷ facts) logs rest bans back one none no_line no_fact is of_log = absurd (omega (arith, no_fact))
-log_next [] (x ∷ log) lines facts logs rest bans back one none no_line no_fact is of_log = absurd (omega (arith, no_line))
-log_next (x ∷ front) log lines facts logs rest bans back one none no_line no_fact is of_log = absurd (omega (arith, none))
+log_next front log lines facts logs rest bans back one none no_line no_fact is of_log =
+    rw (nil_from_length front none, nil_from_length log no_line, nil_from_length facts no_fact)
+    (log_first logs rest bans back one is ∙ ap (λ ls. in_order [] ls [] rest bans back) (sym of_log))
 
 pub ban_next : (front : List Record) (log : List LogLine) (facts : List Fact) (logs : List Log) (bans rest : List Ban) (back : List Record) (one : Ban) → length front ≡ 0 → length log ≡ 0 → length facts ≡ 0 → length logs ≡ 0 → bans ≡ one ∷ rest → in_order front log facts logs bans back ≡ entry.Ban one ∷ in_order front log facts logs rest back
-ban_next [] [] [] [] bans rest back one none no_line no_fact no_log is = ban_first bans rest back one is
-ban_next [] [] [] (x ∷ logs) bans rest back one none no_line no_fact no_log is = absurd (omega (arith, no_log))
-ban_next [] [] (x ∷ facts) logs bans rest back one none no_line no_fact no_log is = absurd (omega (arith, no_fact))
-ban_next [] (x ∷ log) facts logs bans rest back one none no_line no_fact no_log is = absurd (omega (arith, no_line))
-ban_next (x ∷ front) log facts logs bans rest back one none no_line no_fact no_log is = absurd (omega (arith, none))
+ban_next front log facts logs bans rest back one none no_line no_fact no_log is =
+    rw (nil_from_length front none, nil_from_length log no_line, nil_from_length facts no_fact, nil_from_length logs no_log) (ban_first bans rest back one is)
 
 pub back_next : (front : List Record) (log : List LogLine) (facts : List Fact) (logs : List Log) (bans : List Ban) (back rest : List Record) (one : Record) → length front ≡ 0 → length log ≡ 0 → length facts ≡ 0 → length logs ≡ 0 → length bans ≡ 0 → back ≡ one ∷ rest → in_order front log facts logs bans back ≡ one ∷ in_order front log facts logs bans rest
-back_next [] [] [] [] [] back rest one none no_line no_fact no_log no_ban is = is
-back_next [] [] [] [] (x ∷ bans) back rest one none no_line no_fact no_log no_ban is = absurd (omega (arith, no_ban))
-back_next [] [] [] (x ∷ logs) bans back rest one none no_line no_fact no_log no_ban is = absurd (omega (arith, no_log))
-back_next [] [] (x ∷ facts) logs bans back rest one none no_line no_fact no_log no_ban is = absurd (omega (arith, no_fact))
-back_next [] (x ∷ log) facts logs bans back rest one none no_line no_fact no_log no_ban is = absurd (omega (arith, no_line))
-back_next (x ∷ front) log facts logs bans back rest one none no_line no_fact no_log no_ban is = absurd (omega (arith, none))
+back_next front log facts logs bans back rest one none no_line no_fact no_log no_ban is =
+    rw (nil_from_length front none, nil_from_length log no_line, nil_from_length facts no_fact, nil_from_length logs no_log, nil_from_length bans no_ban) is
 
 -- where one of the lists isn't empty a step is left
 

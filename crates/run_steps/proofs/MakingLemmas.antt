@@ -1,5 +1,5 @@
 -- Two texts written one after the other, and what a pair says of the words and the files.
-use Rattle.std.proofs.Common.{◌≡◌, ◌≢◌, ℕ, inl, inr, Bool, IsTrue, List, Option, Some, Result, Ok, Err, refl, sym, ◌∙◌, ap, subst, arith}
+use Rattle.std.proofs.Common.{◌≡◌, ◌≢◌, ℕ, inl, inr, Bool, IsTrue, List, Some, Result, Ok, Err, refl, sym, ◌∙◌, ap, subst, arith}
 use Rattle.circuits.proofs.MatchLaws.{match_from_functions}
 use Rattle.shelf_core.specs.State.{ShelfState, Closed}
 use Rattle.shelf_core.specs.declared.outside.ShelfStop.{ShelfStop}

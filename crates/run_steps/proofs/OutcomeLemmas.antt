@@ -1,5 +1,5 @@
 -- Outcomes by their kinds: what is so of each variant of a kind, and what an outcome of a kind isn't.
-use Rattle.std.proofs.Common.{◌≡◌, ◌≢◌, inl, inr, List, ℕ, sym, subst}
+use Rattle.std.proofs.Common.{◌≢◌, inl, inr, List, ℕ, sym, subst}
 use Rattle.circuits.specs.Matches.{HaveNpnpEqualFunctions, IsMatchOfFunctions}
 use Rattle.net_core.specs.Sides.{Graphs}
 use Rattle.net_core.specs.declared.matching.Matching.{Matching}
