@@ -2,14 +2,15 @@
 use Rattle.std.proofs.Common.{◌≡◌, ℕ, ◌+◌, ◌<◌, Bool, List, [], ◌∷◌, ◌++◌, length, map, All, Option, None, Some, refl, sym, ap, ◌∙◌, arith}
 use Rattle.std.specs.Prelude.{option_to_list}
 use Rattle.std.specs.List.{flat_map, range_with_len}
+use Rattle.std.specs.Option.{option_map}
 use Rattle.std.proofs.lemmas.List.FromFn.{get_or-map-range_with_len, map-range_with_len_more}
 use Rattle.std.proofs.lemmas.List.Elements.{All-cons, All-head, All-nil, All-tail}
 use Rattle.account_core.specs.declared.step.Ban.{Ban}
 use Rattle.account_core.specs.declared.step.Step.{Step}
 use Rattle.account_core.specs.declared.step.Step.TheVariants.{Vector, Mismatch, Tally, Cover}
 use Rattle.account_trim.specs.Names.{bans_named, facts_named}
-use Rattle.account_trim.specs.Numbered.{at, numbered, numbered_ban, referred}
-use Rattle.account_trim.specs.Trims.{new_numbers, number_of, reference_of, renumbered, renumbered_ban}
+use Rattle.account_trim.specs.Numbered.{at, numbered, numbered_ban}
+use Rattle.account_trim.specs.Trims.{new_numbers, number_of, renumbered, renumbered_ban}
 
 -- one number more
 pub new_more : (marks : List Bool) (i : ℕ) (numbers more : List ℕ) (next : ℕ) → next ≡ number_of marks i → numbers ≡ map (number_of marks) (range_with_len 0 i) → more ≡ numbers ++ next ∷ [] → more ≡ map (number_of marks) (range_with_len 0 (i + 1))
@@ -37,15 +38,15 @@ pub All-back : {X : Type 0} (P : X → Type 0) (xs ys : List X) → All P (xs ++
 All-back {X} P [] ys each = each
 All-back {X} P (x ∷ xs) ys each = All-back P xs ys (All-tail P x (xs ++ ys) each)
 
-referred_new : (marks : List Bool) (reference : Option ℕ) → All (λ k. k < length marks) (option_to_list reference) → referred (new_numbers marks) reference ≡ reference_of marks reference
+referred_new : (marks : List Bool) (reference : Option ℕ) → All (λ k. k < length marks) (option_to_list reference) → option_map (at (new_numbers marks)) reference ≡ option_map (number_of marks) reference
 referred_new marks None each = refl
 referred_new marks (Some k) each = ap Some (at_new marks k (All-head (λ k. k < length marks) k [] each))
 
-map_referred_new : (marks : List Bool) (references : List (Option ℕ)) → All (λ k. k < length marks) (flat_map option_to_list references) → map (referred (new_numbers marks)) references ≡ map (reference_of marks) references
+map_referred_new : (marks : List Bool) (references : List (Option ℕ)) → All (λ k. k < length marks) (flat_map option_to_list references) → map (option_map (at (new_numbers marks))) references ≡ map (option_map (number_of marks)) references
 map_referred_new marks [] each = refl
 map_referred_new marks (r ∷ references) each =
-    ap (λ n. n ∷ map (referred (new_numbers marks)) references) (referred_new marks r (All-front (λ k. k < length marks) (option_to_list r) (flat_map option_to_list references) each))
-    ∙ ap (λ ns. reference_of marks r ∷ ns) (map_referred_new marks references (All-back (λ k. k < length marks) (option_to_list r) (flat_map option_to_list references) each))
+    ap (λ n. n ∷ map (option_map (at (new_numbers marks))) references) (referred_new marks r (All-front (λ k. k < length marks) (option_to_list r) (flat_map option_to_list references) each))
+    ∙ ap (λ ns. option_map (number_of marks) r ∷ ns) (map_referred_new marks references (All-back (λ k. k < length marks) (option_to_list r) (flat_map option_to_list references) each))
 
 numbered_new : (facts bans : List Bool) (step : Step) → All (λ k. k < length facts) (facts_named step) → All (λ k. k < length bans) (bans_named step) → numbered (new_numbers facts) (new_numbers bans) step ≡ renumbered facts bans step
 numbered_new facts bans (Vector output values) there known = refl

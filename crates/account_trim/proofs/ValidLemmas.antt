@@ -2,8 +2,9 @@
 use Rattle.std.proofs.Common.{◌≡◌, ◌≢◌, ℕ, ◌<◌, inl, inr, Bool, true, false, List, [], ◌∷◌, length, map, take, All, Option, None, Some, slice_index_or, refl, sym, ap, subst, ◌∙◌, arith}
 use Rattle.std.specs.Prelude.{Contains, option_to_list}
 use Rattle.std.specs.List.{AllZip, flat_map}
+use Rattle.std.specs.Option.{option_map}
 use Rattle.std.proofs.lemmas.List.{get_or-map, get_or-take, length-map, length-take-le, take-map}
-use Rattle.std.proofs.lemmas.List.Elements.{All-append, All-cons, All-head, All-nil, All-tail, Contains-append_right}
+use Rattle.std.proofs.lemmas.List.Elements.{All-append, All-cons, All-head, All-map, All-nil, All-tail, Contains-append_right}
 use Rattle.circuits.specs.Literals.{EachAt, bit}
 use Rattle.circuits.specs.declared.port.Pair.{Pair}
 use Rattle.net_core.specs.Sides.{Graphs}
@@ -21,7 +22,7 @@ use Rattle.account_core.specs.Steps.{AreNamesKnown, AreValidBans, HasShown, IsVa
 use Rattle.account_core.specs.Tallies.{HaveShapes, LackShapes, SayOf, shapes_of}
 use Rattle.account_trim.specs.declared.trimming.Core.{Core}
 use Rattle.account_trim.specs.Names.{HasMarked, ReferBack, bans_named, facts_named}
-use Rattle.account_trim.specs.Trims.{IsTrimmed, kept, number_of, reference_of, renumbered, renumbered_ban}
+use Rattle.account_trim.specs.Trims.{IsTrimmed, kept, number_of, renumbered, renumbered_ban}
 use Rattle.account_trim.proofs.KeptLemmas.{All-kept, AllPairs-kept, kept_at, kept_below, kept_is, kept_take, number_of-take, place_of, IsPlace}
 use Rattle.account_trim.proofs.NumberLemmas.{All-back, All-front}
 
@@ -57,11 +58,7 @@ module _ (graphs : Graphs) (old new : Given) (facts bans : List Bool) where
 
   -- what holds of facts holds of them under the new numbers
   of_facts : (P : Decided → Type 0) (numbers : List ℕ) → All (CarriesFact old new facts) numbers → All (λ k. P (fact_at old k)) numbers → All (λ k. P (fact_at new k)) (map (number_of facts) numbers)
-  of_facts P [] carried each = All-nil (λ k. P (fact_at new k))
-  of_facts P (k ∷ numbers) carried each =
-      All-cons (λ k. P (fact_at new k)) (number_of facts k) (map (number_of facts) numbers)
-      (subst P (sym (All-head (CarriesFact old new facts) k numbers carried).1) (All-head (λ k. P (fact_at old k)) k numbers each))
-      (of_facts P numbers (All-tail (CarriesFact old new facts) k numbers carried) (All-tail (λ k. P (fact_at old k)) k numbers each))
+  of_facts P numbers carried each = All-map (λ k. P (fact_at new k)) (number_of facts) numbers (λ i d below. subst P (sym (carried i d below).1) (each i d below))
 
   says : (numbers : List ℕ) (holds : Bool) (side : Side) (output : ℕ) → All (CarriesFact old new facts) numbers → SayOf old numbers holds side output → SayOf new (map (number_of facts) numbers) holds side output
   says numbers holds side output carried is = record {
@@ -71,19 +68,15 @@ module _ (graphs : Graphs) (old new : Given) (facts bans : List Bool) where
   }
 
   facts_there : (numbers : List ℕ) → All (CarriesFact old new facts) numbers → All (λ k. k < length new.facts) (map (number_of facts) numbers)
-  facts_there [] each = All-nil (λ k. k < length new.facts)
-  facts_there (k ∷ numbers) each =
-      All-cons (λ k. k < length new.facts) (number_of facts k) (map (number_of facts) numbers)
-      (All-head (CarriesFact old new facts) k numbers each).0
-      (facts_there numbers (All-tail (CarriesFact old new facts) k numbers each))
+  facts_there numbers each = All-map (λ k. k < length new.facts) (number_of facts) numbers (λ i d below. (each i d below).0)
 
   -- references
 
-  refers : (pairs : List Pair) (pair : Pair) (reference : Option ℕ) → All (CarriesBan old new bans) (option_to_list reference) → IsReference old pairs pair reference → IsReference new pairs pair (reference_of bans reference)
+  refers : (pairs : List Pair) (pair : Pair) (reference : Option ℕ) → All (CarriesBan old new bans) (option_to_list reference) → IsReference old pairs pair reference → IsReference new pairs pair (option_map (number_of bans) reference)
   refers pairs pair None carried is = is
   refers pairs pair (Some k) carried is = (is.0, subst (All (Contains (pair ∷ pairs))) (sym (All-head (CarriesBan old new bans) k [] carried).1) is.1)
 
-  all_refer : (pairs : List Pair) (places : List Pair) (references : List (Option ℕ)) → All (CarriesBan old new bans) (flat_map option_to_list references) → AllZip (IsReference old pairs) places references → AllZip (IsReference new pairs) places (map (reference_of bans) references)
+  all_refer : (pairs : List Pair) (places : List Pair) (references : List (Option ℕ)) → All (CarriesBan old new bans) (flat_map option_to_list references) → AllZip (IsReference old pairs) places references → AllZip (IsReference new pairs) places (map (option_map (number_of bans)) references)
   all_refer pairs [] [] carried each = each
   all_refer pairs [] (r ∷ references) carried each = absurd each
   all_refer pairs (place ∷ places) [] carried each = absurd each
@@ -92,17 +85,17 @@ module _ (graphs : Graphs) (old new : Given) (facts bans : List Bool) where
     all_refer pairs places references (All-back (CarriesBan old new bans) (option_to_list r) (flat_map option_to_list references) carried) each.1,
   )
 
-  bans_there : (references : List (Option ℕ)) → All (CarriesBan old new bans) (flat_map option_to_list references) → All (λ (r : Option ℕ). (k : ℕ) → r ≡ Some k → k < length new.bans) (map (reference_of bans) references)
+  bans_there : (references : List (Option ℕ)) → All (CarriesBan old new bans) (flat_map option_to_list references) → All (λ (r : Option ℕ). (k : ℕ) → r ≡ Some k → k < length new.bans) (map (option_map (number_of bans)) references)
   bans_there [] carried = All-nil (λ (r : Option ℕ). (k : ℕ) → r ≡ Some k → k < length new.bans)
   bans_there (r ∷ references) carried =
-      All-cons (λ (r : Option ℕ). (k : ℕ) → r ≡ Some k → k < length new.bans) (reference_of bans r) (map (reference_of bans) references)
+      All-cons (λ (r : Option ℕ). (k : ℕ) → r ≡ Some k → k < length new.bans) (option_map (number_of bans) r) (map (option_map (number_of bans)) references)
       (first r (All-front (CarriesBan old new bans) (option_to_list r) (flat_map option_to_list references) carried))
       (bans_there references (All-back (CarriesBan old new bans) (option_to_list r) (flat_map option_to_list references) carried))
     where
       some_same : (n m : ℕ) → Some n ≡ Some m → n ≡ m
       some_same n m e = cc
 
-      first : (r : Option ℕ) → All (CarriesBan old new bans) (option_to_list r) → (k : ℕ) → reference_of bans r ≡ Some k → k < length new.bans
+      first : (r : Option ℕ) → All (CarriesBan old new bans) (option_to_list r) → (k : ℕ) → option_map (number_of bans) r ≡ Some k → k < length new.bans
       first None each k is = cc
       first (Some j) each k is = subst (λ n. n < length new.bans) (some_same (number_of bans j) k is) (All-head (CarriesBan old new bans) j [] each).0
 
@@ -131,7 +124,7 @@ module _ (graphs : Graphs) (old new : Given) (facts bans : List Bool) where
       names (Cover kind from to refs) carries known = record {
         first_ports = known.first_ports;
         second_ports = known.second_ports;
-        given_bans = contained_there (map (reference_of bans) refs) (bans_there refs carries.bans_are);
+        given_bans = contained_there (map (option_map (number_of bans)) refs) (bans_there refs carries.bans_are);
       }
 
       rule : (step : Step) → Carries old new facts bans step → KeepsRule graphs old ban.pairs step → KeepsRule graphs new ban.pairs (renumbered facts bans step)

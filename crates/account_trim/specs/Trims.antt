@@ -1,11 +1,11 @@
 -- Facts and bans without those that a conclusion doesn't rest on, numbered anew.
-use Rattle.std.specs.Prelude.{◌≡◌, ℕ, zero, suc, Bool, true, false, List, [], ◌∷◌, length, map, Option, None, Some}
+use Rattle.std.specs.Prelude.{◌≡◌, ℕ, zero, suc, Bool, true, false, List, [], ◌∷◌, length, map}
 use Rattle.std.specs.List.{range_with_len}
 use Rattle.account_core.specs.declared.fact.Fact.{Fact}
 use Rattle.account_core.specs.declared.step.Ban.{Ban}
 use Rattle.account_core.specs.declared.step.Step.{Step}
-use Rattle.account_core.specs.declared.step.Step.TheVariants.{Vector, Mismatch, Tally, Cover}
 use Rattle.account_trim.specs.Names.{IsNeeded}
+use Rattle.account_trim.specs.Numbered.{step_by}
 use Rattle.account_trim.specs.declared.trimming.Core.{Core}
 
 -- those of a list that are marked
@@ -26,16 +26,9 @@ number_of (false ∷ marks) (suc k) = number_of marks k
 abbrev pub new_numbers : List Bool → List ℕ
 new_numbers marks = map (number_of marks) (range_with_len 0 (length marks))
 
-abbrev pub reference_of : List Bool → Option ℕ → Option ℕ
-reference_of marks None = None
-reference_of marks (Some k) = Some (number_of marks k)
-
 -- a step whose facts and bans have their new numbers
 abbrev pub renumbered : List Bool → List Bool → Step → Step
-renumbered facts bans (Vector output values) = Vector output values
-renumbered facts bans (Mismatch fails holds) = Mismatch (number_of facts fails) (number_of facts holds)
-renumbered facts bans (Tally kind have lack) = Tally kind (map (number_of facts) have) (map (number_of facts) lack)
-renumbered facts bans (Cover kind from to refs) = Cover kind from to (map (reference_of bans) refs)
+renumbered facts bans step = step_by (number_of facts) (number_of bans) step
 
 abbrev pub renumbered_ban : List Bool → List Bool → Ban → Ban
 renumbered_ban facts bans ban = record { pairs = ban.pairs; step = renumbered facts bans ban.step }

@@ -2,8 +2,9 @@
 
 ghost use Rattle.std.specs.Prelude.{◌≡◌, ◌<◌, All, length, map, option_to_list};
 ghost use Rattle.std.specs.List.{flat_map};
+ghost use Rattle.std.specs.Option.{option_map};
 ghost use Rattle.account_trim.specs.Names.{bans_named, facts_named};
-ghost use Rattle.account_trim.specs.Numbered.{at, numbered, numbered_ban, referred};
+ghost use Rattle.account_trim.specs.Numbered.{at, numbered, numbered_ban};
 
 use crate::numbering::Numbers;
 use account_core::{Ban, Step};
@@ -63,7 +64,7 @@ fn put_numbers(list: &mut Items<u64>, numbers: &[u64])
 // Puts references by the new numbers in place of those by the old ones.
 fn put_references(list: &mut Items<Option<u64>>, numbers: &[u64])
     requires { All (λ k. k < length numbers.now) (flat_map option_to_list list.old) }
-    ensures { list.new ≡ map (referred numbers.now) list.old }
+    ensures { list.new ≡ map (option_map (at numbers.now)) list.old }
 {
     for place in 0..list.len() {
         let reference = referred(list[place], numbers);
@@ -73,7 +74,7 @@ fn put_references(list: &mut Items<Option<u64>>, numbers: &[u64])
 
 fn referred(reference: Option<u64>, numbers: &[u64]) -> Option<u64>
     requires { All (λ k. k < length numbers.now) (option_to_list reference) }
-    ensures { result ≡ referred numbers.now reference }
+    ensures { result ≡ option_map (at numbers.now) reference }
 {
     let place = reference?;
     Some(numbers[place as usize])

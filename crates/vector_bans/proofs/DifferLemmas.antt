@@ -1,5 +1,5 @@
 -- A vector on which an output differs from its partner shows it on the pairs of all inputs.
-use Rattle.std.proofs.Common.{◌≡◌, ◌≢◌, ◌⊎◌, ℕ, ◌<◌, Bool, false, List, [], ◌∷◌, ◌++◌, length, map, get_or, All, Some, refl, sym, ap, subst, ◌∙◌, inl, inr, arith}
+use Rattle.std.proofs.Common.{◌≡◌, ◌⊎◌, ℕ, ◌<◌, Bool, false, List, [], ◌∷◌, ◌++◌, length, map, get_or, All, Some, refl, sym, ap, subst, ◌∙◌, inl, inr, arith}
 use Rattle.std.specs.Prelude.{Contains, IsSome}
 use Rattle.std.proofs.lemmas.List.{length-map, get_or-map}
 use Rattle.std.proofs.lemmas.List.Elements.{All-contains, All-push, All-contains_itself, Contains-get_or, Contains-push, Contains-push_cases, Contains-append_left}
@@ -32,6 +32,7 @@ use Rattle.port_covers.specs.Held.{IsOf, IsWhole}
 use Rattle.vector_bans.specs.Differences.{of_bit, pair_from, pairs_from, IsShown}
 use Rattle.port_covers.proofs.ListLemmas.{contained_of_any}
 use Rattle.claim_rows.proofs.MismatchLemmas.{pair_of-one}
+use Rattle.vector_bans.proofs.ShownLemmas.{input_output}
 use Rattle.vector_bans.proofs.DefiniteLemmas.{of_differ, of_bit_definite, of_bit_same, of_output}
 
 -- two pairs of a port that a matching has are one
@@ -83,9 +84,6 @@ module _ (graphs : Graphs) (matching : Matching) (output : ℕ) (ports : HavePor
         ascending = λ e. less;
         apart = λ e same. ports.inputs.distinct i j (0, false) less here same;
       }))
-
-  input_output : Input ≢ Output
-  input_output e = cc
 
   whole_ordered : AreOrdered whole
   whole_ordered =

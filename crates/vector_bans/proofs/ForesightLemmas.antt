@@ -1,5 +1,5 @@
 -- A vector on which a held output's partner is wrong.
-use Rattle.std.proofs.Common.{◌≡◌, ◌≢◌, ◌⊎◌, ◌<◌, Bool, List, [], ◌∷◌, ◌++◌, length, map, get_or, All, refl, sym, subst, ◌∙◌, inl, inr, arith}
+use Rattle.std.proofs.Common.{◌≡◌, ◌⊎◌, Bool, List, [], ◌∷◌, ◌++◌, length, map, get_or, All, refl, sym, subst, ◌∙◌, inl, inr, arith}
 use Rattle.std.specs.Prelude.{Contains}
 use Rattle.std.proofs.lemmas.List.{length-map}
 use Rattle.std.proofs.lemmas.List.Elements.{All-contains, All-contains_itself, All-nil, All-push, Contains-push}
@@ -8,20 +8,15 @@ use Rattle.circuits.specs.declared.port.Pair.{Pair}
 use Rattle.circuits.specs.declared.port.PortKind.TheVariants.{Input, Output}
 use Rattle.net_core.specs.Sides.{Graphs}
 use Rattle.net_core.specs.Graph.{IsGraph}
-use Rattle.account_core.specs.Ports.{ports_in, AreOrdered, IsKnown, StandInOrder}
+use Rattle.account_core.specs.Ports.{AreOrdered, StandInOrder}
 use Rattle.word_sim.specs.declared.tri.Tri.{Tri}
 use Rattle.port_covers.specs.Held.{AreHeld, IsPart}
 use Rattle.claim_rows.specs.Rows.{HasOneOutput}
 use Rattle.vector_bans.specs.Differences.{of_bit, AreHeldInputs, IsShown, IsWrong}
 use Rattle.vector_bans.proofs.DefiniteLemmas.{of_bit_definite, of_output}
 use Rattle.port_covers.proofs.BookLemmas.{part_known}
-
--- the ports of a held pair
-pub held_known : (graphs : Graphs) (held : List Pair) (pair : Pair) → AreHeld graphs held → Contains held pair → IsKnown graphs pair
-held_known graphs held pair are there = All-contains (IsKnown graphs) held pair are.known there
-
-pub output_there : (graphs : Graphs) (held : List Pair) (pair : Pair) → AreHeld graphs held → Contains held pair → pair.kind ≡ Output → pair.from < length graphs.first.outputs
-output_there graphs held pair are there kind = subst (λ k. pair.from < ports_in graphs.first k) kind (held_known graphs held pair are there).from
+use Rattle.vector_bans.proofs.ResortLemmas.{first_there}
+use Rattle.vector_bans.proofs.ShownLemmas.{input_output}
 
 -- held pairs of inputs, and one of an output that a vector shows to be wrong
 pub shown_held : (graphs : Graphs) (held pairs : List Pair) (pair : Pair) (x : List Bool) (values : List Tri) → AreHeld graphs held → IsGraph graphs.first → IsPart held pairs → Contains held pair → HasOneOutput pairs pair → length x ≡ graphs.first.inputs → values ≡ map of_bit x → IsWrong graphs pairs pair values → IsShown graphs pairs pair values pairs
@@ -32,7 +27,7 @@ shown_held graphs held pairs pair x values are first part there output size valu
       known = part_known graphs held pairs are part;
       output = output;
       places = length-map x of_bit ∙ size;
-      definite = λ e. of_bit_definite _ (sym (of_output graphs.first x pair.from first.ordered size (output_there graphs held pair are there output.of_output)) ∙ e);
+      definite = λ e. of_bit_definite _ (sym (of_output graphs.first x pair.from first.ordered size (first_there graphs pairs pair (part_known graphs held pairs are part) output)) ∙ e);
       wrong = subst (IsWrong graphs pairs pair) values_are wrong;
     })
 
@@ -54,9 +49,6 @@ inputs_more held pairs after pair are there kind ordered only = record {
     input_one : (other : Pair) → Contains pairs other ⊎ (other ≡ pair) → other.kind ≡ Input
     input_one other (inl before) = All-contains (λ (p : Pair). p.kind ≡ Input) pairs other are.inputs before
     input_one other (inr same) = subst (λ (p : Pair). p.kind ≡ Input) (sym same) kind
-
-input_output : Input ≢ Output
-input_output e = cc
 
 -- and the pair of an output after them
 module _ (held pairs : List Pair) (pair : Pair) (are : AreHeldInputs held pairs) (there : Contains held pair) (kind : pair.kind ≡ Output) where

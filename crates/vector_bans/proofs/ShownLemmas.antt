@@ -13,11 +13,6 @@ use Rattle.account_core.specs.Ports.{IsKnown, AreOrdered, StandInOrder}
 use Rattle.port_covers.proofs.ListLemmas.{among_more}
 use Rattle.vector_bans.specs.Differences.{IsLeftOut, IsShown}
 
--- The values show the difference on the pairs that are left, before a place of which none was looked at.
-pub record IsLeaving (graphs : Graphs) (whole : List Pair) (pair : Pair) (values : List Tri) (pairs : List Pair) (place : ℕ) : Type 0 where
-  pub shown : IsShown graphs whole pair values pairs
-  pub within : place ≤ length pairs
-
 all_but : (P : Pair → Type 0) (pairs : List Pair) (place : ℕ) → All P pairs → All P (remove pairs place)
 all_but P pairs place all = All-append P (take place pairs) (drop (suc place) pairs) (All-take P place pairs all) (All-drop P (suc place) pairs all)
 
@@ -36,8 +31,8 @@ stays pairs place pair within held apart =
     later : (k : ℕ) → held.0 ≡ k + 1 → place ≤ k → Contains (remove pairs place) pair
     later k is past = (k, omega (arith, held.1, is, size), get_or-remove_above pairs place pair k past within ∙ (ap (λ n. get_or pairs n pair) (sym is) ∙ held.2))
 
-input_not_output : Input ≢ Output
-input_not_output e = cc
+pub input_output : Input ≢ Output
+input_output e = cc
 
 pub shown_less : (graphs : Graphs) (whole : List Pair) (pair : Pair) (values : List Tri) (pairs : List Pair) (place : ℕ) (fewer : List Pair) → place < length pairs → IsShown graphs whole pair values pairs → IsLeftOut graphs pair values pairs place fewer → IsShown graphs whole pair values fewer
 shown_less graphs whole pair values pairs place fewer within shown out = record {
@@ -45,7 +40,7 @@ shown_less graphs whole pair values pairs place fewer within shown out = record 
   ordered = subst AreOrdered (sym out.fewer_is) (all_pairs_remove StandInOrder pairs place within shown.ordered);
   known = subst (All (IsKnown graphs)) (sym out.fewer_is) (all_but (IsKnown graphs) pairs place shown.known);
   output = record {
-    has = subst (λ l. Contains l pair) (sym out.fewer_is) (stays pairs place pair within shown.output.has (λ same. input_not_output (sym (out.input pair) ∙ (ap (λ n. (get_or pairs n pair).kind) (sym same) ∙ (ap (λ (p : Pair). p.kind) shown.output.has.2 ∙ shown.output.of_output)))));
+    has = subst (λ l. Contains l pair) (sym out.fewer_is) (stays pairs place pair within shown.output.has (λ same. input_output (sym (out.input pair) ∙ (ap (λ n. (get_or pairs n pair).kind) (sym same) ∙ (ap (λ (p : Pair). p.kind) shown.output.has.2 ∙ shown.output.of_output)))));
     of_output = shown.output.of_output;
     only = subst (All (λ (other : Pair). other.kind ≡ Output → other ≡ pair)) (sym out.fewer_is) (all_but (λ (other : Pair). other.kind ≡ Output → other ≡ pair) pairs place shown.output.only);
   };
@@ -54,13 +49,10 @@ shown_less graphs whole pair values pairs place fewer within shown out = record 
   wrong = out.wrong;
 }
 
-pub left_long : (pairs : List Pair) (place : ℕ) (fewer : List Pair) → place < length pairs → fewer ≡ remove pairs place → place ≤ length fewer
-left_long pairs place fewer within is = omega (arith, ap length is, length-remove pairs place within, within)
-
--- what some pairs show that are among others they show of these
-pub shown_among : (graphs : Graphs) (some others : List Pair) (pair : Pair) (values : List Tri) (pairs : List Pair) → All (Contains others) some → IsShown graphs some pair values pairs → IsShown graphs others pair values pairs
-shown_among graphs some others pair values pairs among shown = record {
-  among = among_more pairs some others shown.among among;
+-- pairs show the same among any others that have them
+shown_in : (graphs : Graphs) (some others : List Pair) (pair : Pair) (values : List Tri) (pairs : List Pair) → All (Contains others) pairs → IsShown graphs some pair values pairs → IsShown graphs others pair values pairs
+shown_in graphs some others pair values pairs among shown = record {
+  among = among;
   ordered = shown.ordered;
   known = shown.known;
   output = shown.output;
@@ -71,15 +63,7 @@ shown_among graphs some others pair values pairs among shown = record {
 
 -- and of themselves
 pub shown_itself : (graphs : Graphs) (whole : List Pair) (pair : Pair) (values : List Tri) (pairs : List Pair) → IsShown graphs whole pair values pairs → IsShown graphs pairs pair values pairs
-shown_itself graphs whole pair values pairs shown = record {
-  among = All-contains_itself pairs;
-  ordered = shown.ordered;
-  known = shown.known;
-  output = shown.output;
-  places = shown.places;
-  definite = shown.definite;
-  wrong = shown.wrong;
-}
+shown_itself graphs whole pair values pairs shown = shown_in graphs whole pairs pair values pairs (All-contains_itself pairs) shown
 
 -- what is made of them shows the same
 pub shown_made : (graphs : Graphs) (whole pairs made : List Pair) (pair : Pair) (values taken : List Tri) → made ≡ pairs → values ≡ taken → IsShown graphs whole pair values pairs → IsShown graphs made pair taken made
@@ -88,4 +72,4 @@ shown_made graphs whole pairs made pair values taken made_is values_is shown =
 
 pub shown_made_among : (graphs : Graphs) (held whole pairs made : List Pair) (pair : Pair) (values taken : List Tri) → made ≡ pairs → values ≡ taken → All (Contains held) whole → IsShown graphs whole pair values pairs → IsShown graphs held pair taken made
 shown_made_among graphs held whole pairs made pair values taken made_is values_is among shown =
-    subst (λ (v : List Tri). IsShown graphs held pair v made) values_is (subst (IsShown graphs held pair values) (sym made_is) (shown_among graphs whole held pair values pairs among shown))
+    subst (λ (v : List Tri). IsShown graphs held pair v made) values_is (subst (IsShown graphs held pair values) (sym made_is) (shown_in graphs whole held pair values pairs (among_more pairs whole held shown.among among) shown))

@@ -1,5 +1,5 @@
 -- Vectors on which an output differs from its partner, as values of a ban (three values: Eichelberger, IBM J. Res. Dev. 1965).
-use Rattle.std.specs.Prelude.{◌≡◌, ◌≢◌, ℕ, Bool, true, false, List, length, map, remove, All, Contains, slice_index_or}
+use Rattle.std.specs.Prelude.{◌≡◌, ◌≢◌, ◌<◌, ℕ, Bool, true, false, List, length, map, remove, All, Contains, slice_index_or}
 use Rattle.std.specs.List.{range_with_len}
 use Rattle.circuits.specs.Bijections.{place_of, sign_of}
 use Rattle.circuits.specs.declared.port.Pair.{Pair}
@@ -27,6 +27,15 @@ pair_from kind entries port = record { kind = kind; from = port; to = place_of e
 pub record IsWrong (graphs : Graphs) (pairs : List Pair) (pair : Pair) (values : List Tri) : Type 0 where
   pub definite : second_value graphs pairs values pair.to ≢ X
   pub differ : first_value graphs values pair.from ≢ signed pair.flip (second_value graphs pairs values pair.to)
+
+-- It may be tried whether an output's partner is wrong on pairs of ports that are there, in order, and these values, by which the
+-- output has this one.
+pub record MayTry (graphs : Graphs) (pairs : List Pair) (pair : Pair) (values : List Tri) (first : Tri) : Type 0 where
+  pub ordered : AreOrdered pairs
+  pub known : All (IsKnown graphs) pairs
+  pub output : pair.to < length graphs.second.outputs
+  pub places : length values ≡ graphs.first.inputs
+  pub first_is : first ≡ first_value graphs values pair.from
 
 -- Some of the pairs, in order, among them one of outputs, on which values show that the output differs from its partner.
 pub record IsShown (graphs : Graphs) (whole : List Pair) (pair : Pair) (values : List Tri) (pairs : List Pair) : Type 0 where

@@ -8,10 +8,10 @@ ghost use Rattle.circuits.specs.Matches.{HavePorts};
 ghost use Rattle.query_core.specs.Images.{Extends};
 ghost use Rattle.oracle_core.specs.Oracles.{IsDifference};
 ghost use Rattle.account_core.specs.Ports.{AreOrdered, IsKnown};
-ghost use Rattle.account_core.specs.Vectors.{first_value, signed, value_at, values_sent};
+ghost use Rattle.account_core.specs.Vectors.{signed, value_at, values_sent};
 ghost use Rattle.ban_book.specs.Covering.{Covers};
 ghost use Rattle.word_sim.specs.ThreeValues.{tri_outputs};
-ghost use Rattle.vector_bans.specs.Differences.{of_bit, pair_from, pairs_from, AreShown, IsLeftOut, IsShown, IsWrong};
+ghost use Rattle.vector_bans.specs.Differences.{of_bit, pair_from, pairs_from, AreShown, IsLeftOut, IsShown, IsWrong, MayTry};
 ghost use Rattle.port_covers.specs.Held.{IsWhole};
 ghost use Rattle.fact_bans.specs.Serving.{HoldsBans, MayHold};
 
@@ -92,8 +92,9 @@ fn difference(
     let _second = graphs.second();
     let values = definite(alloc, vector)?;
     let pair = pair_from(PortKind::Output, &matching.outputs, output);
+    let order = inputs_and(alloc, matching, pair)?;
     let whole = inputs_and(alloc, matching, pair)?;
-    let pairs = leave_out(alloc, graphs, whole, pair, &values)?;
+    let pairs = leave_out(alloc, graphs, &order, whole, pair, &values)?;
     let pairs = Items::from_vec(pairs);
     Ok(Shown {
         pair,
@@ -146,10 +147,12 @@ fn inputs_and(alloc: Global, matching: &Matching, pair: Pair) -> Result<Vec<Pair
     Ok(pairs)
 }
 
-/// Leaves out each input's pair without which the values show the difference too.
+/// Leaves out each input's pair without which the values show the difference too, first the last ones of some order. Where that is
+/// the order in which pairs were held, what is left leads further back.
 pub(crate) fn leave_out(
     alloc: Global,
     graphs: &PairableGraphs<'_>,
+    order: &[Pair],
     whole: Vec<Pair>,
     pair: Pair,
     values: &[Tri],
@@ -160,34 +163,10 @@ pub(crate) fn leave_out(
 {
     let first = output_value(alloc, graphs.first(), values, pair.from)?;
     let mut pairs = whole;
-    let mut place = pairs.len();
-    while place > 0 {
-        place -= 1;
-        pairs = without_needless(alloc, graphs, pairs, place, pair, values, first)?;
-    }
-    Ok(pairs)
-}
-
-/// Leaves out each input's pair without which the values show the difference too, first those that were held last: what a ban has
-/// of the earlier ones leads further back.
-pub(crate) fn leave_out_latest(
-    alloc: Global,
-    graphs: &PairableGraphs<'_>,
-    held: &[Pair],
-    whole: Vec<Pair>,
-    pair: Pair,
-    values: &[Tri],
-) -> Result<Vec<Pair>, AllocError>
-    requires known { IsKnown graphs.now pair }
-    requires shown { IsShown graphs.now whole.items pair values.now whole.items }
-    ensures { IfOk result (λ pairs. IsShown graphs.now whole.items pair values.now pairs.items) }
-{
-    let first = output_value(alloc, graphs.first(), values, pair.from)?;
-    let mut pairs = whole;
-    let mut left = held.len();
+    let mut left = order.len();
     while left > 0 {
         left -= 1;
-        pairs = without_one(alloc, graphs, pairs, held[left], pair, values, first)?;
+        pairs = without_one(alloc, graphs, pairs, order[left], pair, values, first)?;
     }
     Ok(pairs)
 }
@@ -202,19 +181,17 @@ fn without_one(
     values: &[Tri],
     first: Tri,
 ) -> Result<Vec<Pair>, AllocError>
-    requires ordered { AreOrdered pairs.items }
-    requires known { All (IsKnown graphs.now) pairs.items }
-    requires output { pair.to < length graphs.now.second.outputs }
-    requires values { length values.now ≡ graphs.now.first.inputs }
-    requires first { first ≡ first_value graphs.now values.now pair.from }
+    requires may { MayTry graphs.now pairs.items pair values.now first }
     ensures { (whole : List AnyPair) → IsShown graphs.now whole pair values.now pairs.items
         → IfOk result (λ fewer. IsShown graphs.now whole pair values.now fewer.items) }
 {
     let Some(place) = place_of(&pairs, other) else {
         return Ok(pairs);
     };
-    let fewer = without_needless(alloc, graphs, pairs, place, pair, values, first)?;
-    Ok(fewer)
+    match without(alloc, graphs, &pairs, place, pair, values, first)? {
+        Some(fewer) => Ok(fewer),
+        None => Ok(pairs),
+    }
 }
 
 // Where a pair stands among some.
@@ -229,32 +206,6 @@ fn place_of(pairs: &[Pair], pair: Pair) -> Option<usize>
     None
 }
 
-// The pairs, without that at a place where the difference doesn't need it.
-fn without_needless(
-    alloc: Global,
-    graphs: &PairableGraphs<'_>,
-    pairs: Vec<Pair>,
-    place: usize,
-    pair: Pair,
-    values: &[Tri],
-    first: Tri,
-) -> Result<Vec<Pair>, AllocError>
-    requires place { place < length pairs.items }
-    requires ordered { AreOrdered pairs.items }
-    requires known { All (IsKnown graphs.now) pairs.items }
-    requires output { pair.to < length graphs.now.second.outputs }
-    requires values { length values.now ≡ graphs.now.first.inputs }
-    requires first { first ≡ first_value graphs.now values.now pair.from }
-    ensures shown { (whole : List AnyPair) → IsShown graphs.now whole pair values.now pairs.items
-        → IfOk result (λ fewer. IsShown graphs.now whole pair values.now fewer.items) }
-    ensures length { IfOk result (λ fewer. place ≤ length fewer.items) }
-{
-    match without(alloc, graphs, &pairs, place, pair, values, first)? {
-        Some(fewer) => Ok(fewer),
-        None => Ok(pairs),
-    }
-}
-
 // The pairs without that at a place, where it is of an input and the values show the difference without it.
 fn without(
     alloc: Global,
@@ -266,11 +217,7 @@ fn without(
     first: Tri,
 ) -> Result<Option<Vec<Pair>>, AllocError>
     requires place { place < length pairs.now }
-    requires ordered { AreOrdered pairs.now }
-    requires known { All (IsKnown graphs.now) pairs.now }
-    requires output { pair.to < length graphs.now.second.outputs }
-    requires values { length values.now ≡ graphs.now.first.inputs }
-    requires first { first ≡ first_value graphs.now values.now pair.from }
+    requires may { MayTry graphs.now pairs.now pair values.now first }
     ensures { IfOk result (λ found. IfSome found
         (λ fewer. IsLeftOut graphs.now pair values.now pairs.now place fewer.items)) }
 {
@@ -303,11 +250,7 @@ pub(crate) fn is_wrong(
     values: &[Tri],
     first: Tri,
 ) -> Result<bool, AllocError>
-    requires ordered { AreOrdered pairs.now }
-    requires known { All (IsKnown graphs.now) pairs.now }
-    requires output { pair.to < length graphs.now.second.outputs }
-    requires values { length values.now ≡ graphs.now.first.inputs }
-    requires first { first ≡ first_value graphs.now values.now pair.from }
+    requires may { MayTry graphs.now pairs.now pair values.now first }
     ensures { IfOk result (λ wrong. IsTrue wrong ↔ IsWrong graphs.now pairs.now pair values.now) }
 {
     let second = graphs.second();

@@ -9,7 +9,7 @@ ghost use Rattle.table_guess.specs.Trials.{AreTrials, IsSuspect};
 ghost use Rattle.claim_rows.specs.Rows.{HasOneOutput};
 ghost use Rattle.vector_bans.specs.Differences.{AreHeldInputs, AreShown};
 
-use crate::difference::{Shown, definite, is_wrong, leave_out_latest, output_value};
+use crate::difference::{Shown, definite, is_wrong, leave_out, output_value};
 use crate::last_resort::hold_shown;
 use ban_book::BanBook;
 use circuits::{Pair, PortKind};
@@ -91,7 +91,7 @@ fn wrong_pairs(
     if !is_wrong(alloc, graphs, &pairs, pair, &values, first)? {
         return Ok(None);
     }
-    let pairs = leave_out_latest(alloc, graphs, held, pairs, pair, &values)?;
+    let pairs = leave_out(alloc, graphs, held, pairs, pair, &values)?;
     let pairs = Items::from_vec(pairs);
     Ok(Some(Shown {
         pair,

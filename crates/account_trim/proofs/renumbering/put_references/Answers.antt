@@ -2,7 +2,8 @@
 use Rattle.std.proofs.Common.{◌≡◌, ◌<◌, ◌∙◌, All, Option, ℕ, length, slice_index_or, slice_set, ap, sym, subst, arith}
 use Rattle.std.specs.Prelude.{option_to_list}
 use Rattle.std.proofs.lemmas.List.Edits.{map_over_more}
-use Rattle.account_trim.specs.Numbered.{referred}
+use Rattle.std.specs.Option.{option_map}
+use Rattle.account_trim.specs.Numbered.{at}
 use Rattle.account_trim.proofs.MarkLemmas.{referred_below}
 use Rattle.account_trim.proofs.NumberedLemmas.{over_at}
 use Rattle.account_trim.proofs.renumbering.put_references.Goals as goal
@@ -14,7 +15,7 @@ referred-reference-requires c =
     let reference = c.index.result.now in
     let numbers = c.args.numbers.now in
     let below : place < length old = omega (arith, c.loop-place-test.true, c.len-place-end.ensures) in
-    let was : reference ≡ slice_index_or old place reference = c.index.ensures ∙ over_at (referred numbers) old c.loop-place.list place reference below c.loop-place.invariant in
+    let was : reference ≡ slice_index_or old place reference = c.index.ensures ∙ over_at (option_map (at numbers)) old c.loop-place.list place reference below c.loop-place.invariant in
     subst (λ (r : Option ℕ). All (λ k. k < length numbers) (option_to_list r)) (sym was) (referred_below (λ k. k < length numbers) old place reference below c.requires)
 
 pub loop-place-preserved : goal.loop-place-preserved
@@ -24,4 +25,4 @@ loop-place-preserved c =
     let below : place < length old = omega (arith, c.loop-place-test.true, c.len-place-end.ensures) in
     c.set.ensures
     ∙ (ap (λ (r : Option ℕ). slice_set c.loop-place.list place r) c.referred-reference.ensures
-    ∙ map_over_more (referred c.args.numbers.now) old c.loop-place.list place c.index.result.now below c.loop-place.invariant c.index.ensures)
+    ∙ map_over_more (option_map (at c.args.numbers.now)) old c.loop-place.list place c.index.result.now below c.loop-place.invariant c.index.ensures)

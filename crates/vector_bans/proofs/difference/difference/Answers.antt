@@ -14,11 +14,11 @@ leave_out-requires-clause-known c =
 
 pub leave_out-requires-clause-shown : goal.leave_out-requires-clause-shown
 leave_out-requires-clause-shown c =
-    shown_as c.args.graphs.now (pairs_from Input c.args.matching.now.inputs) c.in_ok-whole.whole.items c.pair_from-pair.result (pair_from Output c.args.matching.now.outputs c.args.output) c.deref-2.result.now (map of_bit c.args.vector.now) (c.pair_from-pair.ensures ∙ ap (λ e. pair_from Output e c.args.output) c.deref.ensures.value) (c.deref-2.ensures.value ∙ c.in_ok-values.ensures) c.in_ok-whole.ensures (shown_whole c.args.graphs.now c.args.matching.now c.args.output c.requires.ports c.requires.output c.args.vector.now c.requires.differs c.first-first.ensures.sound c.second-second.ensures.sound)
+    shown_as c.args.graphs.now (pairs_from Input c.args.matching.now.inputs) c.in_ok-whole.whole.items c.pair_from-pair.result (pair_from Output c.args.matching.now.outputs c.args.output) c.deref-3.result.now (map of_bit c.args.vector.now) (c.pair_from-pair.ensures ∙ ap (λ e. pair_from Output e c.args.output) c.deref.ensures.value) (c.deref-3.ensures.value ∙ c.in_ok-values.ensures) c.in_ok-whole.ensures (shown_whole c.args.graphs.now c.args.matching.now c.args.output c.requires.ports c.requires.output c.args.vector.now c.requires.differs c.first-first.ensures.sound c.second-second.ensures.sound)
 
 pub returns-clause-shown : goal.returns-clause-shown
 returns-clause-shown c =
-    shown_made c.args.graphs.now c.in_ok-whole.whole.items c.in_ok-pairs.pairs.items c.from_vec-pairs.result c.pair_from-pair.result c.deref-2.result.now c.in_ok-values.values c.from_vec-pairs.ensures c.deref-2.ensures.value c.in_ok-pairs.ensures
+    shown_made c.args.graphs.now c.in_ok-whole.whole.items c.in_ok-pairs.pairs.items c.from_vec-pairs.result c.pair_from-pair.result c.deref-3.result.now c.in_ok-values.values c.from_vec-pairs.ensures c.deref-3.ensures.value c.in_ok-pairs.ensures
 
 pub returns-clause-held : goal.returns-clause-held
 returns-clause-held c = λ held all extends.

@@ -1,7 +1,5 @@
+use Rattle.std.proofs.Common.{arith}
 use Rattle.vector_bans.proofs.difference.leave_out.Goals as goal
 
-pub loop-place-preserved : goal.loop-place-preserved
-loop-place-preserved c = record {
-  shown = c.in_ok-pairs.ensures.shown c.args.whole.items c.loop-place.invariant.shown;
-  within = c.in_ok-pairs.ensures.length;
-}
+pub loop-left-preserved : goal.loop-left-preserved
+loop-left-preserved c = (c.in_ok-pairs.ensures c.args.whole.items c.loop-left.invariant.0, omega (arith, c.loop-left.invariant.1))

@@ -1,8 +1,9 @@
-use Rattle.vector_bans.proofs.ShownLemmas.{IsLeaving}
+use Rattle.std.proofs.Common.{◌≤◌, length}
+use Rattle.vector_bans.specs.Differences.{IsShown}
 use Rattle.vector_bans.proofs.difference.leave_out.Given as goal
 
-abbrev pub invariant-loop-place : goal.invariant-loop-place
-invariant-loop-place l = IsLeaving l.graphs l.fn.whole.items l.pair l.values l.pairs.items l.place
+abbrev pub invariant-loop-left : goal.invariant-loop-left
+invariant-loop-left l = IsShown l.graphs l.fn.whole.items l.pair l.values l.pairs.items × l.left ≤ length l.order
 
-abbrev pub decreases-loop-place : goal.decreases-loop-place
-decreases-loop-place l = l.place
+abbrev pub decreases-loop-left : goal.decreases-loop-left
+decreases-loop-left l = l.left

@@ -1,20 +1,38 @@
 -- What is left of the held pairs shows the difference.
-use Rattle.std.proofs.Common.{◌∙◌, List, All, sym, subst}
+use Rattle.std.proofs.Common.{◌∙◌, List, All, ap, length, sym, subst}
 use Rattle.circuits.specs.declared.port.Pair.{Pair}
-use Rattle.account_core.specs.Ports.{IsKnown}
+use Rattle.std.proofs.lemmas.List.{length-map}
+use Rattle.circuits.specs.Netlists.{Net}
+use Rattle.account_core.specs.Vectors.{value_at}
+use Rattle.word_sim.specs.ThreeValues.{tri_outputs}
+use Rattle.account_core.specs.Ports.{AreOrdered, IsKnown}
 use Rattle.word_sim.specs.declared.tri.Tri.{Tri}
-use Rattle.vector_bans.specs.Differences.{IsWrong}
+use Rattle.vector_bans.specs.Differences.{IsWrong, of_bit}
 use Rattle.port_covers.proofs.BookLemmas.{part_known}
 use Rattle.vector_bans.proofs.ForesightLemmas.{shown_held}
+use Rattle.vector_bans.proofs.ResortLemmas.{second_there}
 use Rattle.vector_bans.proofs.ShownLemmas.{shown_made_among}
 use Rattle.vector_bans.proofs.foresight.wrong_pairs.Goals as goal
 
-pub is_wrong-requires-clause-known : goal.is_wrong-requires-clause-known
-is_wrong-requires-clause-known c =
-    subst (All (IsKnown c.args.graphs.now)) (sym c.deref-2.ensures.value) (part_known c.args.graphs.now c.args.held.now c.in_ok-pairs.pairs.items c.requires.held c.in_ok-pairs.ensures.part)
+pub is_wrong-requires : goal.is_wrong-requires
+is_wrong-requires c =
+    let from = c.args.suspect.now.pair.from in
+    let known = part_known c.args.graphs.now c.args.held.now c.in_ok-pairs.pairs.items c.requires.held c.in_ok-pairs.ensures.part in
+    record {
+      may = record {
+        ordered = subst AreOrdered (sym c.deref-2.ensures.value) c.in_ok-pairs.ensures.part.ordered;
+        known = subst (All (IsKnown c.args.graphs.now)) (sym c.deref-2.ensures.value) known;
+        output = second_there c.args.graphs.now c.in_ok-pairs.pairs.items c.args.suspect.now.pair known c.in_ok-pairs.ensures.output;
+        places = ap length (c.deref-3.ensures.value ∙ c.in_ok-values.ensures) ∙ (length-map c.args.suspect.now.vector of_bit ∙ c.requires.suspect.places);
+        first_is =
+            c.in_ok-first.ensures
+            ∙ (ap (λ (net : Net). value_at (tri_outputs net c.deref.result.now) from) c.first.ensures.value
+            ∙ ap (λ (values : List Tri). value_at (tri_outputs c.args.graphs.now.first values) from) (c.deref.ensures.value ∙ sym c.deref-3.ensures.value));
+      };
+    }
 
-pub leave_out_latest-requires-clause-shown : goal.leave_out_latest-requires-clause-shown
-leave_out_latest-requires-clause-shown c =
+pub leave_out-requires-clause-shown : goal.leave_out-requires-clause-shown
+leave_out-requires-clause-shown c =
     let wrong = subst (λ (l : List Pair). IsWrong c.args.graphs.now l c.args.suspect.now.pair c.deref-3.result.now) c.deref-2.ensures.value (c.in_ok-is_wrong.ensures.0 c.if-not-branch.false) in
     shown_held c.args.graphs.now c.args.held.now c.in_ok-pairs.pairs.items c.args.suspect.now.pair c.args.suspect.now.vector c.deref-4.result.now c.requires.held c.first-first.ensures.sound c.in_ok-pairs.ensures.part c.requires.suspect.held c.in_ok-pairs.ensures.output c.requires.suspect.places (c.deref-4.ensures.value ∙ c.in_ok-values.ensures) (subst (λ (v : List Tri). IsWrong c.args.graphs.now c.in_ok-pairs.pairs.items c.args.suspect.now.pair v) (c.deref-3.ensures.value ∙ sym c.deref-4.ensures.value) wrong)
 

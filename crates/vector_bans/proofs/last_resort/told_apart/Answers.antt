@@ -32,21 +32,8 @@ pub returns-in_err-ban_by_facts-clause-serves : goal.returns-in_err-ban_by_facts
 returns-in_err-ban_by_facts-clause-serves g c =
     serves_memory _ _ _ _ _ c.from_residual-in_err-ban_by_facts.ensures.1 (served_then _ _ _ _ _ _ (served_one _ _ _ _ _ c.in_ok-first.ensures.serves) (served_one _ _ _ _ _ c.in_ok-second.ensures.serves))
 
-pub returns-clause-serves : goal.returns-clause-serves
-returns-clause-serves g c =
-    serves_ok _ _ _ _ _ _ refl (served_then _ _ _ _ _ _ (served_one _ _ _ _ _ c.in_ok-first.ensures.serves) (served_one _ _ _ _ _ c.in_ok-second.ensures.serves))
-
-pub returns-clause-shown : goal.returns-clause-shown
-returns-clause-shown g c =
-    let mid = g.O.Oracle.known c.claims_of.new.oracle in
-    let new = g.O.Oracle.known c.claims_of-2.new.oracle in
-    let one = subst (λ (row : List InputTold). IsRow (map decided_by mid.facts) First c.args.pair.from row) (sym c.deref.ensures.value) c.in_ok-first.ensures.row in
-    let other = subst (λ (row : List InputTold). IsRow (map decided_by new.facts) Second c.args.pair.to row) (sym c.deref-2.ensures.value) c.in_ok-second.ensures.row in
-    let rows = both_rows mid new c.args.pair c.deref.result.now c.deref-2.result.now c.in_ok-second.ensures.serves.grows one other in
-    shown_by_rows c.args.graphs.now (map decided_by new.facts) c.args.pairs.now c.args.pair c.deref.result.now c.deref-2.result.now c.in_ok-ban_by_facts.field-0 rows c.in_ok-ban_by_facts.ensures.shown
-
-pub returns-clause-none : goal.returns-clause-none
-returns-clause-none g c =
+pub returns : goal.returns
+returns g c =
     let mid = g.O.Oracle.known c.claims_of.new.oracle in
     let new = g.O.Oracle.known c.claims_of-2.new.oracle in
     let one = subst (λ (row : List InputTold). IsRow (map decided_by mid.facts) First c.args.pair.from row) (sym c.deref.ensures.value) c.in_ok-first.ensures.row in
@@ -56,4 +43,8 @@ returns-clause-none g c =
     let second = ap length c.deref-2.ensures.value ∙ c.in_ok-second.ensures.whole in
     let graphs_are = c.requires.graphs ∙ (sym c.in_ok-first.ensures.serves.grows.graphs ∙ sym c.in_ok-second.ensures.serves.grows.graphs) in
     let lawful = subst (λ (gr : Graphs). AreFacts gr new.facts) (sym graphs_are) c.in_ok-second.ensures.serves.grows.lawful in
-    nothing_by_rows c.args.graphs.now new c.args.pairs.now c.args.pair c.deref.result.now c.deref-2.result.now c.in_ok-ban_by_facts.field-0 lawful first second rows c.in_ok-ban_by_facts.ensures.none
+    record {
+      serves = serves_ok _ _ _ _ _ _ refl (served_then _ _ _ _ _ _ (served_one _ _ _ _ _ c.in_ok-first.ensures.serves) (served_one _ _ _ _ _ c.in_ok-second.ensures.serves));
+      shown = shown_by_rows c.args.graphs.now (map decided_by new.facts) c.args.pairs.now c.args.pair c.deref.result.now c.deref-2.result.now c.in_ok-ban_by_facts.field-0 rows c.in_ok-ban_by_facts.ensures.shown;
+      none = nothing_by_rows c.args.graphs.now new c.args.pairs.now c.args.pair c.deref.result.now c.deref-2.result.now c.in_ok-ban_by_facts.field-0 lawful first second rows c.in_ok-ban_by_facts.ensures.none;
+    }
