@@ -49,10 +49,6 @@ bytes_placed : (at : ℕ) (ws : List (List ℕ)) → map (λ (w : Piece). w.byte
 bytes_placed at [] = refl
 bytes_placed at (w ∷ ws) = ap (λ l. w ∷ l) (bytes_placed (at + length w + 1) ws)
 
-length_placed : (at : ℕ) (ws : List (List ℕ)) → length (placed at ws) ≡ length ws
-length_placed at [] = refl
-length_placed at (w ∷ ws) = ap suc (length_placed (at + length w + 1) ws)
-
 -- the ports
 no_inputs : (others : List Piece) → words_of_kind Input (named_ports Output others ++ []) ≡ []
 no_inputs [] = refl
@@ -386,8 +382,8 @@ are_blif net lines within said =
     let distinct : AreDistinct lines = record { declared = declared; once = once } in
     let single : AreDefinedOnce lines = record { distinct = distinct; once = defined_once n g m (input_words lines) (defined_words lines) few input_bytes said.defined } in
     let known : AreKnown lines = all_known lines single (subst (λ ns. All (IsKnownIn ns) (read_words lines)) (sym all) known_words) in
-    let count_in : length (input_words lines) ≡ n = ap length inputs_are ∙ length_placed said.input_place (names 105 0 n) ∙ length-names 105 0 n in
-    let count_out : length (output_words lines) ≡ m = ap length outputs_are ∙ length_placed said.output_place (names 111 0 m) ∙ length-names 111 0 m in
+    let count_in : length (input_words lines) ≡ n = omega (arith, length-map (input_words lines) B, ap length input_bytes, length-names 105 0 n) in
+    let count_out : length (output_words lines) ≡ m = omega (arith, length-map (output_words lines) B, ap length output_bytes, length-names 111 0 m) in
     let defs : covers_of (signal_names lines) lines ≡ (printed_circuit net).defs = ap (λ ns. covers_of ns lines) all ∙ said.covers N here in
     let literals : map (literal_named (signal_names lines)) (output_words lines) ≡ (printed_circuit net).outputs =
     ap (λ ns. map (literal_named ns) (output_words lines)) all ∙ ap (map (literal_named N)) outputs_are ∙ outputs_numbered n g m 0 m said.output_place few (omega arith) in

@@ -20,6 +20,7 @@ pub fn aag_reads_back()
 
 /// What is printed in the binary form of AIGER is a file of the same netlist, gate by gate with the greater operand
 /// first, with the same names; and the netlist computes what the file means.
+#[tactic(auto, using(crate::proofs::Aig::aig_is, crate::proofs::OperandOrder::computes_too))]
 pub fn aig_reads_back()
     ensures file { (named : Named)
         → IsPrintable named
@@ -31,6 +32,7 @@ pub fn aig_reads_back()
 
 /// What is printed as BLIF is a file with a cover for the constant, for each gate and for each output, whose ports are
 /// called by their positions; and the netlist computes what the file means.
+#[tactic(auto, using(crate::proofs::BlifReads::printed_blif, crate::proofs::PrintedMeaning::printed_computes))]
 pub fn blif_reads_back()
     ensures file { (net : Net)
         → IsWithinLimits net
