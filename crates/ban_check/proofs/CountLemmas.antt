@@ -1,8 +1,9 @@
 -- Facts of a tally, read from the front, and what they count.
-use Rattle.std.proofs.Common.{◌≡◌, ◌⊎◌, ℕ, ◌+◌, ◌*◌, ◌<◌, ◌≤◌, ◌==◌, Bool, true, false, List, [], ◌∷◌, length, get_or, take, drop, length-drop, take_all, ◌-◌, None, Some, ◌↔◌, inl, inr, refl, sym, ap, subst, ◌∙◌, arith, if◌then◌else◌}
+use Rattle.std.proofs.Common.{◌≡◌, ◌⊎◌, ℕ, ◌+◌, ◌*◌, ◌<◌, ◌≤◌, ◌==◌, Bool, true, false, List, [], ◌∷◌, length, get_or, take, drop, length-drop, take_all, ◌-◌, Option, None, Some, ◌↔◌, inl, inr, refl, sym, ap, subst, ◌∙◌, arith, if◌then◌else◌}
 use Rattle.std.specs.Bool.{IsTrue}
 use Rattle.std.specs.List.{flat_map}
 use Rattle.std.proofs.lemmas.Bool.Decides.{nat_tests}
+use Rattle.std.proofs.lemmas.Slice.Zip.{AllZip-long}
 use Rattle.query_core.specs.declared.claims.Shape.{Shape}
 use Rattle.query_core.specs.declared.claims.Shape.TheVariants.{Up, Down, Swap}
 use Rattle.account_core.specs.Given.{Given}
@@ -13,6 +14,37 @@ use Rattle.ban_check.proofs.AscentLemmas.{ascend_more, ascend_rest, none_ascend}
 some_is : (i j : ℕ) → Some i ≡ Some j → i ≡ j
 some_is i j e = cc
 
+-- What is read from the front has an input, from `least` on, and the rest goes on after it.
+pub record HasFront (least : ℕ) (input : Option ℕ) (Rest : ℕ → Type 0) : Type 0 where
+  pub i : ℕ
+  pub is : input ≡ Some i
+  pub within : least ≤ i
+  pub rest : Rest (i + 1)
+
+-- what is left goes on where its front does, and only there
+pub record IsByFront (least : ℕ) (input : Option ℕ) (Left : Type 0) (Rest : ℕ → Type 0) : Type 0 where
+  pub split : Left → HasFront least input Rest
+  pub more : HasFront least input Rest → Left
+
+-- one step more, none, and one that doesn't ascend
+module _ {least : ℕ} {input : Option ℕ} {Left : Type 0} {Rest : ℕ → Type 0} (P : Type 0) (front : IsByFront least input Left Rest) (so_far : Left ↔ P) where
+  pub front_step : (i : ℕ) → input ≡ Some i → least ≤ i → Rest (i + 1) ↔ P
+  front_step i is within = (
+    (λ rest. so_far.0 (front.more (record { i = i; is = is; within = within; rest = rest }))),
+    (λ p. let parts = front.split (so_far.1 p) in subst (λ n. Rest (n + 1)) (some_is parts.i i (sym parts.is ∙ is)) parts.rest),
+  )
+
+  pub front_stop : ((i : ℕ) → input ≡ Some i → ⊥) → P → ⊥
+  front_stop none p = let parts = front.split (so_far.1 p) in none parts.i parts.is
+
+  pub front_below : (i : ℕ) → input ≡ Some i → i < least → P → ⊥
+  front_below i is below p =
+      let parts = front.split (so_far.1 p) in
+      let same = some_is parts.i i (sym parts.is ∙ is) in
+      omega (arith, same, parts.within, below)
+
+-- shapes of one input each
+
 of_one : (i : ℕ) (shape : Shape) → one_input shape ≡ Some i → (shape ≡ Up i) ⊎ (shape ≡ Down i)
 of_one i (Up j) e = inl (ap Up (some_is j i e))
 of_one i (Down j) e = inr (ap Down (some_is j i e))
@@ -22,20 +54,7 @@ to_one : (i : ℕ) (shape : Shape) → (shape ≡ Up i) ⊎ (shape ≡ Down i) �
 to_one i shape (inl e) = ap one_input e
 to_one i shape (inr e) = ap one_input e
 
-pub inputs_more : (least i : ℕ) (shape : Shape) (shapes : List Shape) → one_input shape ≡ Some i → least ≤ i → GoOverInputs (i + 1) shapes → GoOverInputs least (shape ∷ shapes)
-inputs_more least i shape shapes is within rest = record {
-  inputs = i ∷ rest.inputs;
-  of_each = (of_one i shape is, rest.of_each);
-  ascend = ascend_more least i rest.inputs within rest.ascend;
-}
-
-record InputsRest (least : ℕ) (shape : Shape) (shapes : List Shape) : Type 0 where
-  i : ℕ
-  is : one_input shape ≡ Some i
-  within : least ≤ i
-  rest : GoOverInputs (i + 1) shapes
-
-inputs_split : (least : ℕ) (inputs : List ℕ) (shape : Shape) (shapes : List Shape) → AreOfEach inputs (shape ∷ shapes) → AscendFrom least inputs → InputsRest least shape shapes
+inputs_split : (least : ℕ) (inputs : List ℕ) (shape : Shape) (shapes : List Shape) → AreOfEach inputs (shape ∷ shapes) → AscendFrom least inputs → HasFront least (one_input shape) (λ n. GoOverInputs n shapes)
 inputs_split least [] shape shapes each ascend = absurd each
 inputs_split least (i ∷ inputs) shape shapes each ascend =
     let parts = ascend_rest least i inputs ascend in
@@ -46,28 +65,15 @@ inputs_split least (i ∷ inputs) shape shapes each ascend =
       rest = record { inputs = inputs; of_each = each.1; ascend = parts.1 };
     }
 
--- one shape more is read
-pub inputs_step : (P : Type 0) (least i : ℕ) (shape : Shape) (shapes left : List Shape) → left ≡ shape ∷ shapes → one_input shape ≡ Some i → least ≤ i → (GoOverInputs least left ↔ P) → (GoOverInputs (i + 1) shapes ↔ P)
-inputs_step P least i shape shapes left is input within so_far = (
-  (λ rest. so_far.0 (subst (GoOverInputs least) (sym is) (inputs_more least i shape shapes input within rest))),
-  (λ p.
-      let whole = subst (GoOverInputs least) is (so_far.1 p) in
-      let parts = inputs_split least whole.inputs shape shapes whole.of_each whole.ascend in
-      subst (λ n. GoOverInputs (n + 1) shapes) (some_is parts.i i (sym parts.is ∙ input)) parts.rest),
-)
-
-pub inputs_stop : (P : Type 0) (least : ℕ) (shape : Shape) (shapes left : List Shape) → left ≡ shape ∷ shapes → ((i : ℕ) → one_input shape ≡ Some i → ⊥) → (GoOverInputs least left ↔ P) → P → ⊥
-inputs_stop P least shape shapes left is none so_far p =
-    let whole = subst (GoOverInputs least) is (so_far.1 p) in
-    let parts = inputs_split least whole.inputs shape shapes whole.of_each whole.ascend in
-    none parts.i parts.is
-
-pub inputs_below : (P : Type 0) (least i : ℕ) (shape : Shape) (shapes left : List Shape) → left ≡ shape ∷ shapes → one_input shape ≡ Some i → i < least → (GoOverInputs least left ↔ P) → P → ⊥
-inputs_below P least i shape shapes left is input below so_far p =
-    let whole = subst (GoOverInputs least) is (so_far.1 p) in
-    let parts = inputs_split least whole.inputs shape shapes whole.of_each whole.ascend in
-    let same = some_is parts.i i (sym parts.is ∙ input) in
-    omega (arith, same, parts.within, below)
+pub inputs_front : (least : ℕ) (shape : Shape) (shapes left : List Shape) → left ≡ shape ∷ shapes → IsByFront least (one_input shape) (GoOverInputs least left) (λ n. GoOverInputs n shapes)
+inputs_front least shape shapes left is = record {
+  split = λ all. let whole = subst (GoOverInputs least) is all in inputs_split least whole.inputs shape shapes whole.of_each whole.ascend;
+  more = λ f. subst (GoOverInputs least) (sym is) (record {
+    inputs = f.i ∷ f.rest.inputs;
+    of_each = (of_one f.i shape f.is, f.rest.of_each);
+    ascend = ascend_more least f.i f.rest.inputs f.within f.rest.ascend;
+  });
+}
 
 -- shapes in twos
 pub no_twos : (least : ℕ) → GoOverTwice least []
@@ -89,21 +95,6 @@ to_two i =
     let same : (i == i) ≡ true = grind (arith, nat_tests) in
     ap (λ b. if b then Some i else None) same
 
-pub twos_more : (least i : ℕ) (one other : Shape) (shapes : List Shape) → twin_input one other ≡ Some i → least ≤ i → GoOverTwice (i + 1) shapes → GoOverTwice least (one ∷ other ∷ shapes)
-twos_more least i one other shapes is within rest =
-    let twins = of_two i one other is in
-    record {
-      inputs = i ∷ rest.inputs;
-      both_of_each = ap (λ s. s ∷ other ∷ shapes) twins.0 ∙ (ap (λ s. Up i ∷ s ∷ shapes) twins.1 ∙ ap (λ ss. Up i ∷ Down i ∷ ss) rest.both_of_each);
-      ascend = ascend_more least i rest.inputs within rest.ascend;
-    }
-
-record TwosRest (least : ℕ) (one other : Shape) (shapes : List Shape) : Type 0 where
-  i : ℕ
-  is : twin_input one other ≡ Some i
-  within : least ≤ i
-  rest : GoOverTwice (i + 1) shapes
-
 head_is : {X : Type 0} (x y : X) (xs ys : List X) → x ∷ xs ≡ y ∷ ys → x ≡ y
 head_is {X} x y xs ys e = cc
 
@@ -113,7 +104,7 @@ tail_is {X} x y xs ys e = cc
 abbrev both : ℕ → List Shape
 both i = Up i ∷ Down i ∷ []
 
-twos_split : (least : ℕ) (inputs : List ℕ) (one other : Shape) (shapes : List Shape) → AreBothOfEach inputs (one ∷ other ∷ shapes) → AscendFrom least inputs → TwosRest least one other shapes
+twos_split : (least : ℕ) (inputs : List ℕ) (one other : Shape) (shapes : List Shape) → AreBothOfEach inputs (one ∷ other ∷ shapes) → AscendFrom least inputs → HasFront least (twin_input one other) (λ n. GoOverTwice n shapes)
 twos_split least [] one other shapes each ascend = cc
 twos_split least (i ∷ inputs) one other shapes each ascend =
     let parts = ascend_rest least i inputs ascend in
@@ -127,27 +118,17 @@ twos_split least (i ∷ inputs) one other shapes each ascend =
       rest = record { inputs = inputs; both_of_each = tail_is other (Down i) shapes _ after; ascend = parts.1 };
     }
 
-pub twos_step : (P : Type 0) (least i : ℕ) (one other : Shape) (shapes left : List Shape) → left ≡ one ∷ other ∷ shapes → twin_input one other ≡ Some i → least ≤ i → (GoOverTwice least left ↔ P) → (GoOverTwice (i + 1) shapes ↔ P)
-twos_step P least i one other shapes left is input within so_far = (
-  (λ rest. so_far.0 (subst (GoOverTwice least) (sym is) (twos_more least i one other shapes input within rest))),
-  (λ p.
-      let whole = subst (GoOverTwice least) is (so_far.1 p) in
-      let parts = twos_split least whole.inputs one other shapes whole.both_of_each whole.ascend in
-      subst (λ n. GoOverTwice (n + 1) shapes) (some_is parts.i i (sym parts.is ∙ input)) parts.rest),
-)
-
-pub twos_stop : (P : Type 0) (least : ℕ) (one other : Shape) (shapes left : List Shape) → left ≡ one ∷ other ∷ shapes → ((i : ℕ) → twin_input one other ≡ Some i → ⊥) → (GoOverTwice least left ↔ P) → P → ⊥
-twos_stop P least one other shapes left is none so_far p =
-    let whole = subst (GoOverTwice least) is (so_far.1 p) in
-    let parts = twos_split least whole.inputs one other shapes whole.both_of_each whole.ascend in
-    none parts.i parts.is
-
-pub twos_below : (P : Type 0) (least i : ℕ) (one other : Shape) (shapes left : List Shape) → left ≡ one ∷ other ∷ shapes → twin_input one other ≡ Some i → i < least → (GoOverTwice least left ↔ P) → P → ⊥
-twos_below P least i one other shapes left is input below so_far p =
-    let whole = subst (GoOverTwice least) is (so_far.1 p) in
-    let parts = twos_split least whole.inputs one other shapes whole.both_of_each whole.ascend in
-    let same = some_is parts.i i (sym parts.is ∙ input) in
-    omega (arith, same, parts.within, below)
+pub twos_front : (least : ℕ) (one other : Shape) (shapes left : List Shape) → left ≡ one ∷ other ∷ shapes → IsByFront least (twin_input one other) (GoOverTwice least left) (λ n. GoOverTwice n shapes)
+twos_front least one other shapes left is = record {
+  split = λ all. let whole = subst (GoOverTwice least) is all in twos_split least whole.inputs one other shapes whole.both_of_each whole.ascend;
+  more = λ f.
+      let twins = of_two f.i one other f.is in
+      subst (GoOverTwice least) (sym is) (record {
+        inputs = f.i ∷ f.rest.inputs;
+        both_of_each = ap (λ s. s ∷ other ∷ shapes) twins.0 ∙ (ap (λ s. Up f.i ∷ s ∷ shapes) twins.1 ∙ ap (λ ss. Up f.i ∷ Down f.i ∷ ss) f.rest.both_of_each);
+        ascend = ascend_more least f.i f.rest.inputs f.within f.rest.ascend;
+      });
+}
 
 pub twos_odd : (least : ℕ) (shape : Shape) → GoOverTwice least (shape ∷ []) → ⊥
 twos_odd least shape whole =
@@ -163,13 +144,7 @@ twos_length [] = refl
 twos_length (i ∷ inputs) = omega (arith, twos_length inputs)
 
 pub inputs_count : (least : ℕ) (shapes : List Shape) (whole : GoOverInputs least shapes) → length whole.inputs ≡ length shapes
-inputs_count least shapes whole = length_zip whole.inputs shapes whole.of_each
-  where
-    length_zip : (inputs : List ℕ) (shapes : List Shape) → AreOfEach inputs shapes → length inputs ≡ length shapes
-    length_zip [] [] each = refl
-    length_zip [] (shape ∷ shapes) each = absurd each
-    length_zip (i ∷ inputs) [] each = absurd each
-    length_zip (i ∷ inputs) (shape ∷ shapes) each = omega (arith, length_zip inputs shapes each.1)
+inputs_count least shapes whole = sym (AllZip-long (λ i shape. (shape ≡ Up i) ⊎ (shape ≡ Down i)) whole.inputs shapes whole.of_each)
 
 pub twos_count : (least : ℕ) (shapes : List Shape) (whole : GoOverTwice least shapes) → length shapes ≡ 2 * length whole.inputs
 twos_count least shapes whole = ap (λ (ss : List Shape). length ss) whole.both_of_each ∙ twos_length whole.inputs

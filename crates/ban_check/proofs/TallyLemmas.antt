@@ -9,8 +9,8 @@ use Rattle.query_core.specs.declared.claims.Claim.{Claim}
 use Rattle.account_core.specs.declared.step.Tallied.{Tallied}
 use Rattle.account_core.specs.declared.step.Tallied.TheVariants.{Support, Binate}
 use Rattle.account_core.specs.Given.{Given, fact_at}
-use Rattle.account_core.specs.Tallies.{other_side, port_on, shapes_of, IsTally, SayOf, HaveShapes, LackShapes, Ascend}
-use Rattle.ban_check.specs.Counted.{ArePaired, GoOverInputs, GoOverTwice, HaveTooMany}
+use Rattle.account_core.specs.Tallies.{other_side, port_on, shapes_of, AreBothOfEach, AreOfEach, IsTally, SayOf, HaveShapes, LackShapes, Ascend}
+use Rattle.ban_check.specs.Counted.{ArePaired, AreTooMany, GoOverInputs, GoOverTwice, HaveTooMany}
 use Rattle.ban_check.proofs.AscentLemmas.{all_ascend}
 use Rattle.ban_check.proofs.BoolLemmas.{both_tests, same_test}
 use Rattle.ban_check.proofs.CountLemmas.{inputs_count, twos_count}
@@ -71,38 +71,25 @@ tally_from graphs given pairs Binate have lack one other some_have some_lack t =
     (omega (arith, twice, shapes_count given have, some_have)) (omega (arith, each, shapes_count given lack, some_lack))
     (omega (arith, each, twice, shapes_count given have, shapes_count given lack, m.too_many))
 
--- a tally's lists have members
-pub tally_have : (graphs : Graphs) (given : Given) (pairs : List Pair) (kind : Tallied) (have lack : List ℕ) → IsTally graphs given pairs kind have lack → (0 < length have) × (0 < length lack)
-tally_have graphs given pairs Support have lack t =
-    let each = inputs_count 0 (shapes_of given have) (record { inputs = t.having; of_each = t.have_shapes; ascend = all_ascend t.having t.having_ascends }) in
-    let twice = twos_count 0 (shapes_of given lack) (record { inputs = t.lacking; both_of_each = t.lack_shapes; ascend = all_ascend t.lacking t.lacking_ascends }) in (
-      omega (arith, each, shapes_count given have, t.some_have),
-      omega (arith, twice, shapes_count given lack, t.some_lack),
-    )
-tally_have graphs given pairs Binate have lack t =
-    let each = inputs_count 0 (shapes_of given lack) (record { inputs = t.lacking; of_each = t.lack_shapes; ascend = all_ascend t.lacking t.lacking_ascends }) in
-    let twice = twos_count 0 (shapes_of given have) (record { inputs = t.having; both_of_each = t.have_shapes; ascend = all_ascend t.having t.having_ascends }) in (
-      omega (arith, twice, shapes_count given have, t.some_have),
-      omega (arith, each, shapes_count given lack, t.some_lack),
+counted : (inputs : ℕ) (given : Given) (each twice having lacking : List ℕ) → AreOfEach having (shapes_of given each) → AreBothOfEach lacking (shapes_of given twice) → Ascend having → Ascend lacking → 0 < length having → 0 < length lacking
+    → inputs < length having + length lacking → (0 < length each) × (0 < length twice) × AreTooMany inputs given each twice
+counted inputs given each twice having lacking of_each both_of_each having_ascends lacking_ascends some_having some_lacking too_many =
+    let one : GoOverInputs 0 (shapes_of given each) = record { inputs = having; of_each = of_each; ascend = all_ascend having having_ascends } in
+    let two : GoOverTwice 0 (shapes_of given twice) = record { inputs = lacking; both_of_each = both_of_each; ascend = all_ascend lacking lacking_ascends } in
+    let many = inputs_count 0 (shapes_of given each) one in
+    let twins = twos_count 0 (shapes_of given twice) two in (
+      omega (arith, many, shapes_count given each, some_having),
+      omega (arith, twins, shapes_count given twice, some_lacking),
+      record { go_over = one; go_over_twice = two; too_many = omega (arith, many, twins, shapes_count given each, shapes_count given twice, too_many) },
     )
 
-too_many_to : (graphs : Graphs) (given : Given) (pairs : List Pair) (kind : Tallied) (have lack : List ℕ) → IsTally graphs given pairs kind have lack → HaveTooMany graphs.first.inputs given kind have lack
-too_many_to graphs given pairs Support have lack t =
-    let each : GoOverInputs 0 (shapes_of given have) = record { inputs = t.having; of_each = t.have_shapes; ascend = all_ascend t.having t.having_ascends } in
-    let twice : GoOverTwice 0 (shapes_of given lack) = record { inputs = t.lacking; both_of_each = t.lack_shapes; ascend = all_ascend t.lacking t.lacking_ascends } in
-    record {
-      go_over = each;
-      go_over_twice = twice;
-      too_many = omega (arith, inputs_count 0 (shapes_of given have) each, twos_count 0 (shapes_of given lack) twice, shapes_count given have, shapes_count given lack, t.too_many);
-    }
-too_many_to graphs given pairs Binate have lack t =
-    let each : GoOverInputs 0 (shapes_of given lack) = record { inputs = t.lacking; of_each = t.lack_shapes; ascend = all_ascend t.lacking t.lacking_ascends } in
-    let twice : GoOverTwice 0 (shapes_of given have) = record { inputs = t.having; both_of_each = t.have_shapes; ascend = all_ascend t.having t.having_ascends } in
-    record {
-      go_over = each;
-      go_over_twice = twice;
-      too_many = omega (arith, inputs_count 0 (shapes_of given lack) each, twos_count 0 (shapes_of given have) twice, shapes_count given have, shapes_count given lack, t.too_many);
-    }
+-- a tally's lists have members, and are of more inputs than there are
+pub tally_counts : (graphs : Graphs) (given : Given) (pairs : List Pair) (kind : Tallied) (have lack : List ℕ) → IsTally graphs given pairs kind have lack → (0 < length have) × (0 < length lack) × HaveTooMany graphs.first.inputs given kind have lack
+tally_counts graphs given pairs Support have lack t =
+    counted graphs.first.inputs given have lack t.having t.lacking t.have_shapes t.lack_shapes t.having_ascends t.lacking_ascends t.some_have t.some_lack t.too_many
+tally_counts graphs given pairs Binate have lack t =
+    let all = counted graphs.first.inputs given lack have t.lacking t.having t.lack_shapes t.have_shapes t.lacking_ascends t.having_ascends t.some_lack t.some_have (omega (arith, t.too_many)) in
+    (all.1, all.0, all.2)
 
 pub tally_to : (graphs : Graphs) (given : Given) (pairs : List Pair) (kind : Tallied) (a b : ℕ) (as_ bs : List ℕ) → IsTally graphs given pairs kind (a ∷ as_) (b ∷ bs) → IsTested graphs given pairs kind (a ∷ as_) (b ∷ bs) (fact_at given a).claim (fact_at given b).claim
 tally_to graphs given pairs kind a b as_ bs t =
@@ -127,7 +114,7 @@ tally_to graphs given pairs kind a b as_ bs t =
       );
       fail = of_port given (a ∷ as_) false t.side one.side (port_on t.side t.pair) one.output (sym one_side) (sym one_output) t.fail;
       hold = of_port given (b ∷ bs) true (other_side t.side) other.side (port_on (other_side t.side) t.pair) other.output (sym there) (sym other_output) t.hold;
-      too_many = too_many_to graphs given pairs kind (a ∷ as_) (b ∷ bs) t;
+      too_many = (tally_counts graphs given pairs kind (a ∷ as_) (b ∷ bs) t).2;
     }
 
 tally_parts : (graphs : Graphs) (given : Given) (pairs : List Pair) (kind : Tallied) (have lack : List ℕ) → 0 < length have → 0 < length lack → IsTally graphs given pairs kind have lack → IsTested graphs given pairs kind have lack (fact_at given (get_or have 0 0)).claim (fact_at given (get_or lack 0 0)).claim

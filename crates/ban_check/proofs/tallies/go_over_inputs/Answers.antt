@@ -5,7 +5,7 @@ use Rattle.account_core.specs.Given.{fact_at}
 use Rattle.account_core.specs.Tallies.{shapes_of}
 use Rattle.ban_check.specs.Counted.{one_input, GoOverInputs}
 use Rattle.ban_check.proofs.BoolLemmas.{front, refused}
-use Rattle.ban_check.proofs.CountLemmas.{inputs_below, inputs_step, inputs_stop}
+use Rattle.ban_check.proofs.CountLemmas.{front_below, front_step, front_stop, inputs_front}
 use Rattle.ban_check.proofs.tallies.go_over_inputs.Goals as goal
 
 pub returns-in_default : goal.returns-in_default
@@ -16,7 +16,7 @@ returns-in_default c =
     let shape = (fact_at given (get_or numbers k 0)).claim.shape in
     let is = ap (shapes_of given) (front numbers k 0 c.loop-number-test.true) in
     let told = c.one_input.ensures ∙ ap (λ (claim : Claim). one_input claim.shape) c.fact.ensures.claim in
-    refused _ (inputs_stop (GoOverInputs 0 (shapes_of given numbers)) c.loop-number.least shape (shapes_of given (drop (k + 1) numbers)) (shapes_of given (drop k numbers)) is (λ i e. c.in_default.not-Some i (told ∙ e)) c.loop-number.invariant)
+    refused _ (front_stop _ (inputs_front c.loop-number.least shape (shapes_of given (drop (k + 1) numbers)) (shapes_of given (drop k numbers)) is) c.loop-number.invariant (λ i e. c.in_default.not-Some i (told ∙ e)))
 
 pub returns-then-from-least : goal.returns-then-from-least
 returns-then-from-least c =
@@ -26,7 +26,7 @@ returns-then-from-least c =
     let shape = (fact_at given (get_or numbers k 0)).claim.shape in
     let is = ap (shapes_of given) (front numbers k 0 c.loop-number-test.true) in
     let told = sym (c.one_input.ensures ∙ ap (λ (claim : Claim). one_input claim.shape) c.fact.ensures.claim) ∙ c.in-Some.is in
-    refused _ (inputs_below (GoOverInputs 0 (shapes_of given numbers)) c.loop-number.least c.in-Some.input shape (shapes_of given (drop (k + 1) numbers)) (shapes_of given (drop k numbers)) is told (omega (arith, c.if-from-least.true, c.from.ensures)) c.loop-number.invariant)
+    refused _ (front_below _ (inputs_front c.loop-number.least shape (shapes_of given (drop (k + 1) numbers)) (shapes_of given (drop k numbers)) is) c.loop-number.invariant c.in-Some.input told (omega (arith, c.if-from-least.true, c.from.ensures)))
 
 pub loop-number-preserved : goal.loop-number-preserved
 loop-number-preserved c =
@@ -36,6 +36,6 @@ loop-number-preserved c =
     let shape = (fact_at given (get_or numbers k 0)).claim.shape in
     let is = ap (shapes_of given) (front numbers k 0 c.loop-number-test.true) in
     let told = sym (c.one_input.ensures ∙ ap (λ (claim : Claim). one_input claim.shape) c.fact.ensures.claim) ∙ c.in-Some.is in
-    let step = inputs_step (GoOverInputs 0 (shapes_of given numbers)) c.loop-number.least c.in-Some.input shape (shapes_of given (drop (k + 1) numbers)) (shapes_of given (drop k numbers)) is told (omega (arith, c.if-from-least.false, c.from.ensures)) c.loop-number.invariant in
+    let step = front_step _ (inputs_front c.loop-number.least shape (shapes_of given (drop (k + 1) numbers)) (shapes_of given (drop k numbers)) is) c.loop-number.invariant c.in-Some.input told (omega (arith, c.if-from-least.false, c.from.ensures)) in
     let goal_at = λ (n : ℕ). GoOverInputs (n + 1) (shapes_of given (drop (k + 1) numbers)) ↔ GoOverInputs 0 (shapes_of given numbers) in
     subst goal_at (sym c.from-least.ensures) step

@@ -4,16 +4,16 @@ use Rattle.std.specs.Bool.{IsTrue}
 use Rattle.circuits.specs.Netlists.{Net}
 use Rattle.ban_check.specs.Counted.{HaveTooMany}
 use Rattle.ban_check.proofs.BoolLemmas.{refused}
-use Rattle.ban_check.proofs.TallyLemmas.{tally_have, tally_tests}
+use Rattle.ban_check.proofs.TallyLemmas.{tally_counts, tally_tests}
 use Rattle.ban_check.proofs.tallies.is_tally.Goals as goal
 
 pub returns-in_default : goal.returns-in_default
 returns-in_default c =
-    refused _ (λ tally. let some = (tally_have c.args.graphs.now c.args.given.now c.args.pairs.now c.args.kind c.args.have.now c.args.lack.now tally).0 in omega (arith, some, c.in_default.len_below))
+    refused _ (λ tally. let some = (tally_counts c.args.graphs.now c.args.given.now c.args.pairs.now c.args.kind c.args.have.now c.args.lack.now tally).0 in omega (arith, some, c.in_default.len_below))
 
 pub returns-in_default-lack : goal.returns-in_default-lack
 returns-in_default-lack c =
-    refused _ (λ tally. let some = (tally_have c.args.graphs.now c.args.given.now c.args.pairs.now c.args.kind c.args.have.now c.args.lack.now tally).1 in omega (arith, some, c.in_default-lack.len_below))
+    refused _ (λ tally. let some = (tally_counts c.args.graphs.now c.args.given.now c.args.pairs.now c.args.kind c.args.have.now c.args.lack.now tally).1 in omega (arith, some, c.in_default-lack.len_below))
 
 pub returns : goal.returns
 returns c =
