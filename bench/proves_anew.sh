@@ -12,7 +12,7 @@ import pathlib, re, subprocess, sys
 CHANGES = [  # what is changed, and where: the first of these crates that there is
     ("a new kind of AIGER fault", ["net_file", "net_core"]),
     ("a new step of an account", ["account_core"]),
-    ("another choice of the next port", ["match_search"]),
+    ("another choice of the next port", ["search_guide", "match_search"]),
     ("a new command", ["command_words", "npnp"]),
 ]
 

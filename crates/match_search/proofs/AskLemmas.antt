@@ -5,8 +5,6 @@ use Rattle.std.proofs.lemmas.List.Elements.{Contains-append_left}
 use Rattle.std.proofs.lemmas.Result.{IfOk-weaker}
 use Rattle.cnf_core.specs.declared.stop.Stop.{Stop}
 use Rattle.circuits.specs.declared.port.Pair.{Pair}
-use Rattle.circuits.specs.declared.port.PortKind.{PortKind}
-use Rattle.circuits.specs.declared.port.PortKind.TheVariants.{Input, Output}
 use Rattle.net_core.specs.Sides.{Graphs}
 use Rattle.query_core.specs.Ledgers.{Ledgered}
 use Rattle.account_core.specs.declared.step.Ban.{Ban}
@@ -91,24 +89,12 @@ deletes_one graphs old new bans pair before after way fails holds after_is grows
       less = omega (arith, less);
     }
 
--- facts that tell a pair and a way apart, of which the way is an output's, or an input's
-unlike_of_output : (graphs : Graphs) (facts : List Decided) (pair way : Pair) (unlike : Unlike) → way.kind ≡ Output → IsBanBy graphs facts (pair ∷ way ∷ []) (mismatch_of (pair ∷ way ∷ []) unlike) → IsGrounded graphs facts way (Deleted (Mismatch pair unlike.fails unlike.holds))
-unlike_of_output graphs facts pair way unlike kind by = λ bans.
-    subst (λ (k : PortKind). IsValidBan graphs (given_of facts bans) (record { pairs = in_order k way pair; step = step.Mismatch unlike.fails unlike.holds })) (sym kind) (by.valid bans)
-
-unlike_of_input : (graphs : Graphs) (facts : List Decided) (pair way : Pair) (unlike : Unlike) → way.kind ≡ Input → IsBanBy graphs facts (way ∷ pair ∷ []) (mismatch_of (way ∷ pair ∷ []) unlike) → IsGrounded graphs facts way (Deleted (Mismatch pair unlike.fails unlike.holds))
-unlike_of_input graphs facts pair way unlike kind by = λ bans.
-    subst (λ (k : PortKind). IsValidBan graphs (given_of facts bans) (record { pairs = in_order k way pair; step = step.Mismatch unlike.fails unlike.holds })) (sym kind) (by.valid bans)
-
-pub shown_of_output : (graphs : Graphs) (facts : List Decided) (pair way : Pair) (result : Result (Option Unlike) Stop) → way.kind ≡ Output → IfOk result (λ found. IfSome found (λ unlike. IsBanBy graphs facts (pair ∷ way ∷ []) (mismatch_of (pair ∷ way ∷ []) unlike))) → IfOk result (λ found. IfSome found (λ unlike. IsGrounded graphs facts way (Deleted (Mismatch pair unlike.fails unlike.holds))))
-shown_of_output graphs facts pair way (Ok None) kind is = is
-shown_of_output graphs facts pair way (Ok (Some unlike)) kind is = unlike_of_output graphs facts pair way unlike kind is
-shown_of_output graphs facts pair way (Err stop) kind is = is
-
-pub shown_of_input : (graphs : Graphs) (facts : List Decided) (pair way : Pair) (result : Result (Option Unlike) Stop) → way.kind ≡ Input → IfOk result (λ found. IfSome found (λ unlike. IsBanBy graphs facts (way ∷ pair ∷ []) (mismatch_of (way ∷ pair ∷ []) unlike))) → IfOk result (λ found. IfSome found (λ unlike. IsGrounded graphs facts way (Deleted (Mismatch pair unlike.fails unlike.holds))))
-shown_of_input graphs facts pair way (Ok None) kind is = is
-shown_of_input graphs facts pair way (Ok (Some unlike)) kind is = unlike_of_input graphs facts pair way unlike kind is
-shown_of_input graphs facts pair way (Err stop) kind is = is
+-- facts that tell a pair and a way apart
+pub shown_of : (graphs : Graphs) (facts : List Decided) (pair way : Pair) (pairs : List Pair) (result : Result (Option Unlike) Stop) → in_order way.kind way pair ≡ pairs → IfOk result (λ found. IfSome found (λ unlike. IsBanBy graphs facts pairs (mismatch_of pairs unlike))) → IfOk result (λ found. IfSome found (λ unlike. IsGrounded graphs facts way (Deleted (Mismatch pair unlike.fails unlike.holds))))
+shown_of graphs facts pair way pairs (Ok None) order is = is
+shown_of graphs facts pair way pairs (Ok (Some unlike)) order is = λ bans.
+    subst (λ (ps : List Pair). IsValidBan graphs (given_of facts bans) (record { pairs = ps; step = step.Mismatch unlike.fails unlike.holds })) (sym order) (is.valid bans)
+shown_of graphs facts pair way pairs (Err stop) order is = is
 
 -- Ways are deleted one after the other.
 pub record IsDeleting (graphs : Graphs) (old now : Known) (a b : Ledgered) (bans : List Ban) (pair : Pair) (start domains : Domained) : Type 0 where

@@ -17,7 +17,7 @@ use Rattle.query_core.proofs.MatchLemmas.{match_query_fits}
 use Rattle.query_core.proofs.RefutedLemmas.{match_of_refuted}
 use Rattle.match_search.specs.Founds.{AddsLogs}
 use Rattle.match_search.specs.States.{HasServed}
-use Rattle.match_search.proofs.ServeLemmas.{served_same}
+use Rattle.fact_bans.proofs.ServeLemmas.{served_same}
 
 -- That many outputs were compared, and agree with their partners.
 pub record IsComparing (graphs : Graphs) (matching : Matching) (old now : Known) (before after : Ledgered) (count : ℕ) (logs : List Log) : Type 0 where

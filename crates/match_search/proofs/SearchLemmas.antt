@@ -11,8 +11,8 @@ use Rattle.oracle_core.specs.Oracles.{Known, Suits}
 use Rattle.fact_bans.specs.Serving.{MayHold}
 use Rattle.table_guess.specs.declared.trials.Trials.{Trials}
 use Rattle.table_guess.specs.Trials.{AreTrials}
-use Rattle.match_search.specs.States.{AreValid, HasServed}
-use Rattle.match_search.proofs.ServeLemmas.{served_same}
+use Rattle.match_search.specs.States.{AreValid, HasServed, MaySearch}
+use Rattle.fact_bans.proofs.ServeLemmas.{served_same}
 
 -- nothing was compared yet
 pub guessing_start : (graphs : Graphs) (known : Known) (ledger : Ledgered) → graphs ≡ known.graphs → AreFacts graphs known.facts → Suits known ledger → HasServed known known ledger ledger
@@ -46,11 +46,14 @@ pub record IsSearching (graphs : Graphs) (old now : Known) (a b : Ledgered) (ban
   pub valid : AreValid graphs now bans
   pub trials : AreTrials graphs.first vectors
 
--- and more may be held
-pub may_search_on : (graphs : Graphs) (old now : Known) (a b : Ledgered) (first bans : List Ban) (vectors : Trials) → MayHold graphs old a first → IsSearching graphs old now a b bans vectors → MayHold graphs now b bans
-may_search_on graphs old now a b first bans vectors may is = record {
-  graphs_are = is.valid.graphs_are;
-  lawful = subst (λ (g : Graphs). AreFacts g now.facts) (sym is.valid.graphs_are) is.served.grows.lawful;
-  suits = is.served.suits;
-  valid = is.valid;
+-- and the search may begin anew
+pub may_search_on : (graphs : Graphs) (old now : Known) (a b : Ledgered) (bans : List Ban) (vectors : Trials) → IsSearching graphs old now a b bans vectors → MaySearch graphs now b bans vectors
+may_search_on graphs old now a b bans vectors is = record {
+  may = record {
+    graphs_are = is.valid.graphs_are;
+    lawful = subst (λ (g : Graphs). AreFacts g now.facts) (sym is.valid.graphs_are) is.served.grows.lawful;
+    suits = is.served.suits;
+    valid = is.valid;
+  };
+  trials = is.trials;
 }

@@ -1,5 +1,5 @@
 -- What a step of a search leaves.
-use Rattle.std.specs.Prelude.{◌<◌, ◌≤◌, List, Contains, Result, IfOk, OnOk}
+use Rattle.std.specs.Prelude.{◌≡◌, ◌<◌, ◌≤◌, List, Contains, Result, IfOk, OnOk}
 use Rattle.cnf_core.specs.declared.stop.Stop.{Stop}
 use Rattle.circuits.specs.declared.port.Pair.{Pair}
 use Rattle.net_core.specs.Sides.{Graphs}
@@ -10,7 +10,7 @@ use Rattle.account_core.specs.Shown.{IsShownMatch}
 use Rattle.ban_book.specs.Covering.{Covers}
 use Rattle.class_refine.specs.Trails.{Domained, held_in}
 use Rattle.fact_bans.specs.Serving.{HoldsBans, MayHold}
-use Rattle.oracle_core.specs.Oracles.{Known, Serves}
+use Rattle.oracle_core.specs.Oracles.{Known, Serves, Suits}
 use Rattle.table_guess.specs.declared.trials.Trials.{Trials}
 use Rattle.table_guess.specs.Trials.{AreTrials}
 use Rattle.pair_search.specs.declared.impasse.Impasse.{Impasse}
@@ -33,6 +33,11 @@ pub record MayStep (graphs : Graphs) (known : Known) (ledger : Ledgered) (bans :
   pub trail : IsShownTrail graphs known bans domains
   pub trials : AreTrials graphs.first vectors
 
+-- A search may begin: the same without a trail.
+pub record MaySearch (graphs : Graphs) (known : Known) (ledger : Ledgered) (bans : List Ban) (vectors : Trials) : Type 0 where
+  pub may : MayHold graphs known ledger bans
+  pub trials : AreTrials graphs.first vectors
+
 -- What a step does: claims were decided and bans held by their facts, whatever it answers, and where it does the next step may be
 -- made, with these pairs held and deleted and these trials.
 pub record Steps {X : Type 0} (graphs : Graphs) (old new : Known) (before after : Ledgered) (bans more : List Ban)
@@ -48,6 +53,14 @@ pub record Searches (graphs : Graphs) (old new : Known) (before after : Ledgered
   pub serves : Serves old new before after result
   pub valid : AreValid graphs new bans
   pub found : IfOk result (IsFound graphs bans)
+
+-- Pairs may be deleted by mismatches beside one that is held: claims may be asked, and facts show the trail.
+pub record MayDelete (graphs : Graphs) (known : Known) (ledger : Ledgered) (bans : List Ban) (pair : Pair) (domains : Domained)
+    : Type 0 where
+  pub graphs_are : graphs ≡ known.graphs
+  pub suits : Suits known ledger
+  pub trail : IsShownTrail graphs known bans domains
+  pub held : Contains (held_in domains.entries) pair
 
 -- More pairs may be deleted by mismatches beside one that stays held, no more is left than before, and facts show the trail.
 pub record Deletes (graphs : Graphs) (known : Known) (bans : List Ban) (pair : Pair) (before after : Domained) : Type 0 where

@@ -1,10 +1,13 @@
 //! Bans that decided claims show of held pairs.
 
-ghost use Rattle.std.specs.Prelude.{◌≡◌, ◌*◌, ◌<◌, All};
+ghost use Rattle.std.specs.Prelude.{◌<◌, Contains};
 ghost use Rattle.account_core.specs.Ports.{IsKnown};
+ghost use Rattle.class_refine.specs.Trails.{held_in};
 ghost use Rattle.conflict_core.specs.Conflicts.{FitPorts};
 ghost use Rattle.fact_bans.specs.Serving.{HoldsBans, MayHold};
+ghost use Rattle.match_search.specs.States.{MayStep, Steps};
 
+use crate::aids::Aids;
 use ban_book::BanBook;
 use circuits::{Pair, PortKind};
 use class_refine::Domains;
@@ -48,27 +51,31 @@ pub(crate) fn ask_output<O: Oracle>(
 }
 
 /// Holds the bans that decided claims show of a held pair: by itself, or with another held one. Such bans have one pair or two,
-/// so that what refers to them needs few pairs too.
+/// so that what refers to them needs few pairs too. Answers whether there are any.
 pub(crate) fn ask_held<O: Oracle>(
     alloc: Global,
     graphs: &PairableGraphs<'_>,
     oracle: &mut O,
-    held: &[Pair],
+    aids: &mut Aids,
+    domains: &Domains,
     pair: Pair,
-    seen: &mut Seen,
     book: &mut BanBook,
     ledger: &mut Ledger,
-) -> Result<(), Stop>
-    requires may { MayHold graphs.now (O.known oracle.old) ledger.old book.old }
-    requires held { All (IsKnown graphs.now) held.now }
-    requires known { IsKnown graphs.now pair }
-    ensures { HoldsBans graphs.now (O.known oracle.old) (O.known oracle.new) ledger.old ledger.new book.old book.new result }
+) -> Result<bool, Stop>
+    requires may { MayStep graphs.now (O.known oracle.old) ledger.old book.old domains.now aids.old.trials }
+    requires held { Contains (held_in domains.now.entries) pair }
+    ensures steps { Steps graphs.now (O.known oracle.old) (O.known oracle.new) ledger.old ledger.new book.old book.new
+        domains.now aids.new.trials result }
 {
-    ask_alone(alloc, graphs, oracle, pair, seen, book, ledger)?;
+    let _lawful = domains.entries();
+    let count = book.bans().len();
+    let held = domains.pairs();
+    ask_alone(alloc, graphs, oracle, pair, &mut aids.seen, book, ledger)?;
     for other in held.iter() {
+        let seen = &mut aids.seen;
         ask_two(alloc, graphs, oracle, pair, *other, seen, book, ledger)?;
     }
-    Ok(())
+    Ok(book.bans().len() > count)
 }
 
 // Holds the tally of a pair of outputs.

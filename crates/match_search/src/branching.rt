@@ -1,6 +1,6 @@
 //! The search, step by step.
 
-ghost use Rattle.std.specs.Prelude.{◌≡◌, ◌<◌, [], IfNone, IfOk, IfSome, OnOk, map};
+ghost use Rattle.std.specs.Prelude.{◌≡◌, ◌<◌, false, IfNone, IfOk, IfSome, OnOk, map};
 ghost use Rattle.account_core.specs.Given.{decided_by};
 ghost use Rattle.account_core.specs.Shown.{IsShownMatch};
 ghost use Rattle.fact_bans.specs.Serving.{HoldsBans, MayHold};
@@ -8,15 +8,14 @@ ghost use Rattle.match_search.specs.Founds.{IsDecidedFound, IsFound};
 ghost use Rattle.port_covers.specs.Held.{IsWhole};
 ghost use Rattle.class_refine.specs.Trails.{held_in};
 ghost use Rattle.pair_search.specs.Progress.{left};
-ghost use Rattle.match_search.specs.States.{IsAhead, IsShownTrail, MayStep, Searches, Steps};
+ghost use Rattle.match_search.specs.States.{IsAhead, IsShownTrail, MaySearch, MayStep, Searches, Steps};
 ghost use Rattle.table_guess.specs.Trials.{AreTrials};
 
 use crate::ahead::{Ahead, Settled};
+use crate::aids::Aids;
 use crate::candidate::compare_whole;
 use crate::following::follow;
 use crate::found::Found;
-use crate::guide::Guide;
-use crate::next_port::next_port;
 use crate::trail::Trail;
 use ban_book::BanBook;
 use class_refine::Domains;
@@ -29,197 +28,99 @@ use pair_refine::{Refined, refine};
 use pair_search::{Impasse, branch, start_over, turn_back};
 use port_sides::PairableGraphs;
 use query_core::Ledger;
+use search_guide::next_port;
 use std::alloc::Global;
 use watch_core::Stage;
 
-/// How many rounds there are with the same bans, after each of which the search starts over. They come to some six million
-/// conflicts, hours of work.
-const MOST_ROUNDS: u64 = 10_000;
-
-/// How often the search begins anew with no bans, once they take all their room, which is some seconds' work at least. That it ends is
-/// seen of what follows alone, in which the bans aren't let go, and less is left after each turn.
-const MOST_TIMES: u64 = 10_000;
-
-/// How many rounds a short search has: 1, 1, 2, 1, 1, 2 and 4 times the shortest one. After three a near miss of an encoder
-/// (`encoder64`) isn't refused; 15 in which more lines may be learned gain nothing more.
-const LITTLE_ROUNDS: u64 = 7;
-
-/// Decides ports one by one, as conflict-driven solvers decide variables, until a match is found, or a ban without pairs. What
-/// follows of bans and of ports with one way left is held and deleted; from an impasse a ban is learned that leads as far back
-/// as it can, and the outputs of whole tables are compared. What the search goes by comes from the caller, and bans may be
-/// held. Where a match is found, the claims of one input of all outputs are decided.
-///
-/// Bans that take all their room are let go, and the search begins anew. A ban without pairs rests on those of its book alone, so
-/// nothing that it needs is gone.
+/// Searches from nothing, with the bans that are held, for this many rounds, or until the bans take all their room, and answers
+/// what that came to, if it came to anything. Rounds end early once this many lines are learned in the run.
 ///
 /// # Errors
 ///
 /// `Spent` where a line had to be learned and the ledger's budget was spent. `Memory` when out of memory.
-pub(crate) fn explore<O: Oracle>(
+pub(crate) fn explore_rounds<O: Oracle>(
     alloc: Global,
     graphs: &PairableGraphs<'_>,
     oracle: &mut O,
-    guide: &mut Guide,
-    book: &mut BanBook,
-    ledger: &mut Ledger,
-) -> Result<Found, Stop>
-    requires may { MayHold graphs.now (O.known oracle.old) ledger.old book.old }
-    requires trials { AreTrials graphs.now.first guide.old.trials }
-    ensures searches { Searches graphs.now (O.known oracle.old) (O.known oracle.new) ledger.old ledger.new book.new result }
-    ensures decided { IfOk result (IsDecidedFound graphs.now (map decided_by (O.known oracle.new).facts)) }
-{
-    for _time in 0..MOST_TIMES {
-        if let Some(found) = explore_rounds(
-            alloc,
-            graphs,
-            oracle,
-            guide,
-            MOST_ROUNDS,
-            book,
-            ledger,
-        )? {
-            return Ok(found);
-        }
-        let_go(alloc, book);
-        guide.begin_anew();
-    }
-    explore_whole(alloc, graphs, oracle, guide, book, ledger)
-}
-
-/// Searches for some rounds, in which this many lines may be learned, and answers what they came to, if they came to anything. The
-/// search goes on from nothing, with the bans that were learned.
-///
-/// # Errors
-///
-/// As for `explore`.
-pub(crate) fn explore_little<O: Oracle>(
-    alloc: Global,
-    graphs: &PairableGraphs<'_>,
-    oracle: &mut O,
-    guide: &mut Guide,
+    aids: &mut Aids,
+    rounds: u64,
     lines: u64,
     book: &mut BanBook,
     ledger: &mut Ledger,
 ) -> Result<Option<Found>, Stop>
-    requires may { MayHold graphs.now (O.known oracle.old) ledger.old book.old }
-    requires trials { AreTrials graphs.now.first guide.old.trials }
+    requires may { MaySearch graphs.now (O.known oracle.old) ledger.old book.old aids.old.trials }
     ensures holds { HoldsBans graphs.now (O.known oracle.old) (O.known oracle.new) ledger.old ledger.new book.old book.new result }
-    ensures trials { OnOk result (AreTrials graphs.now.first guide.new.trials) }
+    ensures trials { OnOk result (AreTrials graphs.now.first aids.new.trials) }
     ensures found { IfOk result (λ found. IfSome found (IsFound graphs.now book.new)) }
     ensures decided { IfOk result (λ found. IfSome found
         (IsDecidedFound graphs.now (map decided_by (O.known oracle.new).facts))) }
 {
-    let end = ledger.learned().saturating_add(lines);
-    guide.rounds.end_at(end);
-    let found = explore_rounds(alloc, graphs, oracle, guide, LITTLE_ROUNDS, book, ledger)?;
-    guide.rounds.lift();
-    Ok(found)
-}
-
-// Searches from nothing, with the bans that are held, for this many rounds, or until the bans take all their room.
-fn explore_rounds<O: Oracle>(
-    alloc: Global,
-    graphs: &PairableGraphs<'_>,
-    oracle: &mut O,
-    guide: &mut Guide,
-    rounds: u64,
-    book: &mut BanBook,
-    ledger: &mut Ledger,
-) -> Result<Option<Found>, Stop>
-    requires may { MayHold graphs.now (O.known oracle.old) ledger.old book.old }
-    requires trials { AreTrials graphs.now.first guide.old.trials }
-    ensures holds { HoldsBans graphs.now (O.known oracle.old) (O.known oracle.new) ledger.old ledger.new book.old book.new result }
-    ensures trials { OnOk result (AreTrials graphs.now.first guide.new.trials) }
-    ensures found { IfOk result (λ found. IfSome found (IsFound graphs.now book.new)) }
-    ensures decided { IfOk result (λ found. IfSome found
-        (IsDecidedFound graphs.now (map decided_by (O.known oracle.new).facts))) }
-{
-    guide.forget(0);
+    aids.guide.begin(lines);
     let mut trail = Trail::new(alloc, graphs)?;
     for _round in 0..rounds {
         if let Some(found) = explore_round(
-            alloc, graphs, oracle, guide, &mut trail, book, ledger,
+            alloc, graphs, oracle, aids, &mut trail, true, book, ledger,
         )? {
             return Ok(Some(found));
         }
-        if guide.is_full() {
+        if aids.guide.is_full() {
             return Ok(None);
         }
         start_over(&mut trail.domains, &mut trail.queue, book.bans());
-        guide.begin_round(trail.domains.pairs().len());
+        aids.guide.begin_round(trail.domains.pairs().len());
     }
     Ok(None)
 }
 
-// Searches from nothing, with the bans that are held, and doesn't start over.
-fn explore_whole<O: Oracle>(
+/// Searches from nothing, with the bans that are held, and doesn't start over.
+///
+/// # Errors
+///
+/// As for `explore_rounds`.
+pub(crate) fn explore_whole<O: Oracle>(
     alloc: Global,
     graphs: &PairableGraphs<'_>,
     oracle: &mut O,
-    guide: &mut Guide,
+    aids: &mut Aids,
     book: &mut BanBook,
     ledger: &mut Ledger,
 ) -> Result<Found, Stop>
-    requires may { MayHold graphs.now (O.known oracle.old) ledger.old book.old }
-    requires trials { AreTrials graphs.now.first guide.old.trials }
+    requires may { MaySearch graphs.now (O.known oracle.old) ledger.old book.old aids.old.trials }
     ensures searches { Searches graphs.now (O.known oracle.old) (O.known oracle.new) ledger.old ledger.new book.new result }
     ensures decided { IfOk result (IsDecidedFound graphs.now (map decided_by (O.known oracle.new).facts)) }
 {
     let mut trail = Trail::new(alloc, graphs)?;
-    explore_on(alloc, graphs, oracle, guide, &mut trail, book, ledger)
+    match explore_round(alloc, graphs, oracle, aids, &mut trail, false, book, ledger)? {
+        Some(found) => Ok(found),
+        None => unreachable!(),
+    }
 }
 
-// Lets all bans go.
-fn let_go(alloc: Global, book: &mut BanBook)
-    ensures { book.new ≡ [] }
-{
-    *book = BanBook::new(alloc);
-}
-
-// Searches until a round is over.
+// Searches until a round is over, if it is one that ends. Else it searches on until something is found.
 fn explore_round<O: Oracle>(
     alloc: Global,
     graphs: &PairableGraphs<'_>,
     oracle: &mut O,
-    guide: &mut Guide,
+    aids: &mut Aids,
     trail: &mut Trail,
+    ends: bool,
     book: &mut BanBook,
     ledger: &mut Ledger,
 ) -> Result<Option<Found>, Stop>
-    requires may { MayStep graphs.now (O.known oracle.old) ledger.old book.old trail.old.domains guide.old.trials }
+    requires may { MayStep graphs.now (O.known oracle.old) ledger.old book.old trail.old.domains aids.old.trials }
     ensures steps { Steps graphs.now (O.known oracle.old) (O.known oracle.new) ledger.old ledger.new book.old book.new
-        trail.new.domains guide.new.trials result }
+        trail.new.domains aids.new.trials result }
     ensures found { IfOk result (λ found. IfSome found (IsFound graphs.now book.new)) }
     ensures decided { IfOk result (λ found. IfSome found
         (IsDecidedFound graphs.now (map decided_by (O.known oracle.new).facts))) }
+    ensures ends { ends ≡ false → IfOk result (λ found. IfNone found ⊥) }
 {
-    while !guide.is_round_over(ledger.learned()) {
-        if let Some(found) = turn(alloc, graphs, oracle, guide, trail, book, ledger)? {
+    while !(ends & aids.guide.is_round_over(ledger.learned())) {
+        if let Some(found) = turn(alloc, graphs, oracle, aids, trail, book, ledger)? {
             return Ok(Some(found));
         }
     }
     Ok(None)
-}
-
-// Searches on, and doesn't start over.
-fn explore_on<O: Oracle>(
-    alloc: Global,
-    graphs: &PairableGraphs<'_>,
-    oracle: &mut O,
-    guide: &mut Guide,
-    trail: &mut Trail,
-    book: &mut BanBook,
-    ledger: &mut Ledger,
-) -> Result<Found, Stop>
-    requires may { MayStep graphs.now (O.known oracle.old) ledger.old book.old trail.old.domains guide.old.trials }
-    ensures searches { Searches graphs.now (O.known oracle.old) (O.known oracle.new) ledger.old ledger.new book.new result }
-    ensures decided { IfOk result (IsDecidedFound graphs.now (map decided_by (O.known oracle.new).facts)) }
-{
-    loop {
-        if let Some(found) = turn(alloc, graphs, oracle, guide, trail, book, ledger)? {
-            return Ok(found);
-        }
-    }
 }
 
 // One step ahead, and back from an impasse. It answers None where less is left than before.
@@ -227,14 +128,14 @@ fn turn<O: Oracle>(
     alloc: Global,
     graphs: &PairableGraphs<'_>,
     oracle: &mut O,
-    guide: &mut Guide,
+    aids: &mut Aids,
     trail: &mut Trail,
     book: &mut BanBook,
     ledger: &mut Ledger,
 ) -> Result<Option<Found>, Stop>
-    requires may { MayStep graphs.now (O.known oracle.old) ledger.old book.old trail.old.domains guide.old.trials }
+    requires may { MayStep graphs.now (O.known oracle.old) ledger.old book.old trail.old.domains aids.old.trials }
     ensures steps { Steps graphs.now (O.known oracle.old) (O.known oracle.new) ledger.old ledger.new book.old book.new
-        trail.new.domains guide.new.trials result }
+        trail.new.domains aids.new.trials result }
     ensures less { IfOk result (λ found. IfNone found (left trail.new.domains < left trail.old.domains)) }
     ensures found { IfOk result (λ found. IfSome found (IsFound graphs.now book.new)) }
     ensures decided { IfOk result (λ found. IfSome found
@@ -243,14 +144,14 @@ fn turn<O: Oracle>(
     oracle.at(Stage::Banning {
         bans: book.bans().len() as u64,
     });
-    let impasse = match ahead(alloc, graphs, oracle, guide, trail, book, ledger)? {
+    let impasse = match ahead(alloc, graphs, oracle, aids, trail, book, ledger)? {
         Ahead::Deeper => return Ok(None),
         Ahead::Match(matching, logs) => return Ok(Some(Found::Match(matching, logs))),
         Ahead::Impasse(impasse) => impasse,
     };
     let before = book.bans().len();
     let dead = impasse.ban();
-    guide.hurry(&impasse);
+    aids.guide.hurry(&impasse);
     let refusal = turn_back(
         alloc,
         graphs,
@@ -259,8 +160,8 @@ fn turn<O: Oracle>(
         impasse,
         book,
     )?;
-    guide.learn(book.bans(), before, dead);
-    guide.forget(trail.domains.pairs().len());
+    aids.guide.learn(book.bans(), before, dead);
+    aids.guide.forget(trail.domains.pairs().len());
     match refusal {
         None => Ok(None),
         Some(ban) => Ok(Some(Found::None(ban))),
@@ -272,22 +173,22 @@ fn ahead<O: Oracle>(
     alloc: Global,
     graphs: &PairableGraphs<'_>,
     oracle: &mut O,
-    guide: &mut Guide,
+    aids: &mut Aids,
     trail: &mut Trail,
     book: &mut BanBook,
     ledger: &mut Ledger,
 ) -> Result<Ahead, Stop>
-    requires may { MayStep graphs.now (O.known oracle.old) ledger.old book.old trail.old.domains guide.old.trials }
+    requires may { MayStep graphs.now (O.known oracle.old) ledger.old book.old trail.old.domains aids.old.trials }
     ensures steps { Steps graphs.now (O.known oracle.old) (O.known oracle.new) ledger.old ledger.new book.old book.new
-        trail.new.domains guide.new.trials result }
+        trail.new.domains aids.new.trials result }
     ensures ahead { IfOk result
         (IsAhead graphs.now (map decided_by (O.known oracle.new).facts) book.new trail.old.domains trail.new.domains) }
 {
-    if let Some(impasse) = follow(alloc, graphs, oracle, guide, trail, book, ledger)? {
+    if let Some(impasse) = follow(alloc, graphs, oracle, aids, trail, book, ledger)? {
         return Ok(Ahead::Impasse(impasse));
     }
     let domains = &mut trail.domains;
-    go_on(alloc, graphs, oracle, guide, domains, book, ledger)
+    go_on(alloc, graphs, oracle, aids, domains, book, ledger)
 }
 
 // Decides the next port, and where no port is left compares the outputs.
@@ -295,20 +196,20 @@ fn go_on<O: Oracle>(
     alloc: Global,
     graphs: &PairableGraphs<'_>,
     oracle: &mut O,
-    guide: &mut Guide,
+    aids: &mut Aids,
     domains: &mut Domains,
     book: &mut BanBook,
     ledger: &mut Ledger,
 ) -> Result<Ahead, Stop>
-    requires may { MayStep graphs.now (O.known oracle.old) ledger.old book.old domains.old guide.old.trials }
+    requires may { MayStep graphs.now (O.known oracle.old) ledger.old book.old domains.old aids.old.trials }
     ensures steps { Steps graphs.now (O.known oracle.old) (O.known oracle.new) ledger.old ledger.new book.old book.new
-        domains.new guide.new.trials result }
+        domains.new aids.new.trials result }
     ensures ahead { IfOk result (IsAhead graphs.now (map decided_by (O.known oracle.new).facts) book.new domains.old domains.new) }
 {
-    let Some(port) = next_port(alloc, graphs, guide, domains)? else {
-        return compare_held(alloc, graphs, oracle, guide, domains, book, ledger);
+    let Some(port) = next_port(alloc, graphs, &aids.guide, domains)? else {
+        return compare_held(alloc, graphs, oracle, aids, domains, book, ledger);
     };
-    guide.decided = Some(port);
+    aids.guide.decide(port);
     match branch(domains, book.bans(), port)? {
         None => Ok(Ahead::Deeper),
         Some(impasse) => Ok(Ahead::Impasse(impasse)),
@@ -320,15 +221,15 @@ fn compare_held<O: Oracle>(
     alloc: Global,
     graphs: &PairableGraphs<'_>,
     oracle: &mut O,
-    guide: &mut Guide,
+    aids: &mut Aids,
     domains: &mut Domains,
     book: &mut BanBook,
     ledger: &mut Ledger,
 ) -> Result<Ahead, Stop>
-    requires may { MayStep graphs.now (O.known oracle.old) ledger.old book.old domains.old guide.old.trials }
+    requires may { MayStep graphs.now (O.known oracle.old) ledger.old book.old domains.old aids.old.trials }
     requires whole { IsWhole graphs.now (held_in domains.old.entries) }
     ensures steps { Steps graphs.now (O.known oracle.old) (O.known oracle.new) ledger.old ledger.new book.old book.new
-        domains.new guide.new.trials result }
+        domains.new aids.new.trials result }
     ensures ahead { IfOk result (IsAhead graphs.now (map decided_by (O.known oracle.new).facts) book.new domains.old domains.new) }
 {
     let _lawful = domains.entries();
@@ -336,14 +237,14 @@ fn compare_held<O: Oracle>(
         alloc,
         graphs,
         oracle,
-        &mut guide.trials,
-        &mut guide.seen,
+        &mut aids.trials,
+        &mut aids.seen,
         domains.pairs(),
         book,
         ledger,
     )? {
         Settled::Match(matching, logs) => {
-            let seen = &mut guide.seen;
+            let seen = &mut aids.seen;
             confirm(
                 alloc, graphs, oracle, domains, matching, logs, seen, book, ledger,
             )

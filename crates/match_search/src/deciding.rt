@@ -6,14 +6,13 @@ ghost use Rattle.account_core.specs.Steps.{AreValidBans};
 ghost use Rattle.ban_book.specs.Vectors.{AreLastResorts};
 ghost use Rattle.fact_bans.specs.Serving.{MayHold};
 ghost use Rattle.match_search.specs.Founds.{IsFound};
-ghost use Rattle.match_search.specs.States.{Searches};
+ghost use Rattle.match_search.specs.States.{MaySearch, Searches};
 ghost use Rattle.oracle_core.specs.Oracles.{Serves, Suits};
-ghost use Rattle.table_guess.specs.Trials.{AreTrials};
 
-use crate::branching::explore_little;
+use crate::aids::Aids;
+use crate::branching::explore_rounds;
 use crate::found::Found;
 use crate::guessed::compare_guesses;
-use crate::guide::Guide;
 use crate::searching::refuse_or_explore;
 use ban_book::BanBook;
 use circuits::PortKind;
@@ -34,6 +33,10 @@ const FEW_FLIPS: u64 = 2_304;
 /// How often a refusal by counts is tried before more tables are guessed: once, since vectors that err there say little, and of
 /// circuits that match each further try is lost.
 const FEW_TRIES: u32 = 1;
+
+/// How many rounds a short search has: 1, 1, 2, 1, 1, 2 and 4 times the shortest one. After three a near miss of an encoder
+/// (`encoder64`) isn't refused; 15 in which more lines may be learned gain nothing more.
+const LITTLE_ROUNDS: u64 = 7;
 
 /// How many lines may be learned in the short search before all guesses: an eighth of a second's.
 const FEW_LINES: u64 = 5_000;
@@ -86,10 +89,10 @@ fn guess_first<O: Oracle>(
     if let Some((table, logs)) = compare_guesses(alloc, graphs, oracle, guesser, effort, ledger)? {
         return Ok(Found::Match(table, logs));
     }
-    let mut guide = Guide::new(alloc, graphs, seed)?;
+    let mut aids = Aids::new(alloc, graphs, seed)?;
     match effort {
-        Effort::Little => refuse_or_find(alloc, graphs, oracle, guesser, &mut guide, book, ledger),
-        Effort::Whole => refuse_or_explore(alloc, graphs, oracle, &mut guide, book, ledger),
+        Effort::Little => refuse_or_find(alloc, graphs, oracle, guesser, &mut aids, book, ledger),
+        Effort::Whole => refuse_or_explore(alloc, graphs, oracle, &mut aids, book, ledger),
     }
 }
 
@@ -106,18 +109,17 @@ fn first_effort(graphs: &PairableGraphs<'_>) -> Effort {
 }
 
 // Decides where little effort found no match: by counts, by a short search, which refuses what a few conflicts show, by more
-// guesses, and then by searching.
+// guesses, and then by searching with the bans that are held.
 fn refuse_or_find<O: Oracle>(
     alloc: Global,
     graphs: &PairableGraphs<'_>,
     oracle: &mut O,
     guesser: &mut Guesser<'_>,
-    guide: &mut Guide,
+    aids: &mut Aids,
     book: &mut BanBook,
     ledger: &mut Ledger,
 ) -> Result<Found, Stop>
-    requires may { MayHold graphs.now (O.known oracle.old) ledger.old book.old }
-    requires trials { AreTrials graphs.now.first guide.old.trials }
+    requires may { MaySearch graphs.now (O.known oracle.old) ledger.old book.old aids.old.trials }
     ensures searches { Searches graphs.now (O.known oracle.old) (O.known oracle.new) ledger.old ledger.new book.new result }
 {
     if let Some(ban) = refuse(
@@ -125,32 +127,25 @@ fn refuse_or_find<O: Oracle>(
         graphs,
         oracle,
         FEW_TRIES,
-        &mut guide.seen,
+        &mut aids.seen,
         book,
         ledger,
     )? {
         return Ok(Found::None(ban));
     }
-    if let Some(found) = explore_little(alloc, graphs, oracle, guide, FEW_LINES, book, ledger)? {
+    let lines = ledger.learned().saturating_add(FEW_LINES);
+    if let Some(found) = explore_rounds(
+        alloc,
+        graphs,
+        oracle,
+        aids,
+        LITTLE_ROUNDS,
+        lines,
+        book,
+        ledger,
+    )? {
         return Ok(found);
     }
-    guess_or_explore(alloc, graphs, oracle, guesser, guide, book, ledger)
-}
-
-// Compares more tables, and where none of them is a match searches.
-fn guess_or_explore<O: Oracle>(
-    alloc: Global,
-    graphs: &PairableGraphs<'_>,
-    oracle: &mut O,
-    guesser: &mut Guesser<'_>,
-    guide: &mut Guide,
-    book: &mut BanBook,
-    ledger: &mut Ledger,
-) -> Result<Found, Stop>
-    requires may { MayHold graphs.now (O.known oracle.old) ledger.old book.old }
-    requires trials { AreTrials graphs.now.first guide.old.trials }
-    ensures searches { Searches graphs.now (O.known oracle.old) (O.known oracle.new) ledger.old ledger.new book.new result }
-{
     if let Some((table, logs)) = compare_guesses(
         alloc,
         graphs,
@@ -161,5 +156,5 @@ fn guess_or_explore<O: Oracle>(
     )? {
         return Ok(Found::Match(table, logs));
     }
-    refuse_or_explore(alloc, graphs, oracle, guide, book, ledger)
+    refuse_or_explore(alloc, graphs, oracle, aids, book, ledger)
 }

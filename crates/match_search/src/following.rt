@@ -1,17 +1,15 @@
 //! What follows of the pairs that are held, by bans, by decided claims and by vectors.
 
 ghost use Rattle.std.specs.Prelude.{◌≡◌, ◌≤◌, Contains, IfOk, IfSome, OnOk};
-ghost use Rattle.fact_bans.specs.Serving.{HoldsBans, MayHold};
 ghost use Rattle.pair_search.specs.Impasses.{IsImpasse};
-ghost use Rattle.oracle_core.specs.Oracles.{Serves, Suits};
+ghost use Rattle.oracle_core.specs.Oracles.{Serves};
 ghost use Rattle.class_refine.specs.Trails.{held_in};
-ghost use Rattle.pair_search.specs.Progress.{IsTrail, left};
-ghost use Rattle.match_search.specs.States.{Deletes, IsShownTrail, MayStep, Steps};
-ghost use Rattle.table_guess.specs.Trials.{AreTrials};
+ghost use Rattle.pair_search.specs.Progress.{left};
+ghost use Rattle.match_search.specs.States.{Deletes, MayDelete, MayStep, Steps};
 
+use crate::aids::Aids;
 use crate::asking::{ask_held, ask_output};
 use crate::exchanged::exclude_by_swaps;
-use crate::guide::Guide;
 use crate::trail::Trail;
 use crate::unlike::{delete_unlike, list_unlike};
 use account_core::Ban;
@@ -32,30 +30,43 @@ pub(crate) fn follow<O: Oracle>(
     alloc: Global,
     graphs: &PairableGraphs<'_>,
     oracle: &mut O,
-    guide: &mut Guide,
+    aids: &mut Aids,
     trail: &mut Trail,
     book: &mut BanBook,
     ledger: &mut Ledger,
 ) -> Result<Option<Impasse>, Stop>
-    requires may { MayStep graphs.now (O.known oracle.old) ledger.old book.old trail.old.domains guide.old.trials }
+    requires may { MayStep graphs.now (O.known oracle.old) ledger.old book.old trail.old.domains aids.old.trials }
     ensures steps { Steps graphs.now (O.known oracle.old) (O.known oracle.new) ledger.old ledger.new book.old book.new
-        trail.new.domains guide.new.trials result }
+        trail.new.domains aids.new.trials result }
     ensures less { OnOk result (left trail.new.domains ≤ left trail.old.domains) }
     ensures impasse { IfOk result (λ found. IfSome found
         (IsImpasse trail.new.domains.inputs trail.new.domains.outputs book.new trail.new.domains.entries)) }
 {
-    if let Some(impasse) = settle(alloc, graphs, oracle, guide, trail, book, ledger)? {
+    if let Some(impasse) = settle(alloc, graphs, oracle, aids, trail, book, ledger)? {
         return Ok(Some(impasse));
     }
-    if guide.rounds.is_over(ledger.learned()) {
+    if aids.guide.is_round_over(ledger.learned()) {
         return Ok(None);
     }
     let domains = &trail.domains;
-    if let Some(exchanged) = exchange_held(alloc, graphs, oracle, guide, domains, book, ledger)? {
+    if let Some(exchanged) = exchange_held(alloc, graphs, oracle, aids, domains, book, ledger)? {
         return Ok(Some(exchanged));
     }
-    let found = foresee_held(alloc, graphs, oracle, guide, domains, book, ledger)?;
-    Ok(found)
+    let _lawful = domains.entries();
+    let pairs = domains.pairs();
+    match foresee(
+        alloc,
+        graphs,
+        oracle,
+        pairs,
+        &aids.trials,
+        &mut aids.seen,
+        book,
+        ledger,
+    )? {
+        Some(ban) => Ok(Some(Impasse::Ban(ban))),
+        None => Ok(None),
+    }
 }
 
 // Holds each held pair that wasn't yet against claims of two inputs, beside all others.
@@ -63,31 +74,30 @@ fn exchange_held<O: Oracle>(
     alloc: Global,
     graphs: &PairableGraphs<'_>,
     oracle: &mut O,
-    guide: &mut Guide,
+    aids: &mut Aids,
     domains: &Domains,
     book: &mut BanBook,
     ledger: &mut Ledger,
 ) -> Result<Option<Impasse>, Stop>
-    requires may { MayHold graphs.now (O.known oracle.old) ledger.old book.old }
-    requires trail { IsTrail graphs.now book.old domains.now }
-    ensures holds { HoldsBans graphs.now (O.known oracle.old) (O.known oracle.new) ledger.old ledger.new book.old book.new result }
-    ensures trials { guide.new.trials ≡ guide.old.trials }
+    requires may { MayStep graphs.now (O.known oracle.old) ledger.old book.old domains.now aids.old.trials }
+    ensures steps { Steps graphs.now (O.known oracle.old) (O.known oracle.new) ledger.old ledger.new book.old book.new
+        domains.now aids.new.trials result }
     ensures impasse { IfOk result (λ found. IfSome found
         (IsImpasse domains.now.inputs domains.now.outputs book.new domains.now.entries)) }
 {
     let _lawful = domains.entries();
     let held = domains.pairs();
-    for place in guide.exchanged..held.len() {
+    for place in aids.guide.exchanged..held.len() {
         let newest = held[place];
-        guide.exchanged = place;
-        let seen = &mut guide.seen;
+        aids.guide.exchanged = place;
+        let seen = &mut aids.seen;
         if let Some(ban) = exclude_by_swaps(
             alloc, graphs, oracle, held, newest, seen, book, ledger,
         )? {
             return Ok(Some(Impasse::Ban(ban)));
         }
     }
-    guide.exchanged = held.len();
+    aids.guide.exchanged = held.len();
     Ok(None)
 }
 
@@ -97,14 +107,14 @@ fn settle<O: Oracle>(
     alloc: Global,
     graphs: &PairableGraphs<'_>,
     oracle: &mut O,
-    guide: &mut Guide,
+    aids: &mut Aids,
     trail: &mut Trail,
     book: &mut BanBook,
     ledger: &mut Ledger,
 ) -> Result<Option<Impasse>, Stop>
-    requires may { MayStep graphs.now (O.known oracle.old) ledger.old book.old trail.old.domains guide.old.trials }
+    requires may { MayStep graphs.now (O.known oracle.old) ledger.old book.old trail.old.domains aids.old.trials }
     ensures steps { Steps graphs.now (O.known oracle.old) (O.known oracle.new) ledger.old ledger.new book.old book.new
-        trail.new.domains guide.new.trials result }
+        trail.new.domains aids.new.trials result }
     ensures less { OnOk result (left trail.new.domains ≤ left trail.old.domains) }
     ensures impasse { IfOk result (λ found. IfSome found
         (IsImpasse trail.new.domains.inputs trail.new.domains.outputs book.new trail.new.domains.entries)) }
@@ -121,8 +131,8 @@ fn settle<O: Oracle>(
             return Ok(Some(impasse));
         }
         let domains = &mut trail.domains;
-        let more = ask_next(alloc, graphs, oracle, guide, domains, book, ledger)?;
-        if !more | guide.rounds.is_over(ledger.learned()) {
+        let more = ask_next(alloc, graphs, oracle, aids, domains, book, ledger)?;
+        if !more | aids.guide.is_round_over(ledger.learned()) {
             return Ok(None);
         }
     }
@@ -135,20 +145,20 @@ fn ask_next<O: Oracle>(
     alloc: Global,
     graphs: &PairableGraphs<'_>,
     oracle: &mut O,
-    guide: &mut Guide,
+    aids: &mut Aids,
     domains: &mut Domains,
     book: &mut BanBook,
     ledger: &mut Ledger,
 ) -> Result<bool, Stop>
-    requires may { MayStep graphs.now (O.known oracle.old) ledger.old book.old domains.old guide.old.trials }
+    requires may { MayStep graphs.now (O.known oracle.old) ledger.old book.old domains.old aids.old.trials }
     ensures steps { Steps graphs.now (O.known oracle.old) (O.known oracle.new) ledger.old ledger.new book.old book.new
-        domains.new guide.new.trials result }
+        domains.new aids.new.trials result }
     ensures less { OnOk result (left domains.new ≤ left domains.old) }
 {
-    let Some(output) = guide.next_output(domains.ports(PortKind::Output)) else {
-        return ask_next_pair(alloc, graphs, oracle, guide, domains, book, ledger);
+    let Some(output) = aids.guide.next_output(domains.ports(PortKind::Output)) else {
+        return ask_next_pair(alloc, graphs, oracle, aids, domains, book, ledger);
     };
-    let seen = &mut guide.seen;
+    let seen = &mut aids.seen;
     ask_output(alloc, graphs, oracle, domains, output, seen, book, ledger)?;
     Ok(true)
 }
@@ -160,29 +170,29 @@ fn ask_next_pair<O: Oracle>(
     alloc: Global,
     graphs: &PairableGraphs<'_>,
     oracle: &mut O,
-    guide: &mut Guide,
+    aids: &mut Aids,
     domains: &mut Domains,
     book: &mut BanBook,
     ledger: &mut Ledger,
 ) -> Result<bool, Stop>
-    requires may { MayStep graphs.now (O.known oracle.old) ledger.old book.old domains.old guide.old.trials }
+    requires may { MayStep graphs.now (O.known oracle.old) ledger.old book.old domains.old aids.old.trials }
     ensures steps { Steps graphs.now (O.known oracle.old) (O.known oracle.new) ledger.old ledger.new book.old book.new
-        domains.new guide.new.trials result }
+        domains.new aids.new.trials result }
     ensures less { OnOk result (left domains.new ≤ left domains.old) }
 {
-    let Some(pair) = next_held(domains, guide.asked) else {
+    let Some(pair) = next_held(domains, aids.guide.asked) else {
         return Ok(false);
     };
-    let more = ask_bans(alloc, graphs, oracle, guide, domains, pair, book, ledger)?;
+    let more = ask_held(alloc, graphs, oracle, aids, domains, pair, book, ledger)?;
     if more {
         return Ok(true);
     }
-    guide.asked = guide.asked.saturating_add(1);
+    aids.guide.asked = aids.guide.asked.saturating_add(1);
     delete_beside(
         alloc,
         graphs,
         oracle,
-        guide,
+        aids,
         domains,
         book.bans(),
         pair,
@@ -198,54 +208,25 @@ fn next_held(domains: &Domains, place: usize) -> Option<Pair>
     domains.pairs().get(place).copied()
 }
 
-// Holds the bans that decided claims show of a held pair and others. Answers whether there are any.
-fn ask_bans<O: Oracle>(
-    alloc: Global,
-    graphs: &PairableGraphs<'_>,
-    oracle: &mut O,
-    guide: &mut Guide,
-    domains: &Domains,
-    pair: Pair,
-    book: &mut BanBook,
-    ledger: &mut Ledger,
-) -> Result<bool, Stop>
-    requires may { MayHold graphs.now (O.known oracle.old) ledger.old book.old }
-    requires trail { IsTrail graphs.now book.old domains.now }
-    requires held { Contains (held_in domains.now.entries) pair }
-    ensures holds { HoldsBans graphs.now (O.known oracle.old) (O.known oracle.new) ledger.old ledger.new book.old book.new result }
-    ensures trials { guide.new.trials ≡ guide.old.trials }
-{
-    let _lawful = domains.entries();
-    let count = book.bans().len();
-    let held = domains.pairs();
-    let seen = &mut guide.seen;
-    ask_held(alloc, graphs, oracle, held, pair, seen, book, ledger)?;
-    Ok(book.bans().len() > count)
-}
-
 // Deletes the ways that decided claims tell from a held pair.
 fn delete_beside<O: Oracle>(
     alloc: Global,
     graphs: &PairableGraphs<'_>,
     oracle: &mut O,
-    guide: &mut Guide,
+    aids: &mut Aids,
     domains: &mut Domains,
     bans: &[Ban],
     pair: Pair,
     ledger: &mut Ledger,
 ) -> Result<(), Stop>
-    requires graphs { graphs.now ≡ (O.known oracle.old).graphs }
-    requires suits { Suits (O.known oracle.old) ledger.old }
-    requires trail { IsShownTrail graphs.now (O.known oracle.old) bans.now domains.old }
-    requires held { Contains (held_in domains.old.entries) pair }
+    requires may { MayDelete graphs.now (O.known oracle.old) ledger.old bans.now pair domains.old }
     ensures serves { Serves (O.known oracle.old) (O.known oracle.new) ledger.old ledger.new result }
-    ensures trials { guide.new.trials ≡ guide.old.trials }
+    ensures trials { aids.new.trials ≡ aids.old.trials }
     ensures deletes { OnOk result (Deletes graphs.now (O.known oracle.new) bans.now pair domains.old domains.new) }
 {
     let _facts = oracle.facts();
-    let _lawful = domains.entries();
-    let again = guide.compared.mark(pair);
-    list_unlike(alloc, domains, &guide.seen, pair, again, &mut guide.ways)?;
+    let again = aids.guide.compare(pair);
+    list_unlike(alloc, domains, &aids.seen, pair, again, &mut aids.ways)?;
     delete_unlike(
         alloc,
         graphs,
@@ -253,44 +234,8 @@ fn delete_beside<O: Oracle>(
         domains,
         bans,
         pair,
-        &guide.ways,
-        &mut guide.seen,
+        &aids.ways,
+        &mut aids.seen,
         ledger,
     )
-}
-
-// Tries the pairs that are held on vectors.
-fn foresee_held<O: Oracle>(
-    alloc: Global,
-    graphs: &PairableGraphs<'_>,
-    oracle: &mut O,
-    guide: &mut Guide,
-    domains: &Domains,
-    book: &mut BanBook,
-    ledger: &mut Ledger,
-) -> Result<Option<Impasse>, Stop>
-    requires may { MayHold graphs.now (O.known oracle.old) ledger.old book.old }
-    requires trail { IsTrail graphs.now book.old domains.now }
-    requires trials { AreTrials graphs.now.first guide.old.trials }
-    ensures holds { HoldsBans graphs.now (O.known oracle.old) (O.known oracle.new) ledger.old ledger.new book.old book.new result }
-    ensures trials { guide.new.trials ≡ guide.old.trials }
-    ensures impasse { IfOk result (λ found. IfSome found
-        (IsImpasse domains.now.inputs domains.now.outputs book.new domains.now.entries)) }
-{
-    let _lawful = domains.entries();
-    let held = domains.pairs();
-    let seen = &mut guide.seen;
-    match foresee(
-        alloc,
-        graphs,
-        oracle,
-        held,
-        &guide.trials,
-        seen,
-        book,
-        ledger,
-    )? {
-        Some(ban) => Ok(Some(Impasse::Ban(ban))),
-        None => Ok(None),
-    }
 }

@@ -2,26 +2,19 @@
 #![tactic(auto)]
 
 mod ahead;
+mod aids;
 mod asking;
 mod branching;
 mod candidate;
-mod compared;
 mod deciding;
 mod exchanged;
-mod fewest;
 mod following;
 mod found;
 mod guessed;
-mod guide;
-mod next_port;
-mod reads;
-mod room;
-mod rounds;
 mod searching;
 mod table;
 mod trail;
 mod unlike;
-mod weights;
 
 pub use deciding::decide;
 pub use found::Found;

@@ -1,14 +1,13 @@
 //! Ways that claims of one input tell from a held pair.
 
-ghost use Rattle.std.specs.Prelude.{◌≡◌, Contains, IfOk, IfSome, OnOk, map};
+ghost use Rattle.std.specs.Prelude.{◌≡◌, IfOk, IfSome, OnOk, map};
 ghost use Rattle.account_core.specs.Given.{decided_by};
 ghost use Rattle.account_core.specs.Ports.{IsKnown};
 ghost use Rattle.class_refine.specs.declared.entry.Fate.TheVariants.{Deleted};
 ghost use Rattle.class_refine.specs.declared.entry.Reason.TheVariants.{Mismatch};
-ghost use Rattle.class_refine.specs.Trails.{held_in};
 ghost use Rattle.conflict_core.specs.Grounded.{IsGrounded};
 ghost use Rattle.oracle_core.specs.Oracles.{Serves, Suits};
-ghost use Rattle.match_search.specs.States.{Deletes, IsShownTrail};
+ghost use Rattle.match_search.specs.States.{Deletes, MayDelete};
 
 use account_core::Ban;
 use circuits::{Pair, PortKind};
@@ -153,11 +152,7 @@ pub(crate) fn delete_unlike<O: Oracle>(
     seen: &mut Seen,
     ledger: &mut Ledger,
 ) -> Result<(), Stop>
-    requires graphs { graphs.now ≡ (O.known oracle.old).graphs }
-    requires suits { Suits (O.known oracle.old) ledger.old }
-    requires trail { IsShownTrail graphs.now (O.known oracle.old) bans.now domains.old }
-    requires held { Contains (held_in domains.old.entries) pair }
-    requires known { IsKnown graphs.now pair }
+    requires may { MayDelete graphs.now (O.known oracle.old) ledger.old bans.now pair domains.old }
     ensures serves { Serves (O.known oracle.old) (O.known oracle.new) ledger.old ledger.new result }
     ensures deletes { OnOk result (Deletes graphs.now (O.known oracle.new) bans.now pair domains.old domains.new) }
 {
@@ -182,11 +177,7 @@ fn delete_way<O: Oracle>(
     seen: &mut Seen,
     ledger: &mut Ledger,
 ) -> Result<(), Stop>
-    requires graphs { graphs.now ≡ (O.known oracle.old).graphs }
-    requires suits { Suits (O.known oracle.old) ledger.old }
-    requires trail { IsShownTrail graphs.now (O.known oracle.old) bans.now domains.old }
-    requires held { Contains (held_in domains.old.entries) pair }
-    requires known { IsKnown graphs.now pair }
+    requires may { MayDelete graphs.now (O.known oracle.old) ledger.old bans.now pair domains.old }
     ensures serves { Serves (O.known oracle.old) (O.known oracle.new) ledger.old ledger.new result }
     ensures deletes { OnOk result (Deletes graphs.now (O.known oracle.new) bans.now pair domains.old domains.new) }
 {

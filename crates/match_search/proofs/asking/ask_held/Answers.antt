@@ -1,23 +1,40 @@
-use Rattle.std.proofs.Common.{refl}
-use Rattle.fact_bans.proofs.HoldingLemmas.{held_one, held_same, held_then, holds_err, holds_ok, may_later}
+use Rattle.std.proofs.Common.{All, sym, subst}
+use Rattle.std.proofs.lemmas.List.Elements.{All-contains}
+use Rattle.account_core.specs.Ports.{IsKnown}
+use Rattle.class_refine.specs.Trails.{held_in}
+use Rattle.conflict_core.proofs.PivotLemmas.{held_known}
+use Rattle.match_search.proofs.StepLemmas.{may_go_on, steps_err, steps_ok, way_bans, way_start}
 use Rattle.match_search.proofs.asking.ask_held.Goals as goal
 
+pub ask_alone-requires-clause-may : goal.ask_alone-requires-clause-may
+ask_alone-requires-clause-may g c = c.requires.may.may
+
+pub ask_alone-requires-clause-known : goal.ask_alone-requires-clause-known
+ask_alone-requires-clause-known g c =
+    let d = c.args.domains.now in
+    All-contains (IsKnown c.args.graphs.now) (held_in d.entries) c.args.pair (held_known c.args.graphs.now d.inputs d.outputs d.entries c.requires.may.trail.trail.fit c.entries-lawful.ensures.lawful).known c.requires.held
+
 pub returns-in_err-ask_alone : goal.returns-in_err-ask_alone
-returns-in_err-ask_alone g c =
-    holds_err _ _ _ _ _ _ _ _ _ _ _ c.in_err-ask_alone.field-0.0 c.from_residual.ensures.1 (held_same _ _ _ _ c.requires.may) c.in_err-ask_alone.ensures
+returns-in_err-ask_alone g c = record { steps = steps_err c.from_residual.ensures.1 (way_start c.requires.may).held c.in_err-ask_alone.ensures }
 
 pub loop-other-init : goal.loop-other-init
-loop-other-init g c = held_one _ _ _ _ _ _ _ _ c.in_ok-ask_alone.ensures
+loop-other-init g c = way_bans (way_start c.requires.may) c.in_ok-ask_alone.ensures
 
-pub ask_two-requires-clause-may : goal.ask_two-requires-clause-may
-ask_two-requires-clause-may g c = may_later _ _ _ _ _ _ _ c.requires.may c.loop-other.invariant
-
-pub loop-other-preserved : goal.loop-other-preserved
-loop-other-preserved g c = held_then _ _ _ _ _ _ _ _ _ _ c.loop-other.invariant (held_one _ _ _ _ _ _ _ _ c.in_ok-ask_two.ensures)
+pub ask_two-requires : goal.ask_two-requires
+ask_two-requires g c =
+    let d = c.args.domains.now in
+    let known = (held_known c.args.graphs.now d.inputs d.outputs d.entries c.requires.may.trail.trail.fit c.entries-lawful.ensures.lawful).known in
+    record {
+      may = (may_go_on c.requires.may.may c.loop-other.invariant).may;
+      known = All-contains (IsKnown c.args.graphs.now) (held_in d.entries) c.args.pair known c.requires.held;
+      other = subst (All (IsKnown c.args.graphs.now)) (sym c.pairs-held.ensures.value) known c.loop-other.other-index _ c.loop-other-test.true;
+    }
 
 pub returns-in_err-ask_two : goal.returns-in_err-ask_two
-returns-in_err-ask_two g c =
-    holds_err _ _ _ _ _ _ _ _ _ _ _ c.in_err-ask_two.field-0.0 c.from_residual-in_err-ask_two.ensures.1 c.loop-other.invariant c.in_err-ask_two.ensures
+returns-in_err-ask_two g c = record { steps = steps_err c.from_residual-in_err-ask_two.ensures.1 c.loop-other.invariant.held c.in_err-ask_two.ensures }
+
+pub loop-other-preserved : goal.loop-other-preserved
+loop-other-preserved g c = way_bans c.loop-other.invariant c.in_ok-ask_two.ensures
 
 pub returns : goal.returns
-returns g c = holds_ok _ _ _ _ _ _ _ _ _ refl c.loop-other.invariant
+returns g c = record { steps = steps_ok c.loop-other.invariant }

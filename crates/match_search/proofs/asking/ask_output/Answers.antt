@@ -1,6 +1,7 @@
 use Rattle.std.proofs.Common.{refl}
-use Rattle.fact_bans.proofs.HoldingLemmas.{held_one, held_same, held_then, holds_err, holds_ok, may_later}
+use Rattle.fact_bans.proofs.HoldingLemmas.{held_same, holds_err, holds_ok, may_later}
 use Rattle.match_search.proofs.AskLemmas.{known_of}
+use Rattle.match_search.proofs.StepLemmas.{held_on}
 use Rattle.match_search.proofs.asking.ask_output.Goals as goal
 
 pub loop-number-init : goal.loop-number-init
@@ -10,7 +11,7 @@ pub ask_alone-requires-clause-may : goal.ask_alone-requires-clause-may
 ask_alone-requires-clause-may g c = may_later _ _ _ _ _ _ _ c.requires.may c.loop-number.invariant
 
 pub loop-number-preserved : goal.loop-number-preserved
-loop-number-preserved g c = held_then _ _ _ _ _ _ _ _ _ _ c.loop-number.invariant (held_one _ _ _ _ _ _ _ _ c.in_ok-ask_alone.ensures)
+loop-number-preserved g c = held_on c.loop-number.invariant c.in_ok-ask_alone.ensures
 
 pub returns-in_err-ask_alone : goal.returns-in_err-ask_alone
 returns-in_err-ask_alone g c =

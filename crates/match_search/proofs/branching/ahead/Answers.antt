@@ -5,10 +5,10 @@ use Rattle.match_search.proofs.StepLemmas.{may_go_on, steps_err, steps_last, ste
 use Rattle.match_search.proofs.branching.ahead.Goals as goal
 
 pub returns-in_err-impasse-clause-steps : goal.returns-in_err-impasse-clause-steps
-returns-in_err-impasse-clause-steps g c = steps_err _ _ _ _ _ _ _ _ _ _ _ _ _ c.in_err-impasse.field-0.0 c.from_residual.ensures.1 (way_start _ _ _ _ _ _ c.requires.may).held c.in_err-impasse.ensures.steps.holds
+returns-in_err-impasse-clause-steps g c = steps_err c.from_residual.ensures.1 (way_start c.requires.may).held c.in_err-impasse.ensures.steps.holds
 
 pub returns-in-Some-clause-steps : goal.returns-in-Some-clause-steps
-returns-in-Some-clause-steps g c = steps_ok _ _ _ _ _ _ _ _ _ _ (way_one _ _ _ _ _ _ _ _ _ _ c.in_ok-impasse.ensures.steps)
+returns-in-Some-clause-steps g c = steps_ok (way_one c.in_ok-impasse.ensures.steps)
 
 pub returns-in-Some-clause-ahead : goal.returns-in-Some-clause-ahead
 returns-in-Some-clause-ahead g c = record {
@@ -17,10 +17,10 @@ returns-in-Some-clause-ahead g c = record {
 }
 
 pub go_on-requires : goal.go_on-requires
-go_on-requires g c = record { may = may_go_on _ _ _ _ _ _ _ _ _ c.requires.may.may (way_one _ _ _ _ _ _ _ _ _ _ c.in_ok-impasse.ensures.steps) }
+go_on-requires g c = record { may = may_go_on c.requires.may.may (way_one c.in_ok-impasse.ensures.steps) }
 
 pub returns-clause-steps : goal.returns-clause-steps
-returns-clause-steps g c = steps_last _ _ _ _ _ _ _ _ _ _ _ _ _ (way_one _ _ _ _ _ _ _ _ _ _ c.in_ok-impasse.ensures.steps).held c.go_on.ensures.steps
+returns-clause-steps g c = steps_last (way_one c.in_ok-impasse.ensures.steps).held c.go_on.ensures.steps
 
 pub returns-clause-ahead : goal.returns-clause-ahead
 returns-clause-ahead g c =

@@ -22,7 +22,7 @@ pub compare_whole-requires-clause-whole : goal.compare_whole-requires-clause-who
 compare_whole-requires-clause-whole g c = subst (IsWhole c.args.graphs.now) (sym c.pairs.ensures.value) c.requires.whole
 
 pub returns-in_err-matching-clause-steps : goal.returns-in_err-matching-clause-steps
-returns-in_err-matching-clause-steps g c = steps_err _ _ _ _ _ _ _ _ _ _ _ _ _ c.in_err-matching.field-0.0 c.from_residual.ensures.1 (way_start _ _ _ _ _ _ c.requires.may).held c.in_err-matching.ensures.holds
+returns-in_err-matching-clause-steps g c = steps_err c.from_residual.ensures.1 (way_start c.requires.may).held c.in_err-matching.ensures.holds
 
 pub confirm-requires-clause-trail : goal.confirm-requires-clause-trail
 confirm-requires-clause-trail g c =
@@ -39,7 +39,7 @@ returns-in-Match-clause-steps g c = record {
 }
 
 pub returns-in-Ban-clause-steps : goal.returns-in-Ban-clause-steps
-returns-in-Ban-clause-steps g c = steps_ok _ _ _ _ _ _ _ _ _ _ (record {
+returns-in-Ban-clause-steps g c = steps_ok (record {
   held = held_one _ _ _ _ _ _ _ _ c.in_ok-matching.ensures.holds;
   trail = shown_adds _ _ _ _ _ _ c.in_ok-matching.ensures.holds.serves.grows c.in_ok-matching.ensures.holds.adds c.requires.may.trail;
   trials = c.in_ok-matching.ensures.trials;

@@ -4,7 +4,7 @@ use Rattle.circuits.specs.Netlists.{Net}
 use Rattle.net_core.specs.Sides.{Graphs}
 use Rattle.match_search.specs.Founds.{IsComparison}
 use Rattle.match_search.proofs.CompareLemmas.{comparing_start, logs_more}
-use Rattle.match_search.proofs.ServeLemmas.{served_one, served_then, serves_ok, serves_err}
+use Rattle.fact_bans.proofs.ServeLemmas.{served_one, served_then, serves_ok, serves_err}
 use Rattle.match_search.proofs.candidate.compare_all.Goals as goal
 
 pub loop-output-init : goal.loop-output-init

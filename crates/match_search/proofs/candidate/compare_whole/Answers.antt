@@ -1,7 +1,7 @@
 use Rattle.std.proofs.Common.{refl}
-use Rattle.fact_bans.proofs.HoldingLemmas.{held_kept, held_one, held_then, holds_err, holds_fail, holds_ok, holds_stop, may_later}
+use Rattle.fact_bans.proofs.HoldingLemmas.{held_same, holds_err, holds_fail, holds_ok, holds_stop, may_later}
 use Rattle.match_search.proofs.CompareLemmas.{shown_match}
-use Rattle.match_search.proofs.ServeLemmas.{served_one}
+use Rattle.match_search.proofs.StepLemmas.{held_asked, held_on}
 use Rattle.match_search.proofs.candidate.compare_whole.Goals as goal
 
 pub returns-in_err-compare_all-clause-holds : goal.returns-in_err-compare_all-clause-holds
@@ -10,7 +10,7 @@ returns-in_err-compare_all-clause-holds g c =
 
 pub returns-in-None-clause-holds : goal.returns-in-None-clause-holds
 returns-in-None-clause-holds g c =
-    holds_ok _ _ _ _ _ _ _ _ _ refl (held_kept _ _ _ _ _ _ _ c.requires.may.valid (served_one _ _ _ _ _ c.in_ok-compare_all.ensures.serves) refl)
+    holds_ok _ _ _ _ _ _ _ _ _ refl (held_asked (held_same _ _ _ _ c.requires.may) c.in_ok-compare_all.ensures.serves)
 
 pub returns-in-None-clause-settled : goal.returns-in-None-clause-settled
 returns-in-None-clause-settled g c =
@@ -18,11 +18,11 @@ returns-in-None-clause-settled g c =
 
 pub exclude-requires-clause-may : goal.exclude-requires-clause-may
 exclude-requires-clause-may g c =
-    may_later _ _ _ _ _ _ _ c.requires.may (held_kept _ _ _ _ _ _ _ c.requires.may.valid (served_one _ _ _ _ _ c.in_ok-compare_all.ensures.serves) refl)
+    may_later _ _ _ _ _ _ _ c.requires.may (held_asked (held_same _ _ _ _ c.requires.may) c.in_ok-compare_all.ensures.serves)
 
 pub returns-in_ok-ban-in-Some-clause-holds : goal.returns-in_ok-ban-in-Some-clause-holds
 returns-in_ok-ban-in-Some-clause-holds g c =
-    holds_ok _ _ _ _ _ _ _ _ _ refl (held_then _ _ _ _ _ _ _ _ _ _ (held_kept _ _ _ _ _ _ _ c.requires.may.valid (served_one _ _ _ _ _ c.in_ok-compare_all.ensures.serves) refl) (held_one _ _ _ _ _ _ _ _ c.in_ok-ban-in-Some.ensures.holds))
+    holds_ok _ _ _ _ _ _ _ _ _ refl (held_on (held_asked (held_same _ _ _ _ c.requires.may) c.in_ok-compare_all.ensures.serves) c.in_ok-ban-in-Some.ensures.holds)
 
 pub returns-in_ok-ban-in-Some-clause-settled : goal.returns-in_ok-ban-in-Some-clause-settled
 returns-in_ok-ban-in-Some-clause-settled g c =
@@ -30,8 +30,8 @@ returns-in_ok-ban-in-Some-clause-settled g c =
 
 pub returns-in_err-keep-in-Some-clause-holds : goal.returns-in_err-keep-in-Some-clause-holds
 returns-in_err-keep-in-Some-clause-holds g c =
-    holds_stop _ _ _ _ _ _ _ _ c.from_residual-in_err-keep-in-Some.ensures.1 (held_kept _ _ _ _ _ _ _ c.requires.may.valid (served_one _ _ _ _ _ c.in_ok-compare_all.ensures.serves) refl)
+    holds_stop _ _ _ _ _ _ _ _ c.from_residual-in_err-keep-in-Some.ensures.1 (held_asked (held_same _ _ _ _ c.requires.may) c.in_ok-compare_all.ensures.serves)
 
 pub returns-in_err-ban-in-Some-clause-holds : goal.returns-in_err-ban-in-Some-clause-holds
 returns-in_err-ban-in-Some-clause-holds g c =
-    holds_err _ _ _ _ _ _ _ _ _ _ _ c.in_err-ban-in-Some.field-0.0 c.from_residual-in_err-ban-in-Some.ensures.1 (held_kept _ _ _ _ _ _ _ c.requires.may.valid (served_one _ _ _ _ _ c.in_ok-compare_all.ensures.serves) refl) c.in_err-ban-in-Some.ensures.holds
+    holds_err _ _ _ _ _ _ _ _ _ _ _ c.in_err-ban-in-Some.field-0.0 c.from_residual-in_err-ban-in-Some.ensures.1 (held_asked (held_same _ _ _ _ c.requires.may) c.in_ok-compare_all.ensures.serves) c.in_err-ban-in-Some.ensures.holds

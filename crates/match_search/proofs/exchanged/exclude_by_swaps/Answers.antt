@@ -1,6 +1,7 @@
 use Rattle.std.proofs.Common.{refl}
 use Rattle.std.proofs.lemmas.List.Elements.{Contains-get_or}
-use Rattle.fact_bans.proofs.HoldingLemmas.{held_one, held_same, held_then, holds_err, holds_ok, may_later}
+use Rattle.fact_bans.proofs.HoldingLemmas.{held_same, holds_err, holds_ok, may_later}
+use Rattle.match_search.proofs.StepLemmas.{held_on}
 use Rattle.match_search.proofs.exchanged.exclude_by_swaps.Goals as goal
 
 pub loop-other-init : goal.loop-other-init
@@ -13,14 +14,14 @@ pub exclude_with-requires-clause-other_held : goal.exclude_with-requires-clause-
 exclude_with-requires-clause-other_held g c = Contains-get_or c.args.held.now c.loop-other.other-index _ c.loop-other-test.true
 
 pub loop-other-preserved : goal.loop-other-preserved
-loop-other-preserved g c = held_then _ _ _ _ _ _ _ _ _ _ c.loop-other.invariant (held_one _ _ _ _ _ _ _ _ c.in_ok-ban.ensures.holds)
+loop-other-preserved g c = held_on c.loop-other.invariant c.in_ok-ban.ensures.holds
 
 pub returns-in_err-ban-clause-holds : goal.returns-in_err-ban-clause-holds
 returns-in_err-ban-clause-holds g c =
     holds_err _ _ _ _ _ _ _ _ _ _ _ c.in_err-ban.field-0.0 c.from_residual.ensures.1 c.loop-other.invariant c.in_err-ban.ensures.holds
 
 pub returns-in-Some-clause-holds : goal.returns-in-Some-clause-holds
-returns-in-Some-clause-holds g c = holds_ok _ _ _ _ _ _ _ _ _ refl (held_then _ _ _ _ _ _ _ _ _ _ c.loop-other.invariant (held_one _ _ _ _ _ _ _ _ c.in_ok-ban.ensures.holds))
+returns-in-Some-clause-holds g c = holds_ok _ _ _ _ _ _ _ _ _ refl (held_on c.loop-other.invariant c.in_ok-ban.ensures.holds)
 
 pub returns-clause-holds : goal.returns-clause-holds
 returns-clause-holds g c = holds_ok _ _ _ _ _ _ _ _ _ refl c.loop-other.invariant

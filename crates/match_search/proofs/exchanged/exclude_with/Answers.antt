@@ -1,7 +1,8 @@
 use Rattle.std.proofs.Common.{refl}
 use Rattle.std.proofs.lemmas.List.Elements.{All-contains, Contains-get_or}
 use Rattle.account_core.specs.Ports.{IsKnown}
-use Rattle.fact_bans.proofs.HoldingLemmas.{held_one, held_same, held_then, holds_err, holds_ok, may_later}
+use Rattle.fact_bans.proofs.HoldingLemmas.{held_same, holds_err, holds_ok, may_later}
+use Rattle.match_search.proofs.StepLemmas.{held_on}
 use Rattle.match_search.proofs.exchanged.exclude_with.Goals as goal
 
 pub returns-then-eq-clause-holds : goal.returns-then-eq-clause-holds
@@ -20,14 +21,14 @@ pub exclude_three-requires-clause-other_known : goal.exclude_three-requires-clau
 exclude_three-requires-clause-other_known g c = All-contains (IsKnown c.args.graphs.now) c.args.held.now c.args.other c.requires.known c.requires.other_held
 
 pub loop-third-preserved : goal.loop-third-preserved
-loop-third-preserved g c = held_then _ _ _ _ _ _ _ _ _ _ c.loop-third.invariant (held_one _ _ _ _ _ _ _ _ c.in_ok-ban.ensures.holds)
+loop-third-preserved g c = held_on c.loop-third.invariant c.in_ok-ban.ensures.holds
 
 pub returns-in_err-ban-clause-holds : goal.returns-in_err-ban-clause-holds
 returns-in_err-ban-clause-holds g c =
     holds_err _ _ _ _ _ _ _ _ _ _ _ c.in_err-ban.field-0.0 c.from_residual.ensures.1 c.loop-third.invariant c.in_err-ban.ensures.holds
 
 pub returns-in-Some-clause-holds : goal.returns-in-Some-clause-holds
-returns-in-Some-clause-holds g c = holds_ok _ _ _ _ _ _ _ _ _ refl (held_then _ _ _ _ _ _ _ _ _ _ c.loop-third.invariant (held_one _ _ _ _ _ _ _ _ c.in_ok-ban.ensures.holds))
+returns-in-Some-clause-holds g c = holds_ok _ _ _ _ _ _ _ _ _ refl (held_on c.loop-third.invariant c.in_ok-ban.ensures.holds)
 
 pub returns-clause-holds : goal.returns-clause-holds
 returns-clause-holds g c = holds_ok _ _ _ _ _ _ _ _ _ refl c.loop-third.invariant

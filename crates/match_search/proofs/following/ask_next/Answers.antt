@@ -1,8 +1,5 @@
-use Rattle.match_search.proofs.StepLemmas.{may_tried, steps_err, steps_ok, way_bans, way_start}
+use Rattle.match_search.proofs.StepLemmas.{steps_err, steps_ok, way_bans, way_start}
 use Rattle.match_search.proofs.following.ask_next.Goals as goal
-
-pub ask_next_pair-requires : goal.ask_next_pair-requires
-ask_next_pair-requires g c = record { may = may_tried _ _ _ _ _ _ _ c.next_output.ensures.trials c.requires.may }
 
 pub ask_output-requires-clause-may : goal.ask_output-requires-clause-may
 ask_output-requires-clause-may g c = c.requires.may.may
@@ -11,7 +8,7 @@ pub ask_output-requires-clause-fit : goal.ask_output-requires-clause-fit
 ask_output-requires-clause-fit g c = c.requires.may.trail.trail.fit
 
 pub returns-in_err-ask_output-clause-steps : goal.returns-in_err-ask_output-clause-steps
-returns-in_err-ask_output-clause-steps g c = steps_err _ _ _ _ _ _ _ _ _ _ _ _ _ c.in_err-ask_output.field-0.0 c.from_residual.ensures.1 (way_start _ _ _ _ _ _ c.requires.may).held c.in_err-ask_output.ensures
+returns-in_err-ask_output-clause-steps g c = steps_err c.from_residual.ensures.1 (way_start c.requires.may).held c.in_err-ask_output.ensures
 
 pub returns-clause-steps : goal.returns-clause-steps
-returns-clause-steps g c = steps_ok _ _ _ _ _ _ _ _ _ _ (way_bans _ _ _ _ _ _ _ _ _ _ _ _ _ _ (way_start _ _ _ _ _ _ c.requires.may) c.in_ok-ask_output.ensures c.next_output.ensures.trials)
+returns-clause-steps g c = steps_ok (way_bans (way_start c.requires.may) c.in_ok-ask_output.ensures)

@@ -1,51 +1,45 @@
-use Rattle.std.proofs.Common.{List, refl, sym, subst}
+use Rattle.std.proofs.Common.{List, sym, subst}
 use Rattle.account_core.specs.declared.step.Ban.{Ban}
 use Rattle.table_guess.specs.Trials.{AreTrials}
-use Rattle.fact_bans.proofs.HoldingLemmas.{held_kept, held_then, holds_no_more}
-use Rattle.fact_bans.proofs.ServeLemmas.{served_one}
+use Rattle.fact_bans.proofs.HoldingLemmas.{holds_no_more}
 use Rattle.match_search.specs.States.{IsShownTrail}
-use Rattle.match_search.proofs.StepLemmas.{may_go_on, steps_err, steps_ok, way_bans, way_start}
+use Rattle.match_search.proofs.StepLemmas.{held_asked, may_go_on, steps_err, steps_ok, way_one, way_start}
 use Rattle.match_search.proofs.following.ask_next_pair.Goals as goal
 
 pub returns-in_default-clause-steps : goal.returns-in_default-clause-steps
-returns-in_default-clause-steps g c = steps_ok _ _ _ _ _ _ _ _ _ _ (way_start _ _ _ _ _ _ c.requires.may)
-
-pub ask_bans-requires-clause-may : goal.ask_bans-requires-clause-may
-ask_bans-requires-clause-may g c = c.requires.may.may
-
-pub ask_bans-requires-clause-trail : goal.ask_bans-requires-clause-trail
-ask_bans-requires-clause-trail g c = c.requires.may.trail.trail
+returns-in_default-clause-steps g c = steps_ok (way_start c.requires.may)
 
 pub returns-in_err-more-clause-steps : goal.returns-in_err-more-clause-steps
-returns-in_err-more-clause-steps g c = steps_err _ _ _ _ _ _ _ _ _ _ _ _ _ c.in_err-more.field-0.0 c.from_residual.ensures.1 (way_start _ _ _ _ _ _ c.requires.may).held c.in_err-more.ensures.holds
+returns-in_err-more-clause-steps g c = steps_err c.from_residual.ensures.1 (way_start c.requires.may).held c.in_err-more.ensures.steps.holds
 
 pub returns-then-more-clause-steps : goal.returns-then-more-clause-steps
-returns-then-more-clause-steps g c = steps_ok _ _ _ _ _ _ _ _ _ _ (way_bans _ _ _ _ _ _ _ _ _ _ _ _ _ _ (way_start _ _ _ _ _ _ c.requires.may) c.in_ok-more.ensures.holds c.in_ok-more.ensures.trials)
+returns-then-more-clause-steps g c = steps_ok (way_one c.in_ok-more.ensures.steps)
 
-pub delete_beside-requires-clause-graphs : goal.delete_beside-requires-clause-graphs
-delete_beside-requires-clause-graphs g c = (may_go_on _ _ _ _ _ _ _ _ _ c.requires.may.may (way_bans _ _ _ _ _ _ _ _ _ _ _ _ _ _ (way_start _ _ _ _ _ _ c.requires.may) c.in_ok-more.ensures.holds c.in_ok-more.ensures.trials)).may.graphs_are
-
-pub delete_beside-requires-clause-suits : goal.delete_beside-requires-clause-suits
-delete_beside-requires-clause-suits g c = (may_go_on _ _ _ _ _ _ _ _ _ c.requires.may.may (way_bans _ _ _ _ _ _ _ _ _ _ _ _ _ _ (way_start _ _ _ _ _ _ c.requires.may) c.in_ok-more.ensures.holds c.in_ok-more.ensures.trials)).may.suits
-
-pub delete_beside-requires-clause-trail : goal.delete_beside-requires-clause-trail
-delete_beside-requires-clause-trail g c =
-    subst (λ (bs : List Ban). IsShownTrail c.args.graphs.now (g.O.Oracle.known c.ask_bans.new.oracle) bs c.args.domains.now) (sym c.bans.ensures)
-    (way_bans _ _ _ _ _ _ _ _ _ _ _ _ _ _ (way_start _ _ _ _ _ _ c.requires.may) c.in_ok-more.ensures.holds c.in_ok-more.ensures.trials).trail
+pub delete_beside-requires : goal.delete_beside-requires
+delete_beside-requires g c =
+    let next = may_go_on c.requires.may.may (way_one c.in_ok-more.ensures.steps) in
+    record {
+      may = record {
+        graphs_are = next.may.graphs_are;
+        suits = next.may.suits;
+        trail = subst (λ (bs : List Ban). IsShownTrail c.args.graphs.now (g.O.Oracle.known c.ask_held.new.oracle) bs c.args.domains.now) (sym c.bans.ensures) next.trail;
+        held = rw c.in-Some.is at c.next_held.ensures;
+      };
+    }
 
 pub returns-in_err-delete_beside-clause-steps : goal.returns-in_err-delete_beside-clause-steps
 returns-in_err-delete_beside-clause-steps g c =
-    let held = (way_bans _ _ _ _ _ _ _ _ _ _ _ _ _ _ (way_start _ _ _ _ _ _ c.requires.may) c.in_ok-more.ensures.holds c.in_ok-more.ensures.trials).held in
-    steps_err _ _ _ _ _ _ _ _ _ _ _ _ _ c.in_err-delete_beside.field-0.0 c.from_residual-in_err-delete_beside.ensures.1 held (holds_no_more _ _ _ _ _ _ _ held.valid c.in_err-delete_beside.ensures.serves)
+    let held = (way_one c.in_ok-more.ensures.steps).held in
+    steps_err c.from_residual-in_err-delete_beside.ensures.1 held (holds_no_more _ _ _ _ _ _ _ held.valid c.in_err-delete_beside.ensures.serves)
 
-pub returns-clause-steps : goal.returns-clause-steps
-returns-clause-steps g c =
-    let way = (way_bans _ _ _ _ _ _ _ _ _ _ _ _ _ _ (way_start _ _ _ _ _ _ c.requires.may) c.in_ok-more.ensures.holds c.in_ok-more.ensures.trials) in
-    steps_ok _ _ _ _ _ _ _ _ _ _ (record {
-      held = held_then _ _ _ _ _ _ _ _ _ _ way.held (held_kept _ _ _ _ _ _ _ way.held.valid (served_one _ _ _ _ _ c.in_ok-delete_beside.ensures.serves) refl);
-      trail = subst (λ (bs : List Ban). IsShownTrail c.args.graphs.now (g.O.Oracle.known c.delete_beside.new.oracle) bs c.delete_beside.new.domains) c.bans.ensures c.in_ok-delete_beside.ensures.deletes.trail;
-      trials = subst (AreTrials c.args.graphs.now.first) (sym c.in_ok-delete_beside.ensures.trials) way.trials;
-    })
-
-pub returns-clause-less : goal.returns-clause-less
-returns-clause-less g c = c.in_ok-delete_beside.ensures.deletes.less
+pub returns : goal.returns
+returns g c =
+    let way = way_one c.in_ok-more.ensures.steps in
+    record {
+      steps = steps_ok (record {
+        held = held_asked way.held c.in_ok-delete_beside.ensures.serves;
+        trail = subst (λ (bs : List Ban). IsShownTrail c.args.graphs.now (g.O.Oracle.known c.delete_beside.new.oracle) bs c.delete_beside.new.domains) c.bans.ensures c.in_ok-delete_beside.ensures.deletes.trail;
+        trials = subst (AreTrials c.args.graphs.now.first) (sym c.in_ok-delete_beside.ensures.trials) way.trials;
+      });
+      less = c.in_ok-delete_beside.ensures.deletes.less;
+    }

@@ -1,38 +1,43 @@
-use Rattle.match_search.proofs.StepLemmas.{may_go_on, steps_err, steps_ok, way_bans, way_one, way_start}
+use Rattle.std.proofs.Common.{sym, subst}
+use Rattle.port_covers.specs.Held.{AreHeld}
+use Rattle.conflict_core.proofs.PivotLemmas.{held_known}
+use Rattle.match_search.proofs.StepLemmas.{may_go_on, steps_err, steps_ok, way_bans, way_more, way_one, way_start}
 use Rattle.match_search.proofs.following.follow.Goals as goal
 
 pub returns-in_err-impasse-clause-steps : goal.returns-in_err-impasse-clause-steps
-returns-in_err-impasse-clause-steps g c = steps_err _ _ _ _ _ _ _ _ _ _ _ _ _ c.in_err-impasse.field-0.0 c.from_residual.ensures.1 (way_start _ _ _ _ _ _ c.requires.may).held c.in_err-impasse.ensures.steps.holds
+returns-in_err-impasse-clause-steps g c = steps_err c.from_residual.ensures.1 (way_start c.requires.may).held c.in_err-impasse.ensures.steps.holds
 
 pub returns-in-Some-clause-steps : goal.returns-in-Some-clause-steps
-returns-in-Some-clause-steps g c = steps_ok _ _ _ _ _ _ _ _ _ _ (way_one _ _ _ _ _ _ _ _ _ _ c.in_ok-impasse.ensures.steps)
+returns-in-Some-clause-steps g c = steps_ok (way_one c.in_ok-impasse.ensures.steps)
 
-pub returns-then-is_over-clause-steps : goal.returns-then-is_over-clause-steps
-returns-then-is_over-clause-steps g c = steps_ok _ _ _ _ _ _ _ _ _ _ (way_one _ _ _ _ _ _ _ _ _ _ c.in_ok-impasse.ensures.steps)
+pub returns-then-is_round_over-clause-steps : goal.returns-then-is_round_over-clause-steps
+returns-then-is_round_over-clause-steps g c = steps_ok (way_one c.in_ok-impasse.ensures.steps)
 
-pub exchange_held-requires-clause-may : goal.exchange_held-requires-clause-may
-exchange_held-requires-clause-may g c = (may_go_on _ _ _ _ _ _ _ _ _ c.requires.may.may (way_one _ _ _ _ _ _ _ _ _ _ c.in_ok-impasse.ensures.steps)).may
-
-pub exchange_held-requires-clause-trail : goal.exchange_held-requires-clause-trail
-exchange_held-requires-clause-trail g c = c.in_ok-impasse.ensures.steps.trail.trail
+pub exchange_held-requires : goal.exchange_held-requires
+exchange_held-requires g c = record { may = may_go_on c.requires.may.may (way_one c.in_ok-impasse.ensures.steps) }
 
 pub returns-in_err-exchanged-clause-steps : goal.returns-in_err-exchanged-clause-steps
-returns-in_err-exchanged-clause-steps g c = steps_err _ _ _ _ _ _ _ _ _ _ _ _ _ c.in_err-exchanged.field-0.0 c.from_residual-in_err-exchanged.ensures.1 (way_one _ _ _ _ _ _ _ _ _ _ c.in_ok-impasse.ensures.steps).held c.in_err-exchanged.ensures.holds
+returns-in_err-exchanged-clause-steps g c = steps_err c.from_residual-in_err-exchanged.ensures.1 (way_one c.in_ok-impasse.ensures.steps).held c.in_err-exchanged.ensures.steps.holds
 
 pub returns-in-Some-2-clause-steps : goal.returns-in-Some-2-clause-steps
-returns-in-Some-2-clause-steps g c = steps_ok _ _ _ _ _ _ _ _ _ _ (way_bans _ _ _ _ _ _ _ _ _ _ _ _ _ _ (way_one _ _ _ _ _ _ _ _ _ _ c.in_ok-impasse.ensures.steps) c.in_ok-exchanged.ensures.holds c.in_ok-exchanged.ensures.trials)
+returns-in-Some-2-clause-steps g c = steps_ok (way_more (way_one c.in_ok-impasse.ensures.steps) c.in_ok-exchanged.ensures.steps)
 
-pub foresee_held-requires-clause-may : goal.foresee_held-requires-clause-may
-foresee_held-requires-clause-may g c = (may_go_on _ _ _ _ _ _ _ _ _ c.requires.may.may (way_bans _ _ _ _ _ _ _ _ _ _ _ _ _ _ (way_one _ _ _ _ _ _ _ _ _ _ c.in_ok-impasse.ensures.steps) c.in_ok-exchanged.ensures.holds c.in_ok-exchanged.ensures.trials)).may
+pub foresee-requires : goal.foresee-requires
+foresee-requires g c =
+    let d = c.settle.new.trail.domains in
+    let may = may_go_on c.requires.may.may (way_more (way_one c.in_ok-impasse.ensures.steps) c.in_ok-exchanged.ensures.steps) in
+    record {
+      may = may.may;
+      held = subst (AreHeld c.args.graphs.now) (sym c.pairs-pairs.ensures.value) (held_known c.args.graphs.now d.inputs d.outputs d.entries may.trail.trail.fit c.entries-lawful.ensures.lawful);
+      trials = may.trials;
+    }
 
-pub foresee_held-requires-clause-trail : goal.foresee_held-requires-clause-trail
-foresee_held-requires-clause-trail g c = (way_bans _ _ _ _ _ _ _ _ _ _ _ _ _ _ (way_one _ _ _ _ _ _ _ _ _ _ c.in_ok-impasse.ensures.steps) c.in_ok-exchanged.ensures.holds c.in_ok-exchanged.ensures.trials).trail.trail
+pub returns-in_err-ban-clause-steps : goal.returns-in_err-ban-clause-steps
+returns-in_err-ban-clause-steps g c =
+    steps_err c.from_residual-in_err-ban.ensures.1 (way_more (way_one c.in_ok-impasse.ensures.steps) c.in_ok-exchanged.ensures.steps).held c.in_err-ban.ensures.holds
 
-pub foresee_held-requires-clause-trials : goal.foresee_held-requires-clause-trials
-foresee_held-requires-clause-trials g c = (way_bans _ _ _ _ _ _ _ _ _ _ _ _ _ _ (way_one _ _ _ _ _ _ _ _ _ _ c.in_ok-impasse.ensures.steps) c.in_ok-exchanged.ensures.holds c.in_ok-exchanged.ensures.trials).trials
+pub returns-in-Some-3-clause-steps : goal.returns-in-Some-3-clause-steps
+returns-in-Some-3-clause-steps g c = steps_ok (way_bans (way_more (way_one c.in_ok-impasse.ensures.steps) c.in_ok-exchanged.ensures.steps) c.in_ok-ban.ensures.holds)
 
-pub returns-in_err-found-clause-steps : goal.returns-in_err-found-clause-steps
-returns-in_err-found-clause-steps g c = steps_err _ _ _ _ _ _ _ _ _ _ _ _ _ c.in_err-found.field-0.0 c.from_residual-in_err-found.ensures.1 (way_bans _ _ _ _ _ _ _ _ _ _ _ _ _ _ (way_one _ _ _ _ _ _ _ _ _ _ c.in_ok-impasse.ensures.steps) c.in_ok-exchanged.ensures.holds c.in_ok-exchanged.ensures.trials).held c.in_err-found.ensures.holds
-
-pub returns-clause-steps : goal.returns-clause-steps
-returns-clause-steps g c = steps_ok _ _ _ _ _ _ _ _ _ _ (way_bans _ _ _ _ _ _ _ _ _ _ _ _ _ _ (way_bans _ _ _ _ _ _ _ _ _ _ _ _ _ _ (way_one _ _ _ _ _ _ _ _ _ _ c.in_ok-impasse.ensures.steps) c.in_ok-exchanged.ensures.holds c.in_ok-exchanged.ensures.trials) c.in_ok-found.ensures.holds c.in_ok-found.ensures.trials)
+pub returns-in-None-clause-steps : goal.returns-in-None-clause-steps
+returns-in-None-clause-steps g c = steps_ok (way_bans (way_more (way_one c.in_ok-impasse.ensures.steps) c.in_ok-exchanged.ensures.steps) c.in_ok-ban.ensures.holds)

@@ -3,7 +3,7 @@ use Rattle.std.proofs.Common.{◌∙◌, sym, subst, refl}
 use Rattle.net_core.specs.Sides.{Graphs}
 use Rattle.account_core.specs.Facts.{AreFacts}
 use Rattle.match_search.proofs.SearchLemmas.{guessing_start}
-use Rattle.match_search.proofs.ServeLemmas.{served_one, served_then, serves_ok, serves_err}
+use Rattle.fact_bans.proofs.ServeLemmas.{served_one, served_then, serves_ok, serves_err}
 use Rattle.match_search.proofs.guessed.compare_guesses.Goals as goal
 
 pub loop-guesses-init : goal.loop-guesses-init

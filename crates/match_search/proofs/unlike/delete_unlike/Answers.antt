@@ -5,20 +5,18 @@ use Rattle.match_search.proofs.unlike.delete_unlike.Goals as goal
 
 pub loop-way-init : goal.loop-way-init
 loop-way-init g c =
-    let served = served_same _ _ c.facts-facts.ensures.lawful c.requires.suits in
-    record { served = served; deletes = deletes_none _ _ _ _ _ _ served.grows c.requires.trail c.requires.held }
+    let served = served_same _ _ c.facts-facts.ensures.lawful c.requires.may.suits in
+    record { served = served; deletes = deletes_none _ _ _ _ _ _ served.grows c.requires.may.trail c.requires.may.held }
 
-pub delete_way-requires-clause-graphs : goal.delete_way-requires-clause-graphs
-delete_way-requires-clause-graphs g c = c.requires.graphs ∙ sym c.loop-way.invariant.served.grows.graphs
-
-pub delete_way-requires-clause-suits : goal.delete_way-requires-clause-suits
-delete_way-requires-clause-suits g c = c.loop-way.invariant.served.suits
-
-pub delete_way-requires-clause-trail : goal.delete_way-requires-clause-trail
-delete_way-requires-clause-trail g c = c.loop-way.invariant.deletes.trail
-
-pub delete_way-requires-clause-held : goal.delete_way-requires-clause-held
-delete_way-requires-clause-held g c = c.loop-way.invariant.deletes.held
+pub delete_way-requires : goal.delete_way-requires
+delete_way-requires g c = record {
+  may = record {
+    graphs_are = c.requires.may.graphs_are ∙ sym c.loop-way.invariant.served.grows.graphs;
+    suits = c.loop-way.invariant.served.suits;
+    trail = c.loop-way.invariant.deletes.trail;
+    held = c.loop-way.invariant.deletes.held;
+  };
+}
 
 pub returns-in_err-delete_way-clause-serves : goal.returns-in_err-delete_way-clause-serves
 returns-in_err-delete_way-clause-serves g c =
@@ -28,8 +26,5 @@ pub loop-way-preserved : goal.loop-way-preserved
 loop-way-preserved g c =
     deleting_then _ _ _ _ _ _ _ _ _ _ _ _ c.loop-way.invariant (served_one _ _ _ _ _ c.in_ok-delete_way.ensures.serves) c.in_ok-delete_way.ensures.deletes
 
-pub returns-clause-serves : goal.returns-clause-serves
-returns-clause-serves g c = serves_ok _ _ _ _ _ _ refl c.loop-way.invariant.served
-
-pub returns-clause-deletes : goal.returns-clause-deletes
-returns-clause-deletes g c = c.loop-way.invariant.deletes
+pub returns : goal.returns
+returns g c = record { serves = serves_ok _ _ _ _ _ _ refl c.loop-way.invariant.served; deletes = c.loop-way.invariant.deletes }

@@ -1,7 +1,6 @@
-//! What a search goes by.
+//! What guides a search.
 
-ghost use Rattle.std.specs.Prelude.{◌≡◌, ◌<◌, IfOk, IfSome};
-ghost use Rattle.table_guess.specs.Trials.{AreTrials};
+ghost use Rattle.std.specs.Prelude.{◌<◌, IfSome};
 
 use crate::compared::Compared;
 use crate::reads::{Reads, by_count};
@@ -11,95 +10,84 @@ use crate::weights::Weights;
 use account_core::Ban;
 use circuits::Pair;
 use conflict_core::Port;
-use fact_bans::Seen;
 use pair_search::Impasse;
 use port_sides::PairableGraphs;
 use std::alloc::{AllocError, Global};
-use table_guess::Trials;
 
 /// The most that tallies of all pairs of outputs may ask: the pairs times the inputs. Each pair's ban lists up to twice as
 /// many facts as there are inputs, so more would take much memory. Above that tallies are held of held pairs alone.
 const MOST_ASKED: u64 = 1 << 21;
 
-/// What a search goes by: vectors that pairs are tried on, what vectors showed of claims, for each output of either circuit the
-/// inputs that it reads, and what was asked.
+/// What guides a search: for each output of either circuit the inputs that it reads, in how many of the last conflicts ports were,
+/// what was asked and compared, and how far the round is. No answer rests on it.
 #[derive(Drop)]
-pub(crate) struct Guide {
-    pub(crate) trials: Trials,
-    pub(crate) seen: Seen,
+pub struct Guide {
     pub(crate) reads: Reads,
     pub(crate) weights: Weights,
+    pub(crate) rounds: Rounds,
+    room: Room,
     /// The outputs of the first circuit whose tallies are held at first, in that order, and how many have been.
     order: Vec<u32>,
     tallied: usize,
-    /// How many of the held pairs were held against claims of one input, and how many against claims of two.
-    pub(crate) asked: usize,
-    pub(crate) exchanged: usize,
-    /// Ways that are to be compared with a held pair: kept for its memory alone.
-    pub(crate) ways: Vec<Pair>,
-    pub(crate) compared: Compared,
+    /// How many of the held pairs were held against claims of one input.
+    pub asked: usize,
+    /// How many of the held pairs were held against claims of two inputs.
+    pub exchanged: usize,
+    compared: Compared,
     /// The port that was decided last, and the one that comes first as long as it is in no pair.
-    pub(crate) decided: Option<Port>,
+    decided: Option<Port>,
     pub(crate) urgent: Option<Port>,
-    pub(crate) rounds: Rounds,
-    room: Room,
 }
 
 impl Guide {
-    /// What a search begins with. Another seed draws other vectors.
-    pub(crate) fn new(
-        alloc: Global,
-        graphs: &PairableGraphs<'_>,
-        seed: u64,
-    ) -> Result<Guide, AllocError>
-        ensures { IfOk result (λ guide. AreTrials graphs.now.first guide.trials) }
-    {
-        let trials = Trials::new(alloc, graphs.first(), seed)?;
-        let seen = Seen::new(alloc, graphs, seed)?;
-        let reads = Reads::new(alloc, graphs)?;
+    /// What a search begins with: no conflict was seen, and nothing was asked.
+    ///
+    /// # Errors
+    ///
+    /// Only when out of memory.
+    pub fn new(alloc: Global, graphs: &PairableGraphs<'_>) -> Result<Guide, AllocError> {
         let first = graphs.first();
-        let weights = Weights::new(alloc, first.inputs(), first.outputs().len() as u32)?;
-        let order = order_of(alloc, &reads, graphs)?;
-        let compared = Compared::new(alloc, first.inputs(), first.outputs().len() as u32)?;
+        let (inputs, outputs) = (first.inputs(), first.outputs().len() as u32);
+        let reads = Reads::new(alloc, graphs)?;
+        let weights = Weights::new(alloc, inputs, outputs)?;
+        let order = order_of(alloc, &reads, inputs, outputs)?;
+        let compared = Compared::new(alloc, inputs, outputs)?;
         Ok(Guide {
-            trials,
-            seen,
             reads,
             weights,
+            rounds: Rounds::new(),
+            room: Room::new(),
             order,
             tallied: 0,
             asked: 0,
             exchanged: 0,
-            ways: Vec::new(alloc),
             compared,
             decided: None,
             urgent: None,
-            rounds: Rounds::new(),
-            room: Room::new(),
         })
     }
 
+    /// Notes that a search begins with no pair held, whose rounds end once this many lines are learned in the run.
+    pub fn begin(&mut self, lines: u64) {
+        self.forget(0);
+        self.rounds.end_at(lines);
+    }
+
     /// Notes that only this many pairs are held now, the earliest ones.
-    pub(crate) fn forget(&mut self, held: usize)
-        ensures { self.new.trials ≡ self.old.trials }
-    {
+    pub fn forget(&mut self, held: usize) {
         self.asked = self.asked.min(held);
         self.exchanged = self.exchanged.min(held);
     }
 
     /// Notes that a round begins, with this many held pairs, the earliest ones.
-    pub(crate) fn begin_round(&mut self, held: usize)
-        ensures { self.new.trials ≡ self.old.trials }
-    {
+    pub fn begin_round(&mut self, held: usize) {
         self.forget(held);
         self.rounds.advance();
     }
 
     /// Notes that the search begins anew, with no bans: no pair is held, and of no output tallies are. What was learned of the
     /// ports, as their weights, stays.
-    pub(crate) fn begin_anew(&mut self)
-        ensures { self.new.trials ≡ self.old.trials }
-    {
+    pub fn begin_anew(&mut self) {
         self.room = Room::new();
         self.tallied = 0;
         self.decided = None;
@@ -107,15 +95,24 @@ impl Guide {
         self.begin_round(0);
     }
 
-    /// Whether the round has had what it may have, as many lines are learned in the run as may be, or the bans take all their
-    /// room.
-    pub(crate) fn is_round_over(&self, learned: u64) -> bool {
+    /// Whether the round has had what it may have: its conflicts, the lines that may be learned in the run, or the bans' room.
+    pub fn is_round_over(&self, learned: u64) -> bool {
         self.rounds.is_over(learned) | self.is_full()
     }
 
     /// Whether the bans take all their room.
-    pub(crate) fn is_full(&self) -> bool {
+    pub fn is_full(&self) -> bool {
         self.room.is_full()
+    }
+
+    /// Notes that a port is decided.
+    pub fn decide(&mut self, port: Port) {
+        self.decided = Some(port);
+    }
+
+    /// Notes that a pair is compared with ways of the other kind, and answers whether it was before.
+    pub fn compare(&mut self, pair: Pair) -> bool {
+        self.compared.mark(pair)
     }
 
     /// Notes an impasse. Where outputs have too few others to go to, the port that was decided last comes first until it has a
@@ -123,9 +120,7 @@ impl Guide {
     /// first of them as its reason, so the conflict may have pairs that were held long before, and each way of this port would
     /// be tried beside each of these. With this done after every conflict a near miss of a graph (`triangular8_or`) took 2.5
     /// times as many.
-    pub(crate) fn hurry(&mut self, impasse: &Impasse)
-        ensures { self.new.trials ≡ self.old.trials }
-    {
+    pub fn hurry(&mut self, impasse: &Impasse) {
         if let Impasse::Block(_) = impasse {
             self.urgent = self.decided;
         }
@@ -133,9 +128,7 @@ impl Guide {
 
     /// Notes the bans that the conflict of an impasse came to, those from a place on, the last of which was learned; where
     /// there are none, the ban that the impasse was is the learned one.
-    pub(crate) fn learn(&mut self, bans: &[Ban], from: usize, dead: Option<u64>)
-        ensures { self.new.trials ≡ self.old.trials }
-    {
+    pub fn learn(&mut self, bans: &[Ban], from: usize, dead: Option<u64>) {
         self.rounds.count();
         self.room.count(bans);
         if from < bans.len() {
@@ -146,8 +139,7 @@ impl Guide {
     }
 
     /// The next output of the first circuit whose tallies are to be held, one of n outputs.
-    pub(crate) fn next_output(&mut self, outputs: u32) -> Option<u32>
-        ensures trials { self.new.trials ≡ self.old.trials }
+    pub fn next_output(&mut self, outputs: u32) -> Option<u32>
         ensures there { IfSome result (λ output. output < outputs) }
     {
         let output = *self.order.get(self.tallied)?;
@@ -165,11 +157,9 @@ fn ban_at(bans: &[Ban], number: Option<u64>) -> Option<&Ban> {
 fn order_of(
     alloc: Global,
     reads: &Reads,
-    graphs: &PairableGraphs<'_>,
+    inputs: u32,
+    outputs: u32,
 ) -> Result<Vec<u32>, AllocError> {
-    let first = graphs.first();
-    let inputs = first.inputs();
-    let outputs = first.outputs().len() as u32;
     let pairs = (outputs as u64).saturating_mul(outputs as u64);
     if pairs.saturating_mul(inputs as u64) > MOST_ASKED / 2 {
         return Ok(Vec::new(alloc));

@@ -49,8 +49,9 @@ fn counted(candidate: Option<Candidate>, factor: u64) -> Option<Candidate> {
 }
 
 fn fewest_of_outputs(weights: &Weights, domains: &Domains) -> Option<Candidate> {
-    let first = fewest_outputs(weights, domains, Side::First);
-    fewer(first, fewest_outputs(weights, domains, Side::Second))
+    let first = fewest_of(weights, domains, Side::First, PortKind::Output, &[]);
+    let second = fewest_of(weights, domains, Side::Second, PortKind::Output, &[]);
+    fewer(first, second)
 }
 
 // That of the inputs of a circuit that outputs in pairs read.
@@ -65,7 +66,7 @@ fn fewest_read(
     for pair in domains.pairs().iter() {
         mark_read(reads, *pair, side, &mut read);
     }
-    Ok(fewest_inputs(weights, domains, side, &read))
+    Ok(fewest_of(weights, domains, side, PortKind::Input, &read))
 }
 
 // Marks the inputs that an output in a pair reads.
@@ -86,33 +87,28 @@ fn mark_all(inputs: &[u32], read: &mut [bool]) {
     }
 }
 
-fn fewest_outputs(weights: &Weights, domains: &Domains, side: Side) -> Option<Candidate> {
+// That of the ports of a kind of a circuit, of the inputs those alone that are read.
+fn fewest_of(
+    weights: &Weights,
+    domains: &Domains,
+    side: Side,
+    kind: PortKind,
+    read: &[bool],
+) -> Option<Candidate> {
     let mut best = None;
-    for number in 0..domains.ports(PortKind::Output) {
-        best = fewer(
-            best,
-            candidate_at(weights, domains, side, PortKind::Output, number),
-        );
+    for number in 0..domains.ports(kind) {
+        if is_looked_at(kind, number, read) {
+            best = fewer(best, candidate_at(weights, domains, side, kind, number));
+        }
     }
     best
 }
 
-fn fewest_inputs(
-    weights: &Weights,
-    domains: &Domains,
-    side: Side,
-    read: &[bool],
-) -> Option<Candidate> {
-    let mut best = None;
-    for number in 0..domains.ports(PortKind::Input) {
-        if let Some(true) = read.get(number as usize) {
-            best = fewer(
-                best,
-                candidate_at(weights, domains, side, PortKind::Input, number),
-            );
-        }
+fn is_looked_at(kind: PortKind, number: u32, read: &[bool]) -> bool {
+    match kind {
+        PortKind::Input => matches!(read.get(number as usize), Some(true)),
+        PortKind::Output => true,
     }
-    best
 }
 
 // A port with its ways, if it is in no pair.

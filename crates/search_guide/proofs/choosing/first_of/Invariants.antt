@@ -2,7 +2,7 @@ use Rattle.std.proofs.Common.{ℕ, ◌<◌}
 use Rattle.net_core.specs.declared.graphs.Side.TheVariants.{First}
 use Rattle.port_covers.specs.Held.{IsTaken}
 use Rattle.class_refine.specs.Trails.{held_in}
-use Rattle.match_search.proofs.next_port.first_of.Given as goal
+use Rattle.search_guide.proofs.choosing.first_of.Given as goal
 
 abbrev pub invariant-loop-number : goal.invariant-loop-number
 invariant-loop-number l = (q : ℕ) → q < l.number → IsTaken First (held_in l.domains.entries) l.kind q

@@ -17,7 +17,11 @@ use std::alloc::{AllocError, Global};
 
 /// The next port that is in no pair: the urgent one, or that of either circuit which has the fewest ways left for its
 /// weight, of the inputs that outputs in pairs read, else of the outputs. It is None where each port is in a pair.
-pub(crate) fn next_port(
+///
+/// # Errors
+///
+/// Only when out of memory.
+pub fn next_port(
     alloc: Global,
     graphs: &PairableGraphs<'_>,
     guide: &Guide,
@@ -30,13 +34,12 @@ pub(crate) fn next_port(
         (λ port. IsFreePort domains.now.entries port.side port.kind port.number)) }
     ensures none { IfOk result (λ next. IfNone next (IsWhole graphs.now (held_in domains.now.entries))) }
 {
-    let _ = graphs;
     if let Some(port) = preferred(alloc, guide, domains)? {
         if is_free(domains, port) {
             return Ok(Some(port));
         }
     }
-    Ok(first_free(domains))
+    Ok(first_free(graphs, domains))
 }
 
 // The urgent port, if it is in no pair, or that with the fewest ways left for its weight.
@@ -51,14 +54,13 @@ fn preferred(alloc: Global, guide: &Guide, domains: &Domains) -> Result<Option<P
 }
 
 // The first port of the first circuit that is in no pair.
-fn first_free(domains: &Domains) -> Option<Port>
+fn first_free(graphs: &PairableGraphs<'_>, domains: &Domains) -> Option<Port>
+    requires fit { FitPorts graphs.now domains.now.inputs domains.now.outputs }
     ensures port { IfSome result (λ port. port.number < ports_of domains.now.inputs domains.now.outputs port.kind) }
     ensures free { IfSome result (λ port. IsFreePort domains.now.entries port.side port.kind port.number) }
-    ensures inputs { IfNone result ((port : ℕ) → port < domains.now.inputs
-        → IsTaken AnySide.First (held_in domains.now.entries) PortKind.Input port) }
-    ensures outputs { IfNone result ((port : ℕ) → port < domains.now.outputs
-        → IsTaken AnySide.First (held_in domains.now.entries) PortKind.Output port) }
+    ensures none { IfNone result (IsWhole graphs.now (held_in domains.now.entries)) }
 {
+    let _ = graphs;
     if let Some(port) = first_of(domains, PortKind::Output) {
         return Some(port);
     }
@@ -73,36 +75,31 @@ fn first_of(domains: &Domains, kind: PortKind) -> Option<Port>
         → IsTaken AnySide.First (held_in domains.now.entries) kind port) }
 {
     for number in 0..domains.ports(kind) {
-        if is_open(domains, kind, number) {
-            return Some(Port {
-                side: Side::First,
-                kind,
-                number,
-            });
+        let port = Port {
+            side: Side::First,
+            kind,
+            number,
+        };
+        if is_free(domains, port) {
+            return Some(port);
         }
     }
     None
-}
-
-// Whether a port of the first circuit is in no pair.
-fn is_open(domains: &Domains, kind: PortKind, number: u32) -> bool
-    requires { number < ports_of domains.now.inputs domains.now.outputs kind }
-    ensures free { IsTrue result → IsFreePort domains.now.entries AnySide.First kind number }
-    ensures taken { result ≡ false → IsTaken AnySide.First (held_in domains.now.entries) kind number }
-{
-    match domains.held(Side::First, kind, number) {
-        Some(_) => false,
-        None => true,
-    }
 }
 
 // Whether a port is there, and in no pair.
 fn is_free(domains: &Domains, port: Port) -> bool
     ensures there { IsTrue result → port.number < ports_of domains.now.inputs domains.now.outputs port.kind }
     ensures free { IsTrue result → IsFreePort domains.now.entries port.side port.kind port.number }
+    ensures taken { result ≡ false
+        → port.number < ports_of domains.now.inputs domains.now.outputs port.kind
+        → IsTaken port.side (held_in domains.now.entries) port.kind port.number }
 {
     if port.number >= domains.ports(port.kind) {
         return false;
     }
-    domains.held(port.side, port.kind, port.number).is_none()
+    match domains.held(port.side, port.kind, port.number) {
+        Some(_) => false,
+        None => true,
+    }
 }

@@ -42,14 +42,9 @@ impl Rounds {
         }
     }
 
-    /// Has this round and the next ones end once this many lines are learned in the run, until `lift`.
+    /// Has this round and the next ones end once this many lines are learned in the run.
     pub(crate) fn end_at(&mut self, lines: u64) {
         self.lines = lines;
-    }
-
-    /// Lines may be learned without a bound.
-    pub(crate) fn lift(&mut self) {
-        self.lines = u64::MAX;
     }
 
     /// Counts a conflict.

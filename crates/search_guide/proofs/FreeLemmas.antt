@@ -22,15 +22,11 @@ taken_of es side kind port p is =
     any_of_contained (IsOf side kind port) (held_in es) p is.held (record { kind_is = at.0; port_is = at.1 })
 
 -- all ports of the first circuit are taken
-pub whole_of : (graphs : Graphs) (n m : ℕ) (held : List Pair) → FitPorts graphs n m → ((port : ℕ) → port < n → IsTaken First held Input port) → ((port : ℕ) → port < m → IsTaken First held Output port) → IsWhole graphs held
+whole_of : (graphs : Graphs) (n m : ℕ) (held : List Pair) → FitPorts graphs n m → ((port : ℕ) → port < n → IsTaken First held Input port) → ((port : ℕ) → port < m → IsTaken First held Output port) → IsWhole graphs held
 whole_of graphs n m held fit inputs outputs Input port below = inputs port (omega (arith, below, fit.inputs_are))
 whole_of graphs n m held fit inputs outputs Output port below = outputs port (omega (arith, below, fit.outputs_are))
 
-pub always_none : {X : Type 0} (P : Type 0) (found : Option X) → P → IfNone found P
-always_none P None is = is
-always_none P (Some x) is = tt
-
--- where no port is answered all are taken
-pub whole_if : (graphs : Graphs) (n m : ℕ) (held : List Pair) (found : Option Port) → FitPorts graphs n m → IfNone found ((port : ℕ) → port < n → IsTaken First held Input port) → IfNone found ((port : ℕ) → port < m → IsTaken First held Output port) → IfNone found (IsWhole graphs held)
+-- where no input is answered, and all outputs are taken, all ports are
+pub whole_if : (graphs : Graphs) (n m : ℕ) (held : List Pair) (found : Option Port) → FitPorts graphs n m → IfNone found ((port : ℕ) → port < n → IsTaken First held Input port) → ((port : ℕ) → port < m → IsTaken First held Output port) → IfNone found (IsWhole graphs held)
 whole_if graphs n m held None fit inputs outputs = whole_of graphs n m held fit inputs outputs
 whole_if graphs n m held (Some port) fit inputs outputs = tt

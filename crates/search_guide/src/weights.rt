@@ -4,7 +4,6 @@ use account_core::{Ban, Step};
 use circuits::{Pair, PortKind};
 use conflict_core::Port;
 use net_core::Side;
-use port_sides::port_on;
 use std::alloc::{AllocError, Global};
 
 /// What a conflict adds at first.

@@ -1,0 +1,54 @@
+//! What a search goes by.
+
+ghost use Rattle.std.specs.Prelude.{IfOk};
+ghost use Rattle.table_guess.specs.Trials.{AreTrials};
+
+use circuits::Pair;
+use fact_bans::Seen;
+use port_sides::PairableGraphs;
+use search_guide::Guide;
+use std::alloc::{AllocError, Global};
+use table_guess::Trials;
+
+/// What a search goes by: what guides it, vectors that pairs are tried on, and what vectors showed of claims.
+pub(crate) struct Aids {
+    pub(crate) guide: Guide,
+    pub(crate) trials: Trials,
+    pub(crate) seen: Seen,
+    /// Ways that are to be compared with a held pair: kept for its memory alone.
+    pub(crate) ways: Vec<Pair>,
+}
+
+// By hand, and so one call wherever a value ends: a derived drop is expanded there, field by field, and makes proofs long.
+impl Drop for Aids {
+    fn drop(self) {
+        let Aids {
+            guide: _guide,
+            trials: _trials,
+            seen: _seen,
+            ways: _ways,
+        } = self;
+    }
+}
+
+impl Aids {
+    /// What a search begins with. Another seed draws other vectors.
+    pub(crate) fn new(
+        alloc: Global,
+        graphs: &PairableGraphs<'_>,
+        seed: u64,
+    ) -> Result<Aids, AllocError>
+        ensures { IfOk result (λ aids. AreTrials graphs.now.first aids.trials) }
+    {
+        let trials = Trials::new(alloc, graphs.first(), seed)?;
+        let seen = Seen::new(alloc, graphs, seed)?;
+        let guide = Guide::new(alloc, graphs)?;
+        let ways = Vec::new(alloc);
+        Ok(Aids {
+            guide,
+            trials,
+            seen,
+            ways,
+        })
+    }
+}
