@@ -160,6 +160,7 @@ impl<'a> Body<'a> {
 /// [`NetKind::Redefined`] at the first byte of the first line that isn't as it should be, the first of them that
 /// applies to it, or [`NetKind::Truncated`] at the file's end where a line is missing. [`NetStop::Memory`] for want
 /// of memory alone.
+#[tactic(auto, using(crate::proofs::ReadingLemmas::body_read, crate::proofs::ReadingLemmas::body_sound))]
 pub(crate) fn read_body<'a>(
     alloc: Global,
     input: &'a [u8],
