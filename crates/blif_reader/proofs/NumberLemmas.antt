@@ -5,7 +5,7 @@ use Rattle.std.specs.List.{list_any, position_or_len, position}
 use Rattle.std.specs.Str.{bytes_eq}
 use Rattle.std.proofs.lemmas.Bool.{cases_lt}
 use Rattle.std.proofs.lemmas.Bool.Decides.{nat_tests}
-use Rattle.std.proofs.lemmas.List.{append-nil, map-append, map_push, take_more, get_or_default, length-append, take-append-drop}
+use Rattle.std.proofs.lemmas.List.{append-nil, map-append, map_push, take_more, get_or_default, length-append, length-map, take-append-drop}
 use Rattle.std.proofs.Math.Seq.{get_or-append_seam, drop-cons}
 use Rattle.std.proofs.lemmas.List.Folds.{list_any-append}
 use Rattle.std.proofs.lemmas.List.Elements.{filter-append}
@@ -27,10 +27,6 @@ pub position_or_len-map : {X Y : Type 0} (p : Y → Bool) (f : X → Y) (xs : Li
 position_or_len-map p f [] = refl
 position_or_len-map p f (x ∷ xs) = ap (λ n. cond (not (p (f x))) (1 + n) 0) (position_or_len-map p f xs)
 
-pub length-map : {X Y : Type 0} (f : X → Y) (xs : List X) → length (map f xs) ≡ length xs
-length-map f [] = refl
-length-map f (x ∷ xs) = ap suc (length-map f xs)
-
 shifted : (t : Bool) (n m : ℕ) (r : Bool) → nat_lt n m ≡ r → nat_lt (cond (not t) (1 + n) 0) (suc m) ≡ (t || r)
 shifted true n m r h = grind (arith, nat_tests)
 shifted false n m true h = grind (arith, nat_tests)
@@ -49,7 +45,7 @@ told false n m some h e = sym e
 pub number_told : {X Y : Type 0} (p : Y → Bool) (f : X → Y) (keys : List X) (r : Option ℕ) → r ≡ position (λ k. p (f k)) keys → MatchOption r (list_any p (map f keys) ≡ false) (λ n. (list_any p (map f keys) ≡ true) × (n ≡ position_or_len p (map f keys)) × (n < length (map f keys)))
 number_told p f keys r h =
     let place = position_or_len-map p f keys in
-    let long = length-map f keys in
+    let long = length-map keys f in
     let any = list_any-map p f keys in
     let n = position_or_len (λ k. p (f k)) keys in
     let t = list_any (λ k. p (f k)) keys in
