@@ -3,7 +3,7 @@ use Rattle.std.proofs.Common.{◌≡◌, ℕ, suc, ◌+◌, ◌<◌, Bool, true,
 use Rattle.std.specs.Prelude.{nat_lt, filter, MatchOption}
 use Rattle.std.specs.List.{list_any, position_or_len, position}
 use Rattle.std.specs.Str.{bytes_eq}
-use Rattle.std.proofs.lemmas.Bool.{cases_lt}
+use Rattle.std.proofs.lemmas.Bool.{cases_lt, not-true, not-false}
 use Rattle.std.proofs.lemmas.Bool.Decides.{nat_tests}
 use Rattle.std.proofs.lemmas.List.{append-nil, map-append, map_push, take_more, get_or_default, length-append, length-map, take-append-drop}
 use Rattle.std.proofs.Math.Seq.{get_or-append_seam, drop-cons}
@@ -113,11 +113,7 @@ names_of_other_kind kind other earlier port e h =
     ∙ (ap (λ t. port_names other earlier ++ cond t (port.word.bytes ∷ []) []) (ap (λ t. is_same_kind t other) e ∙ h) ∙ append-nil (port_names other earlier))
 
 added_name : (name : List ℕ) (old new : List (List ℕ)) → IsAdded name true old new → (list_any (bytes_eq name) old ≡ false) × (new ≡ old ++ name ∷ [])
-added_name name old new is = (not_true (list_any (bytes_eq name) old) is.told, is.names)
-  where
-    not_true : (t : Bool) → true ≡ not t → t ≡ false
-    not_true true h = cc h
-    not_true false h = refl
+added_name name old new is = (not-true (list_any (bytes_eq name) old) (sym is.told), is.names)
 
 -- one port more is named
 more_of_kind : (kind : PortKind) (ports : List Port) (k : ℕ) (port : Port) (old new : List (List ℕ)) → k < length ports → ((d : Port) → get_or ports k d ≡ port) → port.kind ≡ kind → NoneBefore repeats_port ports k → old ≡ port_names kind (take k ports) → IsAdded port.word.bytes true old new → NoneBefore repeats_port ports (k + 1) × (new ≡ port_names kind (take (k + 1) ports))
@@ -161,11 +157,7 @@ named_more ports k port inputs outputs inputs2 outputs2 h is named adds =
     named_by_kind port.kind ports k port inputs outputs inputs2 outputs2 h is refl named adds
 
 there : (name : List ℕ) (old new : List (List ℕ)) → IsAdded name false old new → list_any (bytes_eq name) old ≡ true
-there name old new is = not_false (list_any (bytes_eq name) old) is.told
-  where
-    not_false : (t : Bool) → false ≡ not t → t ≡ true
-    not_false true h = refl
-    not_false false h = cc h
+there name old new is = not-false (list_any (bytes_eq name) old) (sym is.told)
 
 repeated_by_kind : (kind : PortKind) (ports : List Port) (k : ℕ) (port : Port) (inputs outputs inputs2 outputs2 : List (List ℕ)) → port.kind ≡ kind → AreNamed ports k inputs outputs → AddsPort false port inputs outputs inputs2 outputs2 → list_any (bytes_eq port.word.bytes) (port_names kind (take k ports)) ≡ true
 repeated_by_kind Input ports k port inputs outputs inputs2 outputs2 e named adds =
