@@ -11,6 +11,7 @@ use Rattle.aiger_reader.specs.declared.symbols.SymbolStop.{SymbolStop}
 use Rattle.aiger_reader.specs.declared.symbols.SymbolStop.TheVariants as why
 use Rattle.aiger_reader.specs.Symbols.{Port, is_comment, symbol_lines, AddsName, GiveNames, ArePortSlots, AreSymbols, IsSymbolFault}
 use Rattle.aiger_reader.proofs.GiveLemmas.{give_more, give_split, give_same}
+use Rattle.aiger_reader.proofs.PlaceLemmas.{length_of_lines}
 
 -- What is known after some lines: they gave these names, which the slots have, and this is left of the text.
 pub record IsUnderWay (inputs outputs : ℕ) (text left : Piece) (input_slots output_slots : List (Option (List ℕ))) : Type 0 where
@@ -39,12 +40,6 @@ offset_after left line first =
       | inl h ↦ inr (omega (arith, length-take-le n left.bytes (omega arith), ap length bytes))
       | inr h ↦ inl (drop_all (n + 1) left.bytes (omega arith))
     ]
-
-length_of_lines : (done : List (List ℕ)) (line : List ℕ) → length (text_of_lines (done ++ line ∷ [])) ≡ length (text_of_lines done) + (length line + 1)
-length_of_lines [] line =
-    omega (arith, length-append (line ++ 10 ∷ []) [], length-append line (10 ∷ []))
-length_of_lines (first ∷ done) line =
-    omega (arith, length_of_lines done line, length-append (first ++ 10 ∷ []) (text_of_lines (done ++ line ∷ [])), length-append (first ++ 10 ∷ []) (text_of_lines done))
 
 -- one line more
 pub one_more : (inputs outputs : ℕ) (text left line after : Piece) (input_slots output_slots new_inputs new_outputs : List (Option (List ℕ))) (new_entries : List (Port × List ℕ)) → (way : IsUnderWay inputs outputs text left input_slots output_slots) → first_line left ≡ Some line → after ≡ after_line left → lines left.bytes ≡ line.bytes ∷ lines after.bytes → is_comment line.bytes ≡ false → AddsName inputs outputs line.bytes way.entries new_entries → ArePortSlots new_entries new_inputs new_outputs → IsUnderWay inputs outputs text after new_inputs new_outputs

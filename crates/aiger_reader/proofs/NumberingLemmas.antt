@@ -12,7 +12,7 @@ use Rattle.aiger_reader.specs.declared.body.Literals.{Literals}
 use Rattle.aiger_reader.specs.Headers.{AigerHeader}
 use Rattle.aiger_reader.specs.Bodies.{Gate, roles_of, role_at, defined, reads, IsKnown, IsKnownRow}
 use Rattle.aiger_reader.specs.Reading.{row_of, rows_of, input_lines_of, gate_lines_of, IsNumbering}
-use Rattle.aiger_reader.specs.Numbered.{IsSound, has_place, have_places}
+use Rattle.aiger_reader.specs.Numbered.{AreWithin, IsSound, has_place, have_places}
 use Rattle.aiger_reader.proofs.SignalLemmas.{known}
 use Rattle.aiger_reader.proofs.RoleLemmas.{length-rows_of, input_role, output_role, gate_role, role_is}
 
@@ -136,8 +136,8 @@ outputs_within h literals signals sound k d below =
     let here = outputs_small h literals signals k d sound below in
     omega (arith, here, sound.numbered.entries)
 
-gate_small : (h : AigerHeader) (literals : Literals) (signals : List ℕ) (k : ℕ) (d : AndLine) → IsSound h literals signals → k < length literals.gates.items → ((get_or literals.gates.items k d).a / 2 < length signals) × ((get_or literals.gates.items k d).b / 2 < length signals)
-gate_small h literals signals k d sound below =
+pub gates_within : (h : AigerHeader) (literals : Literals) (signals : List ℕ) → IsSound h literals signals → All (AreWithin signals) literals.gates.items
+gates_within h literals signals sound k d below =
     let place = length literals.inputs.items + length literals.outputs.items + k in
     let line = get_or literals.gates.items k d in
     let fits : ℕ → Type 0 = λ literal. literal ≤ 2 * h.variables + 1 in
@@ -146,9 +146,3 @@ gate_small h literals signals k d sound below =
     let a : line.a ≤ 2 * h.variables + 1 = All-head fits line.a (line.b ∷ []) two in
     let b : line.b ≤ 2 * h.variables + 1 = All-head fits line.b [] (All-tail fits line.a (line.b ∷ []) two) in
     (omega (arith, a, sound.numbered.entries), omega (arith, b, sound.numbered.entries))
-
-pub gates_within_a : (h : AigerHeader) (literals : Literals) (signals : List ℕ) → IsSound h literals signals → All (λ line. line.a / 2 < length signals) literals.gates.items
-gates_within_a h literals signals sound k d below = (gate_small h literals signals k d sound below).0
-
-pub gates_within_b : (h : AigerHeader) (literals : Literals) (signals : List ℕ) → IsSound h literals signals → All (λ line. line.b / 2 < length signals) literals.gates.items
-gates_within_b h literals signals sound k d below = (gate_small h literals signals k d sound below).1

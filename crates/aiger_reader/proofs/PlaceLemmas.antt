@@ -33,10 +33,13 @@ no_lines (b ∷ bs) none =
     let next = lines-front (b ∷ bs) (omega arith) in
     cc next
 
+pub length_of_lines : (done : List (List ℕ)) (line : List ℕ) → length (text_of_lines (done ++ line ∷ [])) ≡ length (text_of_lines done) + (length line + 1)
+length_of_lines done line =
+    omega (arith, ap length (flat_map-append (λ (l : List ℕ). l ++ 10 ∷ []) done (line ∷ [])), length-append (text_of_lines done) (text_of_lines (line ∷ [])), length-append (line ++ 10 ∷ []) [], length-append line (10 ∷ []))
+
 offset-next : (bytes : List ℕ) (k : ℕ) (line : List ℕ) (rest : List (List ℕ)) → drop k (lines bytes) ≡ line ∷ rest → line_offset bytes (k + 1) ≡ line_offset bytes k + (length line + 1)
 offset-next bytes k line rest e =
-    let more = ap text_of_lines (take_next k (lines bytes) rest line e) ∙ flat_map-append (λ (l : List ℕ). l ++ 10 ∷ []) (take k (lines bytes)) (line ∷ []) in
-    omega (arith, ap length more, length-append (text_of_lines (take k (lines bytes))) (text_of_lines (line ∷ [])), length-append (line ++ 10 ∷ []) [], length-append line (10 ∷ []))
+    ap (λ ls. length (text_of_lines ls)) (take_next k (lines bytes) rest line e) ∙ length_of_lines (take k (lines bytes)) line
 
 -- after the next line
 pub place_more : (bytes : List ℕ) (k : ℕ) (p : Piece) → 0 < length p.bytes → IsAtLine bytes k p → IsAtLine bytes (k + 1) (after_line p)

@@ -8,7 +8,7 @@ use Rattle.aiger_reader.specs.declared.body.Literals.{Literals}
 use Rattle.aiger_reader.specs.Headers.{AigerHeader}
 use Rattle.aiger_reader.specs.Bodies.{Role, Input, Output, Gate, roles_of, wanted, defined, IsBody}
 use Rattle.aiger_reader.specs.Numbered.{IsSound}
-use Rattle.aiger_reader.specs.Reading.{rows_of, input_lines_of, gate_lines_of, IsReading, IsRowRead, IsAtInput, IsAtOutput, HasCounts}
+use Rattle.aiger_reader.specs.Reading.{rows_of, input_lines_of, gate_lines_of, IsReading, IsRowRead, HasCounts}
 use Rattle.aiger_reader.proofs.PlaceLemmas.{place_first}
 use Rattle.aiger_reader.proofs.GoodLemmas.{defined_none, reading_output}
 use Rattle.aiger_reader.proofs.RoleLemmas.{length-roles_of, length-rows_of, wanted_output, rows_input, rows_output, rows_gate}
@@ -23,9 +23,9 @@ pub reading_as : (bytes : List ℕ) (h : AigerHeader) (rows others : List (List 
 reading_as bytes h rows others p signals later count number one two three reading =
     subst (λ n. IsReading bytes h others p later n) three (subst (λ s. IsReading bytes h others p s count) two (subst (λ r. IsReading bytes h r p signals count) one reading))
 
-pub input_line : (bytes : List ℕ) (h : AigerHeader) (old now new : Literals) (rest : Piece) (signals : List ℕ) (count : ℕ) (row : List ℕ) → now ≡ old → IsAtInput h old → length row ≡ 1 → IsReading bytes h (rows_of old ++ row ∷ []) rest signals count → new.inputs.items ≡ now.inputs.items ++ get_or row 0 0 ∷ [] → new.outputs.items ≡ now.outputs.items → new.gates.items ≡ now.gates.items → IsReading bytes h (rows_of new) rest signals count
-input_line bytes h old now new rest signals count row same next wide reading inputs outputs gates =
-    let rows = rows_input old new row wide (inputs ∙ ap (λ (l : Literals). l.inputs.items ++ get_or row 0 0 ∷ []) same) (outputs ∙ ap (λ (l : Literals). l.outputs.items) same) (gates ∙ ap (λ (l : Literals). l.gates.items) same) next.outputs next.gates in
+pub input_line : (bytes : List ℕ) (h : AigerHeader) (old now new : Literals) (rest : Piece) (signals : List ℕ) (n count : ℕ) (row : List ℕ) → now ≡ old → HasCounts old n 0 0 → length row ≡ 1 → IsReading bytes h (rows_of old ++ row ∷ []) rest signals count → new.inputs.items ≡ now.inputs.items ++ get_or row 0 0 ∷ [] → new.outputs.items ≡ now.outputs.items → new.gates.items ≡ now.gates.items → IsReading bytes h (rows_of new) rest signals count
+input_line bytes h old now new rest signals n count row same counts wide reading inputs outputs gates =
+    let rows = rows_input old new row wide (inputs ∙ ap (λ (l : Literals). l.inputs.items ++ get_or row 0 0 ∷ []) same) (outputs ∙ ap (λ (l : Literals). l.outputs.items) same) (gates ∙ ap (λ (l : Literals). l.gates.items) same) counts.outputs_read counts.gates_read in
     subst (λ r. IsReading bytes h r rest signals count) (sym rows) reading
 
 pub gate_line : (bytes : List ℕ) (h : AigerHeader) (old now new : Literals) (rest : Piece) (signals : List ℕ) (count : ℕ) (row : List ℕ) → now ≡ old → length row ≡ 3 → IsReading bytes h (rows_of old ++ row ∷ []) rest signals count → new.inputs.items ≡ now.inputs.items → new.outputs.items ≡ now.outputs.items → new.gates.items ≡ now.gates.items ++ (record { lhs = get_or row 0 0; a = get_or row 1 0; b = get_or row 2 0 }) ∷ [] → IsReading bytes h (rows_of new) rest signals count
@@ -34,10 +34,10 @@ gate_line bytes h old now new rest signals count row same wide reading inputs ou
     let rows = rows_gate old new row wide (inputs ∙ ap (λ (l : Literals). l.inputs.items) same) (outputs ∙ ap (λ (l : Literals). l.outputs.items) same) (gates ∙ ap (λ (l : Literals). l.gates.items ++ gate ∷ []) same) in
     subst (λ r. IsReading bytes h r rest signals count) (sym rows) reading
 
-pub output_line : (bytes : List ℕ) (h : AigerHeader) (old now new : Literals) (p rest : Piece) (signals later : List ℕ) (count number : ℕ) (row : List ℕ) → now ≡ old → later ≡ signals → number ≡ count → IsAtOutput h old → length row ≡ 1 → IsReading bytes h (rows_of old) p signals count → IsRowRead bytes h (rows_of old) false row rest → new.inputs.items ≡ now.inputs.items → new.outputs.items ≡ now.outputs.items ++ get_or row 0 0 ∷ [] → new.gates.items ≡ now.gates.items → IsReading bytes h (rows_of new) rest later number
-output_line bytes h old now new p rest signals later count number row same laters numbers next wide reading read inputs outputs gates =
-    let rows = rows_output old new row wide (inputs ∙ ap (λ (l : Literals). l.inputs.items) same) (outputs ∙ ap (λ (l : Literals). l.outputs.items ++ get_or row 0 0 ∷ []) same) (gates ∙ ap (λ (l : Literals). l.gates.items) same) next.gates in
-    reading_as bytes h (rows_of old ++ row ∷ []) (rows_of new) rest signals later count number (sym rows) (sym laters) (sym numbers) (reading_output bytes h (rows_of old) p rest signals count 1 row reading (wanted_output h old next) wide read)
+pub output_line : (bytes : List ℕ) (h : AigerHeader) (old now new : Literals) (p rest : Piece) (signals later : List ℕ) (n count number : ℕ) (row : List ℕ) → now ≡ old → later ≡ signals → number ≡ count → HasCounts old (input_lines_of h) n 0 → n < h.outputs → length row ≡ 1 → IsReading bytes h (rows_of old) p signals count → IsRowRead bytes h (rows_of old) false row rest → new.inputs.items ≡ now.inputs.items → new.outputs.items ≡ now.outputs.items ++ get_or row 0 0 ∷ [] → new.gates.items ≡ now.gates.items → IsReading bytes h (rows_of new) rest later number
+output_line bytes h old now new p rest signals later n count number row same laters numbers counts below wide reading read inputs outputs gates =
+    let rows = rows_output old new row wide (inputs ∙ ap (λ (l : Literals). l.inputs.items) same) (outputs ∙ ap (λ (l : Literals). l.outputs.items ++ get_or row 0 0 ∷ []) same) (gates ∙ ap (λ (l : Literals). l.gates.items) same) counts.gates_read in
+    reading_as bytes h (rows_of old ++ row ∷ []) (rows_of new) rest signals later count number (sym rows) (sym laters) (sym numbers) (reading_output bytes h (rows_of old) p rest signals count 1 row reading (wanted_output h old n counts below) wide read)
 
 -- zeros alone
 none_there : (n v : ℕ) → ◌≡◌ {A = ℕ} (get_or (replicate n 0) v 0) 0

@@ -6,7 +6,7 @@ use Rattle.aiger_reader.specs.declared.body.AndLine.{AndLine}
 use Rattle.aiger_reader.specs.declared.body.Literals.{Literals}
 use Rattle.aiger_reader.specs.Headers.{AigerHeader}
 use Rattle.aiger_reader.specs.Bodies.{Role, Input, Output, Gate, roles_of, role_at, wanted, defines}
-use Rattle.aiger_reader.specs.Reading.{row_of, rows_of, input_lines_of, gate_lines_of, IsWanted, IsAtOutput}
+use Rattle.aiger_reader.specs.Reading.{row_of, rows_of, input_lines_of, gate_lines_of, IsWanted, HasCounts}
 
 -- n inputs, then outputs, then gates
 abbrev roles : ℕ → ℕ → ℕ → List Role
@@ -62,9 +62,10 @@ wanted_as h rows role announced is =
 pub role_is : (h : AigerHeader) (k : ℕ) → role_at h k ≡ get_or (roles (input_lines_of h) h.outputs (gate_lines_of h)) k Output
 role_is h k = ap (λ rs. get_or rs k Output) (roles_by h.binary h.inputs h.outputs h.gates)
 
-pub wanted_output : (h : AigerHeader) (literals : Literals) → IsAtOutput h literals → IsWanted h (rows_of literals) 1 false
-wanted_output h literals at =
-    wanted_as h (rows_of literals) Output (omega (arith, length-rows_of literals, length-roles_of h, at.inputs, at.outputs, at.gates)) (role_is h (length (rows_of literals)) ∙ output_role (input_lines_of h) h.outputs (gate_lines_of h) (length (rows_of literals)) (omega (arith, length-rows_of literals, at.inputs, at.outputs, at.gates)) (omega (arith, length-rows_of literals, at.inputs, at.outputs, at.gates)))
+pub wanted_output : (h : AigerHeader) (literals : Literals) (n : ℕ) → HasCounts literals (input_lines_of h) n 0 → n < h.outputs → IsWanted h (rows_of literals) 1 false
+wanted_output h literals n counts below =
+    let count : length (rows_of literals) ≡ input_lines_of h + n = omega (arith, length-rows_of literals, counts.inputs_read, counts.outputs_read, counts.gates_read) in
+    wanted_as h (rows_of literals) Output (omega (arith, count, length-roles_of h, below)) (role_is h (length (rows_of literals)) ∙ output_role (input_lines_of h) h.outputs (gate_lines_of h) (length (rows_of literals)) (omega (arith, count)) (omega (arith, count, below)))
 
 abbrev rows_from : List ℕ → List ℕ → List AndLine → List (List ℕ)
 rows_from inputs outputs gates =

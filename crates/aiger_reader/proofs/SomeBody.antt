@@ -1,5 +1,5 @@
 -- Each file with a header has all its lines, or a first bad one, and reads what some line defines, or a first unknown.
-use Rattle.std.proofs.Common.{◌≡◌, ◌≢◌, ℕ, zero, suc, ◌+◌, ◌*◌, ◌/◌, ◌%◌, ◌<◌, ◌≤◌, ◌⊎◌, IsTrue, List, [], ◌∷◌, ◌++◌, length, get_or, AllPairs, Contains, inl, inr, refl, sym, ap, ◌∙◌, subst, arith, append-nil}
+use Rattle.std.proofs.Common.{◌≡◌, ◌≢◌, ℕ, ◌+◌, ◌*◌, ◌/◌, ◌%◌, ◌<◌, ◌≤◌, ◌⊎◌, IsTrue, List, [], ◌∷◌, ◌++◌, length, get_or, AllPairs, Contains, inl, inr, refl, sym, ap, ◌∙◌, subst, arith, append-nil}
 use Rattle.std.proofs.lemmas.Bool.{cases_lt}
 use Rattle.std.proofs.lemmas.List.{get_or_default, length_push}
 use Rattle.std.proofs.lemmas.List.Quantifiers.{all_pairs_push}
@@ -12,7 +12,7 @@ use Rattle.aiger_reader.specs.Reading.{IsWanted}
 use Rattle.aiger_reader.proofs.HeaderLemmas.{map_same}
 use Rattle.aiger_reader.proofs.GoodLemmas.{defined_by, defined_none, defined_more, good_more, row_good}
 use Rattle.aiger_reader.proofs.OneBody.{defines_one}
-use Rattle.aiger_reader.proofs.TellLemmas.{Told, told_both, told_by, told_if, told_not, told_same, told_le, told_true, told_all, told_contains, told_some, all_or_first}
+use Rattle.aiger_reader.proofs.TellLemmas.{Told, told_both, told_by, told_if, told_not, told_same, told_le, told_true, told_all, told_contains, told_some, all_or_first, steps_or}
 
 told_writes : (line : List ℕ) (role : Role) → Told ((row : List ℕ) × Writes line role row)
 told_writes line role =
@@ -100,21 +100,11 @@ front_none bytes h = (
   refl,
 )
 
-front_or_fault : (bytes : List ℕ) (h : AigerHeader) (n : ℕ) → n ≤ length (roles_of h) → Front bytes h n ⊎ HasBodyFault bytes h
-front_or_fault bytes h zero within = inl (front_none bytes h)
-front_or_fault bytes h (suc n) within =
-    elim (front_or_fault bytes h n (omega (arith, within))) [
-      | inr bad ↦ inr bad
-      | inl front ↦ let e : length front.0 + 1 ≡ suc n = omega (arith, front.2) in
-          elim (line_or_fault bytes h front.0 front.1 (omega (arith, front.2, within))) [
-            | inr bad ↦ inr bad
-            | inl more ↦ inl (subst (Front bytes h) e more)
-          ]
-    ]
-
 pub body_or_bad : (bytes : List ℕ) (h : AigerHeader) → ((rows : List (List ℕ)) × IsBody bytes h rows) ⊎ HasBodyFault bytes h
 body_or_bad bytes h =
-    elim (front_or_fault bytes h (length (roles_of h)) (omega arith)) [
+    let next : (n : ℕ) → n < length (roles_of h) → Front bytes h n → Front bytes h (n + 1) ⊎ HasBodyFault bytes h = λ n below front.
+    subst (λ m. Front bytes h (m + 1) ⊎ HasBodyFault bytes h) front.2 (line_or_fault bytes h front.0 front.1 (omega (arith, front.2, below))) in
+    elim (steps_or (Front bytes h) (HasBodyFault bytes h) (length (roles_of h)) (front_none bytes h) next) [
       | inr bad ↦ inr bad
       | inl front ↦ inl (front.0, record { good = front.1; whole = front.2 })
     ]

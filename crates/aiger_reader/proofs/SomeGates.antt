@@ -7,7 +7,7 @@ use Rattle.aiger_reader.specs.Bodies.{line_offset}
 use Rattle.aiger_reader.specs.Deltas.{IsInGroups, BeginsGroups, BeginsDelta, BeginsFirst, BeginsSecond, BeginsGates, AreGates, IsBadPair, IsPairFault, IsDeltaFault, after_outputs}
 use Rattle.aiger_reader.proofs.DeltaLemmas.{last_group, group_before, no_group_after, delta_same}
 use Rattle.aiger_reader.proofs.PairLemmas.{BeginsPair, gates_push}
-use Rattle.aiger_reader.proofs.TellLemmas.{Told, told_both, told_le, told_lt}
+use Rattle.aiger_reader.proofs.TellLemmas.{Told, told_both, told_le, told_lt, steps_or}
 
 groups_some : (groups : List ℕ) (n : ℕ) → IsInGroups groups n → 0 < length groups
 groups_some [] n value = absurd value
@@ -78,15 +78,14 @@ pair_or_bad literal total bytes within =
 abbrev Front : ℕ → ℕ → List ℕ → ℕ → Type 0
 Front variable total bytes n = (gates : List (ℕ × ℕ)) × (rest : List ℕ) × (length gates ≡ n) × (length rest ≤ total) × BeginsGates variable bytes gates rest
 
-front_or_bad : (variable count total : ℕ) (bytes : List ℕ) → length bytes ≤ total → (n : ℕ) → n ≤ count → Front variable total bytes n ⊎ ((at : ℕ) × IsPairFault variable count bytes total at)
-front_or_bad variable count total bytes within zero enough = inl ([], bytes, refl, within, refl)
-front_or_bad variable count total bytes within (suc n) enough =
-    elim (front_or_bad variable count total bytes within n (omega (arith, enough))) [
-      | inr bad ↦ inr bad
-      | inl front ↦ elim (pair_or_bad (2 * (variable + length front.0)) total front.1 front.3) [
-        | inr bad ↦ inr (bad.0, record { gates = front.0; rest = front.1; fewer = omega (arith, front.2, enough); read = front.4; why = bad.1 })
-        | inl pair ↦ inl (front.0 ++ pair.0 ∷ [], pair.1, omega (arith, length_push front.0 pair.0, front.2), omega (arith, pair.2, front.3), gates_push variable (2 * (variable + length front.0)) bytes front.1 pair.1 front.0 pair.0 front.4 refl pair.3)
-      ]
+abbrev HasPairFault : ℕ → ℕ → ℕ → List ℕ → Type 0
+HasPairFault variable count total bytes = (at : ℕ) × IsPairFault variable count bytes total at
+
+next_or_bad : (variable count total : ℕ) (bytes : List ℕ) (n : ℕ) → n < count → Front variable total bytes n → Front variable total bytes (n + 1) ⊎ HasPairFault variable count total bytes
+next_or_bad variable count total bytes n below front =
+    elim (pair_or_bad (2 * (variable + length front.0)) total front.1 front.3) [
+      | inr bad ↦ inr (bad.0, record { gates = front.0; rest = front.1; fewer = omega (arith, front.2, below); read = front.4; why = bad.1 })
+      | inl pair ↦ inl (front.0 ++ pair.0 ∷ [], pair.1, omega (arith, length_push front.0 pair.0, front.2), omega (arith, pair.2, front.3), gates_push variable (2 * (variable + length front.0)) bytes front.1 pair.1 front.0 pair.0 front.4 refl pair.3)
     ]
 
 abbrev HasGates : List ℕ → AigerHeader → Type 0
@@ -95,7 +94,9 @@ HasGates bytes h = (gates : List (ℕ × ℕ)) × (rest : List ℕ) × (length r
 pub gates_or_bad : (bytes : List ℕ) (h : AigerHeader) → HasGates bytes h ⊎ ((at : ℕ) × IsDeltaFault bytes h at)
 gates_or_bad bytes h =
     let within : length (after_outputs bytes h) ≤ length bytes = omega (arith, length-drop (line_offset bytes (1 + h.outputs)) bytes) in
-    elim (front_or_bad (h.inputs + 1) h.gates (length bytes) (after_outputs bytes h) within h.gates (omega arith)) [
+    let v = h.inputs + 1 in
+    let all = after_outputs bytes h in
+    elim (steps_or (Front v (length bytes) all) (HasPairFault v h.gates (length bytes) all) h.gates ([], all, refl, within, refl) (next_or_bad v h.gates (length bytes) all)) [
       | inr bad ↦ inr bad
       | inl front ↦ inl (front.0, front.1, front.3, record { count = front.2; read = front.4 })
     ]

@@ -1,5 +1,5 @@
 -- Each text of symbols gives all ports their names, or has a first bad line.
-use Rattle.std.proofs.Common.{◌≡◌, ◌≢◌, ℕ, zero, suc, ◌+◌, ◌-◌, ◌<◌, ◌≤◌, ◌⊎◌, List, [], ◌∷◌, ◌++◌, length, take, drop, get_or, All, Option, None, Some, inl, inr, refl, sym, ap, ◌∙◌, subst, arith, append-nil}
+use Rattle.std.proofs.Common.{◌≡◌, ◌≢◌, ℕ, zero, suc, ◌+◌, ◌-◌, ◌<◌, ◌⊎◌, List, [], ◌∷◌, ◌++◌, length, take, drop, get_or, All, Option, None, Some, inl, inr, refl, sym, ap, ◌∙◌, subst, arith, append-nil}
 use Rattle.std.proofs.lemmas.List.{take_more, take_all, length_push, same_from_push}
 use Rattle.std.proofs.lemmas.List.Elements.{All-nil, All-head, All-tail, All-push}
 use Rattle.circuits.specs.Literals.{EachAt}
@@ -13,7 +13,7 @@ use Rattle.aiger_reader.proofs.PositionLemmas.{position_parts, position_here}
 use Rattle.aiger_reader.proofs.SymbolLemmas.{after_letter, unnamed, gives_same}
 use Rattle.aiger_reader.proofs.GiveLemmas.{give_more, give_split, give_same}
 use Rattle.aiger_reader.proofs.OneSymbols.{port_or_not}
-use Rattle.aiger_reader.proofs.TellLemmas.{Told, told_both, told_by, told_not, told_same, told_lt, told_all, told_list}
+use Rattle.aiger_reader.proofs.TellLemmas.{Told, told_both, told_by, told_not, told_same, told_lt, told_all, told_list, steps_or}
 
 -- a text without a carriage return at its end
 last_or_none : (text : List ℕ) → (text ≡ []) ⊎ ((front : List ℕ) × (last : ℕ) × (text ≡ front ++ last ∷ []))
@@ -155,18 +155,6 @@ line_or_fault inputs outputs base text n below front =
       )
     ]
 
-front_or_fault : (inputs outputs base : ℕ) (text : List ℕ) (n : ℕ) → n ≤ length (symbol_lines text) → Front inputs outputs text n ⊎ HasSymbolFault inputs outputs base text
-front_or_fault inputs outputs base text zero within = inl ([], refl)
-front_or_fault inputs outputs base text (suc n) within =
-    let e : n + 1 ≡ suc n = omega arith in
-    elim (front_or_fault inputs outputs base text n (omega (arith, within))) [
-      | inr bad ↦ inr bad
-      | inl front ↦ elim (line_or_fault inputs outputs base text n (omega (arith, within)) front) [
-        | inr bad ↦ inr bad
-        | inl more ↦ inl (subst (Front inputs outputs text) e more)
-      ]
-    ]
-
 -- no port has two names
 abbrev IsOnce : List Entry → Type 0
 IsOnce [] = Unit {0}
@@ -229,7 +217,7 @@ some_names entries kind count once =
 pub names_or_bad : (inputs outputs base : ℕ) (text : List ℕ) → ((i : List (List ℕ)) × (o : List (List ℕ)) × AreNames inputs outputs text i o) ⊎ HasSymbolFault inputs outputs base text
 names_or_bad inputs outputs base text =
     let all = symbol_lines text in
-    elim (front_or_fault inputs outputs base text (length all) (omega arith)) [
+    elim (steps_or (Front inputs outputs text) (HasSymbolFault inputs outputs base text) (length all) ([], refl) (line_or_fault inputs outputs base text)) [
       | inr bad ↦ inr bad
       | inl front ↦
           let symbols : AreSymbols inputs outputs text front.0 = subst (λ xs. GiveNames inputs outputs xs [] front.0) (take_all (length all) all (omega arith)) front.1 in

@@ -1,5 +1,5 @@
 -- For laws over every list of bytes: what holds or doesn't, and the first place where something doesn't hold.
-use Rattle.std.proofs.Common.{◌≡◌, ℕ, zero, suc, ◌<◌, ◌≤◌, ◌⊎◌, Bool, true, false, IsTrue, List, [], ◌∷◌, map, All, Contains, Option, None, Some, inl, inr, refl, ap, subst, arith}
+use Rattle.std.proofs.Common.{◌≡◌, ℕ, zero, suc, ◌+◌, ◌<◌, ◌≤◌, ◌⊎◌, Bool, true, false, IsTrue, List, [], ◌∷◌, map, All, Contains, Option, None, Some, inl, inr, refl, ap, subst, arith}
 use Rattle.std.proofs.lemmas.Bool.{cases_lt}
 use Rattle.std.proofs.lemmas.Bool.Decides.{eqb_tells}
 use Rattle.std.proofs.lemmas.List.Elements.{All-nil, All-cons, All-head, All-tail}
@@ -83,6 +83,16 @@ all_or_first P told (suc n) =
           | inr past ↦ let e : n ≡ k = omega (arith, past, below) in subst P e here
         ])
       ]
+    ]
+
+-- as many steps as are asked for, or what stops the first that can't be made
+pub steps_or : (F : ℕ → Type 0) (B : Type 0) (count : ℕ) → F 0 → ((n : ℕ) → n < count → F n → F (n + 1) ⊎ B) → F count ⊎ B
+steps_or F B zero first step = inl first
+steps_or F B (suc n) first step =
+    let e : n + 1 ≡ suc n = omega arith in
+    elim (steps_or F B n first (λ k below. step k (omega (arith, below)))) [
+      | inl before ↦ subst (λ m. F m ⊎ B) e (step n (omega arith) before)
+      | inr bad ↦ inr bad
     ]
 
 -- the words are all numbers

@@ -1,11 +1,11 @@
 -- The netlist of the ASCII form is closed: each literal that its lines read is of a signal.
-use Rattle.std.proofs.Common.{◌≡◌, ℕ, zero, suc, ◌+◌, ◌*◌, ◌/◌, ◌%◌, ◌==◌, ◌<◌, ◌≤◌, Bool, true, false, List, [], ◌∷◌, ◌++◌, length, length-drop, length-take, take, drop, replicate, get_or, All, Contains, inl, inr, if◌then◌else◌, refl, sym, ap, subst, ◌∙◌, arith}
-use Rattle.std.specs.List.{position_or_len}
+use Rattle.std.proofs.Common.{◌≡◌, ℕ, ◌+◌, ◌*◌, ◌/◌, ◌%◌, ◌==◌, ◌<◌, ◌≤◌, Bool, true, false, List, [], ◌∷◌, ◌++◌, length, length-drop, length-take, take, drop, replicate, get_or, All, Contains, inl, inr, if◌then◌else◌, refl, sym, ap, subst, ◌∙◌, arith}
+use Rattle.std.specs.List.{position_or_len, sum_by}
 use Rattle.std.proofs.lemmas.Bool.{cases_lt, eqb-false}
 use Rattle.std.proofs.lemmas.Grind.{get_or_after_one}
-use Rattle.std.proofs.lemmas.List.{length-map, get_or_default, get_or_past, get_or-drop, get_or-take}
-use Rattle.std.proofs.lemmas.List.Elements.{All-nil, All-cons, All-map}
-use Rattle.std.proofs.lemmas.List.Sums.{fails_before_first}
+use Rattle.std.proofs.lemmas.List.{length-map, length-replicate, get_or_default, get_or_past, get_or-drop, get_or-take}
+use Rattle.std.proofs.lemmas.List.Elements.{All-nil, All-cons, All-map, All-replicate}
+use Rattle.std.proofs.lemmas.List.Sums.{fails_before_first, sum_by-append, sum_by-cons, sum_by-le}
 use Rattle.circuits.specs.Literals.{signal_of}
 use Rattle.circuits.specs.Circuits.{HasWideRows, IsClosed, named_by, signals_in}
 use Rattle.aiger_reader.specs.Headers.{AigerHeader}
@@ -14,42 +14,29 @@ use Rattle.aiger_reader.specs.Reading.{input_lines_of, gate_lines_of}
 use Rattle.aiger_reader.proofs.CircuitLemmas.{same_test}
 use Rattle.aiger_reader.proofs.RoleLemmas.{length-roles_of, role_is, output_role, gate_role}
 
--- how many lines define a variable
-abbrev counts : List Role → ℕ
-counts [] = 0
-counts (role ∷ roles) = (if defines role then 1 else 0) + counts roles
+-- how many variables a line defines
+abbrev count_of : Role → ℕ
+count_of role = if defines role then 1 else 0
 
-counts-append : (one other : List Role) → counts (one ++ other) ≡ counts one + counts other
-counts-append [] other = omega arith
-counts-append (role ∷ roles) other = omega (arith, counts-append roles other)
+few_same : (role : Role) (most n : ℕ) → count_of role ≤ most → sum_by count_of (replicate n role) ≤ n * most
+few_same role most n few =
+    subst (λ k. sum_by count_of (replicate n role) ≤ k * most) (length-replicate n role) (sum_by-le count_of most (replicate n role) (All-replicate (λ r. count_of r ≤ most) n role few))
 
-counts_inputs : (n : ℕ) → counts (replicate n Input) ≡ n
-counts_inputs zero = refl
-counts_inputs (suc n) = omega (arith, counts_inputs n)
-
-counts_outputs : (n : ℕ) → counts (replicate n Output) ≡ 0
-counts_outputs zero = refl
-counts_outputs (suc n) = omega (arith, counts_outputs n)
-
-counts_gates : (n : ℕ) → counts (replicate n Gate) ≡ n
-counts_gates zero = refl
-counts_gates (suc n) = omega (arith, counts_gates n)
-
-counts_by : (binary : Bool) (i o g : ℕ) → counts ((if binary then [] else replicate i Input) ++ replicate o Output ++ (if binary then [] else replicate g Gate)) ≤ i + g
+counts_by : (binary : Bool) (i o g : ℕ) → sum_by count_of ((if binary then [] else replicate i Input) ++ replicate o Output ++ (if binary then [] else replicate g Gate)) ≤ i + g
 counts_by true i o g =
-    omega (arith, counts-append (replicate o Output) [], counts_outputs o)
+    omega (arith, sum_by-append count_of (replicate o Output) [], few_same Output 0 o (omega arith))
 counts_by false i o g =
-    omega (arith, counts-append (replicate i Input ++ replicate o Output) (replicate g Gate), counts-append (replicate i Input) (replicate o Output), counts_inputs i, counts_outputs o, counts_gates g)
+    omega (arith, sum_by-append count_of (replicate i Input ++ replicate o Output) (replicate g Gate), sum_by-append count_of (replicate i Input) (replicate o Output), few_same Input 1 i (omega arith), few_same Output 0 o (omega arith), few_same Gate 1 g (omega arith))
 
 length-one : (t : Bool) (v : ℕ) (vs : List ℕ) (n : ℕ) → length vs ≤ n → length ((if t then v ∷ [] else []) ++ vs) ≤ (if t then 1 else 0) + n
 length-one true v vs n fewer = omega arith
 length-one false v vs n fewer = omega arith
 
-defined_counts : (roles : List Role) (rows : List (List ℕ)) → length (defined roles rows) ≤ counts roles
+defined_counts : (roles : List Role) (rows : List (List ℕ)) → length (defined roles rows) ≤ sum_by count_of roles
 defined_counts [] rows = omega arith
 defined_counts (role ∷ roles) [] = omega arith
 defined_counts (role ∷ roles) (row ∷ rows) =
-    length-one (defines role) _ (defined roles rows) (counts roles) (defined_counts roles rows)
+    omega (arith, sum_by-cons count_of role roles, length-one (defines role) (first_of row / 2) (defined roles rows) (sum_by count_of roles) (defined_counts roles rows))
 
 -- no more variables are defined than there are inputs and gates
 pub defined_within : (h : AigerHeader) (rows : List (List ℕ)) → length (defined (roles_of h) rows) ≤ h.inputs + h.gates

@@ -64,9 +64,10 @@ undefined_fault bytes header literals signals rest at fault text begun read why 
     } in
     subst (λ f. IsAigerFault bytes f.kind f.at) (sym same) (inr (inr (inr (inl found))))
 
-of_text : (binary : Bool) (bytes : List ℕ) (h : AigerHeader) (rows : List (List ℕ)) (circuit : Circuit) (rest : List ℕ) → binary ≡ false → IsOfForm false bytes h rows circuit rest → IsOfForm binary bytes h rows circuit rest
-of_text binary bytes h rows circuit rest text is =
-    subst (λ t. IsOfForm t bytes h rows circuit rest) (sym text) is
+-- a file of a header's form
+of_form : (binary form : Bool) (bytes : List ℕ) (h : AigerHeader) (rows : List (List ℕ)) (circuit : Circuit) (rest : List ℕ) → binary ≡ form → IsOfForm form bytes h rows circuit rest → IsOfForm binary bytes h rows circuit rest
+of_form binary form bytes h rows circuit rest same is =
+    subst (λ t. IsOfForm t bytes h rows circuit rest) (sym same) is
 
 -- the netlist of the ASCII form's lines is the file's
 pub text_is : (bytes : List ℕ) (header : Header) (literals : Literals) (signals : List ℕ) (rest : Piece) (circuit : Circuit) → header.binary ≡ false → IsBegun bytes header → AreLinesRead bytes header literals signals rest → ((properties : List ℕ) (k : ℕ) → k < length (rows_of literals) → IsKnownRow (header_of header properties) (rows_of literals) k) → ((properties : List ℕ) → circuit ≡ text_circuit (header_of header properties) (rows_of literals)) → IsNetOf bytes header circuit rest.bytes
@@ -79,7 +80,7 @@ text_is bytes header literals signals rest circuit text begun read known same =
         begins = begun.1;
         rows = rows;
         body = read.body begun.0;
-        form = of_text header.binary bytes h rows circuit rest.bytes text (record {
+        form = of_form header.binary false bytes h rows circuit rest.bytes text (record {
           known = known begun.0;
           same = same begun.0;
           after = rest_is bytes (length rows + 1) rest read.left ∙ ap (λ n. drop (line_offset bytes n) bytes) lines_read;
@@ -110,10 +111,6 @@ delta_fault bytes header literals signals rest fault binary begun read is why =
     } in
     inr (inr (inl found))
 
-of_binary : (binary : Bool) (bytes : List ℕ) (h : AigerHeader) (rows : List (List ℕ)) (circuit : Circuit) (rest : List ℕ) → binary ≡ true → IsOfForm true bytes h rows circuit rest → IsOfForm binary bytes h rows circuit rest
-of_binary binary bytes h rows circuit rest text is =
-    subst (λ t. IsOfForm t bytes h rows circuit rest) (sym text) is
-
 -- the netlist of the gates in the binary form is the file's
 pub deltas_are : (bytes : List ℕ) (header : Header) (literals : Literals) (signals : List ℕ) (rest : Piece) (after : List ℕ) (circuit : Circuit) (gates : List (ℕ × ℕ)) → header.binary ≡ true → IsBegun bytes header → AreLinesRead bytes header literals signals rest → length gates ≡ header.gates → BeginsGates (header.inputs + 1) rest.bytes gates after → circuit ≡ circuit_from header.inputs (map and_from gates) (map lit_from literals.outputs.items) → IsNetOf bytes header circuit after
 deltas_are bytes header literals signals rest after circuit gates binary begun read count begins same =
@@ -125,7 +122,7 @@ deltas_are bytes header literals signals rest after circuit gates binary begun r
         begins = begun.1;
         rows = rows;
         body = read.body begun.0;
-        form = of_binary header.binary bytes h rows circuit after binary (record {
+        form = of_form header.binary true bytes h rows circuit after binary (record {
           gates = gates;
           read = gates_are;
           same = same ∙ binary_is h literals gates binary read.sound.counts;

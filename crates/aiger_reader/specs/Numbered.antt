@@ -21,6 +21,10 @@ pub record IsSound (h : AigerHeader) (literals : Literals) (signals : List ℕ) 
 abbrev pub has_place : List ℕ → ℕ → Bool
 has_place signals literal = literal / 2 == 0 || nat_lt 0 (slice_index_or signals (literal / 2) 0)
 
+-- both operands of a gate are of variables that have a place or none
+abbrev pub AreWithin : List ℕ → AndLine → Type 0
+AreWithin signals line = (line.a / 2 < length signals) × (line.b / 2 < length signals)
+
 -- whether both operands are
 abbrev pub have_places : List ℕ → AndLine → Bool
 have_places signals line = has_place signals line.a && has_place signals line.b

@@ -8,9 +8,12 @@ use Rattle.net_file.specs.declared.fault.NetKind.TheVariants as kind
 use Rattle.net_file.specs.declared.fault.NetStop.{NetStop}
 use Rattle.net_file.specs.declared.fault.NetStop.TheVariants.{Fault, Memory}
 use Rattle.aiger_reader.specs.declared.body.AndLine.{AndLine}
+use Rattle.aiger_reader.specs.declared.body.Body.{Body}
 use Rattle.aiger_reader.specs.declared.body.Literals.{Literals}
+use Rattle.aiger_reader.specs.declared.limits.Header.{Header}
 use Rattle.aiger_reader.specs.Words.{numbers_on}
 use Rattle.aiger_reader.specs.Headers.{AigerHeader}
+use Rattle.aiger_reader.specs.Numbers.{header_of}
 use Rattle.aiger_reader.specs.Bodies.{roles_of, role_at, wanted, defines, defined, body_lines, line_offset, first_of, AreGood, IsBodyFault}
 
 -- the row of an AND line
@@ -52,29 +55,16 @@ pub record IsReading (bytes : List ℕ) (h : AigerHeader) (rows : List (List ℕ
   pub numbered : IsNumbering h.variables (defined (roles_of h) rows) signals
   pub counted : count ≡ length (defined (roles_of h) rows)
 
+-- what is read of the body, whose header has properties or none
+abbrev pub IsBodyReading : List ℕ → Header → Body → Type 0
+IsBodyReading bytes header body =
+    IsReading bytes (header_of header []) (rows_of body.literals) body.rest body.signals.items body.count
+
 -- One more line is announced, with n words, and it defines a variable or doesn't.
 pub record IsWanted (h : AigerHeader) (rows : List (List ℕ)) (width : ℕ) (defining : Bool) : Type 0 where
   pub announced : length rows < length (roles_of h)
   pub wide : wanted (role_at h (length rows)) ≡ width
   pub role : defines (role_at h (length rows)) ≡ defining
-
--- an input's line is next
-pub record IsAtInput (h : AigerHeader) (literals : Literals) : Type 0 where
-  pub inputs : length literals.inputs.items < input_lines_of h
-  pub outputs : length literals.outputs.items ≡ 0
-  pub gates : length literals.gates.items ≡ 0
-
--- an output's line is next
-pub record IsAtOutput (h : AigerHeader) (literals : Literals) : Type 0 where
-  pub inputs : length literals.inputs.items ≡ input_lines_of h
-  pub outputs : length literals.outputs.items < h.outputs
-  pub gates : length literals.gates.items ≡ 0
-
--- a gate's line is next
-pub record IsAtGate (h : AigerHeader) (literals : Literals) : Type 0 where
-  pub inputs : length literals.inputs.items ≡ input_lines_of h
-  pub outputs : length literals.outputs.items ≡ h.outputs
-  pub gates : length literals.gates.items < gate_lines_of h
 
 -- n lines of each role are read
 pub record HasCounts (literals : Literals) (inputs outputs gates : ℕ) : Type 0 where

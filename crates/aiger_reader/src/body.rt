@@ -5,7 +5,7 @@ ghost use Rattle.std.specs.Bool.{OnTrue, OnFalse};
 ghost use Rattle.aiger_reader.specs.Numbers.{header_of};
 ghost use Rattle.aiger_reader.specs.Bodies.{line_offset, IsBody};
 ghost use Rattle.aiger_reader.specs.Numbered.{IsSound};
-ghost use Rattle.aiger_reader.specs.Reading.{rows_of, input_lines_of, gate_lines_of, IsAtLine, IsReading, IsWanted, IsAtInput, IsAtOutput, IsAtGate, HasCounts, IsRowRead, IsStop};
+ghost use Rattle.aiger_reader.specs.Reading.{rows_of, input_lines_of, gate_lines_of, IsAtLine, IsReading, IsBodyReading, IsWanted, HasCounts, IsRowRead, IsStop};
 
 use crate::limits::Header;
 use crate::literals::read_line;
@@ -50,8 +50,7 @@ impl<'a> Body<'a> {
         row: &mut [u32],
         defining: bool,
     ) -> Result<u64, NetStop>
-        requires reading { IsReading input.now (header_of header []) (rows_of self.old.literals)
-            self.old.rest self.old.signals.items self.old.count }
+        requires reading { IsBodyReading input.now header self.old }
         requires wanted { IsWanted (header_of header []) (rows_of self.old.literals)
             (length row.old) defining }
         ensures literals { self.new.literals ≡ self.old.literals }
@@ -74,8 +73,7 @@ impl<'a> Body<'a> {
         header: Header,
         row: &mut [u32],
     ) -> Result<(), NetStop>
-        requires reading { IsReading input.now (header_of header []) (rows_of self.old.literals)
-            self.old.rest self.old.signals.items self.old.count }
+        requires reading { IsBodyReading input.now header self.old }
         requires wanted { IsWanted (header_of header []) (rows_of self.old.literals)
             (length row.old) true }
         ensures literals { self.new.literals ≡ self.old.literals }
@@ -95,108 +93,56 @@ impl<'a> Body<'a> {
         Ok(())
     }
 
-    // Reads the line of an input.
-    fn read_input(&mut self, input: &[u8], header: Header) -> Result<(), NetStop>
-        requires reading { IsReading input.now (header_of header []) (rows_of self.old.literals)
-            self.old.rest self.old.signals.items self.old.count }
-        requires next { IsAtInput (header_of header []) self.old.literals }
-        ensures reading { OnOk result (IsReading input.now (header_of header [])
-            (rows_of self.new.literals) self.new.rest self.new.signals.items self.new.count) }
-        ensures counts { OnOk result (HasCounts self.new.literals
-            (length self.old.literals.inputs.items + 1) 0 0) }
-        ensures stop { IfErr result (IsStop input.now (header_of header [])) }
-    {
-        let mut row = [0; 1];
-        self.next_definition(input, header, &mut row)?;
-        self.literals.inputs.push(row[0])?;
-        Ok(())
-    }
-
-    // Reads the line of an output.
-    fn read_output(&mut self, input: &[u8], header: Header) -> Result<(), NetStop>
-        requires reading { IsReading input.now (header_of header []) (rows_of self.old.literals)
-            self.old.rest self.old.signals.items self.old.count }
-        requires next { IsAtOutput (header_of header []) self.old.literals }
-        ensures reading { OnOk result (IsReading input.now (header_of header [])
-            (rows_of self.new.literals) self.new.rest self.new.signals.items self.new.count) }
-        ensures counts { OnOk result (HasCounts self.new.literals
-            (input_lines_of (header_of header [])) (length self.old.literals.outputs.items + 1) 0) }
-        ensures stop { IfErr result (IsStop input.now (header_of header [])) }
-    {
-        let mut row = [0; 1];
-        self.next_row(input, header, &mut row, false)?;
-        self.literals.outputs.push(row[0])?;
-        Ok(())
-    }
-
-    // Reads the line of a gate.
-    fn read_gate(&mut self, input: &[u8], header: Header) -> Result<(), NetStop>
-        requires reading { IsReading input.now (header_of header []) (rows_of self.old.literals)
-            self.old.rest self.old.signals.items self.old.count }
-        requires next { IsAtGate (header_of header []) self.old.literals }
-        ensures reading { OnOk result (IsReading input.now (header_of header [])
-            (rows_of self.new.literals) self.new.rest self.new.signals.items self.new.count) }
-        ensures counts { OnOk result (HasCounts self.new.literals
-            (input_lines_of (header_of header [])) header.outputs
-            (length self.old.literals.gates.items + 1)) }
-        ensures stop { IfErr result (IsStop input.now (header_of header [])) }
-    {
-        let mut row = [0; 3];
-        self.next_definition(input, header, &mut row)?;
-        let [lhs, a, b] = row;
-        self.literals.gates.push(AndLine { lhs, a, b })?;
-        Ok(())
-    }
-
     // Reads the lines of the inputs.
     fn read_inputs(&mut self, input: &[u8], header: Header) -> Result<(), NetStop>
-        requires reading { IsReading input.now (header_of header []) (rows_of self.old.literals)
-            self.old.rest self.old.signals.items self.old.count }
+        requires reading { IsBodyReading input.now header self.old }
         requires start { HasCounts self.old.literals 0 0 0 }
-        ensures reading { OnOk result (IsReading input.now (header_of header [])
-            (rows_of self.new.literals) self.new.rest self.new.signals.items self.new.count) }
+        ensures reading { OnOk result (IsBodyReading input.now header self.new) }
         ensures counts { OnOk result (HasCounts self.new.literals
             (input_lines_of (header_of header [])) 0 0) }
         ensures stop { IfErr result (IsStop input.now (header_of header [])) }
     {
         for _ in 0..input_lines(header) {
-            self.read_input(input, header)?;
+            let mut row = [0; 1];
+            self.next_definition(input, header, &mut row)?;
+            self.literals.inputs.push(row[0])?;
         }
         Ok(())
     }
 
     // Reads the lines of the outputs.
     fn read_outputs(&mut self, input: &[u8], header: Header) -> Result<(), NetStop>
-        requires reading { IsReading input.now (header_of header []) (rows_of self.old.literals)
-            self.old.rest self.old.signals.items self.old.count }
+        requires reading { IsBodyReading input.now header self.old }
         requires start { HasCounts self.old.literals (input_lines_of (header_of header [])) 0 0 }
-        ensures reading { OnOk result (IsReading input.now (header_of header [])
-            (rows_of self.new.literals) self.new.rest self.new.signals.items self.new.count) }
+        ensures reading { OnOk result (IsBodyReading input.now header self.new) }
         ensures counts { OnOk result (HasCounts self.new.literals
             (input_lines_of (header_of header [])) header.outputs 0) }
         ensures stop { IfErr result (IsStop input.now (header_of header [])) }
     {
         for _ in 0..header.outputs {
-            self.read_output(input, header)?;
+            let mut row = [0; 1];
+            self.next_row(input, header, &mut row, false)?;
+            self.literals.outputs.push(row[0])?;
         }
         Ok(())
     }
 
     // Reads the lines of the gates.
     fn read_gates(&mut self, input: &[u8], header: Header) -> Result<(), NetStop>
-        requires reading { IsReading input.now (header_of header []) (rows_of self.old.literals)
-            self.old.rest self.old.signals.items self.old.count }
+        requires reading { IsBodyReading input.now header self.old }
         requires start { HasCounts self.old.literals (input_lines_of (header_of header []))
             header.outputs 0 }
-        ensures reading { OnOk result (IsReading input.now (header_of header [])
-            (rows_of self.new.literals) self.new.rest self.new.signals.items self.new.count) }
+        ensures reading { OnOk result (IsBodyReading input.now header self.new) }
         ensures counts { OnOk result (HasCounts self.new.literals
             (input_lines_of (header_of header [])) header.outputs
             (gate_lines_of (header_of header []))) }
         ensures stop { IfErr result (IsStop input.now (header_of header [])) }
     {
         for _ in 0..gate_lines(header) {
-            self.read_gate(input, header)?;
+            let mut row = [0; 3];
+            self.next_definition(input, header, &mut row)?;
+            let [lhs, a, b] = row;
+            self.literals.gates.push(AndLine { lhs, a, b })?;
         }
         Ok(())
     }
@@ -214,6 +160,7 @@ impl<'a> Body<'a> {
 /// [`NetKind::Redefined`] at the first byte of the first line that isn't as it should be, the first of them that
 /// applies to it, or [`NetKind::Truncated`] at the file's end where a line is missing. [`NetStop::Memory`] for want
 /// of memory alone.
+#[tactic(auto, using(crate::proofs::ReadingLemmas::body_read, crate::proofs::ReadingLemmas::body_sound))]
 pub(crate) fn read_body<'a>(
     alloc: Global,
     input: &'a [u8],
@@ -236,8 +183,7 @@ pub(crate) fn read_body<'a>(
 
 // After the header's line, with nothing read of the body.
 fn start<'a>(alloc: Global, input: &'a [u8], header: Header) -> Result<Body<'a>, NetStop>
-    ensures reading { IfOk result (λ body. IsReading input.now (header_of header [])
-        (rows_of body.literals) body.rest body.signals.items body.count) }
+    ensures reading { IfOk result (IsBodyReading input.now header) }
     ensures counts { IfOk result (λ body. HasCounts body.literals 0 0 0) }
     ensures memory { IfErr result (λ stop. stop ≡ NetStop.Memory) }
 {

@@ -127,6 +127,7 @@ fn form_of(input: &[u8]) -> Option<bool>
 }
 
 // The first line after the keyword.
+#[tactic(auto, using(crate::proofs::HeaderLemmas::first_after, crate::proofs::HeaderLemmas::none_after))]
 fn line_after_keyword(input: &[u8]) -> Option<Span<'_>>
     requires { 4 ≤ length input.now }
     ensures line { IfSome result (λ line. line_after input.now ≡ line.bytes) }

@@ -6,13 +6,13 @@ ghost use Rattle.text_core.specs.Lines.{lines};
 ghost use Rattle.aiger_reader.specs.Numbers.{header_of};
 ghost use Rattle.aiger_reader.specs.Bodies.{line_offset, roles_of, IsBody, IsKnownRow, IsUndefined, text_circuit};
 ghost use Rattle.aiger_reader.specs.Reading.{rows_of};
-ghost use Rattle.aiger_reader.specs.Numbered.{IsSound, has_place, have_places, lit_in, def_in, circuit_from};
+ghost use Rattle.aiger_reader.specs.Numbered.{AreWithin, IsSound, has_place, have_places, lit_in, def_in, circuit_from};
 
 use crate::body::{AndLine, Body, gate_lines, input_lines};
 use crate::limits::Header;
 use circuits::{Def, Lit};
 use net_file::NetStop;
-use std::alloc::{AllocFailed, Global};
+use std::alloc::{AllocError, Global};
 use text_core::Cursor;
 
 // Whether a literal is of the constant or of a variable that has a place.
@@ -38,8 +38,7 @@ fn known_outputs(signals: &[u32], outputs: &[u32]) -> usize
 
 // How many gates stand before the first with an operand of a variable without a place, or all where there is none.
 fn known_gates(signals: &[u32], gates: &[AndLine]) -> usize
-    requires a { All (λ line. line.a / 2 < length signals.now) gates.now }
-    requires b { All (λ line. line.b / 2 < length signals.now) gates.now }
+    requires { All (AreWithin signals.now) gates.now }
     ensures count { result ≡ prefix_len (have_places signals.now) gates.now }
     ensures within { result ≤ length gates.now }
 {
@@ -117,41 +116,26 @@ fn lit_of(signals: &[u32], literal: u32) -> Lit
 }
 
 // The netlist's outputs.
-fn number_outputs(
-    alloc: Global,
-    signals: &[u32],
-    outputs: &[u32],
-) -> Result<Vec<Lit>, AllocFailed<Lit>>
+fn number_outputs(alloc: Global, signals: &[u32], outputs: &[u32]) -> Result<Vec<Lit>, AllocError>
     requires within { All (λ literal. literal / 2 < length signals.now) outputs.now }
     requires small { All (λ place. place < 2 ^ 31) signals.now }
     ensures { IfOk result (λ lits. lits.items ≡ map (lit_in signals.now) outputs.now) }
 {
-    let mut lits = Vec::new(alloc);
-    for literal in outputs {
-        lits.push(lit_of(signals, *literal))?;
-    }
-    Ok(lits)
+    let lits = outputs.iter().map(|literal| lit_of(signals, *literal));
+    lits.collect(alloc)
 }
 
 // The netlist's definitions.
-fn number_gates(
-    alloc: Global,
-    signals: &[u32],
-    gates: &[AndLine],
-) -> Result<Vec<Def>, AllocFailed<Def>>
-    requires a { All (λ line. line.a / 2 < length signals.now) gates.now }
-    requires b { All (λ line. line.b / 2 < length signals.now) gates.now }
+fn number_gates(alloc: Global, signals: &[u32], gates: &[AndLine]) -> Result<Vec<Def>, AllocError>
+    requires within { All (AreWithin signals.now) gates.now }
     requires small { All (λ place. place < 2 ^ 31) signals.now }
     ensures { IfOk result (λ defs. defs.items ≡ map (def_in signals.now) gates.now) }
 {
-    let mut defs = Vec::new(alloc);
-    for line in gates {
-        defs.push(Def::And {
-            a: lit_of(signals, line.a),
-            b: lit_of(signals, line.b),
-        })?;
-    }
-    Ok(defs)
+    let defs = gates.iter().map(|line| Def::And {
+        a: lit_of(signals, line.a),
+        b: lit_of(signals, line.b),
+    });
+    defs.collect(alloc)
 }
 
 /// A netlist in the numbers of its own: signal 0 is the constant, input i is signal i + 1, and then come the

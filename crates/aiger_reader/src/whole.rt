@@ -23,7 +23,7 @@ use circuits::{Def, Lit};
 use items::Items;
 use net_core::{Graph, OrderFault, PlainNet, order};
 use net_file::{Named, NetFault, NetKind, NetStop};
-use std::alloc::{AllocFailed, Global};
+use std::alloc::{AllocError, Global};
 use text_core::Cursor;
 
 /// Reads a netlist with the names of its ports from a file of either AIGER form (AIGER 1.9), without latches and
@@ -141,29 +141,21 @@ fn binary_net(
 }
 
 // The definitions of gates with these operands.
-fn defs_of(alloc: Global, gates: &[(u32, u32)]) -> Result<Vec<Def>, AllocFailed<Def>>
+fn defs_of(alloc: Global, gates: &[(u32, u32)]) -> Result<Vec<Def>, AllocError>
     ensures { IfOk result (λ defs. defs.items ≡ map and_from gates.now) }
 {
-    let mut defs = Vec::new(alloc);
-    for gate in gates {
-        let (a, b) = *gate;
-        defs.push(Def::And {
-            a: Lit(a),
-            b: Lit(b),
-        })?;
-    }
-    Ok(defs)
+    let defs = gates.iter().map(|(a, b)| Def::And {
+        a: Lit(*a),
+        b: Lit(*b),
+    });
+    defs.collect(alloc)
 }
 
 // The literals with these numbers.
-fn lits_of(alloc: Global, numbers: &[u32]) -> Result<Vec<Lit>, AllocFailed<Lit>>
+fn lits_of(alloc: Global, numbers: &[u32]) -> Result<Vec<Lit>, AllocError>
     ensures { IfOk result (λ lits. lits.items ≡ map lit_from numbers.now) }
 {
-    let mut lits = Vec::new(alloc);
-    for number in numbers {
-        lits.push(Lit(*number))?;
-    }
-    Ok(lits)
+    numbers.iter().map(|number| Lit(*number)).collect(alloc)
 }
 
 // The netlist in order.

@@ -31,9 +31,9 @@ use Rattle.blif_reader.specs.Covers.{signal_names, literal_named, covers_of, bli
 use Rattle.blif_reader.specs.Blif.{blif_lines, IsBlif, IsCycleFault, IsGatesFault, ReadAs}
 use Rattle.blif_reader.specs.Building.{IsKnownIn, IsUnknownAt, IsUnknownFault, outputs_in, places_by, places_in, IsBuilt}
 use Rattle.blif_reader.proofs.FirstLemmas.{IsFirst-seam}
-use Rattle.blif_reader.proofs.NumberLemmas.{list_any-map, length-map}
+use Rattle.blif_reader.proofs.NumberLemmas.{list_any-map}
 use Rattle.blif_reader.proofs.ClosedLemmas.{closed_circuit, length-names, length-covers_of, output_words-outputs_in}
-use Rattle.std.proofs.lemmas.List.{get_or-map}
+use Rattle.std.proofs.lemmas.List.{get_or-map, length-map}
 use Rattle.std.proofs.Math.Seq.{take-length, get_or-append_seam}
 use borrow.Author.Tests.{not-false}
 
@@ -145,7 +145,7 @@ signals_made lines inputs covers i built small =
 
 pub outputs_made : (lines : List (List Piece)) (covers : Covers) → AreFew lines → IsBuilt (signal_names lines) lines covers → length covers.outputs < 2 ^ 32
 outputs_made lines covers few built =
-    let long = ap length built.outputs ∙ (length-map (literal_named (signal_names lines)) (outputs_in lines) ∙ ap length (sym (output_words-outputs_in lines))) in
+    let long = ap length built.outputs ∙ (length-map (outputs_in lines) (literal_named (signal_names lines)) ∙ ap length (sym (output_words-outputs_in lines))) in
     omega (arith, long, few.outputs)
 
 pub gates_made : (lines : List (List Piece)) (net : Net)
@@ -185,7 +185,7 @@ place_there lines covers d built looped =
 
 pub cycle_found : (lines : List (List Piece)) (covers : Covers) (d at : ℕ) → AreFew lines → IsBuilt (signal_names lines) lines covers → IsFirstLooped (blif_circuit lines) d → at ≡ get_or covers.places d at → IsCycleFault lines fault.CoverCycle at
 cycle_found lines covers d at few built looped i =
-    let there : d < length (names_lines lines) = omega (arith, place_there lines covers d built looped, ap length built.places, ap length (places_in-names lines), length-map place_of (names_lines lines)) in
+    let there : d < length (names_lines lines) = omega (arith, place_there lines covers d built looped, ap length built.places, ap length (places_in-names lines), length-map (names_lines lines) place_of) in
     record {
       names = few;
       is = refl;

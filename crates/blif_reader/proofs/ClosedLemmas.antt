@@ -1,12 +1,12 @@
 -- For the law that a file's netlist is closed: its names are known, and its rows as wide as their covers.
-use Rattle.std.proofs.Common.{◌≡◌, ◌==◌, ℕ, suc, ◌+◌, ◌*◌, ◌/◌, ◌<◌, Bool, true, false, not, cond, List, [], ◌∷◌, ◌++◌, length, map, drop, get_or, All, Option, Some, None, refl, ap, sym, subst, ◌∙◌, arith, append_assoc, eqb-true, length-take, length-drop}
+use Rattle.std.proofs.Common.{◌≡◌, ◌==◌, ℕ, suc, ◌+◌, ◌*◌, ◌/◌, ◌<◌, Bool, true, false, not, cond, List, [], ◌∷◌, ◌++◌, length, map, drop, All, Option, Some, None, refl, ap, sym, subst, ◌∙◌, arith, append_assoc, eqb-true, length-take, length-drop}
 use Rattle.std.specs.Prelude.{nat_lt, is_some, reverse, filter}
 use Rattle.std.specs.List.{position_or_len}
 use Rattle.std.specs.Str.{bytes_eq}
 use Rattle.std.proofs.lemmas.Bool.Decides.{nat_tests}
 use Rattle.std.proofs.lemmas.Slice.Eq.{bytes_eq-Decides}
-use Rattle.std.proofs.lemmas.List.{length-append}
-use Rattle.std.proofs.lemmas.List.Elements.{All-nil, All-cons, All-head, All-tail, All-append}
+use Rattle.std.proofs.lemmas.List.{length-append, length-map, get_or_append_left, get_or-append-add}
+use Rattle.std.proofs.lemmas.List.Elements.{All-nil, All-cons, All-append, All-map, All-weaker}
 use Rattle.text_core.specs.Piece.{Piece}
 use Rattle.circuits.specs.declared.port.PortKind.{PortKind}
 use Rattle.circuits.specs.declared.port.PortKind.TheVariants.{Input, Output}
@@ -27,7 +27,7 @@ use Rattle.blif_reader.specs.Covers.{trit_of, trits_of, signal_names, signal_nam
 use Rattle.blif_reader.specs.Building.{IsKnownIn, outputs_by, outputs_in}
 use Rattle.blif_reader.proofs.FirstLemmas.{found-seam}
 use Rattle.blif_reader.proofs.SurveyLemmas.{reversed_push, not_row, row_more, opening_of, not_ended}
-use Rattle.blif_reader.proofs.NumberLemmas.{any_place, length-map}
+use Rattle.blif_reader.proofs.NumberLemmas.{any_place}
 use Rattle.blif_reader.proofs.BuildingLemmas.{covers_skip, covers_take, no_rows, one_row}
 
 -- a name that is known has a signal after the constant
@@ -39,23 +39,14 @@ known_signal names word k =
     below : (n m : ℕ) → nat_lt n m ≡ true → 1 + n < 1 + m
     below n m h = grind (arith, nat_tests)
 
--- P of all of a list, by P of its images
-All-map : {X Y : Type 0} (P : Y → Type 0) (f : X → Y) (xs : List X) → All (λ x. P (f x)) xs → All P (map f xs)
-All-map P f [] all = All-nil P
-All-map P f (x ∷ xs) all =
-    All-cons P (f x) (map f xs) (All-head (λ x. P (f x)) x xs all) (All-map P f xs (All-tail (λ x. P (f x)) x xs all))
-
-All-weaker : {X : Type 0} (P Q : X → Type 0) (xs : List X) → ((x : X) → P x → Q x) → All P xs → All Q xs
-All-weaker P Q xs f all = λ k d h. f (get_or xs k d) (all k d h)
-
+-- what holds of two lists in a row holds of each
 All-front : {X : Type 0} (P : X → Type 0) (xs ys : List X) → All P (xs ++ ys) → All P xs
-All-front P [] ys all = All-nil P
-All-front P (x ∷ xs) ys all =
-    All-cons P x xs (All-head P x (xs ++ ys) all) (All-front P xs ys (All-tail P x (xs ++ ys) all))
+All-front P xs ys all k d h =
+    subst P (get_or_append_left xs ys d k h) (all k d (omega (arith, h, length-append xs ys)))
 
 All-after : {X : Type 0} (P : X → Type 0) (xs ys : List X) → All P (xs ++ ys) → All P ys
-All-after P [] ys all = all
-All-after P (x ∷ xs) ys all = All-after P xs ys (All-tail P x (xs ++ ys) all)
+All-after P xs ys all k d h =
+    subst P (get_or-append-add xs ys k d) (all (length xs + k) d (omega (arith, h, length-append xs ys)))
 
 -- what a list of definitions has for each
 abbrev NamesBelow : ℕ → Def → Type 0
@@ -63,7 +54,7 @@ NamesBelow count def = All (λ s. s < count) (named_by def)
 
 known_cover : (names : List (List ℕ)) (line : List Piece) (rows : List (List Piece)) → All (IsKnownIn names) (operands line) → NamesBelow (1 + length names) (cover_of names line rows)
 known_cover names line rows known =
-    All-map (λ s. s < 1 + length names) (signal_named names) (operands line) (All-weaker (IsKnownIn names) (λ w. signal_named names w < 1 + length names) (operands line) (known_signal names) known)
+    All-map (λ s. s < 1 + length names) (signal_named names) (operands line) (All-weaker (IsKnownIn names) (λ w. signal_named names w < 1 + length names) (known_signal names) (operands line) known)
 
 known_by_test : (t : Bool) (names : List (List ℕ)) (line : List Piece) (left : List (List Piece)) → is_names (directive_of line) ≡ t → All (IsKnownIn names) (read_on (directive_of line) line) → All (NamesBelow (1 + length names)) (covers_of names left) → All (NamesBelow (1 + length names)) (covers_of names (line ∷ left))
 known_by_test true names line left e known rest =
@@ -158,7 +149,7 @@ length-operands line =
 -- a cover's rows are as wide as its names
 wide_cover : (names : List (List ℕ)) (line : List Piece) (rows : List (List Piece)) → All (HasWidths (operand_count line)) rows → HasWideRows (cover_of names line rows)
 wide_cover names line rows wide =
-    All-map (λ row. length row ≡ length (map (signal_named names) (operands line))) trits_of rows (All-weaker (HasWidths (operand_count line)) (λ row. length (trits_of row) ≡ length (map (signal_named names) (operands line))) rows (λ row h. length-map trit_of (literal_bytes row) ∙ (literal_widths (operand_count line) row h ∙ (sym (length-operands line) ∙ sym (length-map (signal_named names) (operands line))))) wide)
+    All-map (λ row. length row ≡ length (map (signal_named names) (operands line))) trits_of rows (All-weaker (HasWidths (operand_count line)) (λ row. length (trits_of row) ≡ length (map (signal_named names) (operands line))) (λ row h. length-map (literal_bytes row) trit_of ∙ (literal_widths (operand_count line) row h ∙ (sym (length-operands line) ∙ sym (length-map (operands line) (signal_named names))))) rows wide)
 
 wide_by_test : (t : Bool) (names : List (List ℕ)) (pre : List (List Piece)) (line : List Piece) (rest : List (List Piece)) → is_names (directive_of line) ≡ t → NoneIs is_faulty (pre ++ line ∷ rest) → All HasWideRows (covers_of names rest) → All HasWideRows (covers_of names (line ∷ rest))
 wide_by_test true names pre line rest e sound tail =
@@ -209,14 +200,14 @@ literal_signal names word = let e : 2 * signal_named names word / 2 ≡ signal_n
 
 pub length-names : (lines : List (List Piece)) → length (signal_names lines) ≡ length (input_words lines) + length (defined_words lines)
 length-names lines =
-    length-map (λ (w : Piece). w.bytes) (input_words lines ++ defined_words lines) ∙ length-append (input_words lines) (defined_words lines)
+    length-map (input_words lines ++ defined_words lines) (λ (w : Piece). w.bytes) ∙ length-append (input_words lines) (defined_words lines)
 
 -- a file without faulty lines, whose names are known, is a closed netlist
 pub closed_circuit : (lines : List (List Piece)) → NoneIs is_faulty lines → All (IsKnownIn (signal_names lines)) (read_words lines) → IsClosed (blif_circuit lines)
 closed_circuit lines sound known =
     let names = signal_names lines in
     let same : 1 + length names ≡ signals_in (blif_circuit lines) = omega (arith, length-names lines, length-covers_of names lines) in
-    let outputs = All-map (λ output. signal_of output < 1 + length names) (literal_named names) (outputs_in lines) (All-weaker (IsKnownIn names) (λ w. signal_of (literal_named names w) < 1 + length names) (outputs_in lines) (λ w k. subst (λ s. s < 1 + length names) (sym (literal_signal names w)) (known_signal names w k)) (known_outputs names lines known)) in
+    let outputs = All-map (λ output. signal_of output < 1 + length names) (literal_named names) (outputs_in lines) (All-weaker (IsKnownIn names) (λ w. signal_of (literal_named names w) < 1 + length names) (λ w k. subst (λ s. s < 1 + length names) (sym (literal_signal names w)) (known_signal names w k)) (outputs_in lines) (known_outputs names lines known)) in
     record {
       defs = subst (λ n. All (NamesBelow n) (covers_of names lines)) same (known_covers names lines known);
       rows = wide_covers names lines [] sound;

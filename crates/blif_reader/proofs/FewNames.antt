@@ -3,7 +3,7 @@
 use Rattle.std.proofs.Common.{◌≡◌, ℕ, ◌+◌, ◌-◌, ◌≤◌, Bool, true, false, cond, List, [], ◌∷◌, length, take, drop, refl, ap, ◌∙◌, arith, length-take, length-drop}
 use Rattle.std.specs.Prelude.{reverse}
 use Rattle.std.specs.List.{filter, onto_first, prefix_len, position_or_len, before_first, slice_split}
-use Rattle.std.proofs.lemmas.List.{length-append}
+use Rattle.std.proofs.lemmas.List.{length-append, length-map}
 use Rattle.text_core.specs.Bytes.{is_blank, is_line_feed}
 use Rattle.text_core.specs.Piece.{Piece}
 use Rattle.circuits.specs.declared.port.PortKind.{PortKind}
@@ -18,7 +18,7 @@ use Rattle.blif_reader.specs.Directives.{directive_of}
 use Rattle.blif_reader.specs.Names.{is_same_kind, named_ports, ports_on, port_words, words_of_kind, input_words, defined_on, defined_words}
 use Rattle.blif_reader.specs.Covers.{signal_names}
 use Rattle.blif_reader.specs.Blif.{blif_lines}
-use Rattle.blif_reader.proofs.NumberLemmas.{length-map, words_of_kind-append}
+use Rattle.blif_reader.proofs.NumberLemmas.{words_of_kind-append}
 use Rattle.blif_reader.proofs.ClosedLemmas.{length-names}
 
 -- how many elements lists have together
@@ -107,12 +107,12 @@ few_of_kind kind [] = omega arith
 few_of_kind kind (port ∷ ports) =
     let word = λ (p : Port). p.word in
     let test = λ (p : Port). is_same_kind p.kind kind in
-    omega (arith, length-map word (filter test (port ∷ ports)), length-map word (filter test ports), one_more_at_most (test port) port (filter test ports), few_of_kind kind ports)
+    omega (arith, length-map (filter test (port ∷ ports)) word, length-map (filter test ports) word, one_more_at_most (test port) port (filter test ports), few_of_kind kind ports)
 
 few_named_ports : (kind : PortKind) (line : List Piece) → length (named_ports kind (drop 1 line)) ≤ length line
 few_named_ports kind line =
     let port : Piece → Port = λ word. record { kind = kind; word = word } in
-    omega (arith, length-map port (drop 1 line), length-drop 1 line)
+    omega (arith, length-map (drop 1 line) port, length-drop 1 line)
 
 -- how many names a line gives to inputs and signals
 abbrev names_on : Directive → List Piece → ℕ

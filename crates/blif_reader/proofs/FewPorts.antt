@@ -6,11 +6,11 @@ use Rattle.text_core.specs.Piece.{Piece}
 use Rattle.blif_reader.specs.Names.{input_words, output_words}
 use Rattle.blif_reader.specs.Covers.{signal_names, literal_named}
 use Rattle.blif_reader.specs.Blif.{AreBlif, IsBlif, ReadAs, blif_lines}
-use Rattle.blif_reader.proofs.NumberLemmas.{length-map}
+use Rattle.std.proofs.lemmas.List.{length-map}
 
 -- the bytes of words are as many as the words
 name_count : (words : List Piece) (names : List (List ℕ)) → names ≡ map (λ word. word.bytes) words → length names ≡ length words
-name_count words names h = ap length h ∙ length-map (λ (word : Piece). word.bytes) words
+name_count words names h = ap length h ∙ length-map words (λ (word : Piece). word.bytes)
 
 module _ (lines : List (List Piece)) (circuit : Circuit) (i o : List (List ℕ)) (is : AreBlif lines circuit i o) where
   input_count : circuit.inputs ≡ length (input_words lines)
@@ -18,7 +18,7 @@ module _ (lines : List (List Piece)) (circuit : Circuit) (i o : List (List ℕ))
 
   output_count : length circuit.outputs ≡ length (output_words lines)
   output_count =
-      ap (λ (c : Circuit). length c.outputs) is.same ∙ length-map (literal_named (signal_names lines)) (output_words lines)
+      ap (λ (c : Circuit). length c.outputs) is.same ∙ length-map (output_words lines) (literal_named (signal_names lines))
 
 pub few_inputs : (bytes : List ℕ) (circuit : Circuit) (i o : List (List ℕ)) → IsBlif bytes circuit i o → circuit.inputs ≤ 1024
 few_inputs bytes circuit i o is = omega (arith, is.names.inputs, input_count (blif_lines bytes) circuit i o is)

@@ -3,9 +3,9 @@ use Rattle.std.proofs.Common.{◌≡◌, ℕ, suc, ◌+◌, ◌<◌, Bool, true,
 use Rattle.std.specs.Prelude.{nat_lt, filter, MatchOption}
 use Rattle.std.specs.List.{list_any, position_or_len, position}
 use Rattle.std.specs.Str.{bytes_eq}
-use Rattle.std.proofs.lemmas.Bool.{cases_lt}
+use Rattle.std.proofs.lemmas.Bool.{cases_lt, not-true, not-false}
 use Rattle.std.proofs.lemmas.Bool.Decides.{nat_tests}
-use Rattle.std.proofs.lemmas.List.{append-nil, map-append, map_push, take_more, get_or_default, length-append, take-append-drop}
+use Rattle.std.proofs.lemmas.List.{append-nil, map-append, map_push, take_more, get_or_default, length-append, length-map, take-append-drop}
 use Rattle.std.proofs.Math.Seq.{get_or-append_seam, drop-cons}
 use Rattle.std.proofs.lemmas.List.Folds.{list_any-append}
 use Rattle.std.proofs.lemmas.List.Elements.{filter-append}
@@ -27,10 +27,6 @@ pub position_or_len-map : {X Y : Type 0} (p : Y → Bool) (f : X → Y) (xs : Li
 position_or_len-map p f [] = refl
 position_or_len-map p f (x ∷ xs) = ap (λ n. cond (not (p (f x))) (1 + n) 0) (position_or_len-map p f xs)
 
-pub length-map : {X Y : Type 0} (f : X → Y) (xs : List X) → length (map f xs) ≡ length xs
-length-map f [] = refl
-length-map f (x ∷ xs) = ap suc (length-map f xs)
-
 shifted : (t : Bool) (n m : ℕ) (r : Bool) → nat_lt n m ≡ r → nat_lt (cond (not t) (1 + n) 0) (suc m) ≡ (t || r)
 shifted true n m r h = grind (arith, nat_tests)
 shifted false n m true h = grind (arith, nat_tests)
@@ -49,7 +45,7 @@ told false n m some h e = sym e
 pub number_told : {X Y : Type 0} (p : Y → Bool) (f : X → Y) (keys : List X) (r : Option ℕ) → r ≡ position (λ k. p (f k)) keys → MatchOption r (list_any p (map f keys) ≡ false) (λ n. (list_any p (map f keys) ≡ true) × (n ≡ position_or_len p (map f keys)) × (n < length (map f keys)))
 number_told p f keys r h =
     let place = position_or_len-map p f keys in
-    let long = length-map f keys in
+    let long = length-map keys f in
     let any = list_any-map p f keys in
     let n = position_or_len (λ k. p (f k)) keys in
     let t = list_any (λ k. p (f k)) keys in
@@ -117,11 +113,7 @@ names_of_other_kind kind other earlier port e h =
     ∙ (ap (λ t. port_names other earlier ++ cond t (port.word.bytes ∷ []) []) (ap (λ t. is_same_kind t other) e ∙ h) ∙ append-nil (port_names other earlier))
 
 added_name : (name : List ℕ) (old new : List (List ℕ)) → IsAdded name true old new → (list_any (bytes_eq name) old ≡ false) × (new ≡ old ++ name ∷ [])
-added_name name old new is = (not_true (list_any (bytes_eq name) old) is.told, is.names)
-  where
-    not_true : (t : Bool) → true ≡ not t → t ≡ false
-    not_true true h = cc h
-    not_true false h = refl
+added_name name old new is = (not-true (list_any (bytes_eq name) old) (sym is.told), is.names)
 
 -- one port more is named
 more_of_kind : (kind : PortKind) (ports : List Port) (k : ℕ) (port : Port) (old new : List (List ℕ)) → k < length ports → ((d : Port) → get_or ports k d ≡ port) → port.kind ≡ kind → NoneBefore repeats_port ports k → old ≡ port_names kind (take k ports) → IsAdded port.word.bytes true old new → NoneBefore repeats_port ports (k + 1) × (new ≡ port_names kind (take (k + 1) ports))
@@ -165,11 +157,7 @@ named_more ports k port inputs outputs inputs2 outputs2 h is named adds =
     named_by_kind port.kind ports k port inputs outputs inputs2 outputs2 h is refl named adds
 
 there : (name : List ℕ) (old new : List (List ℕ)) → IsAdded name false old new → list_any (bytes_eq name) old ≡ true
-there name old new is = not_false (list_any (bytes_eq name) old) is.told
-  where
-    not_false : (t : Bool) → false ≡ not t → t ≡ true
-    not_false true h = refl
-    not_false false h = cc h
+there name old new is = not-false (list_any (bytes_eq name) old) (sym is.told)
 
 repeated_by_kind : (kind : PortKind) (ports : List Port) (k : ℕ) (port : Port) (inputs outputs inputs2 outputs2 : List (List ℕ)) → port.kind ≡ kind → AreNamed ports k inputs outputs → AddsPort false port inputs outputs inputs2 outputs2 → list_any (bytes_eq port.word.bytes) (port_names kind (take k ports)) ≡ true
 repeated_by_kind Input ports k port inputs outputs inputs2 outputs2 e named adds =

@@ -2,6 +2,8 @@
 use Rattle.std.proofs.Common.{◌≡◌, ◌==◌, ℕ, suc, ◌+◌, Bool, true, false, not, ◌||◌, cond, List, [], ◌∷◌, ◌++◌, length, take, get_or, All, Option, Some, None, Err, refl, ap, sym, subst, ◌∙◌, arith, append_assoc, eqb-true}
 use Rattle.std.specs.Prelude.{Result, reverse, is_some, take_while}
 use Rattle.std.specs.List.{list_any, flat_map, prefix_len}
+use Rattle.std.specs.Result.{IsErrAnd}
+use Rattle.std.proofs.lemmas.Result.{err_from_is_err_and}
 use Rattle.std.proofs.lemmas.List.{reverse-append, append-nil}
 use Rattle.std.proofs.lemmas.Grind.{flat_map-append}
 use Rattle.std.proofs.lemmas.List.Folds.{list_any-append}
@@ -46,22 +48,17 @@ differs-mixed (Some other) byte [] have = absurd (have.0 refl)
 differs-mixed (Some other) byte (row ∷ rows) have = differs-all byte other row rows have.1
 
 -- the fault of a row is that by the open cover
-outside : (t : Bool) (other : Option NetKind) → t ≡ false → Some fault.RowOutside ≡ cond (not t) (Some fault.RowOutside) other
-outside true other h = absurd (cc h)
-outside false other h = refl
-
-inside : (t : Bool) (other : Option NetKind) → t ≡ true → other ≡ cond (not t) (Some fault.RowOutside) other
-inside true other h = refl
-inside false other h = absurd (cc h)
+in_cover : (t u : Bool) (other : Option NetKind) → t ≡ u → cond (not u) (Some fault.RowOutside) other ≡ cond (not t) (Some fault.RowOutside) other
+in_cover t u other h = ap (λ b. cond (not b) (Some fault.RowOutside) other) (sym h)
 
 row_same : (earlier : List (List Piece)) (line : List Piece) (cover : Option OpenCover) → IsOpen earlier cover → fault_by_cover cover line ≡ row_fault earlier line
 row_same earlier line None none =
-    outside (is_names (directive_of (opening earlier))) (fault_in_cover (operand_count (opening earlier)) (list_any (differs_from (output_byte line)) (rows_before earlier)) line) none
+    in_cover (is_names (directive_of (opening earlier))) false (fault_in_cover (operand_count (opening earlier)) (list_any (differs_from (output_byte line)) (rows_before earlier)) line) none
 row_same earlier line (Some cover) opened =
     let operands = operand_count (opening earlier) in
     let mixed = differs-mixed cover.output (output_byte line) (rows_before earlier) opened.2 in
     ap (λ n. fault_in_cover n (is_mixed cover.output (output_byte line)) line) opened.1
-    ∙ (ap (λ t. fault_in_cover operands t line) (sym mixed) ∙ inside (is_names (directive_of (opening earlier))) (fault_in_cover operands (list_any (differs_from (output_byte line)) (rows_before earlier)) line) opened.0)
+    ∙ (ap (λ t. fault_in_cover operands t line) (sym mixed) ∙ in_cover (is_names (directive_of (opening earlier))) true (fault_in_cover operands (list_any (differs_from (output_byte line)) (rows_before earlier)) line) opened.0)
 
 known_same : (earlier : List (List Piece)) (line : List Piece) (survey : Survey) (directive : Directive) → IsSurveyed earlier survey → fault_known survey line directive ≡ fault_before_end earlier line directive
 known_same earlier line survey directive s =
@@ -209,3 +206,7 @@ failed answer = Err answer
 -- a fault that is answered
 pub fault_told : {T : Type 0} (made told : NetFault) → failed {T = T} (stop.Fault made) ≡ failed {T = T} (stop.Fault told) → made ≡ told
 fault_told made told h = cc h
+
+-- a fault that is passed on is one that the call answered
+pub passed_on : {S T : Type 0} (call : Result S NetStop) (answer : Result T NetStop) (why : NetStop) (told : NetFault) → call ≡ Err why → IsErrAnd answer (λ e. e ≡ why) → answer ≡ Err (stop.Fault told) → call ≡ Err (stop.Fault told)
+passed_on call answer why told was from same = let p = err_from_is_err_and answer from in cc (p.1, p.2, was, same)

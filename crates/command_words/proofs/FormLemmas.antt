@@ -1,10 +1,9 @@
 -- Words have one form, and one reading in it.
-use Rattle.std.proofs.Common.{◌≡◌, ℕ, ◌⊎◌, inl, inr, List, [], length, Some, get_or, refl, sym, ◌∙◌, ap, subst, arith}
+use Rattle.std.proofs.Common.{◌≡◌, ℕ, ◌⊎◌, inl, inr, List, [], length, get_or, refl, sym, ◌∙◌, ap, arith}
 use Rattle.command_words.specs.Words.{AskForPair, AsksCheck, AsksInfo, AsksMatch, AsksTrial, AskNothing, ReadFiles, Sought, check_words}
 use Rattle.command_words.specs.Commands.{Ask, IsReadingCommand, IsTrialCommand, sought_by, wanted_by}
 use Rattle.command_words.specs.declared.words.Command.{Command}
 use Rattle.command_words.specs.declared.words.Command.TheVariants.{Check, Match, Info, Make, Trial}
-use Rattle.text_core.specs.Numbers.{number as number_of}
 
 pub names_one : (words : List (List ℕ)) (f g t f' g' t' : List ℕ) → AsksCheck words f g t → AsksCheck words f' g' t' → (f' ≡ f) × (g' ≡ g) × (t' ≡ t)
 names_one words f g t f' g' t' one other = let e = one.form in let e' = other.form in (cc, cc, cc)
@@ -110,15 +109,6 @@ known_form words (Match sought) asks nothing = nothing.no_match (sought_by sough
 known_form words (Info info) asks nothing = nothing.no_info info.file.now info.budget asks
 known_form words (Make asked) asks nothing = nothing.no_make (wanted_by asked) asks
 known_form words (Trial trial) asks nothing = nothing.no_trial trial.number asks
-
--- the words of a trial have one number
-pub number_one : (words : List (List ℕ)) (a b : ℕ) → AsksTrial words a → AsksTrial words b → a ≡ b
-number_one words a b one other =
-    let second_word = λ (words : List (List ℕ)). get_or words 1 [] in
-    let word : one.word ≡ other.word = sym (ap second_word one.form) ∙ ap second_word other.form in
-    let first = one.number_is.digits in
-    let second = subst (λ w. number_of w ≡ Some b) (sym word) other.number_is.digits in
-    cc
 
 -- the words of the check of what a match named
 pub check_of : (words : List (List ℕ)) (sought : Sought) → AsksMatch words sought → AsksCheck (check_words sought.first sought.second sought.account) sought.first sought.second sought.account

@@ -1,4 +1,3 @@
-pub mod Ranges
 pub mod Orders
 pub mod Parts
 pub mod Steps

@@ -4,8 +4,8 @@ use Rattle.std.specs.List.{prefix_len}
 use Rattle.aiger_reader.specs.Numbers.{header_of}
 use Rattle.aiger_reader.specs.Bodies.{IsKnownRow}
 use Rattle.aiger_reader.specs.Reading.{rows_of}
-use Rattle.aiger_reader.specs.Numbered.{has_place, have_places}
-use Rattle.aiger_reader.proofs.NumberingLemmas.{outputs_known, output_unknown, gates_known, gate_unknown, outputs_within, gates_within_a, gates_within_b}
+use Rattle.aiger_reader.specs.Numbered.{AreWithin, has_place, have_places}
+use Rattle.aiger_reader.proofs.NumberingLemmas.{outputs_known, output_unknown, gates_known, gate_unknown, outputs_within, gates_within}
 use Rattle.aiger_reader.proofs.numbering.known_lines.Goals as goal
 
 pub known_outputs-outputs-requires : goal.known_outputs-outputs-requires
@@ -14,17 +14,11 @@ known_outputs-outputs-requires c =
     let all = outputs_within (header_of c.args.header []) body.literals body.signals.items c.requires in
     subst (λ s. All (λ literal. literal / 2 < length s) c.deref-2.result.now) (sym c.deref.ensures.value) (subst (All (λ literal. literal / 2 < length body.signals.items)) (sym c.deref-2.ensures.value) all)
 
-pub known_gates-requires-clause-a : goal.known_gates-requires-clause-a
-known_gates-requires-clause-a c =
+pub known_gates-requires : goal.known_gates-requires
+known_gates-requires c =
     let body = c.args.body.now in
-    let all = gates_within_a (header_of c.args.header []) body.literals body.signals.items c.requires in
-    subst (λ s. All (λ line. line.a / 2 < length s) c.deref-4.result.now) (sym c.deref-3.ensures.value) (subst (All (λ line. line.a / 2 < length body.signals.items)) (sym c.deref-4.ensures.value) all)
-
-pub known_gates-requires-clause-b : goal.known_gates-requires-clause-b
-known_gates-requires-clause-b c =
-    let body = c.args.body.now in
-    let all = gates_within_b (header_of c.args.header []) body.literals body.signals.items c.requires in
-    subst (λ s. All (λ line. line.b / 2 < length s) c.deref-4.result.now) (sym c.deref-3.ensures.value) (subst (All (λ line. line.b / 2 < length body.signals.items)) (sym c.deref-4.ensures.value) all)
+    let all = gates_within (header_of c.args.header []) body.literals body.signals.items c.requires in
+    subst (λ s. All (AreWithin s) c.deref-4.result.now) (sym c.deref-3.ensures.value) (subst (All (AreWithin body.signals.items)) (sym c.deref-4.ensures.value) all)
 
 pub returns-then-outputs-header-clause-known : goal.returns-then-outputs-header-clause-known
 returns-then-outputs-header-clause-known c = λ k below.

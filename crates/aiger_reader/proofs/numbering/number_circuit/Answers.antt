@@ -1,22 +1,16 @@
 -- The signals' numbers are the netlist's.
 use Rattle.std.proofs.Common.{◌<◌, ◌/◌, ◌^◌, [], length, map, All, subst, sym, ap₂, ◌∙◌, arith}
 use Rattle.aiger_reader.specs.Numbers.{header_of}
-use Rattle.aiger_reader.specs.Numbered.{lit_in, def_in, circuit_from}
-use Rattle.aiger_reader.proofs.NumberingLemmas.{outputs_within, gates_within_a, gates_within_b}
+use Rattle.aiger_reader.specs.Numbered.{AreWithin, lit_in, def_in, circuit_from}
+use Rattle.aiger_reader.proofs.NumberingLemmas.{outputs_within, gates_within}
 use Rattle.aiger_reader.proofs.CircuitLemmas.{places_small, circuit_is}
 use Rattle.aiger_reader.proofs.numbering.number_circuit.Goals as goal
 
-pub number_gates-requires-clause-a : goal.number_gates-requires-clause-a
-number_gates-requires-clause-a c =
+pub number_gates-requires-clause-within : goal.number_gates-requires-clause-within
+number_gates-requires-clause-within c =
     let body = c.args.body.now in
-    let all = gates_within_a (header_of c.args.header []) body.literals body.signals.items c.requires.sound in
-    subst (λ s. All (λ line. line.a / 2 < length s) c.deref-2.result.now) (sym c.deref.ensures.value) (subst (All (λ line. line.a / 2 < length body.signals.items)) (sym c.deref-2.ensures.value) all)
-
-pub number_gates-requires-clause-b : goal.number_gates-requires-clause-b
-number_gates-requires-clause-b c =
-    let body = c.args.body.now in
-    let all = gates_within_b (header_of c.args.header []) body.literals body.signals.items c.requires.sound in
-    subst (λ s. All (λ line. line.b / 2 < length s) c.deref-2.result.now) (sym c.deref.ensures.value) (subst (All (λ line. line.b / 2 < length body.signals.items)) (sym c.deref-2.ensures.value) all)
+    let all = gates_within (header_of c.args.header []) body.literals body.signals.items c.requires.sound in
+    subst (λ s. All (AreWithin s) c.deref-2.result.now) (sym c.deref.ensures.value) (subst (All (AreWithin body.signals.items)) (sym c.deref-2.ensures.value) all)
 
 pub number_gates-requires-clause-small : goal.number_gates-requires-clause-small
 number_gates-requires-clause-small c =

@@ -1,16 +1,15 @@
 use Rattle.std.proofs.Common.{◌∷◌, [], ap, ◌∙◌}
-use Rattle.std.proofs.lemmas.Result.{err_from_is_err_and}
 use Rattle.blif_reader.specs.Covers.{signal_named}
 use Rattle.blif_reader.specs.Building.{but_last}
 use Rattle.blif_reader.specs.Numbers.{names_of}
 use Rattle.blif_reader.proofs.BuildingLemmas.{Continues-more, but_last-cons, read_more, unknown_fault}
+use Rattle.blif_reader.proofs.SurveyLemmas.{passed_on}
 use Rattle.blif_reader.proofs.covers.operand_signals.Goals as goal
 
 pub returns-in_err-signal-clause-fault : goal.returns-in_err-signal-clause-fault
 returns-in_err-signal-clause-fault c fault e =
     let left = ap (λ ws. but_last (c.loop-word.operand ∷ ws)) c.in-Some-next_word.ensures.word ∙ but_last-cons c.loop-word.operand c.in-Some-next_word.word _ in
-    let p = err_from_is_err_and c.from_residual.result c.from_residual.ensures.1 in
-    unknown_fault (names_of c.args.names.now) c.loop-word.operand _ _ _ fault.kind fault.at c.loop-word.invariant.0.words left (c.signal_of.ensures.fault fault (cc (p.1, p.2, c.in_err-signal.was)))
+    unknown_fault (names_of c.args.names.now) c.loop-word.operand _ _ _ fault.kind fault.at c.loop-word.invariant.0.words left (c.signal_of.ensures.fault fault (passed_on _ _ _ _ c.in_err-signal.was c.from_residual.ensures.1 e))
 
 pub loop-word-preserved : goal.loop-word-preserved
 loop-word-preserved c =

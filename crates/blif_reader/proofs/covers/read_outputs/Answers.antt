@@ -1,15 +1,14 @@
 use Rattle.std.proofs.Common.{◌*◌, ap, ◌∙◌}
-use Rattle.std.proofs.lemmas.Result.{err_from_is_err_and}
 use Rattle.circuits.specs.declared.netlist.Lit.{Lit}
 use Rattle.blif_reader.specs.Covers.{literal_named}
 use Rattle.blif_reader.specs.Numbers.{names_of}
 use Rattle.blif_reader.proofs.BuildingLemmas.{Continues-more, read_more, unknown_fault}
+use Rattle.blif_reader.proofs.SurveyLemmas.{passed_on}
 use Rattle.blif_reader.proofs.covers.read_outputs.Goals as goal
 
 pub returns-in_err-signal-clause-fault : goal.returns-in_err-signal-clause-fault
 returns-in_err-signal-clause-fault c fault e =
-    let p = err_from_is_err_and c.from_residual.result c.from_residual.ensures.1 in
-    unknown_fault (names_of c.args.names.now) c.in-Some.word _ _ _ fault.kind fault.at c.loop-word.invariant.0.words c.in-Some.ensures.word (c.signal_of.ensures.fault fault (cc (p.1, p.2, c.in_err-signal.was)))
+    unknown_fault (names_of c.args.names.now) c.in-Some.word _ _ _ fault.kind fault.at c.loop-word.invariant.0.words c.in-Some.ensures.word (c.signal_of.ensures.fault fault (passed_on _ _ _ _ c.in_err-signal.was c.from_residual.ensures.1 e))
 
 pub loop-word-preserved : goal.loop-word-preserved
 loop-word-preserved c =

@@ -1,6 +1,6 @@
 use Rattle.std.proofs.Common.{length, ap, arith, inl, inr}
-use Rattle.std.proofs.lemmas.Result.{err_from_is_err_and}
 use Rattle.blif_reader.proofs.FewNames.{few_names}
+use Rattle.blif_reader.proofs.SurveyLemmas.{passed_on}
 use Rattle.blif_reader.proofs.whole.read.Goals as goal
 
 pub read_covers-requires-clause-few : goal.read_covers-requires-clause-few
@@ -12,25 +12,20 @@ name_net-requires-clause-signals c = omega (arith, c.requires.file, few_names c.
 
 pub returns-in_err-survey-clause-fault : goal.returns-in_err-survey-clause-fault
 returns-in_err-survey-clause-fault c = λ fault same.
-    let p = err_from_is_err_and c.from_residual.result c.from_residual.ensures.1 in
-    inl (c.survey_lines.ensures.fault fault (cc (p.1, p.2, c.in_err-survey.was)))
+    inl (c.survey_lines.ensures.fault fault (passed_on _ _ _ _ c.in_err-survey.was c.from_residual.ensures.1 same))
 
 pub returns-in_err-check_port_lines-clause-fault : goal.returns-in_err-check_port_lines-clause-fault
 returns-in_err-check_port_lines-clause-fault c = λ fault same.
-    let p = err_from_is_err_and c.from_residual-in_err-check_port_lines.result c.from_residual-in_err-check_port_lines.ensures.1 in
-    c.check_port_lines.ensures.fault fault (cc (p.1, p.2, c.in_err-check_port_lines.was))
+    c.check_port_lines.ensures.fault fault (passed_on _ _ _ _ c.in_err-check_port_lines.was c.from_residual-in_err-check_port_lines.ensures.1 same)
 
 pub returns-in_err-names-clause-fault : goal.returns-in_err-names-clause-fault
 returns-in_err-names-clause-fault c = λ fault same.
-    let p = err_from_is_err_and c.from_residual-in_err-names.result c.from_residual-in_err-names.ensures.1 in
-    c.number_names.ensures.fault fault (cc (p.1, p.2, c.in_err-names.was))
+    c.number_names.ensures.fault fault (passed_on _ _ _ _ c.in_err-names.was c.from_residual-in_err-names.ensures.1 same)
 
 pub returns-in_err-covers-clause-fault : goal.returns-in_err-covers-clause-fault
 returns-in_err-covers-clause-fault c = λ fault same.
-    let p = err_from_is_err_and c.from_residual-in_err-covers.result c.from_residual-in_err-covers.ensures.1 in
-    inr (inr (inr (inr (inl (c.read_covers.ensures.fault fault (cc (p.1, p.2, c.in_err-covers.was)))))))
+    inr (inr (inr (inr (inl (c.read_covers.ensures.fault fault (passed_on _ _ _ _ c.in_err-covers.was c.from_residual-in_err-covers.ensures.1 same))))))
 
 pub returns-in_err-check_limits-clause-fault : goal.returns-in_err-check_limits-clause-fault
 returns-in_err-check_limits-clause-fault c = λ fault same.
-    let p = err_from_is_err_and c.from_residual-in_err-check_limits.result c.from_residual-in_err-check_limits.ensures.1 in
-    c.check_limits.ensures.fault fault (cc (p.1, p.2, c.in_err-check_limits.was))
+    c.check_limits.ensures.fault fault (passed_on _ _ _ _ c.in_err-check_limits.was c.from_residual-in_err-check_limits.ensures.1 same)

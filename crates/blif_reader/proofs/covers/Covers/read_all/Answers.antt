@@ -1,6 +1,5 @@
 use Rattle.std.proofs.Common.{sym, ap, subst}
 use Rattle.std.specs.List.{filter}
-use Rattle.std.proofs.lemmas.Result.{err_from_is_err_and}
 use Rattle.blif_reader.specs.JoinedLines.{has_words}
 use Rattle.blif_reader.specs.Names.{read_words}
 use Rattle.blif_reader.specs.Numbers.{names_of}
@@ -8,6 +7,7 @@ use Rattle.blif_reader.specs.Blif.{blif_lines}
 use Rattle.blif_reader.specs.Building.{IsUnknownFault, IsBuilt, IsBuilding}
 use Rattle.blif_reader.proofs.BlifLemmas.{all_known, undefined_name}
 use Rattle.blif_reader.proofs.BuildingLemmas.{building_more, fault_in_line, built}
+use Rattle.blif_reader.proofs.SurveyLemmas.{passed_on}
 use Rattle.blif_reader.proofs.covers.Covers.read_all.Goals as goal
 
 pub loop-first-preserved : goal.loop-first-preserved
@@ -23,8 +23,7 @@ returns-in_err-read_line-clause-fault c fault e =
     let lines = blif_lines c.args.input.now in
     let names = names_of c.args.names.now in
     let here = subst (λ ls. IsBuilding names lines ls c.loop-first.self) c.in-Some.ensures c.loop-first.invariant in
-    let p = err_from_is_err_and c.from_residual.result c.from_residual.ensures.1 in
-    let found = fault_in_line names lines _ _ c.loop-first.self fault.kind fault.at here (c.read_line.ensures.fault fault (cc (p.1, p.2, c.in_err-read_line.was))) in
+    let found = fault_in_line names lines _ _ c.loop-first.self fault.kind fault.at here (c.read_line.ensures.fault fault (passed_on _ _ _ _ c.in_err-read_line.was c.from_residual.ensures.1 e)) in
     undefined_name lines fault.kind fault.at c.requires.once (subst (λ ns. IsUnknownFault ns (read_words lines) fault.kind fault.at) c.requires.names found)
 
 pub returns-clause-built : goal.returns-clause-built

@@ -1,10 +1,10 @@
 use Rattle.std.proofs.Common.{map, ap, sym, subst, ◌∙◌}
 use Rattle.std.specs.Prelude.{All}
-use Rattle.std.proofs.lemmas.Result.{err_from_is_err_and}
 use Rattle.blif_reader.specs.Covers.{signal_named}
 use Rattle.blif_reader.specs.Numbers.{names_of}
 use Rattle.blif_reader.specs.Building.{IsKnownIn, IsUnknownFault}
 use Rattle.blif_reader.proofs.BuildingLemmas.{operands-but_last, new_cover, no_more, one_place}
+use Rattle.blif_reader.proofs.SurveyLemmas.{passed_on}
 use Rattle.blif_reader.proofs.covers.Covers.read_names.Goals as goal
 
 pub returns-clause-builds : goal.returns-clause-builds
@@ -21,5 +21,4 @@ returns-clause-builds c =
 
 pub returns-in_err-operand_signals-clause-fault : goal.returns-in_err-operand_signals-clause-fault
 returns-in_err-operand_signals-clause-fault c fault e =
-    let p = err_from_is_err_and c.from_residual-in_err-operand_signals.result c.from_residual-in_err-operand_signals.ensures.1 in
-    subst (λ ws. IsUnknownFault (names_of c.args.names.now) ws fault.kind fault.at) (sym (operands-but_last c.args.first _)) (c.operand_signals.ensures.fault fault (cc (p.1, p.2, c.in_err-operand_signals.was)))
+    subst (λ ws. IsUnknownFault (names_of c.args.names.now) ws fault.kind fault.at) (sym (operands-but_last c.args.first _)) (c.operand_signals.ensures.fault fault (passed_on _ _ _ _ c.in_err-operand_signals.was c.from_residual-in_err-operand_signals.ensures.1 e))
