@@ -1,5 +1,5 @@
 -- The clauses of a claim whose inputs the output doesn't reach: those of the two outputs contradict each other.
-use Rattle.std.proofs.Common.{◌≡◌, ◌≢◌, ◌⊎◌, ℕ, zero, suc, ◌+◌, ◌-◌, ◌*◌, ◌<◌, ◌≤◌, eqb, cond, ◌||◌, ◌&&◌, not, Bool, true, false, None, List, [], ◌∷◌, ◌++◌, length, take, slice_index_or, inl, inr, refl, sym, ap, ◌∙◌, arith, eq-eqb}
+use Rattle.std.proofs.Common.{◌≡◌, ◌≢◌, ◌⊎◌, ℕ, zero, suc, ◌+◌, ◌*◌, ◌<◌, ◌≤◌, eqb, cond, ◌||◌, ◌&&◌, not, Bool, true, false, None, List, [], ◌∷◌, ◌++◌, length, take, slice_index_or, inl, inr, refl, sym, ap, ◌∙◌, arith, eq-eqb}
 use Rattle.std.specs.Bool.{beq}
 use Rattle.std.proofs.lemmas.Bool.{cases_eq, cases_lt, false≢true, or_cases, or_left, or_right}
 use Rattle.std.proofs.lemmas.List.{get_or_append_left, get_or-append-add, get_or_past, get_or-set_other, length-append, append-nil}
@@ -30,7 +30,7 @@ use Rattle.query_core.specs.declared.query.Query.{Query}
 use Rattle.query_core.specs.Queries.{IsQuery}
 use Rattle.query_core.specs.MatchQueries.{straight}
 use Rattle.query_core.specs.ClaimQueries.{claim_query, opposite_shape, values_feed, with_fixed}
-use Rattle.query_core.specs.Formulas.{feeds_differ, formula_of, query_clauses, reaching, reaches, same_feed, same_side, stand_in, stands_for, left_literals, right_literals, half_clauses}
+use Rattle.query_core.specs.Formulas.{feeds_differ, formula_of, query_clauses, reaching, same_feed, same_side, stand_in, stands_for, left_literals, right_literals, half_clauses}
 use Rattle.query_core.proofs.ClaimQueryLemmas.{values_count}
 use Rattle.query_core.proofs.EqualLemmas.{bool_decides}
 use Rattle.query_core.proofs.FormulaLemmas.{count_of, first_output, second_output, gate_clause_count, length-feeds_differ}
