@@ -1,2 +1,4 @@
 pub mod InfoLemmas
+pub mod TellingLemmas
+pub mod ResultLemmas
 pub mod SearchLemmas

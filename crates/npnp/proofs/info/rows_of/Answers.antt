@@ -1,17 +1,16 @@
 -- The book knows nothing and the ledger is new: rows are right, or the budget was spent.
 use Rattle.std.proofs.Common.{subst, IfErr, IfOk}
-use Rattle.std.proofs.lemmas.Result.{err_from_is_err_and}
 use Rattle.net_core.specs.Sides.{Graphs}
 use Rattle.fact_tests.specs.Rows.{AreRows}
 use Rattle.oracle_core.specs.Oracles.{IsStopped}
 use Rattle.run_steps.specs.Info.{with_itself}
 use Rattle.npnp.proofs.InfoLemmas.{memory_stops, spent_is, suits_first}
+use Rattle.npnp.proofs.ResultLemmas.{err_is}
 use Rattle.npnp.proofs.info.rows_of.Goals as goal
 
 pub returns-in_err-book-clause-spent : goal.returns-in_err-book-clause-spent
 returns-in_err-book-clause-spent g c =
-    let p = err_from_is_err_and c.from_residual.result c.from_residual.ensures.1 in
-    memory_stops _ c.from_residual.result (cc (p.1, p.2))
+    memory_stops _ c.from_residual.result (err_is _ c.from_residual.ensures.1)
 
 pub info-requires-clause-suits : goal.info-requires-clause-suits
 info-requires-clause-suits g c =

@@ -1,6 +1,5 @@
 -- The netlists were read, and a match of them was sought.
 use Rattle.std.proofs.Common.{ℕ, List, inr, ◌∙◌, subst, arith}
-use Rattle.std.proofs.lemmas.Result.{err_from_is_err_and}
 use Rattle.run_steps.specs.Outcomes.{EndsAt}
 use Rattle.run_steps.specs.Steps.{IsReadFrom, netlist_of}
 use Rattle.run_steps.specs.declared.outcome.Which.TheVariants.{Second}
@@ -8,22 +7,21 @@ use Rattle.run_steps.proofs.CheckLemmas.{right_at_first, right_at_second, stoppe
 use Rattle.shelf_core.proofs.FaultLemmas.{rose_later}
 use Rattle.run_steps.proofs.FindLemmas.{finds_from}
 use Rattle.run_steps.proofs.MatchLemmas.{finds}
+use Rattle.npnp.proofs.ResultLemmas.{err_is}
 use Rattle.npnp.proofs.matching.find.Goals as goal
 
 pub returns-in_err-first : goal.returns-in_err-first
 returns-in_err-first g c =
-    let p = err_from_is_err_and c.from_residual.result c.from_residual.ensures.1 in
     let o = c.in_err-first.field-0.0 in
-    stopped _ _ _ _ _ o tt (cc (p.1, p.2)) c.read_netlist.ensures.files
+    stopped _ _ _ _ _ o tt (err_is _ c.from_residual.ensures.1) c.read_netlist.ensures.files
     (λ tells words asks. right_at_first _ words _ _ _ (inr (c.args.asked.now.budget, c.args.asked.now.seed, asks)) o (c.in_err-first.ensures.ended tells))
     c.in_err-first.ensures.reading
     (λ e. c.read_netlist.ensures.failed (cc (e, c.in_err-first.was)))
 
 pub returns-in_err-second : goal.returns-in_err-second
 returns-in_err-second g c =
-    let p = err_from_is_err_and c.from_residual-in_err-second.result c.from_residual-in_err-second.ensures.1 in
     let o = c.in_err-second.field-0.0 in
-    stopped _ _ _ _ _ o tt (cc (p.1, p.2)) (λ n. c.read_netlist-2.ensures.files n ∙ c.read_netlist.ensures.files n)
+    stopped _ _ _ _ _ o tt (err_is _ c.from_residual-in_err-second.ensures.1) (λ n. c.read_netlist-2.ensures.files n ∙ c.read_netlist.ensures.files n)
     (λ tells words asks. right_at_second _ words _ _ _ (netlist_of c.in_ok-first.ensures.found.circuit c.in_ok-first.first) (inr (c.args.asked.now.budget, c.args.asked.now.seed, asks)) (c.in_ok-first.ensures.found.held tells) o (subst (λ content. EndsAt Second content o) (c.read_netlist.ensures.files _) (c.in_err-second.ensures.ended tells)))
     c.in_err-second.ensures.reading
     (λ e. rose_later _ _ _ c.read_netlist.ensures.faults c.read_netlist-2.ensures.faults (c.read_netlist-2.ensures.failed (cc (e, c.in_err-second.was))))

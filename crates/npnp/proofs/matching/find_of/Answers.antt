@@ -1,17 +1,16 @@
 -- An answer was found, and its account was written; or nothing was.
 use Rattle.std.proofs.Common.{inr, refl, subst}
-use Rattle.std.proofs.lemmas.Result.{err_from_is_err_and}
 use Rattle.account_write.specs.Records.{account_of, records_of}
 use Rattle.run_steps.specs.Steps.{IsAnswered, IsStopWithin, graphs_of}
 use Rattle.run_steps.specs.declared.outcome.Outcome.TheVariants.{Memory}
 use Rattle.run_steps.proofs.FindLemmas.{not_solved, solved, table_of_answer}
+use Rattle.npnp.proofs.ResultLemmas.{err_is}
 use Rattle.npnp.proofs.matching.find_of.Goals as goal
 
 pub returns-in_err-solved : goal.returns-in_err-solved
 returns-in_err-solved g c =
-    let p = err_from_is_err_and c.from_residual.result c.from_residual.ensures.1 in
     let o = c.in_err-solved.field-0.0 in
-    not_solved _ c.args.first.now c.args.second.now _ c.args.asked.now.budget _ o _ (cc (p.1, p.2))
+    not_solved _ c.args.first.now c.args.second.now _ c.args.asked.now.budget _ o _ (err_is _ c.from_residual.ensures.1)
     (subst (λ graphs. IsStopWithin graphs c.args.asked.now.budget o) c.new-graphs.ensures c.in_err-solved.ensures.stopped)
 
 pub report_named-requires : goal.report_named-requires
@@ -21,8 +20,7 @@ report_named-requires g c =
 
 pub returns-in_err-report : goal.returns-in_err-report
 returns-in_err-report g c =
-    let p = err_from_is_err_and c.from_residual-in_err-report.result c.from_residual-in_err-report.ensures.1 in
-    not_solved _ _ _ _ _ _ Memory _ (cc (p.1, p.2)) (inr refl)
+    not_solved _ _ _ _ _ _ Memory _ (err_is _ c.from_residual-in_err-report.ensures.1) (inr refl)
 
 pub returns : goal.returns
 returns g c =

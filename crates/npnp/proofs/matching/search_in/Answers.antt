@@ -1,16 +1,15 @@
 -- The book knows nothing and the ledger is new: the search came to an answer, or the budget was spent.
 use Rattle.std.proofs.Common.{ap, sym, subst, ◌∙◌}
-use Rattle.std.proofs.lemmas.Result.{err_from_is_err_and}
 use Rattle.oracle_core.specs.Oracles.{IsStopped, Known}
 use Rattle.match_search.specs.Founds.{IsFound}
 use Rattle.npnp.proofs.SearchLemmas.{bans_for, facts_for}
 use Rattle.npnp.proofs.InfoLemmas.{memory_stops, spent_is, spent_says, suits_first}
+use Rattle.npnp.proofs.ResultLemmas.{err_is}
 use Rattle.npnp.proofs.matching.search_in.Goals as goal
 
 pub returns-in_err-book-clause-spent : goal.returns-in_err-book-clause-spent
 returns-in_err-book-clause-spent g c =
-    let p = err_from_is_err_and c.from_residual.result c.from_residual.ensures.1 in
-    memory_stops _ c.from_residual.result (cc (p.1, p.2))
+    memory_stops _ c.from_residual.result (err_is _ c.from_residual.ensures.1)
 
 pub decide-requires-clause-graphs : goal.decide-requires-clause-graphs
 decide-requires-clause-graphs g c = sym (ap (λ (known : Known). known.graphs) c.in_ok-book.ensures.empty ∙ c.graphs.ensures.value)
@@ -20,9 +19,8 @@ decide-requires-clause-suits g c = suits_first c.graphs.result.now c.in_ok-book.
 
 pub returns-in_err-found-clause-spent : goal.returns-in_err-found-clause-spent
 returns-in_err-found-clause-spent g c = λ learned is.
-    let p = err_from_is_err_and c.from_residual-in_err-found.result c.from_residual-in_err-found.ensures.1 in
     spent_is c.args.graphs.now c.graphs.result.now c.in_ok-book.book c.args.ledger.now c.decide.new.ledger c.args.ledger.now.budget learned c.graphs.ensures.value c.in_ok-book.ensures.empty c.requires.new
-    (spent_says (IsStopped c.in_ok-book.book c.args.ledger.now c.decide.new.ledger) learned c.in_err-found.ensures.serves.stopped (cc (p.1, p.2, is)))
+    (spent_says (IsStopped c.in_ok-book.book c.args.ledger.now c.decide.new.ledger) learned c.in_err-found.ensures.serves.stopped (cc (err_is _ c.from_residual-in_err-found.ensures.1, is)))
 
 pub answered-requires-clause-facts : goal.answered-requires-clause-facts
 answered-requires-clause-facts g c = facts_for _ c.decide.new.oracle c.in_ok-book.book _ c.decide.ensures.serves.grows.graphs (sym (ap (λ (known : Known). known.graphs) c.in_ok-book.ensures.empty ∙ c.graphs.ensures.value)) c.into_facts.ensures.lawful
@@ -35,5 +33,4 @@ answered-requires-clause-found g c = subst (λ bans. IsFound c.args.graphs.now b
 
 pub returns-in_err-answered-clause-spent : goal.returns-in_err-answered-clause-spent
 returns-in_err-answered-clause-spent g c =
-    let p = err_from_is_err_and c.from_residual-in_err-answered.result c.from_residual-in_err-answered.ensures.1 in
-    memory_stops _ c.from_residual-in_err-answered.result (cc (p.1, p.2))
+    memory_stops _ c.from_residual-in_err-answered.result (err_is _ c.from_residual-in_err-answered.ensures.1)

@@ -1,10 +1,11 @@
 -- What is told is what was answered.
-use Rattle.std.proofs.Common.{inl, inr, ℕ, List, Option, refl, sym, subst, ◌∙◌}
-use Rattle.run_steps.specs.Outcomes.{IsOfTrial, IsRight, IsSound, IsTold, Leaves}
+use Rattle.std.proofs.Common.{inl, inr, refl, sym, subst, ◌∙◌}
+use Rattle.run_steps.specs.Outcomes.{IsOfTrial, IsRight, IsTold, Leaves}
 use Rattle.run_steps.specs.Report.{line_of}
 use Rattle.run_steps.specs.declared.outcome.Outcome.TheVariants.{AcceptedMatch, AcceptedRefusal, Rejected, Matched, NoMatching, Spent, Made, Tried, Absent, TooLarge, Malformed, Memory}
 use Rattle.run_steps.proofs.MatchLemmas.{kept, may_be_cut}
 use Rattle.run_steps.proofs.CheckLemmas.{exactly, exactly_informed, exactly_none, of_match, reached, told_read, report_of_same}
+use Rattle.npnp.proofs.TellingLemmas.{answered_as, sound_memory}
 use Rattle.npnp.proofs.run.run.Goals as goal
 
 pub returns-clause-accepted : goal.returns-clause-accepted
@@ -17,14 +18,10 @@ pub returns-clause-rejected : goal.returns-clause-rejected
 returns-clause-rejected g c = λ tells decided line why. exactly _ _ _ _ (c.answer-ending.ensures.right tells) c.tell.ensures.same decided (Rejected line why) (reached (Rejected line why) tt) tt
 
 pub returns-clause-sound : goal.returns-clause-sound
-returns-clause-sound g c = λ tells table is.
-    let told : IsTold c.tell.result = subst IsTold (sym is) (reached (AcceptedMatch table) tt).told in
-    (c.answer-ending.ensures.sound tells).matches table (sym (c.tell.ensures.same told) ∙ is)
+returns-clause-sound g c = λ tells table is. (c.answer-ending.ensures.sound tells).matches table (answered_as c.tell.ensures.same (reached (AcceptedMatch table) tt).told is)
 
 pub returns-clause-sound_refusal : goal.returns-clause-sound_refusal
-returns-clause-sound_refusal g c = λ tells is.
-    let told : IsTold c.tell.result = subst IsTold (sym is) (reached AcceptedRefusal tt).told in
-    (c.answer-ending.ensures.sound tells).refuses (sym (c.tell.ensures.same told) ∙ is)
+returns-clause-sound_refusal g c = λ tells is. (c.answer-ending.ensures.sound tells).refuses (answered_as c.tell.ensures.same (reached AcceptedRefusal tt).told is)
 
 pub returns-clause-absent : goal.returns-clause-absent
 returns-clause-absent g c = λ tells decided which. exactly _ _ _ _ (c.answer-ending.ensures.right tells) c.tell.ensures.same decided (Absent which) (reached (Absent which) tt) tt
@@ -42,22 +39,16 @@ pub returns-clause-answered : goal.returns-clause-answered
 returns-clause-answered g c = λ tells decided. of_match _ _ _ _ (c.answer-ending.ensures.right tells) c.tell.ensures.same decided
 
 pub returns-clause-matched : goal.returns-clause-matched
-returns-clause-matched g c = λ tells table is.
-    let told : IsTold c.tell.result = subst IsTold (sym is) (reached (Matched table) tt).told in
-    subst (IsRight _ _) (sym (c.tell.ensures.same told) ∙ is) (c.answer-ending.ensures.right tells)
+returns-clause-matched g c = λ tells table is. subst (IsRight _ _) (answered_as c.tell.ensures.same (reached (Matched table) tt).told is) (c.answer-ending.ensures.right tells)
 
 pub returns-clause-matched_account : goal.returns-clause-matched_account
-returns-clause-matched_account g c = λ tells table is.
-    let told : IsTold c.tell.result = subst IsTold (sym is) (reached (Matched table) tt).told in
-    subst (Leaves _ _ _) (sym (c.tell.ensures.same told) ∙ is) (c.answer-ending.ensures.left tells)
+returns-clause-matched_account g c = λ tells table is. subst (Leaves _ _ _) (answered_as c.tell.ensures.same (reached (Matched table) tt).told is) (c.answer-ending.ensures.left tells)
 
 pub returns-clause-no_matching : goal.returns-clause-no_matching
 returns-clause-no_matching g c = λ tells settled. exactly_none _ _ _ _ (c.answer-ending.ensures.right tells) c.tell.ensures.same settled.decided settled.unspent
 
 pub returns-clause-no_matching_account : goal.returns-clause-no_matching_account
-returns-clause-no_matching_account g c = λ tells is.
-    let told : IsTold c.tell.result = subst IsTold (sym is) (reached NoMatching tt).told in
-    subst (Leaves _ _ _) (sym (c.tell.ensures.same told) ∙ is) (c.answer-ending.ensures.left tells)
+returns-clause-no_matching_account g c = λ tells is. subst (Leaves _ _ _) (answered_as c.tell.ensures.same (reached NoMatching tt).told is) (c.answer-ending.ensures.left tells)
 
 pub returns-clause-made : goal.returns-clause-made
 returns-clause-made g c = λ told.
@@ -66,14 +57,10 @@ returns-clause-made g c = λ told.
     (λ is. follows.made (sym same ∙ is), λ asks. same ∙ follows.pair asks (subst IsTold same told))
 
 pub returns-clause-pair : goal.returns-clause-pair
-returns-clause-pair g c = λ tells is.
-    let told : IsTold c.tell.result = subst IsTold (sym is) (reached Made tt).told in
-    subst (Leaves _ _ _) (sym (c.tell.ensures.same told) ∙ is) (c.answer-ending.ensures.left tells)
+returns-clause-pair g c = λ tells is. subst (Leaves _ _ _) (answered_as c.tell.ensures.same (reached Made tt).told is) (c.answer-ending.ensures.left tells)
 
 pub returns-clause-tried : goal.returns-clause-tried
-returns-clause-tried g c = λ number account is.
-    let told : IsTold c.tell.result = subst IsTold (sym is) (reached (Tried number account) tt).told in
-    c.answer-ending.ensures.by_words.tried number account (sym (c.tell.ensures.same told) ∙ is)
+returns-clause-tried g c = λ number account is. c.answer-ending.ensures.by_words.tried number account (answered_as c.tell.ensures.same (reached (Tried number account) tt).told is)
 
 pub returns-clause-trial : goal.returns-clause-trial
 returns-clause-trial g c = λ told number asks.
@@ -82,8 +69,7 @@ returns-clause-trial g c = λ told number asks.
 
 pub returns-clause-read_fault : goal.returns-clause-read_fault
 returns-clause-read_fault g c = λ is.
-    let told : IsTold c.tell.result = subst IsTold (sym is) told_read in
-    let same = sym (c.tell.ensures.same told) ∙ is in
+    let same = answered_as c.tell.ensures.same told_read is in
     (c.answer-ending.ensures.by_words.read same, c.answer-ending.ensures.read_fault same)
 
 pub returns-clause-kept : goal.returns-clause-kept
@@ -100,9 +86,7 @@ returns-clause-write_fault g c = λ is.
     ]
 
 pub returns-clause-spent : goal.returns-clause-spent
-returns-clause-spent g c = λ tells ledger is.
-    let told : IsTold c.tell.result = subst IsTold (sym is) (reached (Spent ledger) tt).told in
-    subst (IsRight _ _) (sym (c.tell.ensures.same told) ∙ is) (c.answer-ending.ensures.right tells)
+returns-clause-spent g c = λ tells ledger is. subst (IsRight _ _) (answered_as c.tell.ensures.same (reached (Spent ledger) tt).told is) (c.answer-ending.ensures.right tells)
 
 pub returns-clause-report : goal.returns-clause-report
 returns-clause-report g c = λ tells told.
@@ -111,10 +95,6 @@ returns-clause-report g c = λ tells told.
       | inl memory ↦ absurd (told.room (same ∙ memory))
       | inr report ↦ (c.answer-ending.result.report.items, report_of_same _ _ _ _ _ _ same report, c.tell.ensures.report tells told)
     ]
-
--- where memory is refused nothing is accepted
-sound_memory : {held : List ℕ → Option (List ℕ)} {words : List (List ℕ)} → IsSound held words Memory
-sound_memory {held} {words} = record { matches = λ table e. cc; refuses = λ e. cc }
 
 pub returns-clause-part : goal.returns-clause-part
 returns-clause-part g c = λ tells told.

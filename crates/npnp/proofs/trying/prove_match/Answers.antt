@@ -1,15 +1,14 @@
 -- The search came to a match, since there is one, and its account is accepted.
 use Rattle.std.proofs.Common.{◌∙◌, subst, sym}
-use Rattle.std.proofs.lemmas.Result.{err_from_is_err_and}
 use Rattle.account_write.specs.Records.{account_of, records_of}
 use Rattle.run_steps.specs.Steps.{IsProvedMatch}
 use Rattle.run_steps.proofs.TryingLemmas.{ends_as, proved_match}
+use Rattle.npnp.proofs.ResultLemmas.{err_is}
 use Rattle.npnp.proofs.trying.prove_match.Goals as goal
 
 pub returns-in_err-solved-clause-stopped : goal.returns-in_err-solved-clause-stopped
 returns-in_err-solved-clause-stopped g c =
-    let p = err_from_is_err_and c.from_residual.result c.from_residual.ensures.1 in
-    ends_as _ _ c.in_err-solved.field-0.0 _ (cc (p.1, p.2)) c.in_err-solved.ensures.stopped
+    ends_as _ _ c.in_err-solved.field-0.0 _ (err_is _ c.from_residual.ensures.1) c.in_err-solved.ensures.stopped
 
 pub accept-requires : goal.accept-requires
 accept-requires g c =

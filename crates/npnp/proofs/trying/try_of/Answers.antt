@@ -1,11 +1,11 @@
 -- The pair has a match: an account of it was accepted, or nothing came.
 use Rattle.std.proofs.Common.{◌∙◌, refl, sym, subst}
-use Rattle.std.proofs.lemmas.Result.{err_from_is_err_and}
 use Rattle.circuits.specs.Matches.{HaveNpnpEqualFunctions}
 use Rattle.account_core.specs.Ports.{HaveAsMany}
 use Rattle.net_core.specs.Sides.{Graphs}
 use Rattle.run_steps.specs.Steps.{IsProvedMatch, IsStopWithin, graphs_of}
 use Rattle.run_steps.proofs.TryingLemmas.{as_many, equal, no_room, none_some, stopped, tried}
+use Rattle.npnp.proofs.ResultLemmas.{err_is}
 use Rattle.npnp.proofs.trying.try_of.Goals as goal
 
 pub unreachable-requires : goal.unreachable-requires
@@ -20,16 +20,14 @@ prove_match-requires g c =
 
 pub returns-in_err-account : goal.returns-in_err-account
 returns-in_err-account g c =
-    let p = err_from_is_err_and c.from_residual.result c.from_residual.ensures.1 in
     let o = c.in_err-account.field-0.0 in
     let same = rw c.in-Some.is at c.new.ensures.same in
-    stopped _ (graphs_of c.args.pair.now.first c.args.pair.now.second) c.args.pair.now.hidden o _ (cc (p.1, p.2)) c.requires
+    stopped _ (graphs_of c.args.pair.now.first c.args.pair.now.second) c.args.pair.now.hidden o _ (err_is _ c.from_residual.ensures.1) c.requires
     (subst (λ two. IsStopWithin two 1000000000 o) (same ∙ c.new-graphs.ensures) c.in_err-account.ensures.stopped)
 
 pub returns-in_err-report : goal.returns-in_err-report
 returns-in_err-report g c =
-    let p = err_from_is_err_and c.from_residual-in_err-report.result c.from_residual-in_err-report.ensures.1 in
-    no_room _ _ (cc (p.1, p.2))
+    no_room _ _ (err_is _ c.from_residual-in_err-report.ensures.1)
 
 pub returns : goal.returns
 returns g c =

@@ -1,0 +1,20 @@
+-- What a run tells is what was answered.
+use Rattle.std.proofs.Common.{◌≡◌, inl, inr, ℕ, List, Option, sym, subst, ◌∙◌}
+use Rattle.run_steps.specs.Outcomes.{IsSound, IsTold}
+use Rattle.run_steps.specs.Steps.{TellsLine}
+use Rattle.run_steps.specs.declared.outcome.Ending.{Ending}
+use Rattle.run_steps.specs.declared.outcome.Outcome.{Outcome}
+use Rattle.run_steps.specs.declared.outcome.Outcome.TheVariants.{Memory}
+
+-- an outcome that is told whole is the one that was answered
+pub answered_as : {told answered outcome : Outcome} → (IsTold told → told ≡ answered) → IsTold outcome → told ≡ outcome → answered ≡ outcome
+answered_as same whole is = sym (same (subst IsTold (sym is) whole)) ∙ is
+
+-- what holds of an outcome, and where memory runs out, holds of what its line tells
+pub by_line : (P : Outcome → Type 0) {outcome : Outcome} (ending : Ending) → TellsLine outcome ending → P outcome → P Memory → P ending.outcome
+by_line P ending (inl line) one memory = subst P (sym line.0) one
+by_line P ending (inr is) one memory = subst P (sym is) memory
+
+-- where memory is refused nothing is accepted
+pub sound_memory : {held : List ℕ → Option (List ℕ)} {words : List (List ℕ)} → IsSound held words Memory
+sound_memory {held} {words} = record { matches = λ table e. cc; refuses = λ e. cc }
