@@ -45,7 +45,7 @@ pub(crate) fn follow<O: Oracle>(
     if let Some(impasse) = settle(alloc, graphs, oracle, aids, trail, book, ledger)? {
         return Ok(Some(impasse));
     }
-    if aids.guide.is_round_over(ledger.learned()) {
+    if aids.guide.has_had_its_share(ledger.learned()) {
         return Ok(None);
     }
     let domains = &trail.domains;
@@ -132,7 +132,7 @@ fn settle<O: Oracle>(
         }
         let domains = &mut trail.domains;
         let more = ask_next(alloc, graphs, oracle, aids, domains, book, ledger)?;
-        if !more | aids.guide.is_round_over(ledger.learned()) {
+        if !more | aids.guide.has_had_its_share(ledger.learned()) {
             return Ok(None);
         }
     }

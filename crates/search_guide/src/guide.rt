@@ -97,7 +97,12 @@ impl Guide {
 
     /// Whether the round has had what it may have: its conflicts, the lines that may be learned in the run, or the bans' room.
     pub fn is_round_over(&self, learned: u64) -> bool {
-        self.rounds.is_over(learned) | self.is_full()
+        self.has_had_its_share(learned) | self.is_full()
+    }
+
+    /// Whether the round has had its conflicts, or the lines that may be learned in the run.
+    pub fn has_had_its_share(&self, learned: u64) -> bool {
+        self.rounds.is_over(learned)
     }
 
     /// Whether the bans take all their room.

@@ -10,8 +10,8 @@ returns-in_err-impasse-clause-steps g c = steps_err c.from_residual.ensures.1 (w
 pub returns-in-Some-clause-steps : goal.returns-in-Some-clause-steps
 returns-in-Some-clause-steps g c = steps_ok (way_one c.in_ok-impasse.ensures.steps)
 
-pub returns-then-is_round_over-clause-steps : goal.returns-then-is_round_over-clause-steps
-returns-then-is_round_over-clause-steps g c = steps_ok (way_one c.in_ok-impasse.ensures.steps)
+pub returns-then-has_had_its_share-clause-steps : goal.returns-then-has_had_its_share-clause-steps
+returns-then-has_had_its_share-clause-steps g c = steps_ok (way_one c.in_ok-impasse.ensures.steps)
 
 pub exchange_held-requires : goal.exchange_held-requires
 exchange_held-requires g c = record { may = may_go_on c.requires.may.may (way_one c.in_ok-impasse.ensures.steps) }

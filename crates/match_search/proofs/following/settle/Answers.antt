@@ -20,11 +20,11 @@ ask_next-requires g c = record { may = may_go_on c.requires.may.may (way_follows
 pub returns-in_err-more-clause-steps : goal.returns-in_err-more-clause-steps
 returns-in_err-more-clause-steps g c = steps_err c.from_residual-in_err-more.ensures.1 (way_follows c.bans.ensures c.loop-turn.invariant.way c.in_ok-impasse.ensures.propagates).held c.in_err-more.ensures.steps.holds
 
-pub returns-then-more-is_round_over-clause-steps : goal.returns-then-more-is_round_over-clause-steps
-returns-then-more-is_round_over-clause-steps g c = steps_ok (way_more (way_follows c.bans.ensures c.loop-turn.invariant.way c.in_ok-impasse.ensures.propagates) c.in_ok-more.ensures.steps)
+pub returns-then-more-has_had_its_share-clause-steps : goal.returns-then-more-has_had_its_share-clause-steps
+returns-then-more-has_had_its_share-clause-steps g c = steps_ok (way_more (way_follows c.bans.ensures c.loop-turn.invariant.way c.in_ok-impasse.ensures.propagates) c.in_ok-more.ensures.steps)
 
-pub returns-then-more-is_round_over-clause-less : goal.returns-then-more-is_round_over-clause-less
-returns-then-more-is_round_over-clause-less g c = omega (arith, c.loop-turn.invariant.less, c.in_ok-impasse.ensures.propagates.less, c.in_ok-more.ensures.less)
+pub returns-then-more-has_had_its_share-clause-less : goal.returns-then-more-has_had_its_share-clause-less
+returns-then-more-has_had_its_share-clause-less g c = omega (arith, c.loop-turn.invariant.less, c.in_ok-impasse.ensures.propagates.less, c.in_ok-more.ensures.less)
 
 pub loop-turn-preserved : goal.loop-turn-preserved
 loop-turn-preserved g c = record { way = way_more (way_follows c.bans.ensures c.loop-turn.invariant.way c.in_ok-impasse.ensures.propagates) c.in_ok-more.ensures.steps; less = omega (arith, c.loop-turn.invariant.less, c.in_ok-impasse.ensures.propagates.less, c.in_ok-more.ensures.less) }
