@@ -6,7 +6,6 @@ use Rattle.ask_core.specs.declared.question.Answer.{Answer}
 use Rattle.fact_tests.specs.Books.{IsKept, known_by}
 use Rattle.fact_tests.proofs.BookLemmas.{answer_ok, answer_stopped, kept_more, missing_kept}
 use Rattle.fact_tests.proofs.book.Book.ask_anew.Goals as goal
-use Rattle.fact_tests.proofs.book.Book.ask_anew.Goals.{in-Listed-4, in-Straight-4}
 
 pub invariant_of-self-in-Ok : goal.invariant_of-self-in-Ok
 invariant_of-self-in-Ok g c = record {
@@ -28,12 +27,7 @@ returns-in-Err-clause-serves g c =
     let after = c.answer_to.new.ledger in
     let stop = c.in-Err.stop in
     let same : Serves {X = Answer} c.args.self.now c.args.self.now before after (Err stop) = answer_stopped graphs facts kept c.args.query c.args.self.now c.self.view_is c.self.invariant.facts_are c.requires.of_match c.requires.missing {X = Answer} before after stop c.requires.suits c.in-Err.ensures.stop in
-    let own : Serves {X = Answer} c.args.self.now (known_by (g.D.Decide.circuits c.answer_to.new.self) facts kept) before after (Err stop) =
-    subst (λ (now : Graphs). Serves {X = Answer} c.args.self.now (known_by now facts kept) before after (Err stop)) (sym c.answer_to.ensures.same) (subst (λ (k : Known). Serves {X = Answer} c.args.self.now k before after (Err stop)) (sym c.self.view_is) same) in
-    elim c.match-query-4.branch [
-      | in-Listed-4 w ↦ subst (λ (k : Known). Serves {X = Answer} c.args.self.now k before after (Err stop)) (sym w.self-is) own
-      | in-Straight-4 w ↦ subst (λ (k : Known). Serves {X = Answer} c.args.self.now k before after (Err stop)) (sym w.self-is) own
-    ]
+    subst (λ (now : Graphs). Serves {X = Answer} c.args.self.now (known_by now facts kept) before after (Err stop)) (sym c.answer_to.ensures.same) (subst (λ (k : Known). Serves {X = Answer} c.args.self.now k before after (Err stop)) (sym c.self.view_is) same)
 
 pub add-requires : goal.add-requires
 add-requires g c =
