@@ -27,7 +27,7 @@ use Rattle.learn_solver.specs.Solvers.{HaveVariables, IsSolver, Solving, active,
 use Rattle.learn_solver.specs.Starts.{IsFitting, IsSoundBack, StayTools}
 use Rattle.learn_solver.proofs.AdvanceLemmas.{running_from, unrefuted_more}
 use Rattle.learn_solver.proofs.GoneLemmas.{covered_grown, front_at, front_within, justified_back, low_at}
-use Rattle.learn_solver.proofs.SolverLemmas.{active_more, line_known, solver_more}
+use Rattle.learn_solver.proofs.SolverLemmas.{line_known, solver_more}
 
 -- where the attached clauses are quiet, all are
 pub all_quiet_if : (watching : Watching) (t : Trailing) (r : Option ℕ) → IsTrail t → ((id : ℕ) → id < length watching.clauses → IsCovered watching t.entries id) → IfNone r (AreQuiet watching (literals t.entries)) → IfNone r (IsQuiet watching.clauses (literals t.entries))
