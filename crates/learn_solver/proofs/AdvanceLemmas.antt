@@ -98,16 +98,12 @@ asking_learnt {O} old new first after t back asking learnt =
 -- what a search that is under way is
 pub running_from : (s : Solving) (search : Search) → IsFitting search.watches search.trail → IsSolver s.formula s.ids s.lines search.watches.clauses → search.trail.variables ≡ s.formula.variables → list_any is_empty (clauses_of s.lines) ≡ false → AreTools s.formula s.ids search.tools → IsRunning s search.trail search.watches search.tools
 running_from s search fitting solver variables unrefuted tools_are = record {
-  searching = record {
-    variables = variables;
-    unrefuted = unrefuted;
-    sound = subst (λ cs. IsSound cs search.trail) solver.stored fitting.sound;
+  learning = record {
+    searching = record { variables = variables; unrefuted = unrefuted; sound = subst (λ cs. IsSound cs search.trail) solver.stored fitting.sound };
+    solver = solver;
+    tools_are = tools_are;
   };
-  solver = solver;
-  fits = fitting.fits;
-  present = fitting.present;
-  covered = fitting.covered;
-  tools_are = tools_are;
+  fitting = fitting;
 }
 
 -- a search begins

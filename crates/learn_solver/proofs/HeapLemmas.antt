@@ -1,11 +1,11 @@
 -- Numbers in a heap are exchanged, held and taken out.
-use Rattle.std.proofs.Common.{◌≡◌, ◌≢◌, ℕ, ◌+◌, ◌<◌, ◌≤◌, Bool, true, false, List, [], ◌∷◌, ◌++◌, length, nat_lt, slice_index_or, slice_set, replicate, inl, inr, refl, sym, ◌∙◌, ap, arith}
+use Rattle.std.proofs.Common.{◌≡◌, ◌≢◌, ℕ, ◌+◌, ◌<◌, ◌≤◌, Bool, true, false, List, [], ◌∷◌, length, nat_lt, slice_index_or, slice_set, replicate, inl, inr, refl, sym, ◌∙◌, ap, arith}
 use Rattle.std.specs.List.{SwappedAt, range_with_len}
 use Rattle.std.proofs.lemmas.Bool.{cases_eq, cases_lt, lt-ltb, le-ltb}
-use Rattle.std.proofs.lemmas.List.{ext_get_or, get_or-map, get_or_read, get_or-set_same, get_or-set_other, length-map, length-set, get_or-replicate, length-replicate, map-id}
+use Rattle.std.proofs.lemmas.List.{ext_get_or, get_or-map, get_or_read, get_or-set_same, get_or-set_other, length-map, length-set, get_or-replicate, length-replicate}
 use Rattle.std.proofs.lemmas.Bool.Decides.{nat_tests}
 use Rattle.std.proofs.lemmas.List.Elements.{All-map}
-use Rattle.std.proofs.lemmas.List.FromFn.{get_or-range_with_len, length-range_with_len, map-range_with_len_more}
+use Rattle.std.proofs.lemmas.List.FromFn.{get_or-range_with_len, length-range_with_len}
 use Rattle.circuits.specs.Literals.{bit}
 use Rattle.learn_solver.specs.Heaps.{AreInverse, are_held, exchanged, turned}
 
@@ -171,10 +171,6 @@ pub record IsLifting (count first : ℕ) (places : List ℕ) (numbers now : List
 pub record IsSinking (count held : ℕ) (places : List ℕ) (numbers now : List ℕ) : Type 0 where
   pub inverse : AreInverse count numbers now
   pub held_are : are_held held now ≡ are_held held places
-
--- one number more
-pub numbers_more : (count : ℕ) → range_with_len 0 (count + 1) ≡ range_with_len 0 count ++ count ∷ []
-numbers_more count = sym (map-id (range_with_len 0 (count + 1))) ∙ (map-range_with_len_more (λ (k : ℕ). k) 0 count count (omega arith) ∙ ap (λ ks. ks ++ count ∷ []) (map-id (range_with_len 0 count)))
 
 -- where any are held, the first number is
 pub first_held : (count held : ℕ) (numbers places : List ℕ) (first : ℕ) → AreInverse count numbers places → 0 < held → held ≤ count → first ≡ slice_index_or numbers 0 first → bit (are_held held places) first ≡ true

@@ -1,7 +1,7 @@
 -- Lines that are added to a solver, and the numbers of its clauses.
-use Rattle.std.proofs.Common.{◌≡◌, ℕ, zero, suc, ◌+◌, ◌-◌, ◌<◌, not, cond, Bool, true, false, List, [], ◌∷◌, ◌++◌, length, map, take, drop, All, Option, None, Some, nat_lt, slice_index_or, ◌⊎◌, inl, inr, refl, sym, ◌∙◌, ap, subst, arith}
-use Rattle.std.specs.List.{list_any, list_all}
-use Rattle.std.proofs.lemmas.Bool.{cases_lt, cond-false, le-ltb, lt-ltb, ltb-true}
+use Rattle.std.proofs.Common.{◌≡◌, ℕ, zero, suc, ◌+◌, ◌-◌, ◌<◌, cond, false, List, [], ◌∷◌, ◌++◌, length, map, take, drop, All, Option, None, Some, nat_lt, slice_index_or, ◌⊎◌, inl, inr, refl, sym, ◌∙◌, ap, subst, arith}
+use Rattle.std.specs.List.{list_all}
+use Rattle.std.proofs.lemmas.Bool.{cases_lt, le-ltb, lt-ltb, ltb-true}
 use Rattle.std.proofs.lemmas.List.{append_assoc, get_or_append_left, get_or-append_right, get_or-map, length-append, length-map, nil_from_length}
 use Rattle.std.proofs.lemmas.List.Elements.{All-append, All-map, All-push}
 use Rattle.std.proofs.lemmas.List.Recursion.{and_at}
@@ -9,38 +9,13 @@ use Rattle.cnf_core.specs.declared.literal.SatLit.{SatLit}
 use Rattle.cnf_core.specs.declared.log.LogLine.{LogLine}
 use Rattle.cnf_core.specs.declared.effect.Effect.{Effect}
 use Rattle.cnf_core.specs.declared.effect.Effect.TheVariants.{Conflict, Makes, Neither}
-use Rattle.cnf_core.specs.declared.fault.LineFault.{LineFault}
 use Rattle.cnf_core.specs.declared.fault.LineFault.TheVariants as fault
-use Rattle.cnf_core.specs.Clauses.{Formula, clause_at, opposite, variable_of}
-use Rattle.cnf_core.specs.Derivations.{AreDerived, clauses_of, effect_of, fault_after, hint_fault, is_empty, line_fault, repeats_variable}
+use Rattle.cnf_core.specs.Clauses.{Formula, clause_at, variable_of}
+use Rattle.cnf_core.specs.Derivations.{AreDerived, clauses_of, effect_of, fault_after, hint_fault, is_empty, line_fault}
 use Rattle.watch_lists.specs.Propagations.{AreKnown}
-pub use Rattle.cnf_core.proofs.LineLemmas.{clauses_more, derived_more}
+pub use Rattle.cnf_core.proofs.LineLemmas.{IsLine, clauses_more, derived_more, line_from, line_says}
 use Rattle.learn_solver.proofs.DeriveLemmas.{step_conflict, step_makes}
 use Rattle.learn_solver.specs.Solvers.{ArePut, IsSolver, active, id_at, wanted}
-
--- What it says that a line has no fault.
-pub record IsLine (formula : Formula) (taken : List (List SatLit)) (line : LogLine) : Type 0 where
-  pub unclosed : list_any is_empty taken ≡ false
-  pub known : list_all (λ l. nat_lt (variable_of l) formula.variables) line.clause ≡ true
-  pub once : repeats_variable line.clause ≡ false
-  pub hints : hint_fault (formula.clauses ++ taken) (map opposite line.clause) line.hints ≡ None
-
-pub line_says : (formula : Formula) (taken : List (List SatLit)) (line : LogLine) → line_fault formula taken line ≡ None → IsLine formula taken line
-line_says formula taken line e =
-    let parts = by_tests (list_any is_empty taken) (list_all (λ l. nat_lt (variable_of l) formula.variables) line.clause) (repeats_variable line.clause) (hint_fault (formula.clauses ++ taken) (map opposite line.clause) line.hints) e in
-    record { unclosed = parts.0; known = parts.1; once = parts.2; hints = parts.3 }
-  where
-    by_tests : (a b c : Bool) (h : Option LineFault) → cond a (Some fault.Closed) (cond (not b) (Some fault.UnknownVariable) (cond c (Some fault.TwiceVariable) h)) ≡ None → (a ≡ false) × (b ≡ true) × (c ≡ false) × (h ≡ None)
-    by_tests true b c h e = absurd (let x : Some fault.Closed ≡ None = e in cc)
-    by_tests false false c h e = absurd (let x : Some fault.UnknownVariable ≡ None = e in cc)
-    by_tests false true true h e = absurd (let x : Some fault.TwiceVariable ≡ None = e in cc)
-    by_tests false true false h e = (refl, refl, refl, e)
-
-pub line_from : (formula : Formula) (taken : List (List SatLit)) (line : LogLine) → IsLine formula taken line → line_fault formula taken line ≡ None
-line_from formula taken line is =
-    cond-false (list_any is_empty taken) (Some fault.Closed) (cond (not (list_all (λ l. nat_lt (variable_of l) formula.variables) line.clause)) (Some fault.UnknownVariable) (cond (repeats_variable line.clause) (Some fault.TwiceVariable) (hint_fault (formula.clauses ++ taken) (map opposite line.clause) line.hints))) is.unclosed
-    ∙ (ap (λ b. cond (not b) (Some fault.UnknownVariable) (cond (repeats_variable line.clause) (Some fault.TwiceVariable) (hint_fault (formula.clauses ++ taken) (map opposite line.clause) line.hints))) is.known
-    ∙ (ap (λ b. cond b (Some fault.TwiceVariable) (hint_fault (formula.clauses ++ taken) (map opposite line.clause) line.hints)) is.once ∙ is.hints))
 
 pub line_known : (formula : Formula) (taken : List (List SatLit)) (line : LogLine) → line_fault formula taken line ≡ None → AreKnown formula.variables line.clause
 line_known formula taken line e k d within =
