@@ -3,6 +3,10 @@ use Rattle.std.specs.Prelude.{◌≡◌, ℕ, ◌+◌, ◌-◌, ◌*◌, ◌<◌
 use Rattle.circuits.specs.declared.definition.Def.{Def}
 use Rattle.circuits.specs.declared.definition.Def.TheVariants.{And}
 use Rattle.circuits.specs.Circuits.{Circuit}
+use Rattle.text_core.specs.Piece.{Piece}
+use Rattle.net_file.specs.declared.fault.NetKind.TheVariants as kind
+use Rattle.net_file.specs.declared.fault.NetStop.{NetStop}
+use Rattle.net_file.specs.Stops.{IsStopBy}
 use Rattle.aiger_reader.specs.Headers.{AigerHeader}
 use Rattle.aiger_reader.specs.Bodies.{line_offset, first_of, lit_from}
 
@@ -76,6 +80,11 @@ pub record IsPairFault (variable count : ℕ) (bytes : List ℕ) (total at : ℕ
   pub fewer : length gates < count
   pub read : BeginsGates variable bytes gates rest
   pub why : IsBadPair (2 * (variable + length gates)) rest total at
+
+-- what a stop says of these gates, whose bytes end where the file does
+abbrev pub IsPairStop : ℕ → ℕ → Piece → NetStop → Type 0
+IsPairStop variable count text =
+    IsStopBy (λ fault at. (fault ≡ kind.Delta) × IsPairFault variable count text.bytes (text.at + length text.bytes) at)
 
 -- The first delta that is cut off, too long or out of range, at its first byte.
 abbrev pub IsDeltaFault : List ℕ → AigerHeader → ℕ → Type 0

@@ -6,7 +6,7 @@ use Rattle.text_core.specs.Lines.{lines}
 use Rattle.net_file.specs.declared.fault.NetKind.{NetKind}
 use Rattle.net_file.specs.declared.fault.NetKind.TheVariants as kind
 use Rattle.net_file.specs.declared.fault.NetStop.{NetStop}
-use Rattle.net_file.specs.declared.fault.NetStop.TheVariants.{Fault, Memory}
+use Rattle.net_file.specs.Stops.{IsStopBy}
 use Rattle.aiger_reader.specs.declared.body.AndLine.{AndLine}
 use Rattle.aiger_reader.specs.declared.body.Body.{Body}
 use Rattle.aiger_reader.specs.declared.body.Literals.{Literals}
@@ -74,8 +74,7 @@ pub record HasCounts (literals : Literals) (inputs outputs gates : ℕ) : Type 0
 
 -- why the body isn't read: its first fault, or no memory
 abbrev pub IsStop : List ℕ → AigerHeader → NetStop → Type 0
-IsStop bytes h (Fault fault) = IsBodyFault bytes h fault.kind fault.at
-IsStop bytes h Memory = Unit {0}
+IsStop bytes h = IsStopBy (IsBodyFault bytes h)
 
 -- the first line of what is left
 abbrev pub next_line_of : Piece → List ℕ

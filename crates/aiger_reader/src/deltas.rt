@@ -2,8 +2,7 @@
 
 ghost use Rattle.std.specs.Prelude.{◌≡◌, ℕ, ◌+◌, ◌-◌, ◌^◌, ◌<◌, ◌≤◌, List, [], ◌∷◌, length, IfSome, IfNone, IfOk, IfErr, vec_len};
 ghost use Rattle.std.specs.Option.{SomeIff};
-ghost use Rattle.net_file.specs.declared.fault.NetFault.{NetFault};
-ghost use Rattle.aiger_reader.specs.Deltas.{BeginsGroups, BeginsDelta, BeginsNoDelta, BeginsFirst, BeginsSecond, BeginsGates, IsBadPair, IsPairFault};
+ghost use Rattle.aiger_reader.specs.Deltas.{BeginsGroups, BeginsDelta, BeginsNoDelta, BeginsFirst, BeginsSecond, BeginsGates, IsBadPair, IsPairStop};
 
 use net_file::{NetFault, NetKind, NetStop};
 use std::alloc::Global;
@@ -130,9 +129,7 @@ pub(crate) fn read_gates(
     requires { inputs + count < 2 ^ 31 }
     ensures count { IfOk result (λ gates. vec_len gates ≡ count) }
     ensures gates { IfOk result (λ gates. BeginsGates (inputs + 1) cursor.old.bytes gates.items cursor.new.bytes) }
-    ensures kind { (fault : NetFault) → result ≡ Err (NetStop.Fault fault) → fault.kind ≡ NetKind.Delta }
-    ensures fault { (fault : NetFault) → result ≡ Err (NetStop.Fault fault)
-        → IsPairFault (inputs + 1) count cursor.old.bytes (cursor.old.at + length cursor.old.bytes) fault.at }
+    ensures stop { IfErr result (IsPairStop (inputs + 1) count cursor.old) }
     ensures end { cursor.new.at + length cursor.new.bytes ≡ cursor.old.at + length cursor.old.bytes }
 {
     let mut gates = Vec::new(alloc);

@@ -13,9 +13,10 @@ stop_as R S (Fault fault) turn is = turn fault.kind fault.at is
 stop_as R S Memory turn is = tt
 
 -- and where the stop of the part is passed on
-pub stop_passed : {T : Type 0} (answer : Result T NetStop) (R S : NetKind → ℕ → Type 0) (why : NetStop) → IsErrAnd answer (λ e. e ≡ why) → IsStopBy R why → ((kind : NetKind) (at : ℕ) → R kind at → S kind at) → IfErr answer (IsStopBy S)
-stop_passed (Ok x) R S why from is turn = tt
-stop_passed (Err e) R S why from is turn = subst (IsStopBy S) (sym from) (stop_as R S why turn is)
+pub stop_passed : {X Y : Type 0} (call : Result X NetStop) (answer : Result Y NetStop) (R S : NetKind → ℕ → Type 0) (why : NetStop) → call ≡ Err why → IsErrAnd answer (λ e. e ≡ why) → IfErr call (IsStopBy R) → ((kind : NetKind) (at : ℕ) → R kind at → S kind at) → IfErr answer (IsStopBy S)
+stop_passed call (Ok y) R S why was from is turn = tt
+stop_passed call (Err e) R S why was from is turn =
+    subst (IsStopBy S) (sym from) (stop_as R S why turn (subst (λ r. IfErr r (IsStopBy R)) was is))
 
 -- a fault that is answered
 pub fault_answered : {T : Type 0} (answer : Result T NetStop) (R : NetKind → ℕ → Type 0) → IfErr answer (IsStopBy R) → (fault : NetFault) → answer ≡ Err (Fault fault) → R fault.kind fault.at
