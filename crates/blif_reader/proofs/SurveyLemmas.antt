@@ -1,18 +1,13 @@
 -- For `survey`: what is known of lines goes on to one line more.
-use Rattle.std.proofs.Common.{◌≡◌, ◌==◌, ℕ, suc, ◌+◌, Bool, true, false, not, ◌||◌, cond, List, [], ◌∷◌, ◌++◌, length, take, get_or, All, Option, Some, None, Err, refl, ap, sym, subst, ◌∙◌, arith, append_assoc, eqb-true}
-use Rattle.std.specs.Prelude.{Result, reverse, is_some, take_while}
+use Rattle.std.proofs.Common.{◌≡◌, ◌==◌, ℕ, suc, ◌+◌, Bool, true, false, not, ◌||◌, cond, List, [], ◌∷◌, ◌++◌, length, take, get_or, All, Option, Some, None, refl, ap, sym, subst, ◌∙◌, arith, append_assoc, eqb-true}
+use Rattle.std.specs.Prelude.{reverse, is_some, take_while}
 use Rattle.std.specs.List.{list_any, flat_map, prefix_len}
-use Rattle.std.specs.Result.{IsErrAnd}
-use Rattle.std.proofs.lemmas.Result.{err_from_is_err_and}
 use Rattle.std.proofs.lemmas.List.{reverse-append, append-nil}
 use Rattle.std.proofs.lemmas.Grind.{flat_map-append}
 use Rattle.std.proofs.lemmas.List.Folds.{list_any-append}
 use Rattle.std.proofs.Math.Seq.{get_or-append_seam}
 use Rattle.std.proofs.lemmas.List.Elements.{All-cons, All-nil, All-head, All-tail}
 use Rattle.text_core.specs.Piece.{Piece}
-use Rattle.net_file.specs.declared.fault.NetFault.{NetFault}
-use Rattle.net_file.specs.declared.fault.NetStop.{NetStop}
-use Rattle.net_file.specs.declared.fault.NetStop.TheVariants as stop
 use Rattle.net_file.specs.declared.fault.NetKind.{NetKind}
 use Rattle.net_file.specs.declared.fault.NetKind.TheVariants as fault
 use Rattle.blif_reader.specs.declared.directive.Directive.{Directive}
@@ -199,14 +194,3 @@ first_fault all left first words survey kind u f =
       why = found-seam line_fault u.earlier line left [] ∙ fault;
       offset = ap (λ l. (word_of l 0).at) (sym (get_or-append_seam u.earlier line left []));
     })
-
-abbrev pub failed : {T : Type 0} → NetStop → Result T NetStop
-failed answer = Err answer
-
--- a fault that is answered
-pub fault_told : {T : Type 0} (made told : NetFault) → failed {T = T} (stop.Fault made) ≡ failed {T = T} (stop.Fault told) → made ≡ told
-fault_told made told h = cc h
-
--- a fault that is passed on is one that the call answered
-pub passed_on : {S T : Type 0} (call : Result S NetStop) (answer : Result T NetStop) (why : NetStop) (told : NetFault) → call ≡ Err why → IsErrAnd answer (λ e. e ≡ why) → answer ≡ Err (stop.Fault told) → call ≡ Err (stop.Fault told)
-passed_on call answer why told was from same = let p = err_from_is_err_and answer from in cc (p.1, p.2, was, same)

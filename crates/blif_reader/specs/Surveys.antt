@@ -3,6 +3,8 @@ use Rattle.std.specs.Prelude.{◌≡◌, ◌≢◌, ℕ, ◌==◌, ◌||◌, Boo
 use Rattle.text_core.specs.Piece.{Piece}
 use Rattle.net_file.specs.declared.fault.NetKind.{NetKind}
 use Rattle.net_file.specs.declared.fault.NetKind.TheVariants as fault
+use Rattle.net_file.specs.declared.fault.NetStop.{NetStop}
+use Rattle.net_file.specs.Stops.{IsStopBy}
 use Rattle.blif_reader.specs.declared.directive.Directive.{Directive}
 use Rattle.blif_reader.specs.declared.directive.Directive.TheVariants.{Names, Row}
 use Rattle.blif_reader.specs.declared.rows.OpenCover.{OpenCover}
@@ -39,6 +41,10 @@ fault_known survey line directive =
 
 abbrev pub fault_of : Survey → List Piece → Directive → Option NetKind
 fault_of survey line directive = if survey.ended then fault_after_end directive else fault_known survey line directive
+
+-- what a stop says of the line with this first word: this fault, at that word
+abbrev pub IsStopAt : Piece → Option NetKind → NetStop → Type 0
+IsStopAt first wrong = IsStopBy (λ kind at. (wrong ≡ Some kind) × (at ≡ first.at))
 
 -- the cover that is open after a line
 abbrev pub cover_after : Option OpenCover → Directive → List Piece → Option OpenCover
