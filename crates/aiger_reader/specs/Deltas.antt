@@ -32,18 +32,19 @@ BeginsDelta bytes delta rest = BeginsGroups 5 bytes delta rest
 abbrev pub BeginsNoDelta : List ℕ → Type 0
 BeginsNoDelta bytes = (delta : ℕ) (rest : List ℕ) → BeginsDelta bytes delta rest → ⊥
 
--- The bytes begin with the first operand of the gate with this literal, which is below it.
-pub record BeginsFirst (literal : ℕ) (bytes : List ℕ) (a : ℕ) (rest : List ℕ) : Type 0 where
+-- The bytes begin with an operand, which lies below this literal by at least so much.
+pub record BeginsOperand (least literal : ℕ) (bytes : List ℕ) (a : ℕ) (rest : List ℕ) : Type 0 where
   pub delta : ℕ
   pub read : BeginsDelta bytes delta rest
-  pub above : 0 < delta
+  pub above : least ≤ delta
   pub operand : a + delta ≡ literal
 
--- The bytes begin with its second operand, which is at most the first.
-pub record BeginsSecond (a : ℕ) (bytes : List ℕ) (b : ℕ) (rest : List ℕ) : Type 0 where
-  pub delta : ℕ
-  pub read : BeginsDelta bytes delta rest
-  pub operand : b + delta ≡ a
+-- the first operand of a gate is below the gate's literal, the second one at most the first
+abbrev pub BeginsFirst : ℕ → List ℕ → ℕ → List ℕ → Type 0
+BeginsFirst literal bytes a rest = BeginsOperand 1 literal bytes a rest
+
+abbrev pub BeginsSecond : ℕ → List ℕ → ℕ → List ℕ → Type 0
+BeginsSecond a bytes b rest = BeginsOperand 0 a bytes b rest
 
 -- the bytes begin with the gates whose variables begin at `variable`
 abbrev pub BeginsGates : ℕ → List ℕ → List (ℕ × ℕ) → List ℕ → Type 0
