@@ -16,14 +16,13 @@ use Rattle.aiger_reader.specs.declared.limits.Header.{Header}
 use Rattle.aiger_reader.specs.declared.body.Literals.{Literals}
 use Rattle.aiger_reader.specs.Numbers.{header_of}
 use Rattle.aiger_reader.specs.Headers.{AigerHeader}
-use Rattle.aiger_reader.specs.Bodies.{roles_of, IsBody, IsBodyFault, IsKnownRow, IsUndefined, lit_from, text_circuit, line_offset}
+use Rattle.aiger_reader.specs.Bodies.{roles_of, IsBody, IsFirstFault, IsKnownRow, IsUndefined, lit_from, text_circuit, line_offset}
 use Rattle.aiger_reader.specs.Deltas.{BeginsGates, IsPairFault, and_from, after_outputs, binary_circuit}
 use Rattle.aiger_reader.specs.Numbered.{IsSound, circuit_from}
 use Rattle.aiger_reader.specs.Reading.{rows_of, input_lines_of, gate_lines_of, IsAtLine}
 use Rattle.aiger_reader.specs.Aiger.{IsOfForm, IsNetlist, IsAigerFault}
 use Rattle.aiger_reader.specs.Symbols.{IsSymbolFault}
 use Rattle.aiger_reader.specs.Assembly.{IsBegun, AreLinesRead, IsNetOf, ArePairsBelow, IsBinaryBody}
-use Rattle.aiger_reader.proofs.PropertyLemmas.{fault_any}
 use Rattle.aiger_reader.proofs.RoleLemmas.{length-rows_of, length-roles_of}
 use Rattle.aiger_reader.proofs.NumberingLemmas.{outputs_small}
 use Rattle.aiger_reader.proofs.PairLemmas.{file_fault, file_gates}
@@ -41,9 +40,9 @@ end_is bytes k p at =
     omega (arith, at.offset, ap length at.rest, length-drop p.at bytes)
 
 -- a fault of the lines is the file's
-pub lines_fault : (bytes : List ℕ) (header : Header) → IsBegun bytes header → (fault : NetKind) (at : ℕ) → IsBodyFault bytes (header_of header []) fault at → IsAigerFault bytes fault at
+pub lines_fault : (bytes : List ℕ) (header : Header) → IsBegun bytes header → (fault : NetKind) (at : ℕ) → IsFirstFault bytes (header_of header []) fault at → IsAigerFault bytes fault at
 lines_fault bytes header begun fault at why =
-    inr (inl (record { h = header_of header begun.0; begins = begun.1; why = fault_any bytes header [] begun.0 fault at why }))
+    inr (inl (record { h = header_of header begun.0; begins = begun.1; why = why }))
 
 -- the first line that reads what no line defines is the file's fault
 pub undefined_fault : (bytes : List ℕ) (header : Header) (literals : Literals) (signals : List ℕ) (rest : Piece) (at : ℕ) → header.binary ≡ false → IsBegun bytes header → AreLinesRead bytes header literals signals rest → ((properties : List ℕ) → IsUndefined bytes (header_of header properties) (rows_of literals) at) → IsAigerFault bytes kind.Undefined at
@@ -52,7 +51,7 @@ undefined_fault bytes header literals signals rest at text begun read why =
       h = header_of header begun.0;
       begins = begun.1;
       rows = rows_of literals;
-      body = read.body begun.0;
+      body = read.body;
       text = text;
       is_undefined = refl;
       why = why begun.0;
@@ -73,7 +72,7 @@ text_is bytes header literals signals rest circuit text begun read known same =
       record {
         begins = begun.1;
         rows = rows;
-        body = read.body begun.0;
+        body = read.body;
         form = of_form header.binary false bytes h rows circuit rest.bytes text (record {
           known = known begun.0;
           same = same begun.0;
@@ -98,7 +97,7 @@ delta_fault bytes header literals signals rest binary begun read fault at is =
       h = h;
       begins = begun.1;
       rows = rows_of literals;
-      body = read.body begun.0;
+      body = read.body;
       binary = binary;
       is_delta = is.0;
       why = file_fault bytes rest.bytes h header.inputs header.gates (rest.at + length rest.bytes) at (after_is bytes header literals signals rest begun.0 binary read) refl refl (end_is bytes (length (rows_of literals) + 1) rest read.left) is.1;
@@ -114,7 +113,7 @@ deltas_are bytes header literals signals rest after circuit gates binary begun r
       record {
         begins = begun.1;
         rows = rows;
-        body = read.body begun.0;
+        body = read.body;
         form = of_form header.binary true bytes h rows circuit after binary (record {
           gates = gates;
           read = gates_are;
@@ -178,7 +177,8 @@ loop_line : (binary : Bool) (bytes : List ℕ) (h : AigerHeader) (rows : List (L
 loop_line false bytes h rows circuit rest d is body form sizes looped =
     let i : input_lines_of h ≡ h.inputs = ap (λ t. if t then 0 else h.inputs) is in
     let g : gate_lines_of h ≡ h.gates = ap (λ t. if t then 0 else h.gates) is in
-    omega (arith, body.whole, length-roles_of h, i, g, body.good.there, length-drop 1 (lines bytes), looped.there, sizes.defs)
+    let whole : length rows ≡ length (roles_of h) = body.whole in
+    omega (arith, whole, length-roles_of h, i, g, body.good.there, length-drop 1 (lines bytes), looped.there, sizes.defs)
 loop_line true bytes h rows circuit rest d is body form sizes looped =
     let variables : h.inputs + 1 ≡ circuit.inputs + 1 = omega (arith, sizes.inputs) in
     let pairs = begins_below (h.inputs + 1) (after_outputs bytes h) rest form.gates form.read.read in

@@ -14,7 +14,7 @@ use Rattle.aiger_reader.specs.declared.limits.Header.{Header}
 use Rattle.aiger_reader.specs.Words.{numbers_on}
 use Rattle.aiger_reader.specs.Headers.{AigerHeader}
 use Rattle.aiger_reader.specs.Numbers.{header_of}
-use Rattle.aiger_reader.specs.Bodies.{roles_of, role_at, wanted, defines, defined, body_lines, line_offset, first_of, AreGood, IsBodyFault}
+use Rattle.aiger_reader.specs.Bodies.{roles_of, role_at, wanted, defines, defined, body_lines, line_offset, first_of, AreGood, IsFirstFault}
 
 -- the row of an AND line
 abbrev pub row_of : AndLine → List ℕ
@@ -74,7 +74,7 @@ pub record HasCounts (literals : Literals) (inputs outputs gates : ℕ) : Type 0
 
 -- why the body isn't read: its first fault, or no memory
 abbrev pub IsStop : List ℕ → AigerHeader → NetStop → Type 0
-IsStop bytes h = IsStopBy (IsBodyFault bytes h)
+IsStop bytes h = IsStopBy (IsFirstFault bytes h)
 
 -- the first line of what is left
 abbrev pub next_line_of : Piece → List ℕ

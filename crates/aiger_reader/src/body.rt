@@ -3,7 +3,7 @@
 ghost use Rattle.std.specs.Prelude.{true, ◌≡◌, ℕ, ◌+◌, ◌<◌, ◌++◌, List, [], ◌∷◌, length, IfOk, IfErr, OnOk, vec_len, replicate, slice_index_or, slice_set};
 ghost use Rattle.std.specs.Bool.{OnTrue, OnFalse};
 ghost use Rattle.aiger_reader.specs.Numbers.{header_of};
-ghost use Rattle.aiger_reader.specs.Bodies.{line_offset, IsBody};
+ghost use Rattle.aiger_reader.specs.Bodies.{line_offset, AreLines};
 ghost use Rattle.aiger_reader.specs.Numbered.{IsSound};
 ghost use Rattle.aiger_reader.specs.Reading.{rows_of, input_lines_of, gate_lines_of, IsAtLine, IsReading, IsBodyReading, IsWanted, HasCounts, IsRowRead, IsStop};
 
@@ -167,7 +167,7 @@ pub(crate) fn read_body<'a>(
     header: Header,
 ) -> Result<Body<'a>, NetStop>
     ensures body { IfOk result (λ body.
-        IsBody input.now (header_of header []) (rows_of body.literals)) }
+        AreLines input.now (header_of header []) (rows_of body.literals)) }
     ensures sound { IfOk result (λ body.
         IsSound (header_of header []) body.literals body.signals.items) }
     ensures rest { IfOk result (λ body.

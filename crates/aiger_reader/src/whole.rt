@@ -18,7 +18,7 @@ use crate::body::{Body, read_body};
 use crate::deltas::read_gates;
 use crate::header::read_header;
 use crate::limits::Header;
-use crate::numbering::{Numbered, find_undefined, number_circuit, offset_of_line};
+use crate::numbering::{find_undefined, number_gates, number_outputs, offset_of_line};
 use crate::symbols::{Symbols, read_symbols};
 use circuits::{Def, Lit};
 use items::Items;
@@ -116,13 +116,13 @@ fn known_net(alloc: Global, header: Header, body: &Body<'_>) -> Result<PlainNet,
         → net ≡ text_circuit (header_of header properties) (rows_of body.now.literals)) }
     ensures memory { IfErr result (λ stop. stop ≡ NetStop.Memory) }
 {
-    let numbered = number_circuit(alloc, header, body)?;
-    let Numbered {
-        inputs,
-        defs,
-        outputs,
-    } = numbered;
-    Ok(PlainNet::new(inputs, Items::from_vec(defs), Items::from_vec(outputs)))
+    let defs = number_gates(alloc, &body.signals, &body.literals.gates)?;
+    let outputs = number_outputs(alloc, &body.signals, &body.literals.outputs)?;
+    Ok(PlainNet::new(
+        header.inputs,
+        Items::from_vec(defs),
+        Items::from_vec(outputs),
+    ))
 }
 
 // The netlist of the binary form.

@@ -1,11 +1,9 @@
 -- What the parts say of the whole.
-use Rattle.std.proofs.Common.{[], arith}
+use Rattle.std.proofs.Common.{arith}
 use Rattle.std.proofs.lemmas.Result.{IfErr-weaker}
 use Rattle.circuits.proofs.LevelOrders.{IsOrderOf-outputs}
 use Rattle.net_file.proofs.StopLemmas.{stop_as, stop_passed}
-use Rattle.aiger_reader.specs.Reading.{rows_of}
 use Rattle.aiger_reader.specs.Numbers.{header_of}
-use Rattle.aiger_reader.proofs.PropertyLemmas.{body_any}
 use Rattle.aiger_reader.proofs.WholeLemmas.{lines_fault, names_fault}
 use Rattle.aiger_reader.proofs.NetlistLemmas.{net_sizes}
 use Rattle.aiger_reader.proofs.whole.read_file.Goals as goal
@@ -17,11 +15,7 @@ returns-in_err-body-clause-stop c =
 pub read_net-requires-clause-lines : goal.read_net-requires-clause-lines
 read_net-requires-clause-lines c =
     let known = c.in_ok-body.ensures in
-    record {
-      body = λ properties. body_any c.args.input.now c.in_ok-header.header [] properties (rows_of c.in_ok-body.body.literals) known.body;
-      sound = known.sound;
-      left = known.rest;
-    }
+    record { body = known.body; sound = known.sound; left = known.rest }
 
 pub name_ports-requires-clause-outputs : goal.name_ports-requires-clause-outputs
 name_ports-requires-clause-outputs c =

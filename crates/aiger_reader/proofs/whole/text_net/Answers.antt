@@ -8,9 +8,6 @@ use Rattle.aiger_reader.specs.Assembly.{IsNetOf}
 use Rattle.aiger_reader.proofs.WholeLemmas.{undefined_fault, text_is}
 use Rattle.aiger_reader.proofs.whole.text_net.Goals as goal
 
-pub find_undefined-requires-clause-read : goal.find_undefined-requires-clause-read
-find_undefined-requires-clause-read c = c.requires.lines.body []
-
 pub returns-in-Some-clause-stop : goal.returns-in-Some-clause-stop
 returns-in-Some-clause-stop c =
     let body = c.args.body.now in
