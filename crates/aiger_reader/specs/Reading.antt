@@ -2,7 +2,7 @@
 use Rattle.std.specs.Prelude.{◌≡◌, ℕ, ◌+◌, ◌*◌, ◌%◌, ◌<◌, ◌≤◌, min, Bool, IsTrue, List, [], ◌∷◌, ◌++◌, length, map, drop, All, Contains, Option, Some, slice_index_or, if◌then◌else◌}
 use Rattle.std.specs.Option.{option_map}
 use Rattle.text_core.specs.Piece.{Piece}
-use Rattle.text_core.specs.Lines.{lines}
+use Rattle.text_core.specs.Lines.{lines, after_line}
 use Rattle.net_file.specs.declared.fault.NetKind.{NetKind}
 use Rattle.net_file.specs.declared.fault.NetKind.TheVariants as kind
 use Rattle.net_file.specs.declared.fault.NetStop.{NetStop}
@@ -89,6 +89,13 @@ pub record IsRowOn (line : List ℕ) (greatest : ℕ) (defining : Bool) (row : L
   pub written : numbers_on line ≡ map Some row
   pub in_range : All (λ literal. literal ≤ greatest) row
   pub plain : IsTrue defining → (first_of row % 2 ≡ 0) × (2 ≤ first_of row)
+
+-- The next line is there, at this offset, and writes this row; that is left after it.
+pub record IsLineRead (p : Piece) (greatest : ℕ) (defining : Bool) (row : List ℕ) (rest : Piece) (at : ℕ) : Type 0 where
+  pub there : 0 < length p.bytes
+  pub on : IsRowOn (next_line_of p) greatest defining row
+  pub moved : rest ≡ after_line p
+  pub offset : at ≡ p.at
 
 -- what is wrong with a line of n words
 abbrev pub IsRowFault : List ℕ → ℕ → Bool → ℕ → NetKind → Type 0

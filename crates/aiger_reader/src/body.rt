@@ -56,14 +56,14 @@ impl<'a> Body<'a> {
         ensures literals { self.new.literals ≡ self.old.literals }
         ensures signals { self.new.signals ≡ self.old.signals }
         ensures count { self.new.count ≡ self.old.count }
-        ensures row { OnOk result (IsRowRead input.now (header_of header [])
+        ensures row { IfOk result (λ _. IsRowRead input.now (header_of header [])
             (rows_of self.old.literals) defining row.new self.new.rest) }
         ensures at { IfOk result (λ at. at
             ≡ line_offset input.now (length (rows_of self.old.literals) + 1)) }
         ensures stop { IfErr result (IsStop input.now (header_of header [])) }
     {
         let greatest = 2 * header.variables + 1;
-        read_line(&mut self.rest, row, greatest, defining).map_err(NetStop::Fault)
+        read_line(&mut self.rest, row, greatest, defining)
     }
 
     // Fills the row with the literals on the next line, which defines a variable, and notes that.
