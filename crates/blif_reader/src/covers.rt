@@ -8,7 +8,7 @@ ghost use Rattle.net_file.specs.Stops.{IsStopBy};
 ghost use Rattle.blif_reader.specs.JoinedLines.{word_of};
 ghost use Rattle.blif_reader.specs.Directives.{directive_of};
 ghost use Rattle.blif_reader.specs.Names.{read_on};
-ghost use Rattle.blif_reader.specs.Faults.{AreDefinedOnce, AreKnown, IsUndefinedFault};
+ghost use Rattle.blif_reader.specs.Faults.{AreDefinedOnce, IsUndefinedFault};
 ghost use Rattle.blif_reader.specs.Reading.{words_left, lines_left, line_from};
 ghost use Rattle.blif_reader.specs.Covers.{trit_of, trits_of, signal_names, signal_named, literal_named};
 ghost use Rattle.blif_reader.specs.Numbers.{names_of};
@@ -60,7 +60,6 @@ pub(crate) fn read_covers(
     requires few { length (names_of names.now) < 2 ^ 30 }
     ensures built { IfOk result
         (λ covers. IsBuilt (signal_names (blif_lines input.now)) (blif_lines input.now) covers) }
-    ensures known { OnOk result (AreKnown (blif_lines input.now)) }
     ensures stop { IfErr result (IsStopBy (IsUndefinedFault (blif_lines input.now))) }
 {
     let mut covers = Covers::new(alloc);
@@ -92,7 +91,6 @@ impl Covers {
         requires few { length (names_of names.now) < 2 ^ 30 }
         requires nothing { self.old ≡ record { defs = []; places = []; outputs = []; current = None } }
         ensures built { OnOk result (IsBuilt (signal_names (blif_lines input.now)) (blif_lines input.now) self.new) }
-        ensures known { OnOk result (AreKnown (blif_lines input.now)) }
         ensures stop { IfErr result (IsStopBy (IsUndefinedFault (blif_lines input.now))) }
     {
         let mut lines = JoinedLines::new(input);

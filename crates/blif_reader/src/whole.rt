@@ -48,8 +48,8 @@ fn number_names<'a>(
 ) -> Result<IndexSet<&'a [u8]>, NetStop>
     requires surveyed { IsSurveyed (blif_lines input.now) survey.now }
     requires declared { AreDeclared (blif_lines input.now) }
-    ensures once { OnOk result (AreDefinedOnce (blif_lines input.now)) }
-    ensures names { IfOk result (λ names. names_of names ≡ signal_names (blif_lines input.now)) }
+    ensures numbered { IfOk result (λ names. AreDefinedOnce (blif_lines input.now)
+        × (names_of names ≡ signal_names (blif_lines input.now))) }
     ensures stop { IfErr result (IsStopBy (IsBlifFault input.now)) }
 {
     let PortNames {

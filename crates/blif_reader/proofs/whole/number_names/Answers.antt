@@ -19,14 +19,8 @@ returns-in_err-add_defined-clause-stop c =
     let inputs = inputs_named lines _ _ _ c.requires.declared ports c.in_ok-names.ensures.named in
     stop_passed c.add_defined.result _ _ _ _ c.in_err-add_defined.was c.from_residual-in_err-add_defined.ensures.1 (c.add_defined.ensures.stop (input_words lines) inputs.1) (λ kind at again. inr (inr (inr (inl (name_redefined lines _ kind at inputs.0 defined again)))))
 
-pub returns-clause-once : goal.returns-clause-once
-returns-clause-once c =
+pub returns-clause-numbered : goal.returns-clause-numbered
+returns-clause-numbered c =
     let ports = c.deref.ensures.value ∙ c.requires.surveyed.ports in
     let defined = c.deref-2.ensures.value ∙ c.requires.surveyed.defined in
-    (names_numbered (blif_lines c.args.input.now) _ _ _ _ _ c.requires.declared ports defined c.in_ok-names.ensures.named c.in_ok-add_defined.ensures.defined).0
-
-pub returns-clause-names : goal.returns-clause-names
-returns-clause-names c =
-    let ports = c.deref.ensures.value ∙ c.requires.surveyed.ports in
-    let defined = c.deref-2.ensures.value ∙ c.requires.surveyed.defined in
-    (names_numbered (blif_lines c.args.input.now) _ _ _ _ _ c.requires.declared ports defined c.in_ok-names.ensures.named c.in_ok-add_defined.ensures.defined).1
+    names_numbered (blif_lines c.args.input.now) _ _ _ _ _ c.requires.declared ports defined c.in_ok-names.ensures.named c.in_ok-add_defined.ensures.defined

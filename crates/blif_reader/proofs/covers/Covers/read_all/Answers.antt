@@ -5,7 +5,7 @@ use Rattle.blif_reader.specs.Names.{read_words}
 use Rattle.blif_reader.specs.Numbers.{names_of}
 use Rattle.blif_reader.specs.Blif.{blif_lines}
 use Rattle.blif_reader.specs.Building.{IsUnknownFault, IsBuilt, IsBuilding}
-use Rattle.blif_reader.proofs.BlifLemmas.{all_known, undefined_name}
+use Rattle.blif_reader.proofs.BlifLemmas.{undefined_name}
 use Rattle.blif_reader.proofs.BuildingLemmas.{building_more, fault_in_line, built}
 use Rattle.net_file.proofs.StopLemmas.{stop_passed}
 use Rattle.blif_reader.proofs.covers.Covers.read_all.Goals as goal
@@ -29,9 +29,3 @@ pub returns-clause-built : goal.returns-clause-built
 returns-clause-built c =
     let lines = blif_lines c.args.input.now in
     subst (λ ns. IsBuilt ns lines c.close.new.self) c.requires.names (built (names_of c.args.names.now) lines _ c.loop-first.self c.close.new.self c.in_default.ensures c.loop-first.invariant c.in_ok-close.ensures.defs c.in_ok-close.ensures.places c.in_ok-close.ensures.outputs)
-
-pub returns-clause-known : goal.returns-clause-known
-returns-clause-known c =
-    let lines = blif_lines c.args.input.now in
-    let built = built (names_of c.args.names.now) lines _ c.loop-first.self c.close.new.self c.in_default.ensures c.loop-first.invariant c.in_ok-close.ensures.defs c.in_ok-close.ensures.places c.in_ok-close.ensures.outputs in
-    all_known lines c.requires.once (subst (λ ns. IsBuilt ns lines c.close.new.self) c.requires.names built).known
